@@ -1,0 +1,4 @@
+pub mod Memory
+pub mod Rom
+pub mod Start
+pub mod Lending

@@ -1,0 +1,35 @@
+-- The memory of a machine as it starts (this machine's own): zeros, but for the 256 interrupt vectors (Intel 8086
+-- Family User's Manual, "Interrupt pointer table") and the one arena header (MS-DOS Programmer's Reference, "Arena
+-- header"); A20 is off, and no window shows a page.
+use Rattle.std.specs.Prelude.{◌≡◌, ℕ, ◌*◌, ◌/◌, ◌%◌, ◌<◌, false, nat_lt, ◌==◌, if◌then◌else◌, List, length, slice_index}
+use Rattle.dm_space.specs.Memory.{Memory, of_ram}
+
+-- interrupt n leads to F000:4n, but that of the expanded memory driver to F100:0020
+abbrev pub vector_offset : ℕ → ℕ
+vector_offset n = if n == 0x67 then 0x20 else n * 4
+
+abbrev pub vector_segment : ℕ → ℕ
+vector_segment n = if n == 0x67 then 0xF100 else 0xF000
+
+-- byte k of the vector of interrupt n: the offset's low byte, its high byte, the segment's
+abbrev pub vector_byte : ℕ → ℕ → ℕ
+vector_byte n k =
+    if k == 0 then vector_offset n % 256 else
+    if k == 1 then vector_offset n / 256 else
+    if k == 2 then vector_segment n % 256 else vector_segment n / 256
+
+-- the byte of RAM at a linear address: the vectors, then the header `Z`, owner 0, size 9EFFh at 0100:0000
+unfoldable pub start_byte : ℕ → ℕ
+start_byte a =
+    if nat_lt a 0x400 then vector_byte (a / 4) (a % 4) else
+    if a == 0x1000 then 0x5A else
+    if a == 0x1003 then 0xFF else
+    if a == 0x1004 then 0x9E else 0
+
+pub record IsStartOfRam (ram : List ℕ) : Type 0 where
+  pub size : length ram ≡ 0x110000
+  pub bytes : (a : ℕ) → a < 0x110000 → slice_index ram a ≡ start_byte a
+
+pub record IsStart (m : Memory) : Type 0 where
+  pub ram : IsStartOfRam m.low
+  pub others : m ≡ of_ram m.low false

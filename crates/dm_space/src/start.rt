@@ -1,0 +1,73 @@
+//! The bytes of RAM as a machine starts.
+ghost use Rattle.std.specs.Prelude.{◌≡◌, IfOk, length};
+ghost use Rattle.dm_space.specs.Start.{start_byte, vector_offset, vector_segment, IsStartOfRam};
+ghost use Rattle.dm_space.specs.Memory.{zeros};
+
+use std::alloc::{AllocError, Global};
+
+/// The linear addresses up to the end of the high memory area, and the last paragraph above it.
+pub const RAM: usize = 0x11_0000;
+/// From here on the RAM starts as zeros.
+const ZEROS: usize = 0x1005;
+
+/// As many zeros as asked for.
+#[tactic(auto, unfolding(crate::specs::Memory::zeros))]
+pub fn zeroed(alloc: Global, len: usize) -> Result<Vec<u8>, AllocError>
+    ensures { IfOk result (λ v. v.items ≡ zeros len) }
+{
+    vec![in alloc; 0; len]
+}
+
+/// Where the vector of an interrupt leads: its offset.
+fn vector_offset(interrupt: u8) -> u16
+    ensures { result ≡ vector_offset interrupt }
+{
+    if interrupt == 0x67 {
+        0x20
+    } else {
+        interrupt as u16 * 4
+    }
+}
+
+/// Where the vector of an interrupt leads: its segment.
+fn vector_segment(interrupt: u8) -> u16
+    ensures { result ≡ vector_segment interrupt }
+{
+    if interrupt == 0x67 { 0xF100 } else { 0xF000 }
+}
+
+/// The byte of RAM at a linear address as the machine starts.
+#[tactic(auto, unfolding(crate::specs::Start::start_byte))]
+fn start_byte(linear: usize) -> u8
+    ensures { result ≡ start_byte linear }
+{
+    if linear < 0x400 {
+        let interrupt = (linear / 4) as u8;
+        let offset = vector_offset(interrupt);
+        let segment = vector_segment(interrupt);
+        match linear % 4 {
+            0 => (offset % 256) as u8,
+            1 => (offset / 256) as u8,
+            2 => (segment % 256) as u8,
+            _ => (segment / 256) as u8,
+        }
+    } else {
+        match linear {
+            0x1000 => b'Z',
+            0x1003 => 0xFF,
+            0x1004 => 0x9E,
+            _ => 0,
+        }
+    }
+}
+
+/// The bytes of RAM as the machine starts, by linear address.
+pub fn start_of_ram(alloc: Global) -> Result<Vec<u8>, AllocError>
+    ensures { IfOk result (λ v. IsStartOfRam v.items) }
+{
+    let mut ram = zeroed(alloc, RAM)?;
+    for linear in 0..ZEROS {
+        ram[linear] = start_byte(linear);
+    }
+    Ok(ram)
+}
