@@ -1,0 +1,162 @@
+-- Which bytes spell an instruction.
+use Rattle.std.specs.Prelude.{◌≡◌, ◌≢◌, ℕ, ◌+◌, ◌*◌, ◌/◌, ◌%◌, ◌^◌, ◌<◌, Bool, true, false, ◌⊎◌, List, [], ◌∷◌, ◌++◌, Option, Some, None, slice_index_or, nat_lt, if◌then◌else◌}
+use Rattle.dm_ins.specs.declared.operand.Width.{Width}
+use Rattle.dm_ins.specs.declared.operand.Width.TheVariants.{Byte, Word}
+use Rattle.dm_ins.specs.declared.operand.WordRegister.TheVariants.{Ax}
+use Rattle.dm_ins.specs.declared.operand.ByteRegister.TheVariants.{Al}
+use Rattle.dm_ins.specs.declared.operand.SegmentRegister.{SegmentRegister}
+use Rattle.dm_ins.specs.declared.operand.SegmentRegister.TheVariants.{Es, Cs, Ss, Ds}
+use Rattle.dm_ins.specs.declared.operand.Base.{Base}
+use Rattle.dm_ins.specs.declared.operand.Base.TheVariants.{Direct, BxSi, BxDi, BpSi, BpDi, OnSi, OnDi, OnBp, OnBx}
+use Rattle.dm_ins.specs.declared.operand.Address.{Address}
+use Rattle.dm_ins.specs.declared.operand.Operand.{Operand}
+use Rattle.dm_ins.specs.declared.operand.Operand.TheVariants as operand
+use Rattle.dm_ins.specs.declared.prefix.Repeat.{Repeat}
+use Rattle.dm_ins.specs.declared.prefix.Repeat.TheVariants.{NotEqual, Equal}
+use Rattle.dm_ins.specs.declared.prefix.Prefix.{Prefix}
+use Rattle.dm_ins.specs.declared.prefix.Prefix.TheVariants as prefix
+use Rattle.dm_ins.specs.declared.prefix.Prefixes.{Prefixes}
+use Rattle.dm_ins.specs.declared.action.Action.{Action}
+use Rattle.dm_ins.specs.declared.fields.Fields.{Fields}
+use Rattle.dm_ins.specs.declared.table.Kind.{Kind}
+use Rattle.dm_ins.specs.declared.table.Kind.TheVariants as is
+use Rattle.dm_ins.specs.declared.table.Row.{Row}
+use Rattle.dm_ins.specs.declared.table.Entry.{Entry}
+use Rattle.dm_ins.specs.declared.table.Entry.TheVariants.{Unlisted, Plain, Group, Second}
+use Rattle.dm_ins.specs.Table.{word_registers, byte_registers, entry_of, member_of}
+
+-- a word, the low byte first
+abbrev pub word : ℕ → List ℕ
+word n = n % 256 ∷ n / 256 ∷ []
+
+-- a byte extended by sign to a word
+abbrev pub extended : ℕ → ℕ
+extended n = if nat_lt n 128 then n else n + 65280
+
+-- ---- prefixes
+
+abbrev pub segment_byte : SegmentRegister → ℕ
+segment_byte Es = 0x26
+segment_byte Cs = 0x2E
+segment_byte Ss = 0x36
+segment_byte Ds = 0x3E
+
+abbrev pub repeat_byte : Repeat → ℕ
+repeat_byte NotEqual = 0xF2
+repeat_byte Equal = 0xF3
+
+abbrev pub prefix_byte : Prefix → ℕ
+prefix_byte (prefix.Segment s) = segment_byte s
+prefix_byte prefix.Lock = 0xF0
+prefix_byte (prefix.Repeat r) = repeat_byte r
+
+abbrev pub no_prefix : Prefixes
+no_prefix = record { segment = None; lock = false; repeat = None }
+
+-- one more prefix takes the place of an earlier one of its kind
+abbrev pub with_prefix : Prefixes → Prefix → Prefixes
+with_prefix p (prefix.Segment s) = record p { segment = Some s }
+with_prefix p prefix.Lock = record p { lock = true }
+with_prefix p (prefix.Repeat r) = record p { repeat = Some r }
+
+abbrev pub kept : Prefixes → List Prefix → Prefixes
+kept p [] = p
+kept p (x ∷ xs) = kept (with_prefix p x) xs
+
+-- ---- the mod r/m byte
+
+abbrev pub bases : List Base
+bases = BxSi ∷ BxDi ∷ BpSi ∷ BpDi ∷ OnSi ∷ OnDi ∷ OnBp ∷ OnBx ∷ []
+
+abbrev pub based : ℕ → ℕ → Address
+based rm n = record { base = slice_index_or bases rm BxSi; displacement = n }
+
+abbrev pub direct : ℕ → Address
+direct n = record { base = Direct; displacement = n }
+
+-- the mod field, the r/m field and the bytes of displacement of a memory operand, or of none
+abbrev pub SpellsMemory : Option Address → ℕ → ℕ → List ℕ → Type 0
+SpellsMemory a mode rm d =
+    ((mode ≡ 0) × (rm ≡ 6) × (n : ℕ) × (n < 2 ^ 16) × (a ≡ Some (direct n)) × (d ≡ word n))
+    ⊎ ((mode ≡ 0) × (rm ≢ 6) × (a ≡ Some (based rm 0)) × (d ≡ []))
+    ⊎ ((mode ≡ 1) × (n : ℕ) × (n < 2 ^ 8) × (a ≡ Some (based rm (extended n))) × (d ≡ n ∷ []))
+    ⊎ ((mode ≡ 2) × (n : ℕ) × (n < 2 ^ 16) × (a ≡ Some (based rm n)) × (d ≡ word n))
+    ⊎ ((mode ≡ 3) × (a ≡ None) × (d ≡ []))
+
+pub record SpellsFields (f : Fields) (bytes : List ℕ) : Type 0 where
+  pub mode : ℕ
+  pub displacement : List ℕ
+  pub register_fits : f.register < 8
+  pub rm_fits : f.rm < 8
+  pub spells_memory : SpellsMemory f.memory mode f.rm displacement
+  pub parts : bytes ≡ (64 * mode + 8 * f.register + f.rm) ∷ displacement
+
+-- ---- operands
+
+abbrev pub register : Width → ℕ → Operand
+register Byte n = operand.ByteRegister (slice_index_or byte_registers n Al)
+register Word n = operand.WordRegister (slice_index_or word_registers n Ax)
+
+abbrev pub at_place : Width → ℕ → Option Address → Operand
+at_place w n None = register w n
+at_place w n (Some a) = operand.Memory w a
+
+-- an operand of a kind, where the fields are m, and the bytes that follow for it
+abbrev pub Fills : Kind → Fields → Operand → List ℕ → Type 0
+Fills is.Nothing m o d = (o ≡ operand.Nothing) × (d ≡ [])
+Fills (is.Place w) m o d = (o ≡ at_place w m.rm m.memory) × (d ≡ [])
+Fills (is.Register w) m o d = (o ≡ register w m.register) × (d ≡ [])
+Fills is.Memory m o d = (a : Address) × (m.memory ≡ Some a) × (o ≡ operand.Memory Word a) × (d ≡ [])
+Fills is.ByteValue m o d = (n : ℕ) × (n < 2 ^ 8) × (o ≡ operand.ByteValue n) × (d ≡ n ∷ [])
+Fills is.WordValue m o d = (n : ℕ) × (n < 2 ^ 16) × (o ≡ operand.WordValue n) × (d ≡ word n)
+Fills is.SignedValue m o d = (n : ℕ) × (n < 2 ^ 8) × (o ≡ operand.WordValue (extended n)) × (d ≡ n ∷ [])
+Fills is.Short m o d = (n : ℕ) × (n < 2 ^ 8) × (o ≡ operand.Target (extended n)) × (d ≡ n ∷ [])
+Fills is.Near m o d = (n : ℕ) × (n < 2 ^ 16) × (o ≡ operand.Target n) × (d ≡ word n)
+Fills (is.Direct w) m o d = (n : ℕ) × (n < 2 ^ 16) × (o ≡ operand.Memory w (direct n)) × (d ≡ word n)
+Fills is.Far m o d = (n s : ℕ) × (n < 2 ^ 16) × (s < 2 ^ 16) × (o ≡ operand.FarTarget n s) × (d ≡ word n ++ word s)
+Fills (is.Escape r) m o d = (o ≡ operand.ByteValue (8 * (r % 8) + m.register)) × (d ≡ [])
+Fills (is.Byte r) m o d = (o ≡ operand.ByteRegister r) × (d ≡ [])
+Fills (is.Word r) m o d = (o ≡ operand.WordRegister r) × (d ≡ [])
+Fills (is.TheSegment r) m o d = (o ≡ operand.SegmentRegister r) × (d ≡ [])
+Fills is.One m o d = (o ≡ operand.One) × (d ≡ [])
+
+-- ---- rows
+
+-- whether an operand of the kind is named by the mod r/m byte
+abbrev pub uses_fields : Kind → Bool
+uses_fields (is.Place w) = true
+uses_fields (is.Register w) = true
+uses_fields is.Memory = true
+uses_fields (is.Escape r) = true
+uses_fields _ = false
+
+abbrev pub has_fields : Row → Bool
+has_fields r = if uses_fields r.first then true else uses_fields r.second
+
+-- the fields of a row that uses none
+abbrev pub no_fields : Fields
+no_fields = record { register = 0; rm = 0; memory = None }
+
+abbrev pub MaySpellFields : Bool → Fields → List ℕ → Type 0
+MaySpellFields true m d = SpellsFields m d
+MaySpellFields false m d = (m ≡ no_fields) × (d ≡ [])
+
+-- the row that a first byte's entry has under the fields m, and the bytes behind the first
+abbrev pub HasRow : Entry → Fields → List ℕ → Row → Type 0
+HasRow Unlisted m d r = ⊥
+HasRow (Plain p) m d r = (r ≡ p) × MaySpellFields (has_fields p) m d
+HasRow (Group g) m d r = (member_of g m.register ≡ Some r) × SpellsFields m d
+HasRow (Second c p) m d r = (r ≡ p) × (m ≡ no_fields) × (d ≡ c ∷ [])
+
+pub record SpellsAction (a : Action) (bytes : List ℕ) : Type 0 where
+  pub first_byte : ℕ
+  pub fields : Fields
+  pub row : Row
+  pub behind : List ℕ
+  pub first_part : List ℕ
+  pub second_part : List ℕ
+  pub has_row : HasRow (entry_of first_byte) fields behind row
+  pub mnemonic : a.mnemonic ≡ row.mnemonic
+  pub first : Fills row.first fields a.first first_part
+  pub second : Fills row.second fields a.second second_part
+  pub parts : bytes ≡ first_byte ∷ behind ++ (first_part ++ second_part)

@@ -1,0 +1,92 @@
+//! Operands of 8086 instructions: registers, memory addresses, immediate values and targets
+//! (Intel 8086 Family User's Manual, section 2.8, "Addressing Modes").
+
+/// How much of memory, or which half of a register, an operand names.
+#[derive(Clone, Copy, Debug, PartialEq, Eq)]
+pub enum Width {
+    /// 8 bits.
+    Byte,
+    /// 16 bits.
+    Word,
+}
+
+/// The 16-bit general registers, in the order of their numbers 0 to 7.
+#[derive(Clone, Copy, Debug, PartialEq, Eq)]
+pub enum WordRegister {
+    Ax,
+    Cx,
+    Dx,
+    Bx,
+    Sp,
+    Bp,
+    Si,
+    Di,
+}
+
+/// The 8-bit general registers, in the order of their numbers 0 to 7.
+#[derive(Clone, Copy, Debug, PartialEq, Eq)]
+pub enum ByteRegister {
+    Al,
+    Cl,
+    Dl,
+    Bl,
+    Ah,
+    Ch,
+    Dh,
+    Bh,
+}
+
+/// The segment registers, in the order of their numbers 0 to 3.
+#[derive(Clone, Copy, Debug, PartialEq, Eq)]
+pub enum SegmentRegister {
+    Es,
+    Cs,
+    Ss,
+    Ds,
+}
+
+/// The registers whose values are added into the offset of a memory operand.
+#[derive(Clone, Copy, Debug, PartialEq, Eq)]
+pub enum Base {
+    /// No register: the displacement is the offset.
+    Direct,
+    BxSi,
+    BxDi,
+    BpSi,
+    BpDi,
+    OnSi,
+    OnDi,
+    OnBp,
+    OnBx,
+}
+
+/// The offset of a memory operand: the base registers' sum plus the displacement, modulo 10000h.
+/// There is one value for each operand: a displacement that is left out is 0, and one of a byte is
+/// the word that extends it by sign.
+#[derive(Clone, Copy, Debug, PartialEq, Eq)]
+pub struct Address {
+    pub base: Base,
+    pub displacement: u16,
+}
+
+/// One operand of an instruction.
+#[derive(Clone, Copy, Debug, PartialEq, Eq)]
+pub enum Operand {
+    /// The instruction has no operand in this place.
+    Nothing,
+    ByteRegister(ByteRegister),
+    WordRegister(WordRegister),
+    SegmentRegister(SegmentRegister),
+    /// Memory of the width at the address. A far pointer in memory, and the operand of LEA, are `Word`.
+    Memory(Width, Address),
+    /// An immediate byte, a port, an interrupt's number or ESC's number (0 to 3Fh).
+    ByteValue(u8),
+    /// An immediate word. A byte that the encoding extends by sign stands here as that word.
+    WordValue(u16),
+    /// The count 1 of a shift or rotate.
+    One,
+    /// The displacement of a target in the same segment, from the next instruction, modulo 10000h.
+    Target(u16),
+    /// A target in another segment: its offset, then its segment.
+    FarTarget(u16, u16),
+}
