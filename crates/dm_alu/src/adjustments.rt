@@ -1,0 +1,108 @@
+//! The adjustments of the accumulator: AAA, AAS, DAA, DAS, AAM and AAD.
+//!
+//! Source: Intel 8086 Family User's Manual, section 2.7, Arithmetic Instructions, the ASCII and decimal adjustments.
+ghost use Rattle.std.specs.Prelude.{◌≡◌, ◌≤◌};
+ghost use Rattle.dm_alu.specs.Adjustments.{low_digit_off, high_digit_off, decimal_change, adjusted_value, after_accumulator, flags_after_adjustment};
+
+use crate::flags::Flags;
+use crate::width::Width;
+
+/// An adjustment of the accumulator.
+#[derive(Clone, Copy, Debug, PartialEq, Eq)]
+pub enum Adjustment {
+    /// AAA: one unpacked digit after a sum.
+    AsciiAddition,
+    /// AAS: one unpacked digit after a difference.
+    AsciiSubtraction,
+    /// DAA: two packed digits after a sum.
+    DecimalAddition,
+    /// DAS: two packed digits after a difference.
+    DecimalSubtraction,
+    /// AAM: the two unpacked digits of a product in AL.
+    AsciiMultiplication,
+    /// AAD: the number that two unpacked digits stand for, before a division.
+    AsciiDivision,
+}
+
+/// The accumulator AX after an adjustment, and the flags after it.
+///
+/// AAA and AAS set adjust and carry; DAA and DAS set them and, as AAM and AAD do, parity, zero and sign by the new
+/// AL. The undefined status flags and trap, interrupt and direction stay. In AAA and AAS, AH changes by 1 and by no
+/// carry out of AL. DAA and DAS look at the old AL and the old carry for the high digit.
+#[tactic(auto, unfolding(crate::specs::Adjustments::flags_after_adjustment))]
+pub fn adjust(adjustment: Adjustment, ax: u16, flags: Flags) -> (u16, Flags)
+    ensures value { result.0 ≡ adjusted_value adjustment ax flags }
+    ensures flags { result.1 ≡ flags_after_adjustment adjustment ax flags }
+{
+    let low = ax % 0x100;
+    let low_off = low_digit_off(low, flags);
+    let high_off = high_digit_off(low, flags);
+    let value = adjusted_value(adjustment, ax, flags);
+    let flags = match adjustment {
+        Adjustment::AsciiAddition | Adjustment::AsciiSubtraction => Flags {
+            adjust: low_off,
+            carry: low_off,
+            ..flags
+        },
+        Adjustment::DecimalAddition | Adjustment::DecimalSubtraction => Flags {
+            adjust: low_off,
+            carry: high_off,
+            ..after_accumulator(value, flags)
+        },
+        Adjustment::AsciiMultiplication | Adjustment::AsciiDivision => after_accumulator(
+            value, flags,
+        ),
+    };
+    (value, flags)
+}
+
+/// AX after an adjustment.
+#[tactic(auto, unfolding(crate::specs::Adjustments::adjusted_value))]
+fn adjusted_value(adjustment: Adjustment, ax: u16, flags: Flags) -> u16
+    ensures { result ≡ adjusted_value adjustment ax flags }
+{
+    let (high, low) = (ax / 0x100, ax % 0x100);
+    let low_off = low_digit_off(low, flags);
+    match adjustment {
+        Adjustment::AsciiAddition if low_off => (high + 1) % 0x100 * 0x100 + (low + 6) % 0x10,
+        Adjustment::AsciiSubtraction if low_off => (high + 0xFF) % 0x100 * 0x100
+            + (low + 0xFA) % 0x10,
+        Adjustment::AsciiAddition | Adjustment::AsciiSubtraction => high * 0x100 + low % 0x10,
+        Adjustment::DecimalAddition => high * 0x100 + (low + decimal_change(low, flags)) % 0x100,
+        Adjustment::DecimalSubtraction => high * 0x100
+            + (low + 0x100 - decimal_change(low, flags)) % 0x100,
+        Adjustment::AsciiMultiplication => low / 10 * 0x100 + low % 10,
+        Adjustment::AsciiDivision => (high * 10 + low) % 0x100,
+    }
+}
+
+/// Whether the low digit of AL is over 9, or the adjust flag is set.
+fn low_digit_off(low: u16, flags: Flags) -> bool
+    ensures { result ≡ low_digit_off low flags }
+{
+    low % 0x10 > 9 || flags.adjust
+}
+
+/// Whether AL is over 99h, or the carry flag is set.
+fn high_digit_off(low: u16, flags: Flags) -> bool
+    ensures { result ≡ high_digit_off low flags }
+{
+    low > 0x99 || flags.carry
+}
+
+/// What a decimal adjustment adds to AL or takes from it.
+fn decimal_change(low: u16, flags: Flags) -> u16
+    ensures change { result ≡ decimal_change low flags }
+    ensures at_most { result ≤ 0x66 }
+{
+    let units = if low_digit_off(low, flags) { 6 } else { 0 };
+    let tens = if high_digit_off(low, flags) { 0x60 } else { 0 };
+    units + tens
+}
+
+/// The flags with parity, zero and sign as AL of a new AX says.
+fn after_accumulator(ax: u16, flags: Flags) -> Flags
+    ensures { result ≡ after_accumulator ax flags }
+{
+    flags.after_result(Width::Byte, ax % 0x100)
+}
