@@ -1,0 +1,5 @@
+pub mod Cpu
+pub mod Guest
+pub mod Stack
+pub mod Operands
+pub mod Effect
