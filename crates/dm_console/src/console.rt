@@ -1,0 +1,94 @@
+//! Input that is read byte by byte, and output.
+ghost use Rattle.std.specs.Prelude.{◌≡◌, ◌+◌, ◌-◌, ◌≤◌, ◌<◌, ◌++◌, [], ◌∷◌, IsOk, OnOk, OnErr, drop, length, max, slice_get, vec_len, vec_capacity};
+ghost use Rattle.dm_console.specs.Streams.{Streams};
+
+use std::alloc::{AllocError, Global};
+use std::marker::Model;
+
+/// The input that is left and the output so far. The *room* is how many more bytes go out without
+/// memory.
+#[derive(Drop)]
+pub struct Console {
+    input: Vec<u8>,
+    taken: usize,
+    output: Vec<u8>,
+    room: usize,
+}
+
+impl Model for Console {
+    ghost Value = { Streams };
+
+    ghost view = { λ c. record { input = drop c.taken c.input.items; output = c.output.items; room = c.room } };
+
+    ghost invariant = { λ c. (c.taken ≤ vec_len c.input) × (vec_len c.output + c.room ≤ vec_capacity c.output) };
+}
+
+impl Console {
+    /// A console with this input, no output and no room. It takes no memory.
+    pub fn new(alloc: Global, input: Vec<u8>) -> Console
+        ensures { result ≡ record { input = input.items; output = []; room = 0 } }
+    {
+        Console {
+            input,
+            taken: 0,
+            output: Vec::new(alloc),
+            room: 0,
+        }
+    }
+
+    /// Makes the room the larger of the room and `bytes`. It takes no memory where the room is
+    /// large enough already.
+    ///
+    /// An `Err` says that memory was refused, and that nothing has changed.
+    pub fn reserve(&mut self, bytes: usize) -> Result<(), AllocError>
+        ensures ok { OnOk result (self.new ≡ record self.old { room = max self.old.room bytes }) }
+        ensures err { OnErr result (self.new ≡ self.old) }
+        ensures has_room { bytes ≤ self.old.room → IsOk result }
+    {
+        if self.room < bytes {
+            self.output.reserve(bytes)?;
+            self.room = bytes;
+        }
+        Ok(())
+    }
+
+    /// How many more bytes go out without memory.
+    pub fn room(&self) -> usize
+        ensures { result ≡ self.now.room }
+    {
+        self.room
+    }
+
+    /// Writes a byte. It takes one byte of the room, and no memory.
+    pub fn put(&mut self, byte: u8)
+        requires { 0 < self.old.room }
+        ensures { self.new ≡ record self.old { output = self.old.output ++ byte ∷ []; room = self.old.room - 1 } }
+    {
+        self.output.push(byte).unwrap();
+        self.room -= 1;
+    }
+
+    /// Takes the next byte of the input, if any is left.
+    pub fn next(&mut self) -> Option<u8>
+        ensures byte { result ≡ slice_get self.old.input 0 }
+        ensures after { self.new ≡ record self.old { input = drop 1 self.old.input } }
+    {
+        let byte = self.input.get(self.taken).copied()?;
+        self.taken += 1;
+        Some(byte)
+    }
+
+    /// How many bytes of the input are left.
+    pub fn left(&self) -> usize
+        ensures { result ≡ length self.now.input }
+    {
+        self.input.len() - self.taken
+    }
+
+    /// All that was written.
+    pub fn output(&self) -> &[u8]
+        ensures { result.now ≡ self.now.output }
+    {
+        self.output.as_slice()
+    }
+}

@@ -1,0 +1,6 @@
+//! The console of a machine: redirected byte streams, and room for output that is made beforehand.
+#![tactic(auto)]
+
+mod console;
+
+pub use console::Console;

@@ -1,0 +1,81 @@
+-- Program files: COM files, and MZ files with the words of their header (MS-DOS Programmer's Reference, "EXE File
+-- Header"). The list of bad files is this machine's own.
+use Rattle.std.specs.Prelude.{◌≡◌, ℕ, zero, suc, ◌+◌, ◌-◌, ◌*◌, ◌/◌, ◌%◌, ◌<◌, ◌≤◌, Bool, true, false, ◌==◌, ◌&&◌, ◌||◌, if◌then◌else◌, cond, List, [], length, slice_index, slice_range, slice_set}
+use Rattle.dm_load.specs.declared.format.Kind.{Kind}
+use Rattle.dm_load.specs.declared.format.Kind.TheVariants.{Com, Mz}
+use Rattle.dm_load.specs.declared.format.FarPointer.{FarPointer}
+
+-- the little-endian word at place k
+abbrev pub word : List ℕ → ℕ → ℕ
+word bytes k = slice_index bytes k + 256 * slice_index bytes (k + 1)
+
+abbrev pub with_word : List ℕ → ℕ → ℕ → List ℕ
+with_word bytes k v = slice_set (slice_set bytes k (v % 256)) (k + 1) (v / 256)
+
+-- a file that begins with `MZ` or `ZM` is an MZ file, any other one a COM file
+unfoldable pub is_mz : List ℕ → Bool
+is_mz file =
+    (slice_index file 0 == 0x4D && slice_index file 1 == 0x5A) || (slice_index file 0 == 0x5A && slice_index file 1 == 0x4D)
+
+abbrev pub kind_of : List ℕ → Kind
+kind_of file = if is_mz file then Mz else Com
+
+-- the words of an MZ header
+abbrev pub last_page : List ℕ → ℕ
+last_page file = word file 0x02 % 512
+
+abbrev pub pages : List ℕ → ℕ
+pages file = word file 0x04
+
+abbrev pub header_length : List ℕ → ℕ
+header_length file = word file 0x08 * 16
+
+abbrev pub code : List ℕ → FarPointer
+code file = record { segment = word file 0x16; offset = word file 0x14 }
+
+abbrev pub stack : List ℕ → FarPointer
+stack file = record { segment = word file 0x0E; offset = word file 0x10 }
+
+-- the bytes of the pages: the last one is full where its length is 0
+unfoldable pub size : List ℕ → ℕ
+size file = if last_page file == 0 then pages file * 512 else (pages file - 1) * 512 + last_page file
+
+-- how many relocations there are, and where the word of the k-th one stands in the image
+unfoldable pub relocations : List ℕ → ℕ
+relocations file = if is_mz file then word file 0x06 else 0
+
+abbrev pub entry : List ℕ → ℕ → ℕ
+entry file k = word file 0x18 + 4 * k
+
+abbrev pub target : List ℕ → ℕ → ℕ
+target file k = word file (entry file k + 2) * 16 + word file (entry file k)
+
+-- from the header's end to the size; a COM file is its own image
+unfoldable pub image : List ℕ → List ℕ
+image file = if is_mz file then slice_range file (header_length file) (size file) else file
+
+pub record IsGoodMz (file : List ℕ) : Type 0 where
+  pub header : 28 ≤ length file
+  pub some_pages : 0 < pages file
+  pub whole : size file ≤ length file
+  pub table : 0 < word file 0x06 → entry file (word file 0x06) ≤ length file
+  pub header_fits : header_length file ≤ size file
+  pub inside : (k : ℕ) → k < word file 0x06 → target file k + 2 ≤ size file - header_length file
+
+-- a file that can be loaded
+abbrev pub IsGoodAs : Kind → List ℕ → Type 0
+IsGoodAs Com file = length file ≤ 65278
+IsGoodAs Mz file = IsGoodMz file
+
+abbrev pub IsGood : List ℕ → Type 0
+IsGood file = IsGoodAs (kind_of file) file
+
+-- the first k relocations, in the table's order, have added the start to their words
+abbrev pub relocated_by : ℕ → List ℕ → ℕ → List ℕ
+relocated_by zero file start = image file
+relocated_by (suc k) file start =
+    let before = relocated_by k file start in
+    with_word before (target file k) ((word before (target file k) + start) % 65536)
+
+abbrev pub relocated : List ℕ → ℕ → List ℕ
+relocated file start = relocated_by (relocations file) file start

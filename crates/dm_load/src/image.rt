@@ -1,0 +1,107 @@
+//! A program's bytes and how it starts.
+ghost use Rattle.std.specs.Prelude.{◌≡◌, ◌+◌, ◌*◌, ◌<◌, ◌≤◌, length, take, min, true, MatchResult};
+ghost use Rattle.dm_load.specs.Image.{word, is_mz, kind_of, IsGood, entry, target, image, relocations, relocated, code, stack};
+
+use crate::format::{BadFormat, FarPointer, Kind};
+use crate::header::{add_to_word, kind, size, target, word};
+use std::marker::Model;
+
+/// A file that can be loaded. Contracts see its bytes.
+#[derive(Drop)]
+pub struct Image<'a> {
+    kind: Kind,
+    file: &'a [u8],
+}
+
+impl<'a> Model for Image<'a> {
+    ghost use Rattle.std.specs.Prelude.{List, ℕ, ◌≡◌};
+    ghost use Rattle.dm_load.specs.Image.{IsGoodAs, kind_of};
+
+    ghost Value = { List ℕ };
+
+    ghost view = { λ s. s.file.now };
+
+    ghost invariant = { λ s. (s.kind ≡ kind_of s.file.now) × IsGoodAs s.kind s.file.now };
+}
+
+impl<'a> Image<'a> {
+    /// The image of a file.
+    ///
+    /// # Errors
+    ///
+    /// `BadFormat` exactly where `kind` answers it.
+    pub fn of(file: &'a [u8]) -> Result<Image<'a>, BadFormat>
+        ensures { MatchResult result (λ i. (i ≡ file.now) × IsGood file.now) (λ _. IsGood file.now → ⊥) }
+    {
+        match kind(file) {
+            Ok(kind) => Ok(Image { kind, file }),
+            Err(BadFormat) => Err(BadFormat),
+        }
+    }
+
+    /// What kind of program the file is.
+    pub fn kind(&self) -> Kind
+        ensures kind { result ≡ kind_of self.now }
+        ensures good { IsGood self.now }
+    {
+        self.kind
+    }
+
+    /// The bytes of the image, before any relocation: a COM file's, or an MZ file's from the
+    /// header's end to the end of the pages.
+    #[tactic(auto, unfolding(crate::specs::Image::image))]
+    pub fn bytes(&self) -> &[u8]
+        ensures { result.now ≡ image self.now }
+    {
+        match self.kind {
+            Kind::Com => self.file,
+            Kind::Mz => &self.file[word(self.file, 0x08) as usize * 16..size(self.file)],
+        }
+    }
+
+    /// How many relocations there are.
+    #[tactic(auto, unfolding(crate::specs::Image::relocations))]
+    fn relocations(&self) -> usize
+        ensures { result ≡ relocations self.now }
+    {
+        match self.kind {
+            Kind::Com => 0,
+            Kind::Mz => word(self.file, 0x06) as usize,
+        }
+    }
+
+    /// Where an MZ program's code starts, its segment counted from the image's.
+    pub fn code(&self) -> FarPointer
+        requires { is_mz self.now ≡ true }
+        ensures { result ≡ code self.now }
+    {
+        FarPointer {
+            segment: word(self.file, 0x16),
+            offset: word(self.file, 0x14),
+        }
+    }
+
+    /// Where an MZ program's stack starts, its segment counted from the image's.
+    pub fn stack(&self) -> FarPointer
+        requires { is_mz self.now ≡ true }
+        ensures { result ≡ stack self.now }
+    {
+        FarPointer {
+            segment: word(self.file, 0x0E),
+            offset: word(self.file, 0x10),
+        }
+    }
+
+    /// Fills `bytes` with the image, relocated to a start segment: each relocation, in the order of
+    /// the table, adds the segment to a word, modulo 65,536. The slice has the image's length or,
+    /// if that is larger, 110000h bytes: behind these stands no word of a relocation.
+    pub fn relocated(&self, start: u16, bytes: &mut [u8])
+        requires { length bytes.old ≡ min (length (image self.now)) 0x110000 }
+        ensures { bytes.new ≡ take 0x110000 (relocated self.now start) }
+    {
+        bytes.copy_from_slice(&self.bytes()[..bytes.len()]);
+        for index in 0..self.relocations() {
+            add_to_word(bytes, target(self.file, index), start);
+        }
+    }
+}

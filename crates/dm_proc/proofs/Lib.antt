@@ -1,0 +1,4 @@
+mod Writing
+mod Bytes
+mod Made
+mod Whole

@@ -1,0 +1,16 @@
+-- A store of named programs (this machine's own).
+use Rattle.std.specs.Prelude.{ℕ, ◌<◌, ◌≤◌, Bool, List, Option, All, find, is_some, length, option_map}
+use Rattle.std.specs.Str.{str_eq_ignore_ascii_case}
+
+-- the bytes of the first program with this name, ASCII case ignored
+abbrev pub program_of : List (List ℕ × List ℕ) → List ℕ → Option (List ℕ)
+program_of store name = option_map (λ p. p.1) (find (λ p. str_eq_ignore_ascii_case p.0 name) store)
+
+abbrev pub has_name : List (List ℕ × List ℕ) → List ℕ → Bool
+has_name store name = is_some (program_of store name)
+
+-- a program's name: 1 to 64 bytes, none of them zero
+pub record IsName (name : List ℕ) : Type 0 where
+  pub some : 0 < length name
+  pub short : length name ≤ 64
+  pub no_zero : All (λ b. 0 < b) name

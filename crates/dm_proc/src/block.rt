@@ -1,0 +1,43 @@
+//! Writing bytes to a block, upwards.
+ghost use Rattle.std.specs.Prelude.{◌≡◌, ◌+◌, ◌<◌, ◌≤◌, length, take};
+ghost use Rattle.dm_proc.specs.Writes.{apply, block, block_address, upwards};
+ghost use Rattle.dm_space.specs.Memory.{poke};
+
+use dm_space::Space;
+
+/// Writes a byte of a block.
+fn write_byte(space: &mut Space, segment: u16, at: usize, byte: u8)
+    requires { at < 0x200000 }
+    ensures { space.new ≡ record space.old { memory = poke space.old.memory (block_address space.old.memory.a20 segment at) byte } }
+{
+    space.poke(segment.wrapping_add((at / 16 % 65536) as u16), (at % 16) as u16, byte);
+}
+
+/// Writes bytes to a block from one of its bytes on.
+fn write_from(space: &mut Space, segment: u16, from: usize, bytes: &[u8])
+    requires { from + length bytes.now ≤ 0x200000 }
+    ensures { space.new ≡ record space.old { memory = apply (upwards space.old.memory.a20 segment from bytes.now) space.old.memory } }
+{
+    for (at, byte) in bytes.iter().enumerate() {
+        write_byte(space, segment, from + at, *byte);
+    }
+}
+
+/// Writes bytes to a block.
+pub(crate) fn write_bytes(space: &mut Space, segment: u16, bytes: &[u8])
+    requires { length bytes.now ≤ 0x200000 }
+    ensures { space.new ≡ record space.old { memory = apply (block space.old.memory.a20 segment bytes.now) space.old.memory } }
+{
+    write_from(space, segment, 0, bytes);
+}
+
+/// Writes the first bytes of the scratch part to a block.
+pub(crate) fn write_scratch(space: &mut Space, segment: u16, count: usize)
+    requires { count ≤ 0x200000 }
+    ensures { space.new ≡ record space.old { memory = apply (block space.old.memory.a20 segment (take count space.old.scratch)) space.old.memory } }
+{
+    for at in 0..count {
+        let byte = space.scratch()[at];
+        write_byte(space, segment, at, byte);
+    }
+}

@@ -1,0 +1,92 @@
+//! The program segment prefix (MS-DOS Programmer's Reference, "Program Segment Prefix").
+ghost use Rattle.std.specs.Prelude.{◌≡◌, ◌+◌, ◌≤◌, ◌++◌, length};
+ghost use Rattle.dm_proc.specs.Writes.{bytes_from};
+ghost use Rattle.dm_proc.specs.Start.{word_bytes, zeros, prefix};
+
+use crate::pair::Pair;
+use arrayvec::ArrayVec;
+use dm_space::Space;
+
+/// What a program is started with: its command tail, and the first 16 bytes of its two file control
+/// blocks.
+#[derive(Drop)]
+pub struct Arguments {
+    pub tail: ArrayVec<u8, 126>,
+    pub first: [u8; 16],
+    pub second: [u8; 16],
+}
+
+/// The bytes of a program segment prefix, as far as they are made.
+pub(crate) type Prefix = ArrayVec<u8, 256>;
+
+/// Adds a word, low byte first.
+fn push_word(prefix: &mut Prefix, word: u16)
+    requires { length prefix.old.items + 2 ≤ 256 }
+    ensures items { prefix.new.items ≡ prefix.old.items ++ word_bytes word }
+    ensures count { length prefix.new.items ≡ length prefix.old.items + 2 }
+{
+    let [low, high] = word.to_le_bytes();
+    prefix.push(low);
+    prefix.push(high);
+}
+
+/// Adds bytes.
+fn push_bytes(prefix: &mut Prefix, bytes: &[u8])
+    requires { length prefix.old.items + length bytes.now ≤ 256 }
+    ensures items { prefix.new.items ≡ prefix.old.items ++ bytes.now }
+    ensures count { length prefix.new.items ≡ length prefix.old.items + length bytes.now }
+{
+    for byte in bytes {
+        prefix.push(*byte);
+    }
+}
+
+/// Adds zeros.
+fn push_zeros(prefix: &mut Prefix, count: usize)
+    requires { length prefix.old.items + count ≤ 256 }
+    ensures items { prefix.new.items ≡ prefix.old.items ++ zeros count }
+    ensures count { length prefix.new.items ≡ length prefix.old.items + count }
+{
+    for _ in 0..count {
+        prefix.push(0);
+    }
+}
+
+/// Adds bytes of memory from segment:offset on; offsets wrap.
+fn push_guest(prefix: &mut Prefix, space: &Space, segment: u16, offset: u16, count: usize)
+    requires { length prefix.old.items + count ≤ 256 }
+    ensures items { prefix.new.items ≡ prefix.old.items ++ bytes_from space.now.memory segment offset count }
+    ensures count { length prefix.new.items ≡ length prefix.old.items + count }
+{
+    for index in 0..count {
+        prefix.push(space.peek(segment, offset.wrapping_add(index as u16)));
+    }
+}
+
+/// The program segment prefix of a new process.
+#[tactic(auto, unfolding(crate::specs::Start::prefix))]
+pub(crate) fn make_prefix(space: &Space, pair: Pair, parent: u16, arguments: &Arguments) -> Prefix
+    ensures items { result.items ≡ prefix space.now.memory pair parent arguments.now }
+    ensures count { length result.items ≡ 256 }
+{
+    let tail = arguments.tail.as_slice();
+    let mut prefix = Prefix::new();
+    push_bytes(&mut prefix, &[0xCD, 0x20]);
+    push_word(&mut prefix, pair.program.segment + pair.program.size);
+    push_zeros(&mut prefix, 6);
+    push_guest(&mut prefix, space, 0, 0x88, 12);
+    push_word(&mut prefix, parent);
+    push_zeros(&mut prefix, 20);
+    push_word(&mut prefix, pair.environment.segment);
+    push_zeros(&mut prefix, 34);
+    push_bytes(&mut prefix, &[0xCD, 0x21, 0xCB]);
+    push_zeros(&mut prefix, 9);
+    push_bytes(&mut prefix, &arguments.first);
+    push_bytes(&mut prefix, &arguments.second);
+    push_zeros(&mut prefix, 4);
+    prefix.push(tail.len() as u8);
+    push_bytes(&mut prefix, tail);
+    prefix.push(0x0D);
+    push_zeros(&mut prefix, 126 - tail.len());
+    prefix
+}
