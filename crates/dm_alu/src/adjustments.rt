@@ -1,8 +1,9 @@
 //! The adjustments of the accumulator: AAA, AAS, DAA, DAS, AAM and AAD.
 //!
-//! Source: Intel 8086 Family User's Manual, section 2.7, Arithmetic Instructions, the ASCII and decimal adjustments.
+//! Source: Intel 8086 Family User's Manual, section 2.7, Arithmetic Instructions, the ASCII and
+//! decimal adjustments.
 ghost use Rattle.std.specs.Prelude.{◌≡◌, ◌≤◌};
-ghost use Rattle.dm_alu.specs.Adjustments.{low_digit_off, high_digit_off, decimal_change, adjusted_value, after_accumulator, flags_after_adjustment};
+ghost use Rattle.dm_alu.specs.Adjustments.{low_digit_off, high_digit_off, decimal_change, joined, adjusted_value, after_accumulator, flags_after_adjustment};
 
 use crate::flags::Flags;
 use crate::width::Width;
@@ -26,9 +27,10 @@ pub enum Adjustment {
 
 /// The accumulator AX after an adjustment, and the flags after it.
 ///
-/// AAA and AAS set adjust and carry; DAA and DAS set them and, as AAM and AAD do, parity, zero and sign by the new
-/// AL. The undefined status flags and trap, interrupt and direction stay. In AAA and AAS, AH changes by 1 and by no
-/// carry out of AL. DAA and DAS look at the old AL and the old carry for the high digit.
+/// AAA and AAS set adjust and carry; DAA and DAS set them and, as AAM and AAD do, parity, zero and
+/// sign by the new AL. The undefined status flags and trap, interrupt and direction stay. In AAA
+/// and AAS, AH changes by 1 and by no carry out of AL. DAA and DAS look at the old AL and the old
+/// carry for the high digit.
 #[tactic(auto, unfolding(crate::specs::Adjustments::flags_after_adjustment))]
 pub fn adjust(adjustment: Adjustment, ax: u16, flags: Flags) -> (u16, Flags)
     ensures value { result.0 ≡ adjusted_value adjustment ax flags }
@@ -38,6 +40,7 @@ pub fn adjust(adjustment: Adjustment, ax: u16, flags: Flags) -> (u16, Flags)
     let low_off = low_digit_off(low, flags);
     let high_off = high_digit_off(low, flags);
     let value = adjusted_value(adjustment, ax, flags);
+    let by_result = after_accumulator(value, flags);
     let flags = match adjustment {
         Adjustment::AsciiAddition | Adjustment::AsciiSubtraction => Flags {
             adjust: low_off,
@@ -47,11 +50,9 @@ pub fn adjust(adjustment: Adjustment, ax: u16, flags: Flags) -> (u16, Flags)
         Adjustment::DecimalAddition | Adjustment::DecimalSubtraction => Flags {
             adjust: low_off,
             carry: high_off,
-            ..after_accumulator(value, flags)
+            ..by_result
         },
-        Adjustment::AsciiMultiplication | Adjustment::AsciiDivision => after_accumulator(
-            value, flags,
-        ),
+        Adjustment::AsciiMultiplication | Adjustment::AsciiDivision => by_result,
     };
     (value, flags)
 }
@@ -63,17 +64,26 @@ fn adjusted_value(adjustment: Adjustment, ax: u16, flags: Flags) -> u16
 {
     let (high, low) = (ax / 0x100, ax % 0x100);
     let low_off = low_digit_off(low, flags);
+    let change = decimal_change(low, flags);
     match adjustment {
-        Adjustment::AsciiAddition if low_off => (high + 1) % 0x100 * 0x100 + (low + 6) % 0x10,
-        Adjustment::AsciiSubtraction if low_off => (high + 0xFF) % 0x100 * 0x100
-            + (low + 0xFA) % 0x10,
-        Adjustment::AsciiAddition | Adjustment::AsciiSubtraction => high * 0x100 + low % 0x10,
-        Adjustment::DecimalAddition => high * 0x100 + (low + decimal_change(low, flags)) % 0x100,
-        Adjustment::DecimalSubtraction => high * 0x100
-            + (low + 0x100 - decimal_change(low, flags)) % 0x100,
-        Adjustment::AsciiMultiplication => low / 10 * 0x100 + low % 10,
-        Adjustment::AsciiDivision => (high * 10 + low) % 0x100,
+        Adjustment::AsciiAddition if low_off => joined(high + 1, (low + 6) % 0x10),
+        Adjustment::AsciiSubtraction if low_off => joined(
+            high + 0x100 - 1,
+            (low + 0x100 - 6) % 0x10,
+        ),
+        Adjustment::AsciiAddition | Adjustment::AsciiSubtraction => joined(high, low % 0x10),
+        Adjustment::DecimalAddition => joined(high, low + change),
+        Adjustment::DecimalSubtraction => joined(high, low + 0x100 - change),
+        Adjustment::AsciiMultiplication => joined(low / 10, low % 10),
+        Adjustment::AsciiDivision => joined(0, high * 10 + low),
     }
+}
+
+/// AX of its halves, each modulo 256.
+fn joined(high: u16, low: u16) -> u16
+    ensures { result ≡ joined high low }
+{
+    high % 0x100 * 0x100 + low % 0x100
 }
 
 /// Whether the low digit of AL is over 9, or the adjust flag is set.

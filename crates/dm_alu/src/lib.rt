@@ -1,9 +1,11 @@
 //! Arithmetic and flags of the 8086: each operation gives a value and the nine flags after it.
 //!
-//! Values are whole numbers below 256 (a byte) or 65,536 (a word), and each definition is an equation or an
-//! inequality between such numbers. A flag that the processor leaves undefined keeps the value that it had.
+//! Values are whole numbers below 256 (a byte) or 65,536 (a word), and each definition is an
+//! equation or an inequality between such numbers. A flag that the processor leaves undefined keeps
+//! the value that it had.
 //!
-//! Source: Intel 8086 Family User's Manual, section 2.7, Arithmetic Instructions and Bit Manipulation Instructions.
+//! Source: Intel 8086 Family User's Manual, section 2.7, Arithmetic Instructions and Bit
+//! Manipulation Instructions.
 #![tactic(auto)]
 
 mod adjustments;

@@ -1,6 +1,7 @@
 //! Products and quotients: MUL, IMUL, DIV and IDIV.
 //!
-//! Source: Intel 8086 Family User's Manual, section 2.7, Arithmetic Instructions, Multiplication and Division.
+//! Source: Intel 8086 Family User's Manual, section 2.7, Arithmetic Instructions, Multiplication
+//! and Division.
 ghost use Rattle.std.specs.Prelude.{◌≡◌, ◌<◌, ◌*◌, ◌≤◌, ◌*ℤ◌, IfSome, unsigned_abs, int_div, int_rem};
 ghost use Rattle.dm_alu.specs.Width.{size, half, signed};
 ghost use Rattle.dm_alu.specs.Products.{product_value, twos_complement, upper_is_significant, flags_after_product, quotient_of, signed_double, signed_division};
@@ -28,9 +29,9 @@ pub struct Division {
 
 /// The product of two values of the width, twice as wide, and the flags after it.
 ///
-/// Carry and overflow say that the upper half is significant: for MUL that it is not zero, for IMUL that it is not
-/// the lower half's sign in each bit. Parity, adjust, zero and sign, which are undefined, stay, and so do trap,
-/// interrupt and direction.
+/// Carry and overflow say that the upper half is significant: for MUL that it is not zero, for IMUL
+/// that it is not the lower half's sign in each bit. Parity, adjust, zero and sign, which are
+/// undefined, stay, and so do trap, interrupt and direction.
 #[tactic(auto, unfolding(crate::specs::Products::flags_after_product))]
 pub fn mul(sign: Sign, width: Width, a: u16, b: u16, flags: Flags) -> (u32, Flags)
     requires first { a < size width }
@@ -108,10 +109,11 @@ fn upper_is_significant(sign: Sign, width: Width, product: u32) -> bool
     }
 }
 
-/// A value of twice the width divided by one of the width, cut towards zero; the remainder has the dividend's sign.
+/// A value of twice the width divided by one of the width, cut towards zero; the remainder has the
+/// dividend's sign.
 ///
-/// None exactly at a zero divisor, and where the quotient is out of range: for DIV past 255 or 65,535, for IDIV
-/// outside -127 to 127 or -32,767 to 32,767. A division leaves each flag.
+/// None exactly at a zero divisor, and where the quotient is out of range: for DIV past 255 or
+/// 65,535, for IDIV outside -127 to 127 or -32,767 to 32,767. A division leaves each flag.
 #[tactic(auto, unfolding(crate::specs::Products::quotient_of))]
 pub fn div(sign: Sign, width: Width, dividend: u32, divisor: u16) -> Option<Division>
     requires dividend { dividend < size width * size width }

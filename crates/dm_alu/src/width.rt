@@ -1,6 +1,7 @@
 //! Values of a byte or a word, unsigned and signed.
 //!
-//! Source: Intel 8086 Family User's Manual, section 2.7, Arithmetic Instructions, Arithmetic Data Formats.
+//! Source: Intel 8086 Family User's Manual, section 2.7, Arithmetic Instructions, Arithmetic Data
+//! Formats.
 ghost use Rattle.std.specs.Prelude.{◌≡◌, ◌<◌, pos, ◌-ℤ◌, ◌≤ℤ◌, ◌<ℤ◌, ◌≤◌, unsigned_abs};
 ghost use Rattle.dm_alu.specs.Width.{size, half, is_negative, signed, leaves_range};
 
@@ -34,14 +35,16 @@ impl Width {
         }
     }
 
-    /// Whether the top bit of a value of the width is one, so that its signed reading is below zero.
+    /// Whether the top bit of a value of the width is one, so that its signed reading is below
+    /// zero.
     pub fn is_negative(self, value: u16) -> bool
         ensures { result ≡ is_negative self value }
     {
         value >= self.half()
     }
 
-    /// The signed number that a value of the width stands for in two's complement: -128 to 127, or -32,768 to 32,767.
+    /// The signed number that a value of the width stands for in two's complement: -128 to 127, or
+    /// -32,768 to 32,767.
     #[tactic(auto, unfolding(crate::specs::Width::signed))]
     pub fn signed(self, value: u16) -> i32
         requires { value < size self }
@@ -58,8 +61,8 @@ impl Width {
         }
     }
 
-    /// Whether no value of the width stands for the signed number: it is at least 128 or below -128, or at least
-    /// 32,768 or below -32,768.
+    /// Whether no value of the width stands for the signed number: it is at least 128 or below
+    /// -128, or at least 32,768 or below -32,768.
     #[tactic(auto, unfolding(crate::specs::Width::leaves_range))]
     pub(crate) fn leaves_range(self, number: i32) -> bool
         ensures { result ≡ leaves_range self number }
