@@ -88,7 +88,7 @@ fn run_command<'a>(alloc: Global) -> Result<Command<'a>, AllocError>
 }
 
 /// The command `dm` with its subcommands, of which a line must name one.
-pub fn dm_command<'a>(alloc: Global) -> Result<Command<'a>, AllocError>
+pub(crate) fn dm_command<'a>(alloc: Global) -> Result<Command<'a>, AllocError>
     ensures { IfOk result (λ c. app_of c ≡ dm_app) }
 {
     Command::new(alloc, "dm")

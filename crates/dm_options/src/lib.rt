@@ -1,7 +1,7 @@
 //! The command line of the program `dm`: what its words ask for.
 #![tactic(auto)]
 
-pub mod arguments;
+mod arguments;
 pub mod command_line;
 pub mod parse;
 #[cfg(test)]

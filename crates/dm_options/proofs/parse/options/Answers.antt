@@ -1,16 +1,10 @@
-use Rattle.std.proofs.Common.{rules, ◌≡◌, ◌⊎◌, ◌∙◌, [], List, Some, IfOk, IfErr, IsSomeAnd, OnOk, Option, map, option_map, inl, inr, refl, ap, sym, subst, true, false}
-use Rattle.std.proofs.lemmas.Result.{IfOk-weaker}
-use Rattle.clap.specs.Words.{Row, Text, app_of, fault_of, found_of, is_simple, is_simple_and_free, rows_of, subcommand_of, subcommand_rows_of, FailsBy}
+use Rattle.std.proofs.Common.{◌≡◌, ◌∙◌, [], map, refl, ap, subst, true}
+use Rattle.clap.specs.Words.{fault_of, is_simple_and_free}
 use Rattle.clap.proofs.OnLiterals.{clap_on_literals}
 use Rattle.dm_options.specs.Arguments.{dm_app}
-use Rattle.dm_options.specs.Options.{HasOptions}
-use Rattle.dm_options.proofs.Getters.{name_and_rows}
 use Rattle.dm_options.proofs.parse.options.Goals as goal
 
-simple : is_simple dm_app ≡ true
-unfolding clap_on_literals
-simple = refl
-
+-- the command is one of those whose faults `clap` states
 free : is_simple_and_free dm_app ≡ true
 unfolding clap_on_literals
 free = refl
