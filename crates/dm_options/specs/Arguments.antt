@@ -1,0 +1,51 @@
+-- The commands and arguments of `dm`, as the command-line library `clap` is given them (Rust's crate `clap`, version 4).
+use Rattle.std.specs.Prelude.{[], ◌∷◌, Some, true, codes}
+use Rattle.clap.specs.Words.{App, Rule, Text, new_app, new_rule, with_rule, with_subcommand}
+use Rattle.clap.specs.declared.builder.value_parser.ValueParser.TheVariants as parser
+
+-- an option with a long name and one value, which has a default
+abbrev pub option_rule : Text → Text → Rule
+option_rule name default = record (new_rule name) {
+  long = Some name;
+  value_names = 1;
+  defaults = default ∷ [];
+}
+
+-- `--steps N`
+abbrev pub steps_rule : Rule
+steps_rule = record (option_rule (codes "steps") (codes "100000000")) { parser = Some (parser.Unsigned 0 18446744073709551615) }
+
+-- `--ems PAGES`
+abbrev pub ems_rule : Rule
+ems_rule = record (option_rule (codes "ems") (codes "64")) { parser = Some (parser.Unsigned 0 4294967295) }
+
+-- `--xms KIB`
+abbrev pub xms_rule : Rule
+xms_rule = record (option_rule (codes "xms") (codes "1024")) { parser = Some (parser.Unsigned 0 4294967295) }
+
+-- `--tail TEXT`
+abbrev pub tail_rule : Rule
+tail_rule = option_rule (codes "tail") []
+
+-- one file or more
+abbrev pub files_rule : Rule
+files_rule = record (new_rule (codes "files")) {
+  value_names = 1;
+  range = Some (record { start_inclusive = 1; end_inclusive = 18446744073709551615 });
+  required = true;
+}
+
+-- a command with the options and files of a machine
+abbrev pub with_machine_rules : App → App
+with_machine_rules a =
+    with_rule (with_rule (with_rule (with_rule (with_rule a steps_rule) ems_rule) xms_rule) tail_rule) files_rule
+
+abbrev pub run_app : App
+run_app = with_machine_rules (new_app (codes "run"))
+
+abbrev pub named_app : App
+named_app = let empty = new_app (codes "dm") in record empty { top = record empty.top { subcommand_required = true } }
+
+-- `dm` with its subcommands
+abbrev pub dm_app : App
+dm_app = with_subcommand named_app run_app.top

@@ -1,0 +1,36 @@
+-- What the options say, of the rows that `clap` states for the words of a command line.
+use Rattle.std.specs.Prelude.{◌≡◌, ℕ, ◌<◌, ◌^◌, List, Option, Some, ⊤, MatchOption, codes, map}
+use Rattle.std.specs.Str.Parse.{IsNumeral, digits_value, without_leading_plus}
+use Rattle.clap.specs.Words.{IsAmong, Kinds, Row, Text, all_of, first_of, kind_of, one_of}
+use Rattle.dm_options.specs.declared.command_line.MachineOptions.{MachineOptions}
+use Rattle.dm_options.specs.declared.command_line.Options.{Options}
+use Rattle.dm_options.specs.declared.command_line.Options.TheVariants as command
+use Rattle.dm_options.specs.declared.command_line.OptionsError.{OptionsError}
+use Rattle.dm_options.specs.declared.command_line.OptionsError.TheVariants as refusal
+
+-- the text is the decimal numeral n, a `+` before it allowed, of at most k bits
+abbrev pub IsNumber : ℕ → Text → ℕ → Type 0
+IsNumber k text n = IsNumeral 10 (without_leading_plus text)
+    × (digits_value 10 (without_leading_plus text) < 2 ^ k)
+    × (n ≡ digits_value 10 (without_leading_plus text))
+
+-- the text is there, and is the numeral n
+abbrev pub HasNumber : ℕ → Option Text → ℕ → Type 0
+HasNumber k text n = MatchOption text ⊥ (λ t. IsNumber k t n)
+
+-- the rows of the arguments, and the options of a machine
+pub record HasMachineOptions (rows : List Row) (o : MachineOptions) : Type 0 where
+  pub steps : HasNumber 64 (one_of (codes "steps") rows) o.steps
+  pub ems_pages : HasNumber 32 (one_of (codes "ems") rows) o.ems_pages
+  pub xms_kib : HasNumber 32 (one_of (codes "xms") rows) o.xms_kib
+  pub tail : first_of (codes "tail") rows ≡ Some o.tail.now
+  pub files : all_of (codes "files") rows ≡ Some (map (λ s. s.now) o.files.items)
+
+-- the subcommand with its rows, and the options
+abbrev pub HasOptions : Text × List Row → Options → Type 0
+HasOptions given (command.Run o) = (given.0 ≡ codes "run") × HasMachineOptions given.1 o
+
+-- a usage error has one of the kinds that the first fault of the words may have; memory may be wanting at any words
+abbrev pub Explains : Kinds → OptionsError → Type 0
+Explains kinds (refusal.Usage e) = IsAmong (kind_of e) kinds
+Explains kinds refusal.Memory = ⊤

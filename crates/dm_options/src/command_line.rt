@@ -1,0 +1,32 @@
+//! What a command line of `dm` asks for.
+
+/// How a machine is made and what it runs.
+#[derive(Debug, Drop)]
+pub struct MachineOptions<'a> {
+    /// The most steps that the machine makes, from `--steps`.
+    pub steps: u64,
+    /// The pages of 16 KiB of expanded memory, from `--ems`.
+    pub ems_pages: u32,
+    /// The KiB of extended memory, from `--xms`.
+    pub xms_kib: u32,
+    /// The tail of the program's command line, from `--tail`.
+    pub tail: &'a str,
+    /// The paths of the program to run and of the other programs in the store; there is at least one.
+    pub files: Vec<&'a str>,
+}
+
+/// The command of a command line, with its options and files.
+#[derive(Debug, Drop)]
+pub enum Options<'a> {
+    /// `dm run`: runs the first file.
+    Run(MachineOptions<'a>),
+}
+
+/// Why a command line gave no options.
+#[derive(Debug, Drop)]
+pub enum OptionsError {
+    /// A wrong command line or a call for help; the error's text says which.
+    Usage(clap::Error),
+    /// Memory was refused.
+    Memory,
+}

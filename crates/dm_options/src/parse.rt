@@ -1,0 +1,108 @@
+//! Reading the words of a command line.
+ghost use Rattle.std.specs.Prelude.{◌≡◌, [], Some, IfOk, IfErr, IsSomeAnd, OnOk, codes, map};
+ghost use Rattle.clap.specs.Words.{all_of, fault_of, first_of, found_of, one_of, rows_of, subcommand_of};
+ghost use Rattle.dm_options.specs.Arguments.{dm_app};
+ghost use Rattle.dm_options.specs.Options.{Explains, HasMachineOptions, HasNumber, HasOptions};
+
+use crate::arguments::dm_command;
+use crate::command_line::{MachineOptions, Options, OptionsError};
+use clap::ArgMatches;
+use clap::error::ErrorKind;
+use std::alloc::{AllocError, Global};
+use std::convert::AsStr;
+
+// `clap` gives each of these arguments a value, by the words or by a default. So the error of the readers below
+// stands for a want of memory, which is what the caller tells.
+
+fn number_u64(matches: &ArgMatches<'_>, id: &str) -> Result<u64, AllocError>
+    ensures { IfOk result (HasNumber 64 (one_of id.now (rows_of (found_of matches.now)))) }
+{
+    matches.get_one::<u64>(id).ok_or(AllocError)
+}
+
+fn number_u32(matches: &ArgMatches<'_>, id: &str) -> Result<u32, AllocError>
+    ensures { IfOk result (HasNumber 32 (one_of id.now (rows_of (found_of matches.now)))) }
+{
+    matches.get_one::<u32>(id).ok_or(AllocError)
+}
+
+fn text_of<'a>(matches: &ArgMatches<'a>, id: &str) -> Result<&'a str, AllocError>
+    ensures { IfOk result (λ s. first_of id.now (rows_of (found_of matches.now)) ≡ Some s.now) }
+{
+    matches.get_str(id).ok_or(AllocError)
+}
+
+fn files_of<'a>(alloc: Global, matches: &ArgMatches<'a>) -> Result<Vec<&'a str>, AllocError>
+    ensures { IfOk result (λ v. all_of (codes "files") (rows_of (found_of matches.now)) ≡ Some (map (λ s. s.now) v.items)) }
+{
+    let files = matches.get_strs("files").ok_or(AllocError)?;
+    let files = Vec::from_slice(alloc, files)?;
+    Ok(files)
+}
+
+fn machine_options<'a>(
+    alloc: Global,
+    matches: &ArgMatches<'a>,
+) -> Result<MachineOptions<'a>, AllocError>
+    ensures { IfOk result (HasMachineOptions (rows_of (found_of matches.now))) }
+{
+    let steps = number_u64(matches, "steps")?;
+    let ems_pages = number_u32(matches, "ems")?;
+    let xms_kib = number_u32(matches, "xms")?;
+    let tail = text_of(matches, "tail")?;
+    let files = files_of(alloc, matches)?;
+    Ok(MachineOptions {
+        steps,
+        ems_pages,
+        xms_kib,
+        tail,
+        files,
+    })
+}
+
+fn read_subcommand<'a>(
+    alloc: Global,
+    name: &str,
+    matches: &ArgMatches<'a>,
+) -> Result<Options<'a>, AllocError>
+    ensures { IfOk result (HasOptions (name.now, rows_of (found_of matches.now))) }
+{
+    if name == "run" {
+        return Ok(Options::Run(machine_options(alloc, matches)?));
+    }
+    Err(AllocError)
+}
+
+/// Reads the words of a command line, of which the first is the program's name.
+///
+/// `dm run [--steps N] [--ems PAGES] [--xms KIB] [--tail TEXT] FILES...`: N is a decimal number below 2^64, PAGES and
+/// KIB are decimal numbers below 2^32, and there is at least one file. A number may begin with `+`. The defaults are
+/// 100000000, 64, 1024 and the empty text. An option that comes twice, or one that is unknown, is wrong.
+///
+/// # Errors
+///
+/// `Usage` where `clap` finds a fault in the words, which a call for help is too; its kind is one of those that the
+/// first faulty step may have. `Memory` where memory was refused.
+pub fn options<'a, S: AsStr>(alloc: Global, words: &'a [S]) -> Result<Options<'a>, OptionsError>
+    ensures ok { IfOk result (λ o. IsSomeAnd (subcommand_of dm_app (map S.text words.entry.now)) (λ g. HasOptions g o)) }
+    ensures no_fault { OnOk result (fault_of dm_app (map S.text words.entry.now) ≡ []) }
+    ensures err { IfErr result (Explains (fault_of dm_app (map S.text words.entry.now))) }
+{
+    let Ok(command) = dm_command(alloc) else {
+        return Err(OptionsError::Memory);
+    };
+    let matches = match command.try_get_matches_from(words) {
+        Ok(matches) => matches,
+        Err(error) => match error.kind() {
+            ErrorKind::OutOfMemory => return Err(OptionsError::Memory),
+            _ => return Err(OptionsError::Usage(error)),
+        },
+    };
+    match matches.subcommand() {
+        Some((name, inner)) => match read_subcommand(alloc, name, inner) {
+            Ok(options) => Ok(options),
+            Err(_) => Err(OptionsError::Memory),
+        },
+        None => Err(OptionsError::Memory),
+    }
+}

@@ -1,0 +1,30 @@
+-- What a writer took, and how many of its writes failed.
+use Rattle.std.specs.Prelude.{◌≡◌, ℕ, ◌+◌, ◌-◌, ◌^◌, ◌≤◌, ◌<◌, ◌==◌, ◌&&◌, ◌⊎◌, Bool, true, not}
+use Rattle.std.specs.Prelude.{List, Option, Result, Ok, Err, length, take, min, if◌then◌else◌}
+use Rattle.std.specs.Io.KnownBytes.{Appends}
+
+-- at this number the count of failed writes stays
+abbrev pub most_failures : ℕ
+most_failures = 2 ^ 64 - 1
+
+abbrev pub took_nothing : {E : Type 0} → Result ℕ E → Bool
+took_nothing (Ok n) = n == 0
+took_nothing (Err e) = true
+
+-- the count after a write of `bytes`: it rises where at least one byte was offered and none was taken
+abbrev pub count_after : {E : Type 0} → ℕ → List ℕ → Result ℕ E → ℕ
+count_after count bytes r =
+    if not (length bytes == 0) && took_nothing r then min (count + 1) most_failures else count
+
+-- a write failed or took nothing: the count rose or stands at its end
+abbrev pub HasFailed : ℕ → ℕ → Type 0
+HasFailed before after = (before < after) ⊎ (after ≡ most_failures)
+
+-- the writer took a first part of `bytes`
+abbrev pub AppendsPart : Option (List ℕ) → Option (List ℕ) → List ℕ → Type 0
+AppendsPart old new bytes = (k : ℕ) × (k ≤ length bytes) × Appends old new (take k bytes)
+
+-- a writer as contracts see it: the bytes that it holds, where they are known, and how many writes failed or took nothing
+pub record Written : Type 0 where
+  pub bytes : Option (List ℕ)
+  pub failures : ℕ

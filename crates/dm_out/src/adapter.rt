@@ -1,0 +1,62 @@
+//! A standard writer as an `Out`.
+ghost use Rattle.std.specs.Prelude.{◌≡◌, ◌+◌, min};
+ghost use Rattle.dm_out.specs.Out.{Written, most_failures};
+
+use crate::writer::{Failed, Out};
+use std::io;
+use std::marker::Model;
+
+/// A standard writer together with the count of its writes that failed or took nothing.
+///
+/// A contract sees the bytes that the writer holds, where its type knows them, and the count.
+#[derive(Drop)]
+pub struct Sink<W: io::Write + Drop> {
+    writer: W,
+    count: u64,
+}
+
+impl<W: io::Write + Drop> Model for Sink<W> {
+    ghost Value = { Written };
+
+    ghost view = { λ s. record { bytes = W.contents s.writer; failures = s.count } };
+}
+
+impl<W: io::Write + Drop> Sink<W> {
+    /// Starts over `writer` with no failed write counted.
+    pub fn new(writer: W) -> Sink<W>
+        ensures { result ≡ record { bytes = W.contents writer; failures = 0 } }
+    {
+        Sink { writer, count: 0 }
+    }
+
+    /// Counts one more failed write, unless the count stands at 2^64 - 1.
+    fn fail(&mut self)
+        ensures { self.new ≡ record self.old { failures = min (self.old.failures + 1) most_failures } }
+    {
+        self.count = self.count.saturating_add(1);
+    }
+}
+
+impl<W: io::Write + Drop> Out for Sink<W> {
+    ghost taken = { λ s. s.bytes };
+
+    ghost failures = { λ s. s.failures };
+
+    /// One write of the standard writer. Any of its errors is `Failed`.
+    fn write(&mut self, bytes: &[u8]) -> Result<usize, Failed> {
+        match self.writer.write(bytes) {
+            Ok(n) => {
+                if n == 0 && !bytes.is_empty() {
+                    self.fail();
+                }
+                Ok(n)
+            }
+            Err(_) => {
+                if !bytes.is_empty() {
+                    self.fail();
+                }
+                Err(Failed)
+            }
+        }
+    }
+}

@@ -1,0 +1,10 @@
+//! Writers of which a contract knows the bytes taken and the writes that failed.
+#![tactic(auto)]
+
+pub mod adapter;
+#[cfg(test)]
+mod tests;
+pub mod writer;
+
+pub use adapter::Sink;
+pub use writer::{Failed, Out, write_all};
