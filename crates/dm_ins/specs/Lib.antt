@@ -1,3 +1,6 @@
 pub mod Table
 pub mod Spelling
 pub mod Ins
+pub mod Order
+pub mod Steps
+pub mod Encoding

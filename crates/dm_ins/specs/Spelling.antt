@@ -1,5 +1,5 @@
 -- Which bytes spell an instruction.
-use Rattle.std.specs.Prelude.{◌≡◌, ◌≢◌, ℕ, ◌+◌, ◌*◌, ◌/◌, ◌%◌, ◌^◌, ◌<◌, Bool, true, false, ◌⊎◌, List, [], ◌∷◌, ◌++◌, Option, Some, None, slice_index_or, nat_lt, if◌then◌else◌}
+use Rattle.std.specs.Prelude.{◌≡◌, ◌≢◌, ℕ, ◌+◌, ◌*◌, ◌/◌, ◌%◌, ◌^◌, ◌<◌, Bool, true, false, ◌⊎◌, List, [], ◌∷◌, ◌++◌, Option, Some, None, slice_index_or, nat_lt, if◌then◌else◌, length, ◌≤◌, map}
 use Rattle.dm_ins.specs.declared.operand.Width.{Width}
 use Rattle.dm_ins.specs.declared.operand.Width.TheVariants.{Byte, Word}
 use Rattle.dm_ins.specs.declared.operand.WordRegister.TheVariants.{Ax}
@@ -160,3 +160,14 @@ pub record SpellsAction (a : Action) (bytes : List ℕ) : Type 0 where
   pub first : Fills row.first fields a.first first_part
   pub second : Fills row.second fields a.second second_part
   pub parts : bytes ≡ first_byte ∷ behind ++ (first_part ++ second_part)
+
+-- ---- prefixed actions
+
+-- at most four prefixes, of which the last of each kind is kept, and then the action
+pub record SpellsPrefixed (kept_ones : Prefixes) (a : Action) (bytes : List ℕ) : Type 0 where
+  pub prefixes : List Prefix
+  pub rest : List ℕ
+  pub few : length prefixes ≤ 4
+  pub keeps : kept_ones ≡ kept no_prefix prefixes
+  pub action : SpellsAction a rest
+  pub parts : bytes ≡ map prefix_byte prefixes ++ rest

@@ -2,13 +2,18 @@
 #![tactic(auto)]
 
 pub mod action;
+mod demand;
+mod encoding;
 pub mod fields;
+mod fill;
 pub mod ins;
+mod search;
 pub mod operand;
 pub mod prefix;
 pub mod table;
 
 pub use action::{Action, Mnemonic};
+pub use encoding::encode;
 pub use ins::Ins;
 pub use operand::{Address, Base, ByteRegister, Operand, SegmentRegister, Width, WordRegister};
 pub use prefix::{Prefixes, Repeat};

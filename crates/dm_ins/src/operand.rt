@@ -1,6 +1,10 @@
 //! Operands of 8086 instructions: registers, memory addresses, immediate values and targets
 //! (Intel 8086 Family User's Manual, section 2.8, "Addressing Modes").
 
+ghost use Rattle.std.specs.Prelude.{◌≡◌, ◌<◌};
+ghost use Rattle.dm_ins.specs.Spelling.{extended};
+ghost use Rattle.dm_ins.specs.Encoding.{byte_number, segment_number, word_number};
+
 /// How much of memory, or which half of a register, an operand names.
 #[derive(Clone, Copy, Debug, PartialEq, Eq)]
 pub enum Width {
@@ -23,6 +27,16 @@ pub enum WordRegister {
     Di,
 }
 
+impl WordRegister {
+    /// The number of the register in an instruction's bytes, 0 to 7.
+    pub fn number(self) -> u8
+        ensures value { result ≡ word_number self }
+        ensures fits { result < 8 }
+    {
+        self as u8
+    }
+}
+
 /// The 8-bit general registers, in the order of their numbers 0 to 7.
 #[derive(Clone, Copy, Debug, PartialEq, Eq)]
 pub enum ByteRegister {
@@ -36,6 +50,16 @@ pub enum ByteRegister {
     Bh,
 }
 
+impl ByteRegister {
+    /// The number of the register in an instruction's bytes, 0 to 7.
+    pub fn number(self) -> u8
+        ensures value { result ≡ byte_number self }
+        ensures fits { result < 8 }
+    {
+        self as u8
+    }
+}
+
 /// The segment registers, in the order of their numbers 0 to 3.
 #[derive(Clone, Copy, Debug, PartialEq, Eq)]
 pub enum SegmentRegister {
@@ -43,6 +67,16 @@ pub enum SegmentRegister {
     Cs,
     Ss,
     Ds,
+}
+
+impl SegmentRegister {
+    /// The number of the register in an instruction's bytes, 0 to 3.
+    pub fn number(self) -> u8
+        ensures value { result ≡ segment_number self }
+        ensures fits { result < 4 }
+    {
+        self as u8
+    }
 }
 
 /// The registers whose values are added into the offset of a memory operand.
@@ -89,4 +123,11 @@ pub enum Operand {
     Target(u16),
     /// A target in another segment: its offset, then its segment.
     FarTarget(u16, u16),
+}
+
+/// A byte extended by sign to a word.
+pub fn extend(byte: u8) -> u16
+    ensures { result ≡ extended byte }
+{
+    if byte < 0x80 { byte as u16 } else { byte as u16 + 0xFF00 }
 }
