@@ -13,12 +13,12 @@ use Rattle.dm_ins.specs.declared.table.Entry.{Entry}
 use Rattle.dm_ins.specs.declared.table.Entry.TheVariants.{Unlisted, Plain, Group, Second}
 use Rattle.dm_ins.specs.Table.{entry_of, member_of}
 use Rattle.dm_ins.specs.Spelling.{SpellsFields, has_fields, no_fields, MaySpellFields, HasRow, SpellsAction}
-use Rattle.dm_ins.specs.Encoding.{data_bytes, either, behind_bytes, bytes_of, choice_at, demand_of, CandidateAt}
+use Rattle.dm_ins.specs.Encoding.{OperandFits, data_bytes, either, behind_bytes, bytes_of, choice_at, demand_of, CandidateAt}
 use Rattle.dm_ins.proofs.TableRules.{both_true}
 use Rattle.dm_ins.proofs.Demands.{asks_for_register, asks_for_place, asked, named_place}
 use Rattle.dm_ins.proofs.Least.{exactly_one, neither, regular, regular_fields, regular_member, no_demand, entry_regular, group_regular}
 use Rattle.dm_ins.proofs.Steps.{bind_some}
-use Rattle.dm_ins.proofs.Sound.{OperandFits, PlaceIs, Shaped, demand_shape, operand_fills, fields_from, fields_spell, named_from, chosen_true, is_some}
+use Rattle.dm_ins.proofs.Sound.{PlaceIs, Shaped, demand_shape, operand_fills, fields_from, fields_spell, named_from, chosen_true, is_some}
 
 joined : {A : Type 0} (P : A → Type 0) (s t : Bool) (x y : A) (u v : Option A) → u ≡ asked s x → v ≡ asked t y → P x → P y → exactly_one s t ≡ true
     → (z : A) × P z × (u ≡ asked s z) × (v ≡ asked t z) × (either u v ≡ Some z)
@@ -92,17 +92,17 @@ filled (Second c p) b g ch d e h lt i =
     let v = chosen_true (eqb g 0) (record { opcode = b; row = p; register = None; second = Some c }) ch i in
     subst (Made (Second c p) b d e) v.1 (λ s t. let w = none_agree p d e s t h in record { m = no_fields; is_opcode = refl; has_row = (refl, refl, rw w.1 refl); agree = w.0 })
 
-pub action_sound : (n : ℕ) (a : Action) (c : List ℕ) → OperandFits a.first → OperandFits a.second → CandidateAt n a c → SpellsAction a c
+pub action_sound : (n : ℕ) (a : Action) (c : List ℕ) → CandidateAt n a c → SpellsAction a c
 unfolding bytes_of
-action_sound n a c f1 f2 h =
+action_sound n a c h =
     let x = bind_some (demand_of h.choice.row.first a.first) _ c h.is_bytes in
     let y = bind_some (demand_of h.choice.row.second a.second) _ c x.2 in
-    let s = demand_shape x.0 h.choice.row.first a.first f1 x.1 in
-    let t = demand_shape y.0 h.choice.row.second a.second f2 y.1 in
+    let s = demand_shape x.0 h.choice.row.first a.first h.first_fits x.1 in
+    let t = demand_shape y.0 h.choice.row.second a.second h.second_fits y.1 in
     let l = filled (entry_of (n / 8)) (n / 8) (n % 8) h.choice x.0 y.0 (entry_regular (n / 8)) (omega arith) h.is_choice s t in
     record {
       first_byte = n / 8; fields = l.m; row = h.choice.row; behind = behind_of h.choice x.0 y.0; first_part = data_bytes x.0.tail; second_part = data_bytes y.0.tail;
       has_row = l.has_row; mnemonic = sym h.mnemonic;
-      first = operand_fills l.m x.0 h.choice.row.first a.first f1 x.1 l.agree.first_register l.agree.first_place;
-      second = operand_fills l.m y.0 h.choice.row.second a.second f2 y.1 l.agree.second_register l.agree.second_place;
+      first = operand_fills l.m x.0 h.choice.row.first a.first h.first_fits x.1 l.agree.first_register l.agree.first_place;
+      second = operand_fills l.m y.0 h.choice.row.second a.second h.second_fits y.1 l.agree.second_register l.agree.second_place;
       parts = ap (λ (z : List ℕ). z) (sym (is_some _ c y.2)) ∙ ap (λ (k : ℕ). k ∷ behind_of h.choice x.0 y.0 ++ (data_bytes x.0.tail ++ data_bytes y.0.tail)) l.is_opcode }

@@ -12,8 +12,6 @@ use Rattle.dm_ins.specs.declared.operand.Address.{Address}
 use Rattle.dm_ins.specs.declared.fields.Fields.{Fields}
 use Rattle.dm_ins.specs.declared.action.Action.{Action}
 use Rattle.std.proofs.Math.Logic.{∥∥₁_elim}
-use Rattle.std.specs.Coded.{×_prop, le_prop}
-use Rattle.dm_ins.specs.declared.operand.Operand.TheVariants as operand
 use Rattle.dm_ins.specs.declared.operand.Operand.{Operand}
 use Rattle.dm_ins.specs.declared.fill.Choice.{Choice}
 use Rattle.dm_ins.specs.declared.table.Kind.{Kind}
@@ -24,12 +22,11 @@ use Rattle.dm_ins.specs.declared.table.Entry.TheVariants.{Unlisted, Plain, Group
 use Rattle.dm_ins.specs.Table.{entry_of}
 use Rattle.dm_ins.specs.Spelling.{extended, SpellsMemory, SpellsFields, Fills, has_fields, no_fields, MaySpellFields, HasRow, SpellsAction, prefix_byte, no_prefix, kept, SpellsPrefixed, register, at_place}
 use Rattle.dm_ins.specs.Order.{before}
-use Rattle.dm_ins.specs.Encoding.{Best, CandidateAt, choice_at, prefix_list, segment_list, lock_list, repeat_list}
+use Rattle.dm_ins.specs.Encoding.{OperandFits, Best, CandidateAt, choice_at, prefix_list, segment_list, lock_list, repeat_list}
 use Rattle.dm_ins.proofs.Order.{not_longer, not_shorter, not_before_append}
 use Rattle.dm_ins.proofs.KeptPrefixes.{three_by, prefixes_least}
 use Rattle.dm_ins.proofs.Demands.{AtMost}
 use Rattle.dm_ins.proofs.Least.{action_least, row_fits}
-use Rattle.dm_ins.proofs.Sound.{OperandFits}
 use Rattle.dm_ins.proofs.Rows.{action_sound}
 
 -- ---- what is spelled has numbers that fit
@@ -111,62 +108,53 @@ few_by (Some s) false (Some r) = omega arith
 few_by (Some s) true None = omega arith
 few_by (Some s) true (Some r) = omega arith
 
-candidate_not_before : (a : Action) (c d : List ℕ) → Best 2048 a (Some c) → SpellsAction a d → before d c ≡ false
-candidate_not_before a c d best s =
+-- the candidate that has the same bytes as a spelling, or fewer
+record Candidate (a : Action) (d : List ℕ) : Type 0 where
+  n : ℕ
+  n_fits : n < 2048
+  bytes : List ℕ
+  is_candidate : CandidateAt n a bytes
+  least : AtMost bytes d
+
+candidate_of : (a : Action) (d : List ℕ) → SpellsAction a d → Candidate a d
+candidate_of a d s =
     let l = action_least a d s in
+    let f = action_fits a d s in
     let q : (8 * l.b + l.g) / 8 ≡ l.b = omega (arith, l.g_fits) in
     let r : (8 * l.b + l.g) % 8 ≡ l.g = omega (arith, l.g_fits) in
     let e : choice_at (entry_of ((8 * l.b + l.g) / 8)) ((8 * l.b + l.g) / 8) ((8 * l.b + l.g) % 8) ≡ Some l.choice = rw (q, r) l.is_choice in
-    let f = best.least (8 * l.b + l.g) l.c (omega (arith, l.g_fits, l.b_fits)) (record { choice = l.choice; is_choice = e; mnemonic = l.mnemonic; is_bytes = l.is_bytes }) in
-    by l.c f l.least
+    record { n = 8 * l.b + l.g; n_fits = omega (arith, l.g_fits, l.b_fits); bytes = l.c; least = l.least;
+      is_candidate = record { choice = l.choice; is_choice = e; mnemonic = l.mnemonic; is_bytes = l.is_bytes; first_fits = f.0; second_fits = f.1 } }
+
+candidate_not_before : (a : Action) (c d : List ℕ) → Best 2048 a (Some c) → SpellsAction a d → before d c ≡ false
+candidate_not_before a c d best s =
+    let k = candidate_of a d s in
+    by k.bytes (best.least k.n k.bytes k.n_fits k.is_candidate) k.least
   where
     by : (x : List ℕ) → before x c ≡ false → AtMost x d → before d c ≡ false
     by x f (inl e) = rw (← e) f
     by x f (inr lt) = not_shorter c d (omega (arith, not_longer c x f))
-
-pub none_best : (a : Action) (d : List ℕ) → Best 2048 a None → SpellsAction a d → ⊥
-none_best a d best s =
-    let l = action_least a d s in
-    let q : (8 * l.b + l.g) / 8 ≡ l.b = omega (arith, l.g_fits) in
-    let r : (8 * l.b + l.g) % 8 ≡ l.g = omega (arith, l.g_fits) in
-    let e : choice_at (entry_of ((8 * l.b + l.g) / 8)) ((8 * l.b + l.g) / 8) ((8 * l.b + l.g) % 8) ≡ Some l.choice = rw (q, r) l.is_choice in
-    best.least (8 * l.b + l.g) l.c (omega (arith, l.g_fits, l.b_fits)) (record { choice = l.choice; is_choice = e; mnemonic = l.mnemonic; is_bytes = l.is_bytes })
 
 pub encode_least : (p : Prefixes) (a : Action) (c b : List ℕ) → Best 2048 a (Some c) → SpellsPrefixed p a b → before b (map prefix_byte (prefix_list p) ++ c) ≡ false
 encode_least p a c b best s =
     let q : before (map prefix_byte s.prefixes) (map prefix_byte (prefix_list p)) ≡ false = rw s.keeps (prefixes_least s.prefixes s.few) in
     rw s.parts (not_before_append (map prefix_byte s.prefixes) (map prefix_byte (prefix_list p)) s.rest c q (candidate_not_before a c s.rest best s.action))
 
--- some bytes spell the action
-abbrev pub HasSpelling : Action → Type 0
-HasSpelling a = ∥ ((bytes : List ℕ) × SpellsAction a bytes) ∥₁
+pub best_spells : (a : Action) (c : List ℕ) → Best 2048 a (Some c) → SpellsAction a c
+best_spells a c best = action_sound best.found.0 a c best.found.2
 
-OperandFits-prop : (o : Operand) → IsProp (OperandFits o)
-OperandFits-prop operand.Nothing = hlevel
-OperandFits-prop (operand.ByteRegister r) = hlevel
-OperandFits-prop (operand.WordRegister r) = hlevel
-OperandFits-prop (operand.SegmentRegister r) = hlevel
-OperandFits-prop (operand.Memory w a) = le_prop
-OperandFits-prop (operand.ByteValue n) = le_prop
-OperandFits-prop (operand.WordValue n) = le_prop
-OperandFits-prop operand.One = hlevel
-OperandFits-prop (operand.Target n) = le_prop
-OperandFits-prop (operand.FarTarget n s) = ×_prop le_prop le_prop
+pub encode_spells : (p : Prefixes) (a : Action) (c : List ℕ) → Best 2048 a (Some c) → SpellsPrefixed p a (map prefix_byte (prefix_list p) ++ c)
+encode_spells p a c best = record {
+    prefixes = prefix_list p; rest = c; few = few_by p.segment p.lock p.repeat;
+    keeps = sym (kept_by p.segment p.lock p.repeat);
+    action = best_spells a c best; parts = refl }
 
-pub no_best : (a : Action) → HasSpelling a → Best 2048 a None → ⊥
+pub none_best : (a : Action) (d : List ℕ) → Best 2048 a None → SpellsAction a d → ⊥
+none_best a d best s = let k = candidate_of a d s in best.least k.n k.bytes k.n_fits k.is_candidate
+
+-- an action that some bytes spell has a least candidate
+pub no_best : (a : Action) → ∥ ((bytes : List ℕ) × SpellsAction a bytes) ∥₁ → Best 2048 a None → ⊥
 no_best a h best =
     let none : ((bytes : List ℕ) × SpellsAction a bytes) → ⊥ = λ s. none_best a s.0 best s.1 in
     let one : IsProp ⊥ = hlevel in
     ∥∥₁_elim h one none
-
-pub best_spells : (a : Action) (c : List ℕ) → OperandFits a.first → OperandFits a.second → Best 2048 a (Some c) → SpellsAction a c
-best_spells a c f g best = action_sound best.found.0 a c f g best.found.2
-
-pub encode_spells : (p : Prefixes) (a : Action) (c : List ℕ) → HasSpelling a → Best 2048 a (Some c) → SpellsPrefixed p a (map prefix_byte (prefix_list p) ++ c)
-encode_spells p a c h best =
-    let f : OperandFits a.first = ∥∥₁_elim h (OperandFits-prop a.first) (λ s. (action_fits a s.0 s.1).0) in
-    let g : OperandFits a.second = ∥∥₁_elim h (OperandFits-prop a.second) (λ s. (action_fits a s.0 s.1).1) in
-    record {
-      prefixes = prefix_list p; rest = c; few = few_by p.segment p.lock p.repeat;
-      keeps = sym (kept_by p.segment p.lock p.repeat);
-      action = best_spells a c f g best; parts = refl }

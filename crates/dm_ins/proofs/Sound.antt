@@ -26,17 +26,8 @@ use Rattle.dm_ins.specs.declared.table.Kind.TheVariants as is
 use Rattle.dm_ins.specs.Table.{word_registers, byte_registers}
 use Rattle.dm_ins.specs.Spelling.{word, extended, bases, based, direct, register, at_place, SpellsMemory, SpellsFields, Fills}
 use Rattle.dm_ins.specs.Steps.{◌>>=◌}
-use Rattle.dm_ins.specs.Encoding.{word_number, byte_number, segment_number, rm_of, is_direct, same_width, numbered, asks_data, asks_register, asks_place, as_signed, demand_of, data_bytes, with_displacement, memory_bytes, fields_bytes}
+use Rattle.dm_ins.specs.Encoding.{OperandFits, word_number, byte_number, segment_number, rm_of, is_direct, same_width, numbered, asks_data, asks_register, asks_place, as_signed, demand_of, data_bytes, with_displacement, memory_bytes, fields_bytes}
 use Rattle.dm_ins.proofs.Demands.{asks_for_register, asks_for_place, asked, named_place, base_at}
-
--- the numbers in an operand fit their types
-abbrev pub OperandFits : Operand → Type 0
-OperandFits (operand.Memory w a) = a.displacement < 2 ^ 16
-OperandFits (operand.ByteValue n) = n < 2 ^ 8
-OperandFits (operand.WordValue n) = n < 2 ^ 16
-OperandFits (operand.Target n) = n < 2 ^ 16
-OperandFits (operand.FarTarget n s) = (n < 2 ^ 16) × (s < 2 ^ 16)
-OperandFits _ = Unit {0}
 
 byte_back : (r : ByteRegister) → get_or byte_registers (byte_number r) Al ≡ r
 byte_back Al = refl

@@ -1,5 +1,5 @@
 -- The bytes that each row has for operands, with the shortest displacement.
-use Rattle.std.specs.Prelude.{◌≡◌, ℕ, zero, suc, ◌+◌, ◌-◌, ◌*◌, ◌/◌, ◌%◌, ◌<◌, Bool, true, false, ◌⊎◌, List, [], ◌∷◌, ◌++◌, length, Option, Some, None, IfSome, IsSomeAnd, ◌==◌, nat_lt, if◌then◌else◌}
+use Rattle.std.specs.Prelude.{◌^◌, ◌≡◌, ℕ, zero, suc, ◌+◌, ◌-◌, ◌*◌, ◌/◌, ◌%◌, ◌<◌, Bool, true, false, ◌⊎◌, List, [], ◌∷◌, ◌++◌, length, Option, Some, None, IfSome, IsSomeAnd, ◌==◌, nat_lt, if◌then◌else◌}
 use Rattle.dm_ins.specs.declared.operand.Width.{Width}
 use Rattle.dm_ins.specs.declared.operand.Width.TheVariants.{Byte, Word}
 use Rattle.dm_ins.specs.declared.operand.WordRegister.{WordRegister}
@@ -195,12 +195,23 @@ abbrev pub seen_bytes : Option (ArrayVec ℕ) → Option (List ℕ)
 seen_bytes None = None
 seen_bytes (Some v) = Some v.items
 
+-- the numbers in an operand fit their types
+abbrev pub OperandFits : Operand → Type 0
+OperandFits (operand.Memory w a) = a.displacement < 2 ^ 16
+OperandFits (operand.ByteValue n) = n < 2 ^ 8
+OperandFits (operand.WordValue n) = n < 2 ^ 16
+OperandFits (operand.Target n) = n < 2 ^ 16
+OperandFits (operand.FarTarget n s) = (n < 2 ^ 16) × (s < 2 ^ 16)
+OperandFits _ = Unit {0}
+
 -- the bytes that the row of a number has for an action
 pub record CandidateAt (n : ℕ) (a : Action) (c : List ℕ) : Type 0 where
   pub choice : Choice
   pub is_choice : choice_at (entry_of (n / 8)) (n / 8) (n % 8) ≡ Some choice
   pub mnemonic : choice.row.mnemonic ≡ a.mnemonic
   pub is_bytes : bytes_of choice a.first a.second ≡ Some c
+  pub first_fits : OperandFits a.first
+  pub second_fits : OperandFits a.second
 
 abbrev pub better_of : Option (List ℕ) → Option (List ℕ) → Option (List ℕ)
 better_of None new = new

@@ -1,8 +1,8 @@
 //! What an operand asks of an instruction's bytes.
 
-ghost use Rattle.std.specs.Prelude.{◌≡◌, ◌<◌, IfSome};
+ghost use Rattle.std.specs.Prelude.{◌≡◌, ◌<◌, IfSome, IsSome};
 ghost use Rattle.dm_ins.specs.Spelling.{extended};
-ghost use Rattle.dm_ins.specs.Encoding.{DemandFits, as_signed, asks_data, asks_place, asks_register, demand_of, is_direct, numbered, same_width};
+ghost use Rattle.dm_ins.specs.Encoding.{DemandFits, OperandFits, as_signed, asks_data, asks_place, asks_register, demand_of, is_direct, numbered, same_width};
 
 use crate::operand::{Address, Base, Operand, Width, extend};
 use crate::table::Kind;
@@ -112,6 +112,7 @@ fn signed(n: u16) -> Option<Demand>
 pub fn demand_for(kind: Kind, operand: Operand) -> Option<Demand>
     ensures value { result ≡ demand_of kind operand }
     ensures fits { IfSome result DemandFits }
+    ensures numbers { IsSome result → OperandFits operand }
 {
     match kind {
         Kind::Nothing => match operand {

@@ -1,9 +1,9 @@
 //! The bytes of a row filled with its operands, with the shortest displacement.
 
-ghost use Rattle.std.specs.Prelude.{◌≡◌, ◌+◌, ◌<◌, ◌≤◌, ◌++◌, IfSome};
+ghost use Rattle.std.specs.Prelude.{◌≡◌, ◌+◌, ◌<◌, ◌≤◌, ◌++◌, IfSome, IsSome};
 ghost use Rattle.arrayvec.specs.ArrayVec.{array_vec_len};
 ghost use Rattle.dm_ins.specs.Spelling.{word};
-ghost use Rattle.dm_ins.specs.Encoding.{PlaceFits, behind_bytes, bytes_of, data_bytes, either, fields_bytes, memory_bytes, rm_of, seen_bytes, with_displacement};
+ghost use Rattle.dm_ins.specs.Encoding.{OperandFits, PlaceFits, behind_bytes, bytes_of, data_bytes, either, fields_bytes, memory_bytes, rm_of, seen_bytes, with_displacement};
 
 use crate::demand::{Data, Place, demand_for, has_no_base};
 use crate::operand::{Address, Base, Operand, extend};
@@ -161,7 +161,9 @@ fn put_behind(out: &mut ArrayVec<u8, 12>, register: Option<u8>, place: Option<Pl
 #[tactic(auto, unfolding(crate::specs::Encoding::bytes_of))]
 pub fn fill(choice: Choice, first: Operand, second: Operand) -> Option<ArrayVec<u8, 12>>
     requires { IfSome choice.register (λ n. n < 8) }
-    ensures { seen_bytes result ≡ bytes_of choice first second }
+    ensures bytes { seen_bytes result ≡ bytes_of choice first second }
+    ensures first { IsSome result → OperandFits first }
+    ensures second { IsSome result → OperandFits second }
 {
     let d = demand_for(choice.row.first, first)?;
     let e = demand_for(choice.row.second, second)?;

@@ -3,7 +3,7 @@ use Rattle.dm_ins.proofs.encoding.encode.Goals as goal
 
 pub returns-in-Some-clause-spells : goal.returns-in-Some-clause-spells
 returns-in-Some-clause-spells c =
-    rw (c.append.ensures, c.put_prefixes.ensures.items, c.new-out.ensures) (encode_spells c.args.ins.now.prefixes c.args.ins.now.action c.in-Some.bytes.items c.args.ins.now.has_spelling c.in-Some.ensures)
+    rw (c.append.ensures, c.put_prefixes.ensures.items, c.new-out.ensures) (encode_spells c.args.ins.now.prefixes c.args.ins.now.action c.in-Some.bytes.items c.in-Some.ensures)
 
 pub returns-in-Some-clause-least : goal.returns-in-Some-clause-least
 returns-in-Some-clause-least c = λ b s.
