@@ -1,33 +1,25 @@
 -- What operands ask of the bytes is what fills a row.
-use Rattle.std.proofs.Common.{◌≡◌, ◌≢◌, ℕ, zero, suc, ◌+◌, ◌*◌, ◌/◌, ◌%◌, ◌^◌, ◌<◌, ◌≤◌, Bool, true, false, List, [], ◌∷◌, ◌++◌, length, get_or, Option, Some, None, refl, sym, ap, subst, ◌∙◌, append_assoc, arith, inl, inr, eqb, eq-eqb, nat_lt, ◌&&◌}
-use Rattle.std.specs.Prelude.{◌⊎◌, map, cond}
-use Rattle.std.proofs.lemmas.Bool.{ne_eqb, eqb-true}
+use Rattle.std.proofs.Common.{◌≡◌, ℕ, zero, suc, ◌+◌, ◌*◌, ◌/◌, ◌%◌, ◌^◌, ◌<◌, Bool, true, false, List, [], ◌∷◌, length, get_or, Option, Some, None, refl, sym, ap, subst, ◌∙◌, arith, inl, inr, eq-eqb, nat_lt}
+use Rattle.std.specs.Prelude.{◌⊎◌, cond}
+use Rattle.std.proofs.lemmas.Bool.{ne_eqb}
 use Rattle.std.proofs.lemmas.Bool.Decides.{eqb_tells}
 use Rattle.dm_ins.specs.declared.operand.Width.{Width}
 use Rattle.dm_ins.specs.declared.operand.Width.TheVariants.{Byte, Word}
-use Rattle.dm_ins.specs.declared.operand.WordRegister.{WordRegister}
-use Rattle.dm_ins.specs.declared.operand.WordRegister.TheVariants.{Ax, Cx, Dx, Bx, Sp, Bp, Si, Di}
-use Rattle.dm_ins.specs.declared.operand.ByteRegister.{ByteRegister}
-use Rattle.dm_ins.specs.declared.operand.ByteRegister.TheVariants.{Al, Cl, Dl, Bl, Ah, Ch, Dh, Bh}
-use Rattle.dm_ins.specs.declared.operand.SegmentRegister.{SegmentRegister}
-use Rattle.dm_ins.specs.declared.operand.SegmentRegister.TheVariants.{Es, Cs, Ss, Ds}
-use Rattle.dm_ins.specs.declared.operand.Base.{Base}
-use Rattle.dm_ins.specs.declared.operand.Base.TheVariants.{Direct, BxSi, BxDi, BpSi, BpDi, OnSi, OnDi, OnBp, OnBx}
+use Rattle.dm_ins.specs.declared.operand.WordRegister.TheVariants.{Ax}
+use Rattle.dm_ins.specs.declared.operand.ByteRegister.TheVariants.{Al}
+use Rattle.dm_ins.specs.declared.operand.Base.TheVariants.{BxSi}
 use Rattle.dm_ins.specs.declared.operand.Address.{Address}
 use Rattle.dm_ins.specs.declared.fields.Fields.{Fields}
 use Rattle.dm_ins.specs.declared.operand.Operand.{Operand}
-use Rattle.dm_ins.specs.declared.operand.Operand.TheVariants as operand
 use Rattle.dm_ins.specs.declared.demand.Place.{Place}
 use Rattle.dm_ins.specs.declared.demand.Place.TheVariants as place
-use Rattle.dm_ins.specs.declared.demand.Data.{Data}
 use Rattle.dm_ins.specs.declared.demand.Data.TheVariants as data_is
 use Rattle.dm_ins.specs.declared.demand.Demand.{Demand}
 use Rattle.dm_ins.specs.declared.table.Kind.{Kind}
 use Rattle.dm_ins.specs.declared.table.Kind.TheVariants as is
-use Rattle.dm_ins.specs.Table.{word_registers, byte_registers}
-use Rattle.dm_ins.specs.Spelling.{word, extended, bases, based, direct, register, at_place, SpellsMemory, SpellsFields, Fills}
-use Rattle.dm_ins.specs.Steps.{◌>>=◌}
-use Rattle.dm_ins.specs.Encoding.{word_number, byte_number, segment_number, rm_of, is_direct, same_width, numbered, asks_data, asks_register, asks_place, as_signed, demand_of, data_bytes, with_displacement, memory_bytes, fields_bytes}
+use Rattle.dm_ins.specs.Registers.{word_registers, byte_registers, bases, word_number, byte_number, segment_number}
+use Rattle.dm_ins.specs.Spelling.{word, extended, based, register, at_place, SpellsMemory, SpellsFields, Fills}
+use Rattle.dm_ins.specs.Encoding.{rm_of, is_direct, same_width, numbered, asks_data, asks_register, asks_place, as_signed, demand_of, data_bytes, with_displacement, memory_bytes, fields_bytes}
 
 abbrev pub asks_for_register : Kind → Bool
 asks_for_register (is.Register w) = true

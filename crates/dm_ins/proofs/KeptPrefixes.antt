@@ -1,17 +1,15 @@
 -- The kept prefixes in the order of their bytes are the least that keep the same.
-use Rattle.std.proofs.Common.{◌≡◌, ℕ, ◌+◌, ◌<◌, ◌≤◌, Bool, true, false, List, [], ◌∷◌, ◌++◌, length, Option, Some, None, refl, arith}
+use Rattle.std.proofs.Common.{◌≡◌, ◌≤◌, Bool, true, false, List, [], ◌∷◌, ◌++◌, length, Option, Some, None, refl, arith}
 use Rattle.std.specs.Prelude.{map}
 use Rattle.std.specs.Ordering.{nat_cmp}
 use Rattle.std.specs.declared.cmp.Ordering.TheVariants.{Greater}
-use Rattle.std.proofs.lemmas.List.{length-append, length-map}
 use Rattle.dm_ins.specs.declared.operand.SegmentRegister.{SegmentRegister}
 use Rattle.dm_ins.specs.declared.operand.SegmentRegister.TheVariants.{Es, Cs, Ss, Ds}
 use Rattle.dm_ins.specs.declared.prefix.Repeat.{Repeat}
 use Rattle.dm_ins.specs.declared.prefix.Repeat.TheVariants.{NotEqual, Equal}
 use Rattle.dm_ins.specs.declared.prefix.Prefix.{Prefix}
 use Rattle.dm_ins.specs.declared.prefix.Prefix.TheVariants as prefix
-use Rattle.dm_ins.specs.declared.prefix.Prefixes.{Prefixes}
-use Rattle.dm_ins.specs.Spelling.{prefix_byte, segment_byte, repeat_byte, no_prefix, with_prefix, kept}
+use Rattle.dm_ins.specs.Spelling.{prefix_byte, segment_byte, repeat_byte, no_prefix, kept}
 use Rattle.dm_ins.specs.Order.{before}
 use Rattle.dm_ins.specs.Encoding.{prefix_list, segment_list, lock_list, repeat_list}
 use Rattle.dm_ins.proofs.Order.{not_before_itself, not_shorter, same_first, greater_first}

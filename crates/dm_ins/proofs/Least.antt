@@ -1,26 +1,20 @@
 -- Each spelling has a row's bytes that are the same or fewer.
-use Rattle.std.proofs.Common.{◌≡◌, ◌≢◌, ℕ, zero, suc, ◌+◌, ◌*◌, ◌/◌, ◌%◌, ◌^◌, ◌<◌, ◌≤◌, Bool, true, false, List, [], ◌∷◌, ◌++◌, length, get_or, Option, Some, None, refl, sym, ap, subst, ◌∙◌, append_assoc, arith, inl, inr, eqb, eq-eqb, nat_lt, ◌&&◌}
-use Rattle.std.specs.Prelude.{◌⊎◌, map, cond, if◌then◌else◌}
+use Rattle.std.proofs.Common.{◌≡◌, ℕ, ◌<◌, Bool, true, false, List, [], ◌∷◌, ◌++◌, get_or, Option, Some, None, refl, sym, ap, subst, ◌∙◌, arith, inl, inr, ◌&&◌}
+use Rattle.std.specs.Prelude.{cond, if◌then◌else◌}
 use Rattle.std.specs.List.{list_all}
 use Rattle.std.proofs.lemmas.List.{length-append, get_or_past}
 use Rattle.std.proofs.lemmas.Bool.{cases_lt}
-use Rattle.dm_ins.specs.declared.operand.Address.{Address}
 use Rattle.dm_ins.specs.declared.fields.Fields.{Fields}
 use Rattle.dm_ins.specs.declared.action.Action.{Action}
-use Rattle.dm_ins.specs.declared.operand.Operand.{Operand}
-use Rattle.dm_ins.specs.declared.demand.Place.{Place}
 use Rattle.dm_ins.specs.declared.fill.Choice.{Choice}
-use Rattle.dm_ins.specs.declared.table.Kind.{Kind}
-use Rattle.dm_ins.specs.declared.table.Kind.TheVariants as is
 use Rattle.dm_ins.specs.declared.table.Row.{Row}
 use Rattle.dm_ins.specs.declared.table.Entry.{Entry}
 use Rattle.dm_ins.specs.declared.table.Entry.TheVariants.{Unlisted, Plain, Group, Second}
 use Rattle.dm_ins.specs.Table.{entries, entry_of, groups, member_of}
-use Rattle.dm_ins.specs.Spelling.{uses_fields, has_fields, no_fields, SpellsFields, Fills, MaySpellFields, HasRow, SpellsAction}
-use Rattle.dm_ins.specs.Steps.{◌>>=◌}
-use Rattle.dm_ins.specs.Encoding.{data_bytes, fields_bytes, either, behind_bytes, second_bytes, bytes_of, choice_at, demand_of}
+use Rattle.dm_ins.specs.Spelling.{has_fields, MaySpellFields, HasRow, SpellsAction}
+use Rattle.dm_ins.specs.Encoding.{either, behind_bytes, bytes_of, choice_at}
 use Rattle.dm_ins.proofs.TableRules.{passes, both_true}
-use Rattle.dm_ins.proofs.Demands.{asks_for_register, asks_for_place, asked, named_place, Asked, operand_asks, AtMost, fields_least}
+use Rattle.dm_ins.proofs.Demands.{asks_for_register, asks_for_place, asked, named_place, operand_asks, AtMost, fields_least}
 
 -- ---- rules of the table
 
@@ -80,26 +74,53 @@ record Chosen (e : Entry) (b : ℕ) (m : Fields) (r : Row) (behind : List ℕ) :
 plain_chosen : (f : Bool) (p : Row) (b : ℕ) (m : Fields) (behind : List ℕ) → cond f (regular_fields p) (no_demand p) ≡ true → MaySpellFields f m behind → Chosen (Plain p) b m p behind
 plain_chosen true p b m behind t h =
     let u = both_true _ _ t in
-    record { g = 0; fits = omega arith; choice = record { opcode = b; row = p; register = None; second = None }; is_choice = refl; is_row = refl; is_opcode = refl;
-      least = rw (one_of (asks_for_register p.first) (asks_for_register p.second) m.register u.0, one_of (asks_for_place p.first) (asks_for_place p.second) (named_place m.rm m.memory) u.1) (fields_least m behind h) }
+    record {
+      g = 0;
+      fits = omega arith;
+      choice = record { opcode = b; row = p; register = None; second = None };
+      is_choice = refl;
+      is_row = refl;
+      is_opcode = refl;
+      least = rw (one_of (asks_for_register p.first) (asks_for_register p.second) m.register u.0, one_of (asks_for_place p.first) (asks_for_place p.second) (named_place m.rm m.memory) u.1) (fields_least m behind h);
+    }
 plain_chosen false p b m behind t h =
     let u = both_true _ _ t in
-    record { g = 0; fits = omega arith; choice = record { opcode = b; row = p; register = None; second = None }; is_choice = refl; is_row = refl; is_opcode = refl;
-      least = rw (none_of (asks_for_register p.first) (asks_for_register p.second) m.register u.0) (inl (sym h.1)) }
+    record {
+      g = 0;
+      fits = omega arith;
+      choice = record { opcode = b; row = p; register = None; second = None };
+      is_choice = refl;
+      is_row = refl;
+      is_opcode = refl;
+      least = rw (none_of (asks_for_register p.first) (asks_for_register p.second) m.register u.0) (inl (sym h.1));
+    }
 
 chosen : (e : Entry) (b : ℕ) (m : Fields) (r : Row) (behind : List ℕ) → regular e ≡ true → HasRow e m behind r → Chosen e b m r behind
 chosen Unlisted b m r behind t h = absurd h
 chosen (Plain p) b m r behind t h = subst (λ q. Chosen (Plain p) b m q behind) (sym h.0) (plain_chosen (has_fields p) p b m behind t h.1)
 chosen (Group g) b m r behind t h =
     let v = both_true _ _ (ap regular_member (sym h.0) ∙ group_regular g m.register) in
-    record { g = m.register; fits = h.1.register_fits; choice = record { opcode = b; row = r; register = Some m.register; second = None };
-      is_choice = rw h.0 refl; is_row = refl; is_opcode = refl;
-      least = rw (one_of (asks_for_place r.first) (asks_for_place r.second) (named_place m.rm m.memory) v.1) (fields_least m behind h.1) }
+    record {
+      g = m.register;
+      fits = h.1.register_fits;
+      choice = record { opcode = b; row = r; register = Some m.register; second = None };
+      is_choice = rw h.0 refl;
+      is_row = refl;
+      is_opcode = refl;
+      least = rw (one_of (asks_for_place r.first) (asks_for_place r.second) (named_place m.rm m.memory) v.1) (fields_least m behind h.1);
+    }
 chosen (Second c p) b m r behind t h =
     let u = both_true _ _ t in
     subst (λ q. Chosen (Second c p) b m q behind) (sym h.0)
-    (record { g = 0; fits = omega arith; choice = record { opcode = b; row = p; register = None; second = Some c }; is_choice = refl; is_row = refl; is_opcode = refl;
-      least = rw (none_of (asks_for_register p.first) (asks_for_register p.second) m.register u.0) (inl (sym h.2)) })
+    (record {
+      g = 0;
+      fits = omega arith;
+      choice = record { opcode = b; row = p; register = None; second = Some c };
+      is_choice = refl;
+      is_row = refl;
+      is_opcode = refl;
+      least = rw (none_of (asks_for_register p.first) (asks_for_register p.second) m.register u.0) (inl (sym h.2));
+    })
 
 -- ---- actions
 
@@ -142,8 +163,15 @@ action_least a bytes h =
     let q = operand_asks h.fields fits.0 fits.1 h.row.second a.second h.second_part h.second in
     let middle = behind_bytes (either ch.choice.register (either p.demand.register q.demand.register)) (either p.demand.place q.demand.place) ch.choice.second in
     let least : AtMost middle h.behind = rw (p.register, q.register, p.place, q.place) ch.least in
-    record { b = h.first_byte; g = ch.g; b_fits = listed_below h.first_byte h.fields h.behind h.row h.has_row; g_fits = ch.fits; choice = ch.choice; is_choice = ch.is_choice;
+    record {
+      b = h.first_byte;
+      g = ch.g;
+      b_fits = listed_below h.first_byte h.fields h.behind h.row h.has_row;
+      g_fits = ch.fits;
+      choice = ch.choice;
+      is_choice = ch.is_choice;
       mnemonic = ap (λ (r : Row). r.mnemonic) ch.is_row ∙ sym h.mnemonic;
       c = h.first_byte ∷ middle ++ (h.first_part ++ h.second_part);
       is_bytes = rw (ch.is_row, ch.is_opcode) (rw p.is_demand (rw q.is_demand (rw (p.tail, q.tail) refl)));
-      least = rw h.parts (at_most_within h.first_byte middle h.behind (h.first_part ++ h.second_part) least) }
+      least = rw h.parts (at_most_within h.first_byte middle h.behind (h.first_part ++ h.second_part) least);
+    }

@@ -1,6 +1,6 @@
 -- Spellings in order, and the least of several.
-use Rattle.std.proofs.Common.{◌≡◌, ◌≢◌, ℕ, zero, suc, ◌+◌, ◌<◌, ◌≤◌, Bool, true, false, List, [], ◌∷◌, ◌++◌, length, Option, Some, None, refl, sym, ap, subst, ◌∙◌, arith, inl, inr, nat_lt}
-use Rattle.std.specs.Prelude.{◌⊎◌, cond, IfSome, IfNone, IsSomeAnd}
+use Rattle.std.proofs.Common.{◌≡◌, ℕ, ◌+◌, ◌<◌, ◌≤◌, Bool, true, false, List, [], ◌∷◌, ◌++◌, length, Option, Some, None, refl, sym, ap, subst, ◌∙◌, arith, inl, inr, nat_lt}
+use Rattle.std.specs.Prelude.{◌⊎◌, cond, IfSome, IfNone}
 use Rattle.std.specs.Ordering.{is_lt, nat_cmp, ordering_reverse, ordering_then}
 use Rattle.std.specs.declared.cmp.Ordering.{Ordering}
 use Rattle.std.specs.declared.cmp.Ordering.TheVariants.{Less, Equal, Greater}
@@ -10,7 +10,7 @@ use Rattle.std.proofs.lemmas.Bool.{cases_lt, ltb-true, ltb-false, lt-ltb, le-ltb
 use Rattle.dm_ins.specs.declared.action.Action.{Action}
 use Rattle.dm_ins.specs.declared.fill.Choice.{Choice}
 use Rattle.dm_ins.specs.Order.{before}
-use Rattle.dm_ins.specs.Encoding.{better_of, Best, CandidateAt, bytes_of, choice_at}
+use Rattle.dm_ins.specs.Encoding.{better_of, Best, CandidateAt, bytes_of}
 
 abbrev Before : List ℕ → List ℕ → Type 0
 Before a b = (length a < length b) ⊎ ((length a ≡ length b) × (slice_cmp nat_cmp a b ≡ Less))
@@ -81,29 +81,33 @@ split_last k n lt = elim (cases_lt k n) [ inl below ↦ inl below | inr le ↦ i
 
 kept_best : (n : ℕ) (a : Action) (s : Bool) (old new : List ℕ) → before new old ≡ s → Best n a (Some old) → CandidateAt n a new → Best (n + 1) a (cond s (Some new) (Some old))
 kept_best n a true old new e b h = record {
-    found = (n, omega arith, h);
-    least = λ k c lt g. elim (split_last k n lt) [
-      | inl below ↦ not_before c old new (b.least k c below g) e
-      | inr same ↦ (let d = one_candidate n a c new (subst (λ i. CandidateAt i a c) same g) h in rw d (not_before_itself new))
-    ] }
+  found = (n, omega arith, h);
+  least = λ k c lt g. elim (split_last k n lt) [
+    | inl below ↦ not_before c old new (b.least k c below g) e
+    | inr same ↦ (let d = one_candidate n a c new (subst (λ i. CandidateAt i a c) same g) h in rw d (not_before_itself new))
+  ];
+}
 kept_best n a false old new e b h = record {
-    found = (b.found.0, omega (arith, b.found.1), b.found.2);
-    least = λ k c lt g. elim (split_last k n lt) [
-      | inl below ↦ b.least k c below g
-      | inr same ↦ (let d = one_candidate n a c new (subst (λ i. CandidateAt i a c) same g) h in rw d e)
-    ] }
+  found = (b.found.0, omega (arith, b.found.1), b.found.2);
+  least = λ k c lt g. elim (split_last k n lt) [
+    | inl below ↦ b.least k c below g
+    | inr same ↦ (let d = one_candidate n a c new (subst (λ i. CandidateAt i a c) same g) h in rw d e)
+  ];
+}
 
 pub best_more : (n : ℕ) (a : Action) (o new : Option (List ℕ)) → Best n a o → IfSome new (λ v. CandidateAt n a v) → IfNone new ((c : List ℕ) → CandidateAt n a c → false ≡ true) → Best (n + 1) a (better_of o new)
 best_more n a None None b f g = record { found = tt; least = λ k c lt h. elim (split_last k n lt) [ inl below ↦ b.least k c below h | inr same ↦ absurd (so_not false refl (g c (subst (λ i. CandidateAt i a c) same h))) ] }
 best_more n a None (Some new) b f g = record {
-    found = (n, omega arith, f);
-    least = λ k c lt h. elim (split_last k n lt) [
-      | inl below ↦ absurd (b.least k c below h)
-      | inr same ↦ (let d = one_candidate n a c new (subst (λ i. CandidateAt i a c) same h) f in rw d (not_before_itself new))
-    ] }
+  found = (n, omega arith, f);
+  least = λ k c lt h. elim (split_last k n lt) [
+    | inl below ↦ absurd (b.least k c below h)
+    | inr same ↦ (let d = one_candidate n a c new (subst (λ i. CandidateAt i a c) same h) f in rw d (not_before_itself new))
+  ];
+}
 best_more n a (Some old) None b f g = record {
-    found = (b.found.0, omega (arith, b.found.1), b.found.2);
-    least = λ k c lt h. elim (split_last k n lt) [ inl below ↦ b.least k c below h | inr same ↦ absurd (so_not false refl (g c (subst (λ i. CandidateAt i a c) same h))) ] }
+  found = (b.found.0, omega (arith, b.found.1), b.found.2);
+  least = λ k c lt h. elim (split_last k n lt) [ inl below ↦ b.least k c below h | inr same ↦ absurd (so_not false refl (g c (subst (λ i. CandidateAt i a c) same h))) ];
+}
 best_more n a (Some old) (Some new) b f g = kept_best n a (before new old) old new refl b f
 
 -- ---- lists one behind the other
@@ -140,12 +144,12 @@ not_before_append p q s t e f = not_so _ (λ g. by (before_is (p ++ s) (q ++ t) 
     by : Before (p ++ s) (q ++ t) → ⊥
     by (inl lt) = omega (arith, length-append p s, length-append q t, not_longer q p e, not_longer t s f)
     by (inr x) =
-      let m : length p ≡ length q = omega (arith, x.0, length-append p s, length-append q t, not_longer q p e, not_longer t s f) in
-      let n : length s ≡ length t = omega (arith, x.0, length-append p s, length-append q t, not_longer q p e, not_longer t s f) in
-      elim (then_less (slice_cmp nat_cmp p q) (slice_cmp nat_cmp s t) (sym (cmp_append p q s t m) ∙ x.1)) [
-        | inl l ↦ so_not (before p q) e (before_so p q (inr (m, l)))
-        | inr l ↦ so_not (before s t) f (before_so s t (inr (n, l)))
-      ]
+        let m : length p ≡ length q = omega (arith, x.0, length-append p s, length-append q t, not_longer q p e, not_longer t s f) in
+        let n : length s ≡ length t = omega (arith, x.0, length-append p s, length-append q t, not_longer q p e, not_longer t s f) in
+        elim (then_less (slice_cmp nat_cmp p q) (slice_cmp nat_cmp s t) (sym (cmp_append p q s t m) ∙ x.1)) [
+          | inl l ↦ so_not (before p q) e (before_so p q (inr (m, l)))
+          | inr l ↦ so_not (before s t) f (before_so s t (inr (n, l)))
+        ]
 
 pub same_first : (x : ℕ) (p q : List ℕ) → before p q ≡ false → before (x ∷ p) (x ∷ q) ≡ false
 same_first x p q e = not_before_append (x ∷ []) (x ∷ []) p q (not_before_itself (x ∷ [])) e

@@ -1,10 +1,8 @@
 -- Each row's bytes spell the action.
-use Rattle.std.proofs.Common.{◌≡◌, ℕ, ◌/◌, ◌%◌, ◌<◌, Bool, true, false, List, [], ◌∷◌, ◌++◌, Option, Some, None, refl, sym, ap, subst, ◌∙◌, arith, eqb}
+use Rattle.std.proofs.Common.{◌≡◌, ℕ, ◌/◌, ◌%◌, ◌<◌, Bool, true, false, List, ◌∷◌, ◌++◌, Option, Some, None, refl, sym, ap, subst, ◌∙◌, arith, eqb}
 use Rattle.std.specs.Prelude.{cond}
 use Rattle.dm_ins.specs.declared.fields.Fields.{Fields}
 use Rattle.dm_ins.specs.declared.action.Action.{Action}
-use Rattle.dm_ins.specs.declared.operand.Operand.{Operand}
-use Rattle.dm_ins.specs.declared.demand.Place.{Place}
 use Rattle.dm_ins.specs.declared.demand.Place.TheVariants as place
 use Rattle.dm_ins.specs.declared.demand.Demand.{Demand}
 use Rattle.dm_ins.specs.declared.fill.Choice.{Choice}
@@ -13,7 +11,7 @@ use Rattle.dm_ins.specs.declared.table.Entry.{Entry}
 use Rattle.dm_ins.specs.declared.table.Entry.TheVariants.{Unlisted, Plain, Group, Second}
 use Rattle.dm_ins.specs.Table.{entry_of, member_of}
 use Rattle.dm_ins.specs.Spelling.{SpellsFields, has_fields, no_fields, MaySpellFields, HasRow, SpellsAction}
-use Rattle.dm_ins.specs.Encoding.{OperandFits, data_bytes, either, behind_bytes, bytes_of, choice_at, demand_of, CandidateAt}
+use Rattle.dm_ins.specs.Encoding.{data_bytes, either, behind_bytes, bytes_of, choice_at, demand_of, CandidateAt}
 use Rattle.dm_ins.proofs.TableRules.{both_true}
 use Rattle.dm_ins.proofs.Demands.{asks_for_register, asks_for_place, asked, named_place}
 use Rattle.dm_ins.proofs.Least.{exactly_one, neither, regular, regular_fields, regular_member, no_demand, entry_regular, group_regular}
@@ -86,8 +84,8 @@ filled (Plain p) b g ch d e h lt i =
 filled (Group k) b g ch d e h lt i =
     let r = bind_some (member_of k g) _ ch i in
     subst (Made (Group k) b d e) (is_some _ ch r.2) (λ s t.
-      let w = group_filled r.0 d e s t g lt (ap regular_member (sym r.1) ∙ group_regular k g) in
-      record { m = w.0; is_opcode = refl; has_row = (ap (member_of k) w.1 ∙ r.1, w.2); agree = w.3 })
+    let w = group_filled r.0 d e s t g lt (ap regular_member (sym r.1) ∙ group_regular k g) in
+    record { m = w.0; is_opcode = refl; has_row = (ap (member_of k) w.1 ∙ r.1, w.2); agree = w.3 })
 filled (Second c p) b g ch d e h lt i =
     let v = chosen_true (eqb g 0) (record { opcode = b; row = p; register = None; second = Some c }) ch i in
     subst (Made (Second c p) b d e) v.1 (λ s t. let w = none_agree p d e s t h in record { m = no_fields; is_opcode = refl; has_row = (refl, refl, rw w.1 refl); agree = w.0 })
@@ -101,8 +99,15 @@ action_sound n a c h =
     let t = demand_shape y.0 h.choice.row.second a.second h.second_fits y.1 in
     let l = filled (entry_of (n / 8)) (n / 8) (n % 8) h.choice x.0 y.0 (entry_regular (n / 8)) (omega arith) h.is_choice s t in
     record {
-      first_byte = n / 8; fields = l.m; row = h.choice.row; behind = behind_of h.choice x.0 y.0; first_part = data_bytes x.0.tail; second_part = data_bytes y.0.tail;
-      has_row = l.has_row; mnemonic = sym h.mnemonic;
+      first_byte = n / 8;
+      fields = l.m;
+      row = h.choice.row;
+      behind = behind_of h.choice x.0 y.0;
+      first_part = data_bytes x.0.tail;
+      second_part = data_bytes y.0.tail;
+      has_row = l.has_row;
+      mnemonic = sym h.mnemonic;
       first = operand_fills l.m x.0 h.choice.row.first a.first h.first_fits x.1 l.agree.first_register l.agree.first_place;
       second = operand_fills l.m y.0 h.choice.row.second a.second h.second_fits y.1 l.agree.second_register l.agree.second_place;
-      parts = ap (λ (z : List ℕ). z) (sym (is_some _ c y.2)) ∙ ap (λ (k : ℕ). k ∷ behind_of h.choice x.0 y.0 ++ (data_bytes x.0.tail ++ data_bytes y.0.tail)) l.is_opcode }
+      parts = ap (λ (z : List ℕ). z) (sym (is_some _ c y.2)) ∙ ap (λ (k : ℕ). k ∷ behind_of h.choice x.0 y.0 ++ (data_bytes x.0.tail ++ data_bytes y.0.tail)) l.is_opcode;
+    }

@@ -1,7 +1,6 @@
 -- The kept prefixes and the least row's bytes are the least spelling.
-use Rattle.std.proofs.Common.{◌≡◌, ℕ, ◌+◌, ◌*◌, ◌/◌, ◌%◌, ◌^◌, ◌<◌, ◌≤◌, Bool, true, false, List, [], ◌∷◌, ◌++◌, length, Option, Some, None, refl, sym, ap, subst, ◌∙◌, arith, inl, inr}
-use Rattle.std.specs.Prelude.{◌⊎◌, map, IfSome}
-use Rattle.std.proofs.lemmas.List.{length-map}
+use Rattle.std.proofs.Common.{◌≡◌, ℕ, ◌+◌, ◌*◌, ◌/◌, ◌%◌, ◌^◌, ◌<◌, ◌≤◌, Bool, true, false, List, ◌++◌, length, Option, Some, None, refl, sym, subst, arith, inl, inr}
+use Rattle.std.specs.Prelude.{map, IfSome}
 use Rattle.std.proofs.lemmas.Bool.{cases_lt, lt-ltb, le-ltb}
 use Rattle.dm_ins.specs.declared.operand.Width.{Width}
 use Rattle.dm_ins.specs.declared.operand.Width.TheVariants.{Byte, Word}
@@ -13,18 +12,17 @@ use Rattle.dm_ins.specs.declared.fields.Fields.{Fields}
 use Rattle.dm_ins.specs.declared.action.Action.{Action}
 use Rattle.std.proofs.Math.Logic.{∥∥₁_elim}
 use Rattle.dm_ins.specs.declared.operand.Operand.{Operand}
-use Rattle.dm_ins.specs.declared.fill.Choice.{Choice}
 use Rattle.dm_ins.specs.declared.table.Kind.{Kind}
 use Rattle.dm_ins.specs.declared.table.Kind.TheVariants as is
 use Rattle.dm_ins.specs.declared.table.Row.{Row}
 use Rattle.dm_ins.specs.declared.table.Entry.{Entry}
 use Rattle.dm_ins.specs.declared.table.Entry.TheVariants.{Unlisted, Plain, Group, Second}
 use Rattle.dm_ins.specs.Table.{entry_of}
-use Rattle.dm_ins.specs.Spelling.{extended, SpellsMemory, SpellsFields, Fills, has_fields, no_fields, MaySpellFields, HasRow, SpellsAction, prefix_byte, no_prefix, kept, SpellsPrefixed, register, at_place}
+use Rattle.dm_ins.specs.Spelling.{extended, SpellsMemory, Fills, has_fields, MaySpellFields, HasRow, SpellsAction, prefix_byte, no_prefix, kept, SpellsPrefixed, register, at_place}
 use Rattle.dm_ins.specs.Order.{before}
 use Rattle.dm_ins.specs.Encoding.{OperandFits, Best, CandidateAt, choice_at, prefix_list, segment_list, lock_list, repeat_list}
 use Rattle.dm_ins.proofs.Order.{not_longer, not_shorter, not_before_append}
-use Rattle.dm_ins.proofs.KeptPrefixes.{three_by, prefixes_least}
+use Rattle.dm_ins.proofs.KeptPrefixes.{prefixes_least}
 use Rattle.dm_ins.proofs.Demands.{AtMost}
 use Rattle.dm_ins.proofs.Least.{action_least, row_fits}
 use Rattle.dm_ins.proofs.Rows.{action_sound}
@@ -123,8 +121,13 @@ candidate_of a d s =
     let q : (8 * l.b + l.g) / 8 ≡ l.b = omega (arith, l.g_fits) in
     let r : (8 * l.b + l.g) % 8 ≡ l.g = omega (arith, l.g_fits) in
     let e : choice_at (entry_of ((8 * l.b + l.g) / 8)) ((8 * l.b + l.g) / 8) ((8 * l.b + l.g) % 8) ≡ Some l.choice = rw (q, r) l.is_choice in
-    record { n = 8 * l.b + l.g; n_fits = omega (arith, l.g_fits, l.b_fits); bytes = l.c; least = l.least;
-      is_candidate = record { choice = l.choice; is_choice = e; mnemonic = l.mnemonic; is_bytes = l.is_bytes; first_fits = f.0; second_fits = f.1 } }
+    record {
+      n = 8 * l.b + l.g;
+      n_fits = omega (arith, l.g_fits, l.b_fits);
+      bytes = l.c;
+      least = l.least;
+      is_candidate = record { choice = l.choice; is_choice = e; mnemonic = l.mnemonic; is_bytes = l.is_bytes; first_fits = f.0; second_fits = f.1 };
+    }
 
 candidate_not_before : (a : Action) (c d : List ℕ) → Best 2048 a (Some c) → SpellsAction a d → before d c ≡ false
 candidate_not_before a c d best s =
@@ -145,9 +148,13 @@ best_spells a c best = action_sound best.found.0 a c best.found.2
 
 pub encode_spells : (p : Prefixes) (a : Action) (c : List ℕ) → Best 2048 a (Some c) → SpellsPrefixed p a (map prefix_byte (prefix_list p) ++ c)
 encode_spells p a c best = record {
-    prefixes = prefix_list p; rest = c; few = few_by p.segment p.lock p.repeat;
-    keeps = sym (kept_by p.segment p.lock p.repeat);
-    action = best_spells a c best; parts = refl }
+  prefixes = prefix_list p;
+  rest = c;
+  few = few_by p.segment p.lock p.repeat;
+  keeps = sym (kept_by p.segment p.lock p.repeat);
+  action = best_spells a c best;
+  parts = refl;
+}
 
 pub none_best : (a : Action) (d : List ℕ) → Best 2048 a None → SpellsAction a d → ⊥
 none_best a d best s = let k = candidate_of a d s in best.least k.n k.bytes k.n_fits k.is_candidate

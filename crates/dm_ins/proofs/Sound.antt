@@ -1,7 +1,7 @@
 -- The bytes of a row with what its operands ask for spell the action.
-use Rattle.std.proofs.Common.{◌≡◌, ◌≢◌, ℕ, zero, suc, ◌+◌, ◌*◌, ◌/◌, ◌%◌, ◌^◌, ◌<◌, ◌≤◌, Bool, true, false, List, [], ◌∷◌, ◌++◌, length, get_or, Option, Some, None, refl, sym, ap, subst, ◌∙◌, append_assoc, arith, inl, inr, eqb, eq-eqb, nat_lt, ◌&&◌}
-use Rattle.std.specs.Prelude.{◌⊎◌, map, cond, IfSome}
-use Rattle.std.proofs.lemmas.Bool.{ne_eqb, eqb-true}
+use Rattle.std.proofs.Common.{◌≡◌, ℕ, ◌+◌, ◌*◌, ◌/◌, ◌%◌, ◌^◌, ◌<◌, Bool, true, false, List, [], ◌∷◌, get_or, Option, Some, None, refl, sym, ap, subst, ◌∙◌, arith, inl, inr, eqb}
+use Rattle.std.specs.Prelude.{◌⊎◌, cond}
+use Rattle.std.proofs.lemmas.Bool.{eqb-true}
 use Rattle.std.proofs.lemmas.Bool.Decides.{eqb_tells}
 use Rattle.dm_ins.specs.declared.operand.Width.{Width}
 use Rattle.dm_ins.specs.declared.operand.Width.TheVariants.{Byte, Word}
@@ -23,10 +23,9 @@ use Rattle.dm_ins.specs.declared.demand.Data.TheVariants as data_is
 use Rattle.dm_ins.specs.declared.demand.Demand.{Demand}
 use Rattle.dm_ins.specs.declared.table.Kind.{Kind}
 use Rattle.dm_ins.specs.declared.table.Kind.TheVariants as is
-use Rattle.dm_ins.specs.Table.{word_registers, byte_registers}
-use Rattle.dm_ins.specs.Spelling.{word, extended, bases, based, direct, register, at_place, SpellsMemory, SpellsFields, Fills}
-use Rattle.dm_ins.specs.Steps.{◌>>=◌}
-use Rattle.dm_ins.specs.Encoding.{OperandFits, word_number, byte_number, segment_number, rm_of, is_direct, same_width, numbered, asks_data, asks_register, asks_place, as_signed, demand_of, data_bytes, with_displacement, memory_bytes, fields_bytes}
+use Rattle.dm_ins.specs.Registers.{word_registers, byte_registers, word_number, byte_number, segment_number}
+use Rattle.dm_ins.specs.Spelling.{word, extended, based, direct, SpellsFields, Fills}
+use Rattle.dm_ins.specs.Encoding.{OperandFits, rm_of, is_direct, same_width, asks_data, asks_register, asks_place, as_signed, demand_of, data_bytes, with_displacement, memory_bytes, fields_bytes}
 use Rattle.dm_ins.proofs.Demands.{asks_for_register, asks_for_place, asked, named_place, base_at}
 
 byte_back : (r : ByteRegister) → get_or byte_registers (byte_number r) Al ≡ r
@@ -217,9 +216,9 @@ based_fields r rm n rlt rmlt lt =
     rw (b.1, b.0) (elim (eqb_tells rm 6) [
       | inl t ↦ rw t.0 (subst (λ k. SpellsFields (with_memory r rm (based rm n)) (with_displacement r k n)) t.1 (displaced_fields r rm n rlt rmlt lt))
       | inr f ↦ rw f.0 (elim (eqb_tells n 0) [
-          | inl z ↦ rw z.0 (record { mode = 0; displacement = []; register_fits = rlt; rm_fits = rmlt; parts = ap (λ (k : ℕ). k ∷ []) e0; spells_memory = inr (inl (refl, f.1, ap (λ (k : ℕ). Some (based rm k)) z.1, refl)) })
-          | inr g ↦ rw g.0 (displaced_fields r rm n rlt rmlt lt)
-        ])
+        | inl z ↦ rw z.0 (record { mode = 0; displacement = []; register_fits = rlt; rm_fits = rmlt; parts = ap (λ (k : ℕ). k ∷ []) e0; spells_memory = inr (inl (refl, f.1, ap (λ (k : ℕ). Some (based rm k)) z.1, refl)) })
+        | inr g ↦ rw g.0 (displaced_fields r rm n rlt rmlt lt)
+      ])
     ])
 
 abbrev at_base : Base → ℕ → Address

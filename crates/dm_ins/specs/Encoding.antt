@@ -1,13 +1,8 @@
 -- The bytes that each row has for operands, with the shortest displacement.
-use Rattle.std.specs.Prelude.{◌^◌, ◌≡◌, ℕ, zero, suc, ◌+◌, ◌-◌, ◌*◌, ◌/◌, ◌%◌, ◌<◌, Bool, true, false, ◌⊎◌, List, [], ◌∷◌, ◌++◌, length, Option, Some, None, IfSome, IsSomeAnd, ◌==◌, nat_lt, if◌then◌else◌}
+use Rattle.std.specs.Prelude.{◌^◌, ◌≡◌, ℕ, ◌+◌, ◌*◌, ◌/◌, ◌%◌, ◌<◌, Bool, true, false, List, [], ◌∷◌, ◌++◌, Option, Some, None, IfSome, IsSomeAnd, ◌==◌, if◌then◌else◌}
 use Rattle.dm_ins.specs.declared.operand.Width.{Width}
 use Rattle.dm_ins.specs.declared.operand.Width.TheVariants.{Byte, Word}
-use Rattle.dm_ins.specs.declared.operand.WordRegister.{WordRegister}
-use Rattle.dm_ins.specs.declared.operand.WordRegister.TheVariants.{Ax, Cx, Dx, Bx, Sp, Bp, Si, Di}
-use Rattle.dm_ins.specs.declared.operand.ByteRegister.{ByteRegister}
-use Rattle.dm_ins.specs.declared.operand.ByteRegister.TheVariants.{Al, Cl, Dl, Bl, Ah, Ch, Dh, Bh}
 use Rattle.dm_ins.specs.declared.operand.SegmentRegister.{SegmentRegister}
-use Rattle.dm_ins.specs.declared.operand.SegmentRegister.TheVariants.{Es, Cs, Ss, Ds}
 use Rattle.dm_ins.specs.declared.operand.Base.{Base}
 use Rattle.dm_ins.specs.declared.operand.Base.TheVariants.{Direct, BxSi, BxDi, BpSi, BpDi, OnSi, OnDi, OnBp, OnBx}
 use Rattle.dm_ins.specs.declared.operand.Address.{Address}
@@ -27,39 +22,13 @@ use Rattle.dm_ins.specs.declared.demand.Demand.{Demand}
 use Rattle.dm_ins.specs.declared.fill.Choice.{Choice}
 use Rattle.dm_ins.specs.declared.table.Kind.{Kind}
 use Rattle.dm_ins.specs.declared.table.Kind.TheVariants as is
-use Rattle.dm_ins.specs.declared.table.Row.{Row}
 use Rattle.dm_ins.specs.declared.table.Entry.{Entry}
 use Rattle.dm_ins.specs.declared.table.Entry.TheVariants.{Unlisted, Plain, Group, Second}
+use Rattle.dm_ins.specs.Registers.{word_number, byte_number, segment_number}
 use Rattle.dm_ins.specs.Table.{entry_of, member_of}
 use Rattle.dm_ins.specs.Spelling.{word, extended}
 use Rattle.dm_ins.specs.Order.{before}
 use Rattle.dm_ins.specs.Steps.{◌>>=◌}
-
-abbrev pub word_number : WordRegister → ℕ
-word_number Ax = 0
-word_number Cx = 1
-word_number Dx = 2
-word_number Bx = 3
-word_number Sp = 4
-word_number Bp = 5
-word_number Si = 6
-word_number Di = 7
-
-abbrev pub byte_number : ByteRegister → ℕ
-byte_number Al = 0
-byte_number Cl = 1
-byte_number Dl = 2
-byte_number Bl = 3
-byte_number Ah = 4
-byte_number Ch = 5
-byte_number Dh = 6
-byte_number Bh = 7
-
-abbrev pub segment_number : SegmentRegister → ℕ
-segment_number Es = 0
-segment_number Cs = 1
-segment_number Ss = 2
-segment_number Ds = 3
 
 -- the r/m field of an address (6 for a direct one)
 abbrev pub rm_of : Base → ℕ
@@ -89,8 +58,10 @@ numbered _ _ = None
 
 abbrev pub asks_data : Data → Demand
 asks_data d = record { register = None; place = None; tail = d }
+
 abbrev pub asks_register : ℕ → Demand
 asks_register n = record { register = Some n; place = None; tail = data_is.Nothing }
+
 abbrev pub asks_place : Place → Demand
 asks_place p = record { register = None; place = Some p; tail = data_is.Nothing }
 

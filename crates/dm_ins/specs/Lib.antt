@@ -1,3 +1,4 @@
+pub mod Registers
 pub mod Table
 pub mod Spelling
 pub mod Ins

@@ -6,8 +6,7 @@ use Rattle.dm_ins.specs.declared.operand.WordRegister.TheVariants.{Ax}
 use Rattle.dm_ins.specs.declared.operand.ByteRegister.TheVariants.{Al}
 use Rattle.dm_ins.specs.declared.operand.SegmentRegister.{SegmentRegister}
 use Rattle.dm_ins.specs.declared.operand.SegmentRegister.TheVariants.{Es, Cs, Ss, Ds}
-use Rattle.dm_ins.specs.declared.operand.Base.{Base}
-use Rattle.dm_ins.specs.declared.operand.Base.TheVariants.{Direct, BxSi, BxDi, BpSi, BpDi, OnSi, OnDi, OnBp, OnBx}
+use Rattle.dm_ins.specs.declared.operand.Base.TheVariants.{Direct, BxSi}
 use Rattle.dm_ins.specs.declared.operand.Address.{Address}
 use Rattle.dm_ins.specs.declared.operand.Operand.{Operand}
 use Rattle.dm_ins.specs.declared.operand.Operand.TheVariants as operand
@@ -23,7 +22,9 @@ use Rattle.dm_ins.specs.declared.table.Kind.TheVariants as is
 use Rattle.dm_ins.specs.declared.table.Row.{Row}
 use Rattle.dm_ins.specs.declared.table.Entry.{Entry}
 use Rattle.dm_ins.specs.declared.table.Entry.TheVariants.{Unlisted, Plain, Group, Second}
-use Rattle.dm_ins.specs.Table.{word_registers, byte_registers, entry_of, member_of}
+use Rattle.dm_ins.specs.Registers.{bases}
+use Rattle.dm_ins.specs.Table.{entry_of, member_of}
+use Rattle.dm_ins.specs.Registers.{word_registers, byte_registers}
 
 -- a word, the low byte first
 abbrev pub word : ℕ → List ℕ
@@ -64,9 +65,6 @@ kept p [] = p
 kept p (x ∷ xs) = kept (with_prefix p x) xs
 
 -- ---- the mod r/m byte
-
-abbrev pub bases : List Base
-bases = BxSi ∷ BxDi ∷ BpSi ∷ BpDi ∷ OnSi ∷ OnDi ∷ OnBp ∷ OnBx ∷ []
 
 abbrev pub based : ℕ → ℕ → Address
 based rm n = record { base = slice_index_or bases rm BxSi; displacement = n }

@@ -104,7 +104,11 @@ fn signed(n: u16) -> Option<Demand>
     ensures { result ≡ as_signed n }
 {
     let low = (n % 256) as u8;
-    if extend(low) == n { Some(Demand::for_data(Data::Byte(low))) } else { None }
+    if extend(low) == n {
+        Some(Demand::for_data(Data::Byte(low)))
+    } else {
+        None
+    }
 }
 
 /// What the operand asks of the bytes where a row has this kind, if it is of the kind.
@@ -181,30 +185,48 @@ pub fn demand_for(kind: Kind, operand: Operand) -> Option<Demand>
             _ => None,
         },
         Kind::Far => match operand {
-            Operand::FarTarget(offset, segment) => Some(Demand::for_data(Data::Words(offset, segment))),
+            Operand::FarTarget(offset, segment) => Some(Demand::for_data(Data::Words(
+                offset, segment,
+            ))),
             _ => None,
         },
         Kind::Escape(r) => match operand {
             Operand::ByteValue(n) => {
-                if n / 8 == r % 8 { Some(Demand::for_register(n % 8)) } else { None }
+                if n / 8 == r % 8 {
+                    Some(Demand::for_register(n % 8))
+                } else {
+                    None
+                }
             }
             _ => None,
         },
         Kind::Byte(r) => match operand {
             Operand::ByteRegister(s) => {
-                if r.number() == s.number() { Some(Demand::for_data(Data::Nothing)) } else { None }
+                if r.number() == s.number() {
+                    Some(Demand::for_data(Data::Nothing))
+                } else {
+                    None
+                }
             }
             _ => None,
         },
         Kind::Word(r) => match operand {
             Operand::WordRegister(s) => {
-                if r.number() == s.number() { Some(Demand::for_data(Data::Nothing)) } else { None }
+                if r.number() == s.number() {
+                    Some(Demand::for_data(Data::Nothing))
+                } else {
+                    None
+                }
             }
             _ => None,
         },
         Kind::TheSegment(r) => match operand {
             Operand::SegmentRegister(s) => {
-                if r.number() == s.number() { Some(Demand::for_data(Data::Nothing)) } else { None }
+                if r.number() == s.number() {
+                    Some(Demand::for_data(Data::Nothing))
+                } else {
+                    None
+                }
             }
             _ => None,
         },

@@ -8,9 +8,9 @@ ghost use Rattle.dm_ins.specs.Order.{before};
 ghost use Rattle.dm_ins.specs.Encoding.{prefix_list};
 
 use crate::ins::Ins;
-use crate::search::least;
 use crate::operand::SegmentRegister;
 use crate::prefix::{Prefixes, Repeat};
+use crate::search::least;
 use arrayvec::ArrayVec;
 
 /// Puts the kept prefixes in the order of their bytes.

@@ -139,7 +139,12 @@ fn first_place(a: Option<Place>, b: Option<Place>) -> Option<Place>
 
 /// Puts what stands behind the first byte: a mod r/m byte with its displacement, or the second
 /// byte that the row wants.
-fn put_behind(out: &mut ArrayVec<u8, 12>, register: Option<u8>, place: Option<Place>, second: Option<u8>)
+fn put_behind(
+    out: &mut ArrayVec<u8, 12>,
+    register: Option<u8>,
+    place: Option<Place>,
+    second: Option<u8>,
+)
     requires room { array_vec_len out.old + 3 ≤ 12 }
     requires register { IfSome register (λ n. n < 8) }
     requires place { IfSome place PlaceFits }

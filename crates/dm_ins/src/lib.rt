@@ -7,9 +7,9 @@ mod encoding;
 pub mod fields;
 mod fill;
 pub mod ins;
-mod search;
 pub mod operand;
 pub mod prefix;
+mod search;
 pub mod table;
 
 pub use action::{Action, Mnemonic};

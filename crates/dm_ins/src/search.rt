@@ -95,7 +95,11 @@ fn better(best: Option<ArrayVec<u8, 12>>, new: Option<ArrayVec<u8, 12>>) -> Opti
         None => new,
         Some(old) => match new {
             None => Some(old),
-            Some(bytes) => if is_before(&bytes, &old) { Some(bytes) } else { Some(old) },
+            Some(bytes) => if is_before(&bytes, &old) {
+                Some(bytes)
+            } else {
+                Some(old)
+            },
         },
     }
 }
