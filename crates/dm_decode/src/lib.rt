@@ -1,2 +1,12 @@
-//! To come.
+//! The decoder: which instruction some bytes begin with.
 #![tactic(auto)]
+
+mod decoding;
+mod operands;
+mod prefixing;
+mod reading;
+mod rows;
+#[cfg(test)]
+mod tests;
+
+pub use decoding::{decode, no_spelling_begins_another};

@@ -1,3 +1,7 @@
+pub mod Registers
 pub mod Table
 pub mod Spelling
 pub mod Ins
+pub mod Order
+pub mod Steps
+pub mod Encoding

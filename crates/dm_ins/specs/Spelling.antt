@@ -1,13 +1,12 @@
 -- Which bytes spell an instruction.
-use Rattle.std.specs.Prelude.{◌≡◌, ◌≢◌, ℕ, ◌+◌, ◌*◌, ◌/◌, ◌%◌, ◌^◌, ◌<◌, Bool, true, false, ◌⊎◌, List, [], ◌∷◌, ◌++◌, Option, Some, None, slice_index_or, nat_lt, if◌then◌else◌}
+use Rattle.std.specs.Prelude.{◌≡◌, ◌≢◌, ℕ, ◌+◌, ◌*◌, ◌/◌, ◌%◌, ◌^◌, ◌<◌, Bool, true, false, ◌⊎◌, List, [], ◌∷◌, ◌++◌, Option, Some, None, slice_index_or, nat_lt, if◌then◌else◌, length, ◌≤◌, map}
 use Rattle.dm_ins.specs.declared.operand.Width.{Width}
 use Rattle.dm_ins.specs.declared.operand.Width.TheVariants.{Byte, Word}
 use Rattle.dm_ins.specs.declared.operand.WordRegister.TheVariants.{Ax}
 use Rattle.dm_ins.specs.declared.operand.ByteRegister.TheVariants.{Al}
 use Rattle.dm_ins.specs.declared.operand.SegmentRegister.{SegmentRegister}
 use Rattle.dm_ins.specs.declared.operand.SegmentRegister.TheVariants.{Es, Cs, Ss, Ds}
-use Rattle.dm_ins.specs.declared.operand.Base.{Base}
-use Rattle.dm_ins.specs.declared.operand.Base.TheVariants.{Direct, BxSi, BxDi, BpSi, BpDi, OnSi, OnDi, OnBp, OnBx}
+use Rattle.dm_ins.specs.declared.operand.Base.TheVariants.{Direct, BxSi}
 use Rattle.dm_ins.specs.declared.operand.Address.{Address}
 use Rattle.dm_ins.specs.declared.operand.Operand.{Operand}
 use Rattle.dm_ins.specs.declared.operand.Operand.TheVariants as operand
@@ -23,7 +22,9 @@ use Rattle.dm_ins.specs.declared.table.Kind.TheVariants as is
 use Rattle.dm_ins.specs.declared.table.Row.{Row}
 use Rattle.dm_ins.specs.declared.table.Entry.{Entry}
 use Rattle.dm_ins.specs.declared.table.Entry.TheVariants.{Unlisted, Plain, Group, Second}
-use Rattle.dm_ins.specs.Table.{word_registers, byte_registers, entry_of, member_of}
+use Rattle.dm_ins.specs.Registers.{bases}
+use Rattle.dm_ins.specs.Table.{entry_of, member_of}
+use Rattle.dm_ins.specs.Registers.{word_registers, byte_registers}
 
 -- a word, the low byte first
 abbrev pub word : ℕ → List ℕ
@@ -64,9 +65,6 @@ kept p [] = p
 kept p (x ∷ xs) = kept (with_prefix p x) xs
 
 -- ---- the mod r/m byte
-
-abbrev pub bases : List Base
-bases = BxSi ∷ BxDi ∷ BpSi ∷ BpDi ∷ OnSi ∷ OnDi ∷ OnBp ∷ OnBx ∷ []
 
 abbrev pub based : ℕ → ℕ → Address
 based rm n = record { base = slice_index_or bases rm BxSi; displacement = n }
@@ -160,3 +158,14 @@ pub record SpellsAction (a : Action) (bytes : List ℕ) : Type 0 where
   pub first : Fills row.first fields a.first first_part
   pub second : Fills row.second fields a.second second_part
   pub parts : bytes ≡ first_byte ∷ behind ++ (first_part ++ second_part)
+
+-- ---- prefixed actions
+
+-- at most four prefixes, of which the last of each kind is kept, and then the action
+pub record SpellsPrefixed (kept_ones : Prefixes) (a : Action) (bytes : List ℕ) : Type 0 where
+  pub prefixes : List Prefix
+  pub rest : List ℕ
+  pub few : length prefixes ≤ 4
+  pub keeps : kept_ones ≡ kept no_prefix prefixes
+  pub action : SpellsAction a rest
+  pub parts : bytes ≡ map prefix_byte prefixes ++ rest

@@ -5,9 +5,8 @@
 use Rattle.std.specs.Prelude.{ℕ, List, [], ◌∷◌, ◌++◌, map, Option, Some, None, slice_index_or}
 use Rattle.dm_ins.specs.declared.operand.Width.TheVariants.{Byte, Word}
 use Rattle.dm_ins.specs.declared.operand.WordRegister.{WordRegister}
-use Rattle.dm_ins.specs.declared.operand.WordRegister.TheVariants.{Ax, Cx, Dx, Bx, Sp, Bp, Si, Di}
-use Rattle.dm_ins.specs.declared.operand.ByteRegister.{ByteRegister}
-use Rattle.dm_ins.specs.declared.operand.ByteRegister.TheVariants.{Al, Cl, Dl, Bl, Ah, Ch, Dh, Bh}
+use Rattle.dm_ins.specs.declared.operand.WordRegister.TheVariants.{Ax, Dx}
+use Rattle.dm_ins.specs.declared.operand.ByteRegister.TheVariants.{Al, Cl}
 use Rattle.dm_ins.specs.declared.operand.SegmentRegister.{SegmentRegister}
 use Rattle.dm_ins.specs.declared.operand.SegmentRegister.TheVariants.{Es, Cs, Ss, Ds}
 use Rattle.dm_ins.specs.declared.action.Mnemonic.{Mnemonic}
@@ -17,6 +16,7 @@ use Rattle.dm_ins.specs.declared.table.Kind.TheVariants as is
 use Rattle.dm_ins.specs.declared.table.Row.{Row}
 use Rattle.dm_ins.specs.declared.table.Entry.{Entry}
 use Rattle.dm_ins.specs.declared.table.Entry.TheVariants.{Unlisted, Plain, Group, Second}
+use Rattle.dm_ins.specs.Registers.{word_registers, byte_registers}
 
 -- The signs of the table's operands.
 abbrev pub Eb : Kind
@@ -57,12 +57,6 @@ one m a = two m a is.Nothing
 
 abbrev pub bare : Mnemonic → Entry
 bare m = one m is.Nothing
-
-abbrev pub word_registers : List WordRegister
-word_registers = Ax ∷ Cx ∷ Dx ∷ Bx ∷ Sp ∷ Bp ∷ Si ∷ Di ∷ []
-
-abbrev pub byte_registers : List ByteRegister
-byte_registers = Al ∷ Cl ∷ Dl ∷ Bl ∷ Ah ∷ Ch ∷ Dh ∷ Bh ∷ []
 
 abbrev pub arithmetics : List Mnemonic
 arithmetics = op.Add ∷ op.Or ∷ op.Adc ∷ op.Sbb ∷ op.And ∷ op.Sub ∷ op.Xor ∷ op.Cmp ∷ []

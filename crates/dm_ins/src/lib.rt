@@ -2,13 +2,20 @@
 #![tactic(auto)]
 
 pub mod action;
+mod demand;
+mod encoding;
 pub mod fields;
+mod fill;
 pub mod ins;
 pub mod operand;
 pub mod prefix;
+mod search;
 pub mod table;
+#[cfg(test)]
+mod tests;
 
 pub use action::{Action, Mnemonic};
+pub use encoding::encode;
 pub use ins::Ins;
 pub use operand::{Address, Base, ByteRegister, Operand, SegmentRegister, Width, WordRegister};
 pub use prefix::{Prefixes, Repeat};

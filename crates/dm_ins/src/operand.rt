@@ -1,6 +1,10 @@
 //! Operands of 8086 instructions: registers, memory addresses, immediate values and targets
 //! (Intel 8086 Family User's Manual, section 2.8, "Addressing Modes").
 
+ghost use Rattle.std.specs.Prelude.{◌≡◌, ◌<◌, slice_index_or};
+ghost use Rattle.dm_ins.specs.Spelling.{extended};
+ghost use Rattle.dm_ins.specs.Registers.{bases, byte_registers, word_registers, byte_number, segment_number, word_number};
+
 /// How much of memory, or which half of a register, an operand names.
 #[derive(Clone, Copy, Debug, PartialEq, Eq)]
 pub enum Width {
@@ -23,6 +27,35 @@ pub enum WordRegister {
     Di,
 }
 
+impl WordRegister {
+    /// The number of the register in an instruction's bytes, 0 to 7.
+    pub fn number(self) -> u8
+        ensures value { result ≡ word_number self }
+        ensures fits { result < 8 }
+    {
+        self as u8
+    }
+
+    /// The register with the number.
+    pub fn from_number(number: u8) -> Self
+        requires { number < 8 }
+        ensures { result ≡ slice_index_or word_registers number WordRegister.Ax }
+    {
+        WORDS[number as usize]
+    }
+}
+
+static WORDS: [WordRegister; 8] = [
+    WordRegister::Ax,
+    WordRegister::Cx,
+    WordRegister::Dx,
+    WordRegister::Bx,
+    WordRegister::Sp,
+    WordRegister::Bp,
+    WordRegister::Si,
+    WordRegister::Di,
+];
+
 /// The 8-bit general registers, in the order of their numbers 0 to 7.
 #[derive(Clone, Copy, Debug, PartialEq, Eq)]
 pub enum ByteRegister {
@@ -36,6 +69,35 @@ pub enum ByteRegister {
     Bh,
 }
 
+impl ByteRegister {
+    /// The number of the register in an instruction's bytes, 0 to 7.
+    pub fn number(self) -> u8
+        ensures value { result ≡ byte_number self }
+        ensures fits { result < 8 }
+    {
+        self as u8
+    }
+
+    /// The register with the number.
+    pub fn from_number(number: u8) -> Self
+        requires { number < 8 }
+        ensures { result ≡ slice_index_or byte_registers number ByteRegister.Al }
+    {
+        BYTES[number as usize]
+    }
+}
+
+static BYTES: [ByteRegister; 8] = [
+    ByteRegister::Al,
+    ByteRegister::Cl,
+    ByteRegister::Dl,
+    ByteRegister::Bl,
+    ByteRegister::Ah,
+    ByteRegister::Ch,
+    ByteRegister::Dh,
+    ByteRegister::Bh,
+];
+
 /// The segment registers, in the order of their numbers 0 to 3.
 #[derive(Clone, Copy, Debug, PartialEq, Eq)]
 pub enum SegmentRegister {
@@ -43,6 +105,16 @@ pub enum SegmentRegister {
     Cs,
     Ss,
     Ds,
+}
+
+impl SegmentRegister {
+    /// The number of the register in an instruction's bytes, 0 to 3.
+    pub fn number(self) -> u8
+        ensures value { result ≡ segment_number self }
+        ensures fits { result < 4 }
+    {
+        self as u8
+    }
 }
 
 /// The registers whose values are added into the offset of a memory operand.
@@ -59,6 +131,28 @@ pub enum Base {
     OnBp,
     OnBx,
 }
+
+impl Base {
+    /// The registers that the r/m field names where the mod field is not 3 and the address is not
+    /// direct.
+    pub fn from_number(number: u8) -> Self
+        requires { number < 8 }
+        ensures { result ≡ slice_index_or bases number Base.BxSi }
+    {
+        BASES[number as usize]
+    }
+}
+
+static BASES: [Base; 8] = [
+    Base::BxSi,
+    Base::BxDi,
+    Base::BpSi,
+    Base::BpDi,
+    Base::OnSi,
+    Base::OnDi,
+    Base::OnBp,
+    Base::OnBx,
+];
 
 /// The offset of a memory operand: the base registers' sum plus the displacement, modulo 10000h.
 /// There is one value for each operand: a displacement that is left out is 0, and one of a byte is
@@ -89,4 +183,15 @@ pub enum Operand {
     Target(u16),
     /// A target in another segment: its offset, then its segment.
     FarTarget(u16, u16),
+}
+
+/// A byte extended by sign to a word.
+pub fn extend(byte: u8) -> u16
+    ensures { result ≡ extended byte }
+{
+    if byte < 0x80 {
+        byte as u16
+    } else {
+        byte as u16 + 0xFF00
+    }
 }

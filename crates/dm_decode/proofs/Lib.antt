@@ -1,0 +1,3 @@
+mod Again
+mod Found
+mod Exact

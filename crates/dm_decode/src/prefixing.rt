@@ -1,0 +1,70 @@
+//! The prefixes that stand before an instruction (Intel 8086 Family User's Manual, section 2.7).
+
+ghost use Rattle.std.specs.Prelude.{◌≡◌};
+ghost use Rattle.dm_ins.specs.Spelling.{with_prefix};
+ghost use Rattle.dm_decode.specs.Reading.{prefix_of, prefixed_at, seen, stripped};
+
+use crate::reading::byte_of;
+use crate::rows::action_of;
+use dm_ins::prefix::Prefix;
+use dm_ins::{Action, Prefixes, Repeat, SegmentRegister};
+
+#[tactic(auto, unfolding(crate::specs::Reading::prefix_of))]
+fn as_prefix(byte: u8) -> Option<Prefix>
+    ensures { result ≡ prefix_of byte }
+{
+    match byte {
+        0x26 => Some(Prefix::Segment(SegmentRegister::Es)),
+        0x2E => Some(Prefix::Segment(SegmentRegister::Cs)),
+        0x36 => Some(Prefix::Segment(SegmentRegister::Ss)),
+        0x3E => Some(Prefix::Segment(SegmentRegister::Ds)),
+        0xF0 => Some(Prefix::Lock),
+        0xF2 => Some(Prefix::Repeat(Repeat::NotEqual)),
+        0xF3 => Some(Prefix::Repeat(Repeat::Equal)),
+        _ => None,
+    }
+}
+
+/// With one more prefix, which takes the place of an earlier one of its kind.
+fn add_prefix(mut prefixes: Prefixes, prefix: Prefix) -> Prefixes
+    ensures { result ≡ with_prefix prefixes prefix }
+{
+    match prefix {
+        Prefix::Segment(segment) => prefixes.segment = Some(segment),
+        Prefix::Lock => prefixes.lock = true,
+        Prefix::Repeat(repeat) => prefixes.repeat = Some(repeat),
+    }
+    prefixes
+}
+
+/// Takes one prefix from the front, if there is one.
+#[tactic(auto, unfolding(crate::specs::Reading::stripped))]
+fn strip(prefixes: Prefixes, bytes: &[u8]) -> (Prefixes, &[u8])
+    ensures { (result.0, result.1.now) ≡ stripped prefixes bytes.now }
+{
+    match byte_of(bytes) {
+        None => (prefixes, bytes),
+        Some((b, rest)) => match as_prefix(b) {
+            None => (prefixes, bytes),
+            Some(prefix) => (add_prefix(prefixes, prefix), rest),
+        },
+    }
+}
+
+/// At most four prefixes and the action behind them, and the bytes behind that.
+#[tactic(auto, unfolding(crate::specs::Reading::prefixed_at))]
+pub fn prefixed_of(bytes: &[u8]) -> Option<((Prefixes, Action), &[u8])>
+    ensures { seen result ≡ prefixed_at bytes.now }
+{
+    let none = Prefixes {
+        segment: None,
+        lock: false,
+        repeat: None,
+    };
+    let (prefixes, rest) = strip(none, bytes);
+    let (prefixes, rest) = strip(prefixes, rest);
+    let (prefixes, rest) = strip(prefixes, rest);
+    let (prefixes, rest) = strip(prefixes, rest);
+    let (action, rest) = action_of(rest)?;
+    Some(((prefixes, action), rest))
+}

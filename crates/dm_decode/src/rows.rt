@@ -1,0 +1,79 @@
+//! The row of the table that some bytes begin with.
+
+ghost use Rattle.std.specs.Prelude.{◌≡◌, ◌<◌, IfSome};
+ghost use Rattle.dm_ins.specs.Table.{IfGroup};
+ghost use Rattle.dm_ins.specs.Spelling.{uses_fields};
+ghost use Rattle.dm_decode.specs.Reading.{action_at, row_at, seen};
+
+use crate::operands::{fields_of, operand_of};
+use crate::reading::byte_of;
+use dm_ins::Action;
+use dm_ins::fields::Fields;
+use dm_ins::table::{Entry, Kind, Row, entry_at, member};
+
+fn needs_fields(kind: Kind) -> bool
+    ensures { result ≡ uses_fields kind }
+{
+    matches!(
+        kind,
+        Kind::Place(_) | Kind::Register(_) | Kind::Memory | Kind::Escape(_)
+    )
+}
+
+/// The row under the first byte's entry with the fields of its mod r/m byte, if it has one, and the
+/// bytes behind them.
+#[tactic(auto, unfolding(crate::specs::Reading::row_at))]
+fn row_of(entry: Entry, bytes: &[u8]) -> Option<((Row, Fields), &[u8])>
+    requires { IfGroup entry (λ g. g < 17) }
+    ensures reads { seen result ≡ row_at entry bytes.now }
+    ensures fits { IfSome result (λ x. (x.0.1.register < 8) × (x.0.1.rm < 8)) }
+{
+    let none = Fields {
+        register: 0,
+        rm: 0,
+        memory: None,
+    };
+    match entry {
+        Entry::Unlisted => None,
+        Entry::Plain(row) => {
+            if needs_fields(row.first) || needs_fields(row.second) {
+                let (fields, rest) = fields_of(bytes)?;
+                Some(((row, fields), rest))
+            } else {
+                Some(((row, none), bytes))
+            }
+        }
+        Entry::Group(group) => {
+            let (fields, rest) = fields_of(bytes)?;
+            let row = member(group, fields.register)?;
+            Some(((row, fields), rest))
+        }
+        Entry::Second(second, row) => {
+            let (b, rest) = byte_of(bytes)?;
+            if b == second {
+                Some(((row, none), rest))
+            } else {
+                None
+            }
+        }
+    }
+}
+
+/// The action that the bytes begin with, and the bytes behind it.
+#[tactic(auto, unfolding(crate::specs::Reading::action_at))]
+pub fn action_of(bytes: &[u8]) -> Option<(Action, &[u8])>
+    ensures { seen result ≡ action_at bytes.now }
+{
+    let (b, rest) = byte_of(bytes)?;
+    let ((row, fields), rest) = row_of(entry_at(b), rest)?;
+    let (first, rest) = operand_of(row.first, fields, rest)?;
+    let (second, rest) = operand_of(row.second, fields, rest)?;
+    Some((
+        Action {
+            mnemonic: row.mnemonic,
+            first,
+            second,
+        },
+        rest,
+    ))
+}

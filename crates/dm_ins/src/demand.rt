@@ -1,0 +1,238 @@
+//! What an operand asks of an instruction's bytes.
+
+ghost use Rattle.std.specs.Prelude.{◌≡◌, ◌<◌, IfSome, IsSome};
+ghost use Rattle.dm_ins.specs.Spelling.{extended};
+ghost use Rattle.dm_ins.specs.Encoding.{DemandFits, OperandFits, as_signed, asks_data, asks_place, asks_register, demand_of, is_direct, numbered, same_width};
+
+use crate::operand::{Address, Base, Operand, Width, extend};
+use crate::table::Kind;
+
+/// What the mod and r/m fields name.
+#[derive(Clone, Copy)]
+pub enum Place {
+    /// The register with the number, 0 to 7.
+    Register(u8),
+    Memory(Address),
+}
+
+/// The bytes of an operand behind the mod r/m byte.
+#[derive(Clone, Copy)]
+pub enum Data {
+    Nothing,
+    Byte(u8),
+    Word(u16),
+    Words(u16, u16),
+}
+
+/// What an operand asks of the bytes.
+#[derive(Clone, Copy)]
+pub struct Demand {
+    /// What the reg field has to be, 0 to 7.
+    pub register: Option<u8>,
+    /// What the mod and r/m fields have to name.
+    pub place: Option<Place>,
+    /// What follows.
+    pub tail: Data,
+}
+
+impl Demand {
+    fn for_data(tail: Data) -> Self
+        ensures { result ≡ asks_data tail }
+    {
+        Self {
+            register: None,
+            place: None,
+            tail,
+        }
+    }
+
+    fn for_register(number: u8) -> Self
+        ensures { result ≡ asks_register number }
+    {
+        Self {
+            register: Some(number),
+            place: None,
+            tail: Data::Nothing,
+        }
+    }
+
+    fn for_place(place: Place) -> Self
+        ensures { result ≡ asks_place place }
+    {
+        Self {
+            register: None,
+            place: Some(place),
+            tail: Data::Nothing,
+        }
+    }
+}
+
+/// The number of the register that the operand is, if it is one of the width.
+fn number(width: Width, operand: Operand) -> Option<u8>
+    ensures value { result ≡ numbered width operand }
+    ensures fits { IfSome result (λ n. n < 8) }
+{
+    match width {
+        Width::Byte => match operand {
+            Operand::ByteRegister(r) => Some(r.number()),
+            _ => None,
+        },
+        Width::Word => match operand {
+            Operand::WordRegister(r) => Some(r.number()),
+            _ => None,
+        },
+    }
+}
+
+fn is_as_wide(a: Width, b: Width) -> bool
+    ensures { result ≡ same_width a b }
+{
+    match a {
+        Width::Byte => matches!(b, Width::Byte),
+        Width::Word => matches!(b, Width::Word),
+    }
+}
+
+pub fn has_no_base(base: Base) -> bool
+    ensures { result ≡ is_direct base }
+{
+    matches!(base, Base::Direct)
+}
+
+/// The byte that extends by sign to the word, if there is one.
+fn signed(n: u16) -> Option<Demand>
+    ensures { result ≡ as_signed n }
+{
+    let low = (n % 256) as u8;
+    if extend(low) == n {
+        Some(Demand::for_data(Data::Byte(low)))
+    } else {
+        None
+    }
+}
+
+/// What the operand asks of the bytes where a row has this kind, if it is of the kind.
+#[tactic(auto, unfolding(crate::specs::Encoding::demand_of))]
+pub fn demand_for(kind: Kind, operand: Operand) -> Option<Demand>
+    ensures value { result ≡ demand_of kind operand }
+    ensures fits { IfSome result DemandFits }
+    ensures numbers { IsSome result → OperandFits operand }
+{
+    match kind {
+        Kind::Nothing => match operand {
+            Operand::Nothing => Some(Demand::for_data(Data::Nothing)),
+            _ => None,
+        },
+        Kind::Place(width) => match operand {
+            Operand::Memory(other, address) => {
+                if is_as_wide(width, other) {
+                    Some(Demand::for_place(Place::Memory(address)))
+                } else {
+                    None
+                }
+            }
+            _ => {
+                let n = number(width, operand)?;
+                Some(Demand::for_place(Place::Register(n)))
+            }
+        },
+        Kind::Register(width) => {
+            let n = number(width, operand)?;
+            Some(Demand::for_register(n))
+        }
+        Kind::Memory => match operand {
+            Operand::Memory(other, address) => {
+                if is_as_wide(Width::Word, other) {
+                    Some(Demand::for_place(Place::Memory(address)))
+                } else {
+                    None
+                }
+            }
+            _ => None,
+        },
+        Kind::ByteValue => match operand {
+            Operand::ByteValue(n) => Some(Demand::for_data(Data::Byte(n))),
+            _ => None,
+        },
+        Kind::WordValue => match operand {
+            Operand::WordValue(n) => Some(Demand::for_data(Data::Word(n))),
+            _ => None,
+        },
+        Kind::SignedValue => match operand {
+            Operand::WordValue(n) => signed(n),
+            _ => None,
+        },
+        Kind::Short => match operand {
+            Operand::Target(n) => signed(n),
+            _ => None,
+        },
+        Kind::Near => match operand {
+            Operand::Target(n) => Some(Demand::for_data(Data::Word(n))),
+            _ => None,
+        },
+        Kind::Direct(width) => match operand {
+            Operand::Memory(other, address) => {
+                if is_as_wide(width, other) {
+                    if has_no_base(address.base) {
+                        Some(Demand::for_data(Data::Word(address.displacement)))
+                    } else {
+                        None
+                    }
+                } else {
+                    None
+                }
+            }
+            _ => None,
+        },
+        Kind::Far => match operand {
+            Operand::FarTarget(offset, segment) => Some(Demand::for_data(Data::Words(
+                offset, segment,
+            ))),
+            _ => None,
+        },
+        Kind::Escape(r) => match operand {
+            Operand::ByteValue(n) => {
+                if n / 8 == r % 8 {
+                    Some(Demand::for_register(n % 8))
+                } else {
+                    None
+                }
+            }
+            _ => None,
+        },
+        Kind::Byte(r) => match operand {
+            Operand::ByteRegister(s) => {
+                if r.number() == s.number() {
+                    Some(Demand::for_data(Data::Nothing))
+                } else {
+                    None
+                }
+            }
+            _ => None,
+        },
+        Kind::Word(r) => match operand {
+            Operand::WordRegister(s) => {
+                if r.number() == s.number() {
+                    Some(Demand::for_data(Data::Nothing))
+                } else {
+                    None
+                }
+            }
+            _ => None,
+        },
+        Kind::TheSegment(r) => match operand {
+            Operand::SegmentRegister(s) => {
+                if r.number() == s.number() {
+                    Some(Demand::for_data(Data::Nothing))
+                } else {
+                    None
+                }
+            }
+            _ => None,
+        },
+        Kind::One => match operand {
+            Operand::One => Some(Demand::for_data(Data::Nothing)),
+            _ => None,
+        },
+    }
+}

@@ -1,0 +1,58 @@
+//! The bytes that an instruction is written as.
+
+ghost use Rattle.std.specs.Prelude.{◌≡◌, ◌+◌, ◌≤◌, ◌++◌, List, ℕ, false, map};
+ghost use Rattle.arrayvec.specs.ArrayVec.{array_vec_len};
+ghost use Rattle.dm_ins.specs.Spelling.{prefix_byte};
+ghost use Rattle.dm_ins.specs.Ins.{Spells};
+ghost use Rattle.dm_ins.specs.Order.{before};
+ghost use Rattle.dm_ins.specs.Encoding.{prefix_list};
+
+use crate::ins::Ins;
+use crate::operand::SegmentRegister;
+use crate::prefix::{Prefixes, Repeat};
+use crate::search::least;
+use arrayvec::ArrayVec;
+
+/// Puts the kept prefixes in the order of their bytes.
+fn put_prefixes(out: &mut ArrayVec<u8, 16>, prefixes: Prefixes)
+    requires { array_vec_len out.old + 3 ≤ 16 }
+    ensures items { out.new.items ≡ out.old.items ++ map prefix_byte (prefix_list prefixes) }
+    ensures within { array_vec_len out.new ≤ array_vec_len out.old + 3 }
+{
+    match prefixes.segment {
+        None => {}
+        Some(SegmentRegister::Es) => out.push(0x26),
+        Some(SegmentRegister::Cs) => out.push(0x2E),
+        Some(SegmentRegister::Ss) => out.push(0x36),
+        Some(SegmentRegister::Ds) => out.push(0x3E),
+    }
+    if prefixes.lock {
+        out.push(0xF0);
+    }
+    match prefixes.repeat {
+        None => {}
+        Some(Repeat::NotEqual) => out.push(0xF2),
+        Some(Repeat::Equal) => out.push(0xF3),
+    }
+}
+
+fn append(out: &mut ArrayVec<u8, 16>, bytes: &ArrayVec<u8, 12>)
+    requires { array_vec_len out.old + 12 ≤ 16 }
+    ensures { out.new.items ≡ out.old.items ++ bytes.now.items }
+{
+    let _ = out.try_extend_from_slice(bytes.as_slice());
+}
+
+/// The bytes of the instruction: of its spellings the shortest, and of those the one that is least
+/// byte by byte from the left.
+pub fn encode(ins: &Ins) -> ArrayVec<u8, 16>
+    ensures spells { Spells ins.now result.items }
+    ensures least { (other : List ℕ) → Spells ins.now other → before other result.items ≡ false }
+{
+    let mut out = ArrayVec::new();
+    put_prefixes(&mut out, ins.prefixes);
+    if let Some(bytes) = least(&ins.action) {
+        append(&mut out, &bytes);
+    }
+    out
+}

@@ -1,0 +1,183 @@
+//! The bytes of a row filled with its operands, with the shortest displacement.
+
+ghost use Rattle.std.specs.Prelude.{◌≡◌, ◌+◌, ◌<◌, ◌≤◌, ◌++◌, IfSome, IsSome};
+ghost use Rattle.arrayvec.specs.ArrayVec.{array_vec_len};
+ghost use Rattle.dm_ins.specs.Spelling.{word};
+ghost use Rattle.dm_ins.specs.Encoding.{OperandFits, PlaceFits, behind_bytes, bytes_of, data_bytes, either, fields_bytes, memory_bytes, rm_of, seen_bytes, with_displacement};
+
+use crate::demand::{Data, Place, demand_for, has_no_base};
+use crate::operand::{Address, Base, Operand, extend};
+use crate::table::Row;
+use arrayvec::ArrayVec;
+
+/// One row under its first byte.
+#[derive(Clone, Copy)]
+pub struct Choice {
+    pub opcode: u8,
+    pub row: Row,
+    /// The reg field that chooses the row in its group.
+    pub register: Option<u8>,
+    /// The second byte that the row wants.
+    pub second: Option<u8>,
+}
+
+/// The r/m field of a memory operand.
+fn rm_field(base: Base) -> u8
+    ensures value { result ≡ rm_of base }
+    ensures fits { result < 8 }
+{
+    match base {
+        Base::Direct => 6,
+        Base::BxSi => 0,
+        Base::BxDi => 1,
+        Base::BpSi => 2,
+        Base::BpDi => 3,
+        Base::OnSi => 4,
+        Base::OnDi => 5,
+        Base::OnBp => 6,
+        Base::OnBx => 7,
+    }
+}
+
+/// Puts a word, its low byte first.
+fn put_word(out: &mut ArrayVec<u8, 12>, n: u16)
+    requires { array_vec_len out.old + 2 ≤ 12 }
+    ensures items { out.new.items ≡ out.old.items ++ word n }
+    ensures len { array_vec_len out.new ≡ array_vec_len out.old + 2 }
+{
+    out.push((n % 256) as u8);
+    out.push((n / 256) as u8);
+}
+
+fn put_data(out: &mut ArrayVec<u8, 12>, tail: Data)
+    requires { array_vec_len out.old + 4 ≤ 12 }
+    ensures items { out.new.items ≡ out.old.items ++ data_bytes tail }
+    ensures within { array_vec_len out.new ≤ array_vec_len out.old + 4 }
+{
+    match tail {
+        Data::Nothing => {}
+        Data::Byte(n) => out.push(n),
+        Data::Word(n) => put_word(out, n),
+        Data::Words(n, s) => {
+            put_word(out, n);
+            put_word(out, s);
+        }
+    }
+}
+
+/// Puts the mod r/m byte with a displacement of one byte, where that does, else of a word.
+fn put_displaced(out: &mut ArrayVec<u8, 12>, register: u8, rm: u8, n: u16)
+    requires room { array_vec_len out.old + 3 ≤ 12 }
+    requires register { register < 8 }
+    requires rm { rm < 8 }
+    ensures items { out.new.items ≡ out.old.items ++ with_displacement register rm n }
+    ensures within { array_vec_len out.new ≤ array_vec_len out.old + 3 }
+{
+    let low = (n % 256) as u8;
+    if extend(low) == n {
+        out.push(64 + (8 * register + rm));
+        out.push(low);
+    } else {
+        out.push(128 + (8 * register + rm));
+        put_word(out, n);
+    }
+}
+
+fn put_memory(out: &mut ArrayVec<u8, 12>, register: u8, address: Address)
+    requires room { array_vec_len out.old + 3 ≤ 12 }
+    requires register { register < 8 }
+    ensures items { out.new.items ≡ out.old.items ++ memory_bytes register address }
+    ensures within { array_vec_len out.new ≤ array_vec_len out.old + 3 }
+{
+    let rm = rm_field(address.base);
+    if has_no_base(address.base) {
+        out.push(8 * register + 6);
+        put_word(out, address.displacement);
+    } else if rm == 6 {
+        // Without a displacement these bits mean a direct address.
+        put_displaced(out, register, 6, address.displacement);
+    } else if address.displacement == 0 {
+        out.push(8 * register + rm);
+    } else {
+        put_displaced(out, register, rm, address.displacement);
+    }
+}
+
+#[tactic(auto, unfolding(crate::specs::Encoding::fields_bytes))]
+fn put_fields(out: &mut ArrayVec<u8, 12>, register: u8, place: Place)
+    requires room { array_vec_len out.old + 3 ≤ 12 }
+    requires register { register < 8 }
+    requires place { PlaceFits place }
+    ensures items { out.new.items ≡ out.old.items ++ fields_bytes register place }
+    ensures within { array_vec_len out.new ≤ array_vec_len out.old + 3 }
+{
+    match place {
+        Place::Register(n) => out.push(192 + (8 * register + n)),
+        Place::Memory(address) => put_memory(out, register, address),
+    }
+}
+
+fn first_number(a: Option<u8>, b: Option<u8>) -> Option<u8>
+    ensures value { result ≡ either a b }
+    ensures fits { IfSome a (λ n. n < 8) → IfSome b (λ n. n < 8) → IfSome result (λ n. n < 8) }
+{
+    match a {
+        Some(_) => a,
+        None => b,
+    }
+}
+
+fn first_place(a: Option<Place>, b: Option<Place>) -> Option<Place>
+    ensures value { result ≡ either a b }
+    ensures fits { IfSome a PlaceFits → IfSome b PlaceFits → IfSome result PlaceFits }
+{
+    match a {
+        Some(_) => a,
+        None => b,
+    }
+}
+
+/// Puts what stands behind the first byte: a mod r/m byte with its displacement, or the second
+/// byte that the row wants.
+fn put_behind(
+    out: &mut ArrayVec<u8, 12>,
+    register: Option<u8>,
+    place: Option<Place>,
+    second: Option<u8>,
+)
+    requires room { array_vec_len out.old + 3 ≤ 12 }
+    requires register { IfSome register (λ n. n < 8) }
+    requires place { IfSome place PlaceFits }
+    ensures items { out.new.items ≡ out.old.items ++ behind_bytes register place second }
+    ensures within { array_vec_len out.new ≤ array_vec_len out.old + 3 }
+{
+    if let Some(r) = register {
+        if let Some(p) = place {
+            put_fields(out, r, p);
+            return;
+        }
+    }
+    if let Some(c) = second {
+        out.push(c);
+    }
+}
+
+/// The bytes of the row with these operands, if they are of its kinds.
+#[tactic(auto, unfolding(crate::specs::Encoding::bytes_of))]
+pub fn fill(choice: Choice, first: Operand, second: Operand) -> Option<ArrayVec<u8, 12>>
+    requires { IfSome choice.register (λ n. n < 8) }
+    ensures bytes { seen_bytes result ≡ bytes_of choice first second }
+    ensures first { IsSome result → OperandFits first }
+    ensures second { IsSome result → OperandFits second }
+{
+    let d = demand_for(choice.row.first, first)?;
+    let e = demand_for(choice.row.second, second)?;
+    let register = first_number(choice.register, first_number(d.register, e.register));
+    let place = first_place(d.place, e.place);
+    let mut out = ArrayVec::new();
+    out.push(choice.opcode);
+    put_behind(&mut out, register, place, choice.second);
+    put_data(&mut out, d.tail);
+    put_data(&mut out, e.tail);
+    Some(out)
+}

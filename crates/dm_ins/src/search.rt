@@ -1,0 +1,116 @@
+//! The least bytes of an action, by a search of the rows.
+
+ghost use Rattle.std.specs.Prelude.{◌≡◌, ◌<◌, ◌↔◌, IsTrue, IfSome, IfNone, List, ℕ, false, true};
+ghost use Rattle.dm_ins.specs.Table.{entry_of};
+ghost use Rattle.dm_ins.specs.Order.{before};
+ghost use Rattle.dm_ins.specs.Encoding.{Best, CandidateAt, better_of, choice_at, seen_bytes};
+
+use crate::action::{Action, Mnemonic};
+use crate::fill::{Choice, fill};
+use crate::table::{Entry, entry_at, member};
+use arrayvec::ArrayVec;
+
+/// The row under the first byte and, in a group, the reg field. A row outside the groups stands
+/// under the reg field 0 alone, so that each is met once.
+fn choice(opcode: u8, register: u8) -> Option<Choice>
+    requires { register < 8 }
+    ensures value { result ≡ choice_at (entry_of opcode) opcode register }
+    ensures fits { IfSome result (λ c. IfSome c.register (λ n. n < 8)) }
+{
+    match entry_at(opcode) {
+        Entry::Unlisted => None,
+        Entry::Plain(row) => {
+            if register == 0 {
+                Some(Choice {
+                    opcode,
+                    row,
+                    register: None,
+                    second: None,
+                })
+            } else {
+                None
+            }
+        }
+        Entry::Group(group) => {
+            let row = member(group, register)?;
+            Some(Choice {
+                opcode,
+                row,
+                register: Some(register),
+                second: None,
+            })
+        }
+        Entry::Second(second, row) => {
+            if register == 0 {
+                Some(Choice {
+                    opcode,
+                    row,
+                    register: None,
+                    second: Some(second),
+                })
+            } else {
+                None
+            }
+        }
+    }
+}
+
+fn is_before(a: &ArrayVec<u8, 12>, b: &ArrayVec<u8, 12>) -> bool
+    ensures { result ≡ before a.now.items b.now.items }
+{
+    if a.len() < b.len() {
+        true
+    } else if b.len() < a.len() {
+        false
+    } else {
+        a.as_slice().cmp(b.as_slice()).is_lt()
+    }
+}
+
+fn is_same(a: Mnemonic, b: Mnemonic) -> bool
+    ensures { IsTrue result ↔ (a ≡ b) }
+{
+    a == b
+}
+
+/// The bytes of the row with the number (eight times the first byte plus the reg field), if the
+/// row has the action.
+fn candidate(number: u16, action: &Action) -> Option<ArrayVec<u8, 12>>
+    requires { number < 2048 }
+    ensures found { IfSome (seen_bytes result) (λ v. CandidateAt number action.now v) }
+    ensures none { IfNone (seen_bytes result) ((c : List ℕ) → CandidateAt number action.now c → false ≡ true) }
+{
+    let choice = choice((number / 8) as u8, (number % 8) as u8)?;
+    if is_same(choice.row.mnemonic, action.mnemonic) {
+        fill(choice, action.first, action.second)
+    } else {
+        None
+    }
+}
+
+fn better(best: Option<ArrayVec<u8, 12>>, new: Option<ArrayVec<u8, 12>>) -> Option<ArrayVec<u8, 12>>
+    ensures { seen_bytes result ≡ better_of (seen_bytes best) (seen_bytes new) }
+{
+    match best {
+        None => new,
+        Some(old) => match new {
+            None => Some(old),
+            Some(bytes) => if is_before(&bytes, &old) {
+                Some(bytes)
+            } else {
+                Some(old)
+            },
+        },
+    }
+}
+
+/// The least of the rows' bytes for the action, or None where no row has it.
+pub fn least(action: &Action) -> Option<ArrayVec<u8, 12>>
+    ensures { Best 2048 action.now (seen_bytes result) }
+{
+    let mut best = None;
+    for number in 0..2048 {
+        best = better(best, candidate(number, action));
+    }
+    best
+}
