@@ -1,0 +1,6 @@
+pub mod Text
+pub mod State
+pub mod Services
+
+
+pub mod Start

@@ -1,0 +1,69 @@
+-- The machine as it starts, and as it is once the first program is loaded.
+use Rattle.std.specs.Prelude.{◌≡◌, ℕ, ◌<◌, ◌≤◌, ◌⊎◌, false, List, [], ◌∷◌, length, replicate, Option, Some, None}
+use Rattle.dm_space.specs.Start.{IsStart}
+use Rattle.dm_space.specs.Memory.{Memory}
+use Rattle.dm_alu.specs.declared.flags.Flags.{Flags}
+use Rattle.dm_exec.specs.declared.cpu.Cpu.{Cpu}
+use Rattle.dm_load.specs.declared.format.Kind.TheVariants.{Com}
+use Rattle.dm_load.specs.Image.{kind_of, IsGood}
+use Rattle.dm_proc.specs.declared.psp.Arguments.{Arguments}
+use Rattle.dm_proc.specs.Programs.{program_of}
+use Rattle.dm_proc.specs.Processes.{Loads}
+use Rattle.dm_machine.specs.declared.config.Sizes.{Sizes}
+use Rattle.dm_machine.specs.State.{State}
+
+-- more than 512 pages of expanded memory, or more than 15,360 KiB of extended memory
+abbrev pub IsTooLarge : Sizes → Type 0
+IsTooLarge sizes = (512 < sizes.ems_pages) ⊎ (15360 < sizes.xms_kib)
+
+abbrev pub clear_flags : Flags
+clear_flags = record { carry = false; parity = false; adjust = false; zero = false; sign = false; trap = false; interrupt = false; direction = false; overflow = false }
+
+abbrev pub clear_registers : Cpu
+clear_registers = record { ax = 0; cx = 0; dx = 0; bx = 0; sp = 0; bp = 0; si = 0; di = 0; es = 0; cs = 0; ss = 0; ds = 0; ip = 0; flags = clear_flags }
+
+-- memory as it starts, no output, no process
+pub record IsNew (sizes : Sizes) (variables : List ℕ) (programs : List (List ℕ × List ℕ)) (input : List ℕ) (s : State) : Type 0 where
+  pub memory : IsStart s.memory
+  pub others : s ≡ record {
+    cpu = clear_registers;
+    memory = s.memory;
+    console = record { input = input; output = []; room = 0 };
+    processes = record { present = 0 };
+    exited = None;
+    steps = 0;
+    programs = programs;
+    variables = variables;
+    sizes = sizes;
+  }
+
+-- the first program has a tail and no file control blocks
+pub record IsArguments (tail : List ℕ) (a : Arguments) : Type 0 where
+  pub tail_is : a.tail.items ≡ tail
+  pub first_is : a.first ≡ replicate 16 0
+  pub second_is : a.second ≡ replicate 16 0
+
+-- a COM file that can be loaded; MZ files are refused as bad until the machine starts them
+pub record IsLoadable (file : List ℕ) : Type 0 where
+  pub com_file : kind_of file ≡ Com
+  pub good : IsGood file
+
+-- the first program is loaded
+pub record IsLoaded (s : State) (name tail : List ℕ) (t : State) : Type 0 where
+  pub file : List ℕ
+  pub found : program_of s.programs name ≡ Some file
+  pub loadable : IsLoadable file
+  pub arguments : Arguments
+  pub given : IsArguments tail arguments
+  pub loads : Loads s.processes s.memory file s.variables name arguments t.processes t.cpu t.memory
+  pub others : t ≡ record s { cpu = t.cpu; memory = t.memory; processes = t.processes }
+
+-- the store has the program, and it can't be loaded
+pub record IsBadProgram (s : State) (name : List ℕ) : Type 0 where
+  pub file : List ℕ
+  pub found : program_of s.programs name ≡ Some file
+  pub bad : IsLoadable file → ⊥
+
+-- variables of an environment, each of at least one byte and closed by a zero: at most 32,767 bytes
+pub record IsVariables (bytes : List ℕ) : Type 0 where
+  pub short : length bytes ≤ 0x7FFF

@@ -1,0 +1,19 @@
+//! The machine: its state, its steps and its runs.
+#![tactic(auto)]
+
+mod config;
+mod loading;
+mod machine;
+mod services;
+//mod steps;
+mod stop;
+mod text;
+
+pub use config::{Config, Sizes};
+pub use dm_exec::{Cpu, Flags};
+pub use dm_out::{Failed, Out};
+pub use dm_proc::{AddError, Programs};
+pub use dm_space::Space;
+pub use loading::LoadError;
+pub use machine::{Machine, NewError};
+pub use stop::Stop;

@@ -1,0 +1,71 @@
+//! Loading the first program.
+ghost use Rattle.std.specs.Prelude.{◌≡◌, ◌≤◌, ◌↔◌, ◌++◌, length, None, replicate, OnOk, OnErr, IsErrOf, All, ◌<◌};
+ghost use Rattle.dm_proc.specs.Programs.{program_of, IsName};
+ghost use Rattle.dm_machine.specs.Start.{IsArguments, IsLoaded, IsBadProgram};
+
+use crate::machine::Machine;
+use arrayvec::ArrayVec;
+use dm_load::{Image, Kind};
+use dm_proc::Arguments;
+use thiserror::Error;
+
+/// Why no program was loaded.
+#[derive(Clone, Copy, Debug, PartialEq, Eq, Error)]
+pub enum LoadError {
+    /// The store has no program of this name.
+    #[error("not found")]
+    NotFound,
+    /// The program is not a COM file of at most 65,278 bytes.
+    #[error("bad format")]
+    BadFormat,
+}
+
+/// What the first program is started with: a tail, and no file control blocks.
+fn arguments(tail: &[u8]) -> Arguments
+    requires { length tail.now ≤ 126 }
+    ensures { IsArguments tail.now result }
+{
+    let mut bytes = ArrayVec::new();
+    for byte in tail {
+        bytes.push(*byte);
+    }
+    Arguments {
+        tail: bytes,
+        first: [0; 16],
+        second: [0; 16],
+    }
+}
+
+impl Machine {
+    /// Loads the program of this name, and the registers that it starts with. No program is loaded
+    /// yet; the name is one that the store could have; the tail has at most 126 bytes.
+    ///
+    /// # Errors
+    ///
+    /// `NotFound` exactly where the store has no such program (ASCII case ignored), `BadFormat`
+    /// exactly where it has one that can't be loaded. A refusal changes nothing.
+    pub fn load(&mut self, name: &[u8], tail: &[u8]) -> Result<(), LoadError>
+        requires fresh { self.old.processes.present ≡ 0 }
+        requires name { IsName name.now }
+        requires tail { length tail.now ≤ 126 }
+        ensures ok { OnOk result (IsLoaded self.old name.now tail.now self.new) }
+        ensures not_found { IsErrOf result LoadError.NotFound ↔ (program_of self.old.programs name.now ≡ None) }
+        ensures bad_format { IsErrOf result LoadError.BadFormat ↔ IsBadProgram self.old name.now }
+        ensures err { OnErr result (self.new ≡ self.old) }
+    {
+        let Some(file) = self.programs.find(name) else {
+            return Err(LoadError::NotFound);
+        };
+        let Ok(image) = Image::of(file) else {
+            return Err(LoadError::BadFormat);
+        };
+        match image.kind() {
+            Kind::Com => {
+                let arguments = arguments(tail);
+                self.cpu = self.procs.load(&mut self.space, &image, self.variables.as_slice(), name, &arguments);
+                Ok(())
+            }
+            Kind::Mz => Err(LoadError::BadFormat),
+        }
+    }
+}

@@ -1,0 +1,164 @@
+//! The machine and what it shows.
+ghost use Rattle.std.specs.Prelude.{◌≡◌, ◌≢◌, ◌↔◌, IsTrue, IfOk, IsErrOf};
+ghost use Rattle.dm_space.specs.Memory.{linear, peek, poke};
+ghost use Rattle.dm_machine.specs.Start.{IsNew, IsTooLarge, IsVariables};
+
+use crate::config::{Config, Sizes};
+use dm_alu::Flags;
+use dm_console::Console;
+use dm_exec::Cpu;
+use dm_proc::{Procs, Programs};
+use dm_space::Space;
+use std::alloc::Global;
+use std::marker::Model;
+use thiserror::Error;
+
+/// Why no machine was made.
+#[derive(Clone, Copy, Debug, PartialEq, Eq, Error)]
+pub enum NewError {
+    /// Over 512 pages of expanded memory, or over 15,360 KiB of extended memory.
+    #[error("too large")]
+    TooLarge,
+    /// Memory was refused.
+    #[error("out of memory")]
+    Memory,
+}
+
+/// A machine that runs one program, and those that it starts.
+///
+/// Contracts see its state: registers, memory, console, processes, the code with which the first
+/// program ended, the count of steps, and what no step changes.
+#[derive(Drop)]
+pub struct Machine {
+    pub(crate) cpu: Cpu,
+    pub(crate) space: Space,
+    pub(crate) console: Console,
+    pub(crate) procs: Procs,
+    pub(crate) exited: Option<u8>,
+    pub(crate) steps: u64,
+    pub(crate) programs: Programs,
+    pub(crate) variables: Vec<u8>,
+    sizes: Sizes,
+}
+
+impl Model for Machine {
+    ghost use Rattle.std.specs.Prelude.{◌≤◌, length};
+    ghost use Rattle.dm_machine.specs.State.{State};
+
+    ghost Value = { State };
+
+    ghost view = { λ m. record {
+        cpu = m.cpu; memory = m.space.memory; console = m.console; processes = m.procs; exited = m.exited; steps = m.steps;
+        programs = m.programs; variables = m.variables.items; sizes = m.sizes
+    } };
+
+    ghost invariant = { λ m. length m.variables.items ≤ 0x7FFF };
+}
+
+/// Registers before a program is loaded.
+#[tactic(auto, unfolding(dm_alu::specs::Flags::flags_of))]
+fn clear_registers() -> Cpu
+    ensures { result ≡ Rattle.dm_machine.specs.Start.clear_registers }
+{
+    Cpu {
+        ax: 0,
+        cx: 0,
+        dx: 0,
+        bx: 0,
+        sp: 0,
+        bp: 0,
+        si: 0,
+        di: 0,
+        es: 0,
+        cs: 0,
+        ss: 0,
+        ds: 0,
+        ip: 0,
+        flags: Flags::from_word(0),
+    }
+}
+
+impl Machine {
+    /// A machine as it starts: memory of zeros but for the interrupt vectors and the first arena
+    /// header, A20 off, no output, no program loaded.
+    ///
+    /// The variables of the configuration have at most 32,767 bytes with their zeros; each has at
+    /// least one byte and no zero in it.
+    ///
+    /// # Errors
+    ///
+    /// `TooLarge` exactly where the sizes are over 512 pages or 15,360 KiB, else `Memory` where
+    /// memory was refused. What was handed in is then dropped.
+    pub fn new(alloc: Global, config: Config, programs: Programs, input: Vec<u8>) -> Result<Machine, NewError>
+        requires { IsVariables config.variables.items }
+        ensures ok { IfOk result (IsNew config.sizes config.variables.items programs input.items) }
+        ensures too_large { IsErrOf result NewError.TooLarge ↔ IsTooLarge config.sizes }
+    {
+        let Config { sizes, variables } = config;
+        if sizes.ems_pages > 512 || sizes.xms_kib > 15_360 {
+            return Err(NewError::TooLarge);
+        }
+        let space = Space::new(alloc).map_err(|_| NewError::Memory)?;
+        Ok(Machine {
+            cpu: clear_registers(),
+            space,
+            console: Console::new(alloc, input),
+            procs: Procs::new(),
+            exited: None,
+            steps: 0,
+            programs,
+            variables,
+            sizes,
+        })
+    }
+
+    /// Whether a program is loaded.
+    pub fn is_loaded(&self) -> bool
+        ensures { IsTrue result ↔ (self.now.processes.present ≢ 0) }
+    {
+        self.procs.psp() != 0
+    }
+
+    /// How many steps were made; at 2^64 - 1 the count stays.
+    pub fn steps(&self) -> u64
+        ensures { result ≡ self.now.steps }
+    {
+        self.steps
+    }
+
+    /// The registers and flags.
+    pub fn cpu(&self) -> Cpu
+        ensures { result ≡ self.now.cpu }
+    {
+        self.cpu
+    }
+
+    /// The memory.
+    pub fn space(&self) -> &Space
+        ensures { result.now.memory ≡ self.now.memory }
+    {
+        &self.space
+    }
+
+    /// The byte at segment:offset; FFh where there is no memory.
+    pub fn peek(&self, segment: u16, offset: u16) -> u8
+        ensures { result ≡ peek self.now.memory (linear self.now.memory.a20 segment offset) }
+    {
+        self.space.peek(segment, offset)
+    }
+
+    /// Writes the byte at segment:offset. A write to ROM, or where there is no memory, is lost.
+    pub fn poke(&mut self, segment: u16, offset: u16, value: u8)
+        requires { self.old.processes.present ≢ 0 }
+        ensures { self.new ≡ record self.old { memory = poke self.old.memory (linear self.old.memory.a20 segment offset) value } }
+    {
+        self.space.poke(segment, offset, value);
+    }
+
+    /// All that the console wrote.
+    pub fn output(&self) -> &[u8]
+        ensures { result.now ≡ self.now.console.output }
+    {
+        self.console.output()
+    }
+}
