@@ -224,7 +224,7 @@ fn signed_double(width: Width, value: u32) -> i64
 
 /// The value of the width that stands for a signed number.
 fn single_complement(width: Width, number: i32) -> u16
-    requires { unsigned_abs number < half width }
+    requires { unsigned_abs number ≤ half width }
     ensures value { result ≡ twos_complement (size width) number }
     ensures in_range { result < size width }
 {
