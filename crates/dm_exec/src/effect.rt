@@ -4,8 +4,7 @@ ghost use Rattle.dm_exec.specs.Guest.{guest};
 ghost use Rattle.dm_exec.specs.Effect.{effect, next_of};
 
 use crate::cpu::Cpu;
-use crate::operands;
-use crate::stack;
+use crate::{operands, stack};
 use dm_ins::{Ins, Mnemonic};
 use dm_space::Space;
 

@@ -69,7 +69,7 @@ pub read-more : (m : Memory) (s o n k b : ℕ) → k < n → b ≡ byte m s (o +
 read-more m s o n k b h f g r =
     let e = no_dollar b (byte m s (o + k)) f g in
     let cut : length (text_within m s (o + k) (n - k)) ≡ suc (length (text_within m s (o + (k + 1)) (n - (k + 1))))
-        = ap length (text_within-more m s (o + k) (n - k) (omega arith) e) ∙ ap (λ (xs : List ℕ). suc (length xs)) (next m s o n k) in
+    = ap length (text_within-more m s (o + k) (n - k) (omega arith) e) ∙ ap (λ (xs : List ℕ). suc (length xs)) (next m s o n k) in
     let before = r.counts in
     record { counts = omega arith }
 
@@ -103,13 +103,13 @@ put-more start now after m s o n k b p h r e f =
     let counted = p.read.counts in
     let left : 0 < length (text_within m s (o + k) (n - k)) = omega arith in
     let cut : text_within m s (o + k) (n - k) ≡ b ∷ text_within m s (o + (k + 1)) (n - (k + 1))
-        = text_within-cons m s (o + k) (n - k) left ∙ ap (λ v. v ∷ text_within m s (suc (o + k)) (n - k - 1)) (sym e) ∙ ap (λ (xs : List ℕ). b ∷ xs) (next m s o n k) in
+    = text_within-cons m s (o + k) (n - k) left ∙ ap (λ v. v ∷ text_within m s (suc (o + k)) (n - k - 1)) (sym e) ∙ ap (λ (xs : List ℕ). b ∷ xs) (next m s o n k) in
     let shorter : length (text_within m s (o + k) (n - k)) ≡ suc (length (text_within m s (o + (k + 1)) (n - (k + 1)))) = ap length cut in
     rw f record {
-        read = record { counts = omega arith };
-        output = append_assoc now.output (b ∷ []) _ ∙ ap (λ (xs : List ℕ). now.output ++ xs) (sym cut) ∙ p.output;
-        room = let was = p.room in omega arith;
-        input = p.input;
+      read = record { counts = omega arith };
+      output = append_assoc now.output (b ∷ []) _ ∙ ap (λ (xs : List ℕ). now.output ++ xs) (sym cut) ∙ p.output;
+      room = let was = p.room in omega arith;
+      input = p.input;
     }
 
 pub put-all : (start now : Streams) (m : Memory) (s o n k : ℕ) → IsPut start now m s o n k → k ≡ length (text_within m s o n) →

@@ -1,6 +1,6 @@
 pub mod Text
 pub mod State
 pub mod Services
-
-
+pub mod Step
+pub mod Run
 pub mod Start

@@ -5,7 +5,7 @@ mod config;
 mod loading;
 mod machine;
 mod services;
-//mod steps;
+mod steps;
 mod stop;
 mod text;
 

@@ -62,7 +62,13 @@ impl Machine {
         match image.kind() {
             Kind::Com => {
                 let arguments = arguments(tail);
-                self.cpu = self.procs.load(&mut self.space, &image, self.variables.as_slice(), name, &arguments);
+                self.cpu = self.procs.load(
+                    &mut self.space,
+                    &image,
+                    self.variables.as_slice(),
+                    name,
+                    &arguments,
+                );
                 Ok(())
             }
             Kind::Mz => Err(LoadError::BadFormat),

@@ -48,8 +48,15 @@ impl Model for Machine {
     ghost Value = { State };
 
     ghost view = { λ m. record {
-        cpu = m.cpu; memory = m.space.memory; console = m.console; processes = m.procs; exited = m.exited; steps = m.steps;
-        programs = m.programs; variables = m.variables.items; sizes = m.sizes
+      cpu = m.cpu;
+      memory = m.space.memory;
+      console = m.console;
+      processes = m.procs;
+      exited = m.exited;
+      steps = m.steps;
+      programs = m.programs;
+      variables = m.variables.items;
+      sizes = m.sizes;
     } };
 
     ghost invariant = { λ m. length m.variables.items ≤ 0x7FFF };
@@ -89,7 +96,12 @@ impl Machine {
     ///
     /// `TooLarge` exactly where the sizes are over 512 pages or 15,360 KiB, else `Memory` where
     /// memory was refused. What was handed in is then dropped.
-    pub fn new(alloc: Global, config: Config, programs: Programs, input: Vec<u8>) -> Result<Machine, NewError>
+    pub fn new(
+        alloc: Global,
+        config: Config,
+        programs: Programs,
+        input: Vec<u8>,
+    ) -> Result<Machine, NewError>
         requires { IsVariables config.variables.items }
         ensures ok { IfOk result (IsNew config.sizes config.variables.items programs input.items) }
         ensures too_large { IsErrOf result NewError.TooLarge ↔ IsTooLarge config.sizes }

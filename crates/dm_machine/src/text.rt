@@ -18,12 +18,18 @@ pub(crate) fn text_length(space: &Space, segment: u16, offset: u16) -> usize
 }
 
 /// Writes the text at segment:offset, whose length is given, into the room.
-pub(crate) fn write_text(console: &mut Console, space: &Space, segment: u16, offset: u16, length: usize)
+pub(crate) fn write_text(
+    console: &mut Console,
+    space: &Space,
+    segment: u16,
+    offset: u16,
+    length: usize,
+)
     requires whole { length ≡ Rattle.std.specs.Prelude.length (text_at space.now.memory segment offset) }
     requires room { length ≤ console.old.room }
     ensures { console.new ≡ record console.old {
-        output = console.old.output ++ text_at space.now.memory segment offset;
-        room = console.old.room - length
+      output = console.old.output ++ text_at space.now.memory segment offset;
+      room = console.old.room - length;
     } }
 {
     for index in 0..length {

@@ -67,9 +67,21 @@ start_flags = record { carry = false; parity = false; adjust = false; zero = fal
 -- DS and ES have the process's segment, the general registers are 0
 abbrev pub registers : ℕ → FarPointer → FarPointer → Cpu
 registers segment code stack = record {
-    ax = 0; cx = 0; dx = 0; bx = 0; sp = stack.offset; bp = 0; si = 0; di = 0;
-    es = segment; cs = code.segment; ss = stack.segment; ds = segment; ip = code.offset; flags = start_flags;
-  }
+  ax = 0;
+  cx = 0;
+  dx = 0;
+  bx = 0;
+  sp = stack.offset;
+  bp = 0;
+  si = 0;
+  di = 0;
+  es = segment;
+  cs = code.segment;
+  ss = stack.segment;
+  ds = segment;
+  ip = code.offset;
+  flags = start_flags;
+}
 
 -- a far pointer of a header, from the start segment on
 abbrev pub moved : FarPointer → ℕ → FarPointer

@@ -14,7 +14,11 @@ fn write_header(space: &mut Space, segment: u16, is_last: bool, owner: u16, size
     let signature = if is_last { b'Z' } else { b'M' };
     let [owner_low, owner_high] = owner.to_le_bytes();
     let [size_low, size_high] = size.to_le_bytes();
-    write_bytes(space, segment, &[signature, owner_low, owner_high, size_low, size_high]);
+    write_bytes(
+        space,
+        segment,
+        &[signature, owner_low, owner_high, size_low, size_high],
+    );
 }
 
 /// Writes the headers of both blocks, owned by the program's segment.
@@ -23,6 +27,12 @@ pub(crate) fn write_pair(space: &mut Space, pair: Pair)
     ensures { space.new ≡ record space.old { memory = apply (pair_writes space.old.memory.a20 pair) space.old.memory } }
 {
     let owner = pair.program.segment;
-    write_header(space, pair.environment.segment - 1, false, owner, pair.environment.size);
+    write_header(
+        space,
+        pair.environment.segment - 1,
+        false,
+        owner,
+        pair.environment.size,
+    );
     write_header(space, owner - 1, true, owner, pair.program.size);
 }

@@ -10,7 +10,11 @@ fn write_byte(space: &mut Space, segment: u16, at: usize, byte: u8)
     requires { at < 0x200000 }
     ensures { space.new ≡ record space.old { memory = poke space.old.memory (block_address space.old.memory.a20 segment at) byte } }
 {
-    space.poke(segment.wrapping_add((at / 16 % 65536) as u16), (at % 16) as u16, byte);
+    space.poke(
+        segment.wrapping_add((at / 16 % 65536) as u16),
+        (at % 16) as u16,
+        byte,
+    );
 }
 
 /// Writes bytes to a block from one of its bytes on.

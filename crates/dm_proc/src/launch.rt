@@ -7,7 +7,6 @@ ghost use Rattle.dm_proc.specs.Start.{start_writes, zero_word, stack_writes};
 
 use crate::arena_header::write_pair;
 use crate::block::{write_bytes, write_scratch};
-
 use crate::pair::Pair;
 use dm_exec::{Cpu, Flags};
 use dm_load::{FarPointer, Image, Kind};
@@ -88,7 +87,13 @@ fn write_stack(space: &mut Space, image: &Image, pair: Pair)
 
 /// Makes all writes of a start, in this order: headers, environment (which the scratch part begins
 /// with), prefix, image, a COM program's zero word.
-pub(crate) fn write_start(space: &mut Space, image: &Image, pair: Pair, environment: usize, prefix: &[u8])
+pub(crate) fn write_start(
+    space: &mut Space,
+    image: &Image,
+    pair: Pair,
+    environment: usize,
+    prefix: &[u8],
+)
     requires image { length (Rattle.dm_load.specs.Image.image image.now) ≤ 0x100000 }
     requires size { 0x11 ≤ pair.program.size }
     requires environment { environment ≤ 0x200000 }
@@ -130,6 +135,10 @@ pub(crate) fn start_registers(image: &Image, pair: Pair) -> Cpu
             };
             registers(segment, code, stack)
         }
-        Kind::Mz => registers(segment, moved(image.code(), segment + 0x10), moved(image.stack(), segment + 0x10)),
+        Kind::Mz => registers(
+            segment,
+            moved(image.code(), segment + 0x10),
+            moved(image.stack(), segment + 0x10),
+        ),
     }
 }

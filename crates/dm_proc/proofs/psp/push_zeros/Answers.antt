@@ -8,6 +8,6 @@ loop-init c = record { items = sym (ap (λ ys. c.args.prefix.now.items ++ ys) ze
 
 pub loop-preserved : goal.loop-preserved
 loop-preserved c = record {
-    items = one-more _ _ _ _ _ _ c.loop.invariant.items (zeros-more c.loop.counter) (c.push.ensures.items);
-    count = omega (arith, c.push.ensures.len, c.loop.invariant.count);
-  }
+  items = one-more _ _ _ _ _ _ c.loop.invariant.items (zeros-more c.loop.counter) (c.push.ensures.items);
+  count = omega (arith, c.push.ensures.len, c.loop.invariant.count);
+}
