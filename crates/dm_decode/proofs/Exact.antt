@@ -1,6 +1,5 @@
 -- Reading at the front of a list is exact, both ways.
 use Rattle.std.proofs.Common.{◌≡◌, ℕ, ◌-◌, ◌≤◌, List, [], ◌++◌, length, take, drop, Option, Some, None, refl, sym, ap, subst, ◌∙◌, arith}
-use Rattle.std.specs.Prelude.{◌↔◌}
 use Rattle.std.proofs.lemmas.List.{take-append-drop, take_at, append-nil, length-append, length-drop}
 use Rattle.dm_ins.specs.declared.prefix.Prefixes.{Prefixes}
 use Rattle.dm_ins.specs.declared.action.Action.{Action}
@@ -9,6 +8,7 @@ use Rattle.dm_ins.specs.Spelling.{SpellsAction}
 use Rattle.dm_ins.specs.Ins.{Spells}
 use Rattle.dm_decode.specs.Reading.{prefixed_at}
 use Rattle.dm_decode.proofs.Again.{prefixed_again}
+use Rattle.dm_decode.specs.Decoded.{Decodes}
 use Rattle.dm_decode.proofs.Found.{IsBytes, prefixed_found}
 
 -- ---- an instruction is its parts
@@ -64,13 +64,10 @@ read_spelled bytes p a rest h e = let f = prefixed_found bytes ((p, a), rest) h 
 differ : {A : Type 0} (x : A) → None ≡ Some x → ⊥
 differ x e = cc
 
-abbrev pub Exact : List ℕ → Option (Ins × ℕ) → Type 0
-Exact bytes r = (i : Ins) (k : ℕ) → (r ≡ Some (i, k)) ↔ ((k ≤ 16) × Spells i (take k bytes))
-
-pub exact_none : (bytes : List ℕ) → None ≡ prefixed_at bytes → Exact bytes None
+pub exact_none : (bytes : List ℕ) → None ≡ prefixed_at bytes → Decodes bytes None
 exact_none bytes e i k = (λ w. absurd (differ _ w), λ w. absurd (differ _ (e ∙ front_again bytes i k w.1)))
 
-pub exact_some : (bytes : List ℕ) (i : Ins) (rest : List ℕ) → IsBytes bytes → length bytes ≡ 16 → Some ((i.prefixes, i.action), rest) ≡ prefixed_at bytes → Exact bytes (Some (i, 16 - length rest))
+pub exact_some : (bytes : List ℕ) (i : Ins) (rest : List ℕ) → IsBytes bytes → length bytes ≡ 16 → Some ((i.prefixes, i.action), rest) ≡ prefixed_at bytes → Decodes bytes (Some (i, 16 - length rest))
 exact_some bytes i rest h len e j k = (
   λ w.
       let f = prefixed_found bytes ((i.prefixes, i.action), rest) h (sym e) in

@@ -25,7 +25,7 @@ use Rattle.dm_decode.proofs.Again.{with_row, prefix_found}
 abbrev pub IsBytes : List ℕ → Type 0
 IsBytes bytes = (i : ℕ) → get_or bytes i 0 < 2 ^ 8
 
-rest_bytes : (b : ℕ) (bytes : List ℕ) → IsBytes (b ∷ bytes) → IsBytes bytes
+pub rest_bytes : (b : ℕ) (bytes : List ℕ) → IsBytes (b ∷ bytes) → IsBytes bytes
 rest_bytes b bytes h i = h (suc i)
 
 some_is : {A : Type 0} (x y : A) → Some x ≡ Some y → x ≡ y
@@ -206,6 +206,24 @@ row_found (Second c p) bytes x h e =
 abbrev ActionFound : List ℕ → Action × List ℕ → Type 0
 ActionFound bytes x = (d : List ℕ) × Takes bytes d x.1 × SpellsAction x.0 d
 
+-- the parts of a row spell its action
+action_spelled : (b : ℕ) (m : Fields) (r : Row) (behind first_part second_part : List ℕ) (first second : Operand)
+    → HasRow (entry_of b) m behind r → Fills r.first m first first_part → Fills r.second m second second_part
+    → SpellsAction (record { mnemonic = r.mnemonic; first = first; second = second }) (b ∷ behind ++ (first_part ++ second_part))
+action_spelled b m r behind first_part second_part first second h p q = record {
+  first_byte = b;
+  fields = m;
+  row = r;
+  behind = behind;
+  first_part = first_part;
+  second_part = second_part;
+  has_row = h;
+  mnemonic = refl;
+  first = p;
+  second = q;
+  parts = refl;
+}
+
 action_found : (bytes : List ℕ) (x : Action × List ℕ) → IsBytes bytes → action_at bytes ≡ Some x → ActionFound bytes x
 unfolding action_at
 action_found bytes x h e =
@@ -220,23 +238,8 @@ action_found bytes x h e =
     let u = takes_then r.0.1 t2.0 o.0.1 t3.0 p.0.1 t2.1 t3.1 in
     let v = takes_then b.0.1 t1.0 r.0.1 (t2.0 ++ t3.0) p.0.1 t1.1 u in
     let w = takes_then bytes (b.0.0 ∷ []) b.0.1 (t1.0 ++ (t2.0 ++ t3.0)) p.0.1 t0.0 v in
-    subst (ActionFound bytes) (some_is _ x p.2) (
-      b.0.0 ∷ t1.0 ++ (t2.0 ++ t3.0),
-      w,
-      record {
-        first_byte = b.0.0;
-        fields = r.0.0.1;
-        row = r.0.0.0;
-        behind = t1.0;
-        first_part = t2.0;
-        second_part = t3.0;
-        has_row = t1.2;
-        mnemonic = refl;
-        first = t2.2;
-        second = t3.2;
-        parts = refl;
-      },
-    )
+    let s = action_spelled b.0.0 r.0.0.1 r.0.0.0 t1.0 t2.0 t3.0 o.0.0 p.0.0 t1.2 t2.2 t3.2 in
+    subst (ActionFound bytes) (some_is _ x p.2) (b.0.0 ∷ t1.0 ++ (t2.0 ++ t3.0), w, s)
 
 -- ---- prefixes
 

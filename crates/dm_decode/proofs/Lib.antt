@@ -1,3 +1,4 @@
 mod Again
-mod Found
-mod Exact
+pub mod Found
+pub mod Exact
+pub mod Decoded

@@ -1,7 +1,8 @@
 //! The instruction that some bytes begin with, exactly by the table.
 
-ghost use Rattle.std.specs.Prelude.{◌≡◌, ◌↔◌, ◌≤◌, ◌++◌, ℕ, List, Some, take};
+ghost use Rattle.std.specs.Prelude.{◌≡◌, ◌++◌, ℕ, List};
 ghost use Rattle.dm_ins.specs.Ins.{Spells};
+ghost use Rattle.dm_decode.specs.Decoded.{Decodes};
 
 use crate::prefixing::prefixed_of;
 use dm_ins::Ins;
@@ -9,7 +10,7 @@ use dm_ins::Ins;
 /// The instruction that the bytes begin with and how many bytes spell it, or None exactly where no
 /// first bytes of them spell an instruction.
 pub fn decode(bytes: &[u8; 16]) -> Option<(Ins, u8)>
-    ensures { (i : Ins) (k : ℕ) → (result ≡ Some (i, k)) ↔ ((k ≤ 16) × Spells i (take k bytes.now)) }
+    ensures { Decodes bytes.now result }
 {
     match prefixed_of(bytes) {
         None => None,

@@ -1,4 +1,6 @@
--- The bytes that each row has for operands, with the shortest displacement.
+-- The search of the rows that finds the least spelling: which bytes each row has for some operands,
+-- with the shortest displacement, and which of several is the least. This is how it is found, and no
+-- part of what is promised: the contracts of `encode` and `Ins::new` speak of the spelling alone.
 use Rattle.std.specs.Prelude.{◌^◌, ◌≡◌, ℕ, ◌+◌, ◌*◌, ◌/◌, ◌%◌, ◌<◌, Bool, true, false, List, [], ◌∷◌, ◌++◌, Option, Some, None, IfSome, IsSomeAnd, ◌==◌, if◌then◌else◌}
 use Rattle.dm_ins.specs.declared.operand.Width.{Width}
 use Rattle.dm_ins.specs.declared.operand.Width.TheVariants.{Byte, Word}

@@ -1,4 +1,7 @@
--- Which bytes spell an instruction.
+-- Which bytes spell an action, alone and behind prefixes: a relation that goes from instructions to
+-- bytes, with one line for each form of operand. Bytes are numbers below 2 ^ 8, words below 2 ^ 16.
+-- Source: Intel 8086 Family User's Manual, section 2.7 (prefixes) and section 4, "Machine Instruction
+-- Encoding and Decoding", with tables 4-7 to 4-11 (fields of the first bytes).
 use Rattle.std.specs.Prelude.{◌≡◌, ◌≢◌, ℕ, ◌+◌, ◌*◌, ◌/◌, ◌%◌, ◌^◌, ◌<◌, Bool, true, false, ◌⊎◌, List, [], ◌∷◌, ◌++◌, Option, Some, None, slice_index_or, nat_lt, if◌then◌else◌, length, ◌≤◌, map}
 use Rattle.dm_ins.specs.declared.operand.Width.{Width}
 use Rattle.dm_ins.specs.declared.operand.Width.TheVariants.{Byte, Word}
@@ -32,10 +35,11 @@ word n = n % 256 ∷ n / 256 ∷ []
 
 -- a byte extended by sign to a word
 abbrev pub extended : ℕ → ℕ
-extended n = if nat_lt n 128 then n else n + 65280
+extended n = if nat_lt n 0x80 then n else n + 0xFF00
 
 -- ---- prefixes
 
+-- the bytes of the prefixes of each kind
 abbrev pub segment_byte : SegmentRegister → ℕ
 segment_byte Es = 0x26
 segment_byte Cs = 0x2E
@@ -60,19 +64,22 @@ with_prefix p (prefix.Segment s) = record p { segment = Some s }
 with_prefix p prefix.Lock = record p { lock = true }
 with_prefix p (prefix.Repeat r) = record p { repeat = Some r }
 
+-- the prefixes that a list leaves, beginning with what is kept already
 abbrev pub kept : Prefixes → List Prefix → Prefixes
 kept p [] = p
 kept p (x ∷ xs) = kept (with_prefix p x) xs
 
 -- ---- the mod r/m byte
 
+-- memory at the registers of an r/m field plus a displacement, and at a displacement alone
 abbrev pub based : ℕ → ℕ → Address
 based rm n = record { base = slice_index_or bases rm BxSi; displacement = n }
 
 abbrev pub direct : ℕ → Address
 direct n = record { base = Direct; displacement = n }
 
--- the mod field, the r/m field and the bytes of displacement of a memory operand, or of none
+-- the mod field, the r/m field and the bytes of displacement of a memory operand, or (mod 3) of none:
+-- a direct address, no displacement, one byte extended by sign, one word, a register
 abbrev pub SpellsMemory : Option Address → ℕ → ℕ → List ℕ → Type 0
 SpellsMemory a mode rm d =
     ((mode ≡ 0) × (rm ≡ 6) × (n : ℕ) × (n < 2 ^ 16) × (a ≡ Some (direct n)) × (d ≡ word n))
@@ -81,6 +88,7 @@ SpellsMemory a mode rm d =
     ⊎ ((mode ≡ 2) × (n : ℕ) × (n < 2 ^ 16) × (a ≡ Some (based rm n)) × (d ≡ word n))
     ⊎ ((mode ≡ 3) × (a ≡ None) × (d ≡ []))
 
+-- the mod r/m byte: the mod field in bits 7 and 6, reg in 5 to 3, r/m in 2 to 0; then the displacement
 pub record SpellsFields (f : Fields) (bytes : List ℕ) : Type 0 where
   pub mode : ℕ
   pub displacement : List ℕ
@@ -91,15 +99,18 @@ pub record SpellsFields (f : Fields) (bytes : List ℕ) : Type 0 where
 
 -- ---- operands
 
+-- the register of a width and a number
 abbrev pub register : Width → ℕ → Operand
 register Byte n = operand.ByteRegister (slice_index_or byte_registers n Al)
 register Word n = operand.WordRegister (slice_index_or word_registers n Ax)
 
+-- what the mod and r/m fields name: the memory operand, if there is one, else the register
 abbrev pub at_place : Width → ℕ → Option Address → Operand
 at_place w n None = register w n
 at_place w n (Some a) = operand.Memory w a
 
--- an operand of a kind, where the fields are m, and the bytes that follow for it
+-- an operand o of a kind, where the mod r/m byte has the fields m, and the bytes d that follow for it
+-- (ESC's number has its upper three bits in the first byte and its lower three in the reg field)
 abbrev pub Fills : Kind → Fields → Operand → List ℕ → Type 0
 Fills is.Nothing m o d = (o ≡ operand.Nothing) × (d ≡ [])
 Fills (is.Place w) m o d = (o ≡ at_place w m.rm m.memory) × (d ≡ [])
@@ -128,6 +139,7 @@ uses_fields is.Memory = true
 uses_fields (is.Escape r) = true
 uses_fields _ = false
 
+-- whether the row has a mod r/m byte
 abbrev pub has_fields : Row → Bool
 has_fields r = if uses_fields r.first then true else uses_fields r.second
 
@@ -135,17 +147,20 @@ has_fields r = if uses_fields r.first then true else uses_fields r.second
 abbrev pub no_fields : Fields
 no_fields = record { register = 0; rm = 0; memory = None }
 
+-- the mod r/m byte of a row that has one
 abbrev pub MaySpellFields : Bool → Fields → List ℕ → Type 0
 MaySpellFields true m d = SpellsFields m d
 MaySpellFields false m d = (m ≡ no_fields) × (d ≡ [])
 
--- the row that a first byte's entry has under the fields m, and the bytes behind the first
+-- the row r that a first byte's entry has where the mod r/m byte has the fields m, and the bytes d
+-- between the first byte and the operands'
 abbrev pub HasRow : Entry → Fields → List ℕ → Row → Type 0
 HasRow Unlisted m d r = ⊥
 HasRow (Plain p) m d r = (r ≡ p) × MaySpellFields (has_fields p) m d
 HasRow (Group g) m d r = (member_of g m.register ≡ Some r) × SpellsFields m d
 HasRow (Second c p) m d r = (r ≡ p) × (m ≡ no_fields) × (d ≡ c ∷ [])
 
+-- the first byte of a row, its mod r/m byte or second byte, and then what its operands need
 pub record SpellsAction (a : Action) (bytes : List ℕ) : Type 0 where
   pub first_byte : ℕ
   pub fields : Fields
@@ -161,11 +176,11 @@ pub record SpellsAction (a : Action) (bytes : List ℕ) : Type 0 where
 
 -- ---- prefixed actions
 
--- at most four prefixes, of which the last of each kind is kept, and then the action
-pub record SpellsPrefixed (kept_ones : Prefixes) (a : Action) (bytes : List ℕ) : Type 0 where
+-- at most four prefixes in any order, which leave the last of each kind, and then the action
+pub record SpellsPrefixed (left : Prefixes) (a : Action) (bytes : List ℕ) : Type 0 where
   pub prefixes : List Prefix
   pub rest : List ℕ
   pub few : length prefixes ≤ 4
-  pub keeps : kept_ones ≡ kept no_prefix prefixes
+  pub keeps : left ≡ kept no_prefix prefixes
   pub action : SpellsAction a rest
   pub parts : bytes ≡ map prefix_byte prefixes ++ rest

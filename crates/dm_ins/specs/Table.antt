@@ -18,7 +18,10 @@ use Rattle.dm_ins.specs.declared.table.Entry.{Entry}
 use Rattle.dm_ins.specs.declared.table.Entry.TheVariants.{Unlisted, Plain, Group, Second}
 use Rattle.dm_ins.specs.Registers.{word_registers, byte_registers}
 
--- The signs of the table's operands.
+-- ---- signs of the manual's tables: E is the operand of the mod and r/m fields, G the register of the
+-- reg field, M memory, S a segment register, I an immediate, Is a byte that is extended by sign, D a
+-- displacement, O a direct offset, Ap an offset and a segment; b is a byte, w a word
+
 abbrev pub Eb : Kind
 Eb = is.Place Byte
 
@@ -30,6 +33,36 @@ Gb = is.Register Byte
 
 abbrev pub Gw : Kind
 Gw = is.Register Word
+
+abbrev pub M : Kind
+M = is.Memory
+
+abbrev pub Ib : Kind
+Ib = is.ByteValue
+
+abbrev pub Iw : Kind
+Iw = is.WordValue
+
+abbrev pub Is : Kind
+Is = is.SignedValue
+
+abbrev pub Db : Kind
+Db = is.Short
+
+abbrev pub Dw : Kind
+Dw = is.Near
+
+abbrev pub Ob : Kind
+Ob = is.Direct Byte
+
+abbrev pub Ow : Kind
+Ow = is.Direct Word
+
+abbrev pub Ap : Kind
+Ap = is.Far
+
+abbrev pub One : Kind
+One = is.One
 
 abbrev pub AL : Kind
 AL = is.Byte Al
@@ -46,6 +79,7 @@ DX = is.Word Dx
 abbrev pub S : SegmentRegister → Kind
 S r = is.TheSegment r
 
+-- a row with two operands; then entries of one row with two, one and no operands
 abbrev pub row : Mnemonic → Kind → Kind → Row
 row m a b = record { mnemonic = m; first = a; second = b }
 
@@ -58,6 +92,9 @@ one m a = two m a is.Nothing
 abbrev pub bare : Mnemonic → Entry
 bare m = one m is.Nothing
 
+-- ---- runs of rows that differ by a number
+
+-- the arithmetic mnemonics and the conditions, in the order of their numbers
 abbrev pub arithmetics : List Mnemonic
 arithmetics = op.Add ∷ op.Or ∷ op.Adc ∷ op.Sbb ∷ op.And ∷ op.Sub ∷ op.Xor ∷ op.Cmp ∷ []
 
@@ -66,11 +103,13 @@ conditions = op.Jo ∷ op.Jno ∷ op.Jb ∷ op.Jae ∷ op.Jz ∷ op.Jnz ∷ op.J
 
 -- the six forms of an arithmetic mnemonic
 abbrev pub six : Mnemonic → List Entry
-six m = two m Eb Gb ∷ two m Ew Gw ∷ two m Gb Eb ∷ two m Gw Ew ∷ two m AL is.ByteValue ∷ two m AX is.WordValue ∷ []
+six m = two m Eb Gb ∷ two m Ew Gw ∷ two m Gb Eb ∷ two m Gw Ew ∷ two m AL Ib ∷ two m AX Iw ∷ []
 
+-- an entry for each word register
 abbrev pub each_word : (WordRegister → Entry) → List Entry
 each_word f = map f word_registers
 
+-- the groups of arithmetic with an immediate, of shifts and of F6 and F7
 abbrev pub immediate : Kind → Kind → List (Option Row)
 immediate a b = (map (λ m. Some (row m a b)) arithmetics)
 
@@ -80,12 +119,15 @@ shifts a b = (map (λ m. Some (row m a b)) (op.Rol ∷ op.Ror ∷ op.Rcl ∷ op.
 abbrev pub unary : Kind → Kind → List (Option Row)
 unary e i = (Some (row op.Test e i) ∷ None ∷ map (λ m. Some (row m e is.Nothing)) (op.Not ∷ op.Neg ∷ op.Mul ∷ op.Imul ∷ op.Div ∷ op.Idiv ∷ []))
 
--- a table of /0 alone
+-- a group with /0 alone
 abbrev pub zeroth : Row → List (Option Row)
 zeroth r = (Some r ∷ None ∷ None ∷ None ∷ None ∷ None ∷ None ∷ None ∷ [])
 
-abbrev pub sides : Mnemonic → Mnemonic → List Entry
-sides m n = bare m ∷ bare n ∷ []
+-- a string instruction by bytes and by words
+abbrev pub pair : Mnemonic → Mnemonic → List Entry
+pair m n = bare m ∷ bare n ∷ []
+
+-- ---- the table, 16 first bytes after each comment
 
 abbrev pub entries : List Entry
 entries =
@@ -109,37 +151,37 @@ entries =
     ++ Unlisted ∷ Unlisted ∷ Unlisted ∷ Unlisted ∷ Unlisted ∷ Unlisted ∷ Unlisted ∷ Unlisted ∷ []
     ++ Unlisted ∷ Unlisted ∷ Unlisted ∷ Unlisted ∷ Unlisted ∷ Unlisted ∷ Unlisted ∷ Unlisted ∷ []
     -- 70
-    ++ map (λ c. one c is.Short) conditions
+    ++ map (λ c. one c Db) conditions
     -- 80
     ++ Group 0 ∷ Group 1 ∷ Group 2 ∷ Group 3 ∷ []
     ++ two op.Test Eb Gb ∷ two op.Test Ew Gw ∷ two op.Xchg Eb Gb ∷ two op.Xchg Ew Gw ∷ []
     ++ two op.Mov Eb Gb ∷ two op.Mov Ew Gw ∷ two op.Mov Gb Eb ∷ two op.Mov Gw Ew ∷ []
     ++ Group 4 ∷ []
-    ++ two op.Lea Gw is.Memory ∷ []
+    ++ two op.Lea Gw M ∷ []
     ++ Group 5 ∷ []
     ++ Group 6 ∷ []
     -- 90
     ++ each_word (λ r. two op.Xchg AX (is.Word r))
-    ++ bare op.Cbw ∷ bare op.Cwd ∷ one op.CallFar is.Far ∷ bare op.Wait ∷ bare op.Pushf ∷ bare op.Popf ∷ bare op.Sahf ∷ bare op.Lahf ∷ []
+    ++ bare op.Cbw ∷ bare op.Cwd ∷ one op.CallFar Ap ∷ bare op.Wait ∷ bare op.Pushf ∷ bare op.Popf ∷ bare op.Sahf ∷ bare op.Lahf ∷ []
     -- A0
-    ++ two op.Mov AL (is.Direct Byte) ∷ two op.Mov AX (is.Direct Word) ∷ two op.Mov (is.Direct Byte) AL ∷ two op.Mov (is.Direct Word) AX ∷ []
-    ++ sides op.Movsb op.Movsw ++ sides op.Cmpsb op.Cmpsw
-    ++ two op.Test AL is.ByteValue ∷ two op.Test AX is.WordValue ∷ []
-    ++ sides op.Stosb op.Stosw ++ sides op.Lodsb op.Lodsw ++ sides op.Scasb op.Scasw
+    ++ two op.Mov AL Ob ∷ two op.Mov AX Ow ∷ two op.Mov Ob AL ∷ two op.Mov Ow AX ∷ []
+    ++ pair op.Movsb op.Movsw ++ pair op.Cmpsb op.Cmpsw
+    ++ two op.Test AL Ib ∷ two op.Test AX Iw ∷ []
+    ++ pair op.Stosb op.Stosw ++ pair op.Lodsb op.Lodsw ++ pair op.Scasb op.Scasw
     -- B0
-    ++ map (λ r. two op.Mov (is.Byte r) is.ByteValue) byte_registers ++ each_word (λ r. two op.Mov (is.Word r) is.WordValue)
+    ++ map (λ r. two op.Mov (is.Byte r) Ib) byte_registers ++ each_word (λ r. two op.Mov (is.Word r) Iw)
     -- C0
-    ++ Unlisted ∷ Unlisted ∷ one op.Ret is.WordValue ∷ bare op.Ret ∷ two op.Les Gw is.Memory ∷ two op.Lds Gw is.Memory ∷ []
+    ++ Unlisted ∷ Unlisted ∷ one op.Ret Iw ∷ bare op.Ret ∷ two op.Les Gw M ∷ two op.Lds Gw M ∷ []
     ++ Group 7 ∷ Group 8 ∷ []
-    ++ Unlisted ∷ Unlisted ∷ one op.Retf is.WordValue ∷ bare op.Retf ∷ bare op.Int3 ∷ one op.Int is.ByteValue ∷ bare op.Into ∷ bare op.Iret ∷ []
+    ++ Unlisted ∷ Unlisted ∷ one op.Retf Iw ∷ bare op.Retf ∷ bare op.Int3 ∷ one op.Int Ib ∷ bare op.Into ∷ bare op.Iret ∷ []
     -- D0
     ++ Group 9 ∷ Group 10 ∷ Group 11 ∷ Group 12 ∷ []
-    ++ Second 10 (row op.Aam is.Nothing is.Nothing) ∷ Second 10 (row op.Aad is.Nothing is.Nothing) ∷ Unlisted ∷ bare op.Xlat ∷ []
+    ++ Second 0x0A (row op.Aam is.Nothing is.Nothing) ∷ Second 0x0A (row op.Aad is.Nothing is.Nothing) ∷ Unlisted ∷ bare op.Xlat ∷ []
     ++ map (λ n. two op.Esc (is.Escape n) Ew) (0 ∷ 1 ∷ 2 ∷ 3 ∷ 4 ∷ 5 ∷ 6 ∷ 7 ∷ [])
     -- E0
-    ++ one op.Loopne is.Short ∷ one op.Loope is.Short ∷ one op.Loop is.Short ∷ one op.Jcxz is.Short ∷ []
-    ++ two op.Input AL is.ByteValue ∷ two op.Input AX is.ByteValue ∷ two op.Output is.ByteValue AL ∷ two op.Output is.ByteValue AX ∷ []
-    ++ one op.Call is.Near ∷ one op.Jmp is.Near ∷ one op.JmpFar is.Far ∷ one op.JmpShort is.Short ∷ []
+    ++ one op.Loopne Db ∷ one op.Loope Db ∷ one op.Loop Db ∷ one op.Jcxz Db ∷ []
+    ++ two op.Input AL Ib ∷ two op.Input AX Ib ∷ two op.Output Ib AL ∷ two op.Output Ib AX ∷ []
+    ++ one op.Call Dw ∷ one op.Jmp Dw ∷ one op.JmpFar Ap ∷ one op.JmpShort Db ∷ []
     ++ two op.Input AL DX ∷ two op.Input AX DX ∷ two op.Output DX AL ∷ two op.Output DX AX ∷ []
     -- F0
     ++ Unlisted ∷ Unlisted ∷ Unlisted ∷ Unlisted ∷ bare op.Hlt ∷ bare op.Cmc ∷ Group 13 ∷ Group 14 ∷ []
@@ -151,19 +193,21 @@ entries =
 unfoldable pub entry_of : ℕ → Entry
 entry_of b = slice_index_or entries b Unlisted
 
--- what the reg field chooses
+-- the groups in the order of their first bytes: 80 81 82 83, 8C, 8E, 8F C6 C7, D0 D1 D2 D3, F6 F7, FE,
+-- FF; in each a row for the reg fields 0 to 7
 abbrev pub groups : List (List (Option Row))
 groups =
-    immediate Eb is.ByteValue ∷ immediate Ew is.WordValue ∷ immediate Eb is.ByteValue ∷ immediate Ew is.SignedValue
+    immediate Eb Ib ∷ immediate Ew Iw ∷ immediate Eb Ib ∷ immediate Ew Is
     ∷ (Some (row op.Mov Ew (S Es)) ∷ Some (row op.Mov Ew (S Cs)) ∷ Some (row op.Mov Ew (S Ss)) ∷ Some (row op.Mov Ew (S Ds)) ∷ None ∷ None ∷ None ∷ None ∷ [])
     ∷ (Some (row op.Mov (S Es) Ew) ∷ None ∷ Some (row op.Mov (S Ss) Ew) ∷ Some (row op.Mov (S Ds) Ew) ∷ None ∷ None ∷ None ∷ None ∷ [])
-    ∷ zeroth (row op.Pop Ew is.Nothing) ∷ zeroth (row op.Mov Eb is.ByteValue) ∷ zeroth (row op.Mov Ew is.WordValue)
-    ∷ shifts Eb is.One ∷ shifts Ew is.One ∷ shifts Eb CL ∷ shifts Ew CL
-    ∷ unary Eb is.ByteValue ∷ unary Ew is.WordValue
+    ∷ zeroth (row op.Pop Ew is.Nothing) ∷ zeroth (row op.Mov Eb Ib) ∷ zeroth (row op.Mov Ew Iw)
+    ∷ shifts Eb One ∷ shifts Ew One ∷ shifts Eb CL ∷ shifts Ew CL
+    ∷ unary Eb Ib ∷ unary Ew Iw
     ∷ (Some (row op.Inc Eb is.Nothing) ∷ Some (row op.Dec Eb is.Nothing) ∷ None ∷ None ∷ None ∷ None ∷ None ∷ None ∷ [])
-    ∷ (Some (row op.Inc Ew is.Nothing) ∷ Some (row op.Dec Ew is.Nothing) ∷ Some (row op.Call Ew is.Nothing) ∷ Some (row op.CallFar is.Memory is.Nothing) ∷ Some (row op.Jmp Ew is.Nothing) ∷ Some (row op.JmpFar is.Memory is.Nothing) ∷ Some (row op.Push Ew is.Nothing) ∷ None ∷ [])
+    ∷ (Some (row op.Inc Ew is.Nothing) ∷ Some (row op.Dec Ew is.Nothing) ∷ Some (row op.Call Ew is.Nothing) ∷ Some (row op.CallFar M is.Nothing) ∷ Some (row op.Jmp Ew is.Nothing) ∷ Some (row op.JmpFar M is.Nothing) ∷ Some (row op.Push Ew is.Nothing) ∷ None ∷ [])
     ∷ []
 
+-- the row that the reg field chooses in a group
 unfoldable pub member_of : ℕ → ℕ → Option Row
 member_of g r = slice_index_or (slice_index_or groups g []) r None
 

@@ -140,7 +140,7 @@ pub static ENTRIES: [Entry; 256] = [
     Entry::Plain(row!(Or AL, Ib)),
     Entry::Plain(row!(Or AX, Iw)),
     Entry::Plain(row!(Push CS)),
-    Entry::Unlisted,
+    Entry::Unlisted, // POP CS is no instruction.
     // 10
     Entry::Plain(row!(Adc Eb, Gb)),
     Entry::Plain(row!(Adc Ew, Gw)),
@@ -458,7 +458,7 @@ pub static GROUPS: [[Option<Row>; 8]; 17] = [
     // 8E
     [
         Some(row!(Mov ES, Ew)),
-        None,
+        None, // CS is no destination of MOV.
         Some(row!(Mov SS, Ew)),
         Some(row!(Mov DS, Ew)),
         None,
