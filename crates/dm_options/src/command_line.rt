@@ -1,5 +1,7 @@
 //! What a command line of `dm` asks for.
 
+use thiserror::Error;
+
 /// How a machine is made and what it runs.
 #[derive(Debug, Drop)]
 pub struct MachineOptions<'a> {
@@ -23,10 +25,12 @@ pub enum Options<'a> {
 }
 
 /// Why a command line gave no options.
-#[derive(Debug, Drop)]
+#[derive(Debug, Drop, Error)]
 pub enum OptionsError {
-    /// A wrong command line or a call for help; the error's text says which.
+    /// A wrong command line or a call for help, told by `clap`'s text.
+    #[error("{0}")]
     Usage(clap::Error),
     /// Memory was refused.
+    #[error("out of memory")]
     Memory,
 }
