@@ -4,3 +4,4 @@ pub mod Services
 pub mod Step
 pub mod Run
 pub mod Start
+pub mod Laws

@@ -1,5 +1,5 @@
 -- The machine as it starts, and as it is once the first program is loaded.
-use Rattle.std.specs.Prelude.{◌≡◌, ℕ, ◌<◌, ◌≤◌, ◌⊎◌, false, List, [], ◌∷◌, length, replicate, Option, Some, None}
+use Rattle.std.specs.Prelude.{◌≡◌, ℕ, ◌<◌, ◌⊎◌, false, List, [], replicate, Option, Some, None}
 use Rattle.dm_space.specs.Start.{IsStart}
 use Rattle.dm_space.specs.Memory.{Memory}
 use Rattle.dm_alu.specs.declared.flags.Flags.{Flags}
@@ -63,7 +63,3 @@ pub record IsBadProgram (s : State) (name : List ℕ) : Type 0 where
   pub file : List ℕ
   pub found : program_of s.programs name ≡ Some file
   pub bad : IsLoadable file → ⊥
-
--- variables of an environment, each of at least one byte and closed by a zero: at most 32,767 bytes
-pub record IsVariables (bytes : List ℕ) : Type 0 where
-  pub short : length bytes ≤ 0x7FFF

@@ -1,5 +1,5 @@
 -- The state of the machine, and what a step answers.
-use Rattle.std.specs.Prelude.{ℕ, ◌+◌, ◌-◌, ◌^◌, min, Bool, List, Option, Some, None}
+use Rattle.std.specs.Prelude.{ℕ, ◌+◌, ◌-◌, ◌^◌, ◌<◌, min, Bool, List, Option, Some, None}
 use Rattle.dm_space.specs.Memory.{Memory}
 use Rattle.dm_exec.specs.declared.cpu.Cpu.{Cpu}
 use Rattle.dm_exec.specs.Guest.{Guest, guest}
@@ -23,6 +23,10 @@ pub record State : Type 0 where
   pub programs : List (List ℕ × List ℕ)
   pub variables : List ℕ
   pub sizes : Sizes
+
+-- a program is loaded
+abbrev pub HasProgram : State → Type 0
+HasProgram s = 0 < s.processes.present
 
 pub record Answer : Type 0 where
   pub stop : Option Stop

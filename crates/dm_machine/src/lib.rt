@@ -2,6 +2,7 @@
 #![tactic(auto)]
 
 mod config;
+mod laws;
 mod loading;
 mod machine;
 mod services;
@@ -14,6 +15,10 @@ pub use dm_exec::{Cpu, Flags};
 pub use dm_out::{Failed, Out};
 pub use dm_proc::{AddError, Programs};
 pub use dm_space::Space;
+pub use laws::{a_step_has_one_answer, there_is_one_run};
 pub use loading::LoadError;
 pub use machine::{Machine, NewError};
 pub use stop::Stop;
+
+#[cfg(test)]
+mod tests;

@@ -2,6 +2,7 @@
 ghost use Rattle.std.specs.Prelude.{◌≡◌, ◌≤◌, ◌↔◌, ◌++◌, length, None, replicate, OnOk, OnErr, IsErrOf, All, ◌<◌};
 ghost use Rattle.dm_proc.specs.Programs.{program_of, IsName};
 ghost use Rattle.dm_machine.specs.Start.{IsArguments, IsLoaded, IsBadProgram};
+ghost use Rattle.dm_machine.specs.State.{HasProgram};
 
 use crate::machine::Machine;
 use arrayvec::ArrayVec;
@@ -49,6 +50,7 @@ impl Machine {
         requires name { IsName name.now }
         requires tail { length tail.now ≤ 126 }
         ensures ok { OnOk result (IsLoaded self.old name.now tail.now self.new) }
+        ensures loaded { OnOk result (HasProgram self.new) }
         ensures not_found { IsErrOf result LoadError.NotFound ↔ (program_of self.old.programs name.now ≡ None) }
         ensures bad_format { IsErrOf result LoadError.BadFormat ↔ IsBadProgram self.old name.now }
         ensures err { OnErr result (self.new ≡ self.old) }

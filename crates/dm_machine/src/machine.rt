@@ -1,7 +1,8 @@
 //! The machine and what it shows.
-ghost use Rattle.std.specs.Prelude.{◌≡◌, ◌≢◌, ◌↔◌, IsTrue, IfOk, IsErrOf};
+ghost use Rattle.std.specs.Prelude.{◌≡◌, ◌≤◌, ◌↔◌, IsTrue, IfOk, IsErrOf, length};
 ghost use Rattle.dm_space.specs.Memory.{linear, peek, poke};
-ghost use Rattle.dm_machine.specs.Start.{IsNew, IsTooLarge, IsVariables};
+ghost use Rattle.dm_machine.specs.Start.{IsNew, IsTooLarge};
+ghost use Rattle.dm_machine.specs.State.{HasProgram};
 
 use crate::config::{Config, Sizes};
 use dm_alu::Flags;
@@ -89,8 +90,7 @@ impl Machine {
     /// A machine as it starts: memory of zeros but for the interrupt vectors and the first arena
     /// header, A20 off, no output, no program loaded.
     ///
-    /// The variables of the configuration have at most 32,767 bytes with their zeros; each has at
-    /// least one byte and no zero in it.
+    /// The variables of the configuration have at most 32,767 bytes with their zeros.
     ///
     /// # Errors
     ///
@@ -102,7 +102,7 @@ impl Machine {
         programs: Programs,
         input: Vec<u8>,
     ) -> Result<Machine, NewError>
-        requires { IsVariables config.variables.items }
+        requires { length config.variables.items ≤ 0x7FFF }
         ensures ok { IfOk result (IsNew config.sizes config.variables.items programs input.items) }
         ensures too_large { IsErrOf result NewError.TooLarge ↔ IsTooLarge config.sizes }
     {
@@ -126,9 +126,9 @@ impl Machine {
 
     /// Whether a program is loaded.
     pub fn is_loaded(&self) -> bool
-        ensures { IsTrue result ↔ (self.now.processes.present ≢ 0) }
+        ensures { IsTrue result ↔ HasProgram self.now }
     {
-        self.procs.psp() != 0
+        self.procs.psp() > 0
     }
 
     /// How many steps were made; at 2^64 - 1 the count stays.
@@ -159,9 +159,10 @@ impl Machine {
         self.space.peek(segment, offset)
     }
 
-    /// Writes the byte at segment:offset. A write to ROM, or where there is no memory, is lost.
+    /// Writes the byte at segment:offset. A write to ROM, or where there is no memory, is lost. A
+    /// program is loaded.
     pub fn poke(&mut self, segment: u16, offset: u16, value: u8)
-        requires { self.old.processes.present ≢ 0 }
+        requires { HasProgram self.old }
         ensures { self.new ≡ record self.old { memory = poke self.old.memory (linear self.old.memory.a20 segment offset) value } }
     {
         self.space.poke(segment, offset, value);

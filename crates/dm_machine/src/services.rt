@@ -92,7 +92,8 @@ impl Machine {
     fn dos_call(&mut self) -> Option<Stop>
         requires alive { self.old.exited ≡ None }
         requires at { service_at self.old.cpu ≡ Some Service.Dos }
-        ensures { OrWants self.old (dos_call self.old) result self.new }
+        ensures answer { OrWants self.old (dos_call self.old) result self.new }
+        ensures program { self.new.processes ≡ self.old.processes }
     {
         match self.cpu.byte(ByteRegister::Ah) {
             0x09 => match self.print() {
@@ -114,7 +115,8 @@ impl Machine {
     pub(crate) fn serve(&mut self, service: Service) -> Option<Stop>
         requires alive { self.old.exited ≡ None }
         requires at { service_at self.old.cpu ≡ Some service }
-        ensures { OrWants self.old (served self.old service) result self.new }
+        ensures answer { OrWants self.old (served self.old service) result self.new }
+        ensures program { self.new.processes ≡ self.old.processes }
     {
         match service {
             Service::DivideError => self.end(0xFF),

@@ -1,5 +1,5 @@
 -- A store of named programs (this machine's own).
-use Rattle.std.specs.Prelude.{ℕ, ◌<◌, ◌≤◌, Bool, List, Option, All, find, is_some, length, option_map}
+use Rattle.std.specs.Prelude.{ℕ, ◌<◌, ◌≤◌, Bool, List, Option, Contains, find, is_some, length, option_map}
 use Rattle.std.specs.Str.{str_eq_ignore_ascii_case}
 
 -- the bytes of the first program with this name, ASCII case ignored
@@ -13,4 +13,4 @@ has_name store name = is_some (program_of store name)
 pub record IsName (name : List ℕ) : Type 0 where
   pub some : 0 < length name
   pub short : length name ≤ 64
-  pub no_zero : All (λ b. 0 < b) name
+  pub no_zero : ¬ Contains name 0

@@ -1,0 +1,153 @@
+//! The commands of `dm`, with their fault texts and statuses.
+ghost use Rattle.std.specs.Prelude.{◌≡◌, ◌≢◌, ◌⊎◌, [], IfOk, map};
+ghost use Rattle.clap.specs.Words.{fault_of};
+ghost use Rattle.dm_options.specs.Arguments.{dm_app};
+ghost use Rattle.dm_cli.specs.Names.{last_part};
+ghost use Rattle.dm_cli.specs.Statuses.{status_of};
+ghost use Rattle.dm_machine.specs.State.{HasProgram};
+
+use crate::fault::Fault;
+use crate::files::{Storage, read_file, read_whole};
+use crate::names::{names_file, program_name};
+use crate::output::run_program;
+use dm_machine::{Config, Machine, Programs, Sizes, Stop};
+use dm_options::command_line::{MachineOptions, Options, OptionsError};
+use dm_options::options;
+use dm_out::Sink;
+use std::alloc::Global;
+use std::convert::AsStr;
+use std::io::{Read, Write};
+
+/// The status of a fault.
+const FAULT: u8 = 126;
+
+/// The status of a stop that is no exit.
+const STOPPED: u8 = 125;
+
+/// The status of a wrong command line or a call for help.
+const USAGE: u8 = 2;
+
+/// The most bytes of a command tail.
+const MOST_TAIL_BYTES: usize = 126;
+
+/// The store of the files at `paths`, each under the last part of its path.
+fn read_programs<'a, F: Storage>(
+    alloc: Global,
+    storage: &F,
+    paths: &[&'a str],
+) -> Result<Programs, Fault<'a>>
+    ensures names { IfOk result (λ store. map (λ p. p.0) store ≡ map (λ path. last_part path.now) paths.now) }
+{
+    let mut programs = Programs::new(alloc);
+    for path in paths {
+        if !names_file(path) {
+            return Err(Fault::CannotRead(path));
+        }
+        let bytes = read_file(alloc, storage, path)?;
+        programs.add(alloc, program_name(path)?, bytes)?;
+    }
+    Ok(programs)
+}
+
+/// A machine with the first file loaded.
+fn loaded<'a, F: Storage, I: Read + Drop>(
+    alloc: Global,
+    storage: &F,
+    options: &MachineOptions<'a>,
+    input: I,
+) -> Result<Machine, Fault<'a>>
+    ensures { IfOk result (λ machine. HasProgram machine) }
+{
+    let programs = read_programs(alloc, storage, options.files.as_slice())?;
+    let input = read_whole(alloc, input, "standard input")?;
+    let config = Config {
+        sizes: Sizes {
+            ems_pages: options.ems_pages,
+            xms_kib: options.xms_kib,
+        },
+        variables: Vec::new(alloc),
+    };
+    let mut machine = Machine::new(alloc, config, programs, input)?;
+    let tail = options.tail.as_bytes();
+    if tail.len() > MOST_TAIL_BYTES {
+        return Err(Fault::TailTooLong);
+    }
+    let first = options.files.first().ok_or(Fault::NotFound)?;
+    machine.load(program_name(first)?, tail)?;
+    Ok(machine)
+}
+
+/// `dm run`: runs the first file, and writes its output at the end.
+fn run<'a, F: Storage, I: Read + Drop, O: Write>(
+    alloc: Global,
+    storage: &F,
+    options: &MachineOptions<'a>,
+    input: I,
+    output: &mut O,
+) -> Result<Stop, Fault<'a>> {
+    let mut machine = loaded(alloc, storage, options, input)?;
+    let mut sink = Sink::new(output);
+    run_program(&mut machine, options.steps, &mut sink).map_err(|_| Fault::CannotWrite(
+        "standard output",
+    ))
+}
+
+/// The word that tells a stop which is no exit.
+fn word_of(stop: Stop) -> &'static str {
+    match stop {
+        Stop::Steps => "steps",
+        Stop::Exited(_) => "exited",
+        Stop::Halted => "halted",
+        Stop::Unlisted => "unlisted",
+        Stop::InputEnded => "input ended",
+        Stop::Destroyed => "destroyed",
+        Stop::Memory => "memory",
+    }
+}
+
+/// Tells what a run came to, unless its program exited, and answers the status. That the telling fails changes nothing.
+pub(crate) fn report<E: Write>(outcome: Result<Stop, Fault<'_>>, error: &mut E) -> u8
+    ensures { result ≡ status_of outcome.entry }
+{
+    match outcome {
+        Ok(Stop::Exited(code)) => code,
+        Ok(stop) => {
+            let word = word_of(stop);
+            let _ = writeln!(error, "stopped: {word}");
+            STOPPED
+        }
+        Err(fault) => {
+            let _ = writeln!(error, "dm: {fault}");
+            FAULT
+        }
+    }
+}
+
+/// The program `dm` over what it is given: the words of its command line, of which the first is the program's name,
+/// where files are opened, standard input, standard output and standard error. It answers the status.
+///
+/// `dm run` exits with the program's code. At another stop it tells `stopped: ` and the stop, with status 125, and at
+/// a fault `dm: ` and the fault, with status 126. It finds them in this order: of each file in turn `cannot read NAME`,
+/// `input too long` (over 16 MiB), `name too long` (over 64 bytes) and `name twice`; of standard input the first two;
+/// `too large` (over 512 pages or 15360 KiB), `tail too long` (over 126 bytes), `not found`, `bad format`; `cannot
+/// write standard output`. `out of memory` stands where memory was refused. A wrong command line or a call for help
+/// is told by `clap`'s text, with status 2.
+pub fn dm_main<S: AsStr, F: Storage, I: Read + Drop, O: Write, E: Write>(
+    alloc: Global,
+    storage: &F,
+    words: &[S],
+    input: I,
+    output: &mut O,
+    error: &mut E,
+) -> u8
+    ensures wrong_line { fault_of dm_app (map S.text words.now) ≢ [] → (result ≡ 2) ⊎ (result ≡ 126) }
+{
+    match options(alloc, words) {
+        Ok(Options::Run(options)) => report(run(alloc, storage, &options, input, output), error),
+        Err(OptionsError::Usage(text)) => {
+            let _ = write!(error, "{text}");
+            USAGE
+        }
+        Err(OptionsError::Memory) => report(Err(Fault::OutOfMemory), error),
+    }
+}

@@ -1,0 +1,69 @@
+//! What can go wrong, as it is told on standard error.
+ghost use Rattle.std.specs.Prelude.{◌≡◌};
+
+use dm_machine::{AddError, LoadError, NewError};
+use thiserror::Error;
+
+/// A fault of a command. Its text is told after `dm: `, and the status is 126.
+#[derive(Clone, Copy, Debug, PartialEq, Eq, Error)]
+pub(crate) enum Fault<'a> {
+    #[error("cannot read {0}")]
+    CannotRead(&'a str),
+    #[error("cannot write {0}")]
+    CannotWrite(&'a str),
+    #[error("not found")]
+    NotFound,
+    #[error("bad format")]
+    BadFormat,
+    #[error("too large")]
+    TooLarge,
+    #[error("tail too long")]
+    TailTooLong,
+    #[error("name too long")]
+    NameTooLong,
+    #[error("name twice")]
+    NameTwice,
+    #[error("input too long")]
+    InputTooLong,
+    #[error("out of memory")]
+    OutOfMemory,
+}
+
+impl From<AddError> for Fault<'_> {
+    ghost use Rattle.dm_cli.specs.Faults.{add_fault};
+
+    ghost from_gives = { λ error fault. fault ≡ add_fault error };
+
+    fn from(error: AddError) -> Self {
+        match error {
+            AddError::Twice => Fault::NameTwice,
+            AddError::Memory => Fault::OutOfMemory,
+        }
+    }
+}
+
+impl From<NewError> for Fault<'_> {
+    ghost use Rattle.dm_cli.specs.Faults.{new_fault};
+
+    ghost from_gives = { λ error fault. fault ≡ new_fault error };
+
+    fn from(error: NewError) -> Self {
+        match error {
+            NewError::TooLarge => Fault::TooLarge,
+            NewError::Memory => Fault::OutOfMemory,
+        }
+    }
+}
+
+impl From<LoadError> for Fault<'_> {
+    ghost use Rattle.dm_cli.specs.Faults.{load_fault};
+
+    ghost from_gives = { λ error fault. fault ≡ load_fault error };
+
+    fn from(error: LoadError) -> Self {
+        match error {
+            LoadError::NotFound => Fault::NotFound,
+            LoadError::BadFormat => Fault::BadFormat,
+        }
+    }
+}

@@ -1,0 +1,76 @@
+//! Reading whole files and standard input.
+ghost use Rattle.std.specs.Prelude.{◌≡◌, ◌<◌, ◌≤◌, ◌⊎◌, IfErr, IfOk, IfSome, length};
+
+use crate::fault::Fault;
+use std::alloc::Global;
+use std::io::Read;
+use std::rt::Files;
+use std::{fs, io};
+
+/// The most bytes that a file or standard input may have: 16 MiB.
+pub(crate) const MOST_BYTES: usize = 16 * 1024 * 1024;
+
+/// Where files are opened by their paths.
+pub trait Storage {
+    /// An open file.
+    type File: Read + Drop;
+
+    /// Opens a file for reading.
+    fn open(&self, path: &str) -> io::Result<Self::File>;
+}
+
+/// The files of the system.
+#[derive(Drop)]
+pub struct System<'a, R>(pub &'a R);
+
+impl<R: Files> Storage for System<'_, R> {
+    type File = R::File;
+
+    fn open(&self, path: &str) -> io::Result<R::File> {
+        fs::open(self.0, path)
+    }
+}
+
+/// The fault of an input that was not opened or not read.
+fn read_fault<'a>(error: &io::Error, name: &'a str) -> Fault<'a>
+    ensures { (result ≡ Fault.CannotRead name.entry) ⊎ (result ≡ Fault.OutOfMemory) }
+{
+    match error.kind() {
+        io::ErrorKind::OutOfMemory => Fault::OutOfMemory,
+        _ => Fault::CannotRead(name),
+    }
+}
+
+/// All bytes up to the reader's end, of which there may be 16 MiB. It reads no more than one byte past those.
+///
+/// `CannotRead` with the input's name where a read failed, `InputTooLong` where there are more bytes, `OutOfMemory`.
+pub(crate) fn read_whole<'a, R: Read + Drop>(
+    alloc: Global,
+    reader: R,
+    name: &'a str,
+) -> Result<Vec<u8>, Fault<'a>>
+    ensures bytes { IfOk result (λ v. IfSome (R.remaining reader) (λ xs. v.items ≡ xs)) }
+    ensures short { IfOk result (λ v. length v.items ≤ MOST_BYTES) }
+    ensures faults { IfErr result (λ e. (e ≡ Fault.CannotRead name.entry) ⊎ (e ≡ Fault.OutOfMemory)
+        ⊎ ((e ≡ Fault.InputTooLong) × IfSome (R.remaining reader) (λ xs. MOST_BYTES < length xs))) }
+{
+    let mut bytes = Vec::new(alloc);
+    let mut limited = reader.take(MOST_BYTES as u64 + 1);
+    match limited.read_to_end(&mut bytes) {
+        Ok(count) if count <= MOST_BYTES => Ok(bytes),
+        Ok(_) => Err(Fault::InputTooLong),
+        Err(error) => Err(read_fault(&error, name)),
+    }
+}
+
+/// All bytes of the file at `path`, of which there may be 16 MiB.
+pub(crate) fn read_file<'a, F: Storage>(
+    alloc: Global,
+    storage: &F,
+    path: &'a str,
+) -> Result<Vec<u8>, Fault<'a>> {
+    match storage.open(path) {
+        Ok(file) => read_whole(alloc, file, path),
+        Err(error) => Err(read_fault(&error, path)),
+    }
+}

@@ -1,0 +1,15 @@
+//! The program `dm`, over the files, readers and writers that it is given.
+#![tactic(auto)]
+
+mod commands;
+mod fault;
+mod files;
+mod names;
+mod output;
+#[cfg(test)]
+mod tests;
+
+pub use commands::dm_main;
+pub use dm_options::{command_line, options};
+pub use files::{Storage, System};
+pub use output::{WriteFault, run_program};

@@ -1,0 +1,42 @@
+//! Running a program and writing what it put out.
+ghost use Rattle.std.specs.Prelude.{◌≡◌, IfOk, OnErr, OnOk};
+ghost use Rattle.std.specs.Io.KnownBytes.{Appends};
+ghost use Rattle.dm_out.specs.Out.{AppendsPart, HasFailed};
+ghost use Rattle.dm_machine.specs.Run.{IsRun};
+ghost use Rattle.dm_machine.specs.State.{HasProgram};
+ghost use Rattle.dm_machine.specs.declared.stop.Stop.{Stop};
+
+use dm_machine::{Machine, Out, Stop};
+use dm_out::write_all;
+use thiserror::Error;
+
+/// The output was not written whole, for a write failed or took nothing.
+#[derive(Clone, Copy, Debug, PartialEq, Eq, Error)]
+#[error("a write failed")]
+pub struct WriteFault;
+
+/// Makes up to `steps` steps, and then writes the machine's whole output as it then stands, also at a stop that is no
+/// exit. The answer is the stop. A program is loaded.
+///
+/// # Errors
+///
+/// `WriteFault` where a write failed or took nothing. The run's steps stand, and a first part of the output was
+/// written.
+pub fn run_program<W: Out>(
+    machine: &mut Machine,
+    steps: u64,
+    out: &mut W,
+) -> Result<Stop, WriteFault>
+    requires { HasProgram machine.old }
+    ensures run { IfOk result (λ stop. IsRun machine.old steps stop machine.new) }
+    ensures ok { OnOk result (Appends (W.taken out.old) (W.taken out.new) machine.new.console.output) }
+    ensures ran { OnErr result ((stop : Stop) × IsRun machine.old steps stop machine.new) }
+    ensures err { OnErr result (HasFailed (W.failures out.old) (W.failures out.new)) }
+    ensures part { OnErr result (AppendsPart (W.taken out.old) (W.taken out.new) machine.new.console.output) }
+{
+    let stop = machine.run(steps);
+    match write_all(out, machine.output()) {
+        Ok(()) => Ok(stop),
+        Err(_) => Err(WriteFault),
+    }
+}

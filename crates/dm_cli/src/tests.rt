@@ -1,0 +1,327 @@
+//! The program over files, readers and writers in memory.
+use crate::commands::report;
+use crate::{Storage, dm_main};
+use dm_machine::Stop;
+use std::io;
+use std::io::{Read, Write};
+use std::test::Fail;
+
+/// Prints `hi` and ends with code 0, in seven steps.
+const HELLO: [u8; 15] = [
+    0xB4, 0x09, 0xBA, 0x0C, 0x01, 0xCD, 0x21, 0xB8, 0x00, 0x4C, 0xCD, 0x21, 0x68, 0x69, 0x24,
+];
+
+/// Ends with code 5.
+const FIVE: [u8; 5] = [0xB8, 0x05, 0x4C, 0xCD, 0x21];
+
+/// What reads give once the bytes are at their end.
+#[derive(Clone, Copy)]
+enum Rest {
+    End,
+    Fault,
+    Zeros,
+}
+
+/// Some bytes, and what comes behind them.
+#[derive(Clone, Copy)]
+struct Source<'a>(&'a [u8], Rest);
+
+impl Read for Source<'_> {
+    fn read(&mut self, buf: &mut [u8]) -> io::Result<usize> {
+        if !self.0.is_empty() {
+            return self.0.read(buf);
+        }
+        match self.1 {
+            Rest::End => Ok(0),
+            Rest::Fault => Err(io::Error::from(io::ErrorKind::BrokenPipe)),
+            Rest::Zeros => {
+                buf.fill(0);
+                Ok(buf.len())
+            }
+        }
+    }
+}
+
+/// Files by their paths.
+#[derive(Drop)]
+struct Files<'a>(&'a [(&'a str, Source<'a>)]);
+
+impl<'a> Storage for Files<'a> {
+    type File = Source<'a>;
+
+    fn open(&self, path: &str) -> io::Result<Source<'a>> {
+        for (known, source) in self.0 {
+            if *known == path {
+                return Ok(*source);
+            }
+        }
+        Err(io::Error::from(io::ErrorKind::NotFound))
+    }
+}
+
+#[test]
+fn tells_each_fault_in_its_order(rt: HostRuntime) -> Result<(), Fail> {
+    let ends = Rest::End;
+    let hello = HELLO.as_slice();
+    let files = [
+        ("hi.com", Source(hello, ends)),
+        ("d/HI.COM", Source(hello, ends)),
+        ("d/five.com", Source(FIVE.as_slice(), ends)),
+        ("0f.com", Source(b"\x0F".as_slice(), ends)),
+        ("empty.com", Source(b"".as_slice(), ends)),
+        ("mz.exe", Source(b"MZ".as_slice(), ends)),
+        ("cut.com", Source(hello, Rest::Fault)),
+        ("endless.com", Source(hello, Rest::Zeros)),
+        ("d/", Source(hello, ends)),
+        ("nul\0.com", Source(hello, ends)),
+        (
+            "aaaaaaaaaaaaaaaaaaaaaaaaaaaaaaaaaaaaaaaaaaaaaaaaaaaaaaaaaaaaa.com",
+            Source(hello, ends),
+        ),
+    ];
+    let cases = [
+        ("dm run hi.com", ends, 0, "hi", ""),
+        ("dm run d/five.com hi.com", ends, 5, "", ""),
+        (
+            "dm run --steps=6 hi.com",
+            ends,
+            125,
+            "hi",
+            "stopped: steps\n",
+        ),
+        ("dm run --steps=7 hi.com", ends, 0, "hi", ""),
+        ("dm run 0f.com", ends, 125, "", "stopped: unlisted\n"),
+        (
+            "dm run empty.com --steps=0",
+            ends,
+            125,
+            "",
+            "stopped: steps\n",
+        ),
+        (
+            "dm run no.com hi.com d/HI.COM",
+            ends,
+            126,
+            "",
+            "dm: cannot read no.com\n",
+        ),
+        (
+            "dm run hi.com d/HI.COM no.com",
+            ends,
+            126,
+            "",
+            "dm: name twice\n",
+        ),
+        (
+            "dm run hi.com cut.com",
+            ends,
+            126,
+            "",
+            "dm: cannot read cut.com\n",
+        ),
+        ("dm run d/", ends, 126, "", "dm: cannot read d/\n"),
+        (
+            "dm run nul\0.com",
+            ends,
+            126,
+            "",
+            "dm: cannot read nul\0.com\n",
+        ),
+        (
+            "dm run endless.com no.com",
+            ends,
+            126,
+            "",
+            "dm: input too long\n",
+        ),
+        (
+            "dm run aaaaaaaaaaaaaaaaaaaaaaaaaaaaaaaaaaaaaaaaaaaaaaaaaaaaaaaaaaaaa.com no.com",
+            ends,
+            126,
+            "",
+            "dm: name too long\n",
+        ),
+        (
+            "dm run hi.com no.com",
+            Rest::Zeros,
+            126,
+            "",
+            "dm: cannot read no.com\n",
+        ),
+        (
+            "dm run --ems=513 hi.com",
+            Rest::Zeros,
+            126,
+            "",
+            "dm: input too long\n",
+        ),
+        (
+            "dm run --ems=513 hi.com",
+            Rest::Fault,
+            126,
+            "",
+            "dm: cannot read standard input\n",
+        ),
+        (
+            "dm run --ems=513 --tail=xxxxxxxxxxxxxxxxxxxxxxxxxxxxxxxxxxxxxxxxxxxxxxxxxxxxxxxxxxxxxxxxxxxxxxxxxxxxxxxxxxxxxxxxxxxxxxxxxxxxxxxxxxxxxxxxxxxxxxxxxxxxxxx hi.com",
+            ends,
+            126,
+            "",
+            "dm: too large\n",
+        ),
+        (
+            "dm run --xms=15361 hi.com",
+            ends,
+            126,
+            "",
+            "dm: too large\n",
+        ),
+        (
+            "dm run --tail=xxxxxxxxxxxxxxxxxxxxxxxxxxxxxxxxxxxxxxxxxxxxxxxxxxxxxxxxxxxxxxxxxxxxxxxxxxxxxxxxxxxxxxxxxxxxxxxxxxxxxxxxxxxxxxxxxxxxxxxxxxxxxxx mz.exe",
+            ends,
+            126,
+            "",
+            "dm: tail too long\n",
+        ),
+        (
+            "dm run --ems=512 --xms=15360 mz.exe",
+            ends,
+            126,
+            "",
+            "dm: bad format\n",
+        ),
+    ];
+    for (line, rest, status, put_out, told) in cases {
+        let words: Vec<&str> = line.split(' ').collect(rt.alloc())?;
+        let mut output = Vec::new(rt.alloc());
+        let mut error = Vec::new(rt.alloc());
+        let got = dm_main(
+            rt.alloc(),
+            &Files(files.as_slice()),
+            words.as_slice(),
+            Source(b"typed".as_slice(), rest),
+            &mut output,
+            &mut error,
+        );
+        assert_eq!(rt; error.as_slice(), told.as_bytes(), "{line}");
+        assert_eq!(rt; output.as_slice(), put_out.as_bytes(), "{line}");
+        assert_eq!(rt; got, status, "{line}");
+    }
+    Ok(())
+}
+
+#[test]
+fn tells_each_stop(rt: HostRuntime) -> Result<(), Fail> {
+    let cases = [
+        (Stop::Steps, 125, "stopped: steps\n"),
+        (Stop::Exited(3), 3, ""),
+        (Stop::Halted, 125, "stopped: halted\n"),
+        (Stop::Unlisted, 125, "stopped: unlisted\n"),
+        (Stop::InputEnded, 125, "stopped: input ended\n"),
+        (Stop::Destroyed, 125, "stopped: destroyed\n"),
+        (Stop::Memory, 125, "stopped: memory\n"),
+    ];
+    for (stop, status, told) in cases {
+        let mut error = Vec::new(rt.alloc());
+        assert_eq!(rt; report(Ok(stop), &mut error), status, "{told}");
+        assert_eq!(rt; error.as_slice(), told.as_bytes());
+    }
+    Ok(())
+}
+
+/// The text that `clap` begins with, its status, and nothing on standard output.
+#[test]
+fn tells_usage_and_help(rt: HostRuntime) -> Result<(), Fail> {
+    let cases = [
+        ("dm", "error: 'dm' requires a subcommand"),
+        ("dm fly", "error: unrecognized subcommand 'fly'"),
+        (
+            "dm run",
+            "error: the following required arguments were not provided",
+        ),
+        (
+            "dm run --ems=-1 hi.com",
+            "error: invalid value '-1' for '--ems <PAGES>'",
+        ),
+        ("dm help", "a DOS real-mode machine"),
+        ("dm run --help", "run a program"),
+    ];
+    for (line, told) in cases {
+        let words: Vec<&str> = line.split(' ').collect(rt.alloc())?;
+        let mut output = Vec::new(rt.alloc());
+        let mut error = Vec::new(rt.alloc());
+        let got = dm_main(
+            rt.alloc(),
+            &Files([].as_slice()),
+            words.as_slice(),
+            Source(b"".as_slice(), Rest::End),
+            &mut output,
+            &mut error,
+        );
+        assert_eq!(rt; got, 2, "{line}");
+        assert!(rt; output.is_empty(), "{line}");
+        assert!(rt; error.as_slice().starts_with(told.as_bytes()), "{line}");
+    }
+    Ok(())
+}
+
+/// Takes one byte a write, and fails or takes nothing once `left` writes were made.
+#[derive(Drop)]
+struct Slow {
+    taken: Vec<u8>,
+    left: usize,
+    refuses: bool,
+}
+
+impl Write for Slow {
+    fn write(&mut self, buf: &[u8]) -> io::Result<usize> {
+        let [first, ..] = buf else {
+            return Ok(0);
+        };
+        if self.left == 0 {
+            return match self.refuses {
+                true => Ok(0),
+                false => Err(io::Error::from(io::ErrorKind::BrokenPipe)),
+            };
+        }
+        self.left -= 1;
+        self.taken.push(*first)?;
+        Ok(1)
+    }
+
+    fn flush(&mut self) -> io::Result<()> {
+        Ok(())
+    }
+}
+
+#[test]
+fn tells_failing_writes(rt: HostRuntime) -> Result<(), Fail> {
+    let files = [("hi.com", Source(HELLO.as_slice(), Rest::End))];
+    let words = ["dm", "run", "hi.com"];
+    for left in 0..4usize {
+        for refuses in [false, true] {
+            let mut output = Slow {
+                taken: Vec::new(rt.alloc()),
+                left,
+                refuses,
+            };
+            let mut error = Vec::new(rt.alloc());
+            let got = dm_main(
+                rt.alloc(),
+                &Files(files.as_slice()),
+                words.as_slice(),
+                Source(b"".as_slice(), Rest::End),
+                &mut output,
+                &mut error,
+            );
+            let (status, told) = match left {
+                0 | 1 => (126, "dm: cannot write standard output\n"),
+                _ => (0, ""),
+            };
+            assert_eq!(rt; got, status, "after {left} writes");
+            assert_eq!(rt; error.as_slice(), told.as_bytes(), "after {left} writes");
+            assert_eq!(rt; Some(output.taken.as_slice()), b"hi".get(..left.min(2)));
+        }
+    }
+    Ok(())
+}

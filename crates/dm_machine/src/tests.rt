@@ -1,0 +1,202 @@
+//! Whole programs, from their bytes to their output.
+ghost use Rattle.std.specs.Prelude.{◌≡◌, IfOk};
+
+use crate::{AddError, Config, LoadError, Machine, NewError, Programs, Sizes, Stop};
+use std::alloc::{AllocError, Global};
+use std::process::Abort;
+use std::test::Fail;
+
+/// MOV AH,9; MOV DX,10Ch; INT 21h; MOV AX,4C00h; INT 21h; `hi$`
+const HELLO: [u8; 15] = [
+    0xB4, 0x09, 0xBA, 0x0C, 0x01, 0xCD, 0x21, 0xB8, 0x00, 0x4C, 0xCD, 0x21, 0x68, 0x69, 0x24,
+];
+
+/// A machine of so many pages and KiB, with one program in its store and no input.
+fn sized(alloc: Global, sizes: Sizes, file: &[u8]) -> Result<Result<Machine, NewError>, Fail>
+    ensures { IfOk result (λ r. IfOk r (λ m. m.processes.present ≡ 0)) }
+{
+    let mut programs = Programs::new(alloc);
+    programs.add(alloc, b"HI.COM", Vec::from_slice(alloc, file)?)?;
+    let config = Config {
+        sizes,
+        variables: Vec::new(alloc),
+    };
+    Ok(Machine::new(alloc, config, programs, Vec::new(alloc)))
+}
+
+/// The same with 64 pages and 1,024 KiB.
+fn machine(alloc: Global, file: &[u8]) -> Result<Machine, Fail>
+    ensures { IfOk result (λ m. m.processes.present ≡ 0) }
+{
+    let sizes = Sizes {
+        ems_pages: 64,
+        xms_kib: 1024,
+    };
+    Ok(sized(alloc, sizes, file)??)
+}
+
+/// As many NOPs as asked for. (A function of its own, so that no proof sees so long a list.)
+fn nops(alloc: Global, count: usize) -> Result<Vec<u8>, AllocError> {
+    vec![in alloc; 0x90; count]
+}
+
+/// Compares the bytes from a segment's start on.
+fn shows(rt: &impl Abort, machine: &Machine, segment: u16, bytes: &[u8]) {
+    for (at, byte) in bytes.iter().enumerate() {
+        assert_eq!(rt;
+            machine.peek(segment, (at % 0x1_0000) as u16),
+            *byte,
+            "byte {at} of segment {segment:04X}"
+        );
+    }
+}
+
+#[test]
+fn hello_prints_hi(rt: HostRuntime) -> Result<(), Fail> {
+    let mut machine = machine(rt.alloc(), &HELLO)?;
+    machine.load(b"hi.com", b"")?;
+    assert_eq!(rt; machine.run(0), Stop::Steps);
+    assert_eq!(rt; machine.run(6), Stop::Steps);
+    assert_eq!(rt; machine.steps(), 6);
+    assert_eq!(rt; machine.run(100), Stop::Exited(0));
+    assert_eq!(rt; machine.steps(), 7);
+    assert_eq!(rt; machine.run(5), Stop::Exited(0));
+    assert_eq!(rt; machine.steps(), 7);
+    assert_eq!(rt; machine.output(), b"hi".as_slice());
+    Ok(())
+}
+
+#[test]
+fn hello_is_loaded_byte_by_byte(rt: HostRuntime) -> Result<(), Fail> {
+    let mut machine = machine(rt.alloc(), &HELLO)?;
+    machine.load(b"HI.COM", b" a")?;
+    shows(&rt, &machine, 0x0100, &[b'M', 0x03, 0x01, 0x01, 0x00]);
+    shows(
+        &rt,
+        &machine,
+        0x0101,
+        &[0, 0, 1, 0, b'H', b'I', b'.', b'C', b'O', b'M', 0, 0],
+    );
+    shows(&rt, &machine, 0x0102, &[b'Z', 0x03, 0x01, 0xFD, 0x9E]);
+    let prefix = [
+        0xCD, 0x20, 0x00, 0xA0, 0, 0, 0, 0, 0, 0, 0x88, 0x00, 0x00, 0xF0, 0x8C, 0x00, 0x00, 0xF0,
+        0x90, 0x00, 0x00, 0xF0, 0, 0,
+    ];
+    shows(&rt, &machine, 0x0103, &prefix);
+    assert_eq!(rt; machine.peek(0x0103, 0x2C), 0x01);
+    assert_eq!(rt; machine.peek(0x0103, 0x2D), 0x01);
+    shows(&rt, &machine, 0x0108, &[0xCD, 0x21, 0xCB, 0]);
+    shows(&rt, &machine, 0x010B, &[2, b' ', b'a', 0x0D, 0]);
+    shows(&rt, &machine, 0x0113, &HELLO);
+    let cpu = machine.cpu();
+    assert_eq!(rt; [cpu.cs, cpu.ds, cpu.es, cpu.ss], [0x0103; 4]);
+    assert_eq!(rt; [cpu.ip, cpu.sp], [0x0100, 0xFFFE]);
+    assert_eq!(rt; cpu.flags.to_word(), 0xF202);
+    assert_eq!(rt; machine.peek(0x0103, 0xFFFE), 0);
+    Ok(())
+}
+
+#[test]
+fn which_files_load(rt: HostRuntime) -> Result<(), Fail> {
+    let alloc = rt.alloc();
+    let longer = nops(alloc, 65_279)?;
+    let longest = nops(alloc, 65_278)?;
+    let rows = [
+        (longer.as_slice(), "HI.COM", Err(LoadError::BadFormat)),
+        (b"MZ".as_slice(), "HI.COM", Err(LoadError::BadFormat)),
+        (HELLO.as_slice(), "NO.COM", Err(LoadError::NotFound)),
+        (longest.as_slice(), "HI.COM", Ok(())),
+        (b"".as_slice(), "hi.com", Ok(())),
+    ];
+    for (file, name, answer) in rows {
+        let mut machine = machine(alloc, file)?;
+        assert_eq!(rt; machine.load(name.as_bytes(), b""), answer);
+        assert_eq!(rt; machine.is_loaded(), answer.is_ok());
+        assert_eq!(rt; machine.cpu().sp, if answer.is_ok() { 0xFFFE } else { 0 });
+    }
+    Ok(())
+}
+
+#[test]
+fn sizes_too_large(rt: HostRuntime) -> Result<(), Fail> {
+    for (ems_pages, xms_kib, fits) in [
+        (513, 0, false),
+        (0, 15_361, false),
+        (0, 0, true),
+        (512, 15_360, true),
+    ] {
+        match sized(rt.alloc(), Sizes { ems_pages, xms_kib }, &HELLO)? {
+            Ok(_) => assert!(rt; fits),
+            Err(refusal) => {
+                assert_eq!(rt; refusal, NewError::TooLarge);
+                assert!(rt; !fits);
+            }
+        }
+    }
+    Ok(())
+}
+
+#[test]
+fn store_takes_a_name_once(rt: HostRuntime) -> Result<(), Fail> {
+    let mut programs = Programs::new(rt.alloc());
+    assert_eq!(rt;
+        programs.add(rt.alloc(), b"HI.COM", Vec::new(rt.alloc())),
+        Ok(())
+    );
+    assert_eq!(rt;
+        programs.add(rt.alloc(), b"hi.com", Vec::new(rt.alloc())),
+        Err(AddError::Twice)
+    );
+    Ok(())
+}
+
+#[test]
+fn stops_and_services(rt: HostRuntime) -> Result<(), Fail> {
+    // a program, how it stops, and after how many steps
+    let rows: [(&[u8], Stop, u64); 7] = [
+        (&[0x0F], Stop::Unlisted, 0),
+        (&[0xF4], Stop::Halted, 0),
+        (&[0xCD, 0x20], Stop::Exited(0), 2),
+        (&[0xCD, 0x00], Stop::Exited(0xFF), 2),
+        (&[0xB8, 0x07, 0x4C, 0xCD, 0x21], Stop::Exited(7), 3),
+        (&[0xB4, 0xFF, 0xCD, 0x21, 0x0F], Stop::Unlisted, 3),
+        (
+            &[0xBA, 0x00, 0x01, 0xB4, 0x09, 0xCD, 0x21, 0xF4],
+            Stop::Halted,
+            4,
+        ),
+    ];
+    for (file, stop, steps) in rows {
+        let mut machine = machine(rt.alloc(), file)?;
+        machine.load(b"HI.COM", b"")?;
+        assert_eq!(rt; machine.run(1000), stop);
+        assert_eq!(rt; machine.steps(), steps);
+        assert_eq!(rt; machine.run(1000), stop);
+        assert_eq!(rt; machine.steps(), steps);
+    }
+    Ok(())
+}
+
+#[test]
+fn unknown_function_answers_error_1(rt: HostRuntime) -> Result<(), Fail> {
+    let mut machine = machine(rt.alloc(), &[0xB4, 0xFF, 0xCD, 0x21])?;
+    machine.load(b"HI.COM", b"")?;
+    assert_eq!(rt; machine.run(3), Stop::Steps);
+    let cpu = machine.cpu();
+    assert_eq!(rt;
+        [cpu.ax, cpu.cs, cpu.ip, cpu.sp],
+        [1, 0x0103, 0x0104, 0xFFFE]
+    );
+    assert!(rt; cpu.flags.carry);
+    Ok(())
+}
+
+#[test]
+fn text_with_no_dollar_is_a_whole_segment(rt: HostRuntime) -> Result<(), Fail> {
+    let mut machine = machine(rt.alloc(), &[0xB4, 0x09, 0xCD, 0x21])?;
+    machine.load(b"HI.COM", b"")?;
+    assert_eq!(rt; machine.run(3), Stop::Steps);
+    assert_eq!(rt; machine.output().len(), 65_536);
+    assert_eq!(rt; machine.output().first(), Some(&0xCD));
+    Ok(())
+}
