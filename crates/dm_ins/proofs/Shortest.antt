@@ -1,5 +1,5 @@
 -- The kept prefixes and the least row's bytes are the least spelling.
-use Rattle.std.proofs.Common.{◌≡◌, ℕ, ◌+◌, ◌*◌, ◌/◌, ◌%◌, ◌^◌, ◌<◌, ◌≤◌, Bool, true, false, List, ◌++◌, length, Option, Some, None, refl, sym, subst, arith, inl, inr}
+use Rattle.std.proofs.Common.{◌≡◌, ℕ, ◌^◌, ◌<◌, ◌≤◌, Bool, true, false, List, ◌++◌, length, Option, Some, None, refl, sym, subst, arith, inl, inr}
 use Rattle.std.specs.Prelude.{map, IfSome}
 use Rattle.std.proofs.lemmas.Bool.{cases_lt, lt-ltb, le-ltb}
 use Rattle.dm_ins.specs.declared.operand.Width.{Width}
@@ -20,7 +20,7 @@ use Rattle.dm_ins.specs.declared.table.Entry.TheVariants.{Unlisted, Plain, Group
 use Rattle.dm_ins.specs.Table.{entry_of}
 use Rattle.dm_ins.specs.Spelling.{extended, SpellsMemory, Fills, has_fields, MaySpellFields, HasRow, SpellsAction, prefix_byte, no_prefix, kept, SpellsPrefixed, register, at_place}
 use Rattle.dm_ins.specs.Order.{before}
-use Rattle.dm_ins.specs.Encoding.{OperandFits, Best, CandidateAt, choice_at, prefix_list, segment_list, lock_list, repeat_list}
+use Rattle.dm_ins.specs.Encoding.{OperandFits, Best, CandidateAt, prefix_list, segment_list, lock_list, repeat_list}
 use Rattle.dm_ins.proofs.Order.{not_longer, not_shorter, not_before_append}
 use Rattle.dm_ins.proofs.KeptPrefixes.{prefixes_least}
 use Rattle.dm_ins.proofs.Demands.{AtMost}
@@ -120,8 +120,15 @@ candidate_of : (a : Action) (d : List ℕ) → SpellsAction a d → Candidate a 
 candidate_of a d s =
     let l = action_least a d s in
     let f = action_fits a d s in
-    record { b = l.b; g = l.g; b_fits = l.b_fits; g_fits = l.g_fits; bytes = l.c; least = l.least;
-      is_candidate = record { choice = l.choice; is_choice = l.is_choice; mnemonic = l.mnemonic; is_bytes = l.is_bytes; first_fits = f.0; second_fits = f.1 } }
+    record {
+      b = l.b;
+      g = l.g;
+      b_fits = l.b_fits;
+      g_fits = l.g_fits;
+      bytes = l.c;
+      least = l.least;
+      is_candidate = record { choice = l.choice; is_choice = l.is_choice; mnemonic = l.mnemonic; is_bytes = l.is_bytes; first_fits = f.0; second_fits = f.1 };
+    }
 
 candidate_not_before : (a : Action) (c d : List ℕ) → Best 2048 a (Some c) → SpellsAction a d → before d c ≡ false
 candidate_not_before a c d best s =

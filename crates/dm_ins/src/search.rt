@@ -104,7 +104,11 @@ fn better(best: Option<ArrayVec<u8, 12>>, new: Option<ArrayVec<u8, 12>>) -> Opti
 }
 
 /// The least of the best bytes so far and those of the rows under one more first byte.
-fn better_under(opcode: u8, action: &Action, best: Option<ArrayVec<u8, 12>>) -> Option<ArrayVec<u8, 12>>
+fn better_under(
+    opcode: u8,
+    action: &Action,
+    best: Option<ArrayVec<u8, 12>>,
+) -> Option<ArrayVec<u8, 12>>
     requires { Best (8 * opcode) action.now (seen_bytes best) }
     ensures { Best (8 * opcode + 8) action.now (seen_bytes result) }
 {

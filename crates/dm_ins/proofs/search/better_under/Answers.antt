@@ -8,4 +8,4 @@ loop-register-init c = best_at (8 * c.args.opcode) (8 * c.args.opcode + 0) c.arg
 pub loop-register-preserved : goal.loop-register-preserved
 loop-register-preserved c =
     rw c.better-best.ensures (best_at (8 * c.args.opcode + c.loop-register.register + 1) (8 * c.args.opcode + (c.loop-register.register + 1)) c.args.action.now _ (omega arith)
-      (best_more c.args.action.now c.args.opcode c.loop-register.register (omega arith) _ _ c.loop-register.invariant c.candidate.ensures.found c.candidate.ensures.none))
+    (best_more c.args.action.now c.args.opcode c.loop-register.register (omega arith) _ _ c.loop-register.invariant c.candidate.ensures.found c.candidate.ensures.none))
