@@ -15,7 +15,9 @@ pub fn decode(bytes: &[u8; 16]) -> Option<(Ins, u8)>
     match prefixed_of(bytes) {
         None => None,
         Some(((prefixes, action), rest)) => {
-            Some((Ins { prefixes, action }, (bytes.len() - rest.len()) as u8))
+            let ins = Ins { prefixes, action };
+            let length = (bytes.len() - rest.len()) as u8;
+            Some((ins, length))
         }
     }
 }

@@ -9,6 +9,7 @@ use crate::rows::action_of;
 use dm_ins::prefix::Prefix;
 use dm_ins::{Action, Prefixes, Repeat, SegmentRegister};
 
+/// The prefix that the byte is, if it is one.
 #[tactic(auto, unfolding(crate::specs::Reading::prefix_of))]
 fn as_prefix(byte: u8) -> Option<Prefix>
     ensures { result ≡ prefix_of byte }
@@ -56,12 +57,7 @@ fn strip(prefixes: Prefixes, bytes: &[u8]) -> (Prefixes, &[u8])
 pub fn prefixed_of(bytes: &[u8]) -> Option<((Prefixes, Action), &[u8])>
     ensures { seen result ≡ prefixed_at bytes.now }
 {
-    let none = Prefixes {
-        segment: None,
-        lock: false,
-        repeat: None,
-    };
-    let (prefixes, rest) = strip(none, bytes);
+    let (prefixes, rest) = strip(Prefixes::NONE, bytes);
     let (prefixes, rest) = strip(prefixes, rest);
     let (prefixes, rest) = strip(prefixes, rest);
     let (prefixes, rest) = strip(prefixes, rest);

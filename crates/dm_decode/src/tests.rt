@@ -5,12 +5,6 @@ use dm_ins::{
 };
 use std::process::Abort;
 
-static NONE: Prefixes = Prefixes {
-    segment: None,
-    lock: false,
-    repeat: None,
-};
-
 static ARITHMETIC: [Mnemonic; 8] = [
     Mnemonic::Add,
     Mnemonic::Or,
@@ -303,12 +297,12 @@ fn operands_stand_in_the_order_of_their_row(rt: HostRuntime) {
     let dx = Operand::WordRegister(WordRegister::Dx);
     let si = Operand::WordRegister(WordRegister::Si);
     let none = Operand::Nothing;
-    check(&rt, &[0x00, 0xE1], NONE, Mnemonic::Add, cl, ah);
-    check(&rt, &[0x2B, 0xC3], NONE, Mnemonic::Sub, ax, bx);
+    check(&rt, &[0x00, 0xE1], Prefixes::NONE, Mnemonic::Add, cl, ah);
+    check(&rt, &[0x2B, 0xC3], Prefixes::NONE, Mnemonic::Sub, ax, bx);
     check(
         &rt,
         &[0x3C, 0x80],
-        NONE,
+        Prefixes::NONE,
         Mnemonic::Cmp,
         al,
         Operand::ByteValue(0x80),
@@ -316,16 +310,16 @@ fn operands_stand_in_the_order_of_their_row(rt: HostRuntime) {
     check(
         &rt,
         &[0x0E],
-        NONE,
+        Prefixes::NONE,
         Mnemonic::Push,
         Operand::SegmentRegister(SegmentRegister::Cs),
         none,
     );
-    check(&rt, &[0x4E], NONE, Mnemonic::Dec, si, none);
+    check(&rt, &[0x4E], Prefixes::NONE, Mnemonic::Dec, si, none);
     check(
         &rt,
         &[0x75, 0xFE],
-        NONE,
+        Prefixes::NONE,
         Mnemonic::Jnz,
         Operand::Target(0xFFFE),
         none,
@@ -333,16 +327,16 @@ fn operands_stand_in_the_order_of_their_row(rt: HostRuntime) {
     check(
         &rt,
         &[0x83, 0xC3, 0x80],
-        NONE,
+        Prefixes::NONE,
         Mnemonic::Add,
         bx,
         Operand::WordValue(0xFF80),
     );
-    check(&rt, &[0x86, 0xC4], NONE, Mnemonic::Xchg, ah, al);
+    check(&rt, &[0x86, 0xC4], Prefixes::NONE, Mnemonic::Xchg, ah, al);
     check(
         &rt,
         &[0x8C, 0xD8],
-        NONE,
+        Prefixes::NONE,
         Mnemonic::Mov,
         ax,
         Operand::SegmentRegister(SegmentRegister::Ds),
@@ -350,16 +344,16 @@ fn operands_stand_in_the_order_of_their_row(rt: HostRuntime) {
     check(
         &rt,
         &[0x8E, 0xC3],
-        NONE,
+        Prefixes::NONE,
         Mnemonic::Mov,
         Operand::SegmentRegister(SegmentRegister::Es),
         bx,
     );
-    check(&rt, &[0x93], NONE, Mnemonic::Xchg, ax, bx);
+    check(&rt, &[0x93], Prefixes::NONE, Mnemonic::Xchg, ax, bx);
     check(
         &rt,
         &[0x9A, 0x34, 0x12, 0x78, 0x56],
-        NONE,
+        Prefixes::NONE,
         Mnemonic::CallFar,
         Operand::FarTarget(0x1234, 0x5678),
         none,
@@ -367,7 +361,7 @@ fn operands_stand_in_the_order_of_their_row(rt: HostRuntime) {
     check(
         &rt,
         &[0xA3, 0x34, 0x12],
-        NONE,
+        Prefixes::NONE,
         Mnemonic::Mov,
         memory(Width::Word, Base::Direct, 0x1234),
         ax,
@@ -375,7 +369,7 @@ fn operands_stand_in_the_order_of_their_row(rt: HostRuntime) {
     check(
         &rt,
         &[0xB4, 0x4C],
-        NONE,
+        Prefixes::NONE,
         Mnemonic::Mov,
         ah,
         Operand::ByteValue(0x4C),
@@ -383,7 +377,7 @@ fn operands_stand_in_the_order_of_their_row(rt: HostRuntime) {
     check(
         &rt,
         &[0xC5, 0x37],
-        NONE,
+        Prefixes::NONE,
         Mnemonic::Lds,
         si,
         memory(Width::Word, Base::OnBx, 0),
@@ -391,16 +385,23 @@ fn operands_stand_in_the_order_of_their_row(rt: HostRuntime) {
     check(
         &rt,
         &[0xCA, 0x04, 0x00],
-        NONE,
+        Prefixes::NONE,
         Mnemonic::Retf,
         Operand::WordValue(4),
         none,
     );
-    check(&rt, &[0xD1, 0xE0], NONE, Mnemonic::Shl, ax, Operand::One);
+    check(
+        &rt,
+        &[0xD1, 0xE0],
+        Prefixes::NONE,
+        Mnemonic::Shl,
+        ax,
+        Operand::One,
+    );
     check(
         &rt,
         &[0xD2, 0x28],
-        NONE,
+        Prefixes::NONE,
         Mnemonic::Shr,
         memory(Width::Byte, Base::BxSi, 0),
         cl,
@@ -408,7 +409,7 @@ fn operands_stand_in_the_order_of_their_row(rt: HostRuntime) {
     check(
         &rt,
         &[0xDF, 0xFB],
-        NONE,
+        Prefixes::NONE,
         Mnemonic::Esc,
         Operand::ByteValue(0x3F),
         bx,
@@ -416,7 +417,7 @@ fn operands_stand_in_the_order_of_their_row(rt: HostRuntime) {
     check(
         &rt,
         &[0xE5, 0x60],
-        NONE,
+        Prefixes::NONE,
         Mnemonic::Input,
         ax,
         Operand::ByteValue(0x60),
@@ -424,17 +425,17 @@ fn operands_stand_in_the_order_of_their_row(rt: HostRuntime) {
     check(
         &rt,
         &[0xE8, 0x00, 0x80],
-        NONE,
+        Prefixes::NONE,
         Mnemonic::Call,
         Operand::Target(0x8000),
         none,
     );
-    check(&rt, &[0xEE], NONE, Mnemonic::Output, dx, al);
-    check(&rt, &[0xF7, 0xFB], NONE, Mnemonic::Idiv, bx, none);
+    check(&rt, &[0xEE], Prefixes::NONE, Mnemonic::Output, dx, al);
+    check(&rt, &[0xF7, 0xFB], Prefixes::NONE, Mnemonic::Idiv, bx, none);
     check(
         &rt,
         &[0xFF, 0x1F],
-        NONE,
+        Prefixes::NONE,
         Mnemonic::CallFar,
         memory(Width::Word, Base::OnBx, 0),
         none,
@@ -457,7 +458,7 @@ fn mod_and_rm_fields_name_the_address(rt: HostRuntime) {
         check(
             &rt,
             &[0x88, 0x48 + rm, 0x80],
-            NONE,
+            Prefixes::NONE,
             Mnemonic::Mov,
             memory(Width::Byte, base, 0xFF80),
             cl,
@@ -465,7 +466,7 @@ fn mod_and_rm_fields_name_the_address(rt: HostRuntime) {
         check(
             &rt,
             &[0x88, 0x88 + rm, 0x80, 0x00],
-            NONE,
+            Prefixes::NONE,
             Mnemonic::Mov,
             memory(Width::Byte, base, 0x80),
             cl,
@@ -474,7 +475,7 @@ fn mod_and_rm_fields_name_the_address(rt: HostRuntime) {
             check(
                 &rt,
                 &[0x88, 0x08 + rm],
-                NONE,
+                Prefixes::NONE,
                 Mnemonic::Mov,
                 memory(Width::Byte, base, 0),
                 cl,
@@ -484,7 +485,7 @@ fn mod_and_rm_fields_name_the_address(rt: HostRuntime) {
     check(
         &rt,
         &[0x88, 0x0E, 0x34, 0x12],
-        NONE,
+        Prefixes::NONE,
         Mnemonic::Mov,
         memory(Width::Byte, Base::Direct, 0x1234),
         cl,
@@ -544,7 +545,14 @@ fn several_spellings_are_one_instruction(rt: HostRuntime) {
         &[0x83, 0xC0, 0x05][..],
         &[0x81, 0xC0, 0x05, 0x00][..],
     ] {
-        check(&rt, text, NONE, Mnemonic::Add, ax, Operand::WordValue(5));
+        check(
+            &rt,
+            text,
+            Prefixes::NONE,
+            Mnemonic::Add,
+            ax,
+            Operand::WordValue(5),
+        );
         let (ins, _) = decode(&sixteen(text)).expect(&rt, "no instruction");
         assert_eq!(rt; encode(&ins).as_slice(), [0x05, 0x05, 0x00].as_slice());
     }

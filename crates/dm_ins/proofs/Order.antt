@@ -1,5 +1,5 @@
 -- Spellings in order, and the least of several.
-use Rattle.std.proofs.Common.{◌≡◌, ℕ, ◌+◌, ◌<◌, ◌≤◌, Bool, true, false, List, [], ◌∷◌, ◌++◌, length, Option, Some, None, refl, sym, ap, subst, ◌∙◌, arith, inl, inr, nat_lt}
+use Rattle.std.proofs.Common.{◌*◌, ◌≡◌, ℕ, ◌+◌, ◌<◌, ◌≤◌, Bool, true, false, List, [], ◌∷◌, ◌++◌, length, Option, Some, None, refl, sym, ap, subst, ◌∙◌, arith, inl, inr, nat_lt}
 use Rattle.std.specs.Prelude.{◌⊎◌, cond, IfSome, IfNone}
 use Rattle.std.specs.Ordering.{is_lt, nat_cmp, ordering_reverse, ordering_then}
 use Rattle.std.specs.declared.cmp.Ordering.{Ordering}
@@ -65,50 +65,59 @@ choice_one x y e = cc
 list_one : (x y : List ℕ) → Some x ≡ Some y → x ≡ y
 list_one x y e = cc
 
-one_candidate : (n : ℕ) (a : Action) (c d : List ℕ) → CandidateAt n a c → CandidateAt n a d → c ≡ d
-one_candidate n a c d p q =
+one_candidate : (b g : ℕ) (a : Action) (c d : List ℕ) → CandidateAt b g a c → CandidateAt b g a d → c ≡ d
+one_candidate b g a c d p q =
     let e = choice_one p.choice q.choice (sym p.is_choice ∙ q.is_choice) in
     list_one c d (sym p.is_bytes ∙ ap (λ (x : Choice). bytes_of x a.first a.second) e ∙ q.is_bytes)
 
 pub best_none : (a : Action) → Best 0 a None
-best_none a = record { found = tt; least = λ k c lt h. absurd (omega arith) }
+best_none a = record { found = tt; least = λ b g c fits lt h. absurd (omega arith) }
 
-Older : ℕ → Action → List ℕ → Type 0
-Older n a v = (k : ℕ) × (k < n) × CandidateAt k a v
+-- a row is the one of b and g or stands before it
+last_or_before : (i k b g : ℕ) → k < 8 → g < 8 → 8 * i + k < 8 * b + g + 1 → (8 * i + k < 8 * b + g) ⊎ ((i ≡ b) × (k ≡ g))
+last_or_before i k b g fits fits' lt = elim (cases_lt (8 * i + k) (8 * b + g)) [ inl below ↦ inl below | inr le ↦ inr (omega arith, omega arith) ]
 
-split_last : (k n : ℕ) → k < n + 1 → (k < n) ⊎ (k ≡ n)
-split_last k n lt = elim (cases_lt k n) [ inl below ↦ inl below | inr le ↦ inr (omega arith) ]
+module _ (a : Action) (b g : ℕ) (fits : g < 8) where
+  here : (i k : ℕ) (c : List ℕ) → (i ≡ b) × (k ≡ g) → CandidateAt i k a c → CandidateAt b g a c
+  here i k c e h = subst (λ x. CandidateAt x g a c) e.0 (subst (λ x. CandidateAt i x a c) e.1 h)
 
-kept_best : (n : ℕ) (a : Action) (s : Bool) (old new : List ℕ) → before new old ≡ s → Best n a (Some old) → CandidateAt n a new → Best (n + 1) a (cond s (Some new) (Some old))
-kept_best n a true old new e b h = record {
-  found = (n, omega arith, h);
-  least = λ k c lt g. elim (split_last k n lt) [
-    | inl below ↦ not_before c old new (b.least k c below g) e
-    | inr same ↦ (let d = one_candidate n a c new (subst (λ i. CandidateAt i a c) same g) h in rw d (not_before_itself new))
-  ];
-}
-kept_best n a false old new e b h = record {
-  found = (b.found.0, omega (arith, b.found.1), b.found.2);
-  least = λ k c lt g. elim (split_last k n lt) [
-    | inl below ↦ b.least k c below g
-    | inr same ↦ (let d = one_candidate n a c new (subst (λ i. CandidateAt i a c) same g) h in rw d e)
-  ];
-}
+  kept_best : (s : Bool) (old new : List ℕ) → before new old ≡ s → Best (8 * b + g) a (Some old) → CandidateAt b g a new → Best (8 * b + g + 1) a (cond s (Some new) (Some old))
+  kept_best true old new e best h = record {
+    found = (b, g, fits, h);
+    least = λ i k c f lt x. elim (last_or_before i k b g f fits lt) [
+      | inl below ↦ not_before c old new (best.least i k c f below x) e
+      | inr same ↦ (let d = one_candidate b g a c new (here i k c same x) h in rw d (not_before_itself new))
+    ];
+  }
+  kept_best false old new e best h = record {
+    found = best.found;
+    least = λ i k c f lt x. elim (last_or_before i k b g f fits lt) [
+      | inl below ↦ best.least i k c f below x
+      | inr same ↦ (let d = one_candidate b g a c new (here i k c same x) h in rw d e)
+    ];
+  }
 
-pub best_more : (n : ℕ) (a : Action) (o new : Option (List ℕ)) → Best n a o → IfSome new (λ v. CandidateAt n a v) → IfNone new ((c : List ℕ) → CandidateAt n a c → false ≡ true) → Best (n + 1) a (better_of o new)
-best_more n a None None b f g = record { found = tt; least = λ k c lt h. elim (split_last k n lt) [ inl below ↦ b.least k c below h | inr same ↦ absurd (so_not false refl (g c (subst (λ i. CandidateAt i a c) same h))) ] }
-best_more n a None (Some new) b f g = record {
-  found = (n, omega arith, f);
-  least = λ k c lt h. elim (split_last k n lt) [
-    | inl below ↦ absurd (b.least k c below h)
-    | inr same ↦ (let d = one_candidate n a c new (subst (λ i. CandidateAt i a c) same h) f in rw d (not_before_itself new))
-  ];
-}
-best_more n a (Some old) None b f g = record {
-  found = (b.found.0, omega (arith, b.found.1), b.found.2);
-  least = λ k c lt h. elim (split_last k n lt) [ inl below ↦ b.least k c below h | inr same ↦ absurd (so_not false refl (g c (subst (λ i. CandidateAt i a c) same h))) ];
-}
-best_more n a (Some old) (Some new) b f g = kept_best n a (before new old) old new refl b f
+  -- with one row more
+  pub best_more : (o new : Option (List ℕ)) → Best (8 * b + g) a o → IfSome new (λ v. CandidateAt b g a v) → IfNone new ((c : List ℕ) → CandidateAt b g a c → ⊥) → Best (8 * b + g + 1) a (better_of o new)
+  best_more None None best some none = record {
+    found = tt;
+    least = λ i k c f lt x. elim (last_or_before i k b g f fits lt) [ inl below ↦ best.least i k c f below x | inr same ↦ absurd (none c (here i k c same x)) ];
+  }
+  best_more None (Some new) best some none = record {
+    found = (b, g, fits, some);
+    least = λ i k c f lt x. elim (last_or_before i k b g f fits lt) [
+      | inl below ↦ absurd (best.least i k c f below x)
+      | inr same ↦ (let d = one_candidate b g a c new (here i k c same x) some in rw d (not_before_itself new))
+    ];
+  }
+  best_more (Some old) None best some none = record {
+    found = best.found;
+    least = λ i k c f lt x. elim (last_or_before i k b g f fits lt) [ inl below ↦ best.least i k c f below x | inr same ↦ absurd (none c (here i k c same x)) ];
+  }
+  best_more (Some old) (Some new) best some none = kept_best (before new old) old new refl best some
+
+pub best_at : (m n : ℕ) (a : Action) (o : Option (List ℕ)) → m ≡ n → Best m a o → Best n a o
+best_at m n a o e best = subst (λ k. Best k a o) e best
 
 -- ---- lists one behind the other
 

@@ -1,5 +1,5 @@
 -- Each row's bytes spell the action.
-use Rattle.std.proofs.Common.{◌≡◌, ℕ, ◌/◌, ◌%◌, ◌<◌, Bool, true, false, List, ◌∷◌, ◌++◌, Option, Some, None, refl, sym, ap, subst, ◌∙◌, arith, eqb}
+use Rattle.std.proofs.Common.{◌≡◌, ℕ, ◌<◌, Bool, true, false, List, ◌∷◌, ◌++◌, Option, Some, None, refl, sym, ap, subst, ◌∙◌, eqb}
 use Rattle.std.specs.Prelude.{cond}
 use Rattle.dm_ins.specs.declared.fields.Fields.{Fields}
 use Rattle.dm_ins.specs.declared.action.Action.{Action}
@@ -90,16 +90,16 @@ filled (Second c p) b g ch d e h lt i =
     let v = chosen_true (eqb g 0) (record { opcode = b; row = p; register = None; second = Some c }) ch i in
     subst (Made (Second c p) b d e) v.1 (λ s t. let w = none_agree p d e s t h in record { m = no_fields; is_opcode = refl; has_row = (refl, refl, rw w.1 refl); agree = w.0 })
 
-pub action_sound : (n : ℕ) (a : Action) (c : List ℕ) → CandidateAt n a c → SpellsAction a c
+pub action_sound : (b g : ℕ) (a : Action) (c : List ℕ) → g < 8 → CandidateAt b g a c → SpellsAction a c
 unfolding bytes_of
-action_sound n a c h =
+action_sound b g a c fits h =
     let x = bind_some (demand_of h.choice.row.first a.first) _ c h.is_bytes in
     let y = bind_some (demand_of h.choice.row.second a.second) _ c x.2 in
     let s = demand_shape x.0 h.choice.row.first a.first h.first_fits x.1 in
     let t = demand_shape y.0 h.choice.row.second a.second h.second_fits y.1 in
-    let l = filled (entry_of (n / 8)) (n / 8) (n % 8) h.choice x.0 y.0 (entry_regular (n / 8)) (omega arith) h.is_choice s t in
+    let l = filled (entry_of b) b g h.choice x.0 y.0 (entry_regular b) fits h.is_choice s t in
     record {
-      first_byte = n / 8;
+      first_byte = b;
       fields = l.m;
       row = h.choice.row;
       behind = behind_of h.choice x.0 y.0;

@@ -1,5 +1,5 @@
 -- The kept prefixes and the least row's bytes are the least spelling.
-use Rattle.std.proofs.Common.{◌≡◌, ℕ, ◌+◌, ◌*◌, ◌/◌, ◌%◌, ◌^◌, ◌<◌, ◌≤◌, Bool, true, false, List, ◌++◌, length, Option, Some, None, refl, sym, subst, arith, inl, inr}
+use Rattle.std.proofs.Common.{◌≡◌, ℕ, ◌^◌, ◌<◌, ◌≤◌, Bool, true, false, List, ◌++◌, length, Option, Some, None, refl, sym, subst, arith, inl, inr}
 use Rattle.std.specs.Prelude.{map, IfSome}
 use Rattle.std.proofs.lemmas.Bool.{cases_lt, lt-ltb, le-ltb}
 use Rattle.dm_ins.specs.declared.operand.Width.{Width}
@@ -20,7 +20,7 @@ use Rattle.dm_ins.specs.declared.table.Entry.TheVariants.{Unlisted, Plain, Group
 use Rattle.dm_ins.specs.Table.{entry_of}
 use Rattle.dm_ins.specs.Spelling.{extended, SpellsMemory, Fills, has_fields, MaySpellFields, HasRow, SpellsAction, prefix_byte, no_prefix, kept, SpellsPrefixed, register, at_place}
 use Rattle.dm_ins.specs.Order.{before}
-use Rattle.dm_ins.specs.Encoding.{OperandFits, Best, CandidateAt, choice_at, prefix_list, segment_list, lock_list, repeat_list}
+use Rattle.dm_ins.specs.Encoding.{OperandFits, Best, CandidateAt, prefix_list, segment_list, lock_list, repeat_list}
 use Rattle.dm_ins.proofs.Order.{not_longer, not_shorter, not_before_append}
 use Rattle.dm_ins.proofs.KeptPrefixes.{prefixes_least}
 use Rattle.dm_ins.proofs.Demands.{AtMost}
@@ -108,31 +108,32 @@ few_by (Some s) true (Some r) = omega arith
 
 -- the candidate that has the same bytes as a spelling, or fewer
 record Candidate (a : Action) (d : List ℕ) : Type 0 where
-  n : ℕ
-  n_fits : n < 2048
+  b : ℕ
+  g : ℕ
+  b_fits : b < 256
+  g_fits : g < 8
   bytes : List ℕ
-  is_candidate : CandidateAt n a bytes
+  is_candidate : CandidateAt b g a bytes
   least : AtMost bytes d
 
 candidate_of : (a : Action) (d : List ℕ) → SpellsAction a d → Candidate a d
 candidate_of a d s =
     let l = action_least a d s in
     let f = action_fits a d s in
-    let q : (8 * l.b + l.g) / 8 ≡ l.b = omega (arith, l.g_fits) in
-    let r : (8 * l.b + l.g) % 8 ≡ l.g = omega (arith, l.g_fits) in
-    let e : choice_at (entry_of ((8 * l.b + l.g) / 8)) ((8 * l.b + l.g) / 8) ((8 * l.b + l.g) % 8) ≡ Some l.choice = rw (q, r) l.is_choice in
     record {
-      n = 8 * l.b + l.g;
-      n_fits = omega (arith, l.g_fits, l.b_fits);
+      b = l.b;
+      g = l.g;
+      b_fits = l.b_fits;
+      g_fits = l.g_fits;
       bytes = l.c;
       least = l.least;
-      is_candidate = record { choice = l.choice; is_choice = e; mnemonic = l.mnemonic; is_bytes = l.is_bytes; first_fits = f.0; second_fits = f.1 };
+      is_candidate = record { choice = l.choice; is_choice = l.is_choice; mnemonic = l.mnemonic; is_bytes = l.is_bytes; first_fits = f.0; second_fits = f.1 };
     }
 
 candidate_not_before : (a : Action) (c d : List ℕ) → Best 2048 a (Some c) → SpellsAction a d → before d c ≡ false
 candidate_not_before a c d best s =
     let k = candidate_of a d s in
-    by k.bytes (best.least k.n k.bytes k.n_fits k.is_candidate) k.least
+    by k.bytes (best.least k.b k.g k.bytes k.g_fits (omega (arith, k.b_fits, k.g_fits)) k.is_candidate) k.least
   where
     by : (x : List ℕ) → before x c ≡ false → AtMost x d → before d c ≡ false
     by x f (inl e) = rw (← e) f
@@ -144,7 +145,7 @@ encode_least p a c b best s =
     rw s.parts (not_before_append (map prefix_byte s.prefixes) (map prefix_byte (prefix_list p)) s.rest c q (candidate_not_before a c s.rest best s.action))
 
 pub best_spells : (a : Action) (c : List ℕ) → Best 2048 a (Some c) → SpellsAction a c
-best_spells a c best = action_sound best.found.0 a c best.found.2
+best_spells a c best = action_sound best.found.0 best.found.1 a c best.found.2 best.found.3
 
 pub encode_spells : (p : Prefixes) (a : Action) (c : List ℕ) → Best 2048 a (Some c) → SpellsPrefixed p a (map prefix_byte (prefix_list p) ++ c)
 encode_spells p a c best = record {
@@ -157,7 +158,7 @@ encode_spells p a c best = record {
 }
 
 pub none_best : (a : Action) (d : List ℕ) → Best 2048 a None → SpellsAction a d → ⊥
-none_best a d best s = let k = candidate_of a d s in best.least k.n k.bytes k.n_fits k.is_candidate
+none_best a d best s = let k = candidate_of a d s in best.least k.b k.g k.bytes k.g_fits (omega (arith, k.b_fits, k.g_fits)) k.is_candidate
 
 -- an action that some bytes spell has a least candidate
 pub no_best : (a : Action) → ∥ ((bytes : List ℕ) × SpellsAction a bytes) ∥₁ → Best 2048 a None → ⊥

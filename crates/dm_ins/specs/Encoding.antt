@@ -177,10 +177,10 @@ OperandFits (operand.Target n) = n < 2 ^ 16
 OperandFits (operand.FarTarget n s) = (n < 2 ^ 16) × (s < 2 ^ 16)
 OperandFits _ = Unit {0}
 
--- the bytes that the row of a number has for an action
-pub record CandidateAt (n : ℕ) (a : Action) (c : List ℕ) : Type 0 where
+-- the bytes that the row under the first byte b and the reg field g has for an action
+pub record CandidateAt (b g : ℕ) (a : Action) (c : List ℕ) : Type 0 where
   pub choice : Choice
-  pub is_choice : choice_at (entry_of (n / 8)) (n / 8) (n % 8) ≡ Some choice
+  pub is_choice : choice_at (entry_of b) b g ≡ Some choice
   pub mnemonic : choice.row.mnemonic ≡ a.mnemonic
   pub is_bytes : bytes_of choice a.first a.second ≡ Some c
   pub first_fits : OperandFits a.first
@@ -191,10 +191,11 @@ better_of None new = new
 better_of (Some a) None = Some a
 better_of (Some a) (Some b) = if before b a then Some b else Some a
 
--- of the rows below n that have the action, the least bytes, if there are any
+-- of the first n rows, in the order of first byte and reg field, the least bytes for the action, if
+-- there are any
 pub record Best (n : ℕ) (a : Action) (o : Option (List ℕ)) : Type 0 where
-  pub found : IfSome o (λ v. (k : ℕ) × (k < n) × CandidateAt k a v)
-  pub least : (k : ℕ) (c : List ℕ) → k < n → CandidateAt k a c → IsSomeAnd o (λ v. before c v ≡ false)
+  pub found : IfSome o (λ v. (b g : ℕ) × (g < 8) × CandidateAt b g a v)
+  pub least : (b g : ℕ) (c : List ℕ) → g < 8 → 8 * b + g < n → CandidateAt b g a c → IsSomeAnd o (λ v. before c v ≡ false)
 
 -- the prefixes that are kept, in the order of their bytes
 abbrev pub segment_list : Option SegmentRegister → List Prefix

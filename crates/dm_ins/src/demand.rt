@@ -84,6 +84,7 @@ fn number(width: Width, operand: Operand) -> Option<u8>
     }
 }
 
+/// Whether the widths are the same.
 fn is_as_wide(a: Width, b: Width) -> bool
     ensures { result ≡ same_width a b }
 {
@@ -93,6 +94,7 @@ fn is_as_wide(a: Width, b: Width) -> bool
     }
 }
 
+/// Whether the displacement alone is the offset.
 pub fn has_no_base(base: Base) -> bool
     ensures { result ≡ is_direct base }
 {

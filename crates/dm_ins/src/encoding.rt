@@ -36,10 +36,12 @@ fn put_prefixes(out: &mut ArrayVec<u8, 16>, prefixes: Prefixes)
     }
 }
 
+/// Puts the bytes of the action.
 fn append(out: &mut ArrayVec<u8, 16>, bytes: &ArrayVec<u8, 12>)
     requires { array_vec_len out.old + 12 ≤ 16 }
     ensures { out.new.items ≡ out.old.items ++ bytes.now.items }
 {
+    // There is room for them.
     let _ = out.try_extend_from_slice(bytes.as_slice());
 }
 
@@ -51,6 +53,7 @@ pub fn encode(ins: &Ins) -> ArrayVec<u8, 16>
 {
     let mut out = ArrayVec::new();
     put_prefixes(&mut out, ins.prefixes);
+    // Some bytes spell the action, so there are least ones.
     if let Some(bytes) = least(&ins.action) {
         append(&mut out, &bytes);
     }

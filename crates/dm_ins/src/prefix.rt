@@ -29,3 +29,12 @@ pub struct Prefixes {
     pub lock: bool,
     pub repeat: Option<Repeat>,
 }
+
+impl Prefixes {
+    /// No prefix.
+    pub const NONE: Self = Self {
+        segment: None,
+        lock: false,
+        repeat: None,
+    };
+}

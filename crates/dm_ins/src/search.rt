@@ -1,6 +1,6 @@
 //! The least bytes of an action, by a search of the rows.
 
-ghost use Rattle.std.specs.Prelude.{◌≡◌, ◌<◌, ◌↔◌, IsTrue, IfSome, IfNone, List, ℕ, false, true};
+ghost use Rattle.std.specs.Prelude.{◌≡◌, ◌+◌, ◌*◌, ◌<◌, ◌↔◌, IsTrue, IfSome, IfNone, List, ℕ};
 ghost use Rattle.dm_ins.specs.Table.{entry_of};
 ghost use Rattle.dm_ins.specs.Order.{before};
 ghost use Rattle.dm_ins.specs.Encoding.{Best, CandidateAt, better_of, choice_at, seen_bytes};
@@ -73,14 +73,13 @@ fn is_same(a: Mnemonic, b: Mnemonic) -> bool
     a == b
 }
 
-/// The bytes of the row with the number (eight times the first byte plus the reg field), if the
-/// row has the action.
-fn candidate(number: u16, action: &Action) -> Option<ArrayVec<u8, 12>>
-    requires { number < 2048 }
-    ensures found { IfSome (seen_bytes result) (λ v. CandidateAt number action.now v) }
-    ensures none { IfNone (seen_bytes result) ((c : List ℕ) → CandidateAt number action.now c → false ≡ true) }
+/// The bytes of the row under the first byte and the reg field, if it has the action.
+fn candidate(opcode: u8, register: u8, action: &Action) -> Option<ArrayVec<u8, 12>>
+    requires { register < 8 }
+    ensures found { IfSome (seen_bytes result) (λ v. CandidateAt opcode register action.now v) }
+    ensures none { IfNone (seen_bytes result) ((c : List ℕ) → CandidateAt opcode register action.now c → ⊥) }
 {
-    let choice = choice((number / 8) as u8, (number % 8) as u8)?;
+    let choice = choice(opcode, register)?;
     if is_same(choice.row.mnemonic, action.mnemonic) {
         fill(choice, action.first, action.second)
     } else {
@@ -104,13 +103,29 @@ fn better(best: Option<ArrayVec<u8, 12>>, new: Option<ArrayVec<u8, 12>>) -> Opti
     }
 }
 
+/// The least of the best bytes so far and those of the rows under one more first byte.
+fn better_under(
+    opcode: u8,
+    action: &Action,
+    best: Option<ArrayVec<u8, 12>>,
+) -> Option<ArrayVec<u8, 12>>
+    requires { Best (8 * opcode) action.now (seen_bytes best) }
+    ensures { Best (8 * opcode + 8) action.now (seen_bytes result) }
+{
+    let mut best = best;
+    for register in 0..8 {
+        best = better(best, candidate(opcode, register, action));
+    }
+    best
+}
+
 /// The least of the rows' bytes for the action, or None where no row has it.
 pub fn least(action: &Action) -> Option<ArrayVec<u8, 12>>
     ensures { Best 2048 action.now (seen_bytes result) }
 {
     let mut best = None;
-    for number in 0..2048 {
-        best = better(best, candidate(number, action));
+    for opcode in 0..=255 {
+        best = better_under(opcode, action, best);
     }
     best
 }

@@ -4,12 +4,6 @@ use crate::{
 };
 use std::process::Abort;
 
-static NONE: Prefixes = Prefixes {
-    segment: None,
-    lock: false,
-    repeat: None,
-};
-
 fn memory(width: Width, base: Base, displacement: u16) -> Operand {
     Operand::Memory(width, Address { base, displacement })
 }
@@ -38,7 +32,7 @@ fn encode_gives_the_shortest_and_least(rt: HostRuntime) {
     let bx = Operand::WordRegister(WordRegister::Bx);
     check(
         &rt,
-        NONE,
+        Prefixes::NONE,
         Mnemonic::Add,
         ax,
         Operand::WordValue(5),
@@ -46,7 +40,7 @@ fn encode_gives_the_shortest_and_least(rt: HostRuntime) {
     );
     check(
         &rt,
-        NONE,
+        Prefixes::NONE,
         Mnemonic::Add,
         bx,
         Operand::WordValue(5),
@@ -54,7 +48,7 @@ fn encode_gives_the_shortest_and_least(rt: HostRuntime) {
     );
     check(
         &rt,
-        NONE,
+        Prefixes::NONE,
         Mnemonic::Add,
         bx,
         Operand::WordValue(0xFF80),
@@ -62,16 +56,16 @@ fn encode_gives_the_shortest_and_least(rt: HostRuntime) {
     );
     check(
         &rt,
-        NONE,
+        Prefixes::NONE,
         Mnemonic::Add,
         bx,
         Operand::WordValue(0x80),
         &[0x81, 0xC3, 0x80, 0x00],
     );
-    check(&rt, NONE, Mnemonic::Mov, ax, bx, &[0x89, 0xD8]);
+    check(&rt, Prefixes::NONE, Mnemonic::Mov, ax, bx, &[0x89, 0xD8]);
     check(
         &rt,
-        NONE,
+        Prefixes::NONE,
         Mnemonic::Mov,
         al,
         memory(Width::Byte, Base::Direct, 5),
@@ -79,7 +73,7 @@ fn encode_gives_the_shortest_and_least(rt: HostRuntime) {
     );
     check(
         &rt,
-        NONE,
+        Prefixes::NONE,
         Mnemonic::Mov,
         memory(Width::Byte, Base::OnBx, 0),
         Operand::ByteValue(5),
@@ -87,7 +81,7 @@ fn encode_gives_the_shortest_and_least(rt: HostRuntime) {
     );
     check(
         &rt,
-        NONE,
+        Prefixes::NONE,
         Mnemonic::Mov,
         memory(Width::Word, Base::OnBp, 0),
         bx,
@@ -95,7 +89,7 @@ fn encode_gives_the_shortest_and_least(rt: HostRuntime) {
     );
     check(
         &rt,
-        NONE,
+        Prefixes::NONE,
         Mnemonic::Mov,
         memory(Width::Word, Base::OnBx, 0xFF80),
         bx,
@@ -103,15 +97,22 @@ fn encode_gives_the_shortest_and_least(rt: HostRuntime) {
     );
     check(
         &rt,
-        NONE,
+        Prefixes::NONE,
         Mnemonic::Mov,
         memory(Width::Word, Base::OnBx, 0x80),
         bx,
         &[0x89, 0x9F, 0x80, 0x00],
     );
-    check(&rt, NONE, Mnemonic::Xchg, ax, bx, &[0x93]);
-    check(&rt, NONE, Mnemonic::Xchg, bx, ax, &[0x87, 0xC3]);
-    check(&rt, NONE, Mnemonic::Push, ax, Operand::Nothing, &[0x50]);
+    check(&rt, Prefixes::NONE, Mnemonic::Xchg, ax, bx, &[0x93]);
+    check(&rt, Prefixes::NONE, Mnemonic::Xchg, bx, ax, &[0x87, 0xC3]);
+    check(
+        &rt,
+        Prefixes::NONE,
+        Mnemonic::Push,
+        ax,
+        Operand::Nothing,
+        &[0x50],
+    );
 }
 
 #[test]
@@ -156,6 +157,6 @@ fn actions_with_no_row_are_no_instructions(rt: HostRuntime) {
             first,
             second,
         };
-        assert_eq!(rt; Ins::new(NONE, action), None);
+        assert_eq!(rt; Ins::new(Prefixes::NONE, action), None);
     }
 }

@@ -1,8 +1,9 @@
-use Rattle.dm_ins.proofs.Order.{best_none, best_more}
+use Rattle.std.proofs.Common.{◌+◌, ◌*◌, arith}
+use Rattle.dm_ins.proofs.Order.{best_at, best_none}
 use Rattle.dm_ins.proofs.search.least.Goals as goal
 
-pub loop-number-init : goal.loop-number-init
-loop-number-init c = best_none c.args.action.now
+pub loop-opcode-init : goal.loop-opcode-init
+loop-opcode-init c = best_none c.args.action.now
 
-pub loop-number-preserved : goal.loop-number-preserved
-loop-number-preserved c = rw c.better-best.ensures (best_more c.loop-number.number c.args.action.now _ _ c.loop-number.invariant c.candidate.ensures.found c.candidate.ensures.none)
+pub loop-opcode-preserved : goal.loop-opcode-preserved
+loop-opcode-preserved c = best_at (8 * c.loop-opcode.opcode + 8) (8 * (c.loop-opcode.opcode + 1)) c.args.action.now _ (omega arith) c.better_under-best.ensures

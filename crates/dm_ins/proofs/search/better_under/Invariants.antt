@@ -1,0 +1,7 @@
+use Rattle.std.proofs.Common.{◌+◌, ◌*◌}
+use Rattle.dm_ins.specs.Encoding.{Best, seen_bytes}
+use Rattle.dm_ins.proofs.search.better_under.Given as goal
+
+-- of the rows so far
+abbrev pub invariant-loop-register : goal.invariant-loop-register
+invariant-loop-register l = Best (8 * l.opcode + l.register) l.action (seen_bytes l.best)
