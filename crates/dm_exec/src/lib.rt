@@ -20,3 +20,6 @@ pub use cpu::Cpu;
 pub use dm_alu::Flags;
 pub use effect::{Next, exec};
 pub use stack::interrupt_return;
+
+#[cfg(test)]
+mod tests;
