@@ -3,3 +3,13 @@ pub mod Guest
 pub mod Stack
 pub mod Operands
 pub mod Effect
+pub mod Operation
+pub mod Values
+pub mod Arithmetic
+pub mod Moves
+pub mod Shifts
+pub mod Products
+pub mod Adjustments
+pub mod Jumps
+pub mod Strings
+pub mod Control

@@ -4,8 +4,9 @@ ghost use Rattle.dm_exec.specs.Guest.{guest};
 ghost use Rattle.dm_exec.specs.Effect.{effect, next_of};
 
 use crate::cpu::Cpu;
-use crate::{operands, stack};
-use dm_ins::{Ins, Mnemonic};
+use crate::operation::{Operation, operation_of};
+use crate::{adjustments, arithmetic, control, jumps, moves, products, shifts, stack, strings};
+use dm_ins::Ins;
 use dm_space::Space;
 
 /// What the processor does after an instruction.
@@ -17,29 +18,48 @@ pub enum Next {
     Halt,
 }
 
-/// Does the instruction of `len` bytes that stands at CS:IP.
+/// Does the instruction of `len` bytes that stands at CS:IP (Intel 8086 Family User's Manual,
+/// section 2.7): changes registers, flags and memory as the instruction says and leaves the rest.
+/// Of a string instruction with a repeat prefix it does one repetition, and IP stays at the
+/// instruction until the last one. A flag that the manual leaves undefined stays.
 #[tactic(auto, unfolding(crate::specs::Effect::effect))]
 pub fn exec(cpu: &mut Cpu, space: &mut Space, ins: &Ins, len: u8) -> Next
     ensures next { result ≡ next_of ins.now.action.mnemonic }
     ensures effect { guest cpu.new space.new.memory ≡ effect (guest cpu.old space.old.memory) ins.now len }
 {
     let start = cpu.ip;
-    let override_ = ins.prefixes.segment;
+    let segment = ins.prefixes.segment;
+    let first = ins.action.first;
+    let second = ins.action.second;
     cpu.ip = start.wrapping_add(len as u16);
-    match ins.action.mnemonic {
-        Mnemonic::Mov => {
-            let value = operands::value(cpu, space, override_, ins.action.second);
-            operands::set(cpu, space, override_, ins.action.first, value);
+    match operation_of(ins.action.mnemonic) {
+        Operation::Move(operation) => moves::act(cpu, space, segment, operation, first, second),
+        Operation::Stack(operation) => stack::act(cpu, space, segment, operation, first),
+        Operation::Arithmetic(operation) => {
+            arithmetic::act(cpu, space, segment, operation, first, second)
         }
-        Mnemonic::Int => {
-            let number = operands::value(cpu, space, override_, ins.action.first);
-            stack::interrupt(cpu, space, (number % 256) as u8);
+        Operation::Shift(operation) => shifts::act(cpu, space, segment, operation, first, second),
+        Operation::Multiply(sign) => products::multiply(cpu, space, segment, sign, first),
+        Operation::Divide(sign) => products::divide(cpu, space, segment, sign, first),
+        Operation::Adjust(adjustment) => adjustments::act(cpu, adjustment),
+        Operation::JumpIf(condition, wanted) => {
+            jumps::jump_if(cpu, space, segment, condition, wanted, first)
         }
-        Mnemonic::Hlt => {
+        Operation::Loop(operation) => jumps::act_on_count(cpu, space, segment, operation, first),
+        Operation::Transfer(operation) => jumps::act(cpu, space, segment, operation, first),
+        Operation::Interrupt(operation) => {
+            stack::act_on_interrupt(cpu, space, segment, operation, first)
+        }
+        Operation::String(operation, width) => {
+            let repeat = ins.prefixes.repeat;
+            strings::act(width, cpu, space, segment, repeat, operation, start)
+        }
+        Operation::Flag(operation) => cpu.flags = control::changed(operation, cpu.flags),
+        Operation::Nothing => {}
+        Operation::Halt => {
             cpu.ip = start;
             return Next::Halt;
         }
-        _ => {}
     }
     Next::Go
 }

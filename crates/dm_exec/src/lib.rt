@@ -1,12 +1,25 @@
 //! The processor: registers, and what each instruction does to them and to memory.
 #![tactic(auto)]
 
+mod adjustments;
+mod arithmetic;
+mod control;
 mod cpu;
 mod effect;
+mod jumps;
+mod moves;
 mod operands;
+mod operation;
+mod products;
+mod shifts;
 mod stack;
+mod strings;
+mod values;
 
 pub use cpu::Cpu;
 pub use dm_alu::Flags;
 pub use effect::{Next, exec};
 pub use stack::interrupt_return;
+
+#[cfg(test)]
+mod tests;

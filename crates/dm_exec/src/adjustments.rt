@@ -1,0 +1,16 @@
+//! AAA, AAS, DAA, DAS, AAM and AAD.
+ghost use Rattle.std.specs.Prelude.{◌≡◌};
+ghost use Rattle.dm_exec.specs.Adjustments.{adjusted};
+
+use crate::cpu::Cpu;
+use dm_alu::{Adjustment, adjust};
+
+/// Adjusts the accumulator.
+#[tactic(auto, unfolding(crate::specs::Adjustments::adjusted))]
+pub(crate) fn act(cpu: &mut Cpu, adjustment: Adjustment)
+    ensures { cpu.new ≡ adjusted cpu.old adjustment }
+{
+    let (ax, flags) = adjust(adjustment, cpu.ax, cpu.flags);
+    cpu.ax = ax;
+    cpu.flags = flags;
+}

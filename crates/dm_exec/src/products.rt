@@ -1,0 +1,94 @@
+//! MUL, IMUL, DIV and IDIV.
+ghost use Rattle.std.specs.Prelude.{◌≡◌, ◌<◌, ◌*◌};
+ghost use Rattle.dm_alu.specs.Width.{size};
+ghost use Rattle.dm_exec.specs.Guest.{guest};
+ghost use Rattle.dm_exec.specs.Products.{double_of, with_double, multiplied, with_division, after_division, divided};
+
+use crate::cpu::Cpu;
+use crate::{stack, values};
+use dm_alu::{Division, Sign, Width, div, mul};
+use dm_ins::{Operand, SegmentRegister};
+use dm_space::Space;
+
+/// AX, or DX above AX.
+#[tactic(auto, unfolding(crate::specs::Products::double_of))]
+fn double(width: Width, cpu: &Cpu) -> u32
+    ensures value { result ≡ double_of width cpu.now }
+    ensures in_range { result < size width * size width }
+{
+    let (low, high) = (cpu.ax, cpu.dx);
+    match width {
+        Width::Byte => u32::from(low),
+        Width::Word => u32::from(high) * 0x1_0000 + u32::from(low),
+    }
+}
+
+/// Gives AX, or DX and AX, a value.
+#[tactic(auto, unfolding(crate::specs::Products::with_double))]
+fn set_double(width: Width, cpu: &mut Cpu, value: u32)
+    requires { value < size width * size width }
+    ensures { cpu.new ≡ with_double width cpu.old value }
+{
+    match width {
+        Width::Byte => cpu.ax = value as u16,
+        Width::Word => {
+            cpu.ax = (value % 0x1_0000) as u16;
+            cpu.dx = (value / 0x1_0000) as u16;
+        }
+    }
+}
+
+/// Multiplies AL or AX by an operand.
+#[tactic(auto, unfolding(crate::specs::Products::multiplied))]
+pub(crate) fn multiply(
+    cpu: &mut Cpu,
+    space: &Space,
+    override_: Option<SegmentRegister>,
+    sign: Sign,
+    operand: Operand,
+)
+    ensures { guest cpu.new space.now.memory ≡ multiplied (guest cpu.old space.now.memory) override_ sign operand }
+{
+    let width = values::width(operand);
+    let left = values::accumulator(width, cpu);
+    let right = values::value(width, cpu, space, override_, operand);
+    let (product, flags) = mul(sign, width, left, right, cpu.flags);
+    set_double(width, cpu, product);
+    cpu.flags = flags;
+}
+
+/// Gives AL and AH, or AX and DX, a quotient and a remainder.
+#[tactic(auto, unfolding(crate::specs::Products::with_division))]
+fn set_division(width: Width, cpu: &mut Cpu, division: Division)
+    requires quotient { division.quotient < size width }
+    requires remainder { division.remainder < size width }
+    ensures { cpu.new ≡ with_division width cpu.old division }
+{
+    match width {
+        Width::Byte => cpu.ax = division.remainder * 0x100 + division.quotient,
+        Width::Word => {
+            cpu.ax = division.quotient;
+            cpu.dx = division.remainder;
+        }
+    }
+}
+
+/// Divides AX, or DX and AX, by an operand; interrupt 0 where there is no quotient.
+#[tactic(auto, unfolding(crate::specs::Products::divided, crate::specs::Products::after_division))]
+pub(crate) fn divide(
+    cpu: &mut Cpu,
+    space: &mut Space,
+    override_: Option<SegmentRegister>,
+    sign: Sign,
+    operand: Operand,
+)
+    ensures { guest cpu.new space.new.memory ≡ divided (guest cpu.old space.old.memory) override_ sign operand }
+{
+    let width = values::width(operand);
+    let divisor = values::value(width, cpu, space, override_, operand);
+    let dividend = double(width, cpu);
+    match div(sign, width, dividend, divisor) {
+        None => stack::interrupt(cpu, space, 0),
+        Some(division) => set_division(width, cpu, division),
+    }
+}
