@@ -1,3 +1,4 @@
 mod Texts
 mod StepLaws
 mod OneRun
+mod Memos

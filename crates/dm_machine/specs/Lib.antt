@@ -5,3 +5,4 @@ pub mod Step
 pub mod Run
 pub mod Start
 pub mod Laws
+pub mod Memo

@@ -5,6 +5,7 @@ mod config;
 mod laws;
 mod loading;
 mod machine;
+mod memo;
 mod services;
 mod steps;
 mod stop;

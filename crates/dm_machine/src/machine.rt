@@ -5,6 +5,7 @@ ghost use Rattle.dm_machine.specs.Start.{IsNew, IsTooLarge};
 ghost use Rattle.dm_machine.specs.State.{HasProgram};
 
 use crate::config::{Config, Sizes};
+use crate::memo::Memo;
 use dm_alu::Flags;
 use dm_console::Console;
 use dm_exec::Cpu;
@@ -39,6 +40,7 @@ pub struct Machine {
     pub(crate) steps: u64,
     pub(crate) programs: Programs,
     pub(crate) variables: Vec<u8>,
+    pub(crate) memo: Memo,
     sizes: Sizes,
 }
 
@@ -111,6 +113,7 @@ impl Machine {
             return Err(NewError::TooLarge);
         }
         let space = Space::new(alloc).map_err(|_| NewError::Memory)?;
+        let memo = Memo::new(alloc).map_err(|_| NewError::Memory)?;
         Ok(Machine {
             cpu: clear_registers(),
             space,
@@ -120,6 +123,7 @@ impl Machine {
             steps: 0,
             programs,
             variables,
+            memo,
             sizes,
         })
     }
