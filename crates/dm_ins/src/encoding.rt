@@ -7,6 +7,7 @@ ghost use Rattle.dm_ins.specs.Ins.{Spells};
 ghost use Rattle.dm_ins.specs.Order.{before};
 ghost use Rattle.dm_ins.specs.Encoding.{prefix_list};
 
+use crate::fill::RowBytes;
 use crate::ins::Ins;
 use crate::operand::SegmentRegister;
 use crate::prefix::{Prefixes, Repeat};
@@ -37,7 +38,7 @@ fn put_prefixes(out: &mut ArrayVec<u8, 16>, prefixes: Prefixes)
 }
 
 /// Puts the bytes of the action.
-fn append(out: &mut ArrayVec<u8, 16>, bytes: &ArrayVec<u8, 12>)
+fn append(out: &mut ArrayVec<u8, 16>, bytes: &RowBytes)
     requires { array_vec_len out.old + 12 ≤ 16 }
     ensures { out.new.items ≡ out.old.items ++ bytes.now.items }
 {

@@ -10,6 +10,10 @@ use crate::operand::{Address, Base, Operand, extend};
 use crate::table::Row;
 use arrayvec::ArrayVec;
 
+/// The bytes of an action: the first one, at most three for the mod r/m byte with its displacement,
+/// and at most four for each operand.
+pub type RowBytes = ArrayVec<u8, 12>;
+
 /// One row under its first byte.
 #[derive(Clone, Copy)]
 pub struct Choice {
@@ -40,7 +44,7 @@ fn rm_field(base: Base) -> u8
 }
 
 /// Puts a word, its low byte first.
-fn put_word(out: &mut ArrayVec<u8, 12>, n: u16)
+fn put_word(out: &mut RowBytes, n: u16)
     requires { array_vec_len out.old + 2 ≤ 12 }
     ensures items { out.new.items ≡ out.old.items ++ word n }
     ensures len { array_vec_len out.new ≡ array_vec_len out.old + 2 }
@@ -49,7 +53,7 @@ fn put_word(out: &mut ArrayVec<u8, 12>, n: u16)
     out.push((n / 256) as u8);
 }
 
-fn put_data(out: &mut ArrayVec<u8, 12>, tail: Data)
+fn put_data(out: &mut RowBytes, tail: Data)
     requires { array_vec_len out.old + 4 ≤ 12 }
     ensures items { out.new.items ≡ out.old.items ++ data_bytes tail }
     ensures within { array_vec_len out.new ≤ array_vec_len out.old + 4 }
@@ -66,7 +70,7 @@ fn put_data(out: &mut ArrayVec<u8, 12>, tail: Data)
 }
 
 /// Puts the mod r/m byte with a displacement of one byte, where that does, else of a word.
-fn put_displaced(out: &mut ArrayVec<u8, 12>, register: u8, rm: u8, n: u16)
+fn put_displaced(out: &mut RowBytes, register: u8, rm: u8, n: u16)
     requires room { array_vec_len out.old + 3 ≤ 12 }
     requires register { register < 8 }
     requires rm { rm < 8 }
@@ -83,7 +87,7 @@ fn put_displaced(out: &mut ArrayVec<u8, 12>, register: u8, rm: u8, n: u16)
     }
 }
 
-fn put_memory(out: &mut ArrayVec<u8, 12>, register: u8, address: Address)
+fn put_memory(out: &mut RowBytes, register: u8, address: Address)
     requires room { array_vec_len out.old + 3 ≤ 12 }
     requires register { register < 8 }
     ensures items { out.new.items ≡ out.old.items ++ memory_bytes register address }
@@ -104,7 +108,7 @@ fn put_memory(out: &mut ArrayVec<u8, 12>, register: u8, address: Address)
 }
 
 #[tactic(auto, unfolding(crate::specs::Encoding::fields_bytes))]
-fn put_fields(out: &mut ArrayVec<u8, 12>, register: u8, place: Place)
+fn put_fields(out: &mut RowBytes, register: u8, place: Place)
     requires room { array_vec_len out.old + 3 ≤ 12 }
     requires register { register < 8 }
     requires place { PlaceFits place }
@@ -139,12 +143,7 @@ fn first_place(a: Option<Place>, b: Option<Place>) -> Option<Place>
 
 /// Puts what stands behind the first byte: a mod r/m byte with its displacement, or the second
 /// byte that the row wants.
-fn put_behind(
-    out: &mut ArrayVec<u8, 12>,
-    register: Option<u8>,
-    place: Option<Place>,
-    second: Option<u8>,
-)
+fn put_behind(out: &mut RowBytes, register: Option<u8>, place: Option<Place>, second: Option<u8>)
     requires room { array_vec_len out.old + 3 ≤ 12 }
     requires register { IfSome register (λ n. n < 8) }
     requires place { IfSome place PlaceFits }
@@ -164,7 +163,7 @@ fn put_behind(
 
 /// The bytes of the row with these operands, if they are of its kinds.
 #[tactic(auto, unfolding(crate::specs::Encoding::bytes_of))]
-pub fn fill(choice: Choice, first: Operand, second: Operand) -> Option<ArrayVec<u8, 12>>
+pub fn fill(choice: Choice, first: Operand, second: Operand) -> Option<RowBytes>
     requires { IfSome choice.register (λ n. n < 8) }
     ensures bytes { seen_bytes result ≡ bytes_of choice first second }
     ensures first { IsSome result → OperandFits first }

@@ -6,9 +6,8 @@ ghost use Rattle.dm_ins.specs.Order.{before};
 ghost use Rattle.dm_ins.specs.Encoding.{Best, CandidateAt, better_of, choice_at, seen_bytes};
 
 use crate::action::{Action, Mnemonic};
-use crate::fill::{Choice, fill};
+use crate::fill::{Choice, RowBytes, fill};
 use crate::table::{Entry, entry_at, member};
-use arrayvec::ArrayVec;
 
 /// The row under the first byte and, in a group, the reg field. A row outside the groups stands
 /// under the reg field 0 alone, so that each is met once.
@@ -55,7 +54,8 @@ fn choice(opcode: u8, register: u8) -> Option<Choice>
     }
 }
 
-fn is_before(a: &ArrayVec<u8, 12>, b: &ArrayVec<u8, 12>) -> bool
+/// Whether the first bytes are shorter, or as long and less byte by byte.
+fn is_before(a: &RowBytes, b: &RowBytes) -> bool
     ensures { result ≡ before a.now.items b.now.items }
 {
     if a.len() < b.len() {
@@ -74,7 +74,7 @@ fn is_same(a: Mnemonic, b: Mnemonic) -> bool
 }
 
 /// The bytes of the row under the first byte and the reg field, if it has the action.
-fn candidate(opcode: u8, register: u8, action: &Action) -> Option<ArrayVec<u8, 12>>
+fn candidate(opcode: u8, register: u8, action: &Action) -> Option<RowBytes>
     requires { register < 8 }
     ensures found { IfSome (seen_bytes result) (λ v. CandidateAt opcode register action.now v) }
     ensures none { IfNone (seen_bytes result) ((c : List ℕ) → CandidateAt opcode register action.now c → ⊥) }
@@ -87,7 +87,8 @@ fn candidate(opcode: u8, register: u8, action: &Action) -> Option<ArrayVec<u8, 1
     }
 }
 
-fn better(best: Option<ArrayVec<u8, 12>>, new: Option<ArrayVec<u8, 12>>) -> Option<ArrayVec<u8, 12>>
+/// The bytes that come first of the two, the best so far where they are the same.
+fn better(best: Option<RowBytes>, new: Option<RowBytes>) -> Option<RowBytes>
     ensures { seen_bytes result ≡ better_of (seen_bytes best) (seen_bytes new) }
 {
     match best {
@@ -104,11 +105,7 @@ fn better(best: Option<ArrayVec<u8, 12>>, new: Option<ArrayVec<u8, 12>>) -> Opti
 }
 
 /// The least of the best bytes so far and those of the rows under one more first byte.
-fn better_under(
-    opcode: u8,
-    action: &Action,
-    best: Option<ArrayVec<u8, 12>>,
-) -> Option<ArrayVec<u8, 12>>
+fn better_under(opcode: u8, action: &Action, best: Option<RowBytes>) -> Option<RowBytes>
     requires { Best (8 * opcode) action.now (seen_bytes best) }
     ensures { Best (8 * opcode + 8) action.now (seen_bytes result) }
 {
@@ -120,7 +117,7 @@ fn better_under(
 }
 
 /// The least of the rows' bytes for the action, or None where no row has it.
-pub fn least(action: &Action) -> Option<ArrayVec<u8, 12>>
+pub fn least(action: &Action) -> Option<RowBytes>
     ensures { Best 2048 action.now (seen_bytes result) }
 {
     let mut best = None;
