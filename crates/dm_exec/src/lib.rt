@@ -7,6 +7,7 @@ mod control;
 mod cpu;
 mod effect;
 mod jumps;
+mod laws;
 mod moves;
 mod operands;
 mod operation;
@@ -19,6 +20,7 @@ mod values;
 pub use cpu::Cpu;
 pub use dm_alu::Flags;
 pub use effect::{Next, exec};
+pub use laws::{halt_changes_nothing, ignores_unseen};
 pub use stack::interrupt_return;
 
 #[cfg(test)]

@@ -1,0 +1,14 @@
+//! Laws of the effects.
+ghost use Rattle.dm_exec.specs.Effect.{HaltKeeps};
+ghost use Rattle.dm_exec.specs.Unseen.{IgnoresUnseen};
+
+/// Where the processor stops, nothing changes.
+pub fn halt_changes_nothing()
+    ensures { HaltKeeps }
+{}
+
+/// No instruction depends on memory that no address shows, or changes it: with such a change made
+/// before, the effect is the effect with the same change made afterwards.
+pub fn ignores_unseen()
+    ensures { IgnoresUnseen }
+{}
