@@ -6,6 +6,7 @@ use crate::cpu::Cpu;
 use dm_alu::{Adjustment, adjust};
 
 /// Adjusts the accumulator.
+#[inline(never)]
 #[tactic(auto, unfolding(crate::specs::Adjustments::adjusted))]
 pub(crate) fn act(cpu: &mut Cpu, adjustment: Adjustment)
     ensures { cpu.new ≡ adjusted cpu.old adjustment }

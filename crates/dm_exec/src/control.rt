@@ -6,6 +6,7 @@ use crate::operation::FlagOperation;
 use dm_alu::Flags;
 
 /// The flags after an instruction that changes one of them.
+#[inline(never)]
 #[tactic(auto, unfolding(crate::specs::Control::flags_changed))]
 pub(crate) fn changed(operation: FlagOperation, flags: Flags) -> Flags
     ensures { result ≡ flags_changed operation flags }

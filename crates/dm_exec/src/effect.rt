@@ -28,9 +28,9 @@ pub fn exec(cpu: &mut Cpu, space: &mut Space, ins: &Ins, len: u8) -> Next
     ensures effect { guest cpu.new space.new.memory ≡ effect (guest cpu.old space.old.memory) ins.now len }
 {
     let start = cpu.ip;
-    let segment = ins.prefixes.segment;
-    let first = ins.action.first;
-    let second = ins.action.second;
+    let segment = &ins.prefixes.segment;
+    let first = &ins.action.first;
+    let second = &ins.action.second;
     cpu.ip = start.wrapping_add(len as u16);
     match operation_of(ins.action.mnemonic) {
         Operation::Move(operation) => moves::act(cpu, space, segment, operation, first, second),

@@ -16,6 +16,7 @@ mod shifts;
 mod stack;
 mod strings;
 mod values;
+mod widths;
 
 pub use cpu::Cpu;
 pub use dm_alu::Flags;

@@ -39,15 +39,16 @@ fn set_double(width: Width, cpu: &mut Cpu, value: u32)
 }
 
 /// Multiplies AL or AX by an operand.
+#[inline(never)]
 #[tactic(auto, unfolding(crate::specs::Products::multiplied))]
 pub(crate) fn multiply(
     cpu: &mut Cpu,
     space: &Space,
-    override_: Option<SegmentRegister>,
+    override_: &Option<SegmentRegister>,
     sign: Sign,
-    operand: Operand,
+    operand: &Operand,
 )
-    ensures { guest cpu.new space.now.memory ≡ multiplied (guest cpu.old space.now.memory) override_ sign operand }
+    ensures { guest cpu.new space.now.memory ≡ multiplied (guest cpu.old space.now.memory) override_.now sign operand.now }
 {
     let width = values::width(operand);
     let left = values::accumulator(width, cpu);
@@ -74,15 +75,16 @@ fn set_division(width: Width, cpu: &mut Cpu, division: Division)
 }
 
 /// Divides AX, or DX and AX, by an operand; interrupt 0 where there is no quotient.
+#[inline(never)]
 #[tactic(auto, unfolding(crate::specs::Products::divided, crate::specs::Products::after_division))]
 pub(crate) fn divide(
     cpu: &mut Cpu,
     space: &mut Space,
-    override_: Option<SegmentRegister>,
+    override_: &Option<SegmentRegister>,
     sign: Sign,
-    operand: Operand,
+    operand: &Operand,
 )
-    ensures { guest cpu.new space.new.memory ≡ divided (guest cpu.old space.old.memory) override_ sign operand }
+    ensures { guest cpu.new space.new.memory ≡ divided (guest cpu.old space.old.memory) override_.now sign operand.now }
 {
     let width = values::width(operand);
     let divisor = values::value(width, cpu, space, override_, operand);
