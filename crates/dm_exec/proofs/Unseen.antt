@@ -175,11 +175,11 @@ move_effect-unseen f u g override moves.Input a b = input-unseen f u g override 
 
 sum_into-unseen : (f : Memory → Memory) (u : IsUnseen f) (g : Guest) (override : Option SegmentRegister) (c : Bool) (a b : Operand) → sum_into (changed f g) override c a b ≡ changed f (sum_into g override c a b)
 unfolding sum_into
-sum_into-unseen f u g override c a b = simp (value_in-unseen f u, with_operand-unseen f u)
+sum_into-unseen f u g override c a b = simp (value_in-unseen f u) (with_operand-unseen f u _ override a _)
 
 difference_into-unseen : (f : Memory → Memory) (u : IsUnseen f) (g : Guest) (override : Option SegmentRegister) (c : Bool) (a b : Operand) → difference_into (changed f g) override c a b ≡ changed f (difference_into g override c a b)
 unfolding difference_into
-difference_into-unseen f u g override c a b = simp (value_in-unseen f u, with_operand-unseen f u)
+difference_into-unseen f u g override c a b = simp (value_in-unseen f u) (with_operand-unseen f u _ override a _)
 
 compared-unseen : (f : Memory → Memory) (u : IsUnseen f) (g : Guest) (override : Option SegmentRegister) (a b : Operand) → compared (changed f g) override a b ≡ changed f (compared g override a b)
 unfolding compared
@@ -187,7 +187,7 @@ compared-unseen f u g override a b = simp (value_in-unseen f u)
 
 logic_into-unseen : (f : Memory → Memory) (u : IsUnseen f) (g : Guest) (override : Option SegmentRegister) (x : LogicOperation) (a b : Operand) → logic_into (changed f g) override x a b ≡ changed f (logic_into g override x a b)
 unfolding logic_into
-logic_into-unseen f u g override x a b = simp (value_in-unseen f u, with_operand-unseen f u)
+logic_into-unseen f u g override x a b = simp (value_in-unseen f u) (with_operand-unseen f u _ override a _)
 
 tested-unseen : (f : Memory → Memory) (u : IsUnseen f) (g : Guest) (override : Option SegmentRegister) (a b : Operand) → tested (changed f g) override a b ≡ changed f (tested g override a b)
 unfolding tested
@@ -195,15 +195,15 @@ tested-unseen f u g override a b = simp (value_in-unseen f u)
 
 incremented-unseen : (f : Memory → Memory) (u : IsUnseen f) (g : Guest) (override : Option SegmentRegister) (a : Operand) → incremented (changed f g) override a ≡ changed f (incremented g override a)
 unfolding incremented
-incremented-unseen f u g override a = simp (value_in-unseen f u, with_operand-unseen f u)
+incremented-unseen f u g override a = simp (value_in-unseen f u) (with_operand-unseen f u _ override a _)
 
 decremented-unseen : (f : Memory → Memory) (u : IsUnseen f) (g : Guest) (override : Option SegmentRegister) (a : Operand) → decremented (changed f g) override a ≡ changed f (decremented g override a)
 unfolding decremented
-decremented-unseen f u g override a = simp (value_in-unseen f u, with_operand-unseen f u)
+decremented-unseen f u g override a = simp (value_in-unseen f u) (with_operand-unseen f u _ override a _)
 
 negated-unseen : (f : Memory → Memory) (u : IsUnseen f) (g : Guest) (override : Option SegmentRegister) (a : Operand) → negated (changed f g) override a ≡ changed f (negated g override a)
 unfolding negated
-negated-unseen f u g override a = simp (value_in-unseen f u, with_operand-unseen f u)
+negated-unseen f u g override a = simp (value_in-unseen f u) (with_operand-unseen f u _ override a _)
 
 complemented-unseen : (f : Memory → Memory) (u : IsUnseen f) (g : Guest) (override : Option SegmentRegister) (a : Operand) → complemented (changed f g) override a ≡ changed f (complemented g override a)
 unfolding complemented
@@ -225,7 +225,7 @@ arithmetic-unseen f u g override Complement a b = complemented-unseen f u g over
 
 shifted-unseen : (f : Memory → Memory) (u : IsUnseen f) (g : Guest) (override : Option SegmentRegister) (x : ShiftOperation) (a b : Operand) → shifted (changed f g) override x a b ≡ changed f (shifted g override x a b)
 unfolding shifted
-shifted-unseen f u g override x a b = simp (value_in-unseen f u, value_of-unseen f u, with_operand-unseen f u)
+shifted-unseen f u g override x a b = simp (value_in-unseen f u, value_of-unseen f u) (with_operand-unseen f u _ override a _)
 
 multiplied-unseen : (f : Memory → Memory) (u : IsUnseen f) (g : Guest) (override : Option SegmentRegister) (s : Sign) (a : Operand) → multiplied (changed f g) override s a ≡ changed f (multiplied g override s a)
 unfolding multiplied
