@@ -2,3 +2,4 @@ pub mod Memory
 pub mod Rom
 pub mod Start
 pub mod Lending
+pub mod Places
