@@ -231,3 +231,6 @@ shift-apart Nothing q i j si sj ap' aq w e = absurd w
 pub paragraph-apart : (m : Memory) (h g i j : ℕ) → i < 16 → j < 16 → IsWritable (place m (16 * h)) → place m (16 * h + i) ≡ place m (16 * g + j) → (place m (16 * h) ≡ place m (16 * g)) × (i ≡ j)
 paragraph-apart m h g i j si sj w e =
     shift-apart (place m (16 * h)) (place m (16 * g)) i j si sj (paragraph-aligned m h) (paragraph-aligned m g) w (sym (paragraph-shift m h i si) ∙ e ∙ paragraph-shift m g j sj)
+
+pub poked-kept : (S : Memory) (a v : ℕ) (T : Memory) (c : ℕ) → IsPoked S a v T → place S c ≢ place S a → peek T c ≡ peek S c
+poked-kept S a v T c p ne = peek-place T c ∙ ap (byte_at T) (place-shaped S T p.shape c) ∙ p.kept _ ne ∙ sym (peek-place S c)

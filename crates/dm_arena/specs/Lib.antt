@@ -1,0 +1,6 @@
+pub mod Chain
+pub mod Reading
+pub mod Blocks
+pub mod Joins
+pub mod Allocation
+pub mod Owned
