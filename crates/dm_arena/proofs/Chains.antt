@@ -22,6 +22,7 @@ at_next S a k = ap (peek S) (omega arith)
 pub header_kept : (S T : Memory) (b : Header) (m : ℕ) → ((k : ℕ) → k < 5 → peek T (16 * b.segment + k) ≡ peek S (16 * b.segment + k)) → IsHeader S b m → IsHeader T b m
 header_kept S T b m same x = record {
   fits = x.fits;
+  bytes = λ k small. subst (λ (v : ℕ). v < 256) (sym (same k small)) (x.bytes k small);
   signed = sym (at_zero T _) ∙ same 0 (omega arith) ∙ at_zero S _ ∙ x.signed;
   owned = ap₂ (λ x y. x + 256 * y) (same 1 (omega arith)) (at_next T (16 * b.segment) 1 ∙ same 2 (omega arith) ∙ sym (at_next S (16 * b.segment) 1)) ∙ x.owned;
   sized = ap₂ (λ x y. x + 256 * y) (same 3 (omega arith)) (at_next T (16 * b.segment) 3 ∙ same 4 (omega arith) ∙ sym (at_next S (16 * b.segment) 3)) ∙ x.sized;

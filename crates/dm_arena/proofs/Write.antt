@@ -1,5 +1,5 @@
 -- Five bytes written at a paragraph.
-use Rattle.std.proofs.Common.{◌≡◌, ◌≢◌, ℕ, ◌+◌, ◌*◌, ◌<◌, ◌≤◌, ◌/◌, ◌%◌, Bool, true, false, cond, List, refl, sym, ◌∙◌, ap, ap₂, subst, arith}
+use Rattle.std.proofs.Common.{◌≡◌, ◌≢◌, ℕ, suc, zero, ◌+◌, ◌*◌, ◌<◌, ◌≤◌, ◌/◌, ◌%◌, Bool, true, false, cond, List, refl, sym, ◌∙◌, ap, ap₂, subst, arith}
 use Rattle.dm_space.specs.declared.place.Place.{Place}
 use Rattle.dm_space.specs.Memory.{Memory, place, peek, byte_at}
 use Rattle.dm_space.specs.Places.{IsWritable, IsShaped, IsPoked}
@@ -7,6 +7,14 @@ use Rattle.dm_space.proofs.Places.{paragraph-writable, paragraph-apart, place-sh
 use Rattle.dm_arena.specs.declared.header.Header.{Header}
 use Rattle.dm_arena.specs.Chain.{IsHeader, word}
 use Rattle.dm_arena.specs.Reading.{IsHeaderWritten}
+
+pub each_of_five : (P : ℕ → Type 0) → P 0 → P 1 → P 2 → P 3 → P 4 → (k : ℕ) → k < 5 → P k
+each_of_five P a b c d e zero h = a
+each_of_five P a b c d e (suc zero) h = b
+each_of_five P a b c d e (suc (suc zero)) h = c
+each_of_five P a b c d e (suc (suc (suc zero))) h = d
+each_of_five P a b c d e (suc (suc (suc (suc zero)))) h = e
+each_of_five P a b c d e (suc (suc (suc (suc (suc k))))) h = absurd (omega arith)
 
 poked-same : (S : Memory) (a v : ℕ) (T : Memory) → IsPoked S a v T → IsWritable (place S a) → peek T a ≡ v
 poked-same S a v T p w = poked-read S a v T p w
@@ -60,12 +68,16 @@ module _ (S0 S1 S2 S3 S4 S5 : Memory) (h v0 v1 v2 v3 v4 : ℕ) (p0 : IsPoked S0 
     b4 : peek S5 (16 * h + 4) ≡ v4
     b4 = same S4 S5 4 v4 m4 p4 (omega arith)
 
+    under : {a v : ℕ} → a ≡ v → v < 256 → a < 256
+    under e l = omega arith
+
     at : (a b v : ℕ) → a ≡ b → peek S5 a ≡ v → peek S5 b ≡ v
     at a b v e f = let P : ℕ → Type 0 = λ x. peek S5 x ≡ v in subst P e f
 
-    pub header_written : (o s m : ℕ) → h + 1 + s ≤ 0xFFFF → v0 ≡ m → v1 + 256 * v2 ≡ o → v3 + 256 * v4 ≡ s → IsHeader S5 (record { segment = h; owner = o; size = s }) m
-    header_written o s m fits e0 eo es = record {
+    pub header_written : (o s m : ℕ) → h + 1 + s ≤ 0xFFFF → v0 < 256 → v1 < 256 → v2 < 256 → v3 < 256 → v4 < 256 → v0 ≡ m → v1 + 256 * v2 ≡ o → v3 + 256 * v4 ≡ s → IsHeader S5 (record { segment = h; owner = o; size = s }) m
+    header_written o s m fits l0 l1 l2 l3 l4 e0 eo es = record {
       fits = fits;
+      bytes = each_of_five (λ k. peek S5 (16 * h + k) < 256) (under b0 l0) (under b1 l1) (under b2 l2) (under b3 l3) (under b4 l4);
       signed = at _ _ v0 (omega arith) b0 ∙ e0;
       owned = ap₂ (λ x y. x + 256 * y) b1 (at (16 * h + 2) (16 * h + 1 + 1) v2 (omega arith) b2) ∙ eo;
       sized = ap₂ (λ x y. x + 256 * y) b3 (at (16 * h + 4) (16 * h + 3 + 1) v4 (omega arith) b4) ∙ es;

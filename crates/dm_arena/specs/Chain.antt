@@ -23,6 +23,7 @@ next b = b.segment + 1 + b.size
 -- memory has the header b with this signature
 pub record IsHeader (S : Memory) (b : Header) (signature : ℕ) : Type 0 where
   pub fits : b.segment + 1 + b.size ≤ 0xFFFF
+  pub bytes : (k : ℕ) → k < 5 → peek S (16 * b.segment + k) < 256
   pub signed : peek S (16 * b.segment) ≡ signature
   pub owned : word S (16 * b.segment + 1) ≡ b.owner
   pub sized : word S (16 * b.segment + 3) ≡ b.size

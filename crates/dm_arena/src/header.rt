@@ -63,7 +63,9 @@ fn byte_of(space: &Space, segment: u16, offset: u16) -> u8
 /// A word of the paragraph at a segment, low byte first.
 fn word_of(space: &Space, segment: u16, offset: u16) -> u16
     requires { offset < 15 }
-    ensures { result ≡ word space.now.memory (16 * segment + offset) }
+    ensures word { result ≡ word space.now.memory (16 * segment + offset) }
+    ensures low { peek space.now.memory (16 * segment + offset) < 256 }
+    ensures high { peek space.now.memory (16 * segment + offset + 1) < 256 }
 {
     let low = byte_of(space, segment, offset);
     let high = byte_of(space, segment, offset + 1);

@@ -14,9 +14,11 @@ mod joined;
 mod list;
 mod owned;
 mod refusal;
+mod walk;
 
 pub use allocation::allocate;
 pub use fit::Strategy;
 pub use header::{Entry, Header};
 pub use owned::{free, free_all, resize};
 pub use refusal::Refusal;
+pub use walk::{walk, Step, Walk};
