@@ -10,3 +10,4 @@ pub mod Blocks
 pub mod Growing
 pub mod Releasing
 pub mod Unique
+pub mod Walks

@@ -4,4 +4,4 @@ pub mod Blocks
 pub mod Joins
 pub mod Allocation
 pub mod Owned
-pub mod Walk
+pub mod Listing

@@ -12,13 +12,13 @@ mod fit;
 mod header;
 mod joined;
 mod list;
+mod listing;
 mod owned;
 mod refusal;
-mod walk;
 
 pub use allocation::allocate;
 pub use fit::Strategy;
 pub use header::{Entry, Header};
+pub use listing::{Headers, Step, walk};
 pub use owned::{free, free_all, resize};
 pub use refusal::Refusal;
-pub use walk::{walk, Step, Walk};

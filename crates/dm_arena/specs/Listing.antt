@@ -3,8 +3,8 @@ use Rattle.std.specs.Prelude.{◌≡◌, ℕ, List, [], ◌∷◌, ◌++◌, Opt
 use Rattle.dm_space.specs.Memory.{Memory}
 use Rattle.dm_arena.specs.declared.header.Header.{Header}
 use Rattle.dm_arena.specs.declared.header.Entry.{Entry}
-use Rattle.dm_arena.specs.declared.walk.Step.{Step}
-use Rattle.dm_arena.specs.declared.walk.Step.TheVariants.{Told, End, Destroyed}
+use Rattle.dm_arena.specs.declared.listing.Step.{Step}
+use Rattle.dm_arena.specs.declared.listing.Step.TheVariants.{Told, End, Destroyed}
 use Rattle.dm_arena.specs.Chain.{first_header, next, IsHeader, IsClear, IsArena, NoArena}
 use Rattle.dm_arena.specs.Reading.{mark}
 
@@ -36,10 +36,10 @@ Closes S P e = e.last ≡ true → IsArena S first_header (P ++ e.header ∷ [])
 -- a step from the segment t, behind the headers P
 abbrev pub IsStepFrom : Memory → ℕ → Step → Option ℕ → Type 0
 IsStepFrom S t (Told e) at =
-  (at ≡ (if e.last then None else Some (next e.header))) × ((P : List Header) → Leads S P t → Follows S P t e × Closes S P e)
+    (at ≡ (if e.last then None else Some (next e.header))) × ((P : List Header) → Leads S P t → Follows S P t e × Closes S P e)
 IsStepFrom S t End at = ⊥
 IsStepFrom S t (Destroyed h) at =
-  (h ≡ t) × (at ≡ Some t) × NoArena S first_header × ((P : List Header) → Leads S P t → (e : Entry) → Follows S P t e → ⊥)
+    (h ≡ t) × (at ≡ Some t) × NoArena S first_header × ((P : List Header) → Leads S P t → (e : Entry) → Follows S P t e → ⊥)
 
 -- the header at the present segment is told, or it breaks the list; behind the last one is the end
 abbrev pub IsStep : Memory → Option ℕ → Step → Option ℕ → Type 0

@@ -1,9 +1,9 @@
 //! A listing of the arena: its headers one by one.
 ghost use Rattle.std.specs.Prelude.{◌≡◌, Some};
 ghost use Rattle.dm_arena.specs.Chain.{first_header};
-ghost use Rattle.dm_arena.specs.Walk.{IsStep, IsUnderWay};
+ghost use Rattle.dm_arena.specs.Listing.{IsStep, IsUnderWay};
 
-use crate::header::{header_at, Entry};
+use crate::header::{Entry, header_at};
 use crate::list::{FIRST, TOP};
 use dm_space::Space;
 use std::marker::Model;
@@ -25,13 +25,13 @@ pub enum Step {
 ///
 /// Contracts see the memory, and where the next header has to stand.
 #[derive(Drop)]
-pub struct Walk<'a> {
+pub struct Headers<'a> {
     space: &'a Space,
     at: Option<u16>,
 }
 
-impl<'a> Model for Walk<'a> {
-    ghost use Rattle.dm_arena.specs.Walk.{Walking, IsUnderWay};
+impl<'a> Model for Headers<'a> {
+    ghost use Rattle.dm_arena.specs.Listing.{Walking, IsUnderWay};
 
     ghost Value = { Walking };
 
@@ -41,17 +41,17 @@ impl<'a> Model for Walk<'a> {
 }
 
 /// A walk that has told no header yet.
-pub fn walk(space: &Space) -> Walk<'_>
+pub fn walk(space: &Space) -> Headers<'_>
     ensures memory { result.memory ≡ space.now.memory }
     ensures at { result.at ≡ Some first_header }
 {
-    Walk {
+    Headers {
         space,
         at: Some(FIRST),
     }
 }
 
-impl<'a> Walk<'a> {
+impl<'a> Headers<'a> {
     /// Tells the next header, or that the list has ended or is destroyed. Behind the end, and at a
     /// header that breaks the list, the walk stays and answers the same again.
     pub fn advance(&mut self) -> Step
