@@ -19,11 +19,11 @@ use Rattle.dm_arena.proofs.Chains.{has_left, has_right, has_either, spells_end, 
 use Rattle.dm_arena.proofs.Reading.{clear-below}
 use Rattle.dm_arena.proofs.Fitting.{fit_found}
 
-bool_cases : (b : Bool) → (b ≡ true) ⊎ (b ≡ false)
+pub bool_cases : (b : Bool) → (b ≡ true) ⊎ (b ≡ false)
 bool_cases true = inl refl
 bool_cases false = inr refl
 
-join_after-cond : (b c : Header) (L : List Header) (r : Bool) → is_free b && is_free c ≡ r → join_after b (c ∷ L) ≡ cond r (join_after (merge b c) L) (b ∷ join_after c L)
+pub join_after-cond : (b c : Header) (L : List Header) (r : Bool) → is_free b && is_free c ≡ r → join_after b (c ∷ L) ≡ cond r (join_after (merge b c) L) (b ∷ join_after c L)
 join_after-cond b c L r e = rw e refl
 
 -- the headers of the joined list are headers of the list
@@ -53,7 +53,7 @@ join_after-fits S b (d ∷ L) f s c i =
       | inr e ↦ elim (subst P (join_after-cond b d L false e) i) [ inl q ↦ rw q f | inr r ↦ join_after-fits S d L fd s.2 c r ]
     ]
 
-in_middle : (P : List Header) (b : Header) (Q : List Header) → IsIn b (P ++ b ∷ Q)
+pub in_middle : (P : List Header) (b : Header) (Q : List Header) → IsIn b (P ++ b ∷ Q)
 in_middle [] b Q = inl refl
 in_middle (p ∷ P) b Q = inr (in_middle P b Q)
 

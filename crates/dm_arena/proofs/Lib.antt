@@ -11,3 +11,4 @@ pub mod Growing
 pub mod Releasing
 pub mod Unique
 pub mod Walks
+pub mod OneAnswer

@@ -5,3 +5,4 @@ pub mod Joins
 pub mod Allocation
 pub mod Owned
 pub mod Listing
+pub mod Laws

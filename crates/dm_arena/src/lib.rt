@@ -11,6 +11,7 @@ mod cut;
 mod fit;
 mod header;
 mod joined;
+mod laws;
 mod list;
 mod listing;
 mod owned;
@@ -19,6 +20,10 @@ mod refusal;
 pub use allocation::allocate;
 pub use fit::Strategy;
 pub use header::{Entry, Header};
+pub use laws::{
+    allocation_has_one_answer, chain_is_short, chain_is_unique, freeing_has_one_answer,
+    releasing_has_one_answer, resizing_has_one_answer,
+};
 pub use listing::{Headers, Step, walk};
 pub use owned::{free, free_all, resize};
 pub use refusal::Refusal;

@@ -1,9 +1,9 @@
 -- Laws of places for the layers above: what a write keeps, and which bytes of paragraphs share a place.
-use Rattle.std.proofs.Common.{◌≡◌, ◌≢◌, ℕ, suc, zero, ◌+◌, ◌-◌, ◌*◌, ◌/◌, ◌%◌, ◌<◌, ◌≤◌, Bool, true, false, nat_lt, List, [], ◌∷◌, Option, Some, None, length, get_or, set, refl, sym, ◌∙◌, ap, subst, rules, arith, inl, inr, get_or-set_same, get_or-set_other}
+use Rattle.std.proofs.Common.{◌≡◌, ◌≢◌, ℕ, suc, zero, ◌+◌, ◌-◌, ◌*◌, ◌/◌, ◌%◌, ◌<◌, ◌≤◌, Bool, true, false, nat_lt, List, [], ◌∷◌, Option, Some, None, length, get_or, set, refl, sym, ◌∙◌, ap, subst, rules, arith, ◌⊎◌, inl, inr, get_or-set_same, get_or-set_other}
 use Rattle.std.proofs.lemmas.Bool.{cases_lt}
 use Rattle.std.proofs.lemmas.Bool.Decides.{nat_tests}
 use Rattle.std.proofs.lemmas.Grind.{common_steps}
-use Rattle.std.proofs.lemmas.List.{length-set}
+use Rattle.std.proofs.lemmas.List.{length-set, ext_get_or}
 use Rattle.std.specs.Prelude.{IfSome, if◌then◌else◌, slice_index_or}
 use Rattle.dm_space.specs.declared.place.Place.{Place}
 use Rattle.dm_space.specs.declared.place.Place.TheVariants.{Low, Page, Rom, Nothing}
@@ -234,3 +234,43 @@ paragraph-apart m h g i j si sj w e =
 
 pub poked-kept : (S : Memory) (a v : ℕ) (T : Memory) (c : ℕ) → IsPoked S a v T → place S c ≢ place S a → peek T c ≡ peek S c
 poked-kept S a v T c p ne = peek-place T c ∙ ap (byte_at T) (place-shaped S T p.shape c) ∙ p.kept _ ne ∙ sym (peek-place S c)
+
+nat-decide : (a b : ℕ) → (a ≡ b) ⊎ (a ≢ b)
+nat-decide a b = elim (cases_lt a b) [
+  | inl l ↦ inr (λ e. omega arith)
+  | inr h ↦ elim (cases_lt b a) [ inl l ↦ inr (λ e. omega arith) | inr k ↦ inl (omega arith) ]
+]
+
+rom-injective : (a b : ℕ) → Rom a ≡ Rom b → a ≡ b
+rom-injective a b e = cc
+
+-- two places are one, or they are not
+pub place-decide : (p q : Place) → (p ≡ q) ⊎ (p ≢ q)
+place-decide (Low a) (Low b) = elim (nat-decide a b) [ inl e ↦ inl (ap Low e) | inr n ↦ inr (λ e. n (low-injective a b e)) ]
+place-decide (Rom a) (Rom b) = elim (nat-decide a b) [ inl e ↦ inl (ap Rom e) | inr n ↦ inr (λ e. n (rom-injective a b e)) ]
+place-decide (Page p k) (Page q i) = elim (nat-decide p q) [
+  | inl e ↦ elim (nat-decide k i) [ inl f ↦ inl (page-of p k q i e f) | inr n ↦ inr (λ f. n (page-second p k q i f)) ]
+  | inr n ↦ inr (λ f. n (page-first p k q i f))
+]
+place-decide Nothing Nothing = inl refl
+place-decide (Low a) (Page q i) = inr (λ e. absurd (cc))
+place-decide (Low a) (Rom b) = inr (λ e. absurd (cc))
+place-decide (Low a) Nothing = inr (λ e. absurd (cc))
+place-decide (Page p k) (Low b) = inr (λ e. absurd (cc))
+place-decide (Page p k) (Rom b) = inr (λ e. absurd (cc))
+place-decide (Page p k) Nothing = inr (λ e. absurd (cc))
+place-decide (Rom a) (Low b) = inr (λ e. absurd (cc))
+place-decide (Rom a) (Page q i) = inr (λ e. absurd (cc))
+place-decide (Rom a) Nothing = inr (λ e. absurd (cc))
+place-decide Nothing (Low b) = inr (λ e. absurd (cc))
+place-decide Nothing (Page q i) = inr (λ e. absurd (cc))
+place-decide Nothing (Rom b) = inr (λ e. absurd (cc))
+
+-- memories of one shape are the same where they have the same byte at each place
+pub memory-same : (S T U : Memory) → IsShaped S T → IsShaped S U → ((p : Place) → byte_at T p ≡ byte_at U p) → T ≡ U
+memory-same S T U s t e =
+    let low : T.low ≡ U.low = ext_get_or 0 T.low U.low (s.ram_size ∙ sym t.ram_size) (λ k h. e (Low k)) in
+    let pages : T.pages ≡ U.pages = ext_get_or [] T.pages U.pages (s.page_count ∙ sym t.page_count) (λ p h. ext_get_or 0 (page_bytes T p) (page_bytes U p) (s.page_sizes p ∙ sym (t.page_sizes p)) (λ k j. e (Page p k))) in
+    let windows : T.windows ≡ U.windows = s.windows ∙ sym t.windows in
+    let a20 : T.a20 ≡ U.a20 = s.a20 ∙ sym t.a20 in
+    λ i. record { low = low i; pages = pages i; windows = windows i; a20 = a20 i }
