@@ -27,3 +27,6 @@ pub use laws::{
 pub use listing::{Headers, Step, walk};
 pub use owned::{free, free_all, resize};
 pub use refusal::Refusal;
+
+#[cfg(test)]
+mod tests;

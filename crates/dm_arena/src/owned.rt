@@ -80,10 +80,10 @@ pub fn resize(space: &mut Space, segment: u16, n: u16) -> Result<(), Refusal>
     if !is_arena(space) {
         return Err(Refusal::Destroyed);
     }
-    let Some(entry) = find(space, segment) else {
+    let Some(block) = find(space, segment) else {
         return Err(Refusal::NoBlock);
     };
-    let grown = grow(space, entry);
+    let grown = grow(space, block);
     if n > grown.header.size {
         return Err(Refusal::Short {
             largest: grown.header.size,
