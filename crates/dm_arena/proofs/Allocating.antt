@@ -1,0 +1,205 @@
+-- The parts of an allocation.
+use Rattle.std.proofs.Common.{◌≡◌, ◌≢◌, ℕ, ◌+◌, ◌-◌, ◌*◌, ◌<◌, ◌≤◌, Bool, true, false, cond, ◌&&◌, IsTrue, List, [], ◌∷◌, ◌++◌, ◌⊎◌, inl, inr, refl, sym, ◌∙◌, ap, ap₂, subst, arith, Option, Some, None, nat_eq}
+use Rattle.std.specs.Prelude.{MatchOption, option_to_list}
+use Rattle.std.proofs.lemmas.Bool.Decides.{nat_tests}
+use Rattle.dm_space.specs.declared.place.Place.{Place}
+use Rattle.dm_space.specs.Memory.{Memory, place, peek, byte_at}
+use Rattle.dm_space.specs.Places.{IsWritable, IsShaped, IsPoked}
+use Rattle.dm_space.proofs.Places.{place-shaped, shaped-then, shaped-same, peek-place}
+use Rattle.dm_arena.specs.declared.header.Header.{Header}
+use Rattle.dm_arena.specs.declared.cut.Cut.{Cut}
+use Rattle.dm_arena.specs.declared.fit.Strategy.{Strategy}
+use Rattle.dm_arena.specs.declared.fit.Strategy.TheVariants.{First, Best, Last}
+use Rattle.dm_arena.specs.Chain.{IsHeader, signature, Spells, HasHeader, IsNonEmpty, next, IsClear, IsArena, Becomes, DiffersInHeaders}
+use Rattle.dm_arena.specs.Reading.{is_nil, IsSpelledFrom}
+use Rattle.dm_arena.specs.Blocks.{is_free, merge, join, join_after, fits, pick, largest, cut, cut_low, cut_high, taken, IsIn, IsFit}
+use Rattle.dm_arena.specs.Joins.{Fills, IsReplaceable, IsReplaced, IsJoined, cut_list}
+use Rattle.dm_arena.specs.Allocation.{Taking, changed, Placing, IsPlan}
+use Rattle.dm_arena.proofs.Chains.{has_left, has_right, has_either, spells_end, clear_within, clear_map}
+use Rattle.dm_arena.proofs.Reading.{clear-below}
+use Rattle.dm_arena.proofs.Fitting.{fit_found}
+
+pub bool_cases : (b : Bool) → (b ≡ true) ⊎ (b ≡ false)
+bool_cases true = inl refl
+bool_cases false = inr refl
+
+pub join_after-cond : (b c : Header) (L : List Header) (r : Bool) → is_free b && is_free c ≡ r → join_after b (c ∷ L) ≡ cond r (join_after (merge b c) L) (b ∷ join_after c L)
+join_after-cond b c L r e = rw e refl
+
+-- the headers of the joined list are headers of the list
+join_after-within : (b : Header) (L : List Header) (g : ℕ) → HasHeader (join_after b L) g → (b.segment ≡ g) ⊎ HasHeader L g
+join_after-within b [] g w = elim w [ inl e ↦ inl e | inr r ↦ absurd r ]
+join_after-within b (c ∷ L) g w =
+    let P : List Header → Type 0 = λ M. HasHeader M g in
+    elim (bool_cases (is_free b && is_free c)) [
+      | inl e ↦ elim (join_after-within (merge b c) L g (subst P (join_after-cond b c L true e) w)) [ inl s ↦ inl s | inr r ↦ inr (inr r) ]
+      | inr e ↦ elim (subst P (join_after-cond b c L false e) w) [ inl s ↦ inl s | inr r ↦ inr (join_after-within c L g r) ]
+    ]
+
+pub join-within : (L : List Header) (g : ℕ) → HasHeader (join L) g → HasHeader L g
+join-within [] g w = w
+join-within (b ∷ L) g w = join_after-within b L g w
+
+-- blocks of the joined list end below FFFFh
+join_after-fits : (S : Memory) (b : Header) (L : List Header) → next b ≤ 0xFFFF → Spells S (next b) L → (c : Header) → IsIn c (join_after b L) → next c ≤ 0xFFFF
+join_after-fits S b [] f s c i = elim i [ inl e ↦ rw e f | inr r ↦ absurd r ]
+join_after-fits S b (d ∷ L) f s c i =
+    let P : List Header → Type 0 = λ M. IsIn c M in
+    let e = s.0 in
+    let fd : next d ≤ 0xFFFF = s.1.fits in
+    let at : next (merge b d) ≡ next d = omega arith in
+    elim (bool_cases (is_free b && is_free d)) [
+      | inl e ↦ join_after-fits S (merge b d) L (omega arith) (let Q : ℕ → Type 0 = λ z. Spells S z L in subst Q (sym at) s.2) c (subst P (join_after-cond b d L true e) i)
+      | inr e ↦ elim (subst P (join_after-cond b d L false e) i) [ inl q ↦ rw q f | inr r ↦ join_after-fits S d L fd s.2 c r ]
+    ]
+
+pub in_middle : (P : List Header) (b : Header) (Q : List Header) → IsIn b (P ++ b ∷ Q)
+in_middle [] b Q = inl refl
+in_middle (p ∷ P) b Q = inr (in_middle P b Q)
+
+pub block_fits : (S : Memory) (h : ℕ) (L P : List Header) (b : Header) (Q : List Header) → Spells S h L → join L ≡ P ++ b ∷ Q → next b ≤ 0xFFFF
+block_fits S h [] P b Q s e = let F : List Header → Type 0 = λ M. IsIn b M in absurd (subst F (sym e) (in_middle P b Q))
+block_fits S h (c ∷ L) P b Q s e = let F : List Header → Type 0 = λ M. IsIn b M in join_after-fits S c L s.1.fits s.2 b (subst F (sym e) (in_middle P b Q))
+
+-- the parts of a cut block lie end to end
+fills_by : (h t : ℕ) (C D : List Header) → C ≡ D → Fills h D t → Fills h C t
+fills_by h t C D e f = let P : List Header → Type 0 = λ X. Fills h X t in subst P (sym e) f
+
+less_of : (a n : ℕ) → nat_eq a n ≡ false → n ≤ a → n < a
+less_of a n e h = grind (arith, nat_tests)
+
+cut_low-fills : (n owner : ℕ) (b : Header) (r : Bool) → nat_eq b.size n ≡ r → n ≤ b.size → Fills b.segment (cut_low n owner b) (next b)
+cut_low-fills n owner b true e h = fills_by _ _ _ (record b { owner = owner } ∷ []) (rw e refl) (refl, refl)
+cut_low-fills n owner b false e h =
+    let l = less_of b.size n e h in
+    fills_by _ _ _ (record { segment = b.segment; owner = owner; size = n } ∷ record { segment = b.segment + 1 + n; owner = 0; size = b.size - n - 1 } ∷ []) (rw e refl) (refl, (refl, omega arith))
+
+cut_high-fills : (n owner : ℕ) (b : Header) (r : Bool) → nat_eq b.size n ≡ r → n ≤ b.size → Fills b.segment (cut_high n owner b) (next b)
+cut_high-fills n owner b true e h = fills_by _ _ _ (record b { owner = owner } ∷ []) (rw e refl) (refl, refl)
+cut_high-fills n owner b false e h =
+    let l = less_of b.size n e h in
+    fills_by _ _ _ (record { segment = b.segment; owner = 0; size = b.size - n - 1 } ∷ record { segment = b.segment + b.size - n; owner = owner; size = n } ∷ []) (rw e refl) (refl, (omega arith, omega arith))
+
+pub cut_fills : (st : Strategy) (n owner : ℕ) (b : Header) → n ≤ b.size → Fills b.segment (cut st n owner b) (next b)
+cut_fills First n owner b h = cut_low-fills n owner b _ refl h
+cut_fills Best n owner b h = cut_low-fills n owner b _ refl h
+cut_fills Last n owner b h = cut_high-fills n owner b _ refl h
+
+pub fits_size : (n : ℕ) (b : Header) → IsTrue (fits n b) → n ≤ b.size
+fits_size n b h = grind (arith, nat_tests)
+
+-- the new list is clear where its new header is below A000h
+joined_has : (L P : List Header) (b : Header) (Q : List Header) → join L ≡ P ++ b ∷ Q → (g : ℕ) → HasHeader (P ++ b ∷ Q) g → HasHeader L g
+joined_has L P b Q e g w = join-within L g (let F : List Header → Type 0 = λ M. HasHeader M g in subst F (sym e) w)
+
+pub low_rest : (o : Option Header) → MatchOption o (Unit {0}) (λ c. c.segment < 0xA000) → (f : Header) → f.segment < 0xA000 → (g : ℕ) → HasHeader (f ∷ option_to_list o) g → g < 0xA000
+low_rest None m f l g w = elim w [ inl e ↦ omega arith | inr r ↦ absurd r ]
+low_rest (Some d) m f l g w = elim w [ inl e ↦ omega arith | inr r ↦ elim r [ inl e ↦ omega arith | inr r' ↦ absurd r' ] ]
+
+pub high_rest : (S : Memory) (P : List Header) (f : Header) (o : Option Header) (Q : List Header) → MatchOption o ⊥ (λ c. 0xA000 ≤ c.segment) → IsClear S (P ++ ((f ∷ option_to_list o) ++ Q)) → ⊥
+high_rest S P f None Q m c = m
+high_rest S P f (Some d) Q m c = let x = c.below d.segment (has_right P (f ∷ d ∷ Q) _ (inr (inl refl))) in omega arith
+
+pub clear_cut : (S : Memory) (start : ℕ) (L P : List Header) (b : Header) (Q : List Header) (cut : Cut) → IsArena S start L → join L ≡ P ++ b ∷ Q → cut.first.segment ≡ b.segment → MatchOption cut.second (Unit {0}) (λ c. c.segment < 0xA000) → IsClear S (P ++ (cut_list cut ++ Q))
+clear_cut S start L P b Q cut a e f m =
+    let under : (g : ℕ) → HasHeader (P ++ b ∷ Q) g → g < 0xA000 = λ g w. a.1.below g (joined_has L P b Q e g w) in
+    let low : cut.first.segment < 0xA000 = (let x = under b.segment (has_right P (b ∷ Q) _ (inl refl)) in omega arith) in
+    clear-below S _ (λ g w. elim (has_either P (cut_list cut ++ Q) g w) [
+      | inl l ↦ under g (has_left P (b ∷ Q) g l)
+      | inr r ↦ elim (has_either (cut_list cut) Q g r) [
+        | inl k ↦ low_rest cut.second m cut.first low g k
+        | inr k ↦ under g (has_right P (b ∷ Q) g (inr k))
+      ]
+    ])
+
+-- the block that the search found
+abbrev taking_of : (S : Memory) (start : ℕ) (st : Strategy) (n : ℕ) (L : List Header) (b : Header) → IsArena S start L → pick st n None (join L) ≡ Some b → Taking S start st n
+taking_of S start st n L b a e =
+    let f = fit_found st n (join L) b e in
+    record { list = L; before = f.1.0; block = b; after = f.1.1; arena = a; joined = f.1.2; fit = f.0 }
+
+-- the plan, and its refusal
+module _ (S : Memory) (start : ℕ) (st : Strategy) (n owner : ℕ) (L : List Header) (b : Header) (a : IsArena S start L) (e : pick st n None (join L) ≡ Some b) where
+  pub block_within : n ≤ b.size
+  block_within = fits_size n b (fit_found st n (join L) b e).0.fit
+
+  pub block_ends : next b ≤ 0xFFFF
+  block_ends = (let f = fit_found st n (join L) b e in block_fits S start L f.1.0 b f.1.1 a.0.1 f.1.2)
+
+  module _ (c : Cut) (is : cut_list c ≡ cut st n owner b) where
+    first_at : c.first.segment ≡ b.segment
+    first_at = (let F : List Header → Type 0 = λ X. Fills b.segment X (next b) in subst F (sym is) (cut_fills st n owner b block_within)).0
+
+    pub planned : MatchOption c.second (Unit {0}) (λ d. d.segment < 0xA000) → (segment : ℕ) → segment ≡ taken st n b + 1 → IsPlan S start st n owner (record { cut = c; segment = segment })
+    planned m segment s =
+        let t = taking_of S start st n L b a e in
+        record {
+          taking = t;
+          cut_is = is;
+          segment_is = s;
+          clear = (let F : List Header → Type 0 = λ X. IsClear S (t.before ++ (X ++ t.after)) in subst F is (clear_cut S start L t.before b t.after c a t.joined first_at m));
+        }
+
+    pub unplanned : MatchOption c.second ⊥ (λ d. 0xA000 ≤ d.segment) → (t : Taking S start st n) × (IsClear S (changed t owner) → ⊥)
+    unplanned m =
+        let t = taking_of S start st n L b a e in
+        (t, λ k. high_rest S t.before c.first c.second t.after m (let F : List Header → Type 0 = λ X. IsClear S (t.before ++ (X ++ t.after)) in subst F (sym is) k))
+
+abbrev pub placing_of : (S : Memory) (start : ℕ) (st : Strategy) (n owner : ℕ) (c : Cut) (t : Taking S start st n) → cut_list c ≡ cut st n owner t.block → IsClear S (changed t owner) → Placing S start (cut_list c)
+placing_of S start st n owner c t is k = record {
+  list = t.list;
+  before = t.before;
+  block = t.block;
+  after = t.after;
+  arena = t.arena;
+  joined = t.joined;
+  fills = (let F : List Header → Type 0 = λ X. Fills t.block.segment X (next t.block) in subst F (sym is) (cut_fills st n owner t.block (fits_size n t.block t.fit.fit)));
+  clear = (let F : List Header → Type 0 = λ X. IsClear S (t.before ++ (X ++ t.after)) in subst F (sym is) k);
+}
+
+pub placed : (S : Memory) (start : ℕ) (st : Strategy) (n owner : ℕ) (c : Cut) (t : Taking S start st n) → cut_list c ≡ cut st n owner t.block → IsClear S (changed t owner) → (T : Memory) → ((p : Placing S start (cut_list c)) → Becomes S start (p.before ++ (cut_list c ++ p.after)) T) → Becomes S start (changed t owner) T
+placed S start st n owner c t is k T f = let F : List Header → Type 0 = λ X. Becomes S start (t.before ++ (X ++ t.after)) T in subst F is (f (placing_of S start st n owner c t is k))
+
+-- the writes
+signature-last : (S : Memory) (b : Header) (Q : List Header) → IsHeader S b (signature Q) → nat_eq (peek S (16 * b.segment)) 0x5A ≡ is_nil Q
+signature-last S b [] h = rw h.signed refl
+signature-last S b (q ∷ Q) h = rw h.signed refl
+
+module _ (S U : Memory) (start : ℕ) (c : Cut) (p : Placing S start (cut_list c)) (j : IsJoined S start p.list U) where
+  spelled : Spells U start (p.before ++ p.block ∷ p.after)
+  spelled = let F : List Header → Type 0 = λ X. Spells U start X in subst F p.joined j.spells
+
+  pub replaceable : (last : Bool) → last ≡ nat_eq (peek U (16 * c.first.segment)) 0x5A → IsReplaceable U start p.before (p.block ∷ []) p.after (cut_list c) last p.block.segment (next p.block)
+  replaceable last e = record {
+    nonempty = tt;
+    spells = spelled;
+    old_fills = (refl, refl);
+    new_fills = p.fills;
+    end = e ∙ ap (λ h. nat_eq (peek U (16 * h)) 0x5A) p.fills.0 ∙ signature-last U p.block p.after (spells_end U start p.before p.block p.after spelled).1;
+    clear = clear_map S U _ (place-shaped S U j.differs.shape) p.clear;
+  }
+
+  nonempty : (P : List Header) (d : Header) (Q : List Header) → IsNonEmpty (P ++ d ∷ Q)
+  nonempty [] d Q = tt
+  nonempty (q ∷ P) d Q = tt
+
+  kept_has : (g : ℕ) → HasHeader (join p.list) g → HasHeader (p.before ++ (cut_list c ++ p.after)) g
+  kept_has g w =
+      let F : List Header → Type 0 = λ X. HasHeader X g in
+      elim (has_either p.before (p.block ∷ p.after) g (subst F p.joined w)) [
+        | inl l ↦ has_left p.before (cut_list c ++ p.after) g l
+        | inr r ↦ elim r [
+          | inl q ↦ has_right p.before (cut_list c ++ p.after) g (inl (p.fills.0 ∙ q))
+          | inr q ↦ has_right p.before (cut_list c ++ p.after) g (has_right (cut_list c) p.after g q)
+        ]
+      ]
+
+  pub becomes : (T : Memory) → IsReplaced U start p.before p.after (cut_list c) T → Becomes S start (p.before ++ (cut_list c ++ p.after)) T
+  becomes T r = record {
+    clear = p.clear;
+    chain = (nonempty p.before c.first (option_to_list c.second ++ p.after), r.spells);
+    differs = record {
+      shape = shaped-then S U T j.differs.shape r.differs.shape;
+      kept = λ q ne. r.differs.kept q (λ h k w small e. ne h k (has_right p.before (cut_list c ++ p.after) h (has_left (cut_list c) p.after h w)) small (e ∙ place-shaped S U j.differs.shape _)) ∙ j.differs.kept q (λ h k w. ne h k (kept_has h w));
+    };
+  }

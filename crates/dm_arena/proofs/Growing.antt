@@ -1,0 +1,148 @@
+-- A block with the run of free blocks after it.
+use Rattle.std.proofs.Common.{◌≡◌, ◌≢◌, ℕ, ◌+◌, ◌-◌, ◌*◌, ◌<◌, ◌≤◌, Bool, true, false, cond, ◌&&◌, IsTrue, List, [], ◌∷◌, ◌++◌, ◌⊎◌, inl, inr, refl, sym, ◌∙◌, ap, ap₂, subst, arith, Option, Some, None, nat_eq, append_assoc}
+use Rattle.std.specs.Prelude.{MatchOption, option_to_list}
+use Rattle.dm_space.specs.Memory.{Memory}
+use Rattle.dm_arena.specs.declared.header.Header.{Header}
+use Rattle.dm_arena.specs.declared.header.Entry.{Entry}
+use Rattle.dm_arena.specs.declared.cut.Cut.{Cut}
+use Rattle.dm_arena.specs.declared.fit.Strategy.TheVariants.{First}
+use Rattle.dm_arena.specs.Chain.{IsHeader, signature, Spells, HasHeader, IsNonEmpty, next, IsClear, IsArena, Becomes, DiffersInHeaders}
+use Rattle.dm_arena.specs.Reading.{is_nil, IsSpelledFrom, IsFront}
+use Rattle.dm_arena.specs.Blocks.{is_free, merge, cut, cut_low}
+use Rattle.dm_arena.specs.Joins.{Fills, IsReplaceable, IsReplaced, cut_list}
+use Rattle.dm_arena.specs.Owned.{BlockRunAt, absorb, AllFree, BeginsTaken, IsGrown, IsGrowable, resized}
+use Rattle.dm_arena.specs.Reading.{IsFoundAt}
+use Rattle.dm_arena.proofs.Chains.{has_left, has_right, has_either, spells_end, clear_within, clear_map}
+use Rattle.dm_arena.proofs.Reading.{clear-below}
+use Rattle.dm_arena.proofs.Allocating.{cut_fills, low_rest, high_rest}
+
+absorb-push : (b : Header) (R : List Header) (c : Header) → absorb b (R ++ c ∷ []) ≡ merge (absorb b R) c
+absorb-push b [] c = refl
+absorb-push b (d ∷ R) c = absorb-push (merge b d) R c
+
+free-push : (R : List Header) (c : Header) → AllFree R → is_free c ≡ true → AllFree (R ++ c ∷ [])
+free-push [] c a f = (f, tt)
+free-push (d ∷ R) c a f = (a.0, free-push R c a.1 f)
+
+pub grown_start : (S : Memory) (e : Entry) (K : List Header) → IsGrowable S e K → (R : List Header) × (Q : List Header) × IsGrown S e K e R Q
+grown_start S e K g = ([], K, record { is = refl; free = tt; header = refl; last = g.last; rest = g.rest })
+
+spells_at : (S : Memory) (h k : ℕ) (L : List Header) → h ≡ k → Spells S h L → Spells S k L
+spells_at S h k L e s = let P : ℕ → Type 0 = λ x. Spells S x L in subst P e s
+
+pub grown_more : (S : Memory) (e : Entry) (K : List Header) (g a : Entry) (R Q : List Header) → IsGrown S e K g R Q → g.last ≡ false → is_free a.header ≡ true → a.header.segment ≡ next g.header → (t : ℕ) → t ≡ next g.header → ((M : List Header) → IsSpelledFrom S t M → (N : List Header) × IsFront S M a N) → (R' : List Header) × (Q' : List Header) × IsGrown S e K (record { header = merge g.header a.header; last = a.last }) R' Q'
+grown_more S e K g a R [] x l f there t ist front = absurd (let y : false ≡ true = sym l ∙ x.last in cc)
+grown_more S e K g a R (c ∷ Q) x l f there t ist front =
+    let r = front (c ∷ Q) (record { nonempty = tt; spells = spells_at S _ _ (c ∷ Q) (sym ist) x.rest }) in
+    let y : IsFront S (c ∷ Q) a r.0 = r.1 in (
+      R ++ a.header ∷ [],
+      r.0,
+      record {
+        is = x.is ∙ ap (λ X. R ++ X) y.is ∙ sym (append_assoc R (a.header ∷ []) r.0);
+        free = free-push R a.header x.free f;
+        header = ap (λ z. merge z a.header) x.header ∙ sym (absorb-push e.header R a.header);
+        last = y.last;
+        rest = spells_at S _ _ r.0 (omega arith) y.rest;
+      },
+    )
+
+pub grown_last : (S : Memory) (e : Entry) (K : List Header) (g : Entry) (R Q : List Header) → IsGrown S e K g R Q → g.last ≡ true → BeginsTaken Q
+grown_last S e K g R [] x l = tt
+grown_last S e K g R (c ∷ Q) x l = absurd (let y : true ≡ false = sym l ∙ x.last in cc)
+
+pub grown_before_taken : (S : Memory) (e : Entry) (K : List Header) (g a : Entry) (R Q : List Header) → IsGrown S e K g R Q → is_free a.header ≡ false → (t : ℕ) → t ≡ next g.header → ((M : List Header) → IsSpelledFrom S t M → (N : List Header) × IsFront S M a N) → BeginsTaken Q
+grown_before_taken S e K g a R [] x f t ist front = tt
+grown_before_taken S e K g a R (c ∷ Q) x f t ist front =
+    let r = front (c ∷ Q) (record { nonempty = tt; spells = spells_at S _ _ (c ∷ Q) (sym ist) x.rest }) in
+    let y : IsFront S (c ∷ Q) a r.0 = r.1 in
+    let z : c ≡ a.header = (let w = y.is in cc) in
+    rw z f
+
+pub grown_next : (S : Memory) (e : Entry) (K : List Header) (g : Entry) (R Q : List Header) → IsGrown S e K g R Q → g.last ≡ false → (t : ℕ) → t ≡ next g.header → (M : List Header) × IsSpelledFrom S t M
+grown_next S e K g R [] x l t ist = absurd (let y : false ≡ true = sym l ∙ x.last in cc)
+grown_next S e K g R (c ∷ Q) x l t ist = (c ∷ Q, record { nonempty = tt; spells = spells_at S _ _ (c ∷ Q) (sym ist) x.rest })
+
+absorb-segment : (b : Header) (R : List Header) → (absorb b R).segment ≡ b.segment
+absorb-segment b [] = refl
+absorb-segment b (c ∷ R) = absorb-segment (merge b c) R
+
+absorb-owner : (b : Header) (R : List Header) → (absorb b R).owner ≡ b.owner
+absorb-owner b [] = refl
+absorb-owner b (c ∷ R) = absorb-owner (merge b c) R
+
+absorb-fills : (S : Memory) (b : Header) (R Q : List Header) → Spells S (next b) (R ++ Q) → Fills (next b) R (next (absorb b R))
+absorb-fills S b [] Q s = refl
+absorb-fills S b (c ∷ R) Q s =
+    let e : next c ≡ next (merge b c) = (let x = s.0 in omega arith) in
+    let F : ℕ → Type 0 = λ z. Fills z R (next (absorb (merge b c) R)) in
+    (s.0, subst F (sym e) (absorb-fills S (merge b c) R Q (spells_at S _ _ (R ++ Q) e s.2)))
+
+nonempty : (P : List Header) (d : Header) (Q : List Header) → IsNonEmpty (P ++ d ∷ Q)
+nonempty [] d Q = tt
+nonempty (q ∷ P) d Q = tt
+
+-- the arena L, the block of e in it, and g, which is the block with its run
+module _ (S : Memory) (start : ℕ) (L : List Header) (segment n : ℕ) (e g : Entry) (P K R Q : List Header) (a : IsArena S start L) (f : IsFoundAt S L segment e P K) (x : IsGrown S e K g R Q) (stops : BeginsTaken Q) where
+  pub is : L ≡ P ++ e.header ∷ (R ++ Q)
+  is = f.is ∙ ap (λ X. P ++ e.header ∷ X) x.is
+
+  abbrev pub run_at : BlockRunAt S start segment
+  run_at = record { list = L; before = P; block = e.header; run = R; after = Q; arena = a; is = is; at = f.at; free = x.free; stops = stops }
+
+  pub size_is : g.header.size ≡ (absorb e.header R).size
+  size_is = ap (λ z. z.size) x.header
+
+  spelled : Spells S start (P ++ e.header ∷ (R ++ Q))
+  spelled = let F : List Header → Type 0 = λ X. Spells S start X in subst F is a.0.1
+
+  module _ (within : n ≤ g.header.size) (c : Cut) (cut_is : cut_list c ≡ cut First n g.header.owner g.header) where
+    list_is : cut_list c ≡ cut_low n e.header.owner (absorb e.header R)
+    list_is = cut_is ∙ ap₂ (λ o z. cut_low n o z) (ap (λ z. z.owner) x.header ∙ absorb-owner e.header R) x.header
+
+    fills : Fills e.header.segment (cut_list c) (next (absorb e.header R))
+    fills =
+        let F : List Header → Type 0 = λ X. Fills e.header.segment X (next (absorb e.header R)) in
+        let G : ℕ → Type 0 = λ z. Fills z (cut_low n e.header.owner (absorb e.header R)) (next (absorb e.header R)) in
+        subst F (sym list_is) (subst G (absorb-segment e.header R) (cut_fills First n e.header.owner (absorb e.header R) (let y = size_is in omega arith)))
+
+    has : (h : ℕ) → HasHeader (P ++ e.header ∷ (R ++ Q)) h → HasHeader L h
+    has h w = let F : List Header → Type 0 = λ X. HasHeader X h in subst F (sym is) w
+
+    pub clear_resized : MatchOption c.second (Unit {0}) (λ d. d.segment < 0xA000) → IsClear S (P ++ (cut_list c ++ Q))
+    clear_resized m =
+        let under : (h : ℕ) → HasHeader (P ++ e.header ∷ (R ++ Q)) h → h < 0xA000 = λ h w. a.1.below h (has h w) in
+        let low : c.first.segment < 0xA000 = (let y = under e.header.segment (has_right P (e.header ∷ (R ++ Q)) _ (inl refl)) in let z = fills.0 in omega arith) in
+        clear-below S _ (λ h w. elim (has_either P (cut_list c ++ Q) h w) [
+          | inl l ↦ under h (has_left P (e.header ∷ (R ++ Q)) h l)
+          | inr r ↦ elim (has_either (cut_list c) Q h r) [
+            | inl k ↦ low_rest c.second m c.first low h k
+            | inr k ↦ under h (has_right P (e.header ∷ (R ++ Q)) h (inr (has_right R Q h k)))
+          ]
+        ])
+
+    pub resizing : IsClear S (P ++ (cut_list c ++ Q)) → IsReplaceable S start P (e.header ∷ R) Q (cut_list c) g.last e.header.segment (next (absorb e.header R))
+    resizing k = record {
+      nonempty = tt;
+      spells = spelled;
+      old_fills = (refl, absorb-fills S e.header R Q (spells_end S start P e.header (R ++ Q) spelled).2);
+      new_fills = fills;
+      end = x.last;
+      clear = k;
+    }
+
+    pub resizes : IsClear S (P ++ (cut_list c ++ Q)) → (T : Memory) → IsReplaced S start P Q (cut_list c) T → (r : BlockRunAt S start segment) × (n ≤ (absorb r.block r.run).size) × Becomes S start (resized r n) T
+    resizes k T r =
+        let F : List Header → Type 0 = λ X. Becomes S start (P ++ (X ++ Q)) T in (
+          run_at,
+          (let y = size_is in omega arith),
+          subst F list_is (record {
+            clear = k;
+            chain = (nonempty P c.first (option_to_list c.second ++ Q), r.spells);
+            differs = record { shape = r.differs.shape; kept = λ p ne. r.differs.kept p (λ h k w. ne h k (has_right P (cut_list c ++ Q) h (has_left (cut_list c) Q h w))) };
+          }),
+        )
+
+    pub unresized : MatchOption c.second ⊥ (λ d. 0xA000 ≤ d.segment) → (r : BlockRunAt S start segment) × (n ≤ (absorb r.block r.run).size) × (IsClear S (resized r n) → ⊥)
+    unresized m =
+        let F : List Header → Type 0 = λ X. IsClear S (P ++ (X ++ Q)) in
+        (run_at, (let y = size_is in omega arith), λ k. high_rest S P c.first c.second Q m (subst F (sym list_is) k))

@@ -1,0 +1,14 @@
+pub mod Bytes
+pub mod Write
+pub mod Reading
+pub mod Chains
+pub mod Join
+pub mod Replace
+pub mod Fitting
+pub mod Allocating
+pub mod Blocks
+pub mod Growing
+pub mod Releasing
+pub mod Unique
+pub mod Walks
+pub mod OneAnswer

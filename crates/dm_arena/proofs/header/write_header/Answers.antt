@@ -1,0 +1,12 @@
+use Rattle.std.proofs.Common.{◌≡◌, ℕ, ◌+◌, ◌*◌, ◌/◌, ◌%◌, refl, arith}
+use Rattle.dm_arena.specs.Reading.{IsHeaderWritten, mark}
+use Rattle.dm_arena.proofs.Write.{shape5, kept5, header_written}
+use Rattle.dm_arena.proofs.header.write_header.Goals as goal
+use Rattle.dm_arena.proofs.header.write_header.Goals.{then-entry, else-entry}
+
+pub returns-clause-memory : goal.returns-clause-memory
+returns-clause-memory c = record {
+  shape = shape5 _ _ _ _ _ _ c.args.entry.header.segment _ _ _ _ _ c.set_byte.ensures.memory c.set_byte-2.ensures.memory c.set_byte-3.ensures.memory c.set_byte-4.ensures.memory c.set_byte-5.ensures.memory;
+  written = λ w. header_written _ _ _ _ _ _ c.args.entry.header.segment _ _ _ _ _ c.set_byte.ensures.memory c.set_byte-2.ensures.memory c.set_byte-3.ensures.memory c.set_byte-4.ensures.memory c.set_byte-5.ensures.memory w _ _ _ c.requires (omega arith) (omega arith) (omega arith) (omega arith) (omega arith) (elim c.if-entry.branch [ then-entry w ↦ rw (w.set_byte-is, w.if-entry.true) refl | else-entry w ↦ rw (w.set_byte-is, w.if-entry.false) refl ]) (omega arith) (omega arith);
+  kept = kept5 _ _ _ _ _ _ c.args.entry.header.segment _ _ _ _ _ c.set_byte.ensures.memory c.set_byte-2.ensures.memory c.set_byte-3.ensures.memory c.set_byte-4.ensures.memory c.set_byte-5.ensures.memory;
+}

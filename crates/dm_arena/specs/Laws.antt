@@ -1,0 +1,29 @@
+-- Laws of the definitions: memory spells at most one list, and each call has one answer.
+use Rattle.std.specs.Prelude.{◌≡◌, ℕ, ◌≤◌, List, length, Result}
+use Rattle.dm_space.specs.Memory.{Memory}
+use Rattle.dm_arena.specs.declared.header.Header.{Header}
+use Rattle.dm_arena.specs.declared.refusal.Refusal.{Refusal}
+use Rattle.dm_arena.specs.declared.fit.Strategy.{Strategy}
+use Rattle.dm_arena.specs.Chain.{first_header, IsChain}
+use Rattle.dm_arena.specs.Allocation.{Allocates}
+use Rattle.dm_arena.specs.Owned.{Frees, Resizes, Releases}
+
+abbrev pub ChainIsUnique : Type 0
+ChainIsUnique = (S : Memory) (start : ℕ) (L M : List Header) → IsChain S start L → IsChain S start M → L ≡ M
+
+abbrev pub ChainIsShort : Type 0
+ChainIsShort = (S : Memory) (L : List Header) → IsChain S first_header L → length L ≤ 0xFF00
+
+-- an allocation's answer, and the memory that it leaves, are functions of the memory and the arguments
+abbrev pub AllocationHasOneAnswer : Type 0
+AllocationHasOneAnswer = (S : Memory) (strategy : Strategy) (n owner : ℕ) (r q : Result ℕ Refusal) (T U : Memory) → Allocates S strategy n owner r T → Allocates S strategy n owner q U → (r ≡ q) × (T ≡ U)
+
+-- and so are those of the other calls
+abbrev pub FreeingHasOneAnswer : Type 0
+FreeingHasOneAnswer = (S : Memory) (segment : ℕ) (r q : Result (Unit {0}) Refusal) (T U : Memory) → Frees S segment r T → Frees S segment q U → (r ≡ q) × (T ≡ U)
+
+abbrev pub ResizingHasOneAnswer : Type 0
+ResizingHasOneAnswer = (S : Memory) (segment n : ℕ) (r q : Result (Unit {0}) Refusal) (T U : Memory) → Resizes S segment n r T → Resizes S segment n q U → (r ≡ q) × (T ≡ U)
+
+abbrev pub ReleasingHasOneAnswer : Type 0
+ReleasingHasOneAnswer = (S : Memory) (owner : ℕ) (r q : Result (Unit {0}) Refusal) (T U : Memory) → Releases S owner r T → Releases S owner q U → (r ≡ q) × (T ≡ U)

@@ -1,0 +1,110 @@
+//! A block cut in two.
+ghost use Rattle.std.specs.Prelude.{◌≡◌, ℕ, ◌+◌, ◌<◌, ◌≤◌, List, MatchBool, MatchOption};
+ghost use Rattle.dm_arena.specs.declared.header.Header.{Header};
+ghost use Rattle.dm_arena.specs.Chain.{next};
+ghost use Rattle.dm_arena.specs.Blocks.{cut, taken};
+ghost use Rattle.dm_arena.specs.Joins.{cut_list, IsReplaceable, IsReplaced};
+
+use crate::fit::Strategy;
+use crate::header::{Entry, Header, write_header};
+use crate::list::TOP;
+use dm_space::Space;
+
+/// The one or two headers that stand in the place of a block's.
+#[derive(Clone, Copy)]
+pub(crate) struct Cut {
+    pub(crate) first: Header,
+    pub(crate) second: Option<Header>,
+}
+
+/// A block with n of its paragraphs taken by the owner, and the rest free.
+pub(crate) fn cut_of(strategy: Strategy, n: u16, owner: u16, block: Header) -> Cut
+    requires within { n ≤ block.size }
+    requires fits { next block ≤ 0xFFFF }
+    ensures cut { cut_list result ≡ cut strategy n owner block }
+    ensures first { next result.first ≤ 0xFFFF }
+    ensures second { MatchOption result.second (Unit {0}) (λ c. next c ≤ 0xFFFF) }
+{
+    if block.size == n {
+        return Cut {
+            first: Header { owner, ..block },
+            second: None,
+        };
+    }
+    let rest = block.size - n - 1;
+    let (low, high) = match strategy {
+        Strategy::First | Strategy::Best => ((owner, n), (0, rest)),
+        Strategy::Last => ((0, rest), (owner, n)),
+    };
+    let first = Header {
+        segment: block.segment,
+        owner: low.0,
+        size: low.1,
+    };
+    let second = Header {
+        segment: first.segment + 1 + first.size,
+        owner: high.0,
+        size: high.1,
+    };
+    Cut {
+        first,
+        second: Some(second),
+    }
+}
+
+/// The segment of the header whose block is the taken part.
+pub(crate) fn taken_of(strategy: Strategy, n: u16, block: Header) -> u16
+    requires within { n ≤ block.size }
+    requires fits { next block ≤ 0xFFFF }
+    ensures value { result ≡ taken strategy n block }
+    ensures small { result < 0xFFFF }
+{
+    match strategy {
+        Strategy::First | Strategy::Best => block.segment,
+        Strategy::Last => block.segment + block.size - n,
+    }
+}
+
+/// Whether the new header of a cut, if there is one, may stand where it would.
+pub(crate) fn is_clear_cut(cut: Cut) -> bool
+    ensures { MatchBool result (MatchOption cut.second (Unit {0}) (λ c. c.segment < 0xA000)) (MatchOption cut.second ⊥ (λ c. 0xA000 ≤ c.segment)) }
+{
+    match cut.second {
+        None => true,
+        Some(second) => second.segment < TOP,
+    }
+}
+
+/// Writes the headers of a cut, the upper one first.
+pub(crate) fn write_cut(space: &mut Space, cut: Cut, last: bool)
+    requires first { next cut.first ≤ 0xFFFF }
+    requires second { MatchOption cut.second (Unit {0}) (λ c. next c ≤ 0xFFFF) }
+    ensures memory { (start : ℕ) (P B Q : List Header) (h t : ℕ) → IsReplaceable space.old.memory start P B Q (cut_list cut) last h t → IsReplaced space.old.memory start P Q (cut_list cut) space.new.memory }
+    ensures scratch { space.new.scratch ≡ space.old.scratch }
+{
+    match cut.second {
+        None => write_header(
+            space,
+            Entry {
+                header: cut.first,
+                last,
+            },
+        ),
+        Some(second) => {
+            write_header(
+                space,
+                Entry {
+                    header: second,
+                    last,
+                },
+            );
+            write_header(
+                space,
+                Entry {
+                    header: cut.first,
+                    last: false,
+                },
+            );
+        }
+    }
+}

@@ -1,0 +1,32 @@
+//! The arena: memory handed out in blocks of paragraphs, by a list of headers that the bytes of
+//! memory spell (MS-DOS Programmer's Reference, "Arena header", functions 48h to 4Ah and 58h).
+//!
+//! Nothing is kept beside those bytes: each call reads the list where it stands, and a program that
+//! has written over a header meets a destroyed arena, as it would under DOS. The list begins with
+//! the header at segment 0100h.
+#![tactic(auto)]
+
+mod allocation;
+mod cut;
+mod fit;
+mod header;
+mod joined;
+mod laws;
+mod list;
+mod listing;
+mod owned;
+mod refusal;
+
+pub use allocation::allocate;
+pub use fit::Strategy;
+pub use header::{Entry, Header};
+pub use laws::{
+    allocation_has_one_answer, chain_is_short, chain_is_unique, freeing_has_one_answer,
+    releasing_has_one_answer, resizing_has_one_answer,
+};
+pub use listing::{Headers, Step, walk};
+pub use owned::{free, free_all, resize};
+pub use refusal::Refusal;
+
+#[cfg(test)]
+mod tests;

@@ -1,0 +1,64 @@
+//! Walks over the list of headers.
+ghost use Rattle.std.specs.Prelude.{◌≡◌, ℕ, ◌+◌, ◌≤◌, List, MatchBool, MatchOption};
+ghost use Rattle.dm_arena.specs.declared.header.Header.{Header};
+ghost use Rattle.dm_arena.specs.Chain.{first_header, next, IsArena, NoArena};
+ghost use Rattle.dm_arena.specs.Reading.{IsFront, IsSpelledFrom, FindsBlock};
+
+use crate::header::{Entry, header_at};
+use dm_space::Space;
+
+/// The segment of the list's first header.
+pub(crate) const FIRST: u16 = 0x100;
+/// No header stands at or above this segment.
+pub(crate) const TOP: u16 = 0xA000;
+
+/// The header at a segment from which a list is spelled.
+pub(crate) fn entry_at(space: &Space, segment: u16) -> Entry
+    requires { (L : List Header) × IsSpelledFrom space.now.memory segment L }
+    ensures there { result.header.segment ≡ segment }
+    ensures fits { next result.header ≤ 0xFFFF }
+    ensures front { (L : List Header) → IsSpelledFrom space.now.memory segment L → (K : List Header) × IsFront space.now.memory L result K }
+{
+    let Some(entry) = header_at(space, segment) else {
+        unreachable!()
+    };
+    entry
+}
+
+/// Whether memory spells a clear list.
+pub(crate) fn is_arena(space: &Space) -> bool
+    ensures { MatchBool result ((L : List Header) × IsArena space.now.memory first_header L) (NoArena space.now.memory first_header) }
+{
+    let mut segment = FIRST;
+    'walk: loop {
+        if segment >= TOP {
+            return false;
+        }
+        let Some(entry) = header_at(space, segment) else {
+            return false;
+        };
+        if entry.last {
+            return true;
+        }
+        segment = entry.header.next();
+    }
+}
+
+/// The header whose block begins at a segment, if the list has one.
+pub(crate) fn find(space: &Space, segment: u16) -> Option<Entry>
+    requires { (L : List Header) × IsSpelledFrom space.now.memory first_header L }
+    ensures found { FindsBlock space.now.memory first_header segment result }
+    ensures fits { MatchOption result (Unit {0}) (λ e. next e.header ≤ 0xFFFF) }
+{
+    let mut here = FIRST;
+    'walk: loop {
+        let entry = entry_at(space, here);
+        if here + 1 == segment {
+            return Some(entry);
+        }
+        if entry.last {
+            return None;
+        }
+        here = entry.header.next();
+    }
+}

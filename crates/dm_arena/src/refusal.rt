@@ -1,0 +1,20 @@
+//! Why an arena call was refused.
+use thiserror::Error;
+
+/// Why an arena call was refused. A refused call has changed no byte.
+#[derive(Clone, Copy, Debug, PartialEq, Eq, Error)]
+pub enum Refusal {
+    /// Memory spells no list of blocks, or none that is clear, or the list that the call would
+    /// leave is not clear (DOS error 7, "Memory control blocks destroyed").
+    #[error("arena destroyed")]
+    Destroyed,
+    /// No free block is large enough (DOS error 8, "Not enough memory").
+    #[error("not enough memory")]
+    Short {
+        /// The largest size that would have been served, in paragraphs.
+        largest: u16,
+    },
+    /// No block of the list begins at the segment (DOS error 9, "Invalid memory block").
+    #[error("no such block")]
+    NoBlock,
+}

@@ -1,0 +1,183 @@
+//! Arena calls of a program with its prefix at 0103h, whose environment stands at 0101h.
+
+use crate::header::header_at;
+use crate::{Entry, Header, Refusal, Step, Strategy, allocate, free, free_all, resize, walk};
+use dm_space::Space;
+use std::test::Fail;
+
+const OWNER: u16 = 0x103;
+
+fn entry(last: bool, segment: u16, owner: u16, size: u16) -> Entry {
+    let header = Header {
+        segment,
+        owner,
+        size,
+    };
+    Entry { header, last }
+}
+
+fn set_header(space: &mut Space, entry: Entry) {
+    let segment = entry.header.segment;
+    space.poke(segment, 0, if entry.last { b'Z' } else { b'M' });
+    space.poke16(segment, 1, entry.header.owner);
+    space.poke16(segment, 3, entry.header.size);
+}
+
+/// A program that was given all of memory.
+fn loaded(space: &mut Space) {
+    set_header(space, entry(false, 0x100, OWNER, 1));
+    set_header(space, entry(true, 0x102, OWNER, 0x9EFD));
+}
+
+/// The same, once its block is resized to 1000h paragraphs.
+fn shrunk(space: &mut Space) -> Result<(), Refusal> {
+    loaded(space);
+    resize(space, OWNER, 0x1000)
+}
+
+#[test]
+fn first_header_holds_all_of_memory(rt: HostRuntime) -> Result<(), Fail> {
+    let space = Space::new(rt.alloc())?;
+    assert_eq!(rt;
+        header_at(&space, 0x100),
+        Some(entry(true, 0x100, 0, 0x9EFF))
+    );
+    Ok(())
+}
+
+#[test]
+fn resized_block_leaves_the_rest_free(rt: HostRuntime) -> Result<(), Fail> {
+    let mut space = Space::new(rt.alloc())?;
+    loaded(&mut space);
+    assert_eq!(rt;
+        allocate(&mut space, Strategy::First, 0xFFFF, OWNER),
+        Err(Refusal::Short { largest: 0 })
+    );
+    assert_eq!(rt; resize(&mut space, OWNER, 0x1000), Ok(()));
+    assert_eq!(rt;
+        header_at(&space, 0x1103),
+        Some(entry(true, 0x1103, 0, 0x8EFC))
+    );
+    assert_eq!(rt;
+        allocate(&mut space, Strategy::First, 0xFFFF, OWNER),
+        Err(Refusal::Short { largest: 0x8EFC })
+    );
+    Ok(())
+}
+
+#[test]
+fn block_grows_back_over_the_rest(rt: HostRuntime) -> Result<(), Fail> {
+    let mut space = Space::new(rt.alloc())?;
+    assert_eq!(rt; shrunk(&mut space), Ok(()));
+    assert_eq!(rt;
+        resize(&mut space, OWNER, 0x9EFE),
+        Err(Refusal::Short { largest: 0x9EFD })
+    );
+    assert_eq!(rt;
+        header_at(&space, 0x1103),
+        Some(entry(true, 0x1103, 0, 0x8EFC))
+    );
+    assert_eq!(rt; resize(&mut space, OWNER, 0x9EFD), Ok(()));
+    assert_eq!(rt;
+        header_at(&space, 0x102),
+        Some(entry(true, 0x102, OWNER, 0x9EFD))
+    );
+    Ok(())
+}
+
+#[test]
+fn rest_of_a_block_may_be_empty(rt: HostRuntime) -> Result<(), Fail> {
+    // paragraphs asked for, the header that is then the last one
+    let rows = [
+        (0x8EFB, entry(true, 0x9FFF, 0, 0)),
+        (0x8EFC, entry(true, 0x1103, OWNER, 0x8EFC)),
+        (0, entry(true, 0x1104, 0, 0x8EFB)),
+    ];
+    for (n, last) in rows {
+        let mut space = Space::new(rt.alloc())?;
+        assert_eq!(rt; shrunk(&mut space), Ok(()));
+        assert_eq!(rt; allocate(&mut space, Strategy::First, n, OWNER), Ok(0x1104));
+        assert_eq!(rt; header_at(&space, last.header.segment), Some(last));
+    }
+    Ok(())
+}
+
+#[test]
+fn strategies_take_other_blocks(rt: HostRuntime) -> Result<(), Fail> {
+    let rows = [
+        (Strategy::First, 0x1104),
+        (Strategy::Best, 0x1117),
+        (Strategy::Last, 0x111A),
+    ];
+    for (strategy, segment) in rows {
+        let mut space = Space::new(rt.alloc())?;
+        assert_eq!(rt; shrunk(&mut space), Ok(()));
+        for (n, block) in [
+            (0x10, 0x1104),
+            (1, 0x1115),
+            (8, 0x1117),
+            (1, 0x1120),
+            (0x8EDE, 0x1122),
+        ] {
+            assert_eq!(rt; allocate(&mut space, Strategy::First, n, OWNER), Ok(block));
+        }
+        assert_eq!(rt; free(&mut space, 0x1104), Ok(()));
+        assert_eq!(rt; free(&mut space, 0x1117), Ok(()));
+        assert_eq!(rt; allocate(&mut space, strategy, 5, OWNER), Ok(segment));
+    }
+    Ok(())
+}
+
+#[test]
+fn nothing_is_freed_inside_a_block(rt: HostRuntime) -> Result<(), Fail> {
+    let mut space = Space::new(rt.alloc())?;
+    assert_eq!(rt; shrunk(&mut space), Ok(()));
+    assert_eq!(rt;
+        allocate(&mut space, Strategy::First, 0x10, OWNER),
+        Ok(0x1104)
+    );
+    space.poke(0x1104, 0, b'M');
+    assert_eq!(rt; free(&mut space, 0x1105), Err(Refusal::NoBlock));
+    assert_eq!(rt; free(&mut space, 0), Err(Refusal::NoBlock));
+    Ok(())
+}
+
+#[test]
+fn broken_signature_destroys_the_arena(rt: HostRuntime) -> Result<(), Fail> {
+    let mut space = Space::new(rt.alloc())?;
+    loaded(&mut space);
+    space.poke(0x102, 0, 0);
+    assert_eq!(rt;
+        allocate(&mut space, Strategy::First, 0, OWNER),
+        Err(Refusal::Destroyed)
+    );
+    assert_eq!(rt; free(&mut space, OWNER), Err(Refusal::Destroyed));
+    assert_eq!(rt; resize(&mut space, OWNER, 0), Err(Refusal::Destroyed));
+    assert_eq!(rt; free_all(&mut space, OWNER), Err(Refusal::Destroyed));
+    assert_eq!(rt; space.peek(0x102, 0), 0);
+    let mut headers = walk(&space);
+    assert_eq!(rt;
+        headers.advance(),
+        Step::Told(entry(false, 0x100, OWNER, 1))
+    );
+    assert_eq!(rt; headers.advance(), Step::Destroyed(0x102));
+    assert_eq!(rt; headers.advance(), Step::Destroyed(0x102));
+    Ok(())
+}
+
+#[test]
+fn ended_program_leaves_free_blocks(rt: HostRuntime) -> Result<(), Fail> {
+    let mut space = Space::new(rt.alloc())?;
+    loaded(&mut space);
+    assert_eq!(rt; free_all(&mut space, OWNER), Ok(()));
+    let mut headers = walk(&space);
+    assert_eq!(rt; headers.advance(), Step::Told(entry(false, 0x100, 0, 1)));
+    assert_eq!(rt;
+        headers.advance(),
+        Step::Told(entry(true, 0x102, 0, 0x9EFD))
+    );
+    assert_eq!(rt; headers.advance(), Step::End);
+    assert_eq!(rt; headers.advance(), Step::End);
+    assert_eq!(rt; allocate(&mut space, Strategy::Last, 0x9EFF, 7), Ok(0x101));
+    Ok(())
+}

@@ -1,0 +1,27 @@
+-- What a write does, told by places: for layers that compare the places of addresses and see nothing of the map.
+-- Two addresses with one place that is written to are aliased.
+use Rattle.std.specs.Prelude.{◌≡◌, ◌≢◌, ℕ, length}
+use Rattle.dm_space.specs.declared.place.Place.{Place}
+use Rattle.dm_space.specs.declared.place.Place.TheVariants.{Low, Page, Rom, Nothing}
+use Rattle.dm_space.specs.Memory.{Memory, place, byte_at, page_bytes}
+
+-- what is written to the place stays there
+abbrev pub IsWritable : Place → Type 0
+IsWritable (Low a) = Unit {0}
+IsWritable (Page page k) = Unit {0}
+IsWritable (Rom k) = ⊥
+IsWritable Nothing = ⊥
+
+-- T has the map of S and as many bytes
+pub record IsShaped (S T : Memory) : Type 0 where
+  pub a20 : T.a20 ≡ S.a20
+  pub windows : T.windows ≡ S.windows
+  pub ram_size : length T.low ≡ length S.low
+  pub page_count : length T.pages ≡ length S.pages
+  pub page_sizes : (page : ℕ) → length (page_bytes T page) ≡ length (page_bytes S page)
+
+-- T is S after a write of v at the linear address a
+pub record IsPoked (S : Memory) (a v : ℕ) (T : Memory) : Type 0 where
+  pub shape : IsShaped S T
+  pub written : IsWritable (place S a) → byte_at T (place S a) ≡ v
+  pub kept : (p : Place) → p ≢ place S a → byte_at T p ≡ byte_at S p
