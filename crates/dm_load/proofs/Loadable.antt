@@ -14,3 +14,10 @@ by_kind file false e good = good
 pub length-com : (file : List ℕ) → kind_of file ≡ Com → IsGood file → length (image file) ≤ 65278
 unfolding image
 length-com file e good = by_kind file (is_mz file) e good
+
+not_mz : (b : Bool) → cond b Mz Com ≡ Com → b ≡ false
+not_mz true e = cc
+not_mz false e = refl
+
+pub is_mz-com : (file : List ℕ) → kind_of file ≡ Com → is_mz file ≡ false
+is_mz-com file e = not_mz (is_mz file) e

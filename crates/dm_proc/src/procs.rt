@@ -57,6 +57,7 @@ impl Procs {
     ) -> Cpu
         requires variables { length variables.now ≤ 0x7FFF }
         requires name { length name.now ≤ 64 }
+        requires com { is_mz image.now ≡ false }
         requires image { length (Rattle.dm_load.specs.Image.image image.now) ≤ 65278 }
         ensures { Loads self.old space.old.memory image.now variables.now name.now arguments.now self.new result space.new.memory }
     {
