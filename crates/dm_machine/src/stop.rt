@@ -2,8 +2,9 @@
 
 /// Why a run, or a step, stopped.
 ///
-/// `Steps` and `Exited` come after a step. The other stops make no step and leave the state before
-/// it, so that a later run meets the same instruction.
+/// `Exited` is told by the step that ends the first program, and by every later call, which makes no
+/// step. The stops after it in this list make no step and leave the state before it, so that a later
+/// run meets the same instruction.
 #[derive(Clone, Copy, Debug, PartialEq, Eq)]
 pub enum Stop {
     /// All the steps that were asked for were made.

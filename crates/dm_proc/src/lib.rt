@@ -17,6 +17,3 @@ pub use pair::{Block, Pair};
 pub use procs::Procs;
 pub use programs::{AddError, Programs};
 pub use psp::Arguments;
-
-#[cfg(test)]
-mod tests;

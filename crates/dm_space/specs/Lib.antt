@@ -2,5 +2,5 @@ pub mod Memory
 pub mod Rom
 pub mod Start
 pub mod Lending
-pub mod Windows
+pub mod EightBytes
 pub mod Places

@@ -1,6 +1,6 @@
 -- The memory of a real-mode machine: what stands at each linear address.
 -- Intel 8086 Family User's Manual, "Memory": segments, linear addresses, words with the low byte first.
-use Rattle.std.specs.Prelude.{◌≡◌, ℕ, ◌+◌, ◌-◌, ◌*◌, ◌/◌, ◌%◌, ◌<◌, Bool, true, false, nat_lt, ◌==◌, ◌&&◌, if◌then◌else◌, List, [], ◌∷◌, length, slice_index, slice_index_or, slice_set, Option, Some, None, IfSome, replicate}
+use Rattle.std.specs.Prelude.{◌≡◌, ℕ, ◌+◌, ◌-◌, ◌*◌, ◌/◌, ◌%◌, ◌<◌, Bool, nat_lt, if◌then◌else◌, List, [], ◌∷◌, length, slice_index, slice_index_or, slice_set, Option, Some, None, IfSome, replicate}
 use Rattle.dm_space.specs.declared.place.Place.{Place}
 use Rattle.dm_space.specs.declared.place.Place.TheVariants.{Low, Page, Rom, Nothing}
 use Rattle.dm_space.specs.Rom.{rom}
@@ -69,19 +69,6 @@ poke16 m segment offset v =
 
 abbrev pub with_a20 : Memory → Bool → Memory
 with_a20 m on = record m { a20 = on }
-
--- two places are one byte of RAM or of a page
-abbrev pub same : Place → Place → Bool
-same (Low a) (Low b) = a == b
-same (Page p k) (Page q j) = (p == q) && (k == j)
-same (Low a) (Page q j) = false
-same (Low a) (Rom j) = false
-same (Low a) Nothing = false
-same (Page p k) (Low b) = false
-same (Page p k) (Rom j) = false
-same (Page p k) Nothing = false
-same (Rom k) q = false
-same Nothing q = false
 
 -- the sizes are those of the machine, and each window shows a page that is there
 pub record Fits (m : Memory) : Type 0 where
