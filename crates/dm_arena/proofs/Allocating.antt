@@ -1,21 +1,19 @@
 -- The parts of an allocation.
-use Rattle.std.proofs.Common.{◌≡◌, ◌≢◌, ℕ, ◌+◌, ◌-◌, ◌*◌, ◌<◌, ◌≤◌, Bool, true, false, cond, ◌&&◌, IsTrue, List, [], ◌∷◌, ◌++◌, ◌⊎◌, inl, inr, refl, sym, ◌∙◌, ap, ap₂, subst, arith, Option, Some, None, nat_eq}
+use Rattle.std.proofs.Common.{◌≡◌, ℕ, ◌+◌, ◌-◌, ◌*◌, ◌<◌, ◌≤◌, Bool, true, false, cond, ◌&&◌, IsTrue, List, [], ◌∷◌, ◌++◌, ◌⊎◌, inl, inr, refl, sym, ◌∙◌, ap, subst, arith, Option, Some, None, nat_eq}
 use Rattle.std.specs.Prelude.{MatchOption, option_to_list}
 use Rattle.std.proofs.lemmas.Bool.Decides.{nat_tests}
-use Rattle.dm_space.specs.declared.place.Place.{Place}
-use Rattle.dm_space.specs.Memory.{Memory, place, peek, byte_at}
-use Rattle.dm_space.specs.Places.{IsWritable, IsShaped, IsPoked}
-use Rattle.dm_space.proofs.Places.{place-shaped, shaped-then, shaped-same, peek-place}
+use Rattle.dm_space.specs.Memory.{Memory, peek}
+use Rattle.dm_space.proofs.Places.{place-shaped, shaped-then}
 use Rattle.dm_arena.specs.declared.header.Header.{Header}
 use Rattle.dm_arena.specs.declared.cut.Cut.{Cut}
 use Rattle.dm_arena.specs.declared.fit.Strategy.{Strategy}
 use Rattle.dm_arena.specs.declared.fit.Strategy.TheVariants.{First, Best, Last}
-use Rattle.dm_arena.specs.Chain.{IsHeader, signature, Spells, HasHeader, IsNonEmpty, next, IsClear, IsArena, Becomes, DiffersInHeaders}
-use Rattle.dm_arena.specs.Reading.{is_nil, IsSpelledFrom}
-use Rattle.dm_arena.specs.Blocks.{is_free, merge, join, join_after, fits, pick, largest, cut, cut_low, cut_high, taken, IsIn, IsFit}
+use Rattle.dm_arena.specs.Chain.{IsHeader, signature, Spells, HasHeader, IsNonEmpty, next, IsClear, IsArena, Becomes}
+use Rattle.dm_arena.specs.Reading.{is_nil}
+use Rattle.dm_arena.specs.Blocks.{is_free, merge, join, join_after, fits, pick, cut, cut_low, cut_high, taken, IsIn}
 use Rattle.dm_arena.specs.Joins.{Fills, IsReplaceable, IsReplaced, IsJoined, cut_list}
 use Rattle.dm_arena.specs.Allocation.{Taking, changed, Placing, IsPlan}
-use Rattle.dm_arena.proofs.Chains.{has_left, has_right, has_either, spells_end, clear_within, clear_map}
+use Rattle.dm_arena.proofs.Chains.{has_left, has_right, has_either, spells_end, clear_map}
 use Rattle.dm_arena.proofs.Reading.{clear-below}
 use Rattle.dm_arena.proofs.Fitting.{fit_found}
 

@@ -1,19 +1,14 @@
 -- Finding a block, and what becomes of the list where it changes.
-use Rattle.std.proofs.Common.{◌≡◌, ◌≢◌, ℕ, ◌+◌, ◌-◌, ◌*◌, ◌<◌, ◌≤◌, Bool, true, false, cond, ◌&&◌, IsTrue, List, [], ◌∷◌, ◌++◌, ◌⊎◌, inl, inr, refl, sym, ◌∙◌, ap, ap₂, subst, arith, Option, Some, None, nat_eq, append_assoc}
-use Rattle.std.specs.Prelude.{MatchOption, option_to_list}
-use Rattle.dm_space.specs.declared.place.Place.{Place}
-use Rattle.dm_space.specs.Memory.{Memory, place, peek, byte_at}
-use Rattle.dm_space.specs.Places.{IsWritable, IsShaped, IsPoked}
+use Rattle.std.proofs.Common.{◌≡◌, ℕ, ◌+◌, true, false, List, [], ◌∷◌, ◌++◌, inl, inr, refl, sym, ◌∙◌, ap, subst, arith, append_assoc}
+use Rattle.dm_space.specs.Memory.{Memory}
 use Rattle.dm_arena.specs.declared.header.Header.{Header}
 use Rattle.dm_arena.specs.declared.header.Entry.{Entry}
-use Rattle.dm_arena.specs.declared.cut.Cut.{Cut}
-use Rattle.dm_arena.specs.Chain.{IsHeader, signature, Spells, HasHeader, IsNonEmpty, next, IsClear, IsArena, Becomes, DiffersInHeaders}
-use Rattle.dm_arena.specs.Reading.{is_nil, IsSpelledFrom, IsFront}
-use Rattle.dm_arena.specs.Blocks.{is_free, merge, cut_low}
-use Rattle.dm_arena.specs.Joins.{Fills, IsReplaceable, IsReplaced, cut_list}
-use Rattle.dm_arena.specs.Owned.{BlockAt, BlockRunAt, absorb, AllFree, BeginsTaken, IsGrown, IsGrowable, freed, resized}
-use Rattle.dm_arena.specs.Reading.{NoBlockAt, IsFinding, IsFoundAt, FindsBlock}
-use Rattle.dm_arena.proofs.Chains.{has_left, has_right, has_either, spells_end, clear_within, clear_map}
+use Rattle.dm_arena.specs.Chain.{Spells, HasHeader, IsNonEmpty, next, IsClear, IsArena, Becomes}
+use Rattle.dm_arena.specs.Reading.{is_nil, IsFront}
+use Rattle.dm_arena.specs.Joins.{IsReplaceable, IsReplaced}
+use Rattle.dm_arena.specs.Owned.{BlockAt, freed}
+use Rattle.dm_arena.specs.Reading.{NoBlockAt, IsFinding, IsFoundAt}
+use Rattle.dm_arena.proofs.Chains.{has_left, has_right, has_either, clear_within}
 
 append_nil : (P : List Header) → P ++ [] ≡ P
 append_nil [] = refl

@@ -1,5 +1,5 @@
 -- The bytes of a paragraph: A20 and the wrap of offsets never matter there.
-use Rattle.std.proofs.Common.{◌≡◌, ℕ, ◌+◌, ◌*◌, ◌<◌, ◌≤◌, refl, sym, ◌∙◌, ap, subst, arith}
+use Rattle.std.proofs.Common.{◌≡◌, ℕ, ◌+◌, ◌*◌, ◌<◌, ◌≤◌, sym, ◌∙◌, ap, subst, arith}
 use Rattle.dm_space.specs.Memory.{Memory, Held, IsHeld, linear, peek, poke}
 use Rattle.dm_space.specs.Places.{IsPoked}
 use Rattle.dm_space.proofs.Places.{linear-low, poke-poked}

@@ -1,12 +1,10 @@
 -- Chains under writes.
-use Rattle.std.proofs.Common.{◌≡◌, ◌≢◌, ℕ, ◌+◌, ◌-◌, ◌*◌, ◌<◌, ◌≤◌, Bool, true, false, cond, List, [], ◌∷◌, ◌++◌, ◌⊎◌, inl, inr, refl, sym, ◌∙◌, ap, ap₂, subst, arith}
-use Rattle.dm_space.specs.declared.place.Place.{Place}
+use Rattle.std.proofs.Common.{◌≡◌, ◌≢◌, ℕ, ◌+◌, ◌*◌, ◌<◌, ◌≤◌, Bool, List, [], ◌∷◌, ◌++◌, ◌⊎◌, inl, inr, refl, sym, ◌∙◌, ap, ap₂, subst, arith}
 use Rattle.dm_space.specs.Memory.{Memory, place, peek, byte_at}
-use Rattle.dm_space.specs.Places.{IsWritable, IsShaped, IsPoked}
+use Rattle.dm_space.specs.Places.{IsWritable}
 use Rattle.dm_space.proofs.Places.{paragraph-apart, place-shaped, peek-place}
 use Rattle.dm_arena.specs.declared.header.Header.{Header}
-use Rattle.dm_arena.specs.declared.header.Entry.{Entry}
-use Rattle.dm_arena.specs.Chain.{word, IsHeader, signature, Spells, HasHeader, IsNonEmpty, next, IsClear, DiffersInHeaders}
+use Rattle.dm_arena.specs.Chain.{IsHeader, signature, Spells, HasHeader, next, IsClear}
 use Rattle.dm_arena.specs.Reading.{mark, is_nil, IsHeaderWritten}
 
 -- bytes 0 to 4 of the headers of L are the same

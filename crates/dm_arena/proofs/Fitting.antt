@@ -1,10 +1,10 @@
 -- The search finds the fit.
-use Rattle.std.proofs.Common.{◌≡◌, ◌≢◌, ℕ, ◌+◌, ◌-◌, ◌*◌, ◌<◌, ◌≤◌, Bool, true, false, cond, ◌&&◌, IsTrue, List, [], ◌∷◌, ◌++◌, ◌⊎◌, inl, inr, refl, sym, ◌∙◌, ap, ap₂, subst, arith, Option, Some, None}
+use Rattle.std.proofs.Common.{◌≡◌, ℕ, Bool, true, false, cond, ◌&&◌, IsTrue, List, [], ◌∷◌, ◌++◌, ◌⊎◌, inl, inr, refl, sym, ◌∙◌, ap, subst, arith, Option, Some, None}
 use Rattle.std.proofs.lemmas.Bool.Decides.{nat_tests}
 use Rattle.dm_arena.specs.declared.header.Header.{Header}
 use Rattle.dm_arena.specs.declared.fit.Strategy.{Strategy}
 use Rattle.dm_arena.specs.declared.fit.Strategy.TheVariants.{First, Best, Last}
-use Rattle.dm_arena.specs.Blocks.{is_free, fits, prefers, IsIn, IsFit, pick, better}
+use Rattle.dm_arena.specs.Blocks.{fits, prefers, IsIn, IsFit, pick, better}
 
 prefers-trans : (st : Strategy) (a b c : Header) → IsTrue (prefers st a b) → IsTrue (prefers st b c) → IsTrue (prefers st a c)
 prefers-trans First a b c x y = grind (arith, nat_tests)

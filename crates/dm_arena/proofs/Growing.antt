@@ -1,18 +1,18 @@
 -- A block with the run of free blocks after it.
-use Rattle.std.proofs.Common.{◌≡◌, ◌≢◌, ℕ, ◌+◌, ◌-◌, ◌*◌, ◌<◌, ◌≤◌, Bool, true, false, cond, ◌&&◌, IsTrue, List, [], ◌∷◌, ◌++◌, ◌⊎◌, inl, inr, refl, sym, ◌∙◌, ap, ap₂, subst, arith, Option, Some, None, nat_eq, append_assoc}
+use Rattle.std.proofs.Common.{◌≡◌, ℕ, ◌<◌, ◌≤◌, true, false, List, [], ◌∷◌, ◌++◌, inl, inr, refl, sym, ◌∙◌, ap, ap₂, subst, arith, append_assoc}
 use Rattle.std.specs.Prelude.{MatchOption, option_to_list}
 use Rattle.dm_space.specs.Memory.{Memory}
 use Rattle.dm_arena.specs.declared.header.Header.{Header}
 use Rattle.dm_arena.specs.declared.header.Entry.{Entry}
 use Rattle.dm_arena.specs.declared.cut.Cut.{Cut}
 use Rattle.dm_arena.specs.declared.fit.Strategy.TheVariants.{First}
-use Rattle.dm_arena.specs.Chain.{IsHeader, signature, Spells, HasHeader, IsNonEmpty, next, IsClear, IsArena, Becomes, DiffersInHeaders}
-use Rattle.dm_arena.specs.Reading.{is_nil, IsSpelledFrom, IsFront}
+use Rattle.dm_arena.specs.Chain.{Spells, HasHeader, IsNonEmpty, next, IsClear, IsArena, Becomes}
+use Rattle.dm_arena.specs.Reading.{IsSpelledFrom, IsFront}
 use Rattle.dm_arena.specs.Blocks.{is_free, merge, cut, cut_low}
 use Rattle.dm_arena.specs.Joins.{Fills, IsReplaceable, IsReplaced, cut_list}
 use Rattle.dm_arena.specs.Owned.{BlockRunAt, absorb, AllFree, BeginsTaken, IsGrown, IsGrowable, resized}
 use Rattle.dm_arena.specs.Reading.{IsFoundAt}
-use Rattle.dm_arena.proofs.Chains.{has_left, has_right, has_either, spells_end, clear_within, clear_map}
+use Rattle.dm_arena.proofs.Chains.{has_left, has_right, has_either, spells_end}
 use Rattle.dm_arena.proofs.Reading.{clear-below}
 use Rattle.dm_arena.proofs.Allocating.{cut_fills, low_rest, high_rest}
 

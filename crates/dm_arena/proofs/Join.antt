@@ -1,12 +1,10 @@
 -- The step of the pass that joins.
-use Rattle.std.proofs.Common.{◌≡◌, ◌≢◌, ℕ, ◌+◌, ◌-◌, ◌*◌, ◌<◌, ◌≤◌, Bool, true, false, cond, List, [], ◌∷◌, ◌++◌, ◌⊎◌, inl, inr, refl, sym, ◌∙◌, ap, ap₂, subst, arith, append_assoc}
-use Rattle.dm_space.specs.declared.place.Place.{Place}
-use Rattle.dm_space.specs.Memory.{Memory, place, peek, byte_at}
-use Rattle.dm_space.specs.Places.{IsWritable, IsShaped, IsPoked}
-use Rattle.dm_space.proofs.Places.{place-shaped, shaped-then, shaped-same, peek-place}
+use Rattle.std.proofs.Common.{◌≡◌, ℕ, Bool, true, false, List, [], ◌∷◌, ◌++◌, inl, inr, refl, sym, ◌∙◌, ap, arith, append_assoc}
+use Rattle.dm_space.specs.Memory.{Memory}
+use Rattle.dm_space.proofs.Places.{place-shaped, shaped-then}
 use Rattle.dm_arena.specs.declared.header.Header.{Header}
 use Rattle.dm_arena.specs.declared.header.Entry.{Entry}
-use Rattle.dm_arena.specs.Chain.{IsHeader, signature, Spells, HasHeader, IsNonEmpty, next, IsClear, IsArena, DiffersInHeaders}
+use Rattle.dm_arena.specs.Chain.{IsHeader, signature, Spells, HasHeader, IsNonEmpty, next, IsClear, IsArena}
 use Rattle.dm_arena.specs.Reading.{mark, is_nil, IsHeaderWritten}
 use Rattle.dm_arena.specs.Blocks.{join}
 use Rattle.dm_arena.specs.Joins.{IsJoiningAll, IsJoinedFront, IsJoined}

@@ -1,5 +1,5 @@
 -- Each call has one answer.
-use Rattle.std.proofs.Common.{◌≡◌, ◌≢◌, ℕ, ◌+◌, ◌*◌, ◌<◌, ◌≤◌, Bool, true, false, ◌&&◌, IsTrue, List, [], ◌∷◌, ◌++◌, ◌⊎◌, inl, inr, refl, sym, ◌∙◌, ap, ap₂, subst, arith, Result, Ok, Err}
+use Rattle.std.proofs.Common.{◌≡◌, ℕ, ◌+◌, ◌≤◌, true, false, IsTrue, List, [], ◌∷◌, ◌++◌, inl, inr, refl, sym, ◌∙◌, ap, ap₂, subst, arith, Result, Ok, Err}
 use Rattle.std.proofs.lemmas.Bool.Decides.{nat_tests}
 use Rattle.dm_space.specs.Memory.{Memory}
 use Rattle.dm_arena.specs.declared.header.Header.{Header}
@@ -7,9 +7,9 @@ use Rattle.dm_arena.specs.declared.refusal.Refusal.{Refusal}
 use Rattle.dm_arena.specs.declared.refusal.Refusal.TheVariants.{Destroyed, Short, NoBlock}
 use Rattle.dm_arena.specs.declared.fit.Strategy.{Strategy}
 use Rattle.dm_arena.specs.declared.fit.Strategy.TheVariants.{First, Best, Last}
-use Rattle.dm_arena.specs.Chain.{first_header, HasHeader, IsClear, IsArena, NoArena, Becomes}
+use Rattle.dm_arena.specs.Chain.{first_header, HasHeader, IsClear, IsArena, Becomes}
 use Rattle.dm_arena.specs.Reading.{NoBlockAt}
-use Rattle.dm_arena.specs.Blocks.{is_free, join, largest, fits, prefers, IsIn, IsFit, cut, cut_low, taken}
+use Rattle.dm_arena.specs.Blocks.{is_free, join, largest, fits, prefers, IsIn, cut, cut_low, taken}
 use Rattle.dm_arena.specs.Joins.{Fills}
 use Rattle.dm_arena.specs.Allocation.{Taking, changed, Allocates, AllocateRefused}
 use Rattle.dm_arena.specs.Owned.{BlockAt, freed, Frees, FreeRefused, absorb, AllFree, BeginsTaken, BlockRunAt, resized, Resizes, ResizeRefused, released, Releases}

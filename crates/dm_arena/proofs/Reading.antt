@@ -1,13 +1,11 @@
 -- Steps of the walks that read.
-use Rattle.std.proofs.Common.{◌≡◌, ◌≢◌, ℕ, ◌+◌, ◌-◌, ◌*◌, ◌<◌, ◌≤◌, Bool, true, false, cond, ◌&&◌, List, [], ◌∷◌, ◌++◌, ◌⊎◌, inl, inr, refl, sym, ◌∙◌, ap, ap₂, subst, arith, Option, Some, None}
-use Rattle.dm_space.specs.declared.place.Place.{Place}
-use Rattle.dm_space.specs.Memory.{Memory, place, peek, byte_at}
-use Rattle.dm_space.specs.Places.{IsWritable, IsShaped, IsPoked}
+use Rattle.std.proofs.Common.{◌≡◌, ℕ, ◌+◌, ◌*◌, ◌<◌, ◌≤◌, Bool, true, false, List, [], ◌∷◌, inl, inr, refl, sym, ◌∙◌, ap, subst, arith}
+use Rattle.dm_space.specs.Memory.{Memory, peek}
 use Rattle.dm_space.proofs.Places.{place-low, place-low-injective}
 use Rattle.dm_arena.specs.declared.header.Header.{Header}
 use Rattle.dm_arena.specs.declared.header.Entry.{Entry}
 use Rattle.dm_arena.specs.Chain.{word, IsHeader, signature, Spells, HasHeader, next, IsArena, IsClear}
-use Rattle.dm_arena.specs.Reading.{is_nil, mark, IsFront, IsSpelledFrom, IsArenaFrom, IsEntryAt}
+use Rattle.dm_arena.specs.Reading.{is_nil, mark, IsFront, IsSpelledFrom, IsArenaFrom}
 use Rattle.dm_arena.specs.Blocks.{is_free, merge, join, join_after}
 use Rattle.dm_arena.specs.Joins.{IsJoining, IsJoinedFront}
 

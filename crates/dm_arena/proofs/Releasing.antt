@@ -1,13 +1,11 @@
 -- The step of the pass that frees each block of an owner.
-use Rattle.std.proofs.Common.{◌≡◌, ◌≢◌, ℕ, ◌+◌, ◌-◌, ◌*◌, ◌<◌, ◌≤◌, Bool, true, false, cond, List, [], ◌∷◌, ◌++◌, ◌⊎◌, inl, inr, refl, sym, ◌∙◌, ap, ap₂, subst, arith, append_assoc}
-use Rattle.dm_space.specs.declared.place.Place.{Place}
-use Rattle.dm_space.specs.Memory.{Memory, place, peek, byte_at}
-use Rattle.dm_space.specs.Places.{IsWritable, IsShaped, IsPoked}
-use Rattle.dm_space.proofs.Places.{place-shaped, shaped-then, shaped-same, peek-place}
+use Rattle.std.proofs.Common.{◌≡◌, ℕ, Bool, true, false, List, [], ◌∷◌, ◌++◌, inl, inr, refl, sym, ◌∙◌, ap, subst, append_assoc}
+use Rattle.dm_space.specs.Memory.{Memory}
+use Rattle.dm_space.proofs.Places.{place-shaped, shaped-then}
 use Rattle.dm_arena.specs.declared.header.Header.{Header}
 use Rattle.dm_arena.specs.declared.header.Entry.{Entry}
-use Rattle.dm_arena.specs.Chain.{Spells, HasHeader, IsNonEmpty, next, IsClear, IsArena, Becomes, DiffersInHeaders}
-use Rattle.dm_arena.specs.Reading.{is_nil, IsFront, IsSpelledFrom}
+use Rattle.dm_arena.specs.Chain.{Spells, HasHeader, IsNonEmpty, next, IsArena, Becomes, DiffersInHeaders}
+use Rattle.dm_arena.specs.Reading.{is_nil, IsFront}
 use Rattle.dm_arena.specs.Joins.{IsReplaceable, IsReplaced}
 use Rattle.dm_arena.specs.Owned.{released, released_block, IsReleasing}
 use Rattle.dm_arena.proofs.Chains.{has_left, has_right, has_either, spells_end, clear_within, clear_map}

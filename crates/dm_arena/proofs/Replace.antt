@@ -1,14 +1,12 @@
 -- One or two headers written in place of some blocks.
-use Rattle.std.proofs.Common.{◌≡◌, ◌≢◌, ℕ, ◌+◌, ◌-◌, ◌*◌, ◌<◌, ◌≤◌, Bool, true, false, cond, List, [], ◌∷◌, ◌++◌, ◌⊎◌, inl, inr, refl, sym, ◌∙◌, ap, ap₂, subst, arith, append_assoc}
-use Rattle.dm_space.specs.declared.place.Place.{Place}
-use Rattle.dm_space.specs.Memory.{Memory, place, peek, byte_at}
-use Rattle.dm_space.specs.Places.{IsWritable, IsShaped, IsPoked}
-use Rattle.dm_space.proofs.Places.{place-shaped, shaped-then, shaped-same, peek-place}
+use Rattle.std.proofs.Common.{◌≡◌, ℕ, ◌<◌, ◌≤◌, Bool, List, [], ◌∷◌, ◌++◌, inl, inr, refl, sym, ◌∙◌, subst, arith}
+use Rattle.dm_space.specs.Memory.{Memory}
+use Rattle.dm_space.proofs.Places.{place-shaped, shaped-then}
 use Rattle.dm_arena.specs.declared.header.Header.{Header}
-use Rattle.dm_arena.specs.Chain.{IsHeader, signature, Spells, HasHeader, IsNonEmpty, next, IsClear, DiffersInHeaders}
-use Rattle.dm_arena.specs.Reading.{mark, is_nil, IsHeaderWritten}
+use Rattle.dm_arena.specs.Chain.{IsHeader, signature, Spells, HasHeader, next, IsClear}
+use Rattle.dm_arena.specs.Reading.{mark, IsHeaderWritten}
 use Rattle.dm_arena.specs.Joins.{Fills, IsReplaceable, IsReplaced}
-use Rattle.dm_arena.proofs.Chains.{Agrees, spells_kept, spells_replace, spells_above, spells_below, spells_end, header_kept, has_left, has_right, has_either, clear_within, clear_map, agrees_written, byte_kept, mark-signature}
+use Rattle.dm_arena.proofs.Chains.{Agrees, spells_kept, spells_replace, spells_above, spells_below, spells_end, header_kept, has_left, has_right, clear_map, agrees_written, byte_kept, mark-signature}
 
 -- what comes after blocks that fill h to t is spelled from t on
 after_fills : (S : Memory) (h t : ℕ) (B Q : List Header) → Fills h B t → Spells S h (B ++ Q) → Spells S t Q

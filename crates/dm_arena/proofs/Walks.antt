@@ -1,13 +1,13 @@
 -- Steps of the walk that tells the headers.
-use Rattle.std.proofs.Common.{◌≡◌, ℕ, ◌+◌, ◌*◌, ◌<◌, ◌≤◌, Bool, true, false, cond, List, [], ◌∷◌, ◌++◌, ◌⊎◌, inl, inr, refl, sym, ◌∙◌, ap, subst, arith, Option, Some, None}
+use Rattle.std.proofs.Common.{◌≡◌, ℕ, ◌<◌, ◌≤◌, Bool, true, false, List, [], ◌∷◌, ◌++◌, inl, inr, refl, sym, ◌∙◌, ap, subst, arith, Option, Some, None}
 use Rattle.std.specs.Prelude.{if◌then◌else◌, IfSome}
 use Rattle.dm_space.specs.Memory.{Memory}
 use Rattle.dm_arena.specs.declared.header.Header.{Header}
 use Rattle.dm_arena.specs.declared.header.Entry.{Entry}
-use Rattle.dm_arena.specs.Chain.{first_header, IsHeader, signature, Spells, HasHeader, IsNonEmpty, next, IsClear, IsArena, NoArena}
+use Rattle.dm_arena.specs.Chain.{first_header, IsHeader, signature, Spells, HasHeader, IsNonEmpty, next, IsClear, NoArena}
 use Rattle.dm_arena.specs.Reading.{is_nil, mark}
 use Rattle.dm_arena.specs.declared.listing.Step.{Step}
-use Rattle.dm_arena.specs.declared.listing.Step.TheVariants.{Told, End, Destroyed}
+use Rattle.dm_arena.specs.declared.listing.Step.TheVariants.{Told, Destroyed}
 use Rattle.dm_arena.specs.Listing.{Walking, Path, Leads, Follows, Closes, IsStep, IsStepFrom, IsUnderWay}
 use Rattle.dm_arena.proofs.Chains.{has_left, has_right, has_either, clear_within}
 use Rattle.dm_arena.proofs.Reading.{clear-below, header-unique}

@@ -1,12 +1,10 @@
 -- Five bytes written at a paragraph.
-use Rattle.std.proofs.Common.{◌≡◌, ◌≢◌, ℕ, suc, zero, ◌+◌, ◌*◌, ◌<◌, ◌≤◌, ◌/◌, ◌%◌, Bool, true, false, cond, List, refl, sym, ◌∙◌, ap, ap₂, subst, arith}
+use Rattle.std.proofs.Common.{◌≡◌, ◌≢◌, ℕ, suc, zero, ◌+◌, ◌*◌, ◌<◌, ◌≤◌, refl, sym, ◌∙◌, ap₂, subst, arith}
 use Rattle.dm_space.specs.declared.place.Place.{Place}
 use Rattle.dm_space.specs.Memory.{Memory, place, peek, byte_at}
 use Rattle.dm_space.specs.Places.{IsWritable, IsShaped, IsPoked}
 use Rattle.dm_space.proofs.Places.{paragraph-writable, paragraph-apart, place-shaped, shaped-then, poked-read, poked-kept}
-use Rattle.dm_arena.specs.declared.header.Header.{Header}
-use Rattle.dm_arena.specs.Chain.{IsHeader, word}
-use Rattle.dm_arena.specs.Reading.{IsHeaderWritten}
+use Rattle.dm_arena.specs.Chain.{IsHeader}
 
 pub each_of_five : (P : ℕ → Type 0) → P 0 → P 1 → P 2 → P 3 → P 4 → (k : ℕ) → k < 5 → P k
 each_of_five P a b c d e zero h = a

@@ -1,4 +1,4 @@
-use Rattle.std.proofs.Common.{ℕ, sym, refl, inl, inr, ◌∙◌, arith, rules}
+use Rattle.std.proofs.Common.{sym, inr, ◌∙◌, rules}
 use Rattle.dm_arena.proofs.Allocating.{block_within, block_ends, planned, unplanned}
 use Rattle.dm_arena.specs.Reading.{IsSpelledFrom}
 use Rattle.dm_arena.proofs.Fitting.{none_found}

@@ -1,4 +1,3 @@
-use Rattle.std.proofs.Common.{ℕ, sym, ◌∙◌, arith, rules}
 use Rattle.dm_arena.proofs.Replace.{replaced_one, replaced_two}
 use Rattle.dm_arena.proofs.cut.write_cut.Goals as goal
 

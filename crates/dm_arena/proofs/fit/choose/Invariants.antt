@@ -1,6 +1,5 @@
-use Rattle.std.proofs.Common.{◌-◌, ◌≡◌, ℕ, ◌+◌, ◌≤◌, List}
+use Rattle.std.proofs.Common.{◌-◌, List}
 use Rattle.dm_arena.specs.declared.header.Header.{Header}
-use Rattle.dm_arena.specs.Chain.{next}
 use Rattle.dm_arena.specs.Reading.{IsSpelledFrom}
 use Rattle.dm_arena.specs.Joins.{IsChoosing}
 use Rattle.dm_arena.proofs.fit.choose.Given as goal

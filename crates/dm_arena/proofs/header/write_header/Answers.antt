@@ -1,5 +1,4 @@
-use Rattle.std.proofs.Common.{◌≡◌, ℕ, ◌+◌, ◌*◌, ◌/◌, ◌%◌, refl, arith}
-use Rattle.dm_arena.specs.Reading.{IsHeaderWritten, mark}
+use Rattle.std.proofs.Common.{refl, arith}
 use Rattle.dm_arena.proofs.Write.{shape5, kept5, header_written}
 use Rattle.dm_arena.proofs.header.write_header.Goals as goal
 use Rattle.dm_arena.proofs.header.write_header.Goals.{then-entry, else-entry}

@@ -1,4 +1,4 @@
-use Rattle.std.proofs.Common.{ℕ, [], refl, sym, ◌∙◌, arith, rules}
+use Rattle.std.proofs.Common.{[], refl, sym, ◌∙◌}
 use Rattle.dm_space.proofs.Places.{shaped-same}
 use Rattle.dm_arena.proofs.Join.{joining_all_step, joining_all_end, joining_all_at, nonempty_of}
 use Rattle.dm_arena.proofs.joined.join_all.Goals as goal

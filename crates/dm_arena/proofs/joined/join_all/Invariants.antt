@@ -1,4 +1,4 @@
-use Rattle.std.proofs.Common.{◌-◌, ◌≡◌, ℕ, ◌+◌, ◌≤◌, List}
+use Rattle.std.proofs.Common.{◌-◌, ◌≡◌, List}
 use Rattle.dm_arena.specs.declared.header.Header.{Header}
 use Rattle.dm_arena.specs.Chain.{first_header, IsArena, IsNonEmpty}
 use Rattle.dm_arena.specs.Joins.{IsJoiningAll}

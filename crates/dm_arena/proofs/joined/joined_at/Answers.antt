@@ -1,6 +1,5 @@
-use Rattle.std.proofs.Common.{ℕ, sym, ◌∙◌, arith, rules}
-use Rattle.std.proofs.lemmas.Grind.{common_steps}
-use Rattle.dm_arena.proofs.Reading.{joining_start, joining_more, exit_last, exit_taken, exit_before_taken}
+use Rattle.std.proofs.Common.{arith, rules}
+use Rattle.dm_arena.proofs.Reading.{joining_start, joining_more, exit_last, exit_taken}
 use Rattle.dm_arena.proofs.joined.joined_at.Goals as goal
 use Rattle.dm_arena.proofs.joined.joined_at.Goals.{then-entry-via-then-entry, then-entry-via-else-entry+then-not-is_free}
 

@@ -1,5 +1,4 @@
-use Rattle.std.proofs.Common.{ℕ, sym, refl, inl, inr, ◌∙◌, arith, rules}
-use Rattle.dm_arena.specs.Chain.{next}
+use Rattle.std.proofs.Common.{arith}
 use Rattle.dm_arena.proofs.Blocks.{found_block, found_none, finding_more}
 use Rattle.dm_arena.proofs.list.find.Goals as goal
 

@@ -1,5 +1,5 @@
-use Rattle.std.proofs.Common.{ℕ, sym, ◌∙◌, arith, rules}
-use Rattle.dm_arena.proofs.Reading.{arena_forth, arena_back, arena_last, no_arena_high, no_arena_bad, arena_of, from_arena}
+use Rattle.std.proofs.Common.{arith}
+use Rattle.dm_arena.proofs.Reading.{arena_forth, arena_back, arena_last, no_arena_high, arena_of, from_arena}
 use Rattle.dm_arena.proofs.list.is_arena.Goals as goal
 
 pub returns-then-segment-ge-TOP : goal.returns-then-segment-ge-TOP

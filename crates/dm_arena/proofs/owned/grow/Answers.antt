@@ -1,5 +1,5 @@
-use Rattle.std.proofs.Common.{ℕ, sym, refl, inl, inr, ◌∙◌, arith, rules}
-use Rattle.dm_arena.proofs.Growing.{grown_start, grown_more, grown_last, grown_before_taken}
+use Rattle.std.proofs.Common.{arith, rules}
+use Rattle.dm_arena.proofs.Growing.{grown_start, grown_more, grown_before_taken}
 use Rattle.dm_arena.proofs.owned.grow.Goals as goal
 
 pub walk-init : goal.walk-init

@@ -1,6 +1,5 @@
-use Rattle.std.proofs.Common.{ℕ, [], refl, sym, ◌∙◌, arith, rules}
+use Rattle.std.proofs.Common.{[], refl, sym, ◌∙◌}
 use Rattle.dm_space.proofs.Places.{shaped-same}
-use Rattle.dm_arena.specs.Reading.{IsSpelledFrom}
 use Rattle.dm_arena.proofs.Releasing.{releasing, released_step, released_all, releasing_at, nonempty_rest}
 use Rattle.dm_arena.proofs.owned.release.Goals as goal
 

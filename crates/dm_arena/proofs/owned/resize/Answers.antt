@@ -1,4 +1,4 @@
-use Rattle.std.proofs.Common.{ℕ, sym, refl, inl, inr, ◌∙◌, arith, rules}
+use Rattle.std.proofs.Common.{refl, inr, arith}
 use Rattle.dm_arena.specs.Chain.{first_header}
 use Rattle.dm_arena.specs.Reading.{IsSpelledFrom}
 use Rattle.dm_arena.specs.Owned.{IsGrowable}

@@ -1,4 +1,4 @@
-use Rattle.std.proofs.Common.{◌≡◌, Option, ℕ, None, Some, sym, ◌∙◌}
+use Rattle.std.proofs.Common.{◌≡◌, None, Some}
 use Rattle.std.specs.Prelude.{if◌then◌else◌}
 use Rattle.dm_arena.specs.Chain.{next}
 use Rattle.dm_arena.proofs.Walks.{told, high, bad-header, at_last, at_more, step_destroyed, step_told, goes_on}
