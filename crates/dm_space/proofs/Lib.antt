@@ -1,3 +1,4 @@
 pub mod Laws
 pub mod Reading
 mod Started
+pub mod Unseen

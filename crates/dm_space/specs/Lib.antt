@@ -3,3 +3,4 @@ pub mod Rom
 pub mod Start
 pub mod Lending
 pub mod Windows
+pub mod Unseen
