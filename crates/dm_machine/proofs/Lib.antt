@@ -2,3 +2,4 @@ mod Texts
 mod StepLaws
 mod OneRun
 mod Memos
+mod Confined

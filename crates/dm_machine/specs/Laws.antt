@@ -1,11 +1,42 @@
 -- Laws of steps and runs.
-use Rattle.std.specs.Prelude.{◌≡◌, ℕ}
+use Rattle.std.specs.Prelude.{◌≡◌, ℕ, List}
+use Rattle.dm_space.specs.Memory.{Memory}
+use Rattle.dm_space.specs.Unseen.{unseen_as}
+use Rattle.dm_exec.specs.Unseen.{IsUnseen}
+use Rattle.dm_machine.specs.declared.stop.Stop.{Stop}
 use Rattle.dm_machine.specs.State.{State, Answer}
 use Rattle.dm_machine.specs.Step.{Steps}
-use Rattle.dm_machine.specs.Run.{Goes}
+use Rattle.dm_machine.specs.Run.{Goes, IsRun}
 
 abbrev pub StepHasOneAnswer : Type 0
 StepHasOneAnswer = (s : State) (x y : Answer) → Steps s x → Steps s y → x ≡ y
 
 abbrev pub ThereIsOneRun : Type 0
 ThereIsOneRun = (s t u : State) (n : ℕ) → Goes s n t → Goes s n u → t ≡ u
+
+-- the state with its memory changed
+abbrev pub with_change : (Memory → Memory) → State → State
+with_change change s = record s { memory = change s.memory }
+
+-- n steps that end nothing lead to the same state where memory is changed out of every program's sight, and the change
+-- stays; no service gives a program another view of memory yet
+abbrev pub UnseenBytesChangeNoStep : Type 0
+UnseenBytesChangeNoStep =
+    (change : Memory → Memory) → IsUnseen change → (s t : State) (n : ℕ) →
+    Goes s n t → Goes (with_change change s) n (with_change change t)
+
+-- so does a whole run, and it stops for the same reason
+abbrev pub UnseenBytesChangeNoRun : Type 0
+UnseenBytesChangeNoRun =
+    (change : Memory → Memory) → IsUnseen change → (s t : State) (n : ℕ) (stop : Stop) →
+    IsRun s n stop t → IsRun (with_change change s) n stop (with_change change t)
+
+-- the state with other bytes in the pages of expanded memory that no window shows
+abbrev pub with_unseen_pages : (ℕ → List ℕ) → State → State
+with_unseen_pages other s = record s { memory = unseen_as s.memory other }
+
+-- in particular, a run neither depends on such pages nor changes them
+abbrev pub UnseenPagesChangeNoRun : Type 0
+UnseenPagesChangeNoRun =
+    (other : ℕ → List ℕ) (s t : State) (n : ℕ) (stop : Stop) →
+    IsRun s n stop t → IsRun (with_unseen_pages other s) n stop (with_unseen_pages other t)

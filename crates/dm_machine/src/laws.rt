@@ -1,5 +1,5 @@
 //! Laws of steps and runs, each the contract of a function that does nothing.
-ghost use Rattle.dm_machine.specs.Laws.{StepHasOneAnswer, ThereIsOneRun};
+ghost use Rattle.dm_machine.specs.Laws.{StepHasOneAnswer, ThereIsOneRun, UnseenBytesChangeNoStep, UnseenBytesChangeNoRun, UnseenPagesChangeNoRun};
 
 /// A step is a function of the state: no two answers of one step differ.
 pub fn a_step_has_one_answer()
@@ -9,4 +9,16 @@ pub fn a_step_has_one_answer()
 /// There is one run: from one state, the same number of steps leads to one state.
 pub fn there_is_one_run()
     ensures { ThereIsOneRun }
+{}
+
+/// Bytes that no address shows neither matter nor change: with others of them, each run makes the
+/// same steps, stops for the same reason, and leaves the same state, with those other bytes kept.
+///
+/// In particular this holds for the pages of expanded memory that no window shows (LIM EMS 4.0,
+/// section 2). It is a law of runs in which no service maps or moves such bytes; there is no such
+/// service yet.
+pub fn unseen_bytes_change_nothing()
+    ensures steps { UnseenBytesChangeNoStep }
+    ensures runs { UnseenBytesChangeNoRun }
+    ensures pages { UnseenPagesChangeNoRun }
 {}

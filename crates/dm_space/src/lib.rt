@@ -6,11 +6,13 @@
 #![tactic(auto)]
 
 mod place;
+mod reach;
 mod rom;
 mod space;
 mod start;
 
 pub use place::Place;
+pub use reach::unseen_pages_are_out_of_reach;
 pub use space::Space;
 
 #[cfg(test)]

@@ -1,0 +1,131 @@
+-- A run neither depends on what no program sees, nor changes it
+use Rattle.std.proofs.Common.{◌≡◌, ℕ, suc, zero, ◌+◌, ◌%◌, ◌<◌, ◌==◌, Bool, true, false, cond, List, [], ◌∷◌, length, Option, Some, None, refl, sym, ◌∙◌, ap, subst, rules, arith, map}
+use Rattle.dm_space.specs.Memory.{Memory, peek, linear}
+use Rattle.dm_space.specs.Unseen.{unseen_as}
+use Rattle.dm_ins.specs.declared.ins.Ins.{Ins}
+use Rattle.dm_ins.specs.declared.operand.ByteRegister.TheVariants.{Al, Ah}
+use Rattle.dm_exec.specs.declared.cpu.Cpu.{Cpu}
+use Rattle.dm_exec.specs.declared.effect.Next.{Next}
+use Rattle.dm_exec.specs.declared.effect.Next.TheVariants.{Go, Halt}
+use Rattle.dm_exec.specs.Cpu.{byte_of}
+use Rattle.dm_exec.specs.Guest.{Guest, guest}
+use Rattle.dm_exec.specs.Stack.{interrupt_return}
+use Rattle.dm_exec.specs.Effect.{effect, next_of}
+use Rattle.dm_exec.specs.Unseen.{IsUnseen, changed}
+use Rattle.dm_exec.proofs.Unseen.{effect-unseen, interrupt_return-unseen}
+use Rattle.dm_exec.proofs.Pages.{pages-unseen}
+use Rattle.dm_proc.specs.Writes.{bytes_from}
+use Rattle.dm_machine.specs.declared.stop.Stop.{Stop}
+use Rattle.dm_machine.specs.declared.stop.Stop.TheVariants.{Memory as NoMemory}
+use Rattle.dm_machine.specs.declared.services.Service.{Service}
+use Rattle.dm_machine.specs.declared.services.Service.TheVariants.{DivideError, Terminate, Dos}
+use Rattle.dm_machine.specs.State.{State, Answer, go, with_guest, returned}
+use Rattle.dm_machine.specs.Text.{text_within, text_at}
+use Rattle.dm_machine.specs.Services.{service_at, ended, print, no_function, dos_call, served, MayWant}
+use Rattle.dm_machine.specs.Step.{Steps, Runs, Acts, Instructs, listed, unlisted, Begins, fetched, after, instructed}
+use Rattle.dm_machine.specs.Run.{Answers, Goes, here, further, StopsWithin, IsRun, over, whole, cut}
+use Rattle.dm_machine.specs.Laws.{with_change, UnseenBytesChangeNoStep, UnseenBytesChangeNoRun, UnseenPagesChangeNoRun}
+
+abbrev answer_with : (Memory → Memory) → Answer → Answer
+answer_with f x = record { stop = x.stop; state = with_change f x.state }
+
+byte-unseen : (f : Memory → Memory) (u : IsUnseen f) (m : Memory) (s o : ℕ) → peek (f m) (linear (f m).a20 s o) ≡ peek m (linear m.a20 s o)
+byte-unseen f u m s o = ap (λ on. peek (f m) (linear on s o)) (u.a20 m) ∙ u.peek_same m (linear m.a20 s o)
+
+bytes_from-unseen : (f : Memory → Memory) (u : IsUnseen f) (m : Memory) (s o n : ℕ) → bytes_from (f m) s o n ≡ bytes_from m s o n
+bytes_from-unseen f u m s o zero = refl
+bytes_from-unseen f u m s o (suc n) =
+    ap (λ b. b ∷ bytes_from (f m) s (suc o) n) (byte-unseen f u m s (o % 65536))
+    ∙ ap (λ (bytes : List ℕ). peek m (linear m.a20 s (o % 65536)) ∷ bytes) (bytes_from-unseen f u m s (suc o) n)
+
+text-unseen : (f : Memory → Memory) (u : IsUnseen f) (m : Memory) (s o n : ℕ) → text_within (f m) s o n ≡ text_within m s o n
+unfolding text_within
+text-unseen f u m s o n = rw (bytes_from-unseen f u m s o n) refl
+
+fetched-unseen : (f : Memory → Memory) (u : IsUnseen f) (m : Memory) (c : Cpu) → fetched (f m) c ≡ fetched m c
+unfolding fetched
+fetched-unseen f u m c = simp (u.a20, u.peek_same)
+
+-- by its parts, as `simp` finds them
+return-parts : (f : Memory → Memory) (u : IsUnseen f) (c : Cpu) (m : Memory) → interrupt_return (guest c (f m)) ≡ record (interrupt_return (guest c m)) { memory = f (interrupt_return (guest c m)).memory }
+return-parts f u c m = interrupt_return-unseen f u (guest c m)
+
+print-unseen : (f : Memory → Memory) (u : IsUnseen f) (s : State) → print (with_change f s) ≡ answer_with f (print s)
+unfolding print
+print-unseen f u s = simp (text-unseen f u, return-parts f u)
+
+no_function-unseen : (f : Memory → Memory) (u : IsUnseen f) (s : State) → no_function (with_change f s) ≡ answer_with f (no_function s)
+unfolding no_function
+no_function-unseen f u s = simp (return-parts f u)
+
+choice-unseen : (f : Memory → Memory) (b : Bool) (x y v w : Answer) → v ≡ answer_with f x → w ≡ answer_with f y → cond b v w ≡ answer_with f (cond b x y)
+choice-unseen f true x y v w e h = e
+choice-unseen f false x y v w e h = h
+
+dos_call-unseen : (f : Memory → Memory) (u : IsUnseen f) (s : State) → dos_call (with_change f s) ≡ answer_with f (dos_call s)
+unfolding dos_call
+dos_call-unseen f u s =
+    choice-unseen f _ _ _ _ _ (print-unseen f u s) (choice-unseen f (byte_of s.cpu Ah == 0x4C) (ended s (byte_of s.cpu Al)) (no_function s) _ _ refl (no_function-unseen f u s))
+
+served-unseen : (f : Memory → Memory) (u : IsUnseen f) (s : State) (service : Service) → served (with_change f s) service ≡ answer_with f (served s service)
+served-unseen f u s DivideError = refl
+served-unseen f u s Terminate = refl
+served-unseen f u s Dos = dos_call-unseen f u s
+
+after-unseen : (f : Memory → Memory) (s : State) (n : Next) (g : Guest) → after (with_change f s) n (changed f g) ≡ answer_with f (after s n g)
+after-unseen f s Go g = refl
+after-unseen f s Halt g = refl
+
+instructed-unseen : (f : Memory → Memory) (u : IsUnseen f) (s : State) (i : Ins) (k : ℕ) → instructed (with_change f s) i k ≡ answer_with f (instructed s i k)
+instructed-unseen f u s i k =
+    ap (after (with_change f s) (next_of i.action.mnemonic)) (effect-unseen f u (guest s.cpu s.memory) i k)
+    ∙ after-unseen f s (next_of i.action.mnemonic) (effect (guest s.cpu s.memory) i k)
+
+instructs-unseen : (f : Memory → Memory) (u : IsUnseen f) (s : State) (x : Answer) → Instructs s x → Instructs (with_change f s) (answer_with f x)
+instructs-unseen f u s x (listed i k b e) =
+    listed i k (subst (λ xs. Begins xs i k) (sym (fetched-unseen f u s.memory s.cpu)) b) (ap (answer_with f) e ∙ sym (instructed-unseen f u s i k))
+instructs-unseen f u s x (unlisted h e) =
+    unlisted (λ i k b. h i k (subst (λ xs. Begins xs i k) (fetched-unseen f u s.memory s.cpu) b)) (ap (answer_with f) e)
+
+acts-unseen : (f : Memory → Memory) (u : IsUnseen f) (s : State) (o : Option Service) (x : Answer) → Acts s o x → Acts (with_change f s) o (answer_with f x)
+acts-unseen f u s (Some service) x e = ap (answer_with f) e ∙ sym (served-unseen f u s service)
+acts-unseen f u s None x h = instructs-unseen f u s x h
+
+runs-unseen : (f : Memory → Memory) (u : IsUnseen f) (s : State) (o : Option ℕ) (x : Answer) → Runs s o x → Runs (with_change f s) o (answer_with f x)
+runs-unseen f u s (Some code) x e = ap (answer_with f) e
+runs-unseen f u s None x h = acts-unseen f u s (service_at s.cpu) x h
+
+steps-unseen : (f : Memory → Memory) (u : IsUnseen f) (s : State) (x : Answer) → Steps s x → Steps (with_change f s) (answer_with f x)
+unfolding Steps
+steps-unseen f u s x h = runs-unseen f u s s.exited x h
+
+wants-unseen : (f : Memory → Memory) (u : IsUnseen f) (s : State) → MayWant s → MayWant (with_change f s)
+unfolding MayWant
+wants-unseen f u s h = (h.0, h.1, h.2, rw (text-unseen f u s.memory s.cpu.ds s.cpu.dx 65536) h.3)
+
+answers-unseen : (f : Memory → Memory) (u : IsUnseen f) (s : State) (stop : Option Stop) (t : State) → Answers s stop t → Answers (with_change f s) stop (with_change f t)
+answers-unseen f u s (Some NoMemory) t h = (wants-unseen f u s h.0, ap (with_change f) h.1)
+answers-unseen f u s (Some stop) t h = steps-unseen f u s _ h
+answers-unseen f u s None t h = steps-unseen f u s _ h
+
+pub goes-unseen : UnseenBytesChangeNoStep
+goes-unseen f u s t n here = here
+goes-unseen f u s t n (further m r v goes h) =
+    further m (with_change f r) (with_change f v) (goes-unseen f u s r m goes) (steps-unseen f u r _ h)
+
+within-unseen : (f : Memory → Memory) (u : IsUnseen f) (s t : State) (n : ℕ) (stop : Stop) → StopsWithin s n stop t → StopsWithin (with_change f s) n stop (with_change f t)
+within-unseen f u s t n stop w = record {
+  made = w.made;
+  before = with_change f w.before;
+  fewer = w.fewer;
+  goes = goes-unseen f u s w.before w.made w.goes;
+  answers = answers-unseen f u w.before (Some stop) t w.answers;
+}
+
+pub run-unseen : UnseenBytesChangeNoRun
+run-unseen f u s t n stop (over code e g h) = over code e g (ap (with_change f) h)
+run-unseen f u s t n stop (whole e g goes) = whole e g (goes-unseen f u s t n goes)
+run-unseen f u s t n stop (cut e w) = cut e (within-unseen f u s t n stop w)
+
+pub pages_run-unseen : UnseenPagesChangeNoRun
+pages_run-unseen other = run-unseen (λ m. unseen_as m other) (pages-unseen other)
