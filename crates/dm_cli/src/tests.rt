@@ -11,6 +11,11 @@ const HELLO: [u8; 15] = [
     0xB4, 0x09, 0xBA, 0x0C, 0x01, 0xCD, 0x21, 0xB8, 0x00, 0x4C, 0xCD, 0x21, 0x68, 0x69, 0x24,
 ];
 
+/// Prints the command tail up to a dollar sign and ends with code 0.
+const ECHO: [u8; 12] = [
+    0xBA, 0x81, 0x00, 0xB4, 0x09, 0xCD, 0x21, 0xB8, 0x00, 0x4C, 0xCD, 0x21,
+];
+
 /// Ends with code 5.
 const FIVE: [u8; 5] = [0xB8, 0x05, 0x4C, 0xCD, 0x21];
 
@@ -67,6 +72,7 @@ fn tells_each_fault_in_its_order(rt: HostRuntime) -> Result<(), Fail> {
         ("hi.com", Source(hello, ends)),
         ("d/HI.COM", Source(hello, ends)),
         ("d/five.com", Source(FIVE.as_slice(), ends)),
+        ("echo.com", Source(ECHO.as_slice(), ends)),
         ("0f.com", Source(b"\x0F".as_slice(), ends)),
         ("empty.com", Source(b"".as_slice(), ends)),
         ("mz.exe", Source(b"MZ".as_slice(), ends)),
@@ -82,6 +88,7 @@ fn tells_each_fault_in_its_order(rt: HostRuntime) -> Result<(), Fail> {
     let cases = [
         ("dm run hi.com", ends, 0, "hi", ""),
         ("dm run d/five.com hi.com", ends, 5, "", ""),
+        ("dm run --tail=ab$ echo.com", ends, 0, "ab", ""),
         (
             "dm run --steps=6 hi.com",
             ends,

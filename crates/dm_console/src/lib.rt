@@ -4,3 +4,6 @@
 mod console;
 
 pub use console::Console;
+
+#[cfg(test)]
+mod tests;
