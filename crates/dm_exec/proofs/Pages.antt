@@ -1,5 +1,5 @@
 -- Pages that no window shows are unseen by every instruction
-use Rattle.std.proofs.Common.{◌≡◌, ℕ, List}
+use Rattle.std.proofs.Common.{ℕ, List}
 use Rattle.dm_space.specs.Unseen.{unseen_as}
 use Rattle.dm_space.proofs.Unseen.{a20-unseen, peek-unseen, poke-unseen}
 use Rattle.dm_exec.specs.Unseen.{IsUnseen}

@@ -1,5 +1,5 @@
 -- A run neither depends on what no program sees, nor changes it
-use Rattle.std.proofs.Common.{◌≡◌, ℕ, suc, zero, ◌+◌, ◌%◌, ◌<◌, ◌==◌, Bool, true, false, cond, List, [], ◌∷◌, length, Option, Some, None, refl, sym, ◌∙◌, ap, subst, rules, arith, map}
+use Rattle.std.proofs.Common.{◌≡◌, ℕ, suc, zero, ◌%◌, ◌==◌, Bool, true, false, cond, List, ◌∷◌, Option, Some, None, refl, sym, ◌∙◌, ap, subst}
 use Rattle.dm_space.specs.Memory.{Memory, peek, linear}
 use Rattle.dm_space.specs.Unseen.{unseen_as}
 use Rattle.dm_ins.specs.declared.ins.Ins.{Ins}
@@ -19,11 +19,11 @@ use Rattle.dm_machine.specs.declared.stop.Stop.{Stop}
 use Rattle.dm_machine.specs.declared.stop.Stop.TheVariants.{Memory as NoMemory}
 use Rattle.dm_machine.specs.declared.services.Service.{Service}
 use Rattle.dm_machine.specs.declared.services.Service.TheVariants.{DivideError, Terminate, Dos}
-use Rattle.dm_machine.specs.State.{State, Answer, go, with_guest, returned}
-use Rattle.dm_machine.specs.Text.{text_within, text_at}
+use Rattle.dm_machine.specs.State.{State, Answer}
+use Rattle.dm_machine.specs.Text.{text_within}
 use Rattle.dm_machine.specs.Services.{service_at, ended, print, no_function, dos_call, served, MayWant}
 use Rattle.dm_machine.specs.Step.{Steps, Runs, Acts, Instructs, listed, unlisted, Begins, fetched, after, instructed}
-use Rattle.dm_machine.specs.Run.{Answers, Goes, here, further, StopsWithin, IsRun, over, whole, cut}
+use Rattle.dm_machine.specs.Run.{Answers, here, further, StopsWithin, over, whole, cut}
 use Rattle.dm_machine.specs.Laws.{with_change, UnseenBytesChangeNoStep, UnseenBytesChangeNoRun, UnseenPagesChangeNoRun}
 
 abbrev answer_with : (Memory → Memory) → Answer → Answer

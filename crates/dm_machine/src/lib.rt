@@ -22,4 +22,6 @@ pub use machine::{Machine, NewError};
 pub use stop::Stop;
 
 #[cfg(test)]
+mod programs;
+#[cfg(test)]
 mod tests;

@@ -25,7 +25,7 @@ fn sized(alloc: Global, sizes: Sizes, file: &[u8]) -> Result<Result<Machine, New
 }
 
 /// The same with 64 pages and 1,024 KiB.
-fn machine(alloc: Global, file: &[u8]) -> Result<Machine, Fail>
+pub(crate) fn machine(alloc: Global, file: &[u8]) -> Result<Machine, Fail>
     ensures { IfOk result (λ m. m.processes.present ≡ 0) }
 {
     let sizes = Sizes {
