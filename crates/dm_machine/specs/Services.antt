@@ -1,5 +1,5 @@
 -- The services, and where they act: MS-DOS Programmer's Reference, "System Calls"; Intel 8086 Family User's Manual,
--- section 2.6 (interrupt 0).
+-- section 2.6 (interrupt 0). The addresses, and the answer to a function that is not there, are this machine's own.
 use Rattle.std.specs.Prelude.{◌≡◌, ℕ, ◌-◌, ◌<◌, ◌++◌, max, true, ◌==◌, if◌then◌else◌, List, length, Option, Some, None}
 use Rattle.dm_exec.specs.declared.cpu.Cpu.{Cpu}
 use Rattle.dm_exec.specs.Cpu.{byte_of}

@@ -1,7 +1,6 @@
 -- The machine as it starts, and as it is once the first program is loaded.
-use Rattle.std.specs.Prelude.{◌≡◌, ℕ, ◌<◌, ◌⊎◌, false, List, [], replicate, Option, Some, None}
+use Rattle.std.specs.Prelude.{◌≡◌, ℕ, ◌<◌, ◌⊎◌, false, List, [], replicate, Some, None}
 use Rattle.dm_space.specs.Start.{IsStart}
-use Rattle.dm_space.specs.Memory.{Memory}
 use Rattle.dm_alu.specs.declared.flags.Flags.{Flags}
 use Rattle.dm_exec.specs.declared.cpu.Cpu.{Cpu}
 use Rattle.dm_load.specs.declared.format.Kind.TheVariants.{Com}

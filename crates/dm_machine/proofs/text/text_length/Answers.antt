@@ -1,5 +1,5 @@
-use Rattle.std.proofs.Common.{◌≡◌, ◌∙◌, sym, subst, arith}
-use Rattle.dm_machine.proofs.Texts.{IsRead, read-more, read-end, read-all}
+use Rattle.std.proofs.Common.{◌≡◌, ◌∙◌, sym, arith}
+use Rattle.dm_machine.proofs.Texts.{read-more, read-end, read-all}
 use Rattle.dm_machine.proofs.text.text_length.Goals as goal
 
 pub returns-then-peek-eq36 : goal.returns-then-peek-eq36
