@@ -1,10 +1,10 @@
 -- Laws of memory for the layers above, which see peek and poke as opaque
 use Rattle.std.specs.Prelude.{IfSome}
-use Rattle.std.proofs.Common.{Some, ◌≡◌, ℕ, suc, zero, ◌+◌, ◌*◌, ◌/◌, ◌%◌, ◌<◌, ◌≤◌, Bool, true, false, List, [], ◌∷◌, Option, None, length, get_or, replicate, refl, rules, arith}
+use Rattle.std.proofs.Common.{Some, ◌≡◌, ℕ, suc, zero, ◌<◌, Bool, List, Option, None, length, get_or, refl, arith}
 use Rattle.std.proofs.lemmas.List.{length-replicate}
 use Rattle.dm_space.specs.declared.place.Place.{Place}
 use Rattle.dm_space.specs.declared.place.Place.TheVariants.{Low, Page, Rom, Nothing}
-use Rattle.dm_space.specs.Memory.{Memory, place, peek, poke, with_byte, zeros, no_windows, of_ram, Fits}
+use Rattle.dm_space.specs.Memory.{Memory, place, poke, with_byte, zeros, no_windows, of_ram, Fits}
 
 with_byte-a20 : (m : Memory) (p : Place) (v : ℕ) → (with_byte m p v).a20 ≡ m.a20
 with_byte-a20 m (Low a) v = refl

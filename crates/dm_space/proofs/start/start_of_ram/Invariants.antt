@@ -1,5 +1,3 @@
-use Rattle.std.proofs.Common.{◌≡◌, ℕ, ◌<◌, ◌≤◌, length, get_or}
-use Rattle.dm_space.specs.Start.{start_byte}
 use Rattle.dm_space.proofs.Started.{StartedBelow}
 use Rattle.dm_space.proofs.start.start_of_ram.Given as goal
 
