@@ -198,7 +198,7 @@ fn two_blocks_share_what_is_left(rt: HostRuntime) -> Result<(), Fail> {
         let refusal = plan_pair(&space, Strategy::First, environment, least, most).err();
         assert_eq!(rt; refusal, Some(Refusal::Short { largest: 0x8EFC }));
     }
-    let pair = plan_pair(&space, Strategy::First, 1, 0x20, 0xFFFF).expect(rt, "there is room");
+    let pair = plan_pair(&space, Strategy::First, 1, 0x20, 0xFFFF).expect(&rt, "there is room");
     assert_eq!(rt; pair.environment(), 0x1104);
     assert_eq!(rt; pair.program(), 0x1106);
     assert_eq!(rt; pair.size(), 0x8EFA);
