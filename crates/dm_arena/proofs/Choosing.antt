@@ -1,5 +1,5 @@
 -- Steps of the search over the joined list.
-use Rattle.std.proofs.Common.{◌≡◌, ℕ, ◌+◌, ◌≤◌, Bool, true, false, cond, max, List, [], ◌∷◌, ◌++◌, refl, sym, ◌∙◌, ap, subst, arith, Option, Some, None}
+use Rattle.std.proofs.Common.{◌≡◌, ℕ, true, false, max, List, [], ◌∷◌, ◌++◌, refl, sym, ◌∙◌, ap, subst, arith, Option, None}
 use Rattle.std.specs.Prelude.{option_to_list}
 use Rattle.dm_space.specs.Memory.{Memory}
 use Rattle.dm_arena.specs.declared.header.Header.{Header}

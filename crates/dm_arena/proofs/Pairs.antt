@@ -1,8 +1,8 @@
 -- Two blocks, planned one after the other and written together.
-use Rattle.std.proofs.Common.{◌≡◌, ◌≢◌, ℕ, ◌+◌, ◌-◌, ◌*◌, ◌<◌, ◌≤◌, Bool, true, false, cond, ◌&&◌, IsTrue, max, min, List, [], ◌∷◌, ◌++◌, ◌⊎◌, inl, inr, refl, sym, ◌∙◌, ap, ap₂, subst, arith, Option, Some, None, nat_eq}
+use Rattle.std.proofs.Common.{◌≡◌, ◌≢◌, ℕ, ◌+◌, ◌-◌, ◌*◌, ◌<◌, ◌≤◌, Bool, true, false, IsTrue, max, min, List, [], ◌∷◌, ◌++◌, ◌⊎◌, inl, inr, refl, sym, ◌∙◌, ap, ap₂, subst, arith, Option, Some, None, nat_eq}
 use Rattle.std.specs.Prelude.{if◌then◌else◌, MatchOption, option_to_list}
 use Rattle.std.proofs.lemmas.Bool.Decides.{nat_tests}
-use Rattle.dm_space.specs.Memory.{Memory, place, peek}
+use Rattle.dm_space.specs.Memory.{Memory, peek}
 use Rattle.dm_space.proofs.Places.{place-shaped, shaped-then}
 use Rattle.dm_arena.specs.declared.header.Header.{Header}
 use Rattle.dm_arena.specs.declared.cut.Cut.{Cut}
@@ -10,14 +10,14 @@ use Rattle.dm_arena.specs.declared.fit.Spoken.{Spoken}
 use Rattle.dm_arena.specs.declared.fit.Strategy.{Strategy}
 use Rattle.dm_arena.specs.declared.fit.Strategy.TheVariants.{First, Best, Last}
 use Rattle.dm_arena.specs.Chain.{HasHeader, IsClear, IsArena, IsNonEmpty, Spells, Becomes, next}
-use Rattle.dm_arena.specs.Blocks.{is_free, join, fits, pick, better, largest, free_size, cut, cut_low, cut_high, taken, IsIn, IsFit, left_of, left_part, rest_of, rest_block}
+use Rattle.dm_arena.specs.Blocks.{is_free, join, fits, pick, better, largest, free_size, cut, cut_low, cut_high, taken, IsIn, IsFit, left_of, left_part, rest_of}
 use Rattle.dm_arena.specs.Joins.{Fills, IsJoined, IsReplaceable, IsReplaced, cut_list}
-use Rattle.dm_arena.specs.Allocation.{Taking, changed}
+use Rattle.dm_arena.specs.Allocation.{changed}
 use Rattle.dm_arena.specs.Pair.{Pairing, Planned, IsPair, paired}
 use Rattle.dm_arena.proofs.Chains.{has_left, has_right, has_either, spells_end, clear_within, clear_map}
 use Rattle.dm_arena.proofs.Reading.{clear-below}
 use Rattle.dm_arena.proofs.Fitting.{fit_found, none_found}
-use Rattle.dm_arena.proofs.Choosing.{pick-append, largest-append, left-all}
+use Rattle.dm_arena.proofs.Choosing.{pick-append, largest-append}
 use Rattle.dm_arena.proofs.Allocating.{taking_of, in_middle, fits_size, cut_fills, join_after-fits, join-within, low_rest, placing_of, replaceable, becomes, signature-last}
 use Rattle.dm_arena.proofs.Unique.{fills_above, join_fills}
 use Rattle.dm_arena.proofs.OneAnswer.{changed-same, none_taken}

@@ -9,7 +9,6 @@ use Rattle.dm_arena.specs.declared.refusal.Refusal.{Refusal}
 use Rattle.dm_arena.specs.declared.refusal.Refusal.TheVariants.{Destroyed, Short, NoBlock}
 use Rattle.dm_arena.specs.Chain.{first_header, next, IsArena, NoArena, IsClear}
 use Rattle.dm_arena.specs.Blocks.{join, largest, IsFit, cut, taken}
-use Rattle.dm_arena.specs.Joins.{cut_list}
 use Rattle.dm_arena.specs.Allocation.{Taking, changed}
 
 -- the block that the strategy takes for the environment; then, of the list in which it is taken, the block for the

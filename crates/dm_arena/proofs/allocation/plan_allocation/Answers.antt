@@ -1,4 +1,4 @@
-use Rattle.std.proofs.Common.{ap, inr, rules, sym, ◌∙◌}
+use Rattle.std.proofs.Common.{ap, inr, rules, ◌∙◌}
 use Rattle.dm_arena.proofs.Allocating.{block_within, block_ends, planned, unplanned}
 use Rattle.dm_arena.specs.Reading.{IsSpelledFrom}
 use Rattle.dm_arena.proofs.Fitting.{none_found}

@@ -1,4 +1,4 @@
-use Rattle.std.proofs.Common.{◌≡◌, ◌+◌, inl, inr, refl, sym, ◌∙◌, ap, arith}
+use Rattle.std.proofs.Common.{◌≡◌, ◌+◌, inr, sym, ◌∙◌, ap}
 use Rattle.dm_arena.specs.Chain.{first_header}
 use Rattle.dm_arena.specs.Reading.{IsSpelledFrom}
 use Rattle.dm_arena.specs.Blocks.{join, largest, taken}
