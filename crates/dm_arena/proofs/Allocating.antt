@@ -39,7 +39,7 @@ join-within [] g w = w
 join-within (b ∷ L) g w = join_after-within b L g w
 
 -- blocks of the joined list end below FFFFh
-join_after-fits : (S : Memory) (b : Header) (L : List Header) → next b ≤ 0xFFFF → Spells S (next b) L → (c : Header) → IsIn c (join_after b L) → next c ≤ 0xFFFF
+pub join_after-fits : (S : Memory) (b : Header) (L : List Header) → next b ≤ 0xFFFF → Spells S (next b) L → (c : Header) → IsIn c (join_after b L) → next c ≤ 0xFFFF
 join_after-fits S b [] f s c i = elim i [ inl e ↦ rw e f | inr r ↦ absurd r ]
 join_after-fits S b (d ∷ L) f s c i =
     let P : List Header → Type 0 = λ M. IsIn c M in
@@ -111,7 +111,7 @@ clear_cut S start L P b Q cut a e f m =
     ])
 
 -- the block that the search found
-abbrev taking_of : (S : Memory) (start : ℕ) (st : Strategy) (n : ℕ) (L : List Header) (b : Header) → IsArena S start L → pick st n None (join L) ≡ Some b → Taking S start st n
+abbrev pub taking_of : (S : Memory) (start : ℕ) (st : Strategy) (n : ℕ) (L : List Header) (b : Header) → IsArena S start L → pick st n None (join L) ≡ Some b → Taking S start st n
 taking_of S start st n L b a e =
     let f = fit_found st n (join L) b e in
     record { list = L; before = f.1.0; block = b; after = f.1.1; arena = a; joined = f.1.2; fit = f.0 }
@@ -159,7 +159,7 @@ pub placed : (S : Memory) (start : ℕ) (st : Strategy) (n owner : ℕ) (c : Cut
 placed S start st n owner c t is k T f = let F : List Header → Type 0 = λ X. Becomes S start (t.before ++ (X ++ t.after)) T in subst F is (f (placing_of S start st n owner c t is k))
 
 -- the writes
-signature-last : (S : Memory) (b : Header) (Q : List Header) → IsHeader S b (signature Q) → nat_eq (peek S (16 * b.segment)) 0x5A ≡ is_nil Q
+pub signature-last : (S : Memory) (b : Header) (Q : List Header) → IsHeader S b (signature Q) → nat_eq (peek S (16 * b.segment)) 0x5A ≡ is_nil Q
 signature-last S b [] h = rw h.signed refl
 signature-last S b (q ∷ Q) h = rw h.signed refl
 

@@ -12,3 +12,5 @@ pub mod Releasing
 pub mod Unique
 pub mod Walks
 pub mod OneAnswer
+pub mod Choosing
+pub mod Pairs

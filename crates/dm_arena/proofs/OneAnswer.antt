@@ -51,7 +51,7 @@ module _ (S : Memory) (start : ℕ) (st : Strategy) (n : ℕ) (t u : Taking S st
   changed-same owner = ap₂ (λ P R. P ++ R) same.0 (ap₂ (λ b Q. cut st n owner b ++ Q) same.1 same.2)
 
 -- a list in which no block fits has none that is taken
-none_taken : (S : Memory) (start : ℕ) (st : Strategy) (n : ℕ) (L : List Header) → IsArena S start L → ((b : Header) → IsIn b (join L) → IsTrue (fits n b) → ⊥) → Taking S start st n → ⊥
+pub none_taken : (S : Memory) (start : ℕ) (st : Strategy) (n : ℕ) (L : List Header) → IsArena S start L → ((b : Header) → IsIn b (join L) → IsTrue (fits n b) → ⊥) → Taking S start st n → ⊥
 none_taken S start st n L a none t =
     let F : List Header → Type 0 = λ X. IsIn t.block X in
     let e : join L ≡ t.before ++ t.block ∷ t.after = ap join (arena_unique S start L t.list a t.arena) ∙ t.joined in

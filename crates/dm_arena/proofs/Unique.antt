@@ -126,7 +126,7 @@ pub join_fills : (S : Memory) (h : ℕ) (L : List Header) → Spells S h L → (
 join_fills S h [] s = (h, h, refl)
 join_fills S h (b ∷ L) s = let r = fills_of S (next b) L s.2 in (r.0, b.segment, join_after-end_to_end b L r.0 r.1)
 
-fills_above : (h t : ℕ) (L : List Header) → Fills h L t → (g : ℕ) → HasHeader L g → h ≤ g
+pub fills_above : (h t : ℕ) (L : List Header) → Fills h L t → (g : ℕ) → HasHeader L g → h ≤ g
 fills_above h t [] f g w = absurd w
 fills_above h t (b ∷ L) f g (inl e) = let x = f.0 in omega arith
 fills_above h t (b ∷ L) f g (inr w) = let x = f.0 in let y = fills_above (next b) t L f.1 g w in omega arith

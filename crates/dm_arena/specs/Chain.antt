@@ -20,7 +20,7 @@ word S a = peek S a + 256 * peek S (a + 1)
 abbrev pub next : Header → ℕ
 next b = b.segment + 1 + b.size
 
--- memory has the header b with this signature
+-- memory has the header b with this signature, in five bytes
 pub record IsHeader (S : Memory) (b : Header) (signature : ℕ) : Type 0 where
   pub fits : b.segment + 1 + b.size ≤ 0xFFFF
   pub bytes : (k : ℕ) → k < 5 → peek S (16 * b.segment + k) < 256

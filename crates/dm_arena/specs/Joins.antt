@@ -3,11 +3,13 @@ use Rattle.std.specs.Prelude.{◌≡◌, ℕ, Bool, List, [], ◌∷◌, ◌++�
 use Rattle.dm_arena.specs.declared.header.Header.{Header}
 use Rattle.dm_arena.specs.declared.header.Entry.{Entry}
 use Rattle.dm_arena.specs.declared.fit.Strategy.{Strategy}
+use Rattle.dm_arena.specs.declared.fit.Spoken.{Spoken}
+use Rattle.dm_arena.specs.declared.fit.Choice.{Choice}
 use Rattle.dm_arena.specs.declared.cut.Cut.{Cut}
 use Rattle.dm_space.specs.Memory.{Memory}
 use Rattle.dm_arena.specs.Chain.{IsNonEmpty, Spells, HasHeader, next, IsClear, DiffersInHeaders}
 use Rattle.dm_arena.specs.Reading.{is_nil, IsSpelledFrom}
-use Rattle.dm_arena.specs.Blocks.{join, join_after, pick, largest}
+use Rattle.dm_arena.specs.Blocks.{join, join_after, left_of, pick, largest}
 
 -- e is the first block of the joined list, and K the headers after it
 pub record IsJoinedFront (S : Memory) (L : List Header) (e : Entry) (K : List Header) : Type 0 where
@@ -24,10 +26,10 @@ pub record IsJoining (S : Memory) (L : List Header) (e : Entry) (K : List Header
   pub within : (g : ℕ) → HasHeader K g → HasHeader L g
 
 -- what is left to choose from
-pub record IsChoosing (S : Memory) (L : List Header) (strategy : Strategy) (n h : ℕ) (best : Option Header) (most : ℕ) (K : List Header) : Type 0 where
+pub record IsChoosing (S : Memory) (L : List Header) (strategy : Strategy) (n : ℕ) (spoken : Option Spoken) (h : ℕ) (choice : Choice) (K : List Header) : Type 0 where
   pub spelled : IsSpelledFrom S h K
-  pub best_is : pick strategy n best (join K) ≡ pick strategy n None (join L)
-  pub most_is : max most (largest (join K)) ≡ largest (join L)
+  pub block_is : pick strategy n choice.block (left_of spoken (join K)) ≡ pick strategy n None (left_of spoken (join L))
+  pub largest_is : max choice.largest (largest (left_of spoken (join K))) ≡ largest (left_of spoken (join L))
 
 -- T spells the joined list of S
 pub record IsJoined (S : Memory) (start : ℕ) (L : List Header) (T : Memory) : Type 0 where

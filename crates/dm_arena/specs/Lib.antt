@@ -4,5 +4,6 @@ pub mod Blocks
 pub mod Joins
 pub mod Allocation
 pub mod Owned
+pub mod Pair
 pub mod Listing
 pub mod Laws

@@ -28,7 +28,7 @@ fn plan_allocation(space: &Space, strategy: Strategy, n: u16, owner: u16) -> Res
     if !is_arena(space) {
         return Err(Refusal::Destroyed);
     }
-    let choice = choose(space, strategy, n);
+    let choice = choose(space, strategy, n, None);
     let Some(block) = choice.block else {
         return Err(Refusal::Short {
             largest: choice.largest,

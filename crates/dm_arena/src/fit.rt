@@ -1,9 +1,10 @@
 //! Which free block an allocation takes.
-ghost use Rattle.std.specs.Prelude.{◌≡◌, List, None};
+ghost use Rattle.std.specs.Prelude.{◌≡◌, List, None, max, option_to_list};
 ghost use Rattle.dm_arena.specs.declared.header.Header.{Header};
 ghost use Rattle.dm_arena.specs.Chain.{first_header};
 ghost use Rattle.dm_arena.specs.Reading.{IsSpelledFrom};
-ghost use Rattle.dm_arena.specs.Blocks.{better, join, pick, largest};
+ghost use Rattle.dm_arena.specs.Blocks;
+ghost use Rattle.dm_arena.specs.Blocks.{better, join, largest, left_of, pick};
 
 use crate::header::Header;
 use crate::joined::joined_at;
@@ -50,26 +51,61 @@ fn better_of(strategy: Strategy, n: u16, best: Option<Header>, header: Header) -
     if preferred { Some(header) } else { best }
 }
 
-/// The free block of the joined list that the strategy takes for n paragraphs.
-pub(crate) fn choose(space: &Space, strategy: Strategy, n: u16) -> Choice
-    requires { (L : List Header) × IsSpelledFrom space.now.memory first_header L }
-    ensures block { (L : List Header) → IsSpelledFrom space.now.memory first_header L → result.block ≡ pick strategy n None (join L) }
-    ensures largest { (L : List Header) → IsSpelledFrom space.now.memory first_header L → result.largest ≡ largest (join L) }
+/// A block that is spoken for, by its header's segment, and the part of it that stays free.
+#[derive(Clone, Copy)]
+pub(crate) struct Spoken {
+    pub(crate) segment: u16,
+    pub(crate) rest: Option<Header>,
+}
+
+/// What there is to choose from, of a block of the list.
+fn left_part(spoken: Option<Spoken>, header: Header) -> Option<Header>
+    ensures { result ≡ Blocks.left_part spoken header }
 {
-    let mut block = None;
-    let mut most = 0;
+    match spoken {
+        Some(block) => {
+            if block.segment == header.segment {
+                block.rest
+            } else {
+                Some(header)
+            }
+        }
+        None => Some(header),
+    }
+}
+
+/// What the search has found once it has met one more block.
+fn meet(strategy: Strategy, n: u16, choice: Choice, header: Option<Header>) -> Choice
+    ensures block { result.block ≡ pick strategy n choice.block (option_to_list header) }
+    ensures largest { result.largest ≡ max choice.largest (largest (option_to_list header)) }
+{
+    let Some(header) = header else {
+        return choice;
+    };
+    let free = if header.is_free() { header.size } else { 0 };
+    Choice {
+        block: better_of(strategy, n, choice.block, header),
+        largest: choice.largest.max(free),
+    }
+}
+
+/// The free block of the joined list that the strategy takes for n paragraphs, where one block may
+/// be spoken for.
+pub(crate) fn choose(space: &Space, strategy: Strategy, n: u16, spoken: Option<Spoken>) -> Choice
+    requires { (L : List Header) × IsSpelledFrom space.now.memory first_header L }
+    ensures block { (L : List Header) → IsSpelledFrom space.now.memory first_header L → result.block ≡ pick strategy n None (left_of spoken (join L)) }
+    ensures largest { (L : List Header) → IsSpelledFrom space.now.memory first_header L → result.largest ≡ largest (left_of spoken (join L)) }
+{
+    let mut choice = Choice {
+        block: None,
+        largest: 0,
+    };
     let mut segment = FIRST;
     'walk: loop {
         let entry = joined_at(space, segment);
-        if entry.header.is_free() && entry.header.size > most {
-            most = entry.header.size;
-        }
-        block = better_of(strategy, n, block, entry.header);
+        choice = meet(strategy, n, choice, left_part(spoken, entry.header));
         if entry.last {
-            return Choice {
-                block,
-                largest: most,
-            };
+            return choice;
         }
         segment = entry.header.next();
     }

@@ -15,6 +15,7 @@ mod laws;
 mod list;
 mod listing;
 mod owned;
+mod pair;
 mod refusal;
 
 pub use allocation::allocate;
@@ -26,6 +27,7 @@ pub use laws::{
 };
 pub use listing::{Headers, Step, walk};
 pub use owned::{free, free_all, resize};
+pub use pair::{Pair, plan_pair, write_pair};
 pub use refusal::Refusal;
 
 #[cfg(test)]

@@ -1,7 +1,10 @@
 //! Arena calls of a program with its prefix at 0103h, whose environment stands at 0101h.
 
 use crate::header::header_at;
-use crate::{Entry, Header, Refusal, Step, Strategy, allocate, free, free_all, resize, walk};
+use crate::{
+    Entry, Header, Refusal, Step, Strategy, allocate, free, free_all, plan_pair, resize, walk,
+    write_pair,
+};
 use dm_space::Space;
 use std::test::Fail;
 
@@ -179,5 +182,34 @@ fn ended_program_leaves_free_blocks(rt: HostRuntime) -> Result<(), Fail> {
     assert_eq!(rt; headers.advance(), Step::End);
     assert_eq!(rt; headers.advance(), Step::End);
     assert_eq!(rt; allocate(&mut space, Strategy::Last, 0x9EFF, 7), Ok(0x101));
+    Ok(())
+}
+
+#[test]
+fn two_blocks_share_what_is_left(rt: HostRuntime) -> Result<(), Fail> {
+    let mut space = Space::new(rt.alloc())?;
+    assert_eq!(rt; shrunk(&mut space), Ok(()));
+    // environment, least, most
+    for (environment, least, most) in [
+        (1, 0x8EFB, 0xFFFF),
+        (0xFFFF, 0, 0),
+        (1, 0x1_0000, 0x2_0000),
+    ] {
+        let refusal = plan_pair(&space, Strategy::First, environment, least, most).err();
+        assert_eq!(rt; refusal, Some(Refusal::Short { largest: 0x8EFC }));
+    }
+    let pair = plan_pair(&space, Strategy::First, 1, 0x20, 0xFFFF).expect(&rt, "there is room");
+    assert_eq!(rt; pair.environment(), 0x1104);
+    assert_eq!(rt; pair.program(), 0x1106);
+    assert_eq!(rt; pair.size(), 0x8EFA);
+    write_pair(&mut space, pair);
+    assert_eq!(rt;
+        header_at(&space, 0x1103),
+        Some(entry(false, 0x1103, 0x1106, 1))
+    );
+    assert_eq!(rt;
+        header_at(&space, 0x1105),
+        Some(entry(true, 0x1105, 0x1106, 0x8EFA))
+    );
     Ok(())
 }

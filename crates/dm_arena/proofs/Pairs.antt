@@ -1,0 +1,380 @@
+-- Two blocks, planned one after the other and written together.
+use Rattle.std.proofs.Common.{◌≡◌, ◌≢◌, ℕ, ◌+◌, ◌-◌, ◌*◌, ◌<◌, ◌≤◌, Bool, true, false, IsTrue, max, min, List, [], ◌∷◌, ◌++◌, ◌⊎◌, inl, inr, refl, sym, ◌∙◌, ap, ap₂, subst, arith, Option, Some, None, nat_eq}
+use Rattle.std.specs.Prelude.{if◌then◌else◌, MatchOption, option_to_list}
+use Rattle.std.proofs.lemmas.Bool.Decides.{nat_tests}
+use Rattle.dm_space.specs.Memory.{Memory, peek}
+use Rattle.dm_space.proofs.Places.{place-shaped, shaped-then}
+use Rattle.dm_arena.specs.declared.header.Header.{Header}
+use Rattle.dm_arena.specs.declared.cut.Cut.{Cut}
+use Rattle.dm_arena.specs.declared.fit.Spoken.{Spoken}
+use Rattle.dm_arena.specs.declared.fit.Strategy.{Strategy}
+use Rattle.dm_arena.specs.declared.fit.Strategy.TheVariants.{First, Best, Last}
+use Rattle.dm_arena.specs.Chain.{HasHeader, IsClear, IsArena, IsNonEmpty, Spells, Becomes, next}
+use Rattle.dm_arena.specs.Blocks.{is_free, join, fits, pick, better, largest, free_size, cut, cut_low, cut_high, taken, IsIn, IsFit, left_of, left_part, rest_of}
+use Rattle.dm_arena.specs.Joins.{Fills, IsJoined, IsReplaceable, IsReplaced, cut_list}
+use Rattle.dm_arena.specs.Allocation.{changed}
+use Rattle.dm_arena.specs.Pair.{Pairing, Planned, IsPair, paired}
+use Rattle.dm_arena.proofs.Chains.{has_left, has_right, has_either, spells_end, clear_within, clear_map}
+use Rattle.dm_arena.proofs.Reading.{clear-below}
+use Rattle.dm_arena.proofs.Fitting.{fit_found, none_found}
+use Rattle.dm_arena.proofs.Choosing.{pick-append, largest-append}
+use Rattle.dm_arena.proofs.Allocating.{taking_of, in_middle, fits_size, cut_fills, join_after-fits, join-within, low_rest, placing_of, replaceable, becomes, signature-last}
+use Rattle.dm_arena.proofs.Unique.{fills_above, join_fills}
+use Rattle.dm_arena.proofs.OneAnswer.{changed-same, none_taken}
+
+-- what is left of a list in which one block is spoken for
+left-append : (o : Option Spoken) (X Y : List Header) → left_of o (X ++ Y) ≡ left_of o X ++ left_of o Y
+left-append o [] Y = refl
+left-append o (x ∷ X) Y = ap (λ Z. option_to_list (left_part o x) ++ Z) (left-append o X Y) ∙ sym (assoc (option_to_list (left_part o x)) (left_of o X) (left_of o Y))
+  where
+    assoc : (A B C : List Header) → (A ++ B) ++ C ≡ A ++ (B ++ C)
+    assoc [] B C = refl
+    assoc (x ∷ A) B C = ap (λ z. x ∷ z) (assoc A B C)
+
+test-other : (a b : ℕ) → a ≢ b → nat_eq a b ≡ false
+test-other a b ne = grind (arith, nat_tests)
+
+test-same : (a b : ℕ) → a ≡ b → nat_eq a b ≡ true
+test-same a b e = grind (arith, nat_tests)
+
+left-other : (s : Spoken) (X : List Header) → ((g : ℕ) → HasHeader X g → s.segment ≢ g) → left_of (Some s) X ≡ X
+left-other s [] ne = refl
+left-other s (x ∷ X) ne =
+    let t : nat_eq s.segment x.segment ≡ false = test-other s.segment x.segment (ne x.segment (inl refl)) in
+    rw t (ap (λ Z. x ∷ Z) (left-other s X (λ g w. ne g (inr w))))
+
+fills_right : (h t : ℕ) (P : List Header) (b : Header) (Q : List Header) → Fills h (P ++ b ∷ Q) t → Fills (next b) Q t
+fills_right h t [] b Q f = f.1
+fills_right h t (p ∷ P) b Q f = fills_right (next p) t P b Q f.1
+
+fills_left : (h t : ℕ) (P : List Header) (b : Header) (Q : List Header) → Fills h (P ++ b ∷ Q) t → (g : ℕ) → HasHeader P g → g < b.segment
+fills_left h t [] b Q f g w = absurd w
+fills_left h t (p ∷ P) b Q f g (inl e) = (let y = fills_above (next p) t (P ++ b ∷ Q) f.1 b.segment (has_right P (b ∷ Q) _ (inl refl)) in omega arith)
+fills_left h t (p ∷ P) b Q f g (inr w) = fills_left (next p) t P b Q f.1 g w
+
+left-split : (h t : ℕ) (P : List Header) (b : Header) (Q : List Header) (s : Spoken) → Fills h (P ++ b ∷ Q) t → s.segment ≡ b.segment → left_of (Some s) (P ++ b ∷ Q) ≡ P ++ (option_to_list s.rest ++ Q)
+left-split h t P b Q s f e =
+    let p : left_of (Some s) P ≡ P = left-other s P (λ g w z. (let y = fills_left h t P b Q f g w in omega arith)) in
+    let q : left_of (Some s) Q ≡ Q = left-other s Q (λ g w z. (let y = fills_above (next b) t Q (fills_right h t P b Q f) g w in omega arith)) in
+    let m : left_part (Some s) b ≡ s.rest = (let z : nat_eq s.segment b.segment ≡ true = test-same s.segment b.segment e in rw z refl) in
+    left-append (Some s) P (b ∷ Q) ∙ ap₂ (λ X Y. X ++ Y) p (ap₂ (λ o Y. option_to_list o ++ Y) m q)
+
+-- the taken part of a cut block is not looked at
+better-taken : (st : Strategy) (m : ℕ) (best : Option Header) (c : Header) → is_free c ≡ false → better st m best c ≡ best
+better-taken st m None c e = rw e refl
+better-taken st m (Some a) c e = rw e refl
+
+owned-taken : (c : Header) → 0 < c.owner → is_free c ≡ false
+owned-taken c h = grind (arith, nat_tests)
+
+low-pick : (st : Strategy) (m n owner : ℕ) (best : Option Header) (b : Header) (r : Bool) → nat_eq b.size n ≡ r → 0 < owner → pick st m best (cut_low n owner b) ≡ pick st m best (option_to_list (if nat_eq b.size n then None else Some (record { segment = b.segment + 1 + n; owner = 0; size = b.size - n - 1 })))
+low-pick st m n owner best b true e h = rw e (better-taken st m best (record b { owner = owner }) (owned-taken (record b { owner = owner }) h))
+low-pick st m n owner best b false e h = rw e (ap (λ x. better st m x (record { segment = b.segment + 1 + n; owner = 0; size = b.size - n - 1 })) (better-taken st m best (record { segment = b.segment; owner = owner; size = n }) (owned-taken (record { segment = b.segment; owner = owner; size = n }) h)))
+
+high-pick : (st : Strategy) (m n owner : ℕ) (best : Option Header) (b : Header) (r : Bool) → nat_eq b.size n ≡ r → 0 < owner → pick st m best (cut_high n owner b) ≡ pick st m best (option_to_list (if nat_eq b.size n then None else Some (record { segment = b.segment; owner = 0; size = b.size - n - 1 })))
+high-pick st m n owner best b true e h = rw e (better-taken st m best (record b { owner = owner }) (owned-taken (record b { owner = owner }) h))
+high-pick st m n owner best b false e h = rw e (better-taken st m (better st m best (record { segment = b.segment; owner = 0; size = b.size - n - 1 })) (record { segment = b.segment + b.size - n; owner = owner; size = n }) (owned-taken (record { segment = b.segment + b.size - n; owner = owner; size = n }) h))
+
+cut-pick : (sc : Strategy) (st : Strategy) (m n owner : ℕ) (best : Option Header) (b : Header) → 0 < owner → pick st m best (cut sc n owner b) ≡ pick st m best (option_to_list (rest_of sc n b))
+cut-pick First st m n owner best b h = low-pick st m n owner best b _ refl h
+cut-pick Best st m n owner best b h = low-pick st m n owner best b _ refl h
+cut-pick Last st m n owner best b h = high-pick st m n owner best b _ refl h
+
+owned-size : (c : Header) → 0 < c.owner → free_size c ≡ 0
+owned-size c h = (let e : is_free c ≡ false = owned-taken c h in rw e refl)
+
+low-largest : (n owner : ℕ) (b : Header) (r : Bool) → nat_eq b.size n ≡ r → 0 < owner → largest (cut_low n owner b) ≡ largest (option_to_list (if nat_eq b.size n then None else Some (record { segment = b.segment + 1 + n; owner = 0; size = b.size - n - 1 })))
+low-largest n owner b true e h = rw e (ap (λ x. max x 0) (owned-size (record b { owner = owner }) h) ∙ omega arith)
+low-largest n owner b false e h = rw e (ap (λ x. max x (max (b.size - n - 1) 0)) (owned-size (record { segment = b.segment; owner = owner; size = n }) h) ∙ omega arith)
+
+high-largest : (n owner : ℕ) (b : Header) (r : Bool) → nat_eq b.size n ≡ r → 0 < owner → largest (cut_high n owner b) ≡ largest (option_to_list (if nat_eq b.size n then None else Some (record { segment = b.segment; owner = 0; size = b.size - n - 1 })))
+high-largest n owner b true e h = rw e (ap (λ x. max x 0) (owned-size (record b { owner = owner }) h) ∙ omega arith)
+high-largest n owner b false e h = rw e (ap (λ x. max (b.size - n - 1) (max x 0)) (owned-size (record { segment = b.segment + b.size - n; owner = owner; size = n }) h) ∙ omega arith)
+
+cut-largest : (sc : Strategy) (n owner : ℕ) (b : Header) → 0 < owner → largest (cut sc n owner b) ≡ largest (option_to_list (rest_of sc n b))
+cut-largest First n owner b h = low-largest n owner b _ refl h
+cut-largest Best n owner b h = low-largest n owner b _ refl h
+cut-largest Last n owner b h = high-largest n owner b _ refl h
+
+-- parts of a block end where it ends
+fills_ends : (h t : ℕ) (C : List Header) → Fills h C t → h ≤ t
+fills_ends h t [] f = omega arith
+fills_ends h t (c ∷ C) f = (let x = f.0 in let y = fills_ends (next c) t C f.1 in omega arith)
+
+fills_in : (h t : ℕ) (C : List Header) → Fills h C t → (c : Header) → IsIn c C → next c ≤ t
+fills_in h t [] f c i = absurd i
+fills_in h t (d ∷ C) f c (inl e) = (let y = fills_ends (next d) t C f.1 in let z : next c ≡ next d = ap next e in omega arith)
+fills_in h t (d ∷ C) f c (inr i) = fills_in (next d) t C f.1 c i
+
+in_either : (P Q : List Header) (c : Header) → IsIn c (P ++ Q) → IsIn c P ⊎ IsIn c Q
+in_either [] Q c i = inr i
+in_either (p ∷ P) Q c (inl e) = inl (inl e)
+in_either (p ∷ P) Q c (inr i) = elim (in_either P Q c i) [ inl l ↦ inl (inr l) | inr r ↦ inr r ]
+
+in_left : (P Q : List Header) (c : Header) → IsIn c P → IsIn c (P ++ Q)
+in_left [] Q c i = absurd i
+in_left (p ∷ P) Q c (inl e) = inl e
+in_left (p ∷ P) Q c (inr i) = inr (in_left P Q c i)
+
+in_right : (P Q : List Header) (c : Header) → IsIn c Q → IsIn c (P ++ Q)
+in_right [] Q c i = i
+in_right (p ∷ P) Q c i = inr (in_right P Q c i)
+
+joined_fit : (S : Memory) (h : ℕ) (L : List Header) → Spells S h L → (c : Header) → IsIn c (join L) → next c ≤ 0xFFFF
+joined_fit S h [] s c i = absurd i
+joined_fit S h (b ∷ L) s c i = join_after-fits S b L s.1.fits s.2 c i
+
+-- the first block taken, and what is left for the second
+module _ (S : Memory) (start : ℕ) (st : Strategy) (n : ℕ) (L : List Header) (b : Header) (a : IsArena S start L) (e : pick st n None (join L) ≡ Some b) (s : Spoken) (ss : s.segment ≡ b.segment) (sr : s.rest ≡ rest_of st n b) where
+  left-is : (o : ℕ) → left_of (Some s) (join L) ≡ (taking_of S start st n L b a e).before ++ (option_to_list (rest_of st n b) ++ (taking_of S start st n L b a e).after)
+  left-is o =
+      let t = taking_of S start st n L b a e in
+      let r = join_fills S start L a.0.1 in
+      let F : List Header → Type 0 = λ X. Fills r.1 X r.0 in
+      ap (left_of (Some s)) t.joined ∙ left-split r.1 r.0 t.before b t.after s (subst F t.joined r.2) ss ∙ ap (λ z. t.before ++ (option_to_list z ++ t.after)) sr
+
+  pub left-pick : (o : ℕ) → 0 < o → (m : ℕ) → pick st m None (changed (taking_of S start st n L b a e) o) ≡ pick st m None (left_of (Some s) (join L))
+  left-pick o h m =
+      let t = taking_of S start st n L b a e in
+      let P = t.before in
+      let Q = t.after in
+      let R : List Header = option_to_list (rest_of st n b) in
+      pick-append st m None P (cut st n o b ++ Q)
+      ∙ pick-append st m (pick st m None P) (cut st n o b) Q
+      ∙ ap (λ x. pick st m x Q) (cut-pick st st m n o (pick st m None P) b h)
+      ∙ sym (pick-append st m (pick st m None P) R Q)
+      ∙ sym (pick-append st m None P (R ++ Q))
+      ∙ ap (pick st m None) (sym (left-is o))
+
+  pub left-largest : (o : ℕ) → 0 < o → largest (changed (taking_of S start st n L b a e) o) ≡ largest (left_of (Some s) (join L))
+  left-largest o h =
+      let t = taking_of S start st n L b a e in
+      let P = t.before in
+      let Q = t.after in
+      let R : List Header = option_to_list (rest_of st n b) in
+      largest-append P (cut st n o b ++ Q)
+      ∙ ap (max (largest P)) (largest-append (cut st n o b) Q ∙ ap (λ x. max x (largest Q)) (cut-largest st n o b h) ∙ sym (largest-append R Q))
+      ∙ sym (largest-append P (R ++ Q))
+      ∙ ap largest (sym (left-is o))
+
+  left-fits : (o : ℕ) (c : Header) → IsIn c (changed (taking_of S start st n L b a e) o) → next c ≤ 0xFFFF
+  left-fits o c i =
+      let t = taking_of S start st n L b a e in
+      let F : List Header → Type 0 = λ X. IsIn c X in
+      let G : List Header → Type 0 = λ X. IsIn b X in
+      let whole : next b ≤ 0xFFFF = joined_fit S start L a.0.1 b (subst G (sym t.joined) (in_middle t.before b t.after)) in
+      elim (in_either t.before (cut st n o b ++ t.after) c i) [
+        | inl l ↦ joined_fit S start L a.0.1 c (subst F (sym t.joined) (in_left t.before (b ∷ t.after) c l))
+        | inr r ↦ elim (in_either (cut st n o b) t.after c r) [
+          | inl l ↦ (let y = fills_in b.segment (next b) (cut st n o b) (cut_fills st n o b (fits_size n b t.fit.fit)) c l in omega arith)
+          | inr q ↦ joined_fit S start L a.0.1 c (subst F (sym t.joined) (in_right t.before (b ∷ t.after) c (inr q)))
+        ]
+      ]
+
+  -- the second block
+  module _ (m : ℕ) (w : Header) (chosen : pick st m None (left_of (Some s) (join L)) ≡ Some w) where
+    pub second_fit : (o : ℕ) → 0 < o → IsFit st m (changed (taking_of S start st n L b a e) o) w × ((P : List Header) × (Q : List Header) × (changed (taking_of S start st n L b a e) o ≡ P ++ w ∷ Q))
+    second_fit o h = fit_found st m (changed (taking_of S start st n L b a e) o) w (left-pick o h m ∙ chosen)
+
+    pub second_within : m ≤ w.size
+    second_within = fits_size m w (second_fit 1 (omega arith)).0.fit
+
+    pub second_ends : next w ≤ 0xFFFF
+    second_ends =
+        let f = second_fit 1 (omega arith) in
+        let F : List Header → Type 0 = λ X. IsIn w X in
+        left-fits 1 w (subst F (sym f.1.2) (in_middle f.1.0 w f.1.1))
+
+    module _ (least most left o : ℕ) (left-of : left ≡ largest (left_of (Some s) (join L))) (size-of : m ≡ min most left) (enough : least ≤ m) (owner-of : o ≡ taken st m w + 1) where
+      pub owned : 0 < o
+      owned = omega arith
+
+      abbrev pub pairing : Pairing S start st n least most o m
+      pairing =
+          let f = second_fit o owned in
+          record {
+            first = taking_of S start st n L b a e;
+            before = f.1.0;
+            block = w;
+            after = f.1.1;
+            split = f.1.2;
+            fit = f.0;
+            size_is = size-of ∙ ap (min most) (left-of ∙ sym (left-largest o owned));
+            enough = enough;
+            owner_is = owner-of;
+          }
+
+      module _ (c d : Cut) (c-is : cut_list c ≡ cut st n o b) (d-is : cut_list d ≡ cut st m o w) where
+        abbrev J : List Header
+        J = changed (taking_of S start st n L b a e) o
+
+        first-at : c.first.segment ≡ b.segment
+        first-at = (let F : List Header → Type 0 = λ X. Fills b.segment X (next b) in subst F (sym c-is) (cut_fills st n o b (fits_size n b (taking_of S start st n L b a e).fit.fit))).0
+
+        second-at : d.first.segment ≡ w.segment
+        second-at = (let F : List Header → Type 0 = λ X. Fills w.segment X (next w) in subst F (sym d-is) (cut_fills st m o w second_within)).0
+
+        has_list : (g : ℕ) → HasHeader ((taking_of S start st n L b a e).before ++ b ∷ (taking_of S start st n L b a e).after) g → HasHeader L g
+        has_list g h = join-within L g (let F : List Header → Type 0 = λ X. HasHeader X g in subst F (sym (taking_of S start st n L b a e).joined) h)
+
+        below_first : MatchOption c.second (Unit {0}) (λ x. x.segment < 0xA000) → (g : ℕ) → HasHeader J g → g < 0xA000
+        below_first low g h =
+            let t = taking_of S start st n L b a e in
+            let under : (x : ℕ) → HasHeader (t.before ++ b ∷ t.after) x → x < 0xA000 = λ x i. a.1.below x (has_list x i) in
+            let at : c.first.segment < 0xA000 = (let y = under b.segment (has_right t.before (b ∷ t.after) _ (inl refl)) in let z = first-at in omega arith) in
+            let F : List Header → Type 0 = λ X. HasHeader (t.before ++ (X ++ t.after)) g in
+            elim (has_either t.before (cut_list c ++ t.after) g (subst F (sym c-is) h)) [
+              | inl l ↦ under g (has_left t.before (b ∷ t.after) g l)
+              | inr r ↦ elim (has_either (cut_list c) t.after g r) [
+                | inl k ↦ low_rest c.second low c.first at g k
+                | inr k ↦ under g (has_right t.before (b ∷ t.after) g (inr k))
+              ]
+            ]
+
+        pub pair_clear : MatchOption c.second (Unit {0}) (λ x. x.segment < 0xA000) × MatchOption d.second (Unit {0}) (λ x. x.segment < 0xA000) → IsClear S (paired pairing)
+        pair_clear low =
+            let f = second_fit o owned in
+            let F : List Header → Type 0 = λ X. IsClear S (f.1.0 ++ (X ++ f.1.1)) in
+            let under : (x : ℕ) → HasHeader (f.1.0 ++ w ∷ f.1.1) x → x < 0xA000 = λ x i. below_first low.0 x (let G : List Header → Type 0 = λ X. HasHeader X x in subst G (sym f.1.2) i) in
+            let at : d.first.segment < 0xA000 = (let y = under w.segment (has_right f.1.0 (w ∷ f.1.1) _ (inl refl)) in let z = second-at in omega arith) in
+            subst F d-is (clear-below S _ (λ g h. elim (has_either f.1.0 (cut_list d ++ f.1.1) g h) [
+              | inl l ↦ under g (has_left f.1.0 (w ∷ f.1.1) g l)
+              | inr r ↦ elim (has_either (cut_list d) f.1.1 g r) [
+                | inl k ↦ low_rest d.second low.1 d.first at g k
+                | inr k ↦ under g (has_right f.1.0 (w ∷ f.1.1) g (inr k))
+              ]
+            ]))
+
+        -- the headers of the list in which the first block is taken stay
+        has_paired : (g : ℕ) → HasHeader J g → HasHeader ((second_fit o owned).1.0 ++ (cut_list d ++ (second_fit o owned).1.1)) g
+        has_paired g h =
+            let f = second_fit o owned in
+            let G : List Header → Type 0 = λ X. HasHeader X g in
+            elim (has_either f.1.0 (w ∷ f.1.1) g (subst G f.1.2 h)) [
+              | inl l ↦ has_left f.1.0 (cut_list d ++ f.1.1) g l
+              | inr r ↦ elim r [
+                | inl q ↦ has_right f.1.0 (cut_list d ++ f.1.1) g (inl (second-at ∙ q))
+                | inr q ↦ has_right f.1.0 (cut_list d ++ f.1.1) g (has_right (cut_list d) f.1.1 g q)
+              ]
+            ]
+
+        has_new : (x : Cut) (y : Header) → x.second ≡ Some y → HasHeader (cut_list x) y.segment
+        has_new x y is = (let F : Option Header → Type 0 = λ z. HasHeader (x.first ∷ option_to_list z) y.segment in subst F (sym is) (inr (inl refl)))
+
+        high_second : (x : Option Header) → MatchOption x ⊥ (λ y. 0xA000 ≤ y.segment) → (y : Header) × (x ≡ Some y) × (0xA000 ≤ y.segment)
+        high_second None h = absurd h
+        high_second (Some y) h = (y, refl, h)
+
+        pub pair_unclear : MatchOption c.second ⊥ (λ x. 0xA000 ≤ x.segment) ⊎ MatchOption d.second ⊥ (λ x. 0xA000 ≤ x.segment) → IsClear S (paired pairing) → ⊥
+        pair_unclear high k =
+            let t = taking_of S start st n L b a e in
+            let f = second_fit o owned in
+            let F : List Header → Type 0 = λ X. IsClear S (f.1.0 ++ (X ++ f.1.1)) in
+            let k' : IsClear S (f.1.0 ++ (cut_list d ++ f.1.1)) = subst F (sym d-is) k in
+            elim high [
+              | inl h ↦ (let x = high_second c.second h in
+                  let G : List Header → Type 0 = λ X. HasHeader (t.before ++ (X ++ t.after)) x.0.segment in
+                  let i : HasHeader J x.0.segment = subst G c-is (has_right t.before (cut_list c ++ t.after) _ (has_left (cut_list c) t.after _ (has_new c x.0 x.1))) in
+                  let z = k'.below _ (has_paired _ i) in
+                  let y = x.2 in
+                  omega arith)
+              | inr h ↦ (let x = high_second d.second h in
+                  let z = k'.below x.0.segment (has_right f.1.0 (cut_list d ++ f.1.1) _ (has_left (cut_list d) f.1.1 _ (has_new d x.0 x.1))) in
+                  let y = x.2 in
+                  omega arith)
+            ]
+
+  -- no room for the second block
+  module _ (least most left m : ℕ) (left-of : left ≡ largest (left_of (Some s) (join L))) (size-of : m ≡ min most left) where
+    size_same : (o k : ℕ) → Pairing S start st n least most o k → k ≡ m
+    size_same o k p =
+        let h : 0 < o = (let y = p.owner_is in omega arith) in
+        p.size_is ∙ ap (min most) (ap largest (changed-same S start st n p.first (taking_of S start st n L b a e) o) ∙ left-largest o h ∙ sym left-of) ∙ sym size-of
+
+    pub too_small : m < least → (o k : ℕ) → Pairing S start st n least most o k → ⊥
+    too_small h o k p = (let x = size_same o k p in let y = p.enough in omega arith)
+
+    pub none_second : pick st m None (left_of (Some s) (join L)) ≡ None → (o k : ℕ) → Pairing S start st n least most o k → ⊥
+    none_second is o k p =
+        let h : 0 < o = (let y = p.owner_is in omega arith) in
+        let F : List Header → Type 0 = λ X. IsIn p.block X in
+        let G : ℕ → Type 0 = λ x. IsTrue (fits x p.block) in
+        let i : IsIn p.block (changed (taking_of S start st n L b a e) o) = subst F (changed-same S start st n p.first (taking_of S start st n L b a e) o) (subst F (sym p.split) (in_middle p.before p.block p.after)) in
+        none_found st m (changed (taking_of S start st n L b a e) o) (left-pick o h m ∙ is) p.block i (subst G (size_same o k p) p.fit.fit)
+
+pub none_first : (S : Memory) (start : ℕ) (st : Strategy) (n least most : ℕ) (L : List Header) → IsArena S start L → pick st n None (join L) ≡ None → (o k : ℕ) → Pairing S start st n least most o k → ⊥
+none_first S start st n least most L a is o k p = none_taken S start st n L a (none_found st n (join L) is) p.first
+
+-- the writes
+head_fills : (h t : ℕ) (C : List Header) → Fills h C t → h < t → HasHeader C h
+head_fills h t [] f l = omega arith
+head_fills h t (c ∷ C) f l = inl f.0
+
+nonempty : (P : List Header) (d : Header) (Q : List Header) → IsNonEmpty (P ++ d ∷ Q)
+nonempty [] d Q = tt
+nonempty (q ∷ P) d Q = tt
+
+module _ (S : Memory) (start : ℕ) (st : Strategy) (n least most : ℕ) (pair : Planned) (p : IsPair S start st n least most pair) (c d : Cut) (c-is : cut_list c ≡ pair.first) (d-is : cut_list d ≡ pair.second) (U : Memory) (j : IsJoined S start p.pairing.first.list U) where
+  c-cut : cut_list c ≡ cut st n pair.program p.pairing.first.block
+  c-cut = c-is ∙ p.first_is
+
+  d-cut : cut_list d ≡ cut st pair.size pair.program p.pairing.block
+  d-cut = d-is ∙ p.second_is
+
+  new_fills : Fills p.pairing.block.segment (cut_list d) (next p.pairing.block)
+  new_fills = (let F : List Header → Type 0 = λ X. Fills p.pairing.block.segment X (next p.pairing.block) in subst F (sym d-cut) (cut_fills st pair.size pair.program p.pairing.block (fits_size pair.size p.pairing.block p.pairing.fit.fit)))
+
+  has_last : (g : ℕ) → HasHeader (changed p.pairing.first pair.program) g → HasHeader (p.pairing.before ++ (cut_list d ++ p.pairing.after)) g
+  has_last g h =
+      let q = p.pairing in
+      let G : List Header → Type 0 = λ X. HasHeader X g in
+      let F : ℕ → Type 0 = λ x. HasHeader (cut_list d) x in
+      elim (has_either q.before (q.block ∷ q.after) g (subst G q.split h)) [
+        | inl l ↦ has_left q.before (cut_list d ++ q.after) g l
+        | inr r ↦ elim r [
+          | inl z ↦ has_right q.before (cut_list d ++ q.after) g (has_left (cut_list d) q.after g (subst F z (head_fills _ _ (cut_list d) new_fills (omega arith))))
+          | inr z ↦ has_right q.before (cut_list d ++ q.after) g (has_right (cut_list d) q.after g z)
+        ]
+      ]
+
+  last_clear : IsClear S (p.pairing.before ++ (cut_list d ++ p.pairing.after))
+  last_clear = (let F : List Header → Type 0 = λ X. IsClear S (p.pairing.before ++ (X ++ p.pairing.after)) in subst F (sym d-cut) p.clear)
+
+  first_clear : IsClear S (changed p.pairing.first pair.program)
+  first_clear = clear_within S (p.pairing.before ++ (cut_list d ++ p.pairing.after)) _ has_last last_clear
+
+  pub first_replaceable : (last : Bool) → last ≡ nat_eq (peek U (16 * c.first.segment)) 0x5A → IsReplaceable U start p.pairing.first.before (p.pairing.first.block ∷ []) p.pairing.first.after (cut_list c) last p.pairing.first.block.segment (next p.pairing.first.block)
+  first_replaceable last e = replaceable S U start c (placing_of S start st n pair.program c p.pairing.first c-cut first_clear) j last e
+
+  module _ (V : Memory) (r : IsReplaced U start p.pairing.first.before p.pairing.first.after (cut_list c) V) where
+    first_becomes : Becomes S start (changed p.pairing.first pair.program) V
+    first_becomes =
+        let F : List Header → Type 0 = λ X. Becomes S start (p.pairing.first.before ++ (X ++ p.pairing.first.after)) V in
+        subst F c-cut (becomes S U start c (placing_of S start st n pair.program c p.pairing.first c-cut first_clear) j V r)
+
+    spelled : Spells V start (p.pairing.before ++ p.pairing.block ∷ p.pairing.after)
+    spelled = (let F : List Header → Type 0 = λ X. Spells V start X in subst F p.pairing.split first_becomes.chain.1)
+
+    pub second_replaceable : (last : Bool) → last ≡ nat_eq (peek V (16 * d.first.segment)) 0x5A → IsReplaceable V start p.pairing.before (p.pairing.block ∷ []) p.pairing.after (cut_list d) last p.pairing.block.segment (next p.pairing.block)
+    second_replaceable last e = record {
+      nonempty = tt;
+      spells = spelled;
+      old_fills = (refl, refl);
+      new_fills = new_fills;
+      end = e ∙ ap (λ h. nat_eq (peek V (16 * h)) 0x5A) new_fills.0 ∙ signature-last V p.pairing.block p.pairing.after (spells_end V start p.pairing.before p.pairing.block p.pairing.after spelled).1;
+      clear = clear_map S V _ (place-shaped S V first_becomes.differs.shape) last_clear;
+    }
+
+    pub pair_becomes : (T : Memory) → IsReplaced V start p.pairing.before p.pairing.after (cut_list d) T → Becomes S start (paired p.pairing) T
+    pair_becomes T x =
+        let q = p.pairing in
+        let F : List Header → Type 0 = λ X. Becomes S start (q.before ++ (X ++ q.after)) T in
+        let y = first_becomes in
+        subst F d-cut (record {
+          clear = last_clear;
+          chain = (nonempty q.before d.first (option_to_list d.second ++ q.after), x.spells);
+          differs = record {
+            shape = shaped-then S V T y.differs.shape x.differs.shape;
+            kept = λ z ne. x.differs.kept z (λ h k w small e. ne h k (has_right q.before (cut_list d ++ q.after) h (has_left (cut_list d) q.after h w)) small (e ∙ place-shaped S V y.differs.shape _)) ∙ y.differs.kept z (λ h k w. ne h k (has_last h w));
+          };
+        })

@@ -1,0 +1,188 @@
+//! Two blocks planned and written together: the environment of a program, and the program's own.
+ghost use Rattle.std.specs.Prelude.{◌≡◌, ◌≤◌, ◌<◌, ◌⊎◌, min, MatchBool, MatchOption, MatchResult};
+ghost use Rattle.dm_arena.specs.Chain.{first_header, next, Becomes};
+ghost use Rattle.dm_arena.specs.Blocks.{rest_of};
+ghost use Rattle.dm_arena.specs.Pair.{paired, IsPair, IsPlannedOn, PairRefused};
+
+use crate::cut::{Cut, cut_of, is_clear_cut, taken_of, write_cut};
+use crate::fit::{Spoken, Strategy, choose};
+use crate::header::{Header, is_last};
+use crate::joined::join_all;
+use crate::list::is_arena;
+use crate::refusal::Refusal;
+use dm_space::Space;
+use std::marker::Model;
+
+/// Two blocks that were planned together on a memory.
+///
+/// Contracts see the segments of both, the size of the second, and the headers that are to be
+/// written.
+#[derive(Drop)]
+pub struct Pair {
+    environment: u16,
+    program: u16,
+    size: u16,
+    first: Cut,
+    second: Cut,
+}
+
+impl Model for Pair {
+    ghost use Rattle.dm_arena.specs.Joins.{cut_list};
+    ghost use Rattle.dm_arena.specs.Pair.{Planned, IsCutFitting};
+
+    ghost Value = { Planned };
+
+    ghost view = { λ p. record {
+      environment = p.environment;
+      program = p.program;
+      size = p.size;
+      first = cut_list p.first;
+      second = cut_list p.second;
+    } };
+
+    ghost invariant = { λ p. IsCutFitting p.first × IsCutFitting p.second };
+}
+
+impl Pair {
+    /// The segment of the first block, the environment's.
+    pub fn environment(&self) -> u16
+        ensures { result ≡ self.now.environment }
+    {
+        self.environment
+    }
+
+    /// The segment of the second block, the program's own, which owns both.
+    pub fn program(&self) -> u16
+        ensures { result ≡ self.now.program }
+    {
+        self.program
+    }
+
+    /// The size of the program's block in paragraphs.
+    pub fn size(&self) -> u16
+        ensures { result ≡ self.now.size }
+    {
+        self.size
+    }
+}
+
+/// A block of which n paragraphs are spoken for.
+fn spoken_of(strategy: Strategy, n: u16, block: Header) -> Spoken
+    requires within { n ≤ block.size }
+    requires fits { next block ≤ 0xFFFF }
+    ensures segment { result.segment ≡ block.segment }
+    ensures rest { result.rest ≡ rest_of strategy n block }
+{
+    if block.size == n {
+        return Spoken {
+            segment: block.segment,
+            rest: None,
+        };
+    }
+    let segment = match strategy {
+        Strategy::First | Strategy::Best => block.segment + 1 + n,
+        Strategy::Last => block.segment,
+    };
+    let rest = Header {
+        segment,
+        owner: 0,
+        size: block.size - n - 1,
+    };
+    Spoken {
+        segment: block.segment,
+        rest: Some(rest),
+    }
+}
+
+/// The smaller of two sizes.
+fn smaller(most: u32, left: u16) -> u16
+    ensures { result ≡ min most left }
+{
+    if most < left as u32 {
+        most as u16
+    } else {
+        left
+    }
+}
+
+/// Whether the new headers of both cuts may stand where they would.
+fn are_clear(first: Cut, second: Cut) -> bool
+    ensures low { MatchBool result (MatchOption first.second (Unit {0}) (λ c. c.segment < 0xA000) × MatchOption second.second (Unit {0}) (λ c. c.segment < 0xA000)) (MatchOption first.second ⊥ (λ c. 0xA000 ≤ c.segment) ⊎ MatchOption second.second ⊥ (λ c. 0xA000 ≤ c.segment)) }
+{
+    if !is_clear_cut(first) {
+        return false;
+    }
+    is_clear_cut(second)
+}
+
+/// Plans two blocks: the first with so many paragraphs, then, of what is left, the second with the
+/// smaller of `most` paragraphs and the largest free block. Nothing is written.
+///
+/// Both are chosen by the strategy, as by an allocation of each in turn, once runs of free blocks
+/// are joined.
+///
+/// # Errors
+///
+/// `Destroyed` where memory spells no clear list; else `Short` where the first block has no room,
+/// or the second would have less than `least` paragraphs, with the size of the largest free block
+/// once runs are joined; else `Destroyed` where the last list would not be clear.
+pub fn plan_pair(
+    space: &Space,
+    strategy: Strategy,
+    environment: u16,
+    least: u32,
+    most: u32,
+) -> Result<Pair, Refusal>
+    ensures { MatchResult result (λ pair. IsPair space.now.memory first_header strategy environment least most pair) (λ e. PairRefused space.now.memory first_header strategy environment least most e) }
+{
+    if !is_arena(space) {
+        return Err(Refusal::Destroyed);
+    }
+    let choice = choose(space, strategy, environment, None);
+    let short = Refusal::Short {
+        largest: choice.largest,
+    };
+    let Some(block) = choice.block else {
+        return Err(short);
+    };
+    let spoken = spoken_of(strategy, environment, block);
+    let left = choose(space, strategy, 0, Some(spoken)).largest;
+    let size = smaller(most, left);
+    if (size as u32) < least {
+        return Err(short);
+    }
+    let Some(whole) = choose(space, strategy, size, Some(spoken)).block else {
+        return Err(short);
+    };
+    let program = taken_of(strategy, size, whole) + 1;
+    let first = cut_of(strategy, environment, program, block);
+    let second = cut_of(strategy, size, program, whole);
+    if !are_clear(first, second) {
+        return Err(Refusal::Destroyed);
+    }
+    Ok(Pair {
+        environment: taken_of(strategy, environment, block) + 1,
+        program,
+        size,
+        first,
+        second,
+    })
+}
+
+/// Writes the headers of two blocks, both owned by the second one's segment, and those of the free
+/// blocks around them.
+///
+/// The memory is as the pair was planned on. Bytes 0 to 4 of the headers of the new list are all
+/// that changes.
+pub fn write_pair(space: &mut Space, pair: Pair)
+    requires { IsPlannedOn space.old.memory pair }
+    ensures memory { (p : IsPlannedOn space.old.memory pair) → Becomes space.old.memory first_header (paired p.planned.pairing) space.new.memory }
+    ensures scratch { space.new.scratch ≡ space.old.scratch }
+{
+    let Pair { first, second, .. } = pair;
+    join_all(space);
+    let last = is_last(space, first.first.segment);
+    write_cut(space, first, last);
+    let last = is_last(space, second.first.segment);
+    write_cut(space, second, last);
+}
