@@ -1,14 +1,21 @@
 //! The program `dm`: a DOS real-mode machine that runs programs.
 #![tactic(auto)]
 
+ghost use Rattle.std.specs.Prelude.{map};
+ghost use Rattle.std.specs.Process.{exit_status};
+ghost use Rattle.dm_cli.specs.Statuses.{TellsWrongLine};
+
 use dm_cli::{System, dm_main};
 use std::convert::AsStr;
 use std::io::Lock;
 use std::process::ExitCode;
 use std::{env, io};
 
-/// Hands the words, the files and the standard streams to the library.
-fn call<S: AsStr>(rt: &HostRuntime, words: &[S]) -> ExitCode {
+/// Hands the words, the files and the standard streams to the library, and answers its status: 2 for a wrong line, or
+/// 126 where memory was refused.
+fn call<S: AsStr>(rt: &HostRuntime, words: &[S]) -> ExitCode
+    ensures wrong_line { TellsWrongLine (map S.text words.now) (exit_status result) }
+{
     ExitCode::from(dm_main(
         rt.alloc(),
         &System(rt),

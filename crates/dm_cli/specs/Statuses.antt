@@ -1,5 +1,7 @@
 -- The exit statuses of `dm`.
-use Rattle.std.specs.Prelude.{ℕ, Result, Ok, Err}
+use Rattle.std.specs.Prelude.{ℕ, Result, Ok, Err, ◌≡◌, ◌≢◌, ◌⊎◌, List, []}
+use Rattle.clap.specs.Words.{Text, fault_of}
+use Rattle.dm_options.specs.Arguments.{dm_app}
 use Rattle.dm_machine.specs.declared.stop.Stop.{Stop}
 use Rattle.dm_machine.specs.declared.stop.Stop.TheVariants.{Exited}
 
@@ -8,3 +10,7 @@ abbrev pub status_of : {E : Type 0} → Result Stop E → ℕ
 status_of (Ok (Exited code)) = code
 status_of (Ok _) = 125
 status_of (Err _) = 126
+
+-- the status for the words of a command line: a wrong one is told with 2, or with 126 where memory was refused
+abbrev pub TellsWrongLine : List Text → ℕ → Type 0
+TellsWrongLine words status = fault_of dm_app words ≢ [] → (status ≡ 2) ⊎ (status ≡ 126)

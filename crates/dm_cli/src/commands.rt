@@ -1,9 +1,7 @@
 //! The commands of `dm`, with their fault texts and statuses.
-ghost use Rattle.std.specs.Prelude.{◌≡◌, ◌≢◌, ◌⊎◌, [], IfOk, map};
-ghost use Rattle.clap.specs.Words.{fault_of};
-ghost use Rattle.dm_options.specs.Arguments.{dm_app};
+ghost use Rattle.std.specs.Prelude.{◌≡◌, IfOk, map};
 ghost use Rattle.dm_cli.specs.Names.{last_part};
-ghost use Rattle.dm_cli.specs.Statuses.{status_of};
+ghost use Rattle.dm_cli.specs.Statuses.{status_of, TellsWrongLine};
 ghost use Rattle.dm_machine.specs.State.{HasProgram};
 
 use crate::fault::Fault;
@@ -140,7 +138,7 @@ pub fn dm_main<S: AsStr, F: Storage, I: Read + Drop, O: Write, E: Write>(
     output: &mut O,
     error: &mut E,
 ) -> u8
-    ensures wrong_line { fault_of dm_app (map S.text words.now) ≢ [] → (result ≡ 2) ⊎ (result ≡ 126) }
+    ensures wrong_line { TellsWrongLine (map S.text words.now) result }
 {
     match options(alloc, words) {
         Ok(Options::Run(options)) => report(run(alloc, storage, &options, input, output), error),
