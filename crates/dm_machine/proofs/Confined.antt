@@ -1,7 +1,7 @@
 -- A run neither depends on what no program sees, nor changes it
 use Rattle.std.proofs.Common.{◌≡◌, ℕ, suc, zero, ◌%◌, ◌==◌, Bool, true, false, cond, List, ◌∷◌, Option, Some, None, refl, sym, ◌∙◌, ap, subst}
 use Rattle.dm_space.specs.Memory.{Memory, peek, linear}
-use Rattle.dm_space.specs.Unseen.{unseen_as}
+use Rattle.dm_space.specs.Unseen.{unseen_as, IsUnseen}
 use Rattle.dm_ins.specs.declared.ins.Ins.{Ins}
 use Rattle.dm_ins.specs.declared.operand.ByteRegister.TheVariants.{Al, Ah}
 use Rattle.dm_exec.specs.declared.cpu.Cpu.{Cpu}
@@ -11,9 +11,9 @@ use Rattle.dm_exec.specs.Cpu.{byte_of}
 use Rattle.dm_exec.specs.Guest.{Guest, guest}
 use Rattle.dm_exec.specs.Stack.{interrupt_return}
 use Rattle.dm_exec.specs.Effect.{effect, next_of}
-use Rattle.dm_exec.specs.Unseen.{IsUnseen, changed}
+use Rattle.dm_exec.specs.Unseen.{changed}
 use Rattle.dm_exec.proofs.Unseen.{effect-unseen, interrupt_return-unseen}
-use Rattle.dm_exec.proofs.Pages.{pages-unseen}
+use Rattle.dm_space.proofs.Unseen.{pages-unseen}
 use Rattle.dm_proc.specs.Writes.{bytes_from}
 use Rattle.dm_machine.specs.declared.stop.Stop.{Stop}
 use Rattle.dm_machine.specs.declared.stop.Stop.TheVariants.{Memory as NoMemory}
