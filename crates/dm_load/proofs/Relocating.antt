@@ -1,8 +1,8 @@
 -- Relocations within a part of the image
-use Rattle.std.proofs.Common.{◌≡◌, ℕ, zero, suc, ◌+◌, ◌-◌, ◌*◌, ◌/◌, ◌%◌, ◌<◌, ◌≤◌, Bool, true, false, cond, List, [], ◌∷◌, length, get_or, set, take, drop, min, refl, sym, ◌∙◌, ap, subst, rules, arith, add-one}
+use Rattle.std.proofs.Common.{◌≡◌, ℕ, zero, suc, ◌+◌, ◌-◌, ◌*◌, ◌/◌, ◌%◌, ◌<◌, ◌≤◌, Bool, true, false, cond, List, [], ◌∷◌, length, get_or, set, take, drop, min, refl, sym, ◌∙◌, ap, subst, rules, arith, add-one, ◌⊎◌, inl, inr}
 use Rattle.std.proofs.lemmas.Grind.{common_steps}
 use Rattle.std.proofs.lemmas.Bool.Decides.{nat_tests}
-use Rattle.std.proofs.lemmas.List.{length-set, length-take, length-take-le, length-drop, get_or-take}
+use Rattle.std.proofs.lemmas.List.{length-set, length-take, length-take-le, length-drop, get_or-take, drop-set-lt, drop_all}
 use Rattle.std.proofs.Math.Seq.{take-set-lt}
 use Rattle.dm_load.specs.declared.format.Kind.{Kind}
 use Rattle.dm_load.specs.declared.format.Kind.TheVariants.{Com, Mz}
@@ -81,3 +81,24 @@ take-min (suc m) (x ∷ xs) (suc n) e = ap (λ ys. x ∷ ys) (take-min m xs n (o
 
 pub first-part : (bytes : List ℕ) (n : ℕ) → n ≡ min (length bytes) 0x110000 → take n bytes ≡ take 0x110000 bytes
 first-part bytes n e = take-min 0x110000 bytes n e
+
+-- what stands behind all relocations
+pub drop-relocated : (n k : ℕ) (file : List ℕ) (start : ℕ) → ((j : ℕ) → target file j + 2 ≤ n) → drop n (relocated_by k file start) ≡ drop n (image file)
+drop-relocated n zero file start reach = refl
+drop-relocated n (suc k) file start reach =
+    let before = relocated_by k file start in
+    let at = target file k in
+    let inside : at + 2 ≤ n = reach k in
+    let w = (word before at + start) % 65536 in
+    drop-set-lt n (set before at (w % 256)) (at + 1) (w / 256) (omega arith) ∙ drop-set-lt n before at (w % 256) (omega arith) ∙ drop-relocated n k file start reach
+
+nat_cases : (a b : ℕ) → (a ≤ b) ⊎ (b ≤ a)
+nat_cases zero b = inl (omega arith)
+nat_cases (suc a) zero = inr (omega arith)
+nat_cases (suc a) (suc b) = elim (nat_cases a b) [ inl l ↦ inl (omega arith) | inr r ↦ inr (omega arith) ]
+
+pub drop-min : (n : ℕ) (xs : List ℕ) → drop (min (length xs) n) xs ≡ drop n xs
+drop-min n xs = elim (nat_cases (length xs) n) [
+  | inl l ↦ (let e : min (length xs) n ≡ length xs = omega arith in ap (λ k. drop k xs) e ∙ drop_all (length xs) xs (omega arith) ∙ sym (drop_all n xs l))
+  | inr g ↦ (let e : min (length xs) n ≡ n = omega arith in ap (λ k. drop k xs) e)
+]

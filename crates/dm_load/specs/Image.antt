@@ -30,6 +30,13 @@ pages file = word file 0x04
 abbrev pub header_length : List ℕ → ℕ
 header_length file = word file 0x08 * 16
 
+-- the paragraphs that a program needs behind its image, and those that it asks for
+abbrev pub minimum : List ℕ → ℕ
+minimum file = word file 0x0A
+
+abbrev pub maximum : List ℕ → ℕ
+maximum file = word file 0x0C
+
 abbrev pub code : List ℕ → FarPointer
 code file = record { segment = word file 0x16; offset = word file 0x14 }
 

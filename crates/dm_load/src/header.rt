@@ -44,7 +44,8 @@ fn is_mz(file: &[u8]) -> bool
 pub(crate) fn size(file: &[u8]) -> usize
     requires header { 28 ≤ length file.now }
     requires pages { 0 < pages file.now }
-    ensures { result ≡ Rattle.dm_load.specs.Image.size file.now }
+    ensures value { result ≡ Rattle.dm_load.specs.Image.size file.now }
+    ensures few { result ≤ 0x1FF_FE00 }
 {
     let last = word(file, 0x02) as usize % PAGE;
     let pages = word(file, 0x04) as usize;
@@ -64,6 +65,12 @@ pub(crate) fn target(file: &[u8], index: usize) -> usize
 {
     let entry = word(file, 0x18) as usize + 4 * index;
     word(file, entry + 2) as usize * 16 + word(file, entry) as usize
+}
+
+/// No relocation has a word behind the first 110000h bytes.
+pub(crate) fn targets_reach(file: &[u8])
+    ensures { (k : ℕ) → Rattle.dm_load.specs.Image.target file.now k + 2 ≤ 0x110000 }
+{
 }
 
 /// Whether the words of the first relocations lie wholly in an image of `room` bytes.

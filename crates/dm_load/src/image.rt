@@ -1,9 +1,9 @@
 //! A program's bytes and how it starts.
-ghost use Rattle.std.specs.Prelude.{◌≡◌, ◌+◌, ◌*◌, ◌<◌, ◌≤◌, length, take, min, true, MatchResult};
-ghost use Rattle.dm_load.specs.Image.{word, is_mz, kind_of, IsGood, entry, target, image, relocations, relocated, code, stack};
+ghost use Rattle.std.specs.Prelude.{◌≡◌, ℕ, ◌+◌, ◌*◌, ◌<◌, ◌≤◌, length, take, drop, min, true, MatchResult};
+ghost use Rattle.dm_load.specs.Image.{word, is_mz, kind_of, IsGood, entry, target, image, relocations, relocated, minimum, maximum, code, stack};
 
 use crate::format::{BadFormat, FarPointer, Kind};
-use crate::header::{add_to_word, kind, size, target, word};
+use crate::header::{add_to_word, kind, size, target, targets_reach, word};
 use std::marker::Model;
 
 /// A file that can be loaded. Contracts see its bytes.
@@ -51,7 +51,8 @@ impl<'a> Image<'a> {
     /// header's end to the end of the pages.
     #[tactic(auto, unfolding(crate::specs::Image::image))]
     pub fn bytes(&self) -> &[u8]
-        ensures { result.now ≡ image self.now }
+        ensures value { result.now ≡ image self.now }
+        ensures few { length result.now ≤ 0x1FF_FE00 }
     {
         match self.kind {
             Kind::Com => self.file,
@@ -92,6 +93,22 @@ impl<'a> Image<'a> {
         }
     }
 
+    /// How many paragraphs an MZ program needs behind its image.
+    pub fn minimum(&self) -> u16
+        requires { is_mz self.now ≡ true }
+        ensures { result ≡ minimum self.now }
+    {
+        word(self.file, 0x0A)
+    }
+
+    /// How many paragraphs an MZ program asks for behind its image.
+    pub fn maximum(&self) -> u16
+        requires { is_mz self.now ≡ true }
+        ensures { result ≡ maximum self.now }
+    {
+        word(self.file, 0x0C)
+    }
+
     /// Fills `bytes` with the image, relocated to a start segment: each relocation, in the order of
     /// the table, adds the segment to a word, modulo 65,536. The slice has the image's length or,
     /// if that is larger, 110000h bytes: behind these stands no word of a relocation.
@@ -103,5 +120,16 @@ impl<'a> Image<'a> {
         for index in 0..self.relocations() {
             add_to_word(bytes, target(self.file, index), start);
         }
+    }
+
+    /// The bytes of the image behind the first 110000h: no relocation has a word there, so they are
+    /// those of the relocated image too.
+    pub fn rest(&self) -> &[u8]
+        ensures bytes { (start : ℕ) → result.now ≡ drop 0x110000 (relocated self.now start) }
+        ensures few { length result.now ≤ 0x1FF_FE00 }
+    {
+        targets_reach(self.file);
+        let bytes = self.bytes();
+        &bytes[bytes.len().min(0x11_0000)..]
     }
 }

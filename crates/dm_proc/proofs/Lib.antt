@@ -2,3 +2,4 @@ mod Writing
 mod Bytes
 mod Made
 mod Whole
+mod Placing

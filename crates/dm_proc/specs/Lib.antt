@@ -1,6 +1,9 @@
 pub mod Programs
 pub mod Writes
+pub mod Request
 pub mod Environment
-pub mod Plan
+pub mod Room
+pub mod Placed
+pub mod Blocks
 pub mod Start
 pub mod Processes

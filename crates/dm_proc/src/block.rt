@@ -7,7 +7,7 @@ use dm_space::Space;
 
 /// Writes a byte of a block.
 fn write_byte(space: &mut Space, segment: u16, at: usize, byte: u8)
-    requires { at < 0x200000 }
+    requires { at < 0x1000_0000 }
     ensures { space.new ≡ record space.old { memory = poke space.old.memory (block_address space.old.memory.a20 segment at) byte } }
 {
     space.poke(
@@ -18,8 +18,8 @@ fn write_byte(space: &mut Space, segment: u16, at: usize, byte: u8)
 }
 
 /// Writes bytes to a block from one of its bytes on.
-fn write_from(space: &mut Space, segment: u16, from: usize, bytes: &[u8])
-    requires { from + length bytes.now ≤ 0x200000 }
+pub(crate) fn write_from(space: &mut Space, segment: u16, from: usize, bytes: &[u8])
+    requires { from + length bytes.now ≤ 0x1000_0000 }
     ensures { space.new ≡ record space.old { memory = apply (upwards space.old.memory.a20 segment from bytes.now) space.old.memory } }
 {
     for (at, byte) in bytes.iter().enumerate() {

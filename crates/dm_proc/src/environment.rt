@@ -1,8 +1,12 @@
 //! The environment of a process (MS-DOS Programmer's Reference, "Environment").
-ghost use Rattle.std.specs.Prelude.{◌≡◌, ◌+◌, ◌<◌, ◌≤◌, ◌++◌, length, take};
-ghost use Rattle.dm_proc.specs.Environment.{closing, environment};
+ghost use Rattle.std.specs.Prelude.{◌≡◌, ◌+◌, ◌<◌, ◌≤◌, ◌++◌, length, take, IfSome, MatchOption};
+ghost use Rattle.dm_proc.specs.Environment.{closing, environment, HasNoEnd, IsEnvironment, IsRead, IsMade, NoVariables};
+ghost use Rattle.dm_proc.specs.Writes.{bytes_from};
 
 use dm_space::Space;
+
+/// The longest environment, in bytes.
+const LONGEST: usize = 0x8000;
 
 /// Writes bytes into the scratch part; where the next ones go.
 fn append(space: &mut Space, at: usize, bytes: &[u8]) -> usize
@@ -43,6 +47,47 @@ fn close_environment(space: &mut Space, variables: usize, name: &[u8]) -> usize
     let next = append(space, next, &[1, 0]);
     let next = append(space, next, name);
     append(space, next, &[0])
+}
+
+/// Reads the bytes of an environment's variables into the scratch part; how many they are.
+fn read_environment(space: &mut Space, segment: u16) -> Option<usize>
+    ensures memory { space.new.memory ≡ space.old.memory }
+    ensures found { MatchOption result (HasNoEnd space.old.memory segment) (λ n. IsEnvironment space.old.memory segment n) }
+    ensures read { IfSome result (λ n. take n space.new.scratch ≡ bytes_from space.old.memory segment 0 n) }
+{
+    let mut is_start = true;
+    for at in 0..LONGEST {
+        let byte = space.peek(segment, at as u16);
+        if byte == 0 && is_start {
+            return Some(at);
+        }
+        append(space, at, &[byte]);
+        is_start = byte == 0;
+    }
+    None
+}
+
+/// Reads the variables of the environment at a segment, where there is one, into the scratch part;
+/// how many bytes they have.
+fn read_variables(space: &mut Space, segment: u16) -> Option<usize>
+    ensures memory { space.new.memory ≡ space.old.memory }
+    ensures read { MatchOption result (NoVariables space.old.memory segment) (λ n. IsRead space.old.memory segment n space.new.scratch) }
+{
+    if segment == 0 {
+        return Some(0);
+    }
+    read_environment(space, segment)
+}
+
+/// Puts an environment with the variables of another one, if it has an end, into the scratch part;
+/// its length in bytes.
+pub(crate) fn make_environment(space: &mut Space, segment: u16, name: &[u8]) -> Option<usize>
+    requires { length name.now ≤ 64 }
+    ensures memory { space.new.memory ≡ space.old.memory }
+    ensures made { MatchOption result (NoVariables space.old.memory segment) (λ n. IsMade space.old.memory segment name.now n space.new.scratch) }
+{
+    let variables = read_variables(space, segment)?;
+    Some(close_environment(space, variables, name))
 }
 
 /// Puts an environment with these variables into the scratch part; its length in bytes.

@@ -1,36 +1,51 @@
 //! What the start of a process writes, and its registers (MS-DOS Programmer's Reference, "Load and
 //! Execute Program").
-ghost use Rattle.std.specs.Prelude.{◌≡◌, ◌≤◌, length, take};
-ghost use Rattle.dm_load.specs.Image.{relocated};
+ghost use Rattle.std.specs.Prelude.{◌≡◌, ◌+◌, ◌<◌, ◌≤◌, length, min, take, true, false, MatchResult};
+ghost use Rattle.dm_load.specs.Image.{is_mz, relocated};
+ghost use Rattle.dm_arena.specs.Chain.{first_header};
+ghost use Rattle.dm_arena.specs.Pair.{IsPair, IsPlannedOn};
 ghost use Rattle.dm_proc.specs.Writes.{apply, block};
+ghost use Rattle.dm_proc.specs.Room.{paragraphs};
+ghost use Rattle.dm_proc.specs.Room;
+ghost use Rattle.dm_proc.specs.Placed.{placed_as};
+ghost use Rattle.dm_proc.specs.Blocks.{placed_of};
+ghost use Rattle.dm_proc.specs.Request.{passed_of};
 ghost use Rattle.dm_proc.specs.Start.{start_writes, zero_word, stack_writes};
+ghost use Rattle.dm_proc.specs.Processes.{PlanRefused, IsWritten};
 
-use crate::arena_header::write_pair;
-use crate::block::{write_bytes, write_scratch};
-use crate::pair::Pair;
+use crate::arguments::Arguments;
+use crate::block::{write_bytes, write_from, write_scratch};
+use crate::blocks::Blocks;
+use crate::psp::make_prefix;
+use crate::refusal::Refusal;
+use crate::room::{least, most};
+use dm_arena::{Pair, Strategy, plan_pair, write_pair};
 use dm_exec::{Cpu, Flags};
 use dm_load::{FarPointer, Image, Kind};
 use dm_space::Space;
 
-/// Puts an image, relocated to the start segment, into the scratch part; its length.
+/// The bytes of an image behind which no relocation has a word.
+const RELOCATED: usize = 0x11_0000;
+
+/// Puts the first part of an image, relocated to the start segment, into the scratch part; its
+/// length. Behind it no word is relocated.
 fn relocate(space: &mut Space, image: &Image, start: u16) -> usize
-    requires { length (Rattle.dm_load.specs.Image.image image.now) ≤ 0x100000 }
     ensures memory { space.new.memory ≡ space.old.memory }
-    ensures scratch { take result space.new.scratch ≡ relocated image.now start }
-    ensures length { result ≡ length (Rattle.dm_load.specs.Image.image image.now) }
+    ensures scratch { take result space.new.scratch ≡ take 0x110000 (relocated image.now start) }
+    ensures length { result ≡ min (length (Rattle.dm_load.specs.Image.image image.now)) 0x110000 }
 {
-    let count = image.bytes().len();
+    let count = image.bytes().len().min(RELOCATED);
     image.relocated(start, &mut space.scratch_mut()[0..count]);
     count
 }
 
-/// Writes an image, relocated to the start segment, by way of the scratch part.
-fn write_image(space: &mut Space, image: &Image, start: u16)
-    requires { length (Rattle.dm_load.specs.Image.image image.now) ≤ 0x100000 }
-    ensures memory { space.new.memory ≡ apply (block space.old.memory.a20 start (relocated image.now start)) space.old.memory }
+/// Writes an image, relocated to the start segment, from another segment upwards.
+pub(crate) fn write_image(space: &mut Space, image: &Image, segment: u16, start: u16)
+    ensures { space.new.memory ≡ apply (block space.old.memory.a20 segment (relocated image.now start)) space.old.memory }
 {
     let count = relocate(space, image, start);
-    write_scratch(space, start, count);
+    write_scratch(space, segment, count);
+    write_from(space, segment, count, image.rest());
 }
 
 /// Writes a word of zero.
@@ -41,11 +56,11 @@ fn write_zero_word(space: &mut Space, segment: u16, offset: u16)
 }
 
 /// Where a COM program's stack begins: at its block's end, or at its segment's.
-fn com_stack(pair: Pair) -> u16
-    requires { 0x11 ≤ pair.program.size }
-    ensures { result ≡ Rattle.dm_proc.specs.Start.com_stack pair }
+fn com_stack(blocks: Blocks) -> u16
+    requires { 0x11 ≤ blocks.size }
+    ensures { result ≡ Rattle.dm_proc.specs.Start.com_stack (placed_of blocks) }
 {
-    (16 * pair.program.size as u32 - 2).min(0xFFFE) as u16
+    (16 * blocks.size as u32 - 2).min(0xFFFE) as u16
 }
 
 /// DS and ES have the process's segment, the general registers are 0, interrupts are on.
@@ -75,36 +90,35 @@ fn registers(segment: u16, code: FarPointer, stack: FarPointer) -> Cpu
 }
 
 /// Writes the zero word that a COM program's stack begins with.
-fn write_stack(space: &mut Space, image: &Image, pair: Pair)
-    requires { 0x11 ≤ pair.program.size }
-    ensures { space.new.memory ≡ apply (stack_writes space.old.memory.a20 pair image.now) space.old.memory }
+fn write_stack(space: &mut Space, image: &Image, blocks: Blocks)
+    requires { Room.least image.now ≤ blocks.size }
+    ensures { space.new.memory ≡ apply (stack_writes space.old.memory.a20 (placed_of blocks) image.now) space.old.memory }
 {
     match image.kind() {
-        Kind::Com => write_zero_word(space, pair.program.segment, com_stack(pair)),
+        Kind::Com => write_zero_word(space, blocks.program, com_stack(blocks)),
         Kind::Mz => {}
     }
 }
 
-/// Makes all writes of a start, in this order: headers, environment (which the scratch part begins
-/// with), prefix, image, a COM program's zero word.
-pub(crate) fn write_start(
+/// Makes all writes of a start behind those of the headers, in this order: environment (which the
+/// scratch part begins with), prefix, image, a COM program's zero word.
+fn write_start(
     space: &mut Space,
     image: &Image,
-    pair: Pair,
+    blocks: Blocks,
     environment: usize,
     prefix: &[u8],
 )
-    requires image { length (Rattle.dm_load.specs.Image.image image.now) ≤ 0x100000 }
-    requires size { 0x11 ≤ pair.program.size }
+    requires size { Room.least image.now ≤ blocks.size }
     requires environment { environment ≤ 0x200000 }
     requires prefix { length prefix.now ≤ 0x200000 }
-    ensures { space.new.memory ≡ apply (start_writes space.old.memory.a20 pair (take environment space.old.scratch) prefix.now image.now) space.old.memory }
+    ensures { space.new.memory ≡ apply (start_writes space.old.memory.a20 (placed_of blocks) (take environment space.old.scratch) prefix.now image.now) space.old.memory }
 {
-    write_pair(space, pair);
-    write_scratch(space, pair.environment.segment, environment);
-    write_bytes(space, pair.program.segment, prefix);
-    write_image(space, image, pair.program.segment + 0x10);
-    write_stack(space, image, pair);
+    write_scratch(space, blocks.environment, environment);
+    write_bytes(space, blocks.program, prefix);
+    let start = blocks.program.wrapping_add(0x10);
+    write_image(space, image, start, start);
+    write_stack(space, image, blocks);
 }
 
 /// A far pointer of a header, counted from the start segment.
@@ -118,11 +132,11 @@ fn moved(pointer: FarPointer, by: u16) -> FarPointer
 }
 
 /// The registers of a new process.
-pub(crate) fn start_registers(image: &Image, pair: Pair) -> Cpu
-    requires { 0x11 ≤ pair.program.size }
-    ensures { result ≡ Rattle.dm_proc.specs.Start.start_registers pair image.now }
+fn start_registers(image: &Image, blocks: Blocks) -> Cpu
+    requires { Room.least image.now ≤ blocks.size }
+    ensures { result ≡ Rattle.dm_proc.specs.Start.start_registers (placed_of blocks) image.now }
 {
-    let segment = pair.program.segment;
+    let segment = blocks.program;
     match image.kind() {
         Kind::Com => {
             let code = FarPointer {
@@ -131,14 +145,74 @@ pub(crate) fn start_registers(image: &Image, pair: Pair) -> Cpu
             };
             let stack = FarPointer {
                 segment,
-                offset: com_stack(pair),
+                offset: com_stack(blocks),
             };
             registers(segment, code, stack)
         }
-        Kind::Mz => registers(
-            segment,
-            moved(image.code(), segment + 0x10),
-            moved(image.stack(), segment + 0x10),
-        ),
+        Kind::Mz => {
+            let start = segment.wrapping_add(0x10);
+            registers(
+                segment,
+                moved(image.code(), start),
+                moved(image.stack(), start),
+            )
+        }
+    }
+}
+
+/// Plans both blocks of a program whose environment has so many bytes. Nothing is written.
+pub(crate) fn plan(
+    space: &Space,
+    strategy: Strategy,
+    image: &Image,
+    environment: usize,
+) -> Result<Pair, Refusal>
+    requires { environment < 0x8100 }
+    ensures { MatchResult result (λ pair. IsPair space.now.memory first_header strategy (paragraphs environment) (Room.least image.now) (Room.most image.now) pair) (λ e. PlanRefused space.now.memory strategy environment image.now e) }
+{
+    let paragraphs = environment.div_ceil(16) as u16;
+    match plan_pair(space, strategy, paragraphs, least(image), most(image)) {
+        Ok(pair) => Ok(pair),
+        Err(dm_arena::Refusal::Short { .. }) => Err(Refusal::Short),
+        Err(dm_arena::Refusal::Destroyed) => Err(Refusal::Destroyed),
+        Err(dm_arena::Refusal::NoBlock) => unreachable!(),
+    }
+}
+
+/// A process that was started: its segment and its registers.
+#[derive(Drop)]
+pub(crate) struct Started {
+    pub(crate) segment: u16,
+    pub(crate) cpu: Cpu,
+}
+
+/// Writes all of a planned process: the headers, then the environment (which the scratch part
+/// begins with), the prefix, the image, a COM program's zero word. The prefix is read before.
+pub(crate) fn start(
+    space: &mut Space,
+    image: &Image,
+    pair: Pair,
+    environment: usize,
+    parent: u16,
+    arguments: &Arguments,
+) -> Started
+    requires planned { IsPlannedOn space.old.memory pair }
+    requires size { Room.least image.now ≤ pair.size }
+    requires environment { environment ≤ 0x200000 }
+    ensures segment { result.segment ≡ pair.program }
+    ensures registers { result.cpu ≡ Rattle.dm_proc.specs.Start.start_registers (placed_as pair) image.now }
+    ensures written { (p : IsPlannedOn space.old.memory pair) → IsWritten space.old.memory pair p (take environment space.old.scratch) image.now parent (passed_of arguments.now) space.new.memory }
+{
+    let blocks = Blocks {
+        environment: pair.environment(),
+        program: pair.program(),
+        size: pair.size(),
+    };
+    let prefix = make_prefix(space, blocks, parent, arguments);
+    write_pair(space, pair);
+    write_start(space, image, blocks, environment, prefix.as_slice());
+    Started {
+        segment: blocks.program,
+        cpu: start_registers(image, blocks),
     }
 }

@@ -1,19 +1,27 @@
-//! Processes: the store of programs, and how a program is started: arena headers, environment,
-//! program segment prefix, image and registers (MS-DOS Programmer's Reference, "Load and Execute
-//! Program").
+//! Processes: the store of programs; how a program is started, by blocks of the arena, environment,
+//! program segment prefix, image and registers; and how it ends (MS-DOS Programmer's Reference,
+//! functions 4Bh, 4Ch, 31h and 4Dh).
 #![tactic(auto)]
 
-mod arena_header;
+mod arguments;
 mod block;
+mod blocks;
+mod ending;
 mod environment;
+mod exec;
 mod launch;
-mod pair;
-mod plan;
+mod overlays;
+mod parent;
 mod procs;
 mod programs;
 mod psp;
+mod refusal;
+mod request;
+mod room;
 
-pub use pair::{Block, Pair};
+pub use arguments::Arguments;
+pub use overlays::overlay;
+pub use parent::{Ending, Parent};
 pub use procs::Procs;
 pub use programs::{AddError, Programs};
-pub use psp::Arguments;
+pub use refusal::{ArenaDestroyed, Refusal};

@@ -1,21 +1,21 @@
 //! The processes that are alive.
-ghost use Rattle.std.specs.Prelude.{◌≡◌, ◌≤◌, ◌↔◌, ◌≢◌, IsTrue, false, length};
-ghost use Rattle.dm_load.specs.Image.{is_mz};
-ghost use Rattle.dm_proc.specs.Processes.{Loads};
+ghost use Rattle.std.specs.Prelude.{◌≡◌, ◌<◌, [], ◌∷◌, ◌++◌, length, MatchBool};
+ghost use Rattle.dm_proc.specs.Processes.{GoesOn};
 
-use crate::environment::put_environment;
-use crate::launch::{start_registers, write_start};
-use crate::plan::first_pair;
-use crate::psp::{Arguments, make_prefix};
+use crate::parent::{Ending, Parent};
+use arrayvec::ArrayVec;
 use dm_exec::Cpu;
-use dm_load::Image;
-use dm_space::Space;
 use std::marker::Model;
 
-/// The processes that are alive. Contracts see the present process's segment.
-#[derive(Clone, Copy, Debug, PartialEq, Eq)]
+/// The processes that are alive: at most sixteen.
+///
+/// Contracts see the present process's segment, the processes that wait for a child, and the word
+/// of the last ending.
+#[derive(Drop)]
 pub struct Procs {
     present: u16,
+    parents: ArrayVec<Parent, 15>,
+    code: u16,
 }
 
 impl Model for Procs {
@@ -23,17 +23,19 @@ impl Model for Procs {
 
     ghost Value = { Processes };
 
-    ghost view = { λ s. record { present = s.present } };
-
-    ghost inverse = { λ s. record { present = s.present } };
+    ghost view = { λ s. record { present = s.present; parents = s.parents.items; code = s.code } };
 }
 
 impl Procs {
     /// No process yet.
     pub fn new() -> Procs
-        ensures { result ≡ record { present = 0 } }
+        ensures { result ≡ record { present = 0; parents = []; code = 0 } }
     {
-        Procs { present: 0 }
+        Procs {
+            present: 0,
+            parents: ArrayVec::new(),
+            code: 0,
+        }
     }
 
     /// The segment of the present process's program segment prefix; 0 while no program is loaded.
@@ -43,29 +45,52 @@ impl Procs {
         self.present
     }
 
-    /// Starts the first program, and gives the registers that it starts with.
-    ///
-    /// The variables of its environment, each closed by a zero, have at most 32,767 bytes, the name
-    /// 64; the program is a COM program.
-    pub fn load(
-        &mut self,
-        space: &mut Space,
-        image: &Image,
-        variables: &[u8],
-        name: &[u8],
-        arguments: &Arguments,
-    ) -> Cpu
-        requires variables { length variables.now ≤ 0x7FFF }
-        requires name { length name.now ≤ 64 }
-        requires com { is_mz image.now ≡ false }
-        requires image { length (Rattle.dm_load.specs.Image.image image.now) ≤ 65278 }
-        ensures { Loads self.old space.old.memory image.now variables.now name.now arguments.now self.new result space.new.memory }
+    /// The word of the last ending, which is read once: AL is its code, AH 0, or 3 where the program
+    /// stayed resident (MS-DOS Programmer's Reference, function 4Dh); 0 where it was read or nothing
+    /// has ended.
+    pub fn take_code(&mut self) -> u16
+        ensures value { result ≡ self.old.code }
+        ensures taken { self.new ≡ record self.old { code = 0 } }
     {
-        let environment = put_environment(space, variables, name);
-        let pair = first_pair(environment);
-        let prefix = make_prefix(space, pair, 0, arguments);
-        write_start(space, image, pair, environment, prefix.as_slice());
-        self.present = pair.program.segment;
-        start_registers(image, pair)
+        std::mem::replace(&mut self.code, 0)
+    }
+
+    /// Whether sixteen processes are alive.
+    pub(crate) fn is_full(&self) -> bool
+        ensures { MatchBool result (length self.now.parents ≡ 15) (length self.now.parents < 15) }
+    {
+        self.parents.is_full()
+    }
+
+    /// The process at a segment is the present one, which no process waits for.
+    pub(crate) fn set_first(&mut self, segment: u16)
+        ensures { self.new ≡ record self.old { present = segment } }
+    {
+        self.present = segment;
+    }
+
+    /// A child begins at a segment; the present process waits for it with these registers.
+    pub(crate) fn begin(&mut self, segment: u16, cpu: Cpu)
+        requires { length self.old.parents < 15 }
+        ensures { self.new ≡ record self.old { present = segment; parents = self.old.parents ++ record { segment = self.old.present; cpu = cpu } ∷ [] } }
+    {
+        self.parents.push(Parent {
+            segment: self.present,
+            cpu,
+        });
+        self.present = segment;
+    }
+
+    /// The present process has ended; its parent, if it has one, goes on.
+    pub(crate) fn finish(&mut self, cpu: &mut Cpu, word: u16) -> Ending
+        ensures { GoesOn self.old cpu.old word result self.new cpu.new }
+    {
+        self.code = word;
+        let Some(parent) = self.parents.pop() else {
+            return Ending::Exited;
+        };
+        self.present = parent.segment;
+        *cpu = parent.cpu;
+        Ending::Returned
     }
 }

@@ -2,19 +2,13 @@
 ghost use Rattle.std.specs.Prelude.{◌≡◌, ◌+◌, ◌≤◌, ◌++◌, length};
 ghost use Rattle.dm_proc.specs.Writes.{bytes_from};
 ghost use Rattle.dm_proc.specs.Start.{word_bytes, zeros, prefix};
+ghost use Rattle.dm_proc.specs.Blocks.{placed_of};
+ghost use Rattle.dm_proc.specs.Request.{passed_of};
 
-use crate::pair::Pair;
+use crate::arguments::Arguments;
+use crate::blocks::Blocks;
 use arrayvec::ArrayVec;
 use dm_space::Space;
-
-/// What a program is started with: its command tail, and the first 16 bytes of its two file control
-/// blocks.
-#[derive(Drop)]
-pub struct Arguments {
-    pub tail: ArrayVec<u8, 126>,
-    pub first: [u8; 16],
-    pub second: [u8; 16],
-}
 
 /// The bytes of a program segment prefix, as far as they are made.
 pub(crate) type Prefix = ArrayVec<u8, 256>;
@@ -53,31 +47,38 @@ fn push_zeros(prefix: &mut Prefix, count: usize)
 }
 
 /// Adds bytes of memory from segment:offset on; offsets wrap.
-fn push_guest(prefix: &mut Prefix, space: &Space, segment: u16, offset: u16, count: usize)
-    requires { length prefix.old.items + count ≤ 256 }
-    ensures items { prefix.new.items ≡ prefix.old.items ++ bytes_from space.now.memory segment offset count }
-    ensures count { length prefix.new.items ≡ length prefix.old.items + count }
+pub(crate) fn push_guest<const N: usize>(
+    bytes: &mut ArrayVec<u8, N>,
+    space: &Space,
+    segment: u16,
+    offset: u16,
+    count: usize,
+)
+    requires room { length bytes.old.items + count ≤ N }
+    requires few { count ≤ 256 }
+    ensures items { bytes.new.items ≡ bytes.old.items ++ bytes_from space.now.memory segment offset count }
+    ensures count { length bytes.new.items ≡ length bytes.old.items + count }
 {
     for index in 0..count {
-        prefix.push(space.peek(segment, offset.wrapping_add(index as u16)));
+        bytes.push(space.peek(segment, offset.wrapping_add(index as u16)));
     }
 }
 
 /// The program segment prefix of a new process.
 #[tactic(auto, unfolding(crate::specs::Start::prefix))]
-pub(crate) fn make_prefix(space: &Space, pair: Pair, parent: u16, arguments: &Arguments) -> Prefix
-    ensures items { result.items ≡ prefix space.now.memory pair parent arguments.now }
+pub(crate) fn make_prefix(space: &Space, blocks: Blocks, parent: u16, arguments: &Arguments) -> Prefix
+    ensures items { result.items ≡ prefix space.now.memory (placed_of blocks) parent (passed_of arguments.now) }
     ensures count { length result.items ≡ 256 }
 {
     let tail = arguments.tail.as_slice();
     let mut prefix = Prefix::new();
     push_bytes(&mut prefix, &[0xCD, 0x20]);
-    push_word(&mut prefix, pair.program.segment + pair.program.size);
+    push_word(&mut prefix, blocks.program.wrapping_add(blocks.size));
     push_zeros(&mut prefix, 6);
     push_guest(&mut prefix, space, 0, 0x88, 12);
     push_word(&mut prefix, parent);
     push_zeros(&mut prefix, 20);
-    push_word(&mut prefix, pair.environment.segment);
+    push_word(&mut prefix, blocks.environment);
     push_zeros(&mut prefix, 34);
     push_bytes(&mut prefix, &[0xCD, 0x21, 0xCB]);
     push_zeros(&mut prefix, 9);

@@ -5,7 +5,7 @@ use Rattle.dm_load.proofs.image.Image.relocated.Goals as goal
 
 pub loop-index-init : goal.loop-index-init
 loop-index-init c =
-    c.copy_from_slice.ensures.after ∙ ap (take (length c.args.bytes.now)) c.bytes.ensures ∙ first-part (image c.args.self.now) (length c.args.bytes.now) c.requires
+    c.copy_from_slice.ensures.after ∙ ap (take (length c.args.bytes.now)) c.bytes.ensures.value ∙ first-part (image c.args.self.now) (length c.args.bytes.now) c.requires
 
 here : (c : goal.After-target-arg-1) → IsThere c.self.inside.file.now c.loop-index.index
 here c =

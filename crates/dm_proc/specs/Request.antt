@@ -1,0 +1,86 @@
+-- What function 4Bh reads of the registers and of guest memory: MS-DOS Programmer's Reference, function 4Bh "Load and
+-- Execute Program". Offsets wrap in their segment.
+use Rattle.std.specs.Prelude.{◌≡◌, ℕ, ◌+◌, ◌%◌, ◌<◌, ◌≤◌, ◌⊎◌, min, List, [], length, Option, Some, None, ◌==◌, if◌then◌else◌}
+use Rattle.dm_space.specs.Memory.{Memory, linear, peek, peek16}
+use Rattle.dm_space.specs.EightBytes.{byte_after}
+use Rattle.dm_load.specs.declared.format.FarPointer.{FarPointer}
+use Rattle.dm_load.specs.Image.{IsGood}
+use Rattle.dm_exec.specs.declared.cpu.Cpu.{Cpu}
+use Rattle.dm_proc.specs.declared.refusal.Refusal.{Refusal}
+use Rattle.dm_proc.specs.declared.refusal.Refusal.TheVariants.{NotFound, BadFormat}
+use Rattle.dm_proc.specs.Programs.{program_of}
+use Rattle.dm_proc.specs.Writes.{bytes_from}
+use Rattle.dm_proc.specs.declared.arguments.Arguments.{Arguments}
+
+-- AL, which says what the function is to do
+abbrev pub action : Cpu → ℕ
+action c = c.ax % 256
+
+-- the name at segment:offset: at most 64 bytes, up to the first zero
+pub record IsNameAt (m : Memory) (segment offset : ℕ) (name : List ℕ) : Type 0 where
+  pub short : length name ≤ 64
+  pub bytes : name ≡ bytes_from m segment offset (length name)
+  pub before : (k : ℕ) → k < length name → byte_after m segment offset k ≡ 0 → ⊥
+  pub closed : byte_after m segment offset (length name) ≡ 0
+
+-- none of 65 bytes is zero
+abbrev pub NoNameAt : Memory → ℕ → ℕ → Type 0
+NoNameAt m segment offset = (k : ℕ) → k < 65 → byte_after m segment offset k ≡ 0 → ⊥
+
+-- the name at DS:DX is that of a file of the store
+pub record Names (c : Cpu) (m : Memory) (store : List (List ℕ × List ℕ)) (name file : List ℕ) : Type 0 where
+  pub named : IsNameAt m c.ds c.dx name
+  pub found : program_of store name ≡ Some file
+
+-- and the file can be loaded
+abbrev pub NamesGood : Cpu → Memory → List (List ℕ × List ℕ) → List ℕ → List ℕ → Type 0
+NamesGood c m store name file = Names c m store name file × IsGood file
+
+-- no name, or none of the store; a file that can't be loaded
+abbrev pub NameRefused : Cpu → Memory → List (List ℕ × List ℕ) → Refusal → Type 0
+NameRefused c m store NotFound = NoNameAt m c.ds c.dx ⊎ ((name : List ℕ) × IsNameAt m c.ds c.dx name × (program_of store name ≡ None))
+NameRefused c m store BadFormat = (name : List ℕ) × (file : List ℕ) × Names c m store name file × (IsGood file → ⊥)
+NameRefused c m store _ = ⊥
+
+-- the far pointer that stands k bytes into the parameter block at ES:BX: its offset, then its segment
+abbrev pub pointer_at : Cpu → Memory → ℕ → FarPointer
+pointer_at c m k = record {
+  segment = peek16 m c.es ((c.bx + (k + 2)) % 65536);
+  offset = peek16 m c.es ((c.bx + k) % 65536);
+}
+
+-- what a program is started with: its command tail, and the first 16 bytes of its two file control blocks
+pub record Passed : Type 0 where
+  pub tail : List ℕ
+  pub first : List ℕ
+  pub second : List ℕ
+
+abbrev pub passed_of : Arguments → Passed
+passed_of a = record { tail = a.tail.items; first = a.first; second = a.second }
+
+-- a tail's first byte says how many follow; over 126 counts as 126
+unfoldable pub tail_at : Memory → FarPointer → List ℕ
+tail_at m p = bytes_from m p.segment ((p.offset + 1) % 65536) (min (peek m (linear m.a20 p.segment p.offset)) 126)
+
+unfoldable pub block_at : Memory → FarPointer → List ℕ
+block_at m p = bytes_from m p.segment p.offset 16
+
+-- the parameter block's far pointers lead to the tail and to both file control blocks
+abbrev pub passed : Cpu → Memory → Passed
+passed c m = record {
+  tail = tail_at m (pointer_at c m 2);
+  first = block_at m (pointer_at c m 6);
+  second = block_at m (pointer_at c m 10);
+}
+
+-- the parameter block's first word is the segment of the environment to be copied; 0 stands for the present process's
+-- own, whose segment is in its prefix at 2Ch
+abbrev pub environment_segment : Memory → ℕ → Cpu → ℕ
+environment_segment m present c = if peek16 m c.es c.bx == 0 then peek16 m present 0x2C else peek16 m c.es c.bx
+
+-- where an overlay goes, and the segment that its relocations add
+abbrev pub load_segment : Cpu → Memory → ℕ
+load_segment c m = peek16 m c.es c.bx
+
+abbrev pub relocation_factor : Cpu → Memory → ℕ
+relocation_factor c m = peek16 m c.es ((c.bx + 2) % 65536)

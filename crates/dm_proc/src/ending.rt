@@ -1,0 +1,78 @@
+//! How a program ends (MS-DOS Programmer's Reference, functions 4Ch and 31h).
+ghost use Rattle.std.specs.Prelude.{◌≡◌, ◌+◌};
+ghost use Rattle.dm_proc.specs.Processes.{Ends, Keeps, Terminates};
+
+use crate::block::write_from;
+use crate::parent::Ending;
+use crate::procs::Procs;
+use crate::psp::push_guest;
+use crate::refusal::ArenaDestroyed;
+use arrayvec::ArrayVec;
+use dm_arena::{Refusal, free_all, resize};
+use dm_exec::Cpu;
+use dm_space::Space;
+
+/// Puts the vectors 22h to 24h back that a process's prefix keeps.
+fn vectors_back(space: &mut Space, segment: u16)
+    ensures { space.new.memory ≡ Rattle.dm_proc.specs.Processes.vectors_back space.old.memory segment }
+{
+    let mut vectors: ArrayVec<u8, 12> = ArrayVec::new();
+    push_guest(&mut vectors, space, segment, 0x0A, 12);
+    write_from(space, 0, 0x88, vectors.as_slice());
+}
+
+impl Procs {
+    /// Ends the present process, whose blocks are freed or kept already: the vectors 22h to 24h come
+    /// back, then the parent's registers.
+    fn end(&mut self, cpu: &mut Cpu, space: &mut Space, word: u16) -> Ending
+        ensures { Ends self.old cpu.old space.old.memory word result self.new cpu.new space.new.memory }
+    {
+        vectors_back(space, self.psp());
+        self.finish(cpu, word)
+    }
+
+    /// Ends the present process with an exit code (function 4Ch): its blocks are freed, the vectors
+    /// 22h to 24h come back from its prefix, its parent goes on with the registers that it had.
+    /// Where it was the first program, the registers and the present process stay.
+    ///
+    /// # Errors
+    ///
+    /// `ArenaDestroyed` where memory spells no clear list of blocks. Then nothing has changed.
+    pub fn terminate(
+        &mut self,
+        cpu: &mut Cpu,
+        space: &mut Space,
+        code: u8,
+    ) -> Result<Ending, ArenaDestroyed>
+        ensures { Terminates self.old cpu.old space.old.memory code result self.new cpu.new space.new.memory }
+    {
+        if free_all(space, self.psp()).is_err() {
+            return Err(ArenaDestroyed);
+        }
+        Ok(self.end(cpu, space, code as u16))
+    }
+
+    /// Ends the present process and keeps it in memory (function 31h): its block is resized to so
+    /// many paragraphs, where it can be, and nothing is freed. The rest is as for `terminate`.
+    ///
+    /// # Errors
+    ///
+    /// `ArenaDestroyed` where memory spells no clear list of blocks, or none once the block is
+    /// resized. Then nothing has changed.
+    pub fn keep(
+        &mut self,
+        cpu: &mut Cpu,
+        space: &mut Space,
+        code: u8,
+        paragraphs: u16,
+    ) -> Result<Ending, ArenaDestroyed>
+        ensures { Keeps self.old cpu.old space.old.memory code paragraphs result self.new cpu.new space.new.memory }
+    {
+        match resize(space, self.psp(), paragraphs) {
+            Err(Refusal::Destroyed) => Err(ArenaDestroyed),
+            Ok(()) | Err(Refusal::Short { .. } | Refusal::NoBlock) => {
+                Ok(self.end(cpu, space, 0x300 + code as u16))
+            }
+        }
+    }
+}

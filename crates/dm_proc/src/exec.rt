@@ -1,0 +1,102 @@
+//! How a program is started (MS-DOS Programmer's Reference, function 4Bh "Load and Execute
+//! Program").
+ghost use Rattle.std.specs.Prelude.{◌≡◌, ◌≤◌, length};
+ghost use Rattle.dm_proc.specs.Request.{passed_of};
+ghost use Rattle.dm_proc.specs.Processes.{Executes, Loads};
+
+use crate::arguments::Arguments;
+use crate::environment::{make_environment, put_environment};
+use crate::launch::{plan, start};
+use crate::procs::Procs;
+use crate::programs::Programs;
+use crate::refusal::Refusal;
+use crate::request::{arguments_at, environment_segment, asked_program};
+use dm_arena::Strategy;
+use dm_exec::{Cpu, interrupt_return};
+use dm_load::Image;
+use dm_space::Space;
+
+/// The registers that a call leaves which succeeds: IP, CS and FLAGS popped, CF clear.
+#[tactic(auto, unfolding(crate::specs::Processes::returned))]
+fn returned(cpu: &Cpu, space: &Space) -> Cpu
+    ensures { result ≡ Rattle.dm_proc.specs.Processes.returned cpu.now space.now.memory }
+{
+    let mut cpu = *cpu;
+    interrupt_return(&mut cpu, space);
+    cpu.flags.carry = false;
+    cpu
+}
+
+impl Procs {
+    /// Starts the program that the registers and the parameter block ask for (function 4Bh, AL = 0):
+    /// the name at DS:DX, the parameter block at ES:BX. The present process waits, with the
+    /// registers as they are after the call with CF clear.
+    ///
+    /// All of guest memory that is read, the return address among it, is read before anything is
+    /// written; both blocks are planned before either is.
+    ///
+    /// # Errors
+    ///
+    /// The first of `Refusal`'s reasons that holds, in their order; but no room for the blocks comes
+    /// before a last list of blocks that is not clear, and that before too many processes. A refusal
+    /// changes neither memory nor registers nor processes.
+    pub fn exec(
+        &mut self,
+        cpu: &mut Cpu,
+        space: &mut Space,
+        programs: &Programs,
+        strategy: Strategy,
+    ) -> Result<(), Refusal>
+        ensures { Executes self.old cpu.old space.old.memory programs.now strategy result self.new cpu.new space.new.memory }
+    {
+        if cpu.ax % 256 != 0 {
+            return Err(Refusal::Function);
+        }
+        let program = asked_program(cpu, space, programs)?;
+        let segment = environment_segment(cpu, space, self.psp());
+        let Some(environment) = make_environment(space, segment, program.name.as_slice()) else {
+            return Err(Refusal::Environment);
+        };
+        let pair = plan(space, strategy, &program.image, environment)?;
+        if self.is_full() {
+            return Err(Refusal::Short);
+        }
+        let arguments = arguments_at(cpu, space);
+        let after = returned(cpu, space);
+        let parent = self.psp();
+        let started = start(space, &program.image, pair, environment, parent, &arguments);
+        self.begin(started.segment, after);
+        *cpu = started.cpu;
+        Ok(())
+    }
+
+    /// Starts the first program with these variables, each closed by a zero; the registers that it
+    /// starts with. No process waits for it.
+    ///
+    /// The variables have at most 32,767 bytes, the name 64.
+    ///
+    /// # Errors
+    ///
+    /// `Destroyed` where memory spells no clear list of blocks or the last list would not be clear,
+    /// `Short` where there is no room for both blocks. A refusal changes neither memory nor
+    /// processes.
+    pub fn load(
+        &mut self,
+        space: &mut Space,
+        strategy: Strategy,
+        image: &Image,
+        variables: &[u8],
+        name: &[u8],
+        arguments: &Arguments,
+    ) -> Result<Cpu, Refusal>
+        requires variables { length variables.now ≤ 0x7FFF }
+        requires name { length name.now ≤ 64 }
+        ensures { Loads self.old space.old.memory strategy image.now variables.now name.now (passed_of arguments.now) result self.new space.new.memory }
+    {
+        let environment = put_environment(space, variables, name);
+        let pair = plan(space, strategy, image, environment)?;
+        let started = start(space, image, pair, environment, 0, arguments);
+        self.set_first(started.segment);
+        Ok(started.cpu)
+    }
+}

@@ -1,0 +1,30 @@
+//! Overlays: images that a program loads into memory of its own (MS-DOS Programmer's Reference,
+//! function 4Bh, "Load Overlay").
+ghost use Rattle.dm_proc.specs.Processes.{Overlays};
+
+use crate::launch::write_image;
+use crate::programs::Programs;
+use crate::refusal::Refusal;
+use crate::request::asked_program;
+use dm_exec::Cpu;
+use dm_space::Space;
+
+/// Loads an overlay (function 4Bh, AL = 3): the image of the program named at DS:DX is written from
+/// a segment upwards, which wraps, relocated by a factor; both words stand at ES:BX. No block is
+/// taken and nothing else changes.
+///
+/// # Errors
+///
+/// `Function` where AL is not 3, else `NotFound`, else `BadFormat`. A refusal changes nothing.
+pub fn overlay(cpu: &Cpu, space: &mut Space, programs: &Programs) -> Result<(), Refusal>
+    ensures { Overlays cpu.now space.old.memory programs.now result space.new.memory }
+{
+    if cpu.ax % 256 != 3 {
+        return Err(Refusal::Function);
+    }
+    let program = asked_program(cpu, space, programs)?;
+    let segment = space.peek16(cpu.es, cpu.bx);
+    let factor = space.peek16(cpu.es, cpu.bx.wrapping_add(2));
+    write_image(space, &program.image, segment, factor);
+    Ok(())
+}

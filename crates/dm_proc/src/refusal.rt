@@ -1,0 +1,37 @@
+//! Why a program was not started, or a process not ended.
+ghost use Rattle.std.specs.Prelude.{◌≡◌, MatchResult};
+
+use thiserror::Error;
+
+/// Why function 4Bh started no program (MS-DOS Programmer's Reference, function 4Bh). A refused
+/// call has changed nothing.
+#[derive(Clone, Copy, Debug, PartialEq, Eq, Error)]
+pub enum Refusal {
+    /// AL asks for another function (DOS error 1, "Invalid function").
+    #[error("no such function")]
+    Function,
+    /// No name is closed by a zero within 65 bytes, or the store has no program of this name (DOS
+    /// error 2, "File not found").
+    #[error("not found")]
+    NotFound,
+    /// The file can't be loaded (DOS error 11, "Invalid format").
+    #[error("bad format")]
+    BadFormat,
+    /// The environment has no end within 32,768 bytes (DOS error 10, "Invalid environment").
+    #[error("environment too long")]
+    Environment,
+    /// Memory spells no clear list of blocks, or the last list would not be clear (DOS error 7,
+    /// "Memory control blocks destroyed").
+    #[error("arena destroyed")]
+    Destroyed,
+    /// No room for the program's blocks, or sixteen processes are alive (DOS error 8, "Not enough
+    /// memory").
+    #[error("not enough memory")]
+    Short,
+}
+
+/// Memory spells no clear list of blocks; nothing has changed (DOS error 7, "Memory control blocks
+/// destroyed").
+#[derive(Clone, Copy, Debug, PartialEq, Eq, Error)]
+#[error("arena destroyed")]
+pub struct ArenaDestroyed;
