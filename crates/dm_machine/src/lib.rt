@@ -1,7 +1,9 @@
 //! The machine: its state, its steps and its runs.
 #![tactic(auto)]
 
+mod allocation;
 mod config;
+mod functions;
 mod laws;
 mod loading;
 mod machine;
