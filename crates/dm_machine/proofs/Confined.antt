@@ -1,9 +1,9 @@
 -- A run neither depends on what no program sees, nor changes it
-use Rattle.std.proofs.Common.{◌≡◌, ℕ, suc, zero, ◌%◌, ◌==◌, Bool, true, false, cond, List, ◌∷◌, Option, Some, None, refl, sym, ◌∙◌, ap, subst}
+use Rattle.std.proofs.Common.{◌≡◌, ℕ, suc, zero, ◌%◌, ◌<◌, Bool, true, false, cond, List, ◌∷◌, length, Option, Some, None, Result, Ok, Err, refl, sym, ◌∙◌, ap, subst}
 use Rattle.dm_space.specs.Memory.{Memory, peek, linear}
 use Rattle.dm_space.specs.Unseen.{unseen_as, IsUnseen}
 use Rattle.dm_ins.specs.declared.ins.Ins.{Ins}
-use Rattle.dm_ins.specs.declared.operand.ByteRegister.TheVariants.{Al, Ah}
+use Rattle.dm_ins.specs.declared.operand.ByteRegister.TheVariants.{Ah}
 use Rattle.dm_exec.specs.declared.cpu.Cpu.{Cpu}
 use Rattle.dm_exec.specs.declared.effect.Next.{Next}
 use Rattle.dm_exec.specs.declared.effect.Next.TheVariants.{Go, Halt}
@@ -19,9 +19,17 @@ use Rattle.dm_machine.specs.declared.stop.Stop.{Stop}
 use Rattle.dm_machine.specs.declared.stop.Stop.TheVariants.{Memory as NoMemory}
 use Rattle.dm_machine.specs.declared.services.Service.{Service}
 use Rattle.dm_machine.specs.declared.services.Service.TheVariants.{DivideError, Terminate, Dos}
+use Rattle.dm_machine.specs.declared.functions.Function.{Function}
+use Rattle.dm_machine.specs.declared.functions.Function.TheVariants.{WriteText, Allocate, Free, Resize, AllocationStrategy, Exit, Unknown}
+use Rattle.dm_arena.specs.declared.fit.Strategy.{Strategy}
+use Rattle.dm_arena.specs.declared.refusal.Refusal.{Refusal}
+use Rattle.dm_arena.proofs.Unseen.{allocation-unseen, freeing-unseen, resizing-unseen}
 use Rattle.dm_machine.specs.State.{State, Answer}
-use Rattle.dm_machine.specs.Text.{text_within}
-use Rattle.dm_machine.specs.Services.{service_at, ended, print, no_function, dos_call, served, MayWant}
+use Rattle.dm_machine.specs.Text.{text_within, print}
+use Rattle.dm_machine.specs.Allocation.{answered, allocated, settled, strategy_of, strategy_set, strategy_call}
+use Rattle.dm_machine.specs.Functions.{function_of, no_function, Calls}
+use Rattle.dm_machine.specs.Services.{service_at, Serves}
+use Rattle.dm_machine.specs.Wanting.{output_of, MayWant}
 use Rattle.dm_machine.specs.Step.{Steps, Runs, Acts, Instructs, listed, unlisted, Begins, fetched, after, instructed}
 use Rattle.dm_machine.specs.Run.{Answers, here, further, StopsWithin, over, whole, cut}
 use Rattle.dm_machine.specs.Laws.{with_change, UnseenBytesChangeNoStep, UnseenBytesChangeNoRun, UnseenPagesChangeNoRun}
@@ -58,19 +66,60 @@ no_function-unseen : (f : Memory → Memory) (u : IsUnseen f) (s : State) → no
 unfolding no_function
 no_function-unseen f u s = simp (return-parts f u)
 
+-- the answers of the calls that allocate
+answered-unseen : (f : Memory → Memory) (u : IsUnseen f) (s : State) (c : Cpu) (m : Memory) (b : Bool) → answered (with_change f s) c (f m) b ≡ answer_with f (answered s c m b)
+answered-unseen f u s c m b = simp (return-parts f u)
+
+allocated-unseen : (f : Memory → Memory) (u : IsUnseen f) (s : State) (r : Result ℕ Refusal) (m : Memory) → allocated (with_change f s) r (f m) ≡ answer_with f (allocated s r m)
+allocated-unseen f u s (Ok segment) m = answered-unseen f u s _ m false
+allocated-unseen f u s (Err e) m = answered-unseen f u s _ m true
+
+settled-unseen : (f : Memory → Memory) (u : IsUnseen f) (s : State) (r : Result (Unit {0}) Refusal) (m : Memory) → settled (with_change f s) r (f m) ≡ answer_with f (settled s r m)
+settled-unseen f u s (Ok x) m = answered-unseen f u s _ m false
+settled-unseen f u s (Err e) m = answered-unseen f u s _ m true
+
+strategy_set-unseen : (f : Memory → Memory) (u : IsUnseen f) (s : State) (o : Option Strategy) → strategy_set (with_change f s) o ≡ answer_with f (strategy_set s o)
+strategy_set-unseen f u s None = answered-unseen f u s _ s.memory true
+strategy_set-unseen f u s (Some strategy) = answered-unseen f u (record s { strategy = strategy }) s.cpu s.memory false
+
 choice-unseen : (f : Memory → Memory) (b : Bool) (x y v w : Answer) → v ≡ answer_with f x → w ≡ answer_with f y → cond b v w ≡ answer_with f (cond b x y)
 choice-unseen f true x y v w e h = e
 choice-unseen f false x y v w e h = h
 
-dos_call-unseen : (f : Memory → Memory) (u : IsUnseen f) (s : State) → dos_call (with_change f s) ≡ answer_with f (dos_call s)
-unfolding dos_call
-dos_call-unseen f u s =
-    choice-unseen f _ _ _ _ _ (print-unseen f u s) (choice-unseen f (byte_of s.cpu Ah == 0x4C) (ended s (byte_of s.cpu Al)) (no_function s) _ _ refl (no_function-unseen f u s))
+strategy-unseen : (f : Memory → Memory) (u : IsUnseen f) (s : State) → strategy_call (with_change f s) ≡ answer_with f (strategy_call s)
+unfolding strategy_call
+strategy-unseen f u s =
+    choice-unseen f _ _ _ _ _ (answered-unseen f u s _ s.memory false)
+    (choice-unseen f _ _ _ _ _ (strategy_set-unseen f u s (strategy_of s.cpu.bx)) (answered-unseen f u s _ s.memory true))
 
-served-unseen : (f : Memory → Memory) (u : IsUnseen f) (s : State) (service : Service) → served (with_change f s) service ≡ answer_with f (served s service)
-served-unseen f u s DivideError = refl
-served-unseen f u s Terminate = refl
-served-unseen f u s Dos = dos_call-unseen f u s
+calls-unseen : (f : Memory → Memory) (u : IsUnseen f) (s : State) (g : Function) (x : Answer) → Calls s g x → Calls (with_change f s) g (answer_with f x)
+calls-unseen f u s WriteText x e = ap (answer_with f) e ∙ sym (print-unseen f u s)
+calls-unseen f u s Allocate x a = record {
+  result = a.result;
+  memory = f a.memory;
+  allocates = allocation-unseen f u s.memory a.memory s.strategy s.cpu.bx s.processes.present a.result a.allocates;
+  answer = ap (answer_with f) a.answer ∙ sym (allocated-unseen f u s a.result a.memory);
+}
+calls-unseen f u s Free x a = record {
+  result = a.result;
+  memory = f a.memory;
+  frees = freeing-unseen f u s.memory a.memory s.cpu.es a.result a.frees;
+  answer = ap (answer_with f) a.answer ∙ sym (settled-unseen f u s a.result a.memory);
+}
+calls-unseen f u s Resize x a = record {
+  result = a.result;
+  memory = f a.memory;
+  resizes = resizing-unseen f u s.memory a.memory s.cpu.es s.cpu.bx a.result a.resizes;
+  answer = ap (answer_with f) a.answer ∙ sym (settled-unseen f u s a.result a.memory);
+}
+calls-unseen f u s AllocationStrategy x e = ap (answer_with f) e ∙ sym (strategy-unseen f u s)
+calls-unseen f u s Exit x e = ap (answer_with f) e
+calls-unseen f u s Unknown x e = ap (answer_with f) e ∙ sym (no_function-unseen f u s)
+
+serves-unseen : (f : Memory → Memory) (u : IsUnseen f) (s : State) (service : Service) (x : Answer) → Serves s service x → Serves (with_change f s) service (answer_with f x)
+serves-unseen f u s DivideError x e = ap (answer_with f) e
+serves-unseen f u s Terminate x e = ap (answer_with f) e
+serves-unseen f u s Dos x h = calls-unseen f u s (function_of (byte_of s.cpu Ah)) x h
 
 after-unseen : (f : Memory → Memory) (s : State) (n : Next) (g : Guest) → after (with_change f s) n (changed f g) ≡ answer_with f (after s n g)
 after-unseen f s Go g = refl
@@ -88,7 +137,7 @@ instructs-unseen f u s x (unlisted h e) =
     unlisted (λ i k b. h i k (subst (λ xs. Begins xs i k) (fetched-unseen f u s.memory s.cpu) b)) (ap (answer_with f) e)
 
 acts-unseen : (f : Memory → Memory) (u : IsUnseen f) (s : State) (o : Option Service) (x : Answer) → Acts s o x → Acts (with_change f s) o (answer_with f x)
-acts-unseen f u s (Some service) x e = ap (answer_with f) e ∙ sym (served-unseen f u s service)
+acts-unseen f u s (Some service) x h = serves-unseen f u s service x h
 acts-unseen f u s None x h = instructs-unseen f u s x h
 
 runs-unseen : (f : Memory → Memory) (u : IsUnseen f) (s : State) (o : Option ℕ) (x : Answer) → Runs s o x → Runs (with_change f s) o (answer_with f x)
@@ -99,9 +148,13 @@ steps-unseen : (f : Memory → Memory) (u : IsUnseen f) (s : State) (x : Answer)
 unfolding Steps
 steps-unseen f u s x h = runs-unseen f u s s.exited x h
 
+output-unseen : (f : Memory → Memory) (u : IsUnseen f) (s : State) (g : Function) → output_of (with_change f s) g ≡ output_of s g
+output-unseen f u s WriteText = ap length (text-unseen f u s.memory s.cpu.ds s.cpu.dx 65536)
+output-unseen f u s _ = refl
+
 wants-unseen : (f : Memory → Memory) (u : IsUnseen f) (s : State) → MayWant s → MayWant (with_change f s)
 unfolding MayWant
-wants-unseen f u s h = (h.0, h.1, h.2, rw (text-unseen f u s.memory s.cpu.ds s.cpu.dx 65536) h.3)
+wants-unseen f u s h = (h.0, h.1, subst (λ n. s.console.room < n) (sym (output-unseen f u s (function_of (byte_of s.cpu Ah)))) h.2)
 
 answers-unseen : (f : Memory → Memory) (u : IsUnseen f) (s : State) (stop : Option Stop) (t : State) → Answers s stop t → Answers (with_change f s) stop (with_change f t)
 answers-unseen f u s (Some NoMemory) t h = (wants-unseen f u s h.0, ap (with_change f) h.1)

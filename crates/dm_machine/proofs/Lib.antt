@@ -3,3 +3,4 @@ mod StepLaws
 mod OneRun
 mod Memos
 mod Confined
+mod Calls

@@ -1,6 +1,9 @@
-pub mod Text
 pub mod State
+pub mod Text
+pub mod Allocation
+pub mod Functions
 pub mod Services
+pub mod Wanting
 pub mod Step
 pub mod Run
 pub mod Start

@@ -5,8 +5,10 @@ use Rattle.dm_exec.specs.declared.cpu.Cpu.{Cpu}
 use Rattle.dm_exec.specs.Guest.{Guest, guest}
 use Rattle.dm_exec.specs.Stack.{interrupt_return}
 use Rattle.dm_console.specs.Streams.{Streams}
+use Rattle.dm_arena.specs.declared.fit.Strategy.{Strategy}
 use Rattle.dm_proc.specs.Processes.{Processes}
 use Rattle.dm_machine.specs.declared.stop.Stop.{Stop}
+use Rattle.dm_machine.specs.declared.stop.Stop.TheVariants.{Exited}
 use Rattle.dm_machine.specs.declared.config.Sizes.{Sizes}
 
 pub record State : Type 0 where
@@ -14,6 +16,8 @@ pub record State : Type 0 where
   pub memory : Memory
   pub console : Streams
   pub processes : Processes
+  -- which free block an allocation takes
+  pub strategy : Strategy
   -- the code with which the first program ended
   pub exited : Option ℕ
   -- how many steps were made; at 2^64 - 1 the count stays
@@ -49,3 +53,7 @@ returned s = with_guest s (interrupt_return (guest s.cpu s.memory))
 
 abbrev pub with_carry : State → Bool → State
 with_carry s b = record s { cpu = record s.cpu { flags = record s.cpu.flags { carry = b } } }
+
+-- the first program ends: a step that tells the code
+abbrev pub ended : State → ℕ → Answer
+ended s code = record { stop = Some (Exited code); state = (go (record s { exited = Some code })).state }

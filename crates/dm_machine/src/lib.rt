@@ -1,7 +1,9 @@
 //! The machine: its state, its steps and its runs.
 #![tactic(auto)]
 
+mod allocation;
 mod config;
+mod functions;
 mod laws;
 mod loading;
 mod machine;
@@ -21,6 +23,8 @@ pub use loading::LoadError;
 pub use machine::{Machine, NewError};
 pub use stop::Stop;
 
+#[cfg(test)]
+mod allocation_tests;
 #[cfg(test)]
 mod programs;
 #[cfg(test)]
