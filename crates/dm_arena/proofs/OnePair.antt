@@ -116,7 +116,8 @@ module _ (S : Memory) (start : ℕ) (st : Strategy) (n least most : ℕ) where
       let size = u.size in
       λ i. record { environment = first i; program = program i; size = size i }
 
-  pair_refused : (x : Planned) → IsPair S start st n least most x → (e : Refusal) → PairRefused S start st n least most e → ⊥
+  -- what can be planned is not refused
+  pub pair_refused : (x : Planned) → IsPair S start st n least most x → (e : Refusal) → PairRefused S start st n least most e → ⊥
   pair_refused x p Destroyed (inl none) = none p.pairing.first.list p.pairing.first.arena
   pair_refused x p Destroyed (inr r) = (let F : List Header → Type 0 = λ X. IsClear S X in r.3 (subst F (paired-same _ _ _ _ p.pairing r.2) p.clear))
   pair_refused x p (Short room) r = r.3 _ _ p.pairing

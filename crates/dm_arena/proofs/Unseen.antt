@@ -10,7 +10,7 @@ use Rattle.dm_arena.specs.declared.fit.Strategy.{Strategy}
 use Rattle.dm_arena.specs.Chain.{first_header, word, IsHeader, Spells, IsChain, IsClear, IsArena, NoArena, Becomes, next}
 use Rattle.dm_arena.specs.Allocation.{Taking, changed, Allocates, AllocateRefused}
 use Rattle.dm_arena.specs.Owned.{BlockAt, Frees, FreeRefused, BlockRunAt, resized, Resizes, ResizeRefused, Releases}
-use Rattle.dm_arena.specs.Pair.{Pairing, paired, Placed, Pairs, PairRefused}
+use Rattle.dm_arena.specs.Pair.{Pairing, Planned, IsPair, paired, Placed, Pairs, PairRefused}
 use Rattle.dm_arena.specs.Laws.{IgnoresUnseen}
 
 -- two memories show the same bytes at the same places
@@ -159,6 +159,15 @@ module _ (f : Memory → Memory) (u : IsUnseen f) where
   pair_refused-unseen S start st environment least most (Short room) r =
       (r.0, arena-same S (f S) (there S) start r.0 r.1, r.2, λ owner size p. r.3 owner size (pairing-same (f S) S (back S) p))
   pair_refused-unseen S start st environment least most NoBlock r = r
+
+  pub pair-unseen : (S : Memory) (start : ℕ) (st : Strategy) (environment least most : ℕ) (pair : Planned) → IsPair S start st environment least most pair → IsPair (f S) start st environment least most pair
+  pair-unseen S start st environment least most pair p = record {
+    pairing = pairing-same S (f S) (there S) p.pairing;
+    environment_is = p.environment_is;
+    first_is = p.first_is;
+    second_is = p.second_is;
+    clear = clear-same S (f S) (there S) _ p.clear;
+  }
 
   pub pairing-unseen : (S T : Memory) (st : Strategy) (environment least most : ℕ) (r : Result Placed Refusal) → Pairs S st environment least most r T → Pairs (f S) st environment least most r (f T)
   pairing-unseen S T st environment least most (Ok placed) a = (

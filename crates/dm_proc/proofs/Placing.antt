@@ -10,7 +10,7 @@ use Rattle.dm_proc.specs.Environment.{AreVariables, IsMade, environment}
 use Rattle.dm_exec.specs.declared.cpu.Cpu.{Cpu}
 use Rattle.dm_proc.specs.Room.{paragraphs, least, most}
 use Rattle.dm_proc.specs.declared.refusal.Refusal.{Refusal}
-use Rattle.dm_proc.specs.Placed.{Placed, placed_as}
+use Rattle.dm_arena.specs.Pair.{Placed, placed_of}
 use Rattle.dm_proc.specs.Processes.{Processes, IsPlanned, IsWritten, PlanRefused, Starts, Asks, environment_of, ExecRefused}
 use Rattle.dm_proc.specs.declared.refusal.Refusal.TheVariants.{Function, NotFound, BadFormat, Environment, Destroyed, Short}
 
@@ -23,7 +23,7 @@ planned_on m strategy count file pair p = record { strategy = strategy; environm
 
 module _ (m : Memory) (strategy : Strategy) (environment file : List ℕ) (parent : ℕ) (a : Passed) (pair : Planned) (n : Memory) where
   abbrev Makes : ℕ → Type 0
-  Makes count = (p : IsPlan m strategy count file pair) → IsWritten m pair (planned_on m strategy count file pair p) environment file parent a n → Starts m strategy environment file parent a (placed_as pair) n
+  Makes count = (p : IsPlan m strategy count file pair) → IsWritten m pair (planned_on m strategy count file pair p) environment file parent a n → Starts m strategy environment file parent a (placed_of pair) n
 
   exact : Makes (length environment)
   exact p w = record { middle = w.middle; plans = (pair, p, refl, w.becomes); memory = w.memory }

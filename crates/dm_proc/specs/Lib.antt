@@ -3,7 +3,6 @@ pub mod Writes
 pub mod Request
 pub mod Environment
 pub mod Room
-pub mod Placed
 pub mod Blocks
 pub mod Start
 pub mod Processes

@@ -22,7 +22,7 @@ use Rattle.dm_proc.specs.Writes.{apply, upwards, block, bytes_from}
 use Rattle.dm_proc.specs.Request.{action, NamesGood, NameRefused, Passed, passed, environment_segment, load_segment, relocation_factor}
 use Rattle.dm_proc.specs.Environment.{AreVariables, NoVariables, environment}
 use Rattle.dm_proc.specs.Room.{paragraphs, least, most}
-use Rattle.dm_proc.specs.Placed.{Placed, placed_as, Pairs}
+use Rattle.dm_arena.specs.Pair.{Placed, placed_of, Pairs}
 use Rattle.dm_proc.specs.Start.{start_writes, start_registers, prefix}
 
 -- the present process's segment, 0 while no program is loaded; the processes that wait for a child, the innermost last;
@@ -56,7 +56,7 @@ PlanRefused m strategy count file _ = ⊥
 pub record IsWritten (m : Memory) (pair : Planned) (p : IsPlannedOn m pair) (environment file : List ℕ) (parent : ℕ) (a : Passed) (n : Memory) : Type 0 where
   pub middle : Memory
   pub becomes : Becomes m first_header (paired p.planned.pairing) middle
-  pub memory : n ≡ apply (start_writes middle.a20 (placed_as pair) environment (prefix m (placed_as pair) parent a) file) middle
+  pub memory : n ≡ apply (start_writes middle.a20 (placed_of pair) environment (prefix m (placed_of pair) parent a) file) middle
 
 -- a program is placed and written: all that is written behind the headers was read before
 pub record Starts (m : Memory) (strategy : Strategy) (environment file : List ℕ) (parent : ℕ) (a : Passed) (placed : Placed) (n : Memory) : Type 0 where

@@ -6,7 +6,7 @@ use Rattle.dm_load.specs.declared.format.FarPointer.{FarPointer}
 use Rattle.dm_exec.specs.declared.cpu.Cpu.{Cpu}
 use Rattle.dm_alu.specs.declared.flags.Flags.{Flags}
 use Rattle.dm_load.specs.Image.{is_mz, relocated, code, stack}
-use Rattle.dm_proc.specs.Placed.{Placed}
+use Rattle.dm_arena.specs.Pair.{Placed}
 use Rattle.dm_proc.specs.Request.{Passed}
 use Rattle.dm_proc.specs.Writes.{Write, block, bytes_from}
 

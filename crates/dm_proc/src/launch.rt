@@ -7,8 +7,8 @@ ghost use Rattle.dm_arena.specs.Pair.{IsPair, IsPlannedOn};
 ghost use Rattle.dm_proc.specs.Writes.{apply, block};
 ghost use Rattle.dm_proc.specs.Room.{paragraphs};
 ghost use Rattle.dm_proc.specs.Room;
-ghost use Rattle.dm_proc.specs.Placed.{placed_as};
-ghost use Rattle.dm_proc.specs.Blocks.{placed_of};
+ghost use Rattle.dm_arena.specs.Pair.{placed_of};
+ghost use Rattle.dm_proc.specs.Blocks.{as_placed};
 ghost use Rattle.dm_proc.specs.Request.{passed_of};
 ghost use Rattle.dm_proc.specs.Start.{start_writes, zero_word, stack_writes};
 ghost use Rattle.dm_proc.specs.Processes.{PlanRefused, IsWritten};
@@ -58,7 +58,7 @@ fn write_zero_word(space: &mut Space, segment: u16, offset: u16)
 /// Where a COM program's stack begins: at its block's end, or at its segment's.
 fn com_stack(blocks: Blocks) -> u16
     requires { 0x11 ≤ blocks.size }
-    ensures { result ≡ Rattle.dm_proc.specs.Start.com_stack (placed_of blocks) }
+    ensures { result ≡ Rattle.dm_proc.specs.Start.com_stack (as_placed blocks) }
 {
     (16 * blocks.size as u32 - 2).min(0xFFFE) as u16
 }
@@ -92,7 +92,7 @@ fn registers(segment: u16, code: FarPointer, stack: FarPointer) -> Cpu
 /// Writes the zero word that a COM program's stack begins with.
 fn write_stack(space: &mut Space, image: &Image, blocks: Blocks)
     requires { Room.least image.now ≤ blocks.size }
-    ensures { space.new.memory ≡ apply (stack_writes space.old.memory.a20 (placed_of blocks) image.now) space.old.memory }
+    ensures { space.new.memory ≡ apply (stack_writes space.old.memory.a20 (as_placed blocks) image.now) space.old.memory }
 {
     match image.kind() {
         Kind::Com => write_zero_word(space, blocks.program, com_stack(blocks)),
@@ -112,7 +112,7 @@ fn write_start(
     requires size { Room.least image.now ≤ blocks.size }
     requires environment { environment ≤ 0x200000 }
     requires prefix { length prefix.now ≤ 0x200000 }
-    ensures { space.new.memory ≡ apply (start_writes space.old.memory.a20 (placed_of blocks) (take environment space.old.scratch) prefix.now image.now) space.old.memory }
+    ensures { space.new.memory ≡ apply (start_writes space.old.memory.a20 (as_placed blocks) (take environment space.old.scratch) prefix.now image.now) space.old.memory }
 {
     write_scratch(space, blocks.environment, environment);
     write_bytes(space, blocks.program, prefix);
@@ -134,7 +134,7 @@ fn moved(pointer: FarPointer, by: u16) -> FarPointer
 /// The registers of a new process.
 fn start_registers(image: &Image, blocks: Blocks) -> Cpu
     requires { Room.least image.now ≤ blocks.size }
-    ensures { result ≡ Rattle.dm_proc.specs.Start.start_registers (placed_of blocks) image.now }
+    ensures { result ≡ Rattle.dm_proc.specs.Start.start_registers (as_placed blocks) image.now }
 {
     let segment = blocks.program;
     match image.kind() {
@@ -200,7 +200,7 @@ pub(crate) fn start(
     requires size { Room.least image.now ≤ pair.size }
     requires environment { environment ≤ 0x200000 }
     ensures segment { result.segment ≡ pair.program }
-    ensures registers { result.cpu ≡ Rattle.dm_proc.specs.Start.start_registers (placed_as pair) image.now }
+    ensures registers { result.cpu ≡ Rattle.dm_proc.specs.Start.start_registers (placed_of pair) image.now }
     ensures written { (p : IsPlannedOn space.old.memory pair) → IsWritten space.old.memory pair p (take environment space.old.scratch) image.now parent (passed_of arguments.now) space.new.memory }
 {
     let blocks = Blocks {

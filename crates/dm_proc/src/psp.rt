@@ -2,7 +2,7 @@
 ghost use Rattle.std.specs.Prelude.{◌≡◌, ◌+◌, ◌≤◌, ◌++◌, length};
 ghost use Rattle.dm_proc.specs.Writes.{bytes_from};
 ghost use Rattle.dm_proc.specs.Start.{word_bytes, zeros, prefix};
-ghost use Rattle.dm_proc.specs.Blocks.{placed_of};
+ghost use Rattle.dm_proc.specs.Blocks.{as_placed};
 ghost use Rattle.dm_proc.specs.Request.{passed_of};
 
 use crate::arguments::Arguments;
@@ -67,7 +67,7 @@ pub(crate) fn push_guest<const N: usize>(
 /// The program segment prefix of a new process.
 #[tactic(auto, unfolding(crate::specs::Start::prefix))]
 pub(crate) fn make_prefix(space: &Space, blocks: Blocks, parent: u16, arguments: &Arguments) -> Prefix
-    ensures items { result.items ≡ prefix space.now.memory (placed_of blocks) parent (passed_of arguments.now) }
+    ensures items { result.items ≡ prefix space.now.memory (as_placed blocks) parent (passed_of arguments.now) }
     ensures count { length result.items ≡ 256 }
 {
     let tail = arguments.tail.as_slice();
