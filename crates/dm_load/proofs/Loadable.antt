@@ -1,7 +1,6 @@
 -- Files that can be loaded
 use Rattle.std.proofs.Common.{◌≡◌, ℕ, ◌≤◌, Bool, true, false, cond, List, length, refl}
 use Rattle.std.specs.Prelude.{slice_range}
-use Rattle.dm_load.specs.declared.format.Kind.{Kind}
 use Rattle.dm_load.specs.declared.format.Kind.TheVariants.{Com, Mz}
 use Rattle.dm_load.specs.Image.{is_mz, kind_of, IsGood, IsGoodAs, image, header_length, size}
 

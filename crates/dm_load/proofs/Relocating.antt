@@ -1,12 +1,10 @@
 -- Relocations within a part of the image
-use Rattle.std.proofs.Common.{◌≡◌, ℕ, zero, suc, ◌+◌, ◌-◌, ◌*◌, ◌/◌, ◌%◌, ◌<◌, ◌≤◌, Bool, true, false, cond, List, [], ◌∷◌, length, get_or, set, take, drop, min, refl, sym, ◌∙◌, ap, subst, rules, arith, add-one, ◌⊎◌, inl, inr}
-use Rattle.std.proofs.lemmas.Grind.{common_steps}
-use Rattle.std.proofs.lemmas.Bool.Decides.{nat_tests}
-use Rattle.std.proofs.lemmas.List.{length-set, length-take, length-take-le, length-drop, get_or-take, drop-set-lt, drop_all}
+use Rattle.std.proofs.Common.{◌≡◌, ℕ, zero, suc, ◌+◌, ◌-◌, ◌/◌, ◌%◌, ◌<◌, ◌≤◌, Bool, true, false, cond, List, [], ◌∷◌, length, set, take, drop, min, refl, sym, ◌∙◌, ap, arith, add-one, ◌⊎◌, inl, inr}
+use Rattle.std.proofs.lemmas.List.{length-set, length-take, length-drop, get_or-take, drop-set-lt, drop_all}
 use Rattle.std.proofs.Math.Seq.{take-set-lt}
 use Rattle.dm_load.specs.declared.format.Kind.{Kind}
 use Rattle.dm_load.specs.declared.format.Kind.TheVariants.{Com, Mz}
-use Rattle.dm_load.specs.Image.{word, with_word, is_mz, kind_of, IsGood, IsGoodAs, IsGoodMz, size, header_length, entry, target, image, relocations, relocated_by, relocated}
+use Rattle.dm_load.specs.Image.{word, with_word, is_mz, kind_of, IsGoodAs, IsGoodMz, size, header_length, entry, target, image, relocations, relocated_by}
 
 -- what a relocation of a good file needs
 pub record IsThere (file : List ℕ) (k : ℕ) : Type 0 where

@@ -1,6 +1,6 @@
 -- Program files: COM files, and MZ files with the words of their header (MS-DOS Programmer's Reference, "EXE File
 -- Header"). The list of bad files is this machine's own.
-use Rattle.std.specs.Prelude.{◌≡◌, ℕ, zero, suc, ◌+◌, ◌-◌, ◌*◌, ◌/◌, ◌%◌, ◌<◌, ◌≤◌, Bool, true, false, ◌==◌, ◌&&◌, ◌||◌, if◌then◌else◌, cond, List, [], length, slice_index, slice_range, slice_set}
+use Rattle.std.specs.Prelude.{ℕ, zero, suc, ◌+◌, ◌-◌, ◌*◌, ◌/◌, ◌%◌, ◌<◌, ◌≤◌, Bool, ◌==◌, ◌&&◌, ◌||◌, if◌then◌else◌, List, length, slice_index, slice_range, slice_set}
 use Rattle.dm_load.specs.declared.format.Kind.{Kind}
 use Rattle.dm_load.specs.declared.format.Kind.TheVariants.{Com, Mz}
 use Rattle.dm_load.specs.declared.format.FarPointer.{FarPointer}

@@ -70,8 +70,7 @@ pub(crate) fn target(file: &[u8], index: usize) -> usize
 /// No relocation has a word behind the first 110000h bytes.
 pub(crate) fn targets_reach(file: &[u8])
     ensures { (k : ℕ) → Rattle.dm_load.specs.Image.target file.now k + 2 ≤ 0x110000 }
-{
-}
+{}
 
 /// Whether the words of the first relocations lie wholly in an image of `room` bytes.
 fn targets_fit(file: &[u8], count: usize, room: usize) -> bool

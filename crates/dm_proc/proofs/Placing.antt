@@ -1,10 +1,10 @@
 -- What is planned is written
-use Rattle.std.proofs.Common.{◌≡◌, ℕ, ◌+◌, ◌≤◌, true, false, List, [], ◌∷◌, ◌++◌, length, take, inl, refl, sym, ◌∙◌, ap, subst, arith}
+use Rattle.std.proofs.Common.{◌≡◌, ℕ, ◌≤◌, false, List, [], ◌∷◌, ◌++◌, length, take, inl, refl, ◌∙◌, ap, subst, arith}
 use Rattle.dm_space.specs.Memory.{Memory}
 use Rattle.dm_arena.specs.declared.fit.Strategy.{Strategy}
 use Rattle.dm_arena.specs.Chain.{first_header}
 use Rattle.dm_arena.specs.Pair.{Planned, IsPair, IsPlannedOn}
-use Rattle.dm_load.specs.Image.{is_mz, image}
+use Rattle.dm_load.specs.Image.{is_mz}
 use Rattle.dm_proc.specs.Request.{action, NamesGood, Passed, environment_segment}
 use Rattle.dm_proc.specs.Environment.{AreVariables, IsMade, environment}
 use Rattle.dm_exec.specs.declared.cpu.Cpu.{Cpu}

@@ -1,5 +1,5 @@
 -- The environment of a process: MS-DOS Programmer's Reference, "Environment".
-use Rattle.std.specs.Prelude.{◌≡◌, ℕ, ◌+◌, ◌-◌, ◌<◌, ◌⊎◌, List, [], ◌∷◌, ◌++◌, length, take}
+use Rattle.std.specs.Prelude.{◌≡◌, ℕ, ◌-◌, ◌<◌, ◌⊎◌, List, [], ◌∷◌, ◌++◌, length, take}
 use Rattle.dm_space.specs.Memory.{Memory, linear, peek}
 use Rattle.dm_proc.specs.Writes.{bytes_from}
 

@@ -1,6 +1,6 @@
 -- The processes that are alive, and what starting and ending one does: MS-DOS Programmer's Reference, functions 4Bh, 4Ch,
 -- 31h and 4Dh.
-use Rattle.std.specs.Prelude.{◌≡◌, ◌≢◌, ℕ, ◌+◌, ◌<◌, ◌⊎◌, false, List, [], ◌∷◌, ◌++◌, length, Result, Ok, Err, Some}
+use Rattle.std.specs.Prelude.{◌≡◌, ◌≢◌, ℕ, ◌+◌, ◌<◌, ◌⊎◌, false, List, [], ◌∷◌, ◌++◌, length, Result, Ok, Err}
 use Rattle.dm_space.specs.Memory.{Memory}
 use Rattle.dm_arena.specs.declared.fit.Strategy.{Strategy}
 use Rattle.dm_arena.specs.declared.refusal.Refusal.TheVariants as arena

@@ -1,6 +1,6 @@
 -- What function 4Bh reads of the registers and of guest memory: MS-DOS Programmer's Reference, function 4Bh "Load and
 -- Execute Program". Offsets wrap in their segment.
-use Rattle.std.specs.Prelude.{◌≡◌, ℕ, ◌+◌, ◌%◌, ◌<◌, ◌≤◌, ◌⊎◌, min, List, [], length, Option, Some, None, ◌==◌, if◌then◌else◌}
+use Rattle.std.specs.Prelude.{◌≡◌, ℕ, ◌+◌, ◌%◌, ◌<◌, ◌≤◌, ◌⊎◌, min, List, length, Some, None, ◌==◌, if◌then◌else◌}
 use Rattle.dm_space.specs.Memory.{Memory, linear, peek, peek16}
 use Rattle.dm_space.specs.EightBytes.{byte_after}
 use Rattle.dm_load.specs.declared.format.FarPointer.{FarPointer}

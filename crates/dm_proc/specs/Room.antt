@@ -19,6 +19,6 @@ least file =
 unfoldable pub most : List ℕ → ℕ
 most file =
     if is_mz file then
-      (if minimum file == 0 && maximum file == 0 then 0xFFFF
-      else max (0x10 + paragraphs (length (image file)) + maximum file) (least file))
+    (if minimum file == 0 && maximum file == 0 then 0xFFFF
+    else max (0x10 + paragraphs (length (image file)) + maximum file) (least file))
     else 0xFFFF

@@ -1,6 +1,6 @@
 -- What the start of a process writes, and its registers: MS-DOS Programmer's Reference, "Program Segment Prefix"
 -- and function 4Bh "Load and Execute Program". Segments wrap at 65,536.
-use Rattle.std.specs.Prelude.{◌≡◌, ℕ, ◌+◌, ◌-◌, ◌*◌, ◌/◌, ◌%◌, min, Bool, true, false, if◌then◌else◌, cond, List, [], ◌∷◌, ◌++◌, length, replicate, take}
+use Rattle.std.specs.Prelude.{ℕ, ◌+◌, ◌-◌, ◌*◌, ◌/◌, ◌%◌, min, Bool, true, false, if◌then◌else◌, List, [], ◌∷◌, ◌++◌, length, replicate}
 use Rattle.dm_space.specs.Memory.{Memory, linear}
 use Rattle.dm_load.specs.declared.format.FarPointer.{FarPointer}
 use Rattle.dm_exec.specs.declared.cpu.Cpu.{Cpu}

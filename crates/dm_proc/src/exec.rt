@@ -10,7 +10,7 @@ use crate::launch::{plan, start};
 use crate::procs::Procs;
 use crate::programs::Programs;
 use crate::refusal::Refusal;
-use crate::request::{arguments_at, environment_segment, asked_program};
+use crate::request::{arguments_at, asked_program, environment_segment};
 use dm_arena::Strategy;
 use dm_exec::{Cpu, interrupt_return};
 use dm_load::Image;

@@ -102,13 +102,7 @@ fn write_stack(space: &mut Space, image: &Image, blocks: Blocks)
 
 /// Makes all writes of a start behind those of the headers, in this order: environment (which the
 /// scratch part begins with), prefix, image, a COM program's zero word.
-fn write_start(
-    space: &mut Space,
-    image: &Image,
-    blocks: Blocks,
-    environment: usize,
-    prefix: &[u8],
-)
+fn write_start(space: &mut Space, image: &Image, blocks: Blocks, environment: usize, prefix: &[u8])
     requires size { Room.least image.now ≤ blocks.size }
     requires environment { environment ≤ 0x200000 }
     requires prefix { length prefix.now ≤ 0x200000 }

@@ -66,7 +66,12 @@ pub(crate) fn push_guest<const N: usize>(
 
 /// The program segment prefix of a new process.
 #[tactic(auto, unfolding(crate::specs::Start::prefix))]
-pub(crate) fn make_prefix(space: &Space, blocks: Blocks, parent: u16, arguments: &Arguments) -> Prefix
+pub(crate) fn make_prefix(
+    space: &Space,
+    blocks: Blocks,
+    parent: u16,
+    arguments: &Arguments,
+) -> Prefix
     ensures items { result.items ≡ prefix space.now.memory (as_placed blocks) parent (passed_of arguments.now) }
     ensures count { length result.items ≡ 256 }
 {

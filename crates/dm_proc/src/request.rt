@@ -4,8 +4,8 @@ ghost use Rattle.std.specs.Prelude.{◌≡◌, ◌<◌, MatchOption, MatchResult
 ghost use Rattle.dm_proc.specs.Request.{NoNameAt, IsNameAt, NamesGood, NameRefused, passed, passed_of};
 
 use crate::arguments::Arguments;
-use crate::psp::push_guest;
 use crate::programs::Programs;
+use crate::psp::push_guest;
 use crate::refusal::Refusal;
 use arrayvec::ArrayVec;
 use dm_exec::Cpu;

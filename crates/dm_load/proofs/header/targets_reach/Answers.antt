@@ -1,5 +1,5 @@
-use Rattle.std.proofs.Common.{◌≡◌, ℕ, ◌+◌, ◌*◌, ◌<◌, ◌≤◌, List, get_or, arith}
-use Rattle.dm_load.specs.Image.{word, entry, target}
+use Rattle.std.proofs.Common.{◌+◌, ◌<◌, get_or, arith}
+use Rattle.dm_load.specs.Image.{entry}
 use Rattle.dm_load.proofs.header.targets_reach.Goals as goal
 
 pub returns : goal.returns

@@ -1,4 +1,4 @@
-use Rattle.std.proofs.Common.{◌≡◌, ℕ, List, [], ◌∷◌, ◌++◌, refl, sym, ◌∙◌, ap}
+use Rattle.std.proofs.Common.{◌≡◌, ℕ, List, ◌++◌, ◌∙◌, ap}
 use Rattle.dm_space.specs.Memory.{Memory, Held}
 use Rattle.dm_proc.specs.Writes.{apply, upwards, bytes_from}
 use Rattle.dm_proc.specs.Processes.{vectors_back}

@@ -1,4 +1,4 @@
-use Rattle.std.proofs.Common.{◌≡◌, ℕ, ◌+◌, ◌-◌, ◌<◌, Bool, true, false, get_or, length, take}
+use Rattle.std.proofs.Common.{◌≡◌, ℕ, ◌-◌, ◌<◌, true, false, take}
 use Rattle.dm_proc.specs.Environment.{byte_of, IsEnd}
 use Rattle.dm_proc.specs.Writes.{bytes_from}
 use Rattle.dm_proc.proofs.environment.read_environment.Given as goal

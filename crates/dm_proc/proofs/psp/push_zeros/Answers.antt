@@ -1,6 +1,6 @@
-use Rattle.std.proofs.Common.{◌≡◌, ℕ, ◌+◌, ◌<◌, ◌≤◌, List, [], ◌∷◌, ◌++◌, length, refl, sym, ◌∙◌, ap, arith, append_assoc}
+use Rattle.std.proofs.Common.{◌++◌, sym, ◌∙◌, ap, arith}
 use Rattle.std.proofs.lemmas.List.{append-nil}
-use Rattle.dm_proc.proofs.Bytes.{zeros-none, zeros-more, from-more, one-more}
+use Rattle.dm_proc.proofs.Bytes.{zeros-none, zeros-more, one-more}
 use Rattle.dm_proc.proofs.psp.push_zeros.Goals as goal
 
 pub loop-init : goal.loop-init

@@ -1,4 +1,4 @@
-use Rattle.std.proofs.Common.{◌≡◌, ℕ, ◌+◌, ◌<◌, ◌≤◌, List, [], ◌∷◌, ◌++◌, length, refl, sym, ◌∙◌, ap, arith, below_more}
+use Rattle.std.proofs.Common.{ℕ, [], ◌∷◌, ◌++◌, sym, ◌∙◌, ap, arith, below_more}
 use Rattle.dm_space.specs.EightBytes.{byte_after}
 use Rattle.dm_proc.specs.Writes.{bytes_from}
 use Rattle.dm_proc.proofs.Bytes.{from-more, one-more}

@@ -1,4 +1,4 @@
-use Rattle.std.proofs.Common.{◌≡◌, ℕ, ◌+◌, ◌%◌, List, ◌++◌, min, ◌∙◌, ap}
+use Rattle.std.proofs.Common.{ℕ, ◌+◌, ◌%◌, List, ◌++◌, min, ◌∙◌, ap}
 use Rattle.dm_proc.specs.Writes.{bytes_from}
 use Rattle.dm_proc.specs.Request.{tail_at}
 use Rattle.dm_proc.proofs.request.tail_at.Goals as goal

@@ -1,4 +1,4 @@
-use Rattle.std.proofs.Common.{◌≡◌, ℕ, ◌+◌, ◌*◌, ◌%◌, ◌<◌, ◌≤◌, List, length, take, min, refl, sym, ◌∙◌, ap, arith, subst}
+use Rattle.std.proofs.Common.{◌≡◌, ℕ, ◌+◌, ◌%◌, ◌≤◌, List, length, take, ◌∙◌, ap, arith, subst}
 use Rattle.dm_load.proofs.Relocating.{there, IsThere, length-part, first-part, one-more}
 use Rattle.dm_load.specs.Image.{word, with_word, target, image, relocations, relocated_by}
 use Rattle.dm_load.proofs.image.Image.relocated.Goals as goal

@@ -1,6 +1,6 @@
-use Rattle.std.proofs.Common.{◌≡◌, ℕ, ◌+◌, ◌-◌, ◌≤◌, List, length, drop, min, refl, sym, ◌∙◌, ap, subst, arith, length-drop}
+use Rattle.std.proofs.Common.{ℕ, ◌+◌, ◌-◌, ◌≤◌, length, drop, min, sym, ◌∙◌, ap, subst, arith, length-drop}
 use Rattle.std.proofs.lemmas.List.{take_all}
-use Rattle.dm_load.specs.Image.{target, image, relocated, relocations}
+use Rattle.dm_load.specs.Image.{target, image, relocations}
 use Rattle.dm_load.proofs.Relocating.{drop-relocated, drop-min}
 use Rattle.dm_load.proofs.image.Image.rest.Goals as goal
 

@@ -1,4 +1,4 @@
-use Rattle.std.proofs.Common.{◌≡◌, ◌∙◌, ◌+◌, ◌<◌, ℕ, List, Bool, true, false, Option, Some, arith, rules, ap, sym, refl, length, map, drop, find, option_map, get_or, ◌∷◌}
+use Rattle.std.proofs.Common.{◌≡◌, ◌∙◌, ◌+◌, ◌<◌, ℕ, List, true, false, Some, rules, sym, refl, length, map, drop, get_or}
 use Rattle.std.proofs.lemmas.List.{drop_more}
 use Rattle.std.specs.Str.{str_eq_ignore_ascii_case}
 use Rattle.dm_proc.specs.Programs.{program_of}

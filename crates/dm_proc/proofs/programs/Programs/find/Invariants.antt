@@ -1,4 +1,4 @@
-use Rattle.std.proofs.Common.{◌≡◌, ◌≤◌, drop, length, map}
+use Rattle.std.proofs.Common.{◌≡◌, drop, map}
 use Rattle.dm_proc.specs.Programs.{program_of}
 use Rattle.dm_proc.proofs.programs.Programs.find.Given as goal
 
