@@ -3,3 +3,5 @@ mod Bytes
 mod Made
 mod Whole
 mod Placing
+pub mod OneAnswer
+pub mod Unseen

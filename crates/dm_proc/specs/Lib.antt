@@ -6,3 +6,4 @@ pub mod Room
 pub mod Blocks
 pub mod Start
 pub mod Processes
+pub mod Laws

@@ -10,6 +10,7 @@ mod ending;
 mod environment;
 mod exec;
 mod launch;
+mod laws;
 mod overlays;
 mod parent;
 mod procs;
@@ -20,6 +21,10 @@ mod request;
 mod room;
 
 pub use arguments::Arguments;
+pub use laws::{
+    exec_has_one_answer, ignores_unseen, keeping_has_one_answer, load_has_one_answer,
+    overlay_has_one_answer, terminating_has_one_answer,
+};
 pub use overlays::overlay;
 pub use parent::{Ending, Parent};
 pub use procs::Procs;

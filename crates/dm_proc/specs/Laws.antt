@@ -1,0 +1,55 @@
+-- Laws of the definitions: each call has one answer, and none depends on what no program sees.
+use Rattle.std.specs.Prelude.{◌≡◌, ℕ, List, Result}
+use Rattle.dm_space.specs.Memory.{Memory}
+use Rattle.dm_space.specs.Unseen.{IsUnseen}
+use Rattle.dm_arena.specs.declared.fit.Strategy.{Strategy}
+use Rattle.dm_exec.specs.declared.cpu.Cpu.{Cpu}
+use Rattle.dm_proc.specs.declared.parent.Ending.{Ending}
+use Rattle.dm_proc.specs.declared.refusal.Refusal.{Refusal}
+use Rattle.dm_proc.specs.declared.refusal.ArenaDestroyed.{ArenaDestroyed}
+use Rattle.dm_proc.specs.Request.{Passed}
+use Rattle.dm_proc.specs.Processes.{Processes, Executes, Loads, Overlays, Terminates, Keeps}
+
+-- the answer of a call, and all that it leaves, are functions of the state and the arguments
+abbrev pub ExecHasOneAnswer : Type 0
+ExecHasOneAnswer =
+    (ps : Processes) (c : Cpu) (m : Memory) (store : List (List ℕ × List ℕ)) (strategy : Strategy) (r q : Result (Unit {0}) Refusal)
+    (ps₁ ps₂ : Processes) (c₁ c₂ : Cpu) (m₁ m₂ : Memory) →
+    Executes ps c m store strategy r ps₁ c₁ m₁ → Executes ps c m store strategy q ps₂ c₂ m₂ → (r ≡ q) × (ps₁ ≡ ps₂) × (c₁ ≡ c₂) × (m₁ ≡ m₂)
+
+abbrev pub LoadHasOneAnswer : Type 0
+LoadHasOneAnswer =
+    (ps : Processes) (m : Memory) (strategy : Strategy) (file variables name : List ℕ) (a : Passed) (r q : Result Cpu Refusal)
+    (ps₁ ps₂ : Processes) (m₁ m₂ : Memory) →
+    Loads ps m strategy file variables name a r ps₁ m₁ → Loads ps m strategy file variables name a q ps₂ m₂ → (r ≡ q) × (ps₁ ≡ ps₂) × (m₁ ≡ m₂)
+
+abbrev pub OverlayHasOneAnswer : Type 0
+OverlayHasOneAnswer =
+    (c : Cpu) (m : Memory) (store : List (List ℕ × List ℕ)) (r q : Result (Unit {0}) Refusal) (m₁ m₂ : Memory) →
+    Overlays c m store r m₁ → Overlays c m store q m₂ → (r ≡ q) × (m₁ ≡ m₂)
+
+abbrev pub TerminatingHasOneAnswer : Type 0
+TerminatingHasOneAnswer =
+    (ps : Processes) (c : Cpu) (m : Memory) (code : ℕ) (r q : Result Ending ArenaDestroyed) (ps₁ ps₂ : Processes) (c₁ c₂ : Cpu) (m₁ m₂ : Memory) →
+    Terminates ps c m code r ps₁ c₁ m₁ → Terminates ps c m code q ps₂ c₂ m₂ → (r ≡ q) × (ps₁ ≡ ps₂) × (c₁ ≡ c₂) × (m₁ ≡ m₂)
+
+abbrev pub KeepingHasOneAnswer : Type 0
+KeepingHasOneAnswer =
+    (ps : Processes) (c : Cpu) (m : Memory) (code paragraphs : ℕ) (r q : Result Ending ArenaDestroyed) (ps₁ ps₂ : Processes) (c₁ c₂ : Cpu) (m₁ m₂ : Memory) →
+    Keeps ps c m code paragraphs r ps₁ c₁ m₁ → Keeps ps c m code paragraphs q ps₂ c₂ m₂ → (r ≡ q) × (ps₁ ≡ ps₂) × (c₁ ≡ c₂) × (m₁ ≡ m₂)
+
+-- no call depends on what no program sees, or changes it
+pub record CallsIgnoreUnseen (change : Memory → Memory) : Type 0 where
+  pub exec : (ps : Processes) (c : Cpu) (m : Memory) (store : List (List ℕ × List ℕ)) (strategy : Strategy) (r : Result (Unit {0}) Refusal) (qs : Processes) (d : Cpu) (n : Memory) →
+      Executes ps c m store strategy r qs d n → Executes ps c (change m) store strategy r qs d (change n)
+  pub load : (ps : Processes) (m : Memory) (strategy : Strategy) (file variables name : List ℕ) (a : Passed) (r : Result Cpu Refusal) (qs : Processes) (n : Memory) →
+      Loads ps m strategy file variables name a r qs n → Loads ps (change m) strategy file variables name a r qs (change n)
+  pub overlay : (c : Cpu) (m : Memory) (store : List (List ℕ × List ℕ)) (r : Result (Unit {0}) Refusal) (n : Memory) →
+      Overlays c m store r n → Overlays c (change m) store r (change n)
+  pub terminating : (ps : Processes) (c : Cpu) (m : Memory) (code : ℕ) (r : Result Ending ArenaDestroyed) (qs : Processes) (d : Cpu) (n : Memory) →
+      Terminates ps c m code r qs d n → Terminates ps c (change m) code r qs d (change n)
+  pub keeping : (ps : Processes) (c : Cpu) (m : Memory) (code paragraphs : ℕ) (r : Result Ending ArenaDestroyed) (qs : Processes) (d : Cpu) (n : Memory) →
+      Keeps ps c m code paragraphs r qs d n → Keeps ps c (change m) code paragraphs r qs d (change n)
+
+abbrev pub IgnoresUnseen : Type 0
+IgnoresUnseen = (change : Memory → Memory) → IsUnseen change → CallsIgnoreUnseen change
