@@ -30,3 +30,6 @@ pub use parent::{Ending, Parent};
 pub use procs::Procs;
 pub use programs::{AddError, Programs};
 pub use refusal::{ArenaDestroyed, Refusal};
+
+#[cfg(test)]
+mod tests;
