@@ -3,7 +3,7 @@ use Rattle.std.proofs.Common.{◌≡◌, ℕ, suc, zero, ◌%◌, ◌<◌, Bool,
 use Rattle.dm_space.specs.Memory.{Memory, peek, linear}
 use Rattle.dm_space.specs.Unseen.{unseen_as, IsUnseen}
 use Rattle.dm_ins.specs.declared.ins.Ins.{Ins}
-use Rattle.dm_ins.specs.declared.operand.ByteRegister.TheVariants.{Ah}
+use Rattle.dm_ins.specs.declared.operand.ByteRegister.TheVariants.{Al, Ah}
 use Rattle.dm_exec.specs.declared.cpu.Cpu.{Cpu}
 use Rattle.dm_exec.specs.declared.effect.Next.{Next}
 use Rattle.dm_exec.specs.declared.effect.Next.TheVariants.{Go, Halt}
@@ -18,15 +18,23 @@ use Rattle.dm_proc.specs.Writes.{bytes_from}
 use Rattle.dm_machine.specs.declared.stop.Stop.{Stop}
 use Rattle.dm_machine.specs.declared.stop.Stop.TheVariants.{Memory as NoMemory}
 use Rattle.dm_machine.specs.declared.services.Service.{Service}
-use Rattle.dm_machine.specs.declared.services.Service.TheVariants.{DivideError, Terminate, Dos}
+use Rattle.dm_machine.specs.declared.services.Service.TheVariants as service
+use Rattle.dm_machine.specs.declared.services.Service.TheVariants.{DivideError, Dos}
 use Rattle.dm_machine.specs.declared.functions.Function.{Function}
-use Rattle.dm_machine.specs.declared.functions.Function.TheVariants.{WriteText, Allocate, Free, Resize, AllocationStrategy, Exit, Unknown}
+use Rattle.dm_machine.specs.declared.functions.Function.TheVariants.{WriteText, Keep, Allocate, Free, Resize, LoadProgram, Exit, ExitCode, AllocationStrategy, Terminate, Unknown}
 use Rattle.dm_arena.specs.declared.fit.Strategy.{Strategy}
 use Rattle.dm_arena.specs.declared.refusal.Refusal.{Refusal}
 use Rattle.dm_arena.proofs.Unseen.{allocation-unseen, freeing-unseen, resizing-unseen}
 use Rattle.dm_machine.specs.State.{State, Answer}
 use Rattle.dm_machine.specs.Text.{text_within, print}
 use Rattle.dm_machine.specs.Allocation.{answered, allocated, settled, strategy_of, strategy_set, strategy_call}
+use Rattle.dm_proc.specs.declared.refusal.Refusal.{Refusal as ProgramRefusal}
+use Rattle.dm_proc.specs.declared.refusal.ArenaDestroyed.{ArenaDestroyed}
+use Rattle.dm_proc.specs.declared.parent.Ending.{Ending}
+use Rattle.dm_proc.specs.declared.parent.Ending.TheVariants.{Returned, Exited}
+use Rattle.dm_proc.specs.Processes.{Processes}
+use Rattle.dm_proc.proofs.Unseen.{ignores_unseen}
+use Rattle.dm_machine.specs.Processes.{not_loaded, executed, overlaid, LoadingAs, concluded, Terminating, Keeping, tell_code}
 use Rattle.dm_machine.specs.Functions.{function_of, no_function, Calls}
 use Rattle.dm_machine.specs.Services.{service_at, Serves}
 use Rattle.dm_machine.specs.Wanting.{output_of, MayWant}
@@ -92,6 +100,64 @@ strategy-unseen f u s =
     choice-unseen f _ _ _ _ _ (answered-unseen f u s _ s.memory false)
     (choice-unseen f _ _ _ _ _ (strategy_set-unseen f u s (strategy_of s.cpu.bx)) (answered-unseen f u s _ s.memory true))
 
+not_loaded-unseen : (f : Memory → Memory) (u : IsUnseen f) (s : State) (e : ProgramRefusal) → not_loaded (with_change f s) e ≡ answer_with f (not_loaded s e)
+not_loaded-unseen f u s e = answered-unseen f u s _ s.memory true
+
+executed-unseen : (f : Memory → Memory) (u : IsUnseen f) (s : State) (r : Result (Unit {0}) ProgramRefusal) (qs : Processes) (d : Cpu) (n : Memory) →
+    executed (with_change f s) r qs d (f n) ≡ answer_with f (executed s r qs d n)
+executed-unseen f u s (Ok x) qs d n = refl
+executed-unseen f u s (Err e) qs d n = not_loaded-unseen f u s e
+
+overlaid-unseen : (f : Memory → Memory) (u : IsUnseen f) (s : State) (r : Result (Unit {0}) ProgramRefusal) (n : Memory) → overlaid (with_change f s) r (f n) ≡ answer_with f (overlaid s r n)
+overlaid-unseen f u s (Ok x) n = answered-unseen f u s _ n false
+overlaid-unseen f u s (Err e) n = not_loaded-unseen f u s e
+
+loading-unseen : (f : Memory → Memory) (u : IsUnseen f) (s : State) (action : Bool) (x : Answer) → LoadingAs action s x → LoadingAs action (with_change f s) (answer_with f x)
+loading-unseen f u s true x a = record {
+  result = a.result;
+  memory = f a.memory;
+  overlays = (ignores_unseen f u).overlay s.cpu s.memory s.programs a.result a.memory a.overlays;
+  answer = ap (answer_with f) a.answer ∙ sym (overlaid-unseen f u s a.result a.memory);
+}
+loading-unseen f u s false x a = record {
+  result = a.result;
+  processes = a.processes;
+  cpu = a.cpu;
+  memory = f a.memory;
+  executes = (ignores_unseen f u).exec s.processes s.cpu s.memory s.programs s.strategy a.result a.processes a.cpu a.memory a.executes;
+  answer = ap (answer_with f) a.answer ∙ sym (executed-unseen f u s a.result a.processes a.cpu a.memory);
+}
+
+concluded-unseen : (f : Memory → Memory) (s : State) (code : ℕ) (r : Result Ending ArenaDestroyed) (qs : Processes) (d : Cpu) (n : Memory) →
+    concluded (with_change f s) code r qs d (f n) ≡ answer_with f (concluded s code r qs d n)
+concluded-unseen f s code (Ok Returned) qs d n = refl
+concluded-unseen f s code (Ok Exited) qs d n = refl
+concluded-unseen f s code (Err e) qs d n = refl
+
+terminating-unseen : (f : Memory → Memory) (u : IsUnseen f) (s : State) (code : ℕ) (x : Answer) → Terminating s code x → Terminating (with_change f s) code (answer_with f x)
+terminating-unseen f u s code x a = record {
+  result = a.result;
+  processes = a.processes;
+  cpu = a.cpu;
+  memory = f a.memory;
+  terminates = (ignores_unseen f u).terminating s.processes s.cpu s.memory code a.result a.processes a.cpu a.memory a.terminates;
+  answer = ap (answer_with f) a.answer ∙ sym (concluded-unseen f s code a.result a.processes a.cpu a.memory);
+}
+
+keeping-unseen : (f : Memory → Memory) (u : IsUnseen f) (s : State) (x : Answer) → Keeping s x → Keeping (with_change f s) (answer_with f x)
+keeping-unseen f u s x a = record {
+  result = a.result;
+  processes = a.processes;
+  cpu = a.cpu;
+  memory = f a.memory;
+  keeps = (ignores_unseen f u).keeping s.processes s.cpu s.memory (byte_of s.cpu Al) s.cpu.dx a.result a.processes a.cpu a.memory a.keeps;
+  answer = ap (answer_with f) a.answer ∙ sym (concluded-unseen f s (byte_of s.cpu Al) a.result a.processes a.cpu a.memory);
+}
+
+tell_code-unseen : (f : Memory → Memory) (u : IsUnseen f) (s : State) → tell_code (with_change f s) ≡ answer_with f (tell_code s)
+unfolding tell_code
+tell_code-unseen f u s = simp (return-parts f u)
+
 calls-unseen : (f : Memory → Memory) (u : IsUnseen f) (s : State) (g : Function) (x : Answer) → Calls s g x → Calls (with_change f s) g (answer_with f x)
 calls-unseen f u s WriteText x e = ap (answer_with f) e ∙ sym (print-unseen f u s)
 calls-unseen f u s Allocate x a = record {
@@ -113,12 +179,16 @@ calls-unseen f u s Resize x a = record {
   answer = ap (answer_with f) a.answer ∙ sym (settled-unseen f u s a.result a.memory);
 }
 calls-unseen f u s AllocationStrategy x e = ap (answer_with f) e ∙ sym (strategy-unseen f u s)
-calls-unseen f u s Exit x e = ap (answer_with f) e
+calls-unseen f u s Terminate x a = terminating-unseen f u s 0 x a
+calls-unseen f u s LoadProgram x a = loading-unseen f u s _ x a
+calls-unseen f u s Exit x a = terminating-unseen f u s _ x a
+calls-unseen f u s Keep x a = keeping-unseen f u s x a
+calls-unseen f u s ExitCode x e = ap (answer_with f) e ∙ sym (tell_code-unseen f u s)
 calls-unseen f u s Unknown x e = ap (answer_with f) e ∙ sym (no_function-unseen f u s)
 
 serves-unseen : (f : Memory → Memory) (u : IsUnseen f) (s : State) (service : Service) (x : Answer) → Serves s service x → Serves (with_change f s) service (answer_with f x)
-serves-unseen f u s DivideError x e = ap (answer_with f) e
-serves-unseen f u s Terminate x e = ap (answer_with f) e
+serves-unseen f u s DivideError x a = terminating-unseen f u s 0xFF x a
+serves-unseen f u s service.Terminate x a = terminating-unseen f u s 0 x a
 serves-unseen f u s Dos x h = calls-unseen f u s (function_of (byte_of s.cpu Ah)) x h
 
 after-unseen : (f : Memory → Memory) (s : State) (n : Next) (g : Guest) → after (with_change f s) n (changed f g) ≡ answer_with f (after s n g)

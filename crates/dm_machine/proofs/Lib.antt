@@ -4,3 +4,6 @@ mod OneRun
 mod Memos
 mod Confined
 mod Calls
+mod Alive
+mod Endings
+mod NoRoom

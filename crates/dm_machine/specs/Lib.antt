@@ -1,6 +1,7 @@
 pub mod State
 pub mod Text
 pub mod Allocation
+pub mod Processes
 pub mod Functions
 pub mod Services
 pub mod Wanting

@@ -6,7 +6,8 @@ use Rattle.dm_exec.specs.Cpu.{byte_of}
 use Rattle.dm_ins.specs.declared.operand.ByteRegister.TheVariants.{Ah}
 use Rattle.dm_machine.specs.declared.services.Service.{Service}
 use Rattle.dm_machine.specs.declared.services.Service.TheVariants.{DivideError, Terminate, Dos}
-use Rattle.dm_machine.specs.State.{State, Answer, ended}
+use Rattle.dm_machine.specs.State.{State, Answer}
+use Rattle.dm_machine.specs.Processes.{Terminating}
 use Rattle.dm_machine.specs.Functions.{function_of, Calls}
 
 -- a service acts at exactly its CS:IP pair
@@ -19,8 +20,8 @@ service_at_offset ip =
 unfoldable pub service_at : Cpu → Option Service
 service_at c = if c.cs == 0xF000 then service_at_offset c.ip else None
 
--- the service at s answers x: interrupt 0 ends the program with code FFh, INT 20h with 0, and INT 21h does what AH names
+-- the service at s answers x: interrupt 0 ends the process with code FFh, INT 20h with 0, and INT 21h does what AH names
 abbrev pub Serves : State → Service → Answer → Type 0
-Serves s DivideError x = x ≡ ended s 0xFF
-Serves s Terminate x = x ≡ ended s 0
+Serves s DivideError x = Terminating s 0xFF x
+Serves s Terminate x = Terminating s 0 x
 Serves s Dos x = Calls s (function_of (byte_of s.cpu Ah)) x

@@ -1,14 +1,15 @@
 -- The machine as it starts, and as it is once the first program is loaded.
-use Rattle.std.specs.Prelude.{◌≡◌, ℕ, ◌<◌, ◌⊎◌, false, List, [], replicate, Some, None}
+use Rattle.std.specs.Prelude.{◌≡◌, ℕ, ◌<◌, ◌⊎◌, false, List, [], length, replicate, Some, None}
 use Rattle.dm_space.specs.Start.{IsStart}
 use Rattle.dm_alu.specs.declared.flags.Flags.{Flags}
 use Rattle.dm_exec.specs.declared.cpu.Cpu.{Cpu}
 use Rattle.dm_arena.specs.declared.fit.Strategy.TheVariants.{First}
-use Rattle.dm_load.specs.declared.format.Kind.TheVariants.{Com}
-use Rattle.dm_load.specs.Image.{kind_of, IsGood}
-use Rattle.dm_proc.specs.declared.psp.Arguments.{Arguments}
+use Rattle.dm_load.specs.Image.{IsGood}
+use Rattle.dm_proc.specs.declared.refusal.Refusal.{Refusal}
 use Rattle.dm_proc.specs.Programs.{program_of}
-use Rattle.dm_proc.specs.Processes.{Loads}
+use Rattle.dm_proc.specs.Request.{Passed}
+use Rattle.dm_proc.specs.Environment.{environment}
+use Rattle.dm_proc.specs.Processes.{Begins, PlanRefused}
 use Rattle.dm_machine.specs.declared.config.Sizes.{Sizes}
 use Rattle.dm_machine.specs.State.{State}
 
@@ -29,7 +30,7 @@ pub record IsNew (sizes : Sizes) (variables : List ℕ) (programs : List (List �
     cpu = clear_registers;
     memory = s.memory;
     console = record { input = input; output = []; room = 0 };
-    processes = record { present = 0 };
+    processes = record { present = 0; parents = []; code = 0 };
     strategy = First;
     exited = None;
     steps = 0;
@@ -38,29 +39,28 @@ pub record IsNew (sizes : Sizes) (variables : List ℕ) (programs : List (List �
     sizes = sizes;
   }
 
--- the first program has a tail and no file control blocks
-pub record IsArguments (tail : List ℕ) (a : Arguments) : Type 0 where
-  pub tail_is : a.tail.items ≡ tail
-  pub first_is : a.first ≡ replicate 16 0
-  pub second_is : a.second ≡ replicate 16 0
-
--- a COM file that can be loaded; MZ files are refused as bad until the machine starts them
-pub record IsLoadable (file : List ℕ) : Type 0 where
-  pub com_file : kind_of file ≡ Com
-  pub good : IsGood file
+-- the first program is passed a tail, and no file control blocks
+abbrev pub passed_first : List ℕ → Passed
+passed_first tail = record { tail = tail; first = replicate 16 0; second = replicate 16 0 }
 
 -- the first program is loaded
 pub record IsLoaded (s : State) (name tail : List ℕ) (t : State) : Type 0 where
   pub file : List ℕ
   pub found : program_of s.programs name ≡ Some file
-  pub loadable : IsLoadable file
-  pub arguments : Arguments
-  pub given : IsArguments tail arguments
-  pub loads : Loads s.processes s.memory file s.variables name arguments t.processes t.cpu t.memory
+  pub good : IsGood file
+  pub begins : Begins s.processes s.memory s.strategy file s.variables name (passed_first tail) t.processes t.cpu t.memory
   pub others : t ≡ record s { cpu = t.cpu; memory = t.memory; processes = t.processes }
 
 -- the store has the program, and it can't be loaded
 pub record IsBadProgram (s : State) (name : List ℕ) : Type 0 where
   pub file : List ℕ
   pub found : program_of s.programs name ≡ Some file
-  pub bad : IsLoadable file → ⊥
+  pub bad : IsGood file → ⊥
+
+-- memory has no room for its two blocks, or its arena is destroyed
+pub record HasNoRoom (s : State) (name : List ℕ) : Type 0 where
+  pub file : List ℕ
+  pub found : program_of s.programs name ≡ Some file
+  pub good : IsGood file
+  pub why : Refusal
+  pub refused : PlanRefused s.memory s.strategy (length (environment s.variables name)) file why

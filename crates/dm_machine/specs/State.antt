@@ -1,14 +1,14 @@
 -- The state of the machine, and what a step answers.
-use Rattle.std.specs.Prelude.{ℕ, ◌+◌, ◌-◌, ◌^◌, ◌<◌, min, Bool, List, Option, Some, None}
+use Rattle.std.specs.Prelude.{ℕ, ◌+◌, ◌-◌, ◌^◌, ◌<◌, min, Bool, All, List, Option, Some, None}
 use Rattle.dm_space.specs.Memory.{Memory}
 use Rattle.dm_exec.specs.declared.cpu.Cpu.{Cpu}
 use Rattle.dm_exec.specs.Guest.{Guest, guest}
 use Rattle.dm_exec.specs.Stack.{interrupt_return}
 use Rattle.dm_console.specs.Streams.{Streams}
 use Rattle.dm_arena.specs.declared.fit.Strategy.{Strategy}
+use Rattle.dm_proc.specs.declared.parent.Parent.{Parent}
 use Rattle.dm_proc.specs.Processes.{Processes}
 use Rattle.dm_machine.specs.declared.stop.Stop.{Stop}
-use Rattle.dm_machine.specs.declared.stop.Stop.TheVariants.{Exited}
 use Rattle.dm_machine.specs.declared.config.Sizes.{Sizes}
 
 pub record State : Type 0 where
@@ -27,6 +27,13 @@ pub record State : Type 0 where
   pub programs : List (List ℕ × List ℕ)
   pub variables : List ℕ
   pub sizes : Sizes
+
+-- a process that waits for a child has a program segment prefix
+abbrev pub IsAlive : Parent → Type 0
+IsAlive p = 0 < p.segment
+
+abbrev pub AreAlive : Processes → Type 0
+AreAlive ps = All IsAlive ps.parents
 
 -- a program is loaded
 abbrev pub HasProgram : State → Type 0
@@ -53,7 +60,3 @@ returned s = with_guest s (interrupt_return (guest s.cpu s.memory))
 
 abbrev pub with_carry : State → Bool → State
 with_carry s b = record s { cpu = record s.cpu { flags = record s.cpu.flags { carry = b } } }
-
--- the first program ends: a step that tells the code
-abbrev pub ended : State → ℕ → Answer
-ended s code = record { stop = Some (Exited code); state = (go (record s { exited = Some code })).state }

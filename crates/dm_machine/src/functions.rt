@@ -2,6 +2,7 @@
 ghost use Rattle.std.specs.Prelude.{◌≡◌, ◌<◌, None, Some, OnOk, OnErr, length};
 ghost use Rattle.dm_exec.specs.Cpu.{byte_of};
 ghost use Rattle.dm_ins.specs.declared.operand.ByteRegister.TheVariants.{Ah};
+ghost use Rattle.dm_machine.specs.State.{HasProgram};
 ghost use Rattle.dm_machine.specs.Text.{print, text_at};
 ghost use Rattle.dm_machine.specs.Functions.{function_of, no_function, Calls};
 ghost use Rattle.dm_machine.specs.Services.{service_at};
@@ -19,6 +20,10 @@ use std::alloc::AllocError;
 pub(crate) enum Function {
     /// 09h: writes the text at DS:DX, up to a `$`.
     WriteText,
+    /// 00h: ends the process with the code 0.
+    Terminate,
+    /// 31h: ends the process with the code in AL, and keeps DX paragraphs.
+    Keep,
     /// 48h: allocates BX paragraphs.
     Allocate,
     /// 49h: frees the block at segment ES.
@@ -27,8 +32,12 @@ pub(crate) enum Function {
     Resize,
     /// 58h: tells or sets the allocation strategy.
     AllocationStrategy,
+    /// 4Bh: starts a program, or loads an overlay.
+    LoadProgram,
     /// 4Ch: ends the process with the code in AL.
     Exit,
+    /// 4Dh: tells how the last child ended.
+    ExitCode,
     /// Any other number.
     Unknown,
 }
@@ -38,11 +47,15 @@ fn function_of(number: u8) -> Function
     ensures { result ≡ Rattle.dm_machine.specs.Functions.function_of number }
 {
     match number {
+        0x00 => Function::Terminate,
         0x09 => Function::WriteText,
+        0x31 => Function::Keep,
         0x48 => Function::Allocate,
         0x49 => Function::Free,
         0x4A => Function::Resize,
+        0x4B => Function::LoadProgram,
         0x4C => Function::Exit,
+        0x4D => Function::ExitCode,
         0x58 => Function::AllocationStrategy,
         _ => Function::Unknown,
     }
@@ -78,13 +91,14 @@ impl Machine {
     }
 
     /// Does what a call asks for.
-    #[tactic(auto, unfolding(crate::specs::Wanting::MayWant, crate::specs::Text::print, crate::specs::Functions::no_function, crate::specs::Allocation::strategy_call))]
+    #[tactic(auto, unfolding(crate::specs::Wanting::MayWant, crate::specs::Text::print, crate::specs::Functions::no_function, crate::specs::Allocation::strategy_call, crate::specs::Processes::tell_code))]
     fn call(&mut self, function: Function) -> Option<Stop>
         requires alive { self.old.exited ≡ None }
         requires at { service_at self.old.cpu ≡ Some Service.Dos }
         requires asked { function ≡ function_of (byte_of self.old.cpu Ah) }
+        requires loaded { HasProgram self.old }
         ensures answer { OrWants self.old (Calls self.old function) result self.new }
-        ensures program { self.new.processes ≡ self.old.processes }
+        ensures program { HasProgram self.new }
     {
         match function {
             Function::WriteText => match self.print() {
@@ -109,7 +123,17 @@ impl Machine {
             }
             Function::Exit => {
                 let code = self.cpu.byte(ByteRegister::Al);
-                self.end(code)
+                self.terminate(code)
+            }
+            Function::Terminate => self.terminate(0),
+            Function::Keep => self.keep(),
+            Function::LoadProgram => {
+                self.load_program();
+                None
+            }
+            Function::ExitCode => {
+                self.tell_code();
+                None
             }
             Function::Unknown => {
                 self.refuse();
@@ -122,8 +146,9 @@ impl Machine {
     pub(crate) fn dos_call(&mut self) -> Option<Stop>
         requires alive { self.old.exited ≡ None }
         requires at { service_at self.old.cpu ≡ Some Service.Dos }
+        requires loaded { HasProgram self.old }
         ensures answer { OrWants self.old (Calls self.old (function_of (byte_of self.old.cpu Ah))) result self.new }
-        ensures program { self.new.processes ≡ self.old.processes }
+        ensures program { HasProgram self.new }
     {
         let function = function_of(self.cpu.byte(ByteRegister::Ah));
         self.call(function)

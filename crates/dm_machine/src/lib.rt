@@ -8,6 +8,7 @@ mod laws;
 mod loading;
 mod machine;
 mod memo;
+mod processes;
 mod services;
 mod steps;
 mod stop;
@@ -25,6 +26,8 @@ pub use stop::Stop;
 
 #[cfg(test)]
 mod allocation_tests;
+#[cfg(test)]
+mod process_tests;
 #[cfg(test)]
 mod programs;
 #[cfg(test)]

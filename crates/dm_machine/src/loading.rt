@@ -1,12 +1,13 @@
 //! Loading the first program.
 ghost use Rattle.std.specs.Prelude.{◌≡◌, ◌≤◌, ◌↔◌, ◌++◌, length, None, replicate, OnOk, OnErr, IsErrOf, All, ◌<◌};
 ghost use Rattle.dm_proc.specs.Programs.{program_of, IsName};
-ghost use Rattle.dm_machine.specs.Start.{IsArguments, IsLoaded, IsBadProgram};
+ghost use Rattle.dm_proc.specs.Request.{passed_of};
+ghost use Rattle.dm_machine.specs.Start.{passed_first, IsLoaded, IsBadProgram, HasNoRoom};
 ghost use Rattle.dm_machine.specs.State.{HasProgram};
 
 use crate::machine::Machine;
 use arrayvec::ArrayVec;
-use dm_load::{Image, Kind};
+use dm_load::Image;
 use dm_proc::Arguments;
 use thiserror::Error;
 
@@ -16,15 +17,18 @@ pub enum LoadError {
     /// The store has no program of this name.
     #[error("not found")]
     NotFound,
-    /// The program is not a COM file of at most 65,278 bytes.
+    /// The program is neither a COM file of at most 65,278 bytes nor a good MZ file.
     #[error("bad format")]
     BadFormat,
+    /// Conventional memory has no room for the environment and the program.
+    #[error("short")]
+    Short,
 }
 
 /// What the first program is started with: a tail, and no file control blocks.
 fn arguments(tail: &[u8]) -> Arguments
     requires { length tail.now ≤ 126 }
-    ensures { IsArguments tail.now result }
+    ensures { passed_of result ≡ passed_first tail.now }
 {
     let mut bytes = ArrayVec::new();
     for byte in tail {
@@ -44,7 +48,8 @@ impl Machine {
     /// # Errors
     ///
     /// `NotFound` exactly where the store has no such program (ASCII case ignored), `BadFormat`
-    /// exactly where it has one that can't be loaded. A refusal changes nothing.
+    /// exactly where it has one that is bad, `Short` where there is no room for its two blocks. A
+    /// refusal changes nothing.
     pub fn load(&mut self, name: &[u8], tail: &[u8]) -> Result<(), LoadError>
         requires fresh { self.old.processes.present ≡ 0 }
         requires name { IsName name.now }
@@ -53,6 +58,7 @@ impl Machine {
         ensures loaded { OnOk result (HasProgram self.new) }
         ensures not_found { IsErrOf result LoadError.NotFound ↔ (program_of self.old.programs name.now ≡ None) }
         ensures bad_format { IsErrOf result LoadError.BadFormat ↔ IsBadProgram self.old name.now }
+        ensures short { IsErrOf result LoadError.Short → HasNoRoom self.old name.now }
         ensures err { OnErr result (self.new ≡ self.old) }
     {
         let Some(file) = self.programs.find(name) else {
@@ -61,19 +67,21 @@ impl Machine {
         let Ok(image) = Image::of(file) else {
             return Err(LoadError::BadFormat);
         };
-        match image.kind() {
-            Kind::Com => {
-                let arguments = arguments(tail);
-                self.cpu = self.procs.load(
-                    &mut self.space,
-                    &image,
-                    self.variables.as_slice(),
-                    name,
-                    &arguments,
-                );
+        let arguments = arguments(tail);
+        let loaded = self.procs.load(
+            &mut self.space,
+            self.strategy,
+            &image,
+            self.variables.as_slice(),
+            name,
+            &arguments,
+        );
+        match loaded {
+            Ok(cpu) => {
+                self.cpu = cpu;
                 Ok(())
             }
-            Kind::Mz => Err(LoadError::BadFormat),
+            Err(_) => Err(LoadError::Short),
         }
     }
 }

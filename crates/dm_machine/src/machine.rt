@@ -48,7 +48,7 @@ pub struct Machine {
 
 impl Model for Machine {
     ghost use Rattle.std.specs.Prelude.{◌≤◌, length};
-    ghost use Rattle.dm_machine.specs.State.{State};
+    ghost use Rattle.dm_machine.specs.State.{State, AreAlive};
 
     ghost Value = { State };
 
@@ -65,7 +65,7 @@ impl Model for Machine {
       sizes = m.sizes;
     } };
 
-    ghost invariant = { λ m. length m.variables.items ≤ 0x7FFF };
+    ghost invariant = { λ m. (length m.variables.items ≤ 0x7FFF) × AreAlive m.procs };
 }
 
 /// Registers before a program is loaded.

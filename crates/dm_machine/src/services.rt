@@ -1,6 +1,6 @@
 //! The services that the machine has in place of interrupt handlers.
 ghost use Rattle.std.specs.Prelude.{◌≡◌, None, Some};
-ghost use Rattle.dm_machine.specs.State.{ended, go, returned};
+ghost use Rattle.dm_machine.specs.State.{go, returned, HasProgram};
 ghost use Rattle.dm_machine.specs.Services.{service_at, Serves};
 ghost use Rattle.dm_machine.specs.Wanting.{OrWants};
 
@@ -47,25 +47,17 @@ impl Machine {
         interrupt_return(&mut self.cpu, &self.space);
     }
 
-    /// The first program ends.
-    pub(crate) fn end(&mut self, code: u8) -> Option<Stop>
-        ensures { record { stop = result; state = self.new } ≡ ended self.old code }
-    {
-        self.exited = Some(code);
-        self.count();
-        Some(Stop::Exited(code))
-    }
-
     /// Acts as the service.
     pub(crate) fn serve(&mut self, service: Service) -> Option<Stop>
         requires alive { self.old.exited ≡ None }
         requires at { service_at self.old.cpu ≡ Some service }
+        requires loaded { HasProgram self.old }
         ensures answer { OrWants self.old (Serves self.old service) result self.new }
-        ensures program { self.new.processes ≡ self.old.processes }
+        ensures program { HasProgram self.new }
     {
         match service {
-            Service::DivideError => self.end(0xFF),
-            Service::Terminate => self.end(0),
+            Service::DivideError => self.terminate(0xFF),
+            Service::Terminate => self.terminate(0),
             Service::Dos => self.dos_call(),
         }
     }

@@ -1,5 +1,6 @@
 //! Whole programs, from their bytes to their output.
 ghost use Rattle.std.specs.Prelude.{◌≡◌, IfOk};
+ghost use Rattle.dm_proc.specs.Programs.{IsName};
 
 use crate::{AddError, Config, LoadError, Machine, NewError, Programs, Sizes, Stop};
 use std::alloc::{AllocError, Global};
@@ -7,32 +8,46 @@ use std::process::Abort;
 use std::test::Fail;
 
 /// MOV AH,9; MOV DX,10Ch; INT 21h; MOV AX,4C00h; INT 21h; `hi$`
-const HELLO: [u8; 15] = [
+pub(crate) const HELLO: [u8; 15] = [
     0xB4, 0x09, 0xBA, 0x0C, 0x01, 0xCD, 0x21, 0xB8, 0x00, 0x4C, 0xCD, 0x21, 0x68, 0x69, 0x24,
 ];
 
-/// A machine of so many pages and KiB, with one program in its store and no input.
-fn sized(alloc: Global, sizes: Sizes, file: &[u8]) -> Result<Result<Machine, NewError>, Fail>
-    ensures { IfOk result (λ r. IfOk r (λ m. m.processes.present ≡ 0)) }
+/// A store with one program.
+pub(crate) fn store(alloc: Global, name: &[u8], file: &[u8]) -> Result<Programs, Fail>
+    requires { IsName name.now }
 {
     let mut programs = Programs::new(alloc);
-    programs.add(alloc, b"HI.COM", Vec::from_slice(alloc, file)?)?;
+    programs.add(alloc, name, Vec::from_slice(alloc, file)?)?;
+    Ok(programs)
+}
+
+/// A machine of so many pages and KiB, with a store of programs and no input.
+fn sized(alloc: Global, sizes: Sizes, programs: Programs) -> Result<Machine, NewError>
+    ensures { IfOk result (λ m. m.processes.present ≡ 0) }
+{
     let config = Config {
         sizes,
         variables: Vec::new(alloc),
     };
-    Ok(Machine::new(alloc, config, programs, Vec::new(alloc)))
+    Machine::new(alloc, config, programs, Vec::new(alloc))
 }
 
-/// The same with 64 pages and 1,024 KiB.
+/// The same with one program, 64 pages and 1,024 KiB.
 pub(crate) fn machine(alloc: Global, file: &[u8]) -> Result<Machine, Fail>
+    ensures { IfOk result (λ m. m.processes.present ≡ 0) }
+{
+    machine_of(alloc, store(alloc, b"HI.COM", file)?)
+}
+
+/// The same with a store of programs.
+pub(crate) fn machine_of(alloc: Global, programs: Programs) -> Result<Machine, Fail>
     ensures { IfOk result (λ m. m.processes.present ≡ 0) }
 {
     let sizes = Sizes {
         ems_pages: 64,
         xms_kib: 1024,
     };
-    Ok(sized(alloc, sizes, file)??)
+    Ok(sized(alloc, sizes, programs)?)
 }
 
 /// As many NOPs as asked for. (A function of its own, so that no proof sees so long a list.)
@@ -125,7 +140,8 @@ fn sizes_too_large(rt: HostRuntime) -> Result<(), Fail> {
         (0, 0, true),
         (512, 15_360, true),
     ] {
-        match sized(rt.alloc(), Sizes { ems_pages, xms_kib }, &HELLO)? {
+        let programs = store(rt.alloc(), b"HI.COM", &HELLO)?;
+        match sized(rt.alloc(), Sizes { ems_pages, xms_kib }, programs) {
             Ok(_) => assert!(rt; fits),
             Err(refusal) => {
                 assert_eq!(rt; refusal, NewError::TooLarge);

@@ -1,9 +1,7 @@
-use Rattle.std.proofs.Common.{◌∙◌, sym}
-use Rattle.dm_load.proofs.Loadable.{length-com, is_mz-com}
+use Rattle.std.proofs.Common.{sym}
+use Rattle.dm_machine.proofs.NoRoom.{no_room}
 use Rattle.dm_machine.proofs.machine.Machine.load.Goals as goal
 
-pub load-self-inside-requires-clause-image : goal.load-self-inside-requires-clause-image
-load-self-inside-requires-clause-image c = length-com _ (sym c.kind.ensures.kind ∙ c.in-Com.is) c.kind.ensures.good
-
-pub load-self-inside-requires-clause-com : goal.load-self-inside-requires-clause-com
-load-self-inside-requires-clause-com c = is_mz-com _ (sym c.kind.ensures.kind ∙ c.in-Com.is)
+pub returns-in-Err-clause-short : goal.returns-in-Err-clause-short
+returns-in-Err-clause-short c is =
+    no_room _ _ _ _ _ _ _ c.self.view_is (sym c.in-Some.ensures) c.in-Ok.ensures.0 c.in-Ok.ensures.1 c.as_slice.ensures.value c.in-Err.ensures.2

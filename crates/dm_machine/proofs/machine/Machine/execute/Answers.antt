@@ -1,0 +1,12 @@
+use Rattle.dm_machine.proofs.Alive.{all-alive, executes-alive}
+use Rattle.dm_machine.proofs.Endings.{executing-started, executing-refused}
+use Rattle.dm_machine.proofs.machine.Machine.execute.Goals as goal
+
+pub invariant_of-self : goal.invariant_of-self
+invariant_of-self c = (c.self.invariant.0, (executes-alive _ _ _ _ _ _ _ _ _ (all-alive _ _ c.self.view_is c.requires c.self.invariant.1) c.exec.ensures).parents)
+
+pub returns-in-Ok-clause-executing : goal.returns-in-Ok-clause-executing
+returns-in-Ok-clause-executing c = executing-started _ _ _ _ _ _ c.self.view_is c.in-Ok.ensures c.count.ensures
+
+pub returns-in-Err-clause-executing : goal.returns-in-Err-clause-executing
+returns-in-Err-clause-executing c = executing-refused _ _ _ _ _ _ _ c.self.view_is c.in-Err.ensures c.refuse_program.ensures

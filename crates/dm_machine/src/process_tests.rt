@@ -1,0 +1,288 @@
+//! Programs that start programs, load overlays and end.
+ghost use Rattle.std.specs.Prelude.{◌≡◌, IfOk};
+ghost use Rattle.dm_proc.specs.Programs.{IsName};
+ghost use Rattle.dm_machine.specs.State.{HasProgram};
+
+use crate::tests::{HELLO, machine_of, store};
+use crate::{LoadError, Machine, Stop};
+use std::alloc::Global;
+use std::process::Abort;
+use std::test::Fail;
+
+/// INT 21h, again and again.
+const CALLS: [u8; 4] = [0xCD, 0x21, 0xEB, 0xFC];
+
+/// Ends with code 5 and stays resident with 20h paragraphs.
+const RESIDENT: [u8; 8] = [0xB8, 0x05, 0x31, 0xBA, 0x20, 0x00, 0xCD, 0x21];
+
+/// Where a test puts the name and the parameter block of a call, in the first program's segment.
+const NAME: u16 = 0x0200;
+
+const BLOCK: u16 = 0x0280;
+
+/// A header: its segment and its bytes 0 to 4.
+type Header = (u16, [u8; 5]);
+
+/// An MZ file of 64 bytes: a header of three paragraphs with two relocations of the image's first
+/// word, FFF0h, and an image of one paragraph.
+fn mz(minimum: u16) -> [u8; 64] {
+    let mut file = [0; 64];
+    let [low, high] = minimum.to_le_bytes();
+    file[0] = b'M';
+    file[1] = b'Z';
+    file[0x02] = 64;
+    file[0x04] = 1;
+    file[0x06] = 2;
+    file[0x08] = 3;
+    file[0x0A] = low;
+    file[0x0B] = high;
+    file[0x18] = 0x1C;
+    file[0x30] = 0xF0;
+    file[0x31] = 0xFF;
+    file
+}
+
+/// A machine with the first program loaded, which makes one call after the other, and one more
+/// program in its store.
+fn caller(alloc: Global, name: &[u8], file: &[u8]) -> Result<Machine, Fail>
+    requires { IsName name.now }
+    ensures { IfOk result (λ m. HasProgram m) }
+{
+    let mut programs = store(alloc, b"GO.COM", &CALLS)?;
+    programs.add(alloc, name, Vec::from_slice(alloc, file)?)?;
+    let mut machine = machine_of(alloc, programs)?;
+    machine.load(b"GO.COM", b"")?;
+    Ok(machine)
+}
+
+/// Writes bytes into the first program's segment.
+fn put(machine: &mut Machine, offset: u16, bytes: &[u8])
+    requires { HasProgram machine.old }
+    ensures { HasProgram machine.new }
+{
+    for (index, byte) in bytes.iter().enumerate() {
+        machine.poke(
+            0x0103,
+            offset.wrapping_add((index % 0x1_0000) as u16),
+            *byte,
+        );
+    }
+}
+
+/// Makes a call with these AX, BX and DX, as far as the end of its service.
+fn ask(machine: &mut Machine, registers: [u16; 3])
+    requires { HasProgram machine.old }
+    ensures { HasProgram machine.new }
+{
+    machine.cpu.ax = registers[0];
+    machine.cpu.bx = registers[1];
+    machine.cpu.dx = registers[2];
+    machine.run(2);
+}
+
+/// Makes a call that starts no program, and goes back to the place of the next one: AX, BX and CF.
+fn call(machine: &mut Machine, registers: [u16; 3]) -> [u16; 3]
+    requires { HasProgram machine.old }
+    ensures { HasProgram machine.new }
+{
+    ask(machine, registers);
+    machine.run(1);
+    let cpu = machine.cpu();
+    [cpu.ax, cpu.bx, u16::from(cpu.flags.carry)]
+}
+
+/// Makes a call of 4Bh with a name and the first two words of the parameter block.
+fn load_program(machine: &mut Machine, action: u16, name: &[u8], words: [u16; 2])
+    requires { HasProgram machine.old }
+    ensures { HasProgram machine.new }
+{
+    let [[a, b], [c, d]] = [words[0].to_le_bytes(), words[1].to_le_bytes()];
+    put(machine, NAME, name);
+    put(machine, BLOCK, &[a, b, c, d]);
+    ask(machine, [0x4B00 + action, BLOCK, NAME]);
+}
+
+/// Compares the bytes of headers.
+fn shows(rt: &impl Abort, machine: &Machine, headers: &[Header]) {
+    for (segment, bytes) in headers {
+        for offset in 0..5u16 {
+            assert_eq!(rt;
+                machine.peek(*segment, offset),
+                bytes[offset as usize],
+                "byte {offset} of the header at {segment:04X}"
+            );
+        }
+    }
+}
+
+/// A call of 4Ah that leaves the first program 1000h paragraphs.
+fn shrink(machine: &mut Machine)
+    requires { HasProgram machine.old }
+    ensures { HasProgram machine.new }
+{
+    call(machine, [0x4A00, 0x1000, 0]);
+}
+
+#[test]
+fn a_child_prints_and_ends(rt: HostRuntime) -> Result<(), Fail> {
+    let mut machine = caller(rt.alloc(), b"HI.COM", &HELLO)?;
+    shrink(&mut machine);
+    load_program(&mut machine, 0, b"hi.com\0", [0, 0]);
+    shows(
+        &rt,
+        &machine,
+        &[
+            (0x1103, [b'M', 0x06, 0x11, 0x01, 0x00]),
+            (0x1105, [b'Z', 0x06, 0x11, 0xFA, 0x8E]),
+            (0x1104, [0, 0, 1, 0, b'h']),
+        ],
+    );
+    assert_eq!(rt; [machine.cpu().cs, machine.cpu().sp], [0x1106, 0xFFFE]);
+    assert_eq!(rt; machine.run(7), Stop::Steps);
+    let cpu = machine.cpu();
+    assert_eq!(rt; [cpu.cs, cpu.ip, cpu.ax], [0x0103, 0x0102, 0x4B00]);
+    assert!(rt; !cpu.flags.carry);
+    assert_eq!(rt; machine.output(), b"hi".as_slice());
+    Ok(())
+}
+
+#[test]
+fn what_a_child_leaves(rt: HostRuntime) -> Result<(), Fail> {
+    // a program, the steps to its end, what 4Dh tells, and the largest block after it
+    let rows: [(&[u8], u64, u16, u16); 2] = [
+        (&HELLO, 7, 0, 0x8EFC),
+        (&RESIDENT, 4, 0x0305, 0x8ED9),
+    ];
+    for (file, steps, code, largest) in rows {
+        let mut machine = caller(rt.alloc(), b"HI.COM", file)?;
+        shrink(&mut machine);
+        load_program(&mut machine, 0, b"hi.com\0", [0, 0]);
+        machine.run(steps + 1);
+        assert_eq!(rt; call(&mut machine, [0x4D00, 7, 0]), [code, 7, 0]);
+        assert_eq!(rt; call(&mut machine, [0x4D00, 7, 0]), [0, 7, 0]);
+        assert_eq!(rt; call(&mut machine, [0x4800, 0xFFFF, 0]), [8, largest, 1]);
+    }
+    Ok(())
+}
+
+#[test]
+fn a_resident_program_keeps_its_block(rt: HostRuntime) -> Result<(), Fail> {
+    let mut machine = caller(rt.alloc(), b"HI.COM", &RESIDENT)?;
+    shrink(&mut machine);
+    load_program(&mut machine, 0, b"hi.com\0", [0, 0]);
+    machine.run(5);
+    shows(
+        &rt,
+        &machine,
+        &[
+            (0x1103, [b'M', 0x06, 0x11, 0x01, 0x00]),
+            (0x1105, [b'M', 0x06, 0x11, 0x20, 0x00]),
+            (0x1126, [b'Z', 0, 0, 0xD9, 0x8E]),
+        ],
+    );
+    Ok(())
+}
+
+#[test]
+fn programs_that_are_not_started(rt: HostRuntime) -> Result<(), Fail> {
+    // AL, a name, the environment's segment, the error
+    let rows: [(u16, &[u8], u16, u16); 6] = [
+        (1, b"HI.EXE\0", 0, 1),
+        (0, b"NO\0", 0, 2),
+        (3, b"NO\0", 0, 2),
+        (0, &[b'A'; 65], 0, 2),
+        (0, b"HI.EXE\0", 0xF100, 10),
+        (0, b"HI.EXE\0", 0, 8),
+    ];
+    for (action, name, environment, error) in rows {
+        let mut machine = caller(rt.alloc(), b"HI.EXE", &mz(0xFFFF))?;
+        shrink(&mut machine);
+        load_program(&mut machine, action, name, [environment, 0]);
+        let cpu = machine.cpu();
+        assert_eq!(rt; [cpu.ax, cpu.bx, cpu.cs], [error, BLOCK, 0x0103]);
+        assert!(rt; cpu.flags.carry);
+        shows(&rt, &machine, &[(0x1103, [b'Z', 0, 0, 0xFC, 0x8E])]);
+    }
+    Ok(())
+}
+
+#[test]
+fn a_file_one_byte_short(rt: HostRuntime) -> Result<(), Fail> {
+    let mut machine = caller(rt.alloc(), b"HI.EXE", &mz(0)[..63])?;
+    shrink(&mut machine);
+    for action in [0, 3] {
+        load_program(&mut machine, action, b"HI.EXE\0", [0, 0]);
+        assert_eq!(rt; machine.cpu().ax, 11);
+        machine.run(1);
+    }
+    Ok(())
+}
+
+#[test]
+fn an_overlay_is_relocated(rt: HostRuntime) -> Result<(), Fail> {
+    let mut machine = caller(rt.alloc(), b"HI.EXE", &mz(0))?;
+    load_program(&mut machine, 3, b"HI.EXE\0", [0x3000, 0x2000]);
+    assert!(rt; !machine.cpu().flags.carry);
+    assert_eq!(rt;
+        [machine.peek(0x3000, 0), machine.peek(0x3000, 1)],
+        [0xF0, 0x3F]
+    );
+    shows(&rt, &machine, &[(0x0102, [b'Z', 0x03, 0x01, 0xFD, 0x9E])]);
+    Ok(())
+}
+
+#[test]
+fn an_exe_file_is_the_first_program(rt: HostRuntime) -> Result<(), Fail> {
+    // a file, what its load answers, and the relocated word
+    let good = mz(0);
+    let greedy = mz(0xFFFF);
+    let rows = [
+        (good.as_slice(), Ok(()), [0x16, 0x02]),
+        (&good[..63], Err(LoadError::BadFormat), [0, 0]),
+        (greedy.as_slice(), Err(LoadError::Short), [0, 0]),
+    ];
+    for (file, answer, word) in rows {
+        let mut machine = machine_of(rt.alloc(), store(rt.alloc(), b"HI.EXE", file)?)?;
+        assert_eq!(rt; machine.load(b"HI.EXE", b""), answer);
+        assert_eq!(rt; [machine.peek(0x0113, 0), machine.peek(0x0113, 1)], word);
+    }
+    Ok(())
+}
+
+/// Keeps 40h paragraphs, and starts itself.
+const NESTED: [u8; 43] = [
+    0xBB, 0x40, 0x00, 0xB4, 0x4A, 0xCD, 0x21, 0xBC, 0x00, 0x04, 0xBA, 0x16, 0x01, 0xBB, 0x1D, 0x01,
+    0xB8, 0x00, 0x4B, 0xCD, 0x21, 0xF4, b'M', b'E', b'.', b'C', b'O', b'M', 0, 0, 0, 0, 0, 0, 0, 0,
+    0, 0, 0, 0, 0, 0, 0,
+];
+
+#[test]
+fn sixteen_programs_are_alive_at_most(rt: HostRuntime) -> Result<(), Fail> {
+    let mut machine = machine_of(rt.alloc(), store(rt.alloc(), b"ME.COM", &NESTED)?)?;
+    machine.load(b"ME.COM", b"")?;
+    assert_eq!(rt; machine.run(1000), Stop::Halted);
+    assert_eq!(rt; machine.cpu().ax, 8);
+    assert_eq!(rt; machine.cpu().cs, 0x0103 + 15 * 0x43);
+    assert_eq!(rt; machine.steps(), 16 * 10);
+    Ok(())
+}
+
+#[test]
+fn no_end_in_a_destroyed_arena(rt: HostRuntime) -> Result<(), Fail> {
+    let mut machine = caller(rt.alloc(), b"HI.COM", &HELLO)?;
+    machine.poke(0x0102, 0, 0);
+    ask(&mut machine, [0x4C07, 0, 0]);
+    assert_eq!(rt; machine.run(1), Stop::Destroyed);
+    assert_eq!(rt; machine.steps(), 1);
+    machine.poke(0x0102, 0, b'Z');
+    assert_eq!(rt; machine.run(1), Stop::Exited(7));
+    shows(
+        &rt,
+        &machine,
+        &[
+            (0x0100, [b'M', 0, 0, 0x01, 0x00]),
+            (0x0102, [b'Z', 0, 0, 0xFD, 0x9E]),
+        ],
+    );
+    Ok(())
+}
