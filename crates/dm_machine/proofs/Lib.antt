@@ -3,3 +3,5 @@ mod StepLaws
 mod OneRun
 mod Memos
 mod Confined
+mod Stores
+mod Keeping

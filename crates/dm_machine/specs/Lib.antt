@@ -1,6 +1,13 @@
 pub mod Text
 pub mod State
 pub mod Services
+pub mod Buffers
+pub mod Characters
+pub mod Lines
+pub mod Flush
+pub mod Handles
+pub mod Vectors
+pub mod System
 pub mod Step
 pub mod Run
 pub mod Start

@@ -1,15 +1,22 @@
 //! The machine: its state, its steps and its runs.
 #![tactic(auto)]
 
+mod buffers;
+mod characters;
 mod config;
+mod flush;
+mod handles;
 mod laws;
+mod lines;
 mod loading;
 mod machine;
 mod memo;
 mod services;
 mod steps;
 mod stop;
+mod system;
 mod text;
+mod vectors;
 
 pub use config::{Config, Sizes};
 pub use dm_exec::{Cpu, Flags};

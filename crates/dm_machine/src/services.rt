@@ -44,7 +44,7 @@ impl Machine {
     }
 
     /// Goes back to where the program called.
-    fn give_back(&mut self)
+    pub(crate) fn give_back(&mut self)
         ensures { self.new ≡ returned self.old }
     {
         interrupt_return(&mut self.cpu, &self.space);
@@ -61,7 +61,7 @@ impl Machine {
 
     /// Writes the text at DS:DX.
     #[tactic(auto, unfolding(crate::specs::Services::print))]
-    fn print(&mut self) -> Result<(), AllocError>
+    pub(crate) fn print(&mut self) -> Result<(), AllocError>
         ensures ok { OnOk result (self.new ≡ (print self.old).state) }
         ensures room { OnErr result (self.old.console.room < length (text_at self.old.memory self.old.cpu.ds self.old.cpu.dx)) }
         ensures err { OnErr result (self.new ≡ self.old) }
