@@ -14,3 +14,5 @@ pub mod Walks
 pub mod OneAnswer
 pub mod Choosing
 pub mod Pairs
+pub mod OnePair
+pub mod Unseen

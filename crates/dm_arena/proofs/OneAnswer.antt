@@ -17,7 +17,7 @@ use Rattle.dm_arena.proofs.Chains.{has_right}
 use Rattle.dm_arena.proofs.Allocating.{in_middle}
 use Rattle.dm_arena.proofs.Unique.{arena_unique, becomes_unique, fills_of, join_fills, split_unique}
 
-prefers-same : (st : Strategy) (b c : Header) → IsTrue (prefers st b c) → IsTrue (prefers st c b) → b.segment ≡ c.segment
+pub prefers-same : (st : Strategy) (b c : Header) → IsTrue (prefers st b c) → IsTrue (prefers st c b) → b.segment ≡ c.segment
 prefers-same First b c x y = grind (arith, nat_tests)
 prefers-same Best b c x y = grind (arith, nat_tests)
 prefers-same Last b c x y = grind (arith, nat_tests)

@@ -286,7 +286,7 @@ module _ (S : Memory) (start : ℕ) (st : Strategy) (n : ℕ) (L : List Header) 
 
   -- no room for the second block
   module _ (least most left m : ℕ) (left-of : left ≡ largest (left_of (Some s) (join L))) (size-of : m ≡ min most left) where
-    size_same : (o k : ℕ) → Pairing S start st n least most o k → k ≡ m
+    pub size_same : (o k : ℕ) → Pairing S start st n least most o k → k ≡ m
     size_same o k p =
         let h : 0 < o = (let y = p.owner_is in omega arith) in
         p.size_is ∙ ap (min most) (ap largest (changed-same S start st n p.first (taking_of S start st n L b a e) o) ∙ left-largest o h ∙ sym left-of) ∙ sym size-of

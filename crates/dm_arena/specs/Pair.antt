@@ -1,13 +1,13 @@
 -- Two blocks planned together and written together: the environment of a program, and the program's own block.
 -- MS-DOS Programmer's Reference, function 4Bh.
-use Rattle.std.specs.Prelude.{◌≡◌, ℕ, ◌+◌, ◌≤◌, ◌⊎◌, min, List, ◌∷◌, ◌++◌, MatchOption}
+use Rattle.std.specs.Prelude.{◌≡◌, ℕ, ◌+◌, ◌≤◌, ◌⊎◌, min, List, ◌∷◌, ◌++◌, MatchOption, Result, Ok, Err}
 use Rattle.dm_space.specs.Memory.{Memory}
 use Rattle.dm_arena.specs.declared.header.Header.{Header}
 use Rattle.dm_arena.specs.declared.fit.Strategy.{Strategy}
 use Rattle.dm_arena.specs.declared.cut.Cut.{Cut}
 use Rattle.dm_arena.specs.declared.refusal.Refusal.{Refusal}
 use Rattle.dm_arena.specs.declared.refusal.Refusal.TheVariants.{Destroyed, Short, NoBlock}
-use Rattle.dm_arena.specs.Chain.{first_header, next, IsArena, NoArena, IsClear}
+use Rattle.dm_arena.specs.Chain.{first_header, next, IsArena, NoArena, IsClear, Becomes}
 use Rattle.dm_arena.specs.Blocks.{join, largest, IsFit, cut, taken}
 use Rattle.dm_arena.specs.Allocation.{Taking, changed}
 
@@ -55,6 +55,22 @@ pub record IsPair (S : Memory) (start : ℕ) (strategy : Strategy) (environment 
   pub first_is : pair.first ≡ cut strategy environment pair.program pairing.first.block
   pub second_is : pair.second ≡ cut strategy pair.size pair.program pairing.block
   pub clear : IsClear S (paired pairing)
+
+-- where the blocks of a pair are: the segments of both, and the size of the program's in paragraphs
+pub record Placed : Type 0 where
+  pub environment : ℕ
+  pub program : ℕ
+  pub size : ℕ
+
+abbrev pub placed_of : Planned → Placed
+placed_of pair = record { environment = pair.environment; program = pair.program; size = pair.size }
+
+-- a pair planned and written, from memory S to memory T
+abbrev pub Pairs : Memory → Strategy → ℕ → ℕ → ℕ → Result Placed Refusal → Memory → Type 0
+Pairs S strategy environment least most (Ok placed) T =
+    (pair : Planned) × (p : IsPair S first_header strategy environment least most pair) × (placed ≡ placed_of pair)
+    × Becomes S first_header (paired p.pairing) T
+Pairs S strategy environment least most (Err e) T = (T ≡ S) × PairRefused S first_header strategy environment least most e
 
 -- the memory is as the pair was planned on
 pub record IsPlannedOn (S : Memory) (pair : Planned) : Type 0 where

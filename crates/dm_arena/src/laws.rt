@@ -1,5 +1,5 @@
 //! Laws of the arena's definitions, proved of no memory in particular.
-ghost use Rattle.dm_arena.specs.Laws.{ChainIsUnique, ChainIsShort, AllocationHasOneAnswer, FreeingHasOneAnswer, ResizingHasOneAnswer, ReleasingHasOneAnswer};
+ghost use Rattle.dm_arena.specs.Laws.{ChainIsUnique, ChainIsShort, AllocationHasOneAnswer, FreeingHasOneAnswer, ResizingHasOneAnswer, ReleasingHasOneAnswer, PairingHasOneAnswer, IgnoresUnseen};
 
 /// Memory spells at most one list from a segment on.
 pub fn chain_is_unique()
@@ -30,4 +30,15 @@ pub fn resizing_has_one_answer()
 /// Memory and owner determine what freeing an owner's blocks answers and every byte that it leaves.
 pub fn releasing_has_one_answer()
     ensures { ReleasingHasOneAnswer }
+{}
+
+/// Memory, strategy and sizes determine where a pair of blocks lies, why none is planned, and every
+/// byte that it leaves.
+pub fn pairing_has_one_answer()
+    ensures { PairingHasOneAnswer }
+{}
+
+/// No call depends on bytes that no address shows, or changes them.
+pub fn ignores_unseen()
+    ensures { IgnoresUnseen }
 {}

@@ -1,3 +1,2 @@
 pub mod Halts
 pub mod Unseen
-pub mod Pages

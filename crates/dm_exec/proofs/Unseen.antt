@@ -44,7 +44,8 @@ use Rattle.dm_exec.specs.Products.{multiplied, after_division, divided}
 use Rattle.dm_exec.specs.Jumps.{target_of, jumped, jumped_where, jumped_if, counted_down, looped, far_jumped, called, far_called, returned, far_returned, transferred}
 use Rattle.dm_exec.specs.Strings.{source, destination, once, counted, string_effect}
 use Rattle.dm_exec.specs.Effect.{act, effect}
-use Rattle.dm_exec.specs.Unseen.{IsUnseen, changed, IgnoresUnseen}
+use Rattle.dm_space.specs.Unseen.{IsUnseen}
+use Rattle.dm_exec.specs.Unseen.{changed, IgnoresUnseen}
 
 value_of-unseen : (f : Memory → Memory) (u : IsUnseen f) (g : Guest) (override : Option SegmentRegister) (o : Operand) → value_of (changed f g) override o ≡ value_of g override o
 unfolding value_of

@@ -1,42 +1,38 @@
 -- A run neither depends on what no program sees, nor changes it
-use Rattle.std.proofs.Common.{◌≡◌, ℕ, suc, zero, ◌%◌, ◌==◌, Bool, true, false, cond, List, ◌∷◌, Option, Some, None, refl, sym, ◌∙◌, ap, subst}
-use Rattle.dm_space.specs.Memory.{Memory, peek, linear}
-use Rattle.dm_space.specs.Unseen.{unseen_as}
+use Rattle.std.proofs.Common.{◌≡◌, ℕ, Bool, true, false, Option, Some, None, Result, Ok, Err, refl, sym, ◌∙◌, ap, subst}
+use Rattle.dm_space.specs.Memory.{Memory}
+use Rattle.dm_space.specs.Unseen.{unseen_as, IsUnseen}
 use Rattle.dm_ins.specs.declared.ins.Ins.{Ins}
-use Rattle.dm_ins.specs.declared.operand.ByteRegister.TheVariants.{Al, Ah}
+use Rattle.dm_ins.specs.declared.operand.ByteRegister.TheVariants.{Ah}
 use Rattle.dm_exec.specs.declared.cpu.Cpu.{Cpu}
 use Rattle.dm_exec.specs.declared.effect.Next.{Next}
 use Rattle.dm_exec.specs.declared.effect.Next.TheVariants.{Go, Halt}
 use Rattle.dm_exec.specs.Cpu.{byte_of}
 use Rattle.dm_exec.specs.Guest.{Guest, guest}
-use Rattle.dm_exec.specs.Stack.{interrupt_return}
 use Rattle.dm_exec.specs.Effect.{effect, next_of}
-use Rattle.dm_exec.specs.Unseen.{IsUnseen, changed}
-use Rattle.dm_exec.proofs.Unseen.{effect-unseen, interrupt_return-unseen}
-use Rattle.dm_exec.proofs.Pages.{pages-unseen}
-use Rattle.dm_proc.specs.Writes.{bytes_from}
+use Rattle.dm_exec.specs.Unseen.{changed}
+use Rattle.dm_exec.proofs.Unseen.{effect-unseen}
+use Rattle.dm_space.proofs.Unseen.{pages-unseen}
 use Rattle.dm_machine.specs.declared.stop.Stop.{Stop}
 use Rattle.dm_machine.specs.declared.stop.Stop.TheVariants.{Memory as NoMemory}
 use Rattle.dm_machine.specs.declared.services.Service.{Service}
 use Rattle.dm_machine.specs.declared.services.Service.TheVariants.{DivideError, Terminate, Dos}
+use Rattle.dm_machine.specs.declared.functions.Function.{Function}
+use Rattle.dm_machine.specs.declared.functions.Function.TheVariants.{EchoCharacter, WriteCharacter, DirectCharacter, ReadCharacter, WriteText, ReadLine, CheckInput, FlushAndRead, SetVector, Version, GetVector, ReadHandle, WriteHandle, Allocate, Free, Resize, Exit, Process, AllocationStrategy, Unknown}
+use Rattle.dm_arena.specs.declared.fit.Strategy.{Strategy}
+use Rattle.dm_arena.specs.declared.refusal.Refusal.{Refusal}
+use Rattle.dm_arena.proofs.Unseen.{allocation-unseen, freeing-unseen, resizing-unseen}
 use Rattle.dm_machine.specs.State.{State, Answer}
-use Rattle.dm_machine.specs.Text.{text_within}
-use Rattle.dm_machine.specs.Services.{service_at, ended, print, no_function, dos_call, served, MayWant}
+use Rattle.dm_machine.specs.Text.{text_within, print}
+use Rattle.dm_machine.specs.Allocation.{answered, allocated, settled, strategy_of, strategy_set, strategy_call}
+use Rattle.dm_machine.specs.Functions.{function_of, no_function, Calls}
+use Rattle.dm_machine.specs.Services.{service_at, Serves}
+use Rattle.dm_machine.specs.Wanting.{MayWant}
 use Rattle.dm_machine.specs.Step.{Steps, Runs, Acts, Instructs, listed, unlisted, Begins, fetched, after, instructed}
 use Rattle.dm_machine.specs.Run.{Answers, here, further, StopsWithin, over, whole, cut}
 use Rattle.dm_machine.specs.Laws.{with_change, UnseenBytesChangeNoStep, UnseenBytesChangeNoRun, UnseenPagesChangeNoRun}
-
-abbrev answer_with : (Memory → Memory) → Answer → Answer
-answer_with f x = record { stop = x.stop; state = with_change f x.state }
-
-byte-unseen : (f : Memory → Memory) (u : IsUnseen f) (m : Memory) (s o : ℕ) → peek (f m) (linear (f m).a20 s o) ≡ peek m (linear m.a20 s o)
-byte-unseen f u m s o = ap (λ on. peek (f m) (linear on s o)) (u.a20 m) ∙ u.peek_same m (linear m.a20 s o)
-
-bytes_from-unseen : (f : Memory → Memory) (u : IsUnseen f) (m : Memory) (s o n : ℕ) → bytes_from (f m) s o n ≡ bytes_from m s o n
-bytes_from-unseen f u m s o zero = refl
-bytes_from-unseen f u m s o (suc n) =
-    ap (λ b. b ∷ bytes_from (f m) s (suc o) n) (byte-unseen f u m s (o % 65536))
-    ∙ ap (λ (bytes : List ℕ). peek m (linear m.a20 s (o % 65536)) ∷ bytes) (bytes_from-unseen f u m s (suc o) n)
+use Rattle.dm_machine.proofs.UnseenParts.{answer_with, bytes_from-unseen, return-parts, choice-unseen}
+use Rattle.dm_machine.proofs.ConsoleUnseen.{read_character-unseen, echo_character-unseen, write_character-unseen, direct_character-unseen, check_input-unseen, read_line-unseen, flush_and_read-unseen, read_handle-unseen, write_handle-unseen, set_vector-unseen, get_vector-unseen, tell_version-unseen, tell_process-unseen}
 
 text-unseen : (f : Memory → Memory) (u : IsUnseen f) (m : Memory) (s o n : ℕ) → text_within (f m) s o n ≡ text_within m s o n
 unfolding text_within
@@ -46,10 +42,6 @@ fetched-unseen : (f : Memory → Memory) (u : IsUnseen f) (m : Memory) (c : Cpu)
 unfolding fetched
 fetched-unseen f u m c = simp (u.a20, u.peek_same)
 
--- by its parts, as `simp` finds them
-return-parts : (f : Memory → Memory) (u : IsUnseen f) (c : Cpu) (m : Memory) → interrupt_return (guest c (f m)) ≡ record (interrupt_return (guest c m)) { memory = f (interrupt_return (guest c m)).memory }
-return-parts f u c m = interrupt_return-unseen f u (guest c m)
-
 print-unseen : (f : Memory → Memory) (u : IsUnseen f) (s : State) → print (with_change f s) ≡ answer_with f (print s)
 unfolding print
 print-unseen f u s = simp (text-unseen f u, return-parts f u)
@@ -58,19 +50,69 @@ no_function-unseen : (f : Memory → Memory) (u : IsUnseen f) (s : State) → no
 unfolding no_function
 no_function-unseen f u s = simp (return-parts f u)
 
-choice-unseen : (f : Memory → Memory) (b : Bool) (x y v w : Answer) → v ≡ answer_with f x → w ≡ answer_with f y → cond b v w ≡ answer_with f (cond b x y)
-choice-unseen f true x y v w e h = e
-choice-unseen f false x y v w e h = h
+-- the answers of the calls that allocate
+answered-unseen : (f : Memory → Memory) (u : IsUnseen f) (s : State) (c : Cpu) (m : Memory) (b : Bool) → answered (with_change f s) c (f m) b ≡ answer_with f (answered s c m b)
+answered-unseen f u s c m b = simp (return-parts f u)
 
-dos_call-unseen : (f : Memory → Memory) (u : IsUnseen f) (s : State) → dos_call (with_change f s) ≡ answer_with f (dos_call s)
-unfolding dos_call
-dos_call-unseen f u s =
-    choice-unseen f _ _ _ _ _ (print-unseen f u s) (choice-unseen f (byte_of s.cpu Ah == 0x4C) (ended s (byte_of s.cpu Al)) (no_function s) _ _ refl (no_function-unseen f u s))
+allocated-unseen : (f : Memory → Memory) (u : IsUnseen f) (s : State) (r : Result ℕ Refusal) (m : Memory) → allocated (with_change f s) r (f m) ≡ answer_with f (allocated s r m)
+allocated-unseen f u s (Ok segment) m = answered-unseen f u s _ m false
+allocated-unseen f u s (Err e) m = answered-unseen f u s _ m true
 
-served-unseen : (f : Memory → Memory) (u : IsUnseen f) (s : State) (service : Service) → served (with_change f s) service ≡ answer_with f (served s service)
-served-unseen f u s DivideError = refl
-served-unseen f u s Terminate = refl
-served-unseen f u s Dos = dos_call-unseen f u s
+settled-unseen : (f : Memory → Memory) (u : IsUnseen f) (s : State) (r : Result (Unit {0}) Refusal) (m : Memory) → settled (with_change f s) r (f m) ≡ answer_with f (settled s r m)
+settled-unseen f u s (Ok x) m = answered-unseen f u s _ m false
+settled-unseen f u s (Err e) m = answered-unseen f u s _ m true
+
+strategy_set-unseen : (f : Memory → Memory) (u : IsUnseen f) (s : State) (o : Option Strategy) → strategy_set (with_change f s) o ≡ answer_with f (strategy_set s o)
+strategy_set-unseen f u s None = answered-unseen f u s _ s.memory true
+strategy_set-unseen f u s (Some strategy) = answered-unseen f u (record s { strategy = strategy }) s.cpu s.memory false
+
+strategy-unseen : (f : Memory → Memory) (u : IsUnseen f) (s : State) → strategy_call (with_change f s) ≡ answer_with f (strategy_call s)
+unfolding strategy_call
+strategy-unseen f u s =
+    choice-unseen f _ _ _ _ _ (answered-unseen f u s _ s.memory false)
+    (choice-unseen f _ _ _ _ _ (strategy_set-unseen f u s (strategy_of s.cpu.bx)) (answered-unseen f u s _ s.memory true))
+
+calls-unseen : (f : Memory → Memory) (u : IsUnseen f) (s : State) (g : Function) (x : Answer) → Calls s g x → Calls (with_change f s) g (answer_with f x)
+calls-unseen f u s EchoCharacter x e = ap (answer_with f) e ∙ sym (echo_character-unseen f u s)
+calls-unseen f u s WriteCharacter x e = ap (answer_with f) e ∙ sym (write_character-unseen f u s)
+calls-unseen f u s DirectCharacter x e = ap (answer_with f) e ∙ sym (direct_character-unseen f u s)
+calls-unseen f u s ReadCharacter x e = ap (answer_with f) e ∙ sym (read_character-unseen f u s)
+calls-unseen f u s WriteText x e = ap (answer_with f) e ∙ sym (print-unseen f u s)
+calls-unseen f u s ReadLine x e = ap (answer_with f) e ∙ sym (read_line-unseen f u s)
+calls-unseen f u s CheckInput x e = ap (answer_with f) e ∙ sym (check_input-unseen f u s)
+calls-unseen f u s FlushAndRead x e = ap (answer_with f) e ∙ sym (flush_and_read-unseen f u s)
+calls-unseen f u s SetVector x e = ap (answer_with f) e ∙ sym (set_vector-unseen f u s)
+calls-unseen f u s Version x e = ap (answer_with f) e ∙ sym (tell_version-unseen f u s)
+calls-unseen f u s GetVector x e = ap (answer_with f) e ∙ sym (get_vector-unseen f u s)
+calls-unseen f u s ReadHandle x e = ap (answer_with f) e ∙ sym (read_handle-unseen f u s)
+calls-unseen f u s WriteHandle x e = ap (answer_with f) e ∙ sym (write_handle-unseen f u s)
+calls-unseen f u s Process x e = ap (answer_with f) e ∙ sym (tell_process-unseen f u s)
+calls-unseen f u s Allocate x a = record {
+  result = a.result;
+  memory = f a.memory;
+  allocates = allocation-unseen f u s.memory a.memory s.strategy s.cpu.bx s.processes.present a.result a.allocates;
+  answer = ap (answer_with f) a.answer ∙ sym (allocated-unseen f u s a.result a.memory);
+}
+calls-unseen f u s Free x a = record {
+  result = a.result;
+  memory = f a.memory;
+  frees = freeing-unseen f u s.memory a.memory s.cpu.es a.result a.frees;
+  answer = ap (answer_with f) a.answer ∙ sym (settled-unseen f u s a.result a.memory);
+}
+calls-unseen f u s Resize x a = record {
+  result = a.result;
+  memory = f a.memory;
+  resizes = resizing-unseen f u s.memory a.memory s.cpu.es s.cpu.bx a.result a.resizes;
+  answer = ap (answer_with f) a.answer ∙ sym (settled-unseen f u s a.result a.memory);
+}
+calls-unseen f u s AllocationStrategy x e = ap (answer_with f) e ∙ sym (strategy-unseen f u s)
+calls-unseen f u s Exit x e = ap (answer_with f) e
+calls-unseen f u s Unknown x e = ap (answer_with f) e ∙ sym (no_function-unseen f u s)
+
+serves-unseen : (f : Memory → Memory) (u : IsUnseen f) (s : State) (service : Service) (x : Answer) → Serves s service x → Serves (with_change f s) service (answer_with f x)
+serves-unseen f u s DivideError x e = ap (answer_with f) e
+serves-unseen f u s Terminate x e = ap (answer_with f) e
+serves-unseen f u s Dos x h = calls-unseen f u s (function_of (byte_of s.cpu Ah)) x h
 
 after-unseen : (f : Memory → Memory) (s : State) (n : Next) (g : Guest) → after (with_change f s) n (changed f g) ≡ answer_with f (after s n g)
 after-unseen f s Go g = refl
@@ -88,7 +130,7 @@ instructs-unseen f u s x (unlisted h e) =
     unlisted (λ i k b. h i k (subst (λ xs. Begins xs i k) (fetched-unseen f u s.memory s.cpu) b)) (ap (answer_with f) e)
 
 acts-unseen : (f : Memory → Memory) (u : IsUnseen f) (s : State) (o : Option Service) (x : Answer) → Acts s o x → Acts (with_change f s) o (answer_with f x)
-acts-unseen f u s (Some service) x e = ap (answer_with f) e ∙ sym (served-unseen f u s service)
+acts-unseen f u s (Some service) x h = serves-unseen f u s service x h
 acts-unseen f u s None x h = instructs-unseen f u s x h
 
 runs-unseen : (f : Memory → Memory) (u : IsUnseen f) (s : State) (o : Option ℕ) (x : Answer) → Runs s o x → Runs (with_change f s) o (answer_with f x)
@@ -99,9 +141,8 @@ steps-unseen : (f : Memory → Memory) (u : IsUnseen f) (s : State) (x : Answer)
 unfolding Steps
 steps-unseen f u s x h = runs-unseen f u s s.exited x h
 
-wants-unseen : (f : Memory → Memory) (u : IsUnseen f) (s : State) → MayWant s → MayWant (with_change f s)
-unfolding MayWant
-wants-unseen f u s h = (h.0, h.1, h.2, rw (text-unseen f u s.memory s.cpu.ds s.cpu.dx 65536) h.3)
+wants-unseen : (f : Memory → Memory) (u : IsUnseen f) (s : State) → MayWant s (Steps s) → MayWant (with_change f s) (Steps (with_change f s))
+wants-unseen f u s w = record { answer = answer_with f w.answer; gives = steps-unseen f u s w.answer w.gives; overflows = w.overflows }
 
 answers-unseen : (f : Memory → Memory) (u : IsUnseen f) (s : State) (stop : Option Stop) (t : State) → Answers s stop t → Answers (with_change f s) stop (with_change f t)
 answers-unseen f u s (Some NoMemory) t h = (wants-unseen f u s h.0, ap (with_change f) h.1)

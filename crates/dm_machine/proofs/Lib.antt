@@ -2,6 +2,10 @@ mod Texts
 mod StepLaws
 mod OneRun
 mod Memos
+mod UnseenParts
+mod ConsoleUnseen
 mod Confined
 mod Stores
 mod Keeping
+mod Calls
+mod Wants

@@ -37,8 +37,8 @@ pub stored-more : (start now after : Held) (s o : ℕ) (xs : List ℕ) (k b : �
     after ≡ record now { memory = with_next now.memory s (o + k) b } → IsStored start s o xs (k + 1) after
 stored-more start now after s o xs k b w h e f = record {
   is = f ∙ ap (λ (g : Held). record g { memory = with_next g.memory s (o + k) b }) w.is
-    ∙ ap (λ v. record start { memory = with_next (with_bytes start.memory s o (take k xs)) s (o + k) v }) e
-    ∙ ap (λ m. record start { memory = m }) (sym (one-more start.memory s o xs k h));
+      ∙ ap (λ v. record start { memory = with_next (with_bytes start.memory s o (take k xs)) s (o + k) v }) e
+      ∙ ap (λ m. record start { memory = m }) (sym (one-more start.memory s o xs k h));
 }
 
 pub stored-all : (start now : Held) (s o : ℕ) (xs : List ℕ) (k : ℕ) → IsStored start s o xs k now → k ≡ length xs → now ≡ record start { memory = with_bytes start.memory s o xs }
@@ -71,7 +71,7 @@ pub sent-more : (start now after : Streams) (m : Memory) (s o k b : ℕ) → IsS
 sent-more start now after m s o k b w h e f =
     rw f record {
       output = ap (λ (xs : List ℕ). xs ++ b ∷ []) w.output ∙ append_assoc start.output (bytes_from m s o k) (b ∷ [])
-        ∙ ap (λ (xs : List ℕ). start.output ++ xs) (ap (λ v. bytes_from m s o k ++ v ∷ []) e ∙ rw add-one (sym (bytes_from-more m s o k)));
+          ∙ ap (λ (xs : List ℕ). start.output ++ xs) (ap (λ v. bytes_from m s o k ++ v ∷ []) e ∙ rw add-one (sym (bytes_from-more m s o k)));
       room = let was = w.room in omega arith;
       input = w.input;
     }

@@ -7,7 +7,7 @@ use Rattle.dm_exec.specs.Cpu.{byte_of, with_byte}
 use Rattle.dm_ins.specs.declared.operand.ByteRegister.TheVariants.{Al, Dl}
 use Rattle.dm_machine.specs.declared.stop.Stop.TheVariants.{InputEnded}
 use Rattle.dm_machine.specs.State.{State, Answer, go, stop_at, returned}
-use Rattle.dm_machine.specs.Services.{written}
+use Rattle.dm_machine.specs.Text.{written}
 
 abbrev pub with_al : State → ℕ → State
 with_al s byte = record s { cpu = with_byte s.cpu Al byte }

@@ -1,8 +1,7 @@
 -- Laws of steps and runs.
 use Rattle.std.specs.Prelude.{◌≡◌, ℕ, List}
 use Rattle.dm_space.specs.Memory.{Memory}
-use Rattle.dm_space.specs.Unseen.{unseen_as}
-use Rattle.dm_exec.specs.Unseen.{IsUnseen}
+use Rattle.dm_space.specs.Unseen.{unseen_as, IsUnseen}
 use Rattle.dm_machine.specs.declared.stop.Stop.{Stop}
 use Rattle.dm_machine.specs.State.{State, Answer}
 use Rattle.dm_machine.specs.Step.{Steps}

@@ -1,6 +1,6 @@
-pub mod Text
 pub mod State
-pub mod Services
+pub mod Wanting
+pub mod Text
 pub mod Buffers
 pub mod Characters
 pub mod Lines
@@ -8,6 +8,9 @@ pub mod Flush
 pub mod Handles
 pub mod Vectors
 pub mod System
+pub mod Allocation
+pub mod Functions
+pub mod Services
 pub mod Step
 pub mod Run
 pub mod Start

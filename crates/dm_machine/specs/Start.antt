@@ -3,6 +3,7 @@ use Rattle.std.specs.Prelude.{◌≡◌, ℕ, ◌<◌, ◌⊎◌, false, List, [
 use Rattle.dm_space.specs.Start.{IsStart}
 use Rattle.dm_alu.specs.declared.flags.Flags.{Flags}
 use Rattle.dm_exec.specs.declared.cpu.Cpu.{Cpu}
+use Rattle.dm_arena.specs.declared.fit.Strategy.TheVariants.{First}
 use Rattle.dm_load.specs.declared.format.Kind.TheVariants.{Com}
 use Rattle.dm_load.specs.Image.{kind_of, IsGood}
 use Rattle.dm_proc.specs.declared.psp.Arguments.{Arguments}
@@ -29,6 +30,7 @@ pub record IsNew (sizes : Sizes) (variables : List ℕ) (programs : List (List �
     memory = s.memory;
     console = record { input = input; output = []; room = 0 };
     processes = record { present = 0 };
+    strategy = First;
     exited = None;
     steps = 0;
     programs = programs;

@@ -1,13 +1,14 @@
 -- The state of the machine, and what a step answers.
-use Rattle.std.specs.Prelude.{◌≡◌, ℕ, ◌+◌, ◌-◌, ◌^◌, ◌<◌, min, Bool, List, length, Option, Some, None}
+use Rattle.std.specs.Prelude.{ℕ, ◌+◌, ◌-◌, ◌^◌, ◌<◌, min, Bool, List, Option, Some, None}
 use Rattle.dm_space.specs.Memory.{Memory}
 use Rattle.dm_exec.specs.declared.cpu.Cpu.{Cpu}
 use Rattle.dm_exec.specs.Guest.{Guest, guest}
 use Rattle.dm_exec.specs.Stack.{interrupt_return}
 use Rattle.dm_console.specs.Streams.{Streams}
+use Rattle.dm_arena.specs.declared.fit.Strategy.{Strategy}
 use Rattle.dm_proc.specs.Processes.{Processes}
 use Rattle.dm_machine.specs.declared.stop.Stop.{Stop}
-use Rattle.dm_machine.specs.declared.stop.Stop.TheVariants.{Memory as NoMemory}
+use Rattle.dm_machine.specs.declared.stop.Stop.TheVariants.{Exited}
 use Rattle.dm_machine.specs.declared.config.Sizes.{Sizes}
 
 pub record State : Type 0 where
@@ -15,6 +16,8 @@ pub record State : Type 0 where
   pub memory : Memory
   pub console : Streams
   pub processes : Processes
+  -- which free block an allocation takes
+  pub strategy : Strategy
   -- the code with which the first program ended
   pub exited : Option ℕ
   -- how many steps were made; at 2^64 - 1 the count stays
@@ -51,11 +54,6 @@ returned s = with_guest s (interrupt_return (guest s.cpu s.memory))
 abbrev pub with_carry : State → Bool → State
 with_carry s b = record s { cpu = record s.cpu { flags = record s.cpu.flags { carry = b } } }
 
--- the output of the answer is longer than the room has place for
-abbrev pub Overflows : State → Answer → Type 0
-Overflows s x = s.console.room + length s.console.output < length x.state.console.output
-
--- the answer is the given one; or it writes more bytes than the room, memory is wanting, and nothing changes
-abbrev pub OrMemory : State → Answer → Option Stop → State → Type 0
-OrMemory s x (Some NoMemory) t = Overflows s x × (t ≡ s)
-OrMemory s x stop t = record { stop = stop; state = t } ≡ x
+-- the first program ends: a step that tells the code
+abbrev pub ended : State → ℕ → Answer
+ended s code = record { stop = Some (Exited code); state = (go (record s { exited = Some code })).state }

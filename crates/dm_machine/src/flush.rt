@@ -1,6 +1,6 @@
 //! INT 21h function 0Ch (MS-DOS Programmer's Reference, "Flush Buffer, Read Keyboard").
 ghost use Rattle.std.specs.Prelude.{◌≡◌};
-ghost use Rattle.dm_machine.specs.State.{OrMemory};
+ghost use Rattle.dm_machine.specs.Wanting.{OrMemory};
 ghost use Rattle.dm_machine.specs.Flush.{flush_and_read};
 
 use crate::machine::Machine;
@@ -12,7 +12,8 @@ impl Machine {
     /// dropped: a redirected stream has nothing that was typed ahead.
     #[tactic(auto, unfolding(crate::specs::Flush::flush_and_read))]
     pub(crate) fn flush_and_read(&mut self) -> Option<Stop>
-        ensures { OrMemory self.old (flush_and_read self.old) result self.new }
+        ensures answer { OrMemory self.old (flush_and_read self.old) result self.new }
+        ensures program { self.new.processes ≡ self.old.processes }
     {
         match self.cpu.byte(ByteRegister::Al) {
             0x01 => self.echo_character(),

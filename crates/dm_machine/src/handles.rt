@@ -1,7 +1,7 @@
 //! INT 21h, the handles of the console (MS-DOS Programmer's Reference, functions 3Fh and 40h).
 //! Handles 0 to 2 are the console, each in both directions.
 ghost use Rattle.std.specs.Prelude.{◌≡◌, None};
-ghost use Rattle.dm_machine.specs.State.{OrMemory};
+ghost use Rattle.dm_machine.specs.Wanting.{OrMemory};
 ghost use Rattle.dm_machine.specs.Handles.{bad_handle, read_handle, write_handle};
 
 use crate::buffers::{send, store};
@@ -12,7 +12,8 @@ impl Machine {
     /// Answers that the handle is bad.
     #[tactic(auto, unfolding(crate::specs::Handles::bad_handle))]
     fn bad_handle(&mut self)
-        ensures { record { stop = None; state = self.new } ≡ bad_handle self.old }
+        ensures answer { record { stop = None; state = self.new } ≡ bad_handle self.old }
+        ensures program { self.new.processes ≡ self.old.processes }
     {
         self.cpu.ax = 6;
         self.give_back();
@@ -22,12 +23,13 @@ impl Machine {
 
     /// 3Fh: takes CX bytes of the input, or all that are left, to DS:DX. AX tells how many.
     #[tactic(auto, unfolding(crate::specs::Handles::read_handle))]
-    pub(crate) fn read_handle(&mut self)
-        ensures { record { stop = None; state = self.new } ≡ read_handle self.old }
+    pub(crate) fn read_handle(&mut self) -> Option<Stop>
+        ensures answer { OrMemory self.old (read_handle self.old) result self.new }
+        ensures program { self.new.processes ≡ self.old.processes }
     {
         if self.cpu.bx > 2 {
             self.bad_handle();
-            return;
+            return None;
         }
         let count = self.console.left().min(self.cpu.cx as usize);
         store(
@@ -41,12 +43,14 @@ impl Machine {
         self.give_back();
         self.cpu.flags.carry = false;
         self.count();
+        None
     }
 
     /// 40h: writes the CX bytes at DS:DX, or stops with `Memory`. AX is their count.
     #[tactic(auto, using(crate::proofs::Stores::lengths), unfolding(crate::specs::Handles::write_handle))]
     pub(crate) fn write_handle(&mut self) -> Option<Stop>
-        ensures { OrMemory self.old (write_handle self.old) result self.new }
+        ensures answer { OrMemory self.old (write_handle self.old) result self.new }
+        ensures program { self.new.processes ≡ self.old.processes }
     {
         if self.cpu.bx > 2 {
             self.bad_handle();

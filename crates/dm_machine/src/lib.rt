@@ -1,10 +1,12 @@
 //! The machine: its state, its steps and its runs.
 #![tactic(auto)]
 
+mod allocation;
 mod buffers;
 mod characters;
 mod config;
 mod flush;
+mod functions;
 mod handles;
 mod laws;
 mod lines;

@@ -1,7 +1,7 @@
 //! INT 21h function 0Ah, a line of the console (MS-DOS Programmer's Reference, "Buffered Keyboard
 //! Input"). The buffer begins with how many bytes it is for, then comes how many it got.
 ghost use Rattle.std.specs.Prelude.{◌≡◌, ◌<◌, ◌≤◌, IfSome, length};
-ghost use Rattle.dm_machine.specs.State.{OrMemory};
+ghost use Rattle.dm_machine.specs.Wanting.{OrMemory};
 ghost use Rattle.dm_machine.specs.Lines.{line_length, kept, read_line};
 
 use crate::buffers::store;
@@ -39,7 +39,8 @@ impl Machine {
     /// least one byte and no 0Dh is left.
     #[tactic(auto, unfolding(crate::specs::Lines::read_line))]
     pub(crate) fn read_line(&mut self) -> Option<Stop>
-        ensures { OrMemory self.old (read_line self.old) result self.new }
+        ensures answer { OrMemory self.old (read_line self.old) result self.new }
+        ensures program { self.new.processes ≡ self.old.processes }
     {
         let segment = self.cpu.ds;
         let offset = self.cpu.dx;
@@ -51,7 +52,12 @@ impl Machine {
             let mut bytes = kept(size, &self.console.input()[..length]);
             let count = bytes.len() as u8;
             bytes.push(b'\r');
-            store(&mut self.space, segment, offset.wrapping_add(2), bytes.as_slice());
+            store(
+                &mut self.space,
+                segment,
+                offset.wrapping_add(2),
+                bytes.as_slice(),
+            );
             store(&mut self.space, segment, offset.wrapping_add(1), &[count]);
             self.console.consume(length + 1);
         }

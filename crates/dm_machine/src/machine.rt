@@ -7,6 +7,7 @@ ghost use Rattle.dm_machine.specs.State.{HasProgram};
 use crate::config::{Config, Sizes};
 use crate::memo::Memo;
 use dm_alu::Flags;
+use dm_arena::Strategy;
 use dm_console::Console;
 use dm_exec::Cpu;
 use dm_proc::{Procs, Programs};
@@ -28,14 +29,15 @@ pub enum NewError {
 
 /// A machine that runs one program, and those that it starts.
 ///
-/// Contracts see its state: registers, memory, console, processes, the code with which the first
-/// program ended, the count of steps, and what no step changes.
+/// Contracts see its state: registers, memory, console, processes, the allocation strategy, the code
+/// with which the first program ended, the count of steps, and what no step changes.
 #[derive(Drop)]
 pub struct Machine {
     pub(crate) cpu: Cpu,
     pub(crate) space: Space,
     pub(crate) console: Console,
     pub(crate) procs: Procs,
+    pub(crate) strategy: Strategy,
     pub(crate) exited: Option<u8>,
     pub(crate) steps: u64,
     pub(crate) programs: Programs,
@@ -55,6 +57,7 @@ impl Model for Machine {
       memory = m.space.memory;
       console = m.console;
       processes = m.procs;
+      strategy = m.strategy;
       exited = m.exited;
       steps = m.steps;
       programs = m.programs;
@@ -119,6 +122,7 @@ impl Machine {
             space,
             console: Console::new(alloc, input),
             procs: Procs::new(),
+            strategy: Strategy::First,
             exited: None,
             steps: 0,
             programs,

@@ -1,10 +1,11 @@
 -- Pages that no window shows neither matter to a read nor change by a write
-use Rattle.std.proofs.Common.{◌≡◌, ℕ, suc, zero, ◌+◌, ◌-◌, ◌/◌, ◌%◌, Bool, true, false, cond, nat_lt, List, [], ◌∷◌, Option, Some, None, get_or, set, refl, sym, ◌∙◌, ap, subst, arith, zero-add}
+use Rattle.std.proofs.Common.{◌≡◌, ℕ, suc, zero, ◌+◌, ◌-◌, ◌/◌, ◌%◌, Bool, true, false, cond, nat_lt, List, [], ◌∷◌, length, Option, Some, None, get_or, set, refl, sym, ◌∙◌, ap, subst, arith, zero-add}
 use Rattle.std.proofs.lemmas.Bool.Decides.{nat_tests}
 use Rattle.dm_space.specs.declared.place.Place.{Place}
 use Rattle.dm_space.specs.declared.place.Place.TheVariants.{Low, Page, Rom, Nothing}
 use Rattle.dm_space.specs.Memory.{Memory, place, shown, peek, poke, byte_at, with_byte, page_bytes}
-use Rattle.dm_space.specs.Unseen.{shows, mixed, unseen_as, ReadsIgnoreUnseen, WritesKeepUnseen}
+use Rattle.dm_space.specs.Places.{IsShaped}
+use Rattle.dm_space.specs.Unseen.{shows, mixed, unseen_as, ReadsIgnoreUnseen, WritesKeepUnseen, UnseenPagesAreUnseen}
 
 mixed-get : (seen : ℕ → Bool) (other : ℕ → List ℕ) (i : ℕ) (xs : List (List ℕ)) (k : ℕ) → seen (i + k) ≡ true → get_or (mixed seen other i xs) k [] ≡ get_or xs k []
 mixed-get seen other i [] k h = refl
@@ -88,3 +89,59 @@ poke-unseen m other a v = ap (λ p. with_byte (unseen_as m other) p v) (place-un
 pub a20-unseen : (m : Memory) (other : ℕ → List ℕ) → (unseen_as m other).a20 ≡ m.a20
 unfolding unseen_as
 a20-unseen m other = refl
+
+length-mixed : (seen : ℕ → Bool) (other : ℕ → List ℕ) (i : ℕ) (xs : List (List ℕ)) → length (mixed seen other i xs) ≡ length xs
+length-mixed seen other i [] = refl
+length-mixed seen other i (x ∷ xs) = ap suc (length-mixed seen other (suc i) xs)
+
+either-same : (g : List ℕ → ℕ) (b : Bool) (x y o : List ℕ) → g y ≡ g x → g (cond b y o) ≡ g (cond b x o)
+either-same g true x y o e = e
+either-same g false x y o e = refl
+
+-- what is told of a page is the same of both lists after the change, if it is before
+mixed-same : (g : List ℕ → ℕ) (seen : ℕ → Bool) (other : ℕ → List ℕ) (i : ℕ) (xs ys : List (List ℕ)) (k : ℕ) → length ys ≡ length xs →
+    g (get_or ys k []) ≡ g (get_or xs k []) → g (get_or (mixed seen other i ys) k []) ≡ g (get_or (mixed seen other i xs) k [])
+mixed-same g seen other i [] [] k l e = refl
+mixed-same g seen other i [] (y ∷ ys) k l e = absurd (omega arith)
+mixed-same g seen other i (x ∷ xs) [] k l e = absurd (omega arith)
+mixed-same g seen other i (x ∷ xs) (y ∷ ys) zero l e = either-same g (seen i) x y (other i) e
+mixed-same g seen other i (x ∷ xs) (y ∷ ys) (suc k) l e = mixed-same g seen other (suc i) xs ys k (omega arith) e
+
+pages-same : (g : List ℕ → ℕ) (S T : Memory) (other : ℕ → List ℕ) (page : ℕ) → IsShaped S T → g (page_bytes T page) ≡ g (page_bytes S page) →
+    g (page_bytes (unseen_as T other) page) ≡ g (page_bytes (unseen_as S other) page)
+unfolding unseen_as
+pages-same g S T other page shape e =
+    ap (λ windows. g (get_or (mixed (shows windows) other 0 T.pages) page [])) shape.windows
+    ∙ mixed-same g (shows S.windows) other 0 S.pages T.pages page shape.page_count e
+
+count-same : (S T : Memory) (other : ℕ → List ℕ) → IsShaped S T → length (unseen_as T other).pages ≡ length (unseen_as S other).pages
+unfolding unseen_as
+count-same S T other shape =
+    length-mixed (shows T.windows) other 0 T.pages ∙ shape.page_count ∙ sym (length-mixed (shows S.windows) other 0 S.pages)
+
+shape-unseen : (S T : Memory) (other : ℕ → List ℕ) → IsShaped S T → IsShaped (unseen_as S other) (unseen_as T other)
+unfolding unseen_as
+shape-unseen S T other shape = record {
+  a20 = shape.a20;
+  windows = shape.windows;
+  ram_size = shape.ram_size;
+  page_count = count-same S T other shape;
+  page_sizes = λ page. pages-same length S T other page shape (shape.page_sizes page);
+}
+
+byte-unseen : (S T : Memory) (other : ℕ → List ℕ) (p : Place) → IsShaped S T → byte_at T p ≡ byte_at S p → byte_at (unseen_as T other) p ≡ byte_at (unseen_as S other) p
+unfolding unseen_as
+byte-unseen S T other (Low a) shape e = e
+byte-unseen S T other (Page page k) shape e = pages-same (λ (bytes : List ℕ). get_or bytes k 0) S T other page shape e
+byte-unseen S T other (Rom k) shape e = e
+byte-unseen S T other Nothing shape e = e
+
+pub pages-unseen : UnseenPagesAreUnseen
+pages-unseen other = record {
+  a20 = λ m. a20-unseen m other;
+  place_same = λ m a. place-unseen m other a;
+  peek_same = λ m a. peek-unseen m other a;
+  poke_same = λ m a v. poke-unseen m other a v;
+  shape_same = λ S T. shape-unseen S T other;
+  byte_same = λ S T. byte-unseen S T other;
+}

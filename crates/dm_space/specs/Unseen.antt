@@ -1,7 +1,9 @@
 -- Memory with other bytes in the pages of expanded memory that no window shows. A program sees a page only through a
 -- window of the frame (LIM EMS 4.0, section 2).
 use Rattle.std.specs.Prelude.{◌≡◌, ℕ, suc, ◌==◌, ◌||◌, Bool, false, if◌then◌else◌, List, [], ◌∷◌, Option, Some, None}
-use Rattle.dm_space.specs.Memory.{Memory, peek, poke}
+use Rattle.dm_space.specs.declared.place.Place.{Place}
+use Rattle.dm_space.specs.Memory.{Memory, place, peek, poke, byte_at}
+use Rattle.dm_space.specs.Places.{IsShaped}
 
 -- one of the windows shows the page
 abbrev pub shows : List (Option ℕ) → ℕ → Bool
@@ -26,3 +28,17 @@ ReadsIgnoreUnseen = (m : Memory) (other : ℕ → List ℕ) (a : ℕ) → peek (
 abbrev pub WritesKeepUnseen : Type 0
 WritesKeepUnseen =
     (m : Memory) (other : ℕ → List ℕ) (a v : ℕ) → poke (unseen_as m other) a v ≡ unseen_as (poke m a v) other
+
+-- a change of memory that no program sees: no read shows it, each write leaves it as it is, and it alters memories of one
+-- shape alike: at a place where both have one byte, both have one byte after it
+pub record IsUnseen (change : Memory → Memory) : Type 0 where
+  pub a20 : (m : Memory) → (change m).a20 ≡ m.a20
+  pub place_same : (m : Memory) (a : ℕ) → place (change m) a ≡ place m a
+  pub peek_same : (m : Memory) (a : ℕ) → peek (change m) a ≡ peek m a
+  pub poke_same : (m : Memory) (a v : ℕ) → poke (change m) a v ≡ change (poke m a v)
+  pub shape_same : (S T : Memory) → IsShaped S T → IsShaped (change S) (change T)
+  pub byte_same : (S T : Memory) (p : Place) → IsShaped S T → byte_at T p ≡ byte_at S p → byte_at (change T) p ≡ byte_at (change S) p
+
+-- other bytes in pages that no window shows are such a change
+abbrev pub UnseenPagesAreUnseen : Type 0
+UnseenPagesAreUnseen = (other : ℕ → List ℕ) → IsUnseen (λ m. unseen_as m other)

@@ -1,4 +1,4 @@
-use Rattle.std.proofs.Common.{◌≡◌, ◌<◌, arith, subst}
+use Rattle.std.proofs.Common.{◌≡◌, arith, subst}
 use Rattle.dm_machine.proofs.Stores.{IsSent, sent-none, sent-more, sent-all}
 use Rattle.dm_machine.proofs.buffers.send.Goals as goal
 
