@@ -31,6 +31,8 @@ pub use machine::{Machine, NewError};
 pub use stop::Stop;
 
 #[cfg(test)]
+mod allocation_tests;
+#[cfg(test)]
 mod programs;
 #[cfg(test)]
 mod tests;
