@@ -8,4 +8,4 @@ mod Confined
 mod Stores
 mod Keeping
 mod Calls
-mod Wants
+mod Rooms

@@ -25,7 +25,9 @@ pub use dm_exec::{Cpu, Flags};
 pub use dm_out::{Failed, Out};
 pub use dm_proc::{AddError, Programs};
 pub use dm_space::Space;
-pub use laws::{a_step_has_one_answer, there_is_one_run, unseen_bytes_change_nothing};
+pub use laws::{
+    a_step_has_one_answer, room_is_enough, there_is_one_run, unseen_bytes_change_nothing,
+};
 pub use loading::LoadError;
 pub use machine::{Machine, NewError};
 pub use stop::Stop;
