@@ -35,6 +35,8 @@ pub use stop::Stop;
 #[cfg(test)]
 mod allocation_tests;
 #[cfg(test)]
+mod console_tests;
+#[cfg(test)]
 mod programs;
 #[cfg(test)]
 mod tests;
