@@ -78,6 +78,21 @@ impl Console {
         Some(byte)
     }
 
+    /// The input that is left.
+    pub fn input(&self) -> &[u8]
+        ensures { result.now ≡ self.now.input }
+    {
+        &self.input.as_slice()[self.taken..]
+    }
+
+    /// Takes the next `count` bytes of the input. As many are left.
+    pub fn consume(&mut self, count: usize)
+        requires { count ≤ length self.old.input }
+        ensures { self.new ≡ record self.old { input = drop count self.old.input } }
+    {
+        self.taken += count;
+    }
+
     /// How many bytes of the input are left.
     pub fn left(&self) -> usize
         ensures { result ≡ length self.now.input }

@@ -1,5 +1,5 @@
 -- Each call leaves a present process, and its parents
-use Rattle.std.proofs.Common.{◌≡◌, ℕ, ◌+◌, ◌<◌, List, [], ◌∷◌, ◌++◌, All, Result, Ok, Err, refl, sym, ◌∙◌, ap, subst, arith}
+use Rattle.std.proofs.Common.{◌≡◌, ℕ, ◌+◌, ◌<◌, List, [], ◌∷◌, ◌++◌, All, Result, Ok, Err, sym, ap, subst, arith}
 use Rattle.std.proofs.lemmas.List.Elements.{All-append, All-cons, All-nil, All-tail, All-same}
 use Rattle.dm_space.specs.Memory.{Memory}
 use Rattle.dm_arena.specs.declared.fit.Strategy.{Strategy}
@@ -9,7 +9,7 @@ use Rattle.dm_proc.specs.declared.parent.Ending.{Ending}
 use Rattle.dm_proc.specs.declared.parent.Ending.TheVariants.{Returned, Exited}
 use Rattle.dm_proc.specs.declared.refusal.Refusal.{Refusal}
 use Rattle.dm_proc.specs.declared.refusal.ArenaDestroyed.{ArenaDestroyed}
-use Rattle.dm_proc.specs.Processes.{Processes, Execs, Executes, Begins, GoesOn, Ends, Terminates, Keeps}
+use Rattle.dm_proc.specs.Processes.{Processes, Executes, GoesOn, Terminates, Keeps}
 use Rattle.dm_machine.specs.State.{State, IsAlive, AreAlive, HasProgram}
 
 -- a process is present, and so is each that waits for a child

@@ -1,6 +1,6 @@
 -- A run neither depends on what no program sees, nor changes it
-use Rattle.std.proofs.Common.{◌≡◌, ℕ, suc, zero, ◌%◌, ◌<◌, Bool, true, false, cond, List, ◌∷◌, length, Option, Some, None, Result, Ok, Err, refl, sym, ◌∙◌, ap, subst}
-use Rattle.dm_space.specs.Memory.{Memory, peek, linear}
+use Rattle.std.proofs.Common.{◌≡◌, ℕ, Bool, true, false, Option, Some, None, Result, Ok, Err, refl, sym, ◌∙◌, ap, subst}
+use Rattle.dm_space.specs.Memory.{Memory}
 use Rattle.dm_space.specs.Unseen.{unseen_as, IsUnseen}
 use Rattle.dm_ins.specs.declared.ins.Ins.{Ins}
 use Rattle.dm_ins.specs.declared.operand.ByteRegister.TheVariants.{Al, Ah}
@@ -9,19 +9,17 @@ use Rattle.dm_exec.specs.declared.effect.Next.{Next}
 use Rattle.dm_exec.specs.declared.effect.Next.TheVariants.{Go, Halt}
 use Rattle.dm_exec.specs.Cpu.{byte_of}
 use Rattle.dm_exec.specs.Guest.{Guest, guest}
-use Rattle.dm_exec.specs.Stack.{interrupt_return}
 use Rattle.dm_exec.specs.Effect.{effect, next_of}
 use Rattle.dm_exec.specs.Unseen.{changed}
-use Rattle.dm_exec.proofs.Unseen.{effect-unseen, interrupt_return-unseen}
+use Rattle.dm_exec.proofs.Unseen.{effect-unseen}
 use Rattle.dm_space.proofs.Unseen.{pages-unseen}
-use Rattle.dm_proc.specs.Writes.{bytes_from}
 use Rattle.dm_machine.specs.declared.stop.Stop.{Stop}
 use Rattle.dm_machine.specs.declared.stop.Stop.TheVariants.{Memory as NoMemory}
 use Rattle.dm_machine.specs.declared.services.Service.{Service}
 use Rattle.dm_machine.specs.declared.services.Service.TheVariants as service
 use Rattle.dm_machine.specs.declared.services.Service.TheVariants.{DivideError, Dos}
 use Rattle.dm_machine.specs.declared.functions.Function.{Function}
-use Rattle.dm_machine.specs.declared.functions.Function.TheVariants.{WriteText, Keep, Allocate, Free, Resize, LoadProgram, Exit, ExitCode, AllocationStrategy, Terminate, Unknown}
+use Rattle.dm_machine.specs.declared.functions.Function.TheVariants.{EchoCharacter, WriteCharacter, DirectCharacter, ReadCharacter, WriteText, ReadLine, CheckInput, FlushAndRead, SetVector, Version, Keep, GetVector, ReadHandle, WriteHandle, Allocate, Free, Resize, LoadProgram, Exit, ExitCode, Process, AllocationStrategy, Terminate, Unknown}
 use Rattle.dm_arena.specs.declared.fit.Strategy.{Strategy}
 use Rattle.dm_arena.specs.declared.refusal.Refusal.{Refusal}
 use Rattle.dm_arena.proofs.Unseen.{allocation-unseen, freeing-unseen, resizing-unseen}
@@ -37,22 +35,12 @@ use Rattle.dm_proc.proofs.Unseen.{ignores_unseen}
 use Rattle.dm_machine.specs.Processes.{not_loaded, executed, overlaid, LoadingAs, concluded, Terminating, Keeping, tell_code}
 use Rattle.dm_machine.specs.Functions.{function_of, no_function, Calls}
 use Rattle.dm_machine.specs.Services.{service_at, Serves}
-use Rattle.dm_machine.specs.Wanting.{output_of, MayWant}
+use Rattle.dm_machine.specs.Wanting.{MayWant}
 use Rattle.dm_machine.specs.Step.{Steps, Runs, Acts, Instructs, listed, unlisted, Begins, fetched, after, instructed}
 use Rattle.dm_machine.specs.Run.{Answers, here, further, StopsWithin, over, whole, cut}
 use Rattle.dm_machine.specs.Laws.{with_change, UnseenBytesChangeNoStep, UnseenBytesChangeNoRun, UnseenPagesChangeNoRun}
-
-abbrev answer_with : (Memory → Memory) → Answer → Answer
-answer_with f x = record { stop = x.stop; state = with_change f x.state }
-
-byte-unseen : (f : Memory → Memory) (u : IsUnseen f) (m : Memory) (s o : ℕ) → peek (f m) (linear (f m).a20 s o) ≡ peek m (linear m.a20 s o)
-byte-unseen f u m s o = ap (λ on. peek (f m) (linear on s o)) (u.a20 m) ∙ u.peek_same m (linear m.a20 s o)
-
-bytes_from-unseen : (f : Memory → Memory) (u : IsUnseen f) (m : Memory) (s o n : ℕ) → bytes_from (f m) s o n ≡ bytes_from m s o n
-bytes_from-unseen f u m s o zero = refl
-bytes_from-unseen f u m s o (suc n) =
-    ap (λ b. b ∷ bytes_from (f m) s (suc o) n) (byte-unseen f u m s (o % 65536))
-    ∙ ap (λ (bytes : List ℕ). peek m (linear m.a20 s (o % 65536)) ∷ bytes) (bytes_from-unseen f u m s (suc o) n)
+use Rattle.dm_machine.proofs.UnseenParts.{answer_with, bytes_from-unseen, return-parts, choice-unseen}
+use Rattle.dm_machine.proofs.ConsoleUnseen.{read_character-unseen, echo_character-unseen, write_character-unseen, direct_character-unseen, check_input-unseen, read_line-unseen, flush_and_read-unseen, read_handle-unseen, write_handle-unseen, set_vector-unseen, get_vector-unseen, tell_version-unseen, tell_process-unseen}
 
 text-unseen : (f : Memory → Memory) (u : IsUnseen f) (m : Memory) (s o n : ℕ) → text_within (f m) s o n ≡ text_within m s o n
 unfolding text_within
@@ -61,10 +49,6 @@ text-unseen f u m s o n = rw (bytes_from-unseen f u m s o n) refl
 fetched-unseen : (f : Memory → Memory) (u : IsUnseen f) (m : Memory) (c : Cpu) → fetched (f m) c ≡ fetched m c
 unfolding fetched
 fetched-unseen f u m c = simp (u.a20, u.peek_same)
-
--- by its parts, as `simp` finds them
-return-parts : (f : Memory → Memory) (u : IsUnseen f) (c : Cpu) (m : Memory) → interrupt_return (guest c (f m)) ≡ record (interrupt_return (guest c m)) { memory = f (interrupt_return (guest c m)).memory }
-return-parts f u c m = interrupt_return-unseen f u (guest c m)
 
 print-unseen : (f : Memory → Memory) (u : IsUnseen f) (s : State) → print (with_change f s) ≡ answer_with f (print s)
 unfolding print
@@ -89,10 +73,6 @@ settled-unseen f u s (Err e) m = answered-unseen f u s _ m true
 strategy_set-unseen : (f : Memory → Memory) (u : IsUnseen f) (s : State) (o : Option Strategy) → strategy_set (with_change f s) o ≡ answer_with f (strategy_set s o)
 strategy_set-unseen f u s None = answered-unseen f u s _ s.memory true
 strategy_set-unseen f u s (Some strategy) = answered-unseen f u (record s { strategy = strategy }) s.cpu s.memory false
-
-choice-unseen : (f : Memory → Memory) (b : Bool) (x y v w : Answer) → v ≡ answer_with f x → w ≡ answer_with f y → cond b v w ≡ answer_with f (cond b x y)
-choice-unseen f true x y v w e h = e
-choice-unseen f false x y v w e h = h
 
 strategy-unseen : (f : Memory → Memory) (u : IsUnseen f) (s : State) → strategy_call (with_change f s) ≡ answer_with f (strategy_call s)
 unfolding strategy_call
@@ -159,7 +139,20 @@ unfolding tell_code
 tell_code-unseen f u s = simp (return-parts f u)
 
 calls-unseen : (f : Memory → Memory) (u : IsUnseen f) (s : State) (g : Function) (x : Answer) → Calls s g x → Calls (with_change f s) g (answer_with f x)
+calls-unseen f u s EchoCharacter x e = ap (answer_with f) e ∙ sym (echo_character-unseen f u s)
+calls-unseen f u s WriteCharacter x e = ap (answer_with f) e ∙ sym (write_character-unseen f u s)
+calls-unseen f u s DirectCharacter x e = ap (answer_with f) e ∙ sym (direct_character-unseen f u s)
+calls-unseen f u s ReadCharacter x e = ap (answer_with f) e ∙ sym (read_character-unseen f u s)
 calls-unseen f u s WriteText x e = ap (answer_with f) e ∙ sym (print-unseen f u s)
+calls-unseen f u s ReadLine x e = ap (answer_with f) e ∙ sym (read_line-unseen f u s)
+calls-unseen f u s CheckInput x e = ap (answer_with f) e ∙ sym (check_input-unseen f u s)
+calls-unseen f u s FlushAndRead x e = ap (answer_with f) e ∙ sym (flush_and_read-unseen f u s)
+calls-unseen f u s SetVector x e = ap (answer_with f) e ∙ sym (set_vector-unseen f u s)
+calls-unseen f u s Version x e = ap (answer_with f) e ∙ sym (tell_version-unseen f u s)
+calls-unseen f u s GetVector x e = ap (answer_with f) e ∙ sym (get_vector-unseen f u s)
+calls-unseen f u s ReadHandle x e = ap (answer_with f) e ∙ sym (read_handle-unseen f u s)
+calls-unseen f u s WriteHandle x e = ap (answer_with f) e ∙ sym (write_handle-unseen f u s)
+calls-unseen f u s Process x e = ap (answer_with f) e ∙ sym (tell_process-unseen f u s)
 calls-unseen f u s Allocate x a = record {
   result = a.result;
   memory = f a.memory;
@@ -218,13 +211,8 @@ steps-unseen : (f : Memory → Memory) (u : IsUnseen f) (s : State) (x : Answer)
 unfolding Steps
 steps-unseen f u s x h = runs-unseen f u s s.exited x h
 
-output-unseen : (f : Memory → Memory) (u : IsUnseen f) (s : State) (g : Function) → output_of (with_change f s) g ≡ output_of s g
-output-unseen f u s WriteText = ap length (text-unseen f u s.memory s.cpu.ds s.cpu.dx 65536)
-output-unseen f u s _ = refl
-
-wants-unseen : (f : Memory → Memory) (u : IsUnseen f) (s : State) → MayWant s → MayWant (with_change f s)
-unfolding MayWant
-wants-unseen f u s h = (h.0, h.1, subst (λ n. s.console.room < n) (sym (output-unseen f u s (function_of (byte_of s.cpu Ah)))) h.2)
+wants-unseen : (f : Memory → Memory) (u : IsUnseen f) (s : State) → MayWant s (Steps s) → MayWant (with_change f s) (Steps (with_change f s))
+wants-unseen f u s w = record { answer = answer_with f w.answer; gives = steps-unseen f u s w.answer w.gives; overflows = w.overflows }
 
 answers-unseen : (f : Memory → Memory) (u : IsUnseen f) (s : State) (stop : Option Stop) (t : State) → Answers s stop t → Answers (with_change f s) stop (with_change f t)
 answers-unseen f u s (Some NoMemory) t h = (wants-unseen f u s h.0, ap (with_change f) h.1)

@@ -1,5 +1,5 @@
 -- The calls that start and end programs, from what the processes answer
-use Rattle.std.proofs.Common.{◌≡◌, ℕ, Option, Some, None, Result, Ok, Err, false, ◌∙◌, ap, subst}
+use Rattle.std.proofs.Common.{◌≡◌, ℕ, Result, Ok, Err, false, ◌∙◌, ap, subst}
 use Rattle.dm_space.specs.Memory.{Memory}
 use Rattle.dm_exec.specs.declared.cpu.Cpu.{Cpu}
 use Rattle.dm_exec.specs.Cpu.{byte_of}

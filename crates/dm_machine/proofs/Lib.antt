@@ -2,8 +2,13 @@ mod Texts
 mod StepLaws
 mod OneRun
 mod Memos
+mod UnseenParts
+mod ConsoleUnseen
 mod Confined
+mod Stores
+mod Keeping
 mod Calls
 mod Alive
 mod Endings
 mod NoRoom
+mod Rooms

@@ -1,5 +1,5 @@
 -- The first program has no room
-use Rattle.std.proofs.Common.{◌≡◌, List, ℕ, length, Option, Some, subst}
+use Rattle.std.proofs.Common.{◌≡◌, List, ℕ, length, Some, subst}
 use Rattle.dm_load.specs.Image.{IsGood}
 use Rattle.dm_proc.specs.declared.refusal.Refusal.{Refusal}
 use Rattle.dm_proc.specs.Programs.{program_of}

@@ -1,8 +1,9 @@
 -- Laws of steps and runs.
-use Rattle.std.specs.Prelude.{◌≡◌, ℕ, List}
+use Rattle.std.specs.Prelude.{◌≡◌, ℕ, ◌+◌, ◌≤◌, ◌<◌, List, length}
 use Rattle.dm_space.specs.Memory.{Memory}
 use Rattle.dm_space.specs.Unseen.{unseen_as, IsUnseen}
 use Rattle.dm_machine.specs.declared.stop.Stop.{Stop}
+use Rattle.dm_machine.specs.declared.stop.Stop.TheVariants.{Memory as NoMemory}
 use Rattle.dm_machine.specs.State.{State, Answer}
 use Rattle.dm_machine.specs.Step.{Steps}
 use Rattle.dm_machine.specs.Run.{Goes, IsRun}
@@ -39,3 +40,16 @@ abbrev pub UnseenPagesChangeNoRun : Type 0
 UnseenPagesChangeNoRun =
     (other : ℕ → List ℕ) (s t : State) (n : ℕ) (stop : Stop) →
     IsRun s n stop t → IsRun (with_unseen_pages other s) n stop (with_unseen_pages other t)
+
+-- runs one after another, and between them changes of memory from outside
+pub data Follows (s : State) : State → Type 0 where
+  none : Follows s s
+  run_on : (t u : State) (n : ℕ) (stop : Stop) → Follows s t → IsRun t n stop u → Follows s u
+  changed : (t : State) (memory : Memory) → Follows s t → Follows s (record t { memory = memory })
+
+-- where there is room for so many bytes, runs that write no more of them don't want memory: one that does stands before a
+-- step with which more would have gone out
+abbrev pub RoomIsEnough : Type 0
+RoomIsEnough =
+    (bytes : ℕ) (s t u : State) (n : ℕ) → bytes ≤ s.console.room → Follows s t → IsRun t n NoMemory u →
+    (x : Answer) → Steps u x → length s.console.output + bytes < length x.state.console.output

@@ -1,5 +1,5 @@
 //! Laws of steps and runs, each the contract of a function that does nothing.
-ghost use Rattle.dm_machine.specs.Laws.{StepHasOneAnswer, ThereIsOneRun, UnseenBytesChangeNoStep, UnseenBytesChangeNoRun, UnseenPagesChangeNoRun};
+ghost use Rattle.dm_machine.specs.Laws.{StepHasOneAnswer, ThereIsOneRun, UnseenBytesChangeNoStep, UnseenBytesChangeNoRun, UnseenPagesChangeNoRun, RoomIsEnough};
 
 /// A step is a function of the state: no two answers of one step differ.
 pub fn a_step_has_one_answer()
@@ -21,4 +21,13 @@ pub fn unseen_bytes_change_nothing()
     ensures steps { UnseenBytesChangeNoStep }
     ensures runs { UnseenBytesChangeNoRun }
     ensures pages { UnseenPagesChangeNoRun }
+{}
+
+/// Room that was made beforehand is enough: over any list of runs, with changes of memory between
+/// them, steps that together write no more bytes than the room meet no want of memory.
+///
+/// It is told from the other side: a run that wants memory stands before a step with which more
+/// bytes would have gone out since the room was made.
+pub fn room_is_enough()
+    ensures { RoomIsEnough }
 {}

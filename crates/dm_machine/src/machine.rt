@@ -1,5 +1,5 @@
 //! The machine and what it shows.
-ghost use Rattle.std.specs.Prelude.{◌≡◌, ◌≤◌, ◌↔◌, IsTrue, IfOk, IsErrOf, length};
+ghost use Rattle.std.specs.Prelude.{◌≡◌, ◌≤◌, ◌↔◌, IsTrue, IfOk, IsOk, IsErrOf, OnOk, OnErr, length, max};
 ghost use Rattle.dm_space.specs.Memory.{linear, peek, poke};
 ghost use Rattle.dm_machine.specs.Start.{IsNew, IsTooLarge};
 ghost use Rattle.dm_machine.specs.State.{HasProgram};
@@ -12,7 +12,7 @@ use dm_console::Console;
 use dm_exec::Cpu;
 use dm_proc::{Procs, Programs};
 use dm_space::Space;
-use std::alloc::Global;
+use std::alloc::{AllocError, Global};
 use std::marker::Model;
 use thiserror::Error;
 
@@ -174,6 +174,25 @@ impl Machine {
         ensures { self.new ≡ record self.old { memory = poke self.old.memory (linear self.old.memory.a20 segment offset) value } }
     {
         self.space.poke(segment, offset, value);
+    }
+
+    /// Makes the room, how many more bytes of output go out without memory, the larger of the room
+    /// and `bytes`. It takes no memory where the room is large enough already.
+    ///
+    /// An `Err` says that memory was refused, and that nothing has changed.
+    pub fn reserve_output(&mut self, bytes: usize) -> Result<(), AllocError>
+        ensures ok { OnOk result (self.new ≡ record self.old { console = record self.old.console { room = max self.old.console.room bytes } }) }
+        ensures err { OnErr result (self.new ≡ self.old) }
+        ensures has_room { bytes ≤ self.old.console.room → IsOk result }
+    {
+        self.console.reserve(bytes)
+    }
+
+    /// How many more bytes of output go out without memory; 0 at the start.
+    pub fn room(&self) -> usize
+        ensures { result ≡ self.now.console.room }
+    {
+        self.console.room()
     }
 
     /// All that the console wrote.

@@ -1,5 +1,5 @@
 //! The services that the machine has in place of interrupt handlers.
-ghost use Rattle.std.specs.Prelude.{◌≡◌, None, Some};
+ghost use Rattle.std.specs.Prelude.{◌≡◌};
 ghost use Rattle.dm_machine.specs.State.{go, returned, HasProgram};
 ghost use Rattle.dm_machine.specs.Services.{service_at, Serves};
 ghost use Rattle.dm_machine.specs.Wanting.{OrWants};
@@ -49,9 +49,7 @@ impl Machine {
 
     /// Acts as the service.
     pub(crate) fn serve(&mut self, service: Service) -> Option<Stop>
-        requires alive { self.old.exited ≡ None }
-        requires at { service_at self.old.cpu ≡ Some service }
-        requires loaded { HasProgram self.old }
+        requires { HasProgram self.old }
         ensures answer { OrWants self.old (Serves self.old service) result self.new }
         ensures program { HasProgram self.new }
     {

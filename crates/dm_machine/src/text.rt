@@ -1,7 +1,10 @@
 //! Texts in memory that end at a `$` (MS-DOS Programmer's Reference, "Display String").
 ghost use Rattle.std.specs.Prelude.{◌≡◌, ◌≤◌, ◌-◌, ◌++◌, length};
-ghost use Rattle.dm_machine.specs.Text.{text_at};
+ghost use Rattle.dm_machine.specs.Text.{print, text_at};
+ghost use Rattle.dm_machine.specs.Wanting.{OrMemory};
 
+use crate::machine::Machine;
+use crate::stop::Stop;
 use dm_console::Console;
 use dm_space::Space;
 
@@ -34,5 +37,25 @@ pub(crate) fn write_text(
 {
     for index in 0..length {
         console.put(space.peek(segment, offset.wrapping_add(index as u16)));
+    }
+}
+
+impl Machine {
+    /// 09h: writes the text at DS:DX, or stops with `Memory`.
+    #[tactic(auto, using(crate::proofs::Stores::lengths), unfolding(crate::specs::Text::print))]
+    pub(crate) fn print(&mut self) -> Option<Stop>
+        ensures answer { OrMemory self.old (print self.old) result self.new }
+        ensures program { self.new.processes ≡ self.old.processes }
+    {
+        let segment = self.cpu.ds;
+        let offset = self.cpu.dx;
+        let length = text_length(&self.space, segment, offset);
+        if self.console.reserve(length).is_err() {
+            return Some(Stop::Memory);
+        }
+        write_text(&mut self.console, &self.space, segment, offset, length);
+        self.give_back();
+        self.count();
+        None
     }
 }
