@@ -5,3 +5,4 @@ mod Whole
 mod Placing
 pub mod OneAnswer
 pub mod Unseen
+pub mod Loaded

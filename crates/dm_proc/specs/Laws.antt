@@ -1,5 +1,5 @@
 -- Laws of the definitions: each call has one answer, and none depends on what no program sees.
-use Rattle.std.specs.Prelude.{◌≡◌, ℕ, List, Result}
+use Rattle.std.specs.Prelude.{◌≡◌, ℕ, List, [], Result, Ok}
 use Rattle.dm_space.specs.Memory.{Memory}
 use Rattle.dm_space.specs.Unseen.{IsUnseen}
 use Rattle.dm_arena.specs.declared.fit.Strategy.{Strategy}
@@ -8,7 +8,7 @@ use Rattle.dm_proc.specs.declared.parent.Ending.{Ending}
 use Rattle.dm_proc.specs.declared.refusal.Refusal.{Refusal}
 use Rattle.dm_proc.specs.declared.refusal.ArenaDestroyed.{ArenaDestroyed}
 use Rattle.dm_proc.specs.Request.{Passed}
-use Rattle.dm_proc.specs.Processes.{Processes, Executes, Loads, Overlays, Terminates, Keeps}
+use Rattle.dm_proc.specs.Processes.{Processes, AreLoaded, Executes, Loads, Overlays, Terminates, Keeps}
 
 -- the answer of a call, and all that it leaves, are functions of the state and the arguments
 abbrev pub ExecHasOneAnswer : Type 0
@@ -37,6 +37,17 @@ abbrev pub KeepingHasOneAnswer : Type 0
 KeepingHasOneAnswer =
     (ps : Processes) (c : Cpu) (m : Memory) (code paragraphs : ℕ) (r q : Result Ending ArenaDestroyed) (ps₁ ps₂ : Processes) (c₁ c₂ : Cpu) (m₁ m₂ : Memory) →
     Keeps ps c m code paragraphs r ps₁ c₁ m₁ → Keeps ps c m code paragraphs q ps₂ c₂ m₂ → (r ≡ q) × (ps₁ ≡ ps₂) × (c₁ ≡ c₂) × (m₁ ≡ m₂)
+
+-- a loaded program stays loaded, whatever is called; the load of the first one makes it so
+pub record CallsKeepLoaded : Type 0 where
+  pub exec : (ps : Processes) (c : Cpu) (m : Memory) (store : List (List ℕ × List ℕ)) (strategy : Strategy) (r : Result (Unit {0}) Refusal) (qs : Processes) (d : Cpu) (n : Memory) →
+      Executes ps c m store strategy r qs d n → AreLoaded ps → AreLoaded qs
+  pub load : (ps : Processes) (m : Memory) (strategy : Strategy) (file variables name : List ℕ) (a : Passed) (d : Cpu) (qs : Processes) (n : Memory) →
+      Loads ps m strategy file variables name a (Ok d) qs n → ps.parents ≡ [] → AreLoaded qs
+  pub terminating : (ps : Processes) (c : Cpu) (m : Memory) (code : ℕ) (r : Result Ending ArenaDestroyed) (qs : Processes) (d : Cpu) (n : Memory) →
+      Terminates ps c m code r qs d n → AreLoaded ps → AreLoaded qs
+  pub keeping : (ps : Processes) (c : Cpu) (m : Memory) (code paragraphs : ℕ) (r : Result Ending ArenaDestroyed) (qs : Processes) (d : Cpu) (n : Memory) →
+      Keeps ps c m code paragraphs r qs d n → AreLoaded ps → AreLoaded qs
 
 -- no call depends on what no program sees, or changes it
 pub record CallsIgnoreUnseen (change : Memory → Memory) : Type 0 where

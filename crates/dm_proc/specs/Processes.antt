@@ -1,6 +1,6 @@
 -- The processes that are alive, and what starting and ending one does: MS-DOS Programmer's Reference, functions 4Bh, 4Ch,
 -- 31h and 4Dh.
-use Rattle.std.specs.Prelude.{◌≡◌, ◌≢◌, ℕ, ◌+◌, ◌<◌, ◌⊎◌, false, List, [], ◌∷◌, ◌++◌, length, Result, Ok, Err}
+use Rattle.std.specs.Prelude.{◌≡◌, ◌≢◌, ℕ, ◌+◌, ◌<◌, ◌⊎◌, false, List, [], ◌∷◌, ◌++◌, length, Result, Ok, Err, All}
 use Rattle.dm_space.specs.Memory.{Memory}
 use Rattle.dm_arena.specs.declared.fit.Strategy.{Strategy}
 use Rattle.dm_arena.specs.declared.refusal.Refusal.TheVariants as arena
@@ -31,6 +31,11 @@ pub record Processes : Type 0 where
   pub present : ℕ
   pub parents : List Parent
   pub code : ℕ
+
+-- a program is loaded: the present process has a segment, and so has each that waits
+pub record AreLoaded (ps : Processes) : Type 0 where
+  pub present : 0 < ps.present
+  pub parents : All (λ p. 0 < p.segment) ps.parents
 
 -- the registers that a call leaves which succeeds: IP, CS and FLAGS popped, CF clear
 unfoldable pub returned : Cpu → Memory → Cpu

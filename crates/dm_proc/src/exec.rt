@@ -1,6 +1,6 @@
 //! How a program is started (MS-DOS Programmer's Reference, function 4Bh "Load and Execute
 //! Program").
-ghost use Rattle.std.specs.Prelude.{◌≡◌, ◌≤◌, length};
+ghost use Rattle.std.specs.Prelude.{◌≡◌, ◌<◌, ◌≤◌, length, OnOk};
 ghost use Rattle.dm_proc.specs.Request.{passed_of};
 ghost use Rattle.dm_proc.specs.Processes.{Executes, Loads};
 
@@ -91,7 +91,8 @@ impl Procs {
     ) -> Result<Cpu, Refusal>
         requires variables { length variables.now ≤ 0x7FFF }
         requires name { length name.now ≤ 64 }
-        ensures { Loads self.old space.old.memory strategy image.now variables.now name.now (passed_of arguments.now) result self.new space.new.memory }
+        ensures loads { Loads self.old space.old.memory strategy image.now variables.now name.now (passed_of arguments.now) result self.new space.new.memory }
+        ensures present { OnOk result (0 < self.new.present) }
     {
         let environment = put_environment(space, variables, name);
         let pair = plan(space, strategy, image, environment)?;

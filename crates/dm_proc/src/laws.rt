@@ -1,5 +1,5 @@
 //! Laws of the definitions, proved of no process in particular.
-ghost use Rattle.dm_proc.specs.Laws.{ExecHasOneAnswer, LoadHasOneAnswer, OverlayHasOneAnswer, TerminatingHasOneAnswer, KeepingHasOneAnswer, IgnoresUnseen};
+ghost use Rattle.dm_proc.specs.Laws.{ExecHasOneAnswer, LoadHasOneAnswer, OverlayHasOneAnswer, TerminatingHasOneAnswer, KeepingHasOneAnswer, CallsKeepLoaded, IgnoresUnseen};
 
 /// Processes, registers, memory, store and strategy determine what `Procs::exec` answers and all
 /// that it leaves.
@@ -27,6 +27,11 @@ pub fn terminating_has_one_answer()
 /// leaves.
 pub fn keeping_has_one_answer()
     ensures { KeepingHasOneAnswer }
+{}
+
+/// A loaded program stays loaded: the present process, and each that waits, has a segment over 0.
+pub fn programs_stay_loaded()
+    ensures { CallsKeepLoaded }
 {}
 
 /// No call depends on memory that no program sees, or changes it: with such a change made before,

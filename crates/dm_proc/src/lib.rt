@@ -23,7 +23,7 @@ mod room;
 pub use arguments::Arguments;
 pub use laws::{
     exec_has_one_answer, ignores_unseen, keeping_has_one_answer, load_has_one_answer,
-    overlay_has_one_answer, terminating_has_one_answer,
+    overlay_has_one_answer, programs_stay_loaded, terminating_has_one_answer,
 };
 pub use overlays::overlay;
 pub use parent::{Ending, Parent};
