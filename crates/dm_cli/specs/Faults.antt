@@ -19,3 +19,4 @@ new_fault new.Memory = fault.OutOfMemory
 abbrev pub load_fault : LoadError → Fault
 load_fault load.NotFound = fault.NotFound
 load_fault load.BadFormat = fault.BadFormat
+load_fault load.Short = fault.Short

@@ -15,6 +15,8 @@ pub(crate) enum Fault<'a> {
     NotFound,
     #[error("bad format")]
     BadFormat,
+    #[error("short")]
+    Short,
     #[error("too large")]
     TooLarge,
     #[error("tail too long")]
@@ -64,6 +66,7 @@ impl From<LoadError> for Fault<'_> {
         match error {
             LoadError::NotFound => Fault::NotFound,
             LoadError::BadFormat => Fault::BadFormat,
+            LoadError::Short => Fault::Short,
         }
     }
 }

@@ -1,5 +1,5 @@
 -- The calls that start and end programs, from what the processes answer
-use Rattle.std.proofs.Common.{◌≡◌, ℕ, Result, Ok, Err, false, ◌∙◌, ap, subst}
+use Rattle.std.proofs.Common.{◌≡◌, ℕ, ◌<◌, Result, Ok, Err, false, sym, ◌∙◌, ap, subst}
 use Rattle.dm_space.specs.Memory.{Memory}
 use Rattle.dm_exec.specs.declared.cpu.Cpu.{Cpu}
 use Rattle.dm_exec.specs.Cpu.{byte_of}
@@ -8,12 +8,16 @@ use Rattle.dm_proc.specs.declared.refusal.Refusal.{Refusal}
 use Rattle.dm_proc.specs.declared.refusal.ArenaDestroyed.{ArenaDestroyed}
 use Rattle.dm_proc.specs.declared.parent.Ending.{Ending}
 use Rattle.dm_proc.specs.declared.parent.Ending.TheVariants.{Returned, Exited}
-use Rattle.dm_proc.specs.Processes.{Processes, Executes, Overlays, Terminates, Keeps}
+use Rattle.dm_proc.specs.Processes.{Processes, AreLoaded, Executes, Overlays, Terminates, Keeps}
 use Rattle.dm_machine.specs.declared.stop.Stop.TheVariants as stop
-use Rattle.dm_machine.specs.State.{State, Answer, go, stop_at}
+use Rattle.dm_machine.specs.State.{State, Answer, HasProgram, HaveSegments, go, stop_at}
 use Rattle.dm_machine.specs.Allocation.{answered}
 use Rattle.dm_machine.specs.Processes.{with_processes, not_loaded, concluded, Executing, Overlaying, Terminating, Keeping}
 use Rattle.dm_machine.proofs.Calls.{going}
+
+-- a program is loaded
+pub loaded : (s v : State) → v ≡ s → HasProgram s → HaveSegments v.processes.parents → AreLoaded v.processes
+loaded s v e h a = record { present = subst (λ (w : State). 0 < w.processes.present) (sym e) h; parents = a }
 
 -- what has not changed
 same-state : (v : State) (qs : Processes) (d : Cpu) (n : Memory) → qs ≡ v.processes → d ≡ v.cpu → n ≡ v.memory → with_processes v qs d n ≡ v

@@ -8,7 +8,6 @@ mod Confined
 mod Stores
 mod Keeping
 mod Calls
-mod Alive
 mod Endings
 mod NoRoom
 mod Rooms

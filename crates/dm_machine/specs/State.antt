@@ -28,12 +28,9 @@ pub record State : Type 0 where
   pub variables : List ℕ
   pub sizes : Sizes
 
--- a process that waits for a child has a program segment prefix
-abbrev pub IsAlive : Parent → Type 0
-IsAlive p = 0 < p.segment
-
-abbrev pub AreAlive : Processes → Type 0
-AreAlive ps = All IsAlive ps.parents
+-- each process that waits for a child has a program segment prefix
+abbrev pub HaveSegments : List Parent → Type 0
+HaveSegments parents = All (λ p. 0 < p.segment) parents
 
 -- a program is loaded
 abbrev pub HasProgram : State → Type 0

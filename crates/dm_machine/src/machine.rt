@@ -48,7 +48,7 @@ pub struct Machine {
 
 impl Model for Machine {
     ghost use Rattle.std.specs.Prelude.{◌≤◌, length};
-    ghost use Rattle.dm_machine.specs.State.{State, AreAlive};
+    ghost use Rattle.dm_machine.specs.State.{State, HaveSegments};
 
     ghost Value = { State };
 
@@ -65,7 +65,7 @@ impl Model for Machine {
       sizes = m.sizes;
     } };
 
-    ghost invariant = { λ m. (length m.variables.items ≤ 0x7FFF) × AreAlive m.procs };
+    ghost invariant = { λ m. (length m.variables.items ≤ 0x7FFF) × HaveSegments m.procs.parents };
 }
 
 /// Registers before a program is loaded.

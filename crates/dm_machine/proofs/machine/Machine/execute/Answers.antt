@@ -1,9 +1,9 @@
-use Rattle.dm_machine.proofs.Alive.{all-alive, executes-alive}
-use Rattle.dm_machine.proofs.Endings.{executing-started, executing-refused}
+use Rattle.dm_proc.proofs.Loaded.{keep_loaded}
+use Rattle.dm_machine.proofs.Endings.{loaded, executing-started, executing-refused}
 use Rattle.dm_machine.proofs.machine.Machine.execute.Goals as goal
 
 pub invariant_of-self : goal.invariant_of-self
-invariant_of-self c = (c.self.invariant.0, (executes-alive _ _ _ _ _ _ _ _ _ (all-alive _ _ c.self.view_is c.requires c.self.invariant.1) c.exec.ensures).parents)
+invariant_of-self c = (c.self.invariant.0, (keep_loaded.exec _ _ _ _ _ _ _ _ _ c.exec.ensures (loaded _ _ c.self.view_is c.requires c.self.invariant.1)).parents)
 
 pub returns-in-Ok-clause-executing : goal.returns-in-Ok-clause-executing
 returns-in-Ok-clause-executing c = executing-started _ _ _ _ _ _ c.self.view_is c.in-Ok.ensures c.count.ensures
