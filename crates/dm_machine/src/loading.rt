@@ -48,8 +48,8 @@ impl Machine {
     /// # Errors
     ///
     /// `NotFound` exactly where the store has no such program (ASCII case ignored), `BadFormat`
-    /// exactly where it has one that is bad, `Short` where there is no room for its two blocks. A
-    /// refusal changes nothing.
+    /// exactly where it has one that is bad, `Short` exactly where there is no room for its two
+    /// blocks. A refusal changes nothing.
     pub fn load(&mut self, name: &[u8], tail: &[u8]) -> Result<(), LoadError>
         requires fresh { self.old.processes.present ≡ 0 }
         requires name { IsName name.now }
@@ -58,7 +58,7 @@ impl Machine {
         ensures loaded { OnOk result (HasProgram self.new) }
         ensures not_found { IsErrOf result LoadError.NotFound ↔ (program_of self.old.programs name.now ≡ None) }
         ensures bad_format { IsErrOf result LoadError.BadFormat ↔ IsBadProgram self.old name.now }
-        ensures short { IsErrOf result LoadError.Short → HasNoRoom self.old name.now }
+        ensures short { IsErrOf result LoadError.Short ↔ HasNoRoom self.old name.now }
         ensures err { OnErr result (self.new ≡ self.old) }
     {
         let Some(file) = self.programs.find(name) else {
