@@ -19,6 +19,22 @@ const ECHO: [u8; 12] = [
 /// Ends with code 5.
 const FIVE: [u8; 5] = [0xB8, 0x05, 0x4C, 0xCD, 0x21];
 
+/// Writes each byte that it reads, until none is left.
+const COPY: [u8; 6] = [0xB4, 0x01, 0xCD, 0x21, 0xEB, 0xFA];
+
+/// Keeps 1000h paragraphs, starts `hi.com`, and ends with code 3.
+const START: [u8; 35] = [
+    0xB4, 0x4A, 0xBB, 0x00, 0x10, 0xCD, 0x21, 0xBA, 0x1C, 0x01, 0xBB, 0x80, 0x00, 0xC7, 0x07, 0x00,
+    0x00, 0xB8, 0x00, 0x4B, 0xCD, 0x21, 0xB8, 0x03, 0x4C, 0xCD, 0x21, 0x90, b'h', b'i', b'.', b'c',
+    b'o', b'm', 0,
+];
+
+/// An MZ file of its header alone, that asks for FFFFh paragraphs more.
+const GREEDY: [u8; 32] = [
+    b'M', b'Z', 32, 0, 1, 0, 0, 0, 2, 0, 0xFF, 0xFF, 0, 0, 0, 0, 0, 0, 0, 0, 0, 0, 0, 0, 0, 0, 0,
+    0, 0, 0, 0, 0,
+];
+
 /// What reads give once the bytes are at their end.
 #[derive(Clone, Copy)]
 enum Rest {
@@ -76,6 +92,9 @@ fn tells_each_fault_in_its_order(rt: HostRuntime) -> Result<(), Fail> {
         ("0f.com", Source(b"\x0F".as_slice(), ends)),
         ("empty.com", Source(b"".as_slice(), ends)),
         ("mz.exe", Source(b"MZ".as_slice(), ends)),
+        ("greedy.exe", Source(GREEDY.as_slice(), ends)),
+        ("copy.com", Source(COPY.as_slice(), ends)),
+        ("start.com", Source(START.as_slice(), ends)),
         ("cut.com", Source(hello, Rest::Fault)),
         ("endless.com", Source(hello, Rest::Zeros)),
         ("d/", Source(hello, ends)),
@@ -98,6 +117,15 @@ fn tells_each_fault_in_its_order(rt: HostRuntime) -> Result<(), Fail> {
         ),
         ("dm run --steps=7 hi.com", ends, 0, "hi", ""),
         ("dm run 0f.com", ends, 125, "", "stopped: unlisted\n"),
+        (
+            "dm run copy.com",
+            ends,
+            125,
+            "typed",
+            "stopped: input ended\n",
+        ),
+        ("dm run start.com d/HI.COM", ends, 3, "hi", ""),
+        ("dm run greedy.exe", ends, 126, "", "dm: short\n"),
         (
             "dm run empty.com --steps=0",
             ends,
