@@ -25,29 +25,20 @@ pub enum Next {
 fn perform(cpu: &mut Cpu, space: &mut Space, ins: &Ins, start: u16)
     ensures { guest cpu.new space.new.memory ≡ act (guest cpu.old space.old.memory) ins.now.prefixes start (operation_of ins.now.action.mnemonic) ins.now.action.first ins.now.action.second }
 {
-    let segment = &ins.prefixes.segment;
-    let first = &ins.action.first;
-    let second = &ins.action.second;
     match operation_of(ins.action.mnemonic) {
-        Operation::Move(operation) => moves::act(cpu, space, segment, operation, first, second),
-        Operation::Stack(operation) => stack::act(cpu, space, segment, operation, first),
-        Operation::Arithmetic(operation) => {
-            arithmetic::act(cpu, space, segment, operation, first, second)
-        }
-        Operation::Shift(operation) => shifts::act(cpu, space, segment, operation, first, second),
-        Operation::Multiply(sign) => products::multiply(cpu, space, segment, sign, first),
-        Operation::Divide(sign) => products::divide(cpu, space, segment, sign, first),
+        Operation::Move(operation) => moves::act(cpu, space, ins, operation),
+        Operation::Stack(operation) => stack::act(cpu, space, ins, operation),
+        Operation::Arithmetic(operation) => arithmetic::act(cpu, space, ins, operation),
+        Operation::Shift(operation) => shifts::act(cpu, space, ins, operation),
+        Operation::Multiply(sign) => products::multiply(cpu, space, ins, sign),
+        Operation::Divide(sign) => products::divide(cpu, space, ins, sign),
         Operation::Adjust(adjustment) => adjustments::act(cpu, adjustment),
-        Operation::JumpIf(condition, wanted) => {
-            jumps::jump_if(cpu, space, segment, condition, wanted, first)
-        }
-        Operation::Loop(operation) => jumps::act_on_count(cpu, space, segment, operation, first),
-        Operation::Transfer(operation) => jumps::act(cpu, space, segment, operation, first),
-        Operation::Interrupt(operation) => {
-            stack::act_on_interrupt(cpu, space, segment, operation, first)
-        }
+        Operation::JumpIf(condition, wanted) => jumps::jump_if(cpu, space, ins, condition, wanted),
+        Operation::Loop(operation) => jumps::act_on_count(cpu, space, ins, operation),
+        Operation::Transfer(operation) => jumps::act(cpu, space, ins, operation),
+        Operation::Interrupt(operation) => stack::act_on_interrupt(cpu, space, ins, operation),
         Operation::String(operation, width) => {
-            strings::act(width, cpu, space, &ins.prefixes, operation, start)
+            strings::act(cpu, space, ins, start, operation, width)
         }
         Operation::Flag(operation) => control::act(cpu, operation),
         Operation::Nothing => {}
