@@ -1,3 +1,4 @@
 pub mod Bits
 pub mod Quotients
 pub mod RoundTrip
+pub mod Overflows

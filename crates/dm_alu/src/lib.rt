@@ -17,11 +17,11 @@ mod sums;
 mod width;
 
 pub use adjustments::{Adjustment, adjust};
-pub use bitwise::{LogicOperation, logic};
+pub use bitwise::{LogicOperation, join, logic};
 pub use flags::Flags;
 pub use products::{Division, Sign, div, mul};
-pub use shifts::{ShiftOperation, shift};
-pub use sums::{add, sub};
+pub use shifts::{ShiftOperation, shift, shift_by_one};
+pub use sums::{add, add_up, sub, subtract};
 pub use width::Width;
 
 #[cfg(test)]

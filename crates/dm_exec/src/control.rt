@@ -2,13 +2,13 @@
 ghost use Rattle.std.specs.Prelude.{◌≡◌};
 ghost use Rattle.dm_exec.specs.Control.{flags_changed};
 
+use crate::cpu::Cpu;
 use crate::operation::FlagOperation;
 use dm_alu::Flags;
 
 /// The flags after an instruction that changes one of them.
-#[inline(never)]
 #[tactic(auto, unfolding(crate::specs::Control::flags_changed))]
-pub(crate) fn changed(operation: FlagOperation, flags: Flags) -> Flags
+fn changed(operation: FlagOperation, flags: Flags) -> Flags
     ensures { result ≡ flags_changed operation flags }
 {
     match operation {
@@ -41,4 +41,12 @@ pub(crate) fn changed(operation: FlagOperation, flags: Flags) -> Flags
             ..flags
         },
     }
+}
+
+/// Changes one flag.
+#[inline(never)]
+pub(crate) fn act(cpu: &mut Cpu, operation: FlagOperation)
+    ensures { cpu.new ≡ record cpu.old { flags = flags_changed operation cpu.old.flags } }
+{
+    cpu.flags = changed(operation, cpu.flags);
 }

@@ -1,12 +1,13 @@
 //! One instruction.
 ghost use Rattle.std.specs.Prelude.{◌≡◌};
 ghost use Rattle.dm_exec.specs.Guest.{guest};
-ghost use Rattle.dm_exec.specs.Effect.{effect, next_of};
+ghost use Rattle.dm_exec.specs.Effect.{act, effect, next_of};
+ghost use Rattle.dm_exec.specs.Operation.{operation_of};
 
 use crate::cpu::Cpu;
 use crate::operation::{Operation, operation_of};
 use crate::{adjustments, arithmetic, control, jumps, moves, products, shifts, stack, strings};
-use dm_ins::Ins;
+use dm_ins::{Ins, Mnemonic};
 use dm_space::Space;
 
 /// What the processor does after an instruction.
@@ -18,48 +19,48 @@ pub enum Next {
     Halt,
 }
 
+/// Does an instruction that begins at `start`; IP is past it already. Each family's function is called
+/// last, so that nothing of the registers is kept here.
+#[inline(never)]
+fn perform(cpu: &mut Cpu, space: &mut Space, ins: &Ins, start: u16)
+    ensures { guest cpu.new space.new.memory ≡ act (guest cpu.old space.old.memory) ins.now.prefixes start (operation_of ins.now.action.mnemonic) ins.now.action.first ins.now.action.second }
+{
+    match operation_of(ins.action.mnemonic) {
+        Operation::Move(operation) => moves::act(cpu, space, ins, operation),
+        Operation::Stack(operation) => stack::act(cpu, space, ins, operation),
+        Operation::Arithmetic(operation) => arithmetic::act(cpu, space, ins, operation),
+        Operation::Shift(operation) => shifts::act(cpu, space, ins, operation),
+        Operation::Multiply(sign) => products::multiply(cpu, space, ins, sign),
+        Operation::Divide(sign) => products::divide(cpu, space, ins, sign),
+        Operation::Adjust(adjustment) => adjustments::act(cpu, adjustment),
+        Operation::JumpIf(condition, wanted) => jumps::jump_if(cpu, space, ins, condition, wanted),
+        Operation::Loop(operation) => jumps::act_on_count(cpu, space, ins, operation),
+        Operation::Transfer(operation) => jumps::act(cpu, space, ins, operation),
+        Operation::Interrupt(operation) => stack::act_on_interrupt(cpu, space, ins, operation),
+        Operation::String(operation, width) => {
+            strings::act(cpu, space, ins, start, operation, width)
+        }
+        Operation::Flag(operation) => control::act(cpu, operation),
+        Operation::Nothing => {}
+        Operation::Halt => cpu.ip = start,
+    }
+}
+
 /// Does the instruction of `len` bytes that stands at CS:IP (Intel 8086 Family User's Manual,
 /// section 2.7): changes registers, flags and memory as the instruction says and leaves the rest.
 /// Of a string instruction with a repeat prefix it does one repetition, and IP stays at the
 /// instruction until the last one. A flag that the manual leaves undefined stays.
+#[inline(always)]
 #[tactic(auto, unfolding(crate::specs::Effect::effect))]
 pub fn exec(cpu: &mut Cpu, space: &mut Space, ins: &Ins, len: u8) -> Next
     ensures next { result ≡ next_of ins.now.action.mnemonic }
     ensures effect { guest cpu.new space.new.memory ≡ effect (guest cpu.old space.old.memory) ins.now len }
 {
-    let start = cpu.ip;
-    let segment = &ins.prefixes.segment;
-    let first = &ins.action.first;
-    let second = &ins.action.second;
-    cpu.ip = start.wrapping_add(len as u16);
-    match operation_of(ins.action.mnemonic) {
-        Operation::Move(operation) => moves::act(cpu, space, segment, operation, first, second),
-        Operation::Stack(operation) => stack::act(cpu, space, segment, operation, first),
-        Operation::Arithmetic(operation) => {
-            arithmetic::act(cpu, space, segment, operation, first, second)
-        }
-        Operation::Shift(operation) => shifts::act(cpu, space, segment, operation, first, second),
-        Operation::Multiply(sign) => products::multiply(cpu, space, segment, sign, first),
-        Operation::Divide(sign) => products::divide(cpu, space, segment, sign, first),
-        Operation::Adjust(adjustment) => adjustments::act(cpu, adjustment),
-        Operation::JumpIf(condition, wanted) => {
-            jumps::jump_if(cpu, space, segment, condition, wanted, first)
-        }
-        Operation::Loop(operation) => jumps::act_on_count(cpu, space, segment, operation, first),
-        Operation::Transfer(operation) => jumps::act(cpu, space, segment, operation, first),
-        Operation::Interrupt(operation) => {
-            stack::act_on_interrupt(cpu, space, segment, operation, first)
-        }
-        Operation::String(operation, width) => {
-            let repeat = ins.prefixes.repeat;
-            strings::act(width, cpu, space, segment, repeat, operation, start)
-        }
-        Operation::Flag(operation) => cpu.flags = control::changed(operation, cpu.flags),
-        Operation::Nothing => {}
-        Operation::Halt => {
-            cpu.ip = start;
-            return Next::Halt;
-        }
+    if let Mnemonic::Hlt = ins.action.mnemonic {
+        return Next::Halt;
     }
+    let start = cpu.ip;
+    cpu.ip = start.wrapping_add(len as u16);
+    perform(cpu, space, ins, start);
     Next::Go
 }

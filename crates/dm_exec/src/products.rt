@@ -7,7 +7,7 @@ ghost use Rattle.dm_exec.specs.Products.{double_of, with_double, multiplied, wit
 use crate::cpu::Cpu;
 use crate::{stack, values};
 use dm_alu::{Division, Sign, Width, div, mul};
-use dm_ins::{Operand, SegmentRegister};
+use dm_ins::Ins;
 use dm_space::Space;
 
 /// AX, or DX above AX.
@@ -41,15 +41,11 @@ fn set_double(width: Width, cpu: &mut Cpu, value: u32)
 /// Multiplies AL or AX by an operand.
 #[inline(never)]
 #[tactic(auto, unfolding(crate::specs::Products::multiplied))]
-pub(crate) fn multiply(
-    cpu: &mut Cpu,
-    space: &Space,
-    override_: &Option<SegmentRegister>,
-    sign: Sign,
-    operand: &Operand,
-)
-    ensures { guest cpu.new space.now.memory ≡ multiplied (guest cpu.old space.now.memory) override_.now sign operand.now }
+pub(crate) fn multiply(cpu: &mut Cpu, space: &Space, ins: &Ins, sign: Sign)
+    ensures { guest cpu.new space.now.memory ≡ multiplied (guest cpu.old space.now.memory) ins.now.prefixes.segment sign ins.now.action.first }
 {
+    let override_ = &ins.prefixes.segment;
+    let operand = &ins.action.first;
     let width = values::width(operand);
     let left = values::accumulator(width, cpu);
     let right = values::value(width, cpu, space, override_, operand);
@@ -77,15 +73,11 @@ fn set_division(width: Width, cpu: &mut Cpu, division: Division)
 /// Divides AX, or DX and AX, by an operand; interrupt 0 where there is no quotient.
 #[inline(never)]
 #[tactic(auto, unfolding(crate::specs::Products::divided, crate::specs::Products::after_division))]
-pub(crate) fn divide(
-    cpu: &mut Cpu,
-    space: &mut Space,
-    override_: &Option<SegmentRegister>,
-    sign: Sign,
-    operand: &Operand,
-)
-    ensures { guest cpu.new space.new.memory ≡ divided (guest cpu.old space.old.memory) override_.now sign operand.now }
+pub(crate) fn divide(cpu: &mut Cpu, space: &mut Space, ins: &Ins, sign: Sign)
+    ensures { guest cpu.new space.new.memory ≡ divided (guest cpu.old space.old.memory) ins.now.prefixes.segment sign ins.now.action.first }
 {
+    let override_ = &ins.prefixes.segment;
+    let operand = &ins.action.first;
     let width = values::width(operand);
     let divisor = values::value(width, cpu, space, override_, operand);
     let dividend = double(width, cpu);

@@ -17,3 +17,4 @@ pub mod Run
 pub mod Start
 pub mod Laws
 pub mod Memo
+pub mod Repeats

@@ -1,16 +1,14 @@
-use Rattle.std.proofs.Common.{arith, ap, ◌∙◌}
-use Rattle.std.proofs.lemmas.Int.{ints}
-use Rattle.dm_alu.specs.Sums.{difference_overflows}
-use Rattle.dm_alu.proofs.Bits.{bit_le}
-use Rattle.dm_alu.specs.Width.{leaves_range}
+use Rattle.std.proofs.Common.{◌∙◌, refl}
+use Rattle.dm_alu.proofs.Overflows.{difference-signs, unlike-sign, like-sign}
 use Rattle.dm_alu.proofs.sums.difference_overflows.Goals as goal
 
-pub returns : goal.returns
-unfolding difference_overflows
-returns c = c.leaves_range.ensures ∙ ap (leaves_range c.args.width) (omega (arith, ints, bit_le))
+pub returns-then-negative-is_negative : goal.returns-then-negative-is_negative
+returns-then-negative-is_negative c =
+    unlike-sign _ _ _ c.if-negative-is_negative.true
+    ∙ difference-signs _ _ _ _ _ _ _ _ c.requires.first c.requires.second c.requires.difference c.is_negative-negative.ensures c.is_negative.ensures
+      c.is_negative-then-negative-is_negative.ensures
 
-pub overflow_sub-signed : goal.overflow_sub-signed
-overflow_sub-signed c = omega (arith, ints, bit_le)
-
-pub overflow_sub-signed-2 : goal.overflow_sub-signed-2
-overflow_sub-signed-2 c = omega (arith, ints, bit_le)
+pub returns-else-negative-is_negative : goal.returns-else-negative-is_negative
+returns-else-negative-is_negative c =
+    like-sign _ _ _ c.if-negative-is_negative.false
+    ∙ difference-signs _ _ _ _ _ _ _ _ c.requires.first c.requires.second c.requires.difference c.is_negative-negative.ensures c.is_negative.ensures refl

@@ -1,16 +1,14 @@
-use Rattle.std.proofs.Common.{arith, ap, ◌∙◌}
-use Rattle.std.proofs.lemmas.Int.{ints}
-use Rattle.dm_alu.specs.Sums.{sum_overflows}
-use Rattle.dm_alu.proofs.Bits.{bit_le}
-use Rattle.dm_alu.specs.Width.{leaves_range}
+use Rattle.std.proofs.Common.{◌∙◌, refl}
+use Rattle.dm_alu.proofs.Overflows.{sum-signs, same-sign, other-sign}
 use Rattle.dm_alu.proofs.sums.sum_overflows.Goals as goal
 
-pub returns : goal.returns
-unfolding sum_overflows
-returns c = c.leaves_range.ensures ∙ ap (leaves_range c.args.width) (omega (arith, ints, bit_le))
+pub returns-then-negative-is_negative : goal.returns-then-negative-is_negative
+returns-then-negative-is_negative c =
+    same-sign _ _ _ c.if-negative-is_negative.true
+    ∙ sum-signs _ _ _ _ _ _ _ _ c.requires.first c.requires.second c.requires.sum c.is_negative-negative.ensures c.is_negative.ensures
+      c.is_negative-then-negative-is_negative.ensures
 
-pub overflow_add-signed : goal.overflow_add-signed
-overflow_add-signed c = omega (arith, ints, bit_le)
-
-pub overflow_add-signed-2 : goal.overflow_add-signed-2
-overflow_add-signed-2 c = omega (arith, bit_le, ints)
+pub returns-else-negative-is_negative : goal.returns-else-negative-is_negative
+returns-else-negative-is_negative c =
+    other-sign _ _ _ c.if-negative-is_negative.false
+    ∙ sum-signs _ _ _ _ _ _ _ _ c.requires.first c.requires.second c.requires.sum c.is_negative-negative.ensures c.is_negative.ensures refl
