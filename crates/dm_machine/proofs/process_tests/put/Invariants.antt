@@ -2,4 +2,4 @@ use Rattle.dm_machine.specs.State.{HasProgram}
 use Rattle.dm_machine.proofs.process_tests.put.Given as goal
 
 abbrev pub invariant-loop-index : goal.invariant-loop-index
-invariant-loop-index g l = HasProgram l.machine
+invariant-loop-index l = HasProgram l.machine
