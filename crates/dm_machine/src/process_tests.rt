@@ -3,7 +3,7 @@ ghost use Rattle.std.specs.Prelude.{◌≡◌, IfOk};
 ghost use Rattle.dm_proc.specs.Programs.{IsName};
 ghost use Rattle.dm_machine.specs.State.{HasProgram};
 
-use crate::tests::{HELLO, machine_of, store};
+use crate::tests::{HELLO, machine_of, machine_with, store};
 use crate::{LoadError, Machine, Stop};
 use std::alloc::Global;
 use std::process::Abort;
@@ -297,5 +297,120 @@ fn no_end_in_a_destroyed_arena(rt: HostRuntime) -> Result<(), Fail> {
             (0x0102, [b'Z', 0, 0, 0xFD, 0x9E]),
         ],
     );
+    Ok(())
+}
+
+/// Compares bytes of a segment.
+fn holds(rt: &impl Abort, machine: &Machine, segment: u16, offset: u16, bytes: &[u8]) {
+    for (index, byte) in bytes.iter().enumerate() {
+        let at = offset.wrapping_add((index % 0x1_0000) as u16);
+        assert_eq!(rt;
+            machine.peek(segment, at),
+            *byte,
+            "byte at {segment:04X}:{at:04X}"
+        );
+    }
+}
+
+/// An MZ file that starts at 1:0003 of its image, with its stack at 2:0040, and takes 10h paragraphs
+/// more at most.
+fn placed_mz() -> [u8; 64] {
+    let mut file = mz(0);
+    file[0x06] = 0;
+    file[0x0C] = 0x10;
+    file[0x0E] = 2;
+    file[0x10] = 0x40;
+    file[0x14] = 3;
+    file[0x16] = 1;
+    file
+}
+
+#[test]
+fn an_exe_file_says_where_it_starts(rt: HostRuntime) -> Result<(), Fail> {
+    let programs = store(rt.alloc(), b"HI.EXE", &placed_mz())?;
+    let mut machine = machine_of(rt.alloc(), programs)?;
+    machine.load(b"HI.EXE", b"")?;
+    let cpu = machine.cpu();
+    assert_eq!(rt;
+        [cpu.cs, cpu.ip, cpu.ss, cpu.sp, cpu.ds, cpu.es],
+        [0x0114, 0x0003, 0x0115, 0x0040, 0x0103, 0x0103]
+    );
+    shows(
+        &rt,
+        &machine,
+        &[
+            (0x0102, [b'M', 0x03, 0x01, 0x21, 0x00]),
+            (0x0124, [b'Z', 0, 0, 0xDB, 0x9E]),
+        ],
+    );
+    Ok(())
+}
+
+#[test]
+fn variables_go_to_children(rt: HostRuntime) -> Result<(), Fail> {
+    let alloc = rt.alloc();
+    let mut programs = store(alloc, b"GO.COM", &CALLS)?;
+    programs.add(alloc, b"HI.COM", Vec::from_slice(alloc, &HELLO)?)?;
+    let variables = Vec::from_slice(alloc, b"A=1\0")?;
+    let mut machine = machine_with(alloc, programs, variables)?;
+    machine.load(b"GO.COM", b"")?;
+    holds(&rt, &machine, 0x0101, 0, b"A=1\0\0\x01\0GO.COM\0");
+    shrink(&mut machine);
+    load_program(&mut machine, 0, b"hi.com\0", [0, 0]);
+    holds(&rt, &machine, 0x1104, 0, b"A=1\0\0\x01\0hi.com\0");
+    Ok(())
+}
+
+#[test]
+fn a_child_is_passed_a_tail_and_two_blocks(rt: HostRuntime) -> Result<(), Fail> {
+    let mut machine = caller(rt.alloc(), b"HI.COM", &HELLO)?;
+    shrink(&mut machine);
+    put(&mut machine, 0x0300, b"\x02ab");
+    put(&mut machine, 0x0310, b"first block 16 b");
+    put(&mut machine, 0x0320, b"second block 16b");
+    put(&mut machine, BLOCK + 2, &[0x00, 0x03, 0x03, 0x01]);
+    put(&mut machine, BLOCK + 6, &[0x10, 0x03, 0x03, 0x01]);
+    put(&mut machine, BLOCK + 10, &[0x20, 0x03, 0x03, 0x01]);
+    put(&mut machine, NAME, b"hi.com\0");
+    ask(&mut machine, [0x4B00, BLOCK, NAME]);
+    holds(&rt, &machine, 0x1106, 0x80, b"\x02ab\x0D\0");
+    holds(
+        &rt,
+        &machine,
+        0x1106,
+        0x5C,
+        b"first block 16 bsecond block 16b",
+    );
+    Ok(())
+}
+
+#[test]
+fn vectors_come_back(rt: HostRuntime) -> Result<(), Fail> {
+    // MOV AX,2524h; INT 21h; MOV AX,4C00h; INT 21h
+    let child = [0xB8, 0x24, 0x25, 0xCD, 0x21, 0xB8, 0x00, 0x4C, 0xCD, 0x21];
+    let mut machine = caller(rt.alloc(), b"HI.COM", &child)?;
+    shrink(&mut machine);
+    load_program(&mut machine, 0, b"hi.com\0", [0, 0]);
+    machine.run(3);
+    holds(&rt, &machine, 0, 0x90, &[0x00, 0x00, 0x06, 0x11]);
+    machine.run(3);
+    assert_eq!(rt; machine.cpu().cs, 0x0103);
+    holds(&rt, &machine, 0, 0x90, &[0x90, 0x00, 0x00, 0xF0]);
+    Ok(())
+}
+
+#[test]
+fn the_first_program_ends(rt: HostRuntime) -> Result<(), Fail> {
+    // AX, DX, the code, and the size of the program's block after it
+    for (ax, dx, code, header) in [
+        (0x0007, 0, 0, [b'Z', 0, 0, 0xFD, 0x9E]),
+        (0x3105, 0x20, 5, [b'M', 0x03, 0x01, 0x20, 0x00]),
+        (0x3106, 0xFFFF, 6, [b'Z', 0x03, 0x01, 0xFD, 0x9E]),
+    ] {
+        let mut machine = caller(rt.alloc(), b"HI.COM", &HELLO)?;
+        ask(&mut machine, [ax, 0, dx]);
+        assert_eq!(rt; machine.run(0), Stop::Exited(code));
+        shows(&rt, &machine, &[(0x0102, header)]);
+    }
     Ok(())
 }

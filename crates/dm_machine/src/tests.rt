@@ -1,5 +1,5 @@
 //! Whole programs, from their bytes to their output.
-ghost use Rattle.std.specs.Prelude.{◌≡◌, IfOk};
+ghost use Rattle.std.specs.Prelude.{◌≡◌, ◌≤◌, IfOk, length};
 ghost use Rattle.dm_proc.specs.Programs.{IsName};
 
 use crate::{AddError, Config, LoadError, Machine, NewError, Programs, Sizes, Stop};
@@ -19,6 +19,23 @@ pub(crate) fn store(alloc: Global, name: &[u8], file: &[u8]) -> Result<Programs,
     let mut programs = Programs::new(alloc);
     programs.add(alloc, name, Vec::from_slice(alloc, file)?)?;
     Ok(programs)
+}
+
+/// A machine with these variables in the first program's environment.
+pub(crate) fn machine_with(
+    alloc: Global,
+    programs: Programs,
+    variables: Vec<u8>,
+) -> Result<Machine, Fail>
+    requires { length variables.items ≤ 0x7FFF }
+    ensures { IfOk result (λ m. m.processes.present ≡ 0) }
+{
+    let sizes = Sizes {
+        ems_pages: 0,
+        xms_kib: 0,
+    };
+    let config = Config { sizes, variables };
+    Ok(Machine::new(alloc, config, programs, Vec::new(alloc))?)
 }
 
 /// A machine of so many pages and KiB, with a store of programs and no input.
