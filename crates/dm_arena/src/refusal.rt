@@ -11,7 +11,8 @@ pub enum Refusal {
     /// No free block is large enough (DOS error 8, "Not enough memory").
     #[error("not enough memory")]
     Short {
-        /// The largest size that would have been served, in paragraphs.
+        /// In paragraphs, the largest size that would have been served; of two blocks together, the
+        /// largest free block there is.
         largest: u16,
     },
     /// No block of the list begins at the segment (DOS error 9, "Invalid memory block").

@@ -127,9 +127,9 @@ pub(crate) fn report<E: Write>(outcome: Result<Stop, Fault<'_>>, error: &mut E) 
 /// `dm run` exits with the program's code. At another stop it tells `stopped: ` and the stop, with status 125, and at
 /// a fault `dm: ` and the fault, with status 126. It finds them in this order: of each file in turn `cannot read NAME`,
 /// `input too long` (over 16 MiB), `name too long` (over 64 bytes) and `name twice`; of standard input the first two;
-/// `too large` (over 512 pages or 15360 KiB), `tail too long` (over 126 bytes), `not found`, `bad format`; `cannot
-/// write standard output`. `out of memory` stands where memory was refused. A wrong command line or a call for help
-/// is told by `clap`'s text, with status 2.
+/// `too large` (over 512 pages or 15360 KiB), `tail too long` (over 126 bytes), `not found`, `bad format`, `short`;
+/// `cannot write standard output`. `out of memory` stands where memory was refused. A wrong command line or a call for
+/// help is told by `clap`'s text, with status 2.
 pub fn dm_main<S: AsStr, F: Storage, I: Read + Drop, O: Write, E: Write>(
     alloc: Global,
     storage: &F,
