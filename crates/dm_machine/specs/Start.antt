@@ -48,7 +48,7 @@ pub record IsLoaded (s : State) (name tail : List ℕ) (t : State) : Type 0 wher
   pub file : List ℕ
   pub found : program_of s.programs name ≡ Some file
   pub good : IsGood file
-  pub begins : Begins s.processes s.memory s.strategy file s.variables name (passed_first tail) t.processes t.cpu t.memory
+  pub begins : Begins s.memory s.strategy file s.variables name (passed_first tail) t.processes t.cpu t.memory
   pub others : t ≡ record s { cpu = t.cpu; memory = t.memory; processes = t.processes }
 
 -- the store has the program, and it can't be loaded

@@ -8,7 +8,7 @@ ghost use Rattle.dm_machine.specs.State.{HasProgram};
 use crate::machine::Machine;
 use arrayvec::ArrayVec;
 use dm_load::Image;
-use dm_proc::Arguments;
+use dm_proc::{Arguments, Procs};
 use thiserror::Error;
 
 /// Why no program was loaded.
@@ -68,7 +68,7 @@ impl Machine {
             return Err(LoadError::BadFormat);
         };
         let arguments = arguments(tail);
-        let loaded = self.procs.load(
+        let loaded = Procs::load(
             &mut self.space,
             self.strategy,
             &image,
@@ -77,7 +77,8 @@ impl Machine {
             &arguments,
         );
         match loaded {
-            Ok(cpu) => {
+            Ok((procs, cpu)) => {
+                self.procs = procs;
                 self.cpu = cpu;
                 Ok(())
             }

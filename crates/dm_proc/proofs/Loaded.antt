@@ -1,5 +1,5 @@
 -- A loaded program stays loaded
-use Rattle.std.proofs.Common.{◌≡◌, ℕ, zero, suc, ◌+◌, ◌<◌, List, [], ◌∷◌, ◌++◌, length, take, drop, refl, sym, ◌∙◌, ap, subst, arith, Result, Ok, Err}
+use Rattle.std.proofs.Common.{◌≡◌, ℕ, zero, suc, ◌+◌, ◌<◌, List, [], ◌∷◌, ◌++◌, length, sym, ap, subst, arith, Result, Ok, Err}
 use Rattle.std.specs.List.{All}
 use Rattle.std.proofs.lemmas.List.Elements.{All-append, All-take, All-drop}
 use Rattle.std.proofs.Math.Seq.{take-append_seam, drop-append_seam}
@@ -44,10 +44,8 @@ exec_loaded ps c m store st (Err x) qs d n e h = at ps qs e.0 h
 none : All HasSegment []
 none k d l = absurd (omega arith)
 
-load_loaded : (ps : Processes) (m : Memory) (st : Strategy) (file variables name : List ℕ) (a : Passed) (d : Cpu) (qs : Processes) (n : Memory) →
-    Loads ps m st file variables name a (Ok d) qs n → ps.parents ≡ [] → AreLoaded qs
-load_loaded ps m st file variables name a d qs n e h =
-    at _ qs e.processes (record { present = placed_over_0 m st _ _ _ _ e.placed n e.starts; parents = subst (All HasSegment) (sym h) none })
+load_loaded : (m : Memory) (st : Strategy) (file variables name : List ℕ) (a : Passed) (qs : Processes) (d : Cpu) (n : Memory) → Loads m st file variables name a (Ok (qs, d)) n → AreLoaded qs
+load_loaded m st file variables name a qs d n e = at _ qs e.processes (record { present = placed_over_0 m st _ _ _ _ e.placed n e.starts; parents = none })
 
 goes_on_loaded : (ps : Processes) (c : Cpu) (word : ℕ) (e : Ending) (qs : Processes) (d : Cpu) → GoesOn ps c word e qs d → AreLoaded ps → AreLoaded qs
 goes_on_loaded ps c word Returned qs d g h =

@@ -256,17 +256,18 @@ exec_unique ps c m store st (Err d) (Err e) p₁ p₂ c₁ c₂ m₁ m₂ x y =
     (ap (λ (z : Refusal). Err z) (refused_same ps c m store st d e x.3 y.3), x.0 ∙ sym y.0, x.1 ∙ sym y.1, x.2 ∙ sym y.2)
 
 -- the first program
-pub load_unique : (ps : Processes) (m : Memory) (st : Strategy) (file variables name : List ℕ) (a : Passed) (r q : Result Cpu Refusal) (p₁ p₂ : Processes) (m₁ m₂ : Memory) →
-    Loads ps m st file variables name a r p₁ m₁ → Loads ps m st file variables name a q p₂ m₂ → (r ≡ q) × (p₁ ≡ p₂) × (m₁ ≡ m₂)
-load_unique ps m st file variables name a (Ok d) (Ok e) p₁ p₂ m₁ m₂ x y =
+pub load_unique : (m : Memory) (st : Strategy) (file variables name : List ℕ) (a : Passed) (r q : Result (Processes × Cpu) Refusal) (m₁ m₂ : Memory) →
+    Loads m st file variables name a r m₁ → Loads m st file variables name a q m₂ → (r ≡ q) × (m₁ ≡ m₂)
+load_unique m st file variables name a (Ok d) (Ok e) m₁ m₂ x y =
     let u = starts_unique m st _ _ _ _ x.placed y.placed m₁ m₂ x.starts y.starts in (
-      ap (λ (z : Cpu). Ok z) (x.registers ∙ ap (λ (z : Placed). start_registers z file) u.0 ∙ sym y.registers),
-      x.processes ∙ ap (λ (z : Placed). record ps { present = z.program }) u.0 ∙ sym y.processes,
+      ap₂ (λ (z : Processes) (k : Cpu). Ok (z, k))
+          (x.processes ∙ ap (λ (z : Placed). let ps : Processes = record { present = z.program; parents = []; code = 0 } in ps) u.0 ∙ sym y.processes)
+          (x.registers ∙ ap (λ (z : Placed). start_registers z file) u.0 ∙ sym y.registers),
       u.1,
     )
-load_unique ps m st file variables name a (Ok d) (Err e) p₁ p₂ m₁ m₂ x y = absurd (planned_refused m st _ _ e (started_planned _ _ _ _ _ _ _ _ x.starts) y.2)
-load_unique ps m st file variables name a (Err e) (Ok d) p₁ p₂ m₁ m₂ x y = absurd (planned_refused m st _ _ e (started_planned _ _ _ _ _ _ _ _ y.starts) x.2)
-load_unique ps m st file variables name a (Err d) (Err e) p₁ p₂ m₁ m₂ x y = (ap (λ (z : Refusal). Err z) (plan_refused_same m st _ _ d e x.2 y.2), x.0 ∙ sym y.0, x.1 ∙ sym y.1)
+load_unique m st file variables name a (Ok d) (Err e) m₁ m₂ x y = absurd (planned_refused m st _ _ e (started_planned _ _ _ _ _ _ _ _ x.starts) y.1)
+load_unique m st file variables name a (Err e) (Ok d) m₁ m₂ x y = absurd (planned_refused m st _ _ e (started_planned _ _ _ _ _ _ _ _ y.starts) x.1)
+load_unique m st file variables name a (Err d) (Err e) m₁ m₂ x y = (ap (λ (z : Refusal). Err z) (plan_refused_same m st _ _ d e x.1 y.1), x.0 ∙ sym y.0)
 
 -- an overlay
 lays_refused : (c : Cpu) (m : Memory) (store : List (List ℕ × List ℕ)) (n : Memory) → Lays c m store n → (e : Refusal) → OverlayRefused c m store e → ⊥

@@ -177,15 +177,15 @@ module _ (f : Memory → Memory) (u : IsUnseen f) where
   }
   exec-unseen ps c m store st (Err e) qs d n x = (x.0, x.1, ap f x.2, exec_refused-unseen ps c m store st e x.3)
 
-  pub load-unseen : (ps : Processes) (m : Memory) (st : Strategy) (file variables name : List ℕ) (a : Passed) (r : Result Cpu Refusal) (qs : Processes) (n : Memory) →
-      Loads ps m st file variables name a r qs n → Loads ps (f m) st file variables name a r qs (f n)
-  load-unseen ps m st file variables name a (Ok d) qs n x = record {
+  pub load-unseen : (m : Memory) (st : Strategy) (file variables name : List ℕ) (a : Passed) (r : Result (Processes × Cpu) Refusal) (n : Memory) →
+      Loads m st file variables name a r n → Loads (f m) st file variables name a r (f n)
+  load-unseen m st file variables name a (Ok d) n x = record {
     placed = x.placed;
     starts = starts-unseen m st _ _ _ _ x.placed n x.starts;
     registers = x.registers;
     processes = x.processes;
   }
-  load-unseen ps m st file variables name a (Err e) qs n x = (x.0, ap f x.1, plan_refused-unseen m st _ _ e x.2)
+  load-unseen m st file variables name a (Err e) n x = (ap f x.0, plan_refused-unseen m st _ _ e x.1)
 
   overlay_refused-unseen : (c : Cpu) (m : Memory) (store : List (List ℕ × List ℕ)) (e : Refusal) → OverlayRefused c m store e → OverlayRefused c (f m) store e
   overlay_refused-unseen c m store Function x = x

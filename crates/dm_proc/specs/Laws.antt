@@ -1,5 +1,5 @@
 -- Laws of the definitions: each call has one answer, and none depends on what no program sees.
-use Rattle.std.specs.Prelude.{◌≡◌, ℕ, List, [], Result, Ok}
+use Rattle.std.specs.Prelude.{◌≡◌, ℕ, List, Result, Ok}
 use Rattle.dm_space.specs.Memory.{Memory}
 use Rattle.dm_space.specs.Unseen.{IsUnseen}
 use Rattle.dm_arena.specs.declared.fit.Strategy.{Strategy}
@@ -19,9 +19,8 @@ ExecHasOneAnswer =
 
 abbrev pub LoadHasOneAnswer : Type 0
 LoadHasOneAnswer =
-    (ps : Processes) (m : Memory) (strategy : Strategy) (file variables name : List ℕ) (a : Passed) (r q : Result Cpu Refusal)
-    (ps₁ ps₂ : Processes) (m₁ m₂ : Memory) →
-    Loads ps m strategy file variables name a r ps₁ m₁ → Loads ps m strategy file variables name a q ps₂ m₂ → (r ≡ q) × (ps₁ ≡ ps₂) × (m₁ ≡ m₂)
+    (m : Memory) (strategy : Strategy) (file variables name : List ℕ) (a : Passed) (r q : Result (Processes × Cpu) Refusal) (m₁ m₂ : Memory) →
+    Loads m strategy file variables name a r m₁ → Loads m strategy file variables name a q m₂ → (r ≡ q) × (m₁ ≡ m₂)
 
 abbrev pub OverlayHasOneAnswer : Type 0
 OverlayHasOneAnswer =
@@ -42,8 +41,8 @@ KeepingHasOneAnswer =
 pub record CallsKeepLoaded : Type 0 where
   pub exec : (ps : Processes) (c : Cpu) (m : Memory) (store : List (List ℕ × List ℕ)) (strategy : Strategy) (r : Result (Unit {0}) Refusal) (qs : Processes) (d : Cpu) (n : Memory) →
       Executes ps c m store strategy r qs d n → AreLoaded ps → AreLoaded qs
-  pub load : (ps : Processes) (m : Memory) (strategy : Strategy) (file variables name : List ℕ) (a : Passed) (d : Cpu) (qs : Processes) (n : Memory) →
-      Loads ps m strategy file variables name a (Ok d) qs n → ps.parents ≡ [] → AreLoaded qs
+  pub load : (m : Memory) (strategy : Strategy) (file variables name : List ℕ) (a : Passed) (qs : Processes) (d : Cpu) (n : Memory) →
+      Loads m strategy file variables name a (Ok (qs, d)) n → AreLoaded qs
   pub terminating : (ps : Processes) (c : Cpu) (m : Memory) (code : ℕ) (r : Result Ending ArenaDestroyed) (qs : Processes) (d : Cpu) (n : Memory) →
       Terminates ps c m code r qs d n → AreLoaded ps → AreLoaded qs
   pub keeping : (ps : Processes) (c : Cpu) (m : Memory) (code paragraphs : ℕ) (r : Result Ending ArenaDestroyed) (qs : Processes) (d : Cpu) (n : Memory) →
@@ -53,8 +52,8 @@ pub record CallsKeepLoaded : Type 0 where
 pub record CallsIgnoreUnseen (change : Memory → Memory) : Type 0 where
   pub exec : (ps : Processes) (c : Cpu) (m : Memory) (store : List (List ℕ × List ℕ)) (strategy : Strategy) (r : Result (Unit {0}) Refusal) (qs : Processes) (d : Cpu) (n : Memory) →
       Executes ps c m store strategy r qs d n → Executes ps c (change m) store strategy r qs d (change n)
-  pub load : (ps : Processes) (m : Memory) (strategy : Strategy) (file variables name : List ℕ) (a : Passed) (r : Result Cpu Refusal) (qs : Processes) (n : Memory) →
-      Loads ps m strategy file variables name a r qs n → Loads ps (change m) strategy file variables name a r qs (change n)
+  pub load : (m : Memory) (strategy : Strategy) (file variables name : List ℕ) (a : Passed) (r : Result (Processes × Cpu) Refusal) (n : Memory) →
+      Loads m strategy file variables name a r n → Loads (change m) strategy file variables name a r (change n)
   pub overlay : (c : Cpu) (m : Memory) (store : List (List ℕ × List ℕ)) (r : Result (Unit {0}) Refusal) (n : Memory) →
       Overlays c m store r n → Overlays c (change m) store r (change n)
   pub terminating : (ps : Processes) (c : Cpu) (m : Memory) (code : ℕ) (r : Result Ending ArenaDestroyed) (qs : Processes) (d : Cpu) (n : Memory) →

@@ -109,17 +109,17 @@ abbrev pub Executes : Processes → Cpu → Memory → List (List ℕ × List �
 Executes ps c m store strategy (Ok x) qs d n = Execs ps c m store strategy qs d n
 Executes ps c m store strategy (Err e) qs d n = (qs ≡ ps) × (d ≡ c) × (n ≡ m) × ExecRefused ps c m store strategy e
 
--- the first program is started, with given variables; no process waits for it
-pub record Begins (ps : Processes) (m : Memory) (strategy : Strategy) (file variables name : List ℕ) (a : Passed) (qs : Processes) (d : Cpu) (n : Memory) : Type 0 where
+-- the first program is started, with given variables: it alone is alive
+pub record Begins (m : Memory) (strategy : Strategy) (file variables name : List ℕ) (a : Passed) (qs : Processes) (d : Cpu) (n : Memory) : Type 0 where
   pub placed : Placed
   pub starts : Starts m strategy (environment variables name) file 0 a placed n
   pub registers : d ≡ start_registers placed file
-  pub processes : qs ≡ record ps { present = placed.program }
+  pub processes : qs ≡ record { present = placed.program; parents = []; code = 0 }
 
 -- the load of the first program; a refusal changes nothing
-abbrev pub Loads : Processes → Memory → Strategy → List ℕ → List ℕ → List ℕ → Passed → Result Cpu Refusal → Processes → Memory → Type 0
-Loads ps m strategy file variables name a (Ok d) qs n = Begins ps m strategy file variables name a qs d n
-Loads ps m strategy file variables name a (Err e) qs n = (qs ≡ ps) × (n ≡ m) × PlanRefused m strategy (length (environment variables name)) file e
+abbrev pub Loads : Memory → Strategy → List ℕ → List ℕ → List ℕ → Passed → Result (Processes × Cpu) Refusal → Memory → Type 0
+Loads m strategy file variables name a (Ok r) n = Begins m strategy file variables name a r.0 r.1 n
+Loads m strategy file variables name a (Err e) n = (n ≡ m) × PlanRefused m strategy (length (environment variables name)) file e
 
 -- an overlay: the image, relocated by the factor that the parameter block gives, is written from its load segment up
 pub record Lays (c : Cpu) (m : Memory) (store : List (List ℕ × List ℕ)) (n : Memory) : Type 0 where

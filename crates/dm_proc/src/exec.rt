@@ -1,6 +1,6 @@
 //! How a program is started (MS-DOS Programmer's Reference, function 4Bh "Load and Execute
 //! Program").
-ghost use Rattle.std.specs.Prelude.{◌≡◌, ◌<◌, ◌≤◌, length, OnOk};
+ghost use Rattle.std.specs.Prelude.{◌≡◌, ◌<◌, ◌≤◌, length, IfOk};
 ghost use Rattle.dm_proc.specs.Request.{passed_of};
 ghost use Rattle.dm_proc.specs.Processes.{Executes, Loads};
 
@@ -70,34 +70,31 @@ impl Procs {
         Ok(())
     }
 
-    /// Starts the first program with these variables, each closed by a zero; the registers that it
-    /// starts with. No process waits for it.
+    /// Starts the first program with these variables, each closed by a zero: the processes, with
+    /// this one alone, and the registers that it starts with.
     ///
     /// The variables have at most 32,767 bytes, the name 64.
     ///
     /// # Errors
     ///
     /// `Destroyed` where memory spells no clear list of blocks or the last list would not be clear,
-    /// `Short` where there is no room for both blocks. A refusal changes neither memory nor
-    /// processes.
+    /// `Short` where there is no room for both blocks. A refusal changes no byte of memory.
     pub fn load(
-        &mut self,
         space: &mut Space,
         strategy: Strategy,
         image: &Image,
         variables: &[u8],
         name: &[u8],
         arguments: &Arguments,
-    ) -> Result<Cpu, Refusal>
+    ) -> Result<(Procs, Cpu), Refusal>
         requires variables { length variables.now ≤ 0x7FFF }
         requires name { length name.now ≤ 64 }
-        ensures loads { Loads self.old space.old.memory strategy image.now variables.now name.now (passed_of arguments.now) result self.new space.new.memory }
-        ensures present { OnOk result (0 < self.new.present) }
+        ensures loads { Loads space.old.memory strategy image.now variables.now name.now (passed_of arguments.now) result space.new.memory }
+        ensures present { IfOk result (λ r. 0 < r.0.present) }
     {
         let environment = put_environment(space, variables, name);
         let pair = plan(space, strategy, image, environment)?;
         let started = start(space, image, pair, environment, 0, arguments);
-        self.set_first(started.segment);
-        Ok(started.cpu)
+        Ok((Procs::of_first(started.segment), started.cpu))
     }
 }

@@ -62,11 +62,14 @@ impl Procs {
         self.parents.is_full()
     }
 
-    /// The process at a segment is the present one, which no process waits for.
-    pub(crate) fn set_first(&mut self, segment: u16)
-        ensures { self.new ≡ record self.old { present = segment } }
+    /// The process at a segment is alive, and no other one; nothing has ended yet.
+    pub(crate) fn of_first(segment: u16) -> Procs
+        ensures { result ≡ record { present = segment; parents = []; code = 0 } }
     {
-        self.present = segment;
+        Procs {
+            present: segment,
+            ..Procs::new()
+        }
     }
 
     /// A child begins at a segment; the present process waits for it with these registers.

@@ -61,13 +61,16 @@ fn put(space: &mut Space, segment: u16, offset: u16, bytes: &[u8]) {
     }
 }
 
+/// The first program, with the environment of its name alone.
+fn loaded(space: &mut Space) -> Option<(Procs, Cpu)> {
+    let image = Image::of(&HI).ok()?;
+    Procs::load(space, Strategy::First, &image, &[], b"HI.COM", &none()).ok()
+}
+
 /// A first program that has shrunk its block to 1000h paragraphs, and its registers at a call of
 /// function 4Bh: the name at 0103:0200, the parameter block at 0103:0300.
-fn started(space: &mut Space, procs: &mut Procs) -> Option<Cpu> {
-    let image = Image::of(&HI).ok()?;
-    let mut cpu = procs
-        .load(space, Strategy::First, &image, &[], b"HI.COM", &none())
-        .ok()?;
+fn started(space: &mut Space) -> Option<(Procs, Cpu)> {
+    let (procs, mut cpu) = loaded(space)?;
     resize(space, 0x103, 0x1000).ok()?;
     put(space, 0x103, 0x200, b"hi.com\0");
     put(space, 0x103, 0x300, &[0, 0, 0x80, 0, 3, 1]);
@@ -76,17 +79,13 @@ fn started(space: &mut Space, procs: &mut Procs) -> Option<Cpu> {
     cpu.sp = 0xFF00;
     cpu.dx = 0x200;
     cpu.bx = 0x300;
-    Some(cpu)
+    Some((procs, cpu))
 }
 
 #[test]
 fn first_program_has_all_of_memory(rt: HostRuntime) -> Result<(), Fail> {
     let mut space = Space::new(rt.alloc())?;
-    let mut procs = Procs::new();
-    let image = Image::of(&HI).expect(&rt, "it is small");
-    let cpu = procs
-        .load(&mut space, Strategy::First, &image, &[], b"HI.COM", &none())
-        .expect(&rt, "there is room");
+    let (procs, cpu) = loaded(&mut space).expect(&rt, "there is room");
     assert_eq!(rt; procs.psp(), 0x103);
     assert_eq!(rt; (cpu.cs, cpu.ip, cpu.sp), (0x103, 0x100, 0xFFFE));
     // the header's words, the segment behind the block, the environment's, the first word of code
@@ -107,8 +106,7 @@ fn first_program_has_all_of_memory(rt: HostRuntime) -> Result<(), Fail> {
 fn child_runs_and_returns(rt: HostRuntime) -> Result<(), Fail> {
     let programs = store(rt.alloc())?;
     let mut space = Space::new(rt.alloc())?;
-    let mut procs = Procs::new();
-    let mut cpu = started(&mut space, &mut procs).expect(&rt, "there is room");
+    let (mut procs, mut cpu) = started(&mut space).expect(&rt, "there is room");
     let answer = procs.exec(&mut cpu, &mut space, &programs, Strategy::First);
     assert_eq!(rt; answer, Ok(()));
     assert_eq!(rt; (procs.psp(), cpu.cs, cpu.sp), (0x1106, 0x1106, 0xFFFE));
@@ -136,8 +134,7 @@ fn child_runs_and_returns(rt: HostRuntime) -> Result<(), Fail> {
 fn resident_program_keeps_its_block(rt: HostRuntime) -> Result<(), Fail> {
     let programs = store(rt.alloc())?;
     let mut space = Space::new(rt.alloc())?;
-    let mut procs = Procs::new();
-    let mut cpu = started(&mut space, &mut procs).expect(&rt, "there is room");
+    let (mut procs, mut cpu) = started(&mut space).expect(&rt, "there is room");
     let answer = procs.exec(&mut cpu, &mut space, &programs, Strategy::First);
     assert_eq!(rt; answer, Ok(()));
     let ending = procs.keep(&mut cpu, &mut space, 5, 0x20);
@@ -168,8 +165,7 @@ fn refusals_come_in_their_order(rt: HostRuntime) -> Result<(), Fail> {
     ];
     for (ax, name, environment, signature, refusal) in rows {
         let mut space = Space::new(rt.alloc())?;
-        let mut procs = Procs::new();
-        let mut cpu = started(&mut space, &mut procs).expect(&rt, "there is room");
+        let (mut procs, mut cpu) = started(&mut space).expect(&rt, "there is room");
         assert_eq!(rt; resize(&mut space, 0x103, 0x9E00), Ok(()));
         cpu.ax = ax;
         put(&mut space, 0x103, 0x200, name);
@@ -187,8 +183,7 @@ fn refusals_come_in_their_order(rt: HostRuntime) -> Result<(), Fail> {
 fn overlay_is_relocated_by_the_factor(rt: HostRuntime) -> Result<(), Fail> {
     let programs = store(rt.alloc())?;
     let mut space = Space::new(rt.alloc())?;
-    let mut procs = Procs::new();
-    let mut cpu = started(&mut space, &mut procs).expect(&rt, "there is room");
+    let (_procs, mut cpu) = started(&mut space).expect(&rt, "there is room");
     cpu.ax = 0x4B03;
     put(&mut space, 0x103, 0x200, b"HI.EXE");
     put(&mut space, 0x103, 0x300, &[0, 0x30, 0, 0x20]);
