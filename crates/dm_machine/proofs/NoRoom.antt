@@ -20,7 +20,7 @@ no_room s v name file image variables e is found same good from refused =
     (subst (λ vs. PlanRefused v.memory v.strategy (length (environment vs name)) image e) from refused) in
     subst (λ w. HasNoRoom w name) is (record { file = file; found = found; good = good; why = e; refused = here })
 
-served_clash : (r q : Result Cpu Refusal) (c : Cpu) (e : Refusal) → r ≡ Ok c → q ≡ Err e → r ≡ q → ⊥
+served_clash : (r q : Result (Processes × Cpu) Refusal) (c : Processes × Cpu) (e : Refusal) → r ≡ Ok c → q ≡ Err e → r ≡ q → ⊥
 served_clash r q c e f g h = cc
 
 found-same : (x y : List ℕ) (o : Option (List ℕ)) → o ≡ Some x → o ≡ Some y → x ≡ y
@@ -28,13 +28,12 @@ found-same x y o e f = cc
 
 -- a program that was loaded has room
 pub had_room : (s v : State) (name file image variables : List ℕ) (a : Passed) (d : Cpu) (qs : Processes) (n : Memory) → v ≡ s → program_of v.programs name ≡ Some file → image ≡ file → variables ≡ v.variables →
-    Begins v.processes v.memory v.strategy image variables name a qs d n → HasNoRoom s name → ⊥
+    Begins v.memory v.strategy image variables name a qs d n → HasNoRoom s name → ⊥
 had_room s v name file image variables a d qs n is found same from begins none =
     let w : HasNoRoom v name = subst (λ x. HasNoRoom x name) (sym is) none in
     let other : file ≡ w.file = found-same file w.file _ found w.found in
-    let here : Begins v.processes v.memory v.strategy w.file v.variables name a qs d n
-    = subst (λ i. Begins v.processes v.memory v.strategy i v.variables name a qs d n) other
-    (subst (λ i. Begins v.processes v.memory v.strategy i v.variables name a qs d n) same
-    (subst (λ vs. Begins v.processes v.memory v.strategy image vs name a qs d n) from begins)) in
-    served_clash (Ok d) (Err w.why) d w.why refl refl
-    (load_unique v.processes v.memory v.strategy w.file v.variables name a (Ok d) (Err w.why) qs v.processes n v.memory here (refl, refl, w.refused)).0
+    let here : Begins v.memory v.strategy w.file v.variables name a qs d n
+    = subst (λ i. Begins v.memory v.strategy i v.variables name a qs d n) other
+    (subst (λ i. Begins v.memory v.strategy i v.variables name a qs d n) same
+    (subst (λ vs. Begins v.memory v.strategy image vs name a qs d n) from begins)) in
+    served_clash (Ok (qs, d)) (Err w.why) (qs, d) w.why refl refl (load_unique v.memory v.strategy w.file v.variables name a (Ok (qs, d)) (Err w.why) n v.memory here (refl, w.refused)).0

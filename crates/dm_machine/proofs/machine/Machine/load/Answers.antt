@@ -5,7 +5,7 @@ use Rattle.dm_machine.proofs.machine.Machine.load.Goals as goal
 pub returns-in-Err-clause-short : goal.returns-in-Err-clause-short
 returns-in-Err-clause-short c = (
   λ is.
-      no_room _ _ _ _ _ _ _ c.self.view_is (sym c.in-Some.ensures) c.in-Ok.ensures.0 c.in-Ok.ensures.1 c.as_slice.ensures.value c.in-Err.ensures.loads.2,
+      no_room _ _ _ _ _ _ _ c.self.view_is (sym c.in-Some.ensures) c.in-Ok.ensures.0 c.in-Ok.ensures.1 c.as_slice.ensures.value c.in-Err.ensures.loads.1,
   λ none. refl,
 )
 
