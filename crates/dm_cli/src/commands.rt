@@ -2,7 +2,7 @@
 ghost use Rattle.std.specs.Prelude.{◌≡◌, IfOk, map};
 ghost use Rattle.dm_cli.specs.Names.{last_part};
 ghost use Rattle.dm_cli.specs.Statuses.{status_of, TellsWrongLine};
-ghost use Rattle.dm_machine.specs.State.{HasProgram};
+ghost use Rattle.dm_services.specs.State.{HasProgram};
 
 use crate::fault::Fault;
 use crate::files::{Storage, read_file, read_whole};

@@ -13,29 +13,29 @@ use Rattle.dm_exec.specs.Effect.{effect, next_of}
 use Rattle.dm_exec.specs.Unseen.{changed}
 use Rattle.dm_exec.proofs.Unseen.{effect-unseen}
 use Rattle.dm_space.proofs.Unseen.{pages-unseen}
-use Rattle.dm_machine.specs.declared.stop.Stop.{Stop}
-use Rattle.dm_machine.specs.declared.stop.Stop.TheVariants.{Memory as NoMemory}
-use Rattle.dm_machine.specs.declared.services.Service.{Service}
-use Rattle.dm_machine.specs.declared.services.Service.TheVariants as service
-use Rattle.dm_machine.specs.declared.services.Service.TheVariants.{DivideError, Dos}
-use Rattle.dm_machine.specs.declared.functions.Function.{Function}
-use Rattle.dm_machine.specs.declared.functions.Function.TheVariants.{EchoCharacter, WriteCharacter, DirectCharacter, ReadCharacter, WriteText, ReadLine, CheckInput, FlushAndRead, SetVector, Version, Keep, GetVector, ReadHandle, WriteHandle, Allocate, Free, Resize, LoadProgram, Exit, ExitCode, Process, AllocationStrategy, Terminate, Unknown}
+use Rattle.dm_services.specs.declared.stop.Stop.{Stop}
+use Rattle.dm_services.specs.declared.stop.Stop.TheVariants.{Memory as NoMemory}
+use Rattle.dm_services.specs.declared.services.Service.{Service}
+use Rattle.dm_services.specs.declared.services.Service.TheVariants as service
+use Rattle.dm_services.specs.declared.services.Service.TheVariants.{DivideError, Dos}
+use Rattle.dm_services.specs.declared.functions.Function.{Function}
+use Rattle.dm_services.specs.declared.functions.Function.TheVariants.{EchoCharacter, WriteCharacter, DirectCharacter, ReadCharacter, WriteText, ReadLine, CheckInput, FlushAndRead, SetVector, Version, Keep, GetVector, ReadHandle, WriteHandle, Allocate, Free, Resize, LoadProgram, Exit, ExitCode, Process, AllocationStrategy, Terminate, Unknown}
 use Rattle.dm_arena.specs.declared.fit.Strategy.{Strategy}
 use Rattle.dm_arena.specs.declared.refusal.Refusal.{Refusal}
 use Rattle.dm_arena.proofs.Unseen.{allocation-unseen, freeing-unseen, resizing-unseen}
-use Rattle.dm_machine.specs.State.{State, Answer}
-use Rattle.dm_machine.specs.Text.{text_within, print}
-use Rattle.dm_machine.specs.Allocation.{answered, allocated, settled, strategy_of, strategy_set, strategy_call}
+use Rattle.dm_services.specs.State.{State, Answer}
+use Rattle.dm_services.specs.Text.{text_within, print}
+use Rattle.dm_services.specs.Allocation.{answered, allocated, settled, strategy_of, strategy_set, strategy_call}
 use Rattle.dm_proc.specs.declared.refusal.Refusal.{Refusal as ProgramRefusal}
 use Rattle.dm_proc.specs.declared.refusal.ArenaDestroyed.{ArenaDestroyed}
 use Rattle.dm_proc.specs.declared.parent.Ending.{Ending}
 use Rattle.dm_proc.specs.declared.parent.Ending.TheVariants.{Returned, Exited}
 use Rattle.dm_proc.specs.Processes.{Processes}
 use Rattle.dm_proc.proofs.Unseen.{ignores_unseen}
-use Rattle.dm_machine.specs.Processes.{not_loaded, executed, overlaid, LoadingAs, concluded, Terminating, Keeping, tell_code}
-use Rattle.dm_machine.specs.Functions.{function_of, no_function, Calls}
-use Rattle.dm_machine.specs.Services.{service_at, Serves}
-use Rattle.dm_machine.specs.Wanting.{MayWant}
+use Rattle.dm_services.specs.Processes.{not_loaded, executed, overlaid, LoadingAs, concluded, Terminating, Keeping, tell_code}
+use Rattle.dm_services.specs.Functions.{function_of, no_function, Calls}
+use Rattle.dm_services.specs.Services.{service_at, Serves}
+use Rattle.dm_services.specs.Wanting.{MayWant}
 use Rattle.dm_machine.specs.Step.{Steps, Runs, Acts, Instructs, listed, unlisted, Begins, fetched, after, instructed}
 use Rattle.dm_machine.specs.Run.{Answers, here, further, StopsWithin, over, whole, cut}
 use Rattle.dm_machine.specs.Laws.{with_change, UnseenBytesChangeNoStep, UnseenBytesChangeNoRun, UnseenPagesChangeNoRun}

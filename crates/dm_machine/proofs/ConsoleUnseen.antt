@@ -4,13 +4,13 @@ use Rattle.dm_space.specs.Memory.{Memory}
 use Rattle.dm_space.specs.Unseen.{IsUnseen}
 use Rattle.dm_exec.specs.Cpu.{byte_of}
 use Rattle.dm_ins.specs.declared.operand.ByteRegister.TheVariants.{Al}
-use Rattle.dm_machine.specs.State.{State, go, returned}
-use Rattle.dm_machine.specs.Characters.{with_al, character_of, read_character, echo_of, echo_character, write_character, poll_of, poll_character, direct_character, check_input}
-use Rattle.dm_machine.specs.Lines.{line_length, line_read, line_into, read_line}
-use Rattle.dm_machine.specs.Flush.{flush_and_read}
-use Rattle.dm_machine.specs.Handles.{bad_handle, read_from_console, read_handle, write_to_console, write_handle}
-use Rattle.dm_machine.specs.Vectors.{set_vector, get_vector}
-use Rattle.dm_machine.specs.System.{tell_version, tell_process}
+use Rattle.dm_services.specs.State.{State, go, returned}
+use Rattle.dm_services.specs.Characters.{with_al, character_of, read_character, echo_of, echo_character, write_character, poll_of, poll_character, direct_character, check_input}
+use Rattle.dm_services.specs.Lines.{line_length, line_read, line_into, read_line}
+use Rattle.dm_services.specs.Flush.{flush_and_read}
+use Rattle.dm_services.specs.Handles.{bad_handle, read_from_console, read_handle, write_to_console, write_handle}
+use Rattle.dm_services.specs.Vectors.{set_vector, get_vector}
+use Rattle.dm_services.specs.System.{tell_version, tell_process}
 use Rattle.dm_machine.specs.Laws.{with_change}
 use Rattle.dm_machine.proofs.UnseenParts.{answer_with, byte-unseen, bytes_from-unseen, with_bytes-unseen, return-parts, choice-unseen}
 

@@ -1,13 +1,8 @@
-mod Texts
 mod StepLaws
 mod OneRun
 mod Memos
 mod UnseenParts
 mod ConsoleUnseen
 mod Confined
-mod Stores
-mod Keeping
-mod Calls
-mod Endings
 mod NoRoom
 mod Rooms

@@ -13,30 +13,30 @@ use Rattle.dm_exec.specs.declared.effect.Next.{Next}
 use Rattle.dm_exec.specs.declared.effect.Next.TheVariants.{Go, Halt}
 use Rattle.dm_exec.specs.Guest.{Guest, guest}
 use Rattle.dm_exec.specs.Effect.{effect, next_of}
-use Rattle.dm_machine.specs.declared.stop.Stop.{Stop}
-use Rattle.dm_machine.specs.declared.stop.Stop.TheVariants.{Memory as NoMemory}
-use Rattle.dm_machine.specs.declared.services.Service.{Service}
-use Rattle.dm_machine.specs.declared.services.Service.TheVariants as service
-use Rattle.dm_machine.specs.declared.services.Service.TheVariants.{DivideError, Dos}
-use Rattle.dm_machine.specs.declared.functions.Function.{Function}
-use Rattle.dm_machine.specs.declared.functions.Function.TheVariants.{EchoCharacter, WriteCharacter, DirectCharacter, ReadCharacter, WriteText, ReadLine, CheckInput, FlushAndRead, SetVector, Version, Keep, GetVector, ReadHandle, WriteHandle, Allocate, Free, Resize, LoadProgram, Exit, ExitCode, Process, AllocationStrategy, Terminate, Unknown}
-use Rattle.dm_machine.specs.State.{State, Answer}
-use Rattle.dm_machine.specs.Text.{written, text_at, print}
-use Rattle.dm_machine.specs.Characters.{character_of, read_character, echo_of, echo_character, write_character, poll_of, poll_character, direct_character, check_input}
-use Rattle.dm_machine.specs.Lines.{line_length, line_read, line_into, read_line}
-use Rattle.dm_machine.specs.Flush.{flush_and_read}
-use Rattle.dm_machine.specs.Handles.{bad_handle, read_handle, write_handle}
-use Rattle.dm_machine.specs.Vectors.{set_vector, get_vector}
-use Rattle.dm_machine.specs.System.{tell_version, tell_process}
-use Rattle.dm_machine.specs.Allocation.{allocated, settled, strategy_of, strategy_set, strategy_call}
+use Rattle.dm_services.specs.declared.stop.Stop.{Stop}
+use Rattle.dm_services.specs.declared.stop.Stop.TheVariants.{Memory as NoMemory}
+use Rattle.dm_services.specs.declared.services.Service.{Service}
+use Rattle.dm_services.specs.declared.services.Service.TheVariants as service
+use Rattle.dm_services.specs.declared.services.Service.TheVariants.{DivideError, Dos}
+use Rattle.dm_services.specs.declared.functions.Function.{Function}
+use Rattle.dm_services.specs.declared.functions.Function.TheVariants.{EchoCharacter, WriteCharacter, DirectCharacter, ReadCharacter, WriteText, ReadLine, CheckInput, FlushAndRead, SetVector, Version, Keep, GetVector, ReadHandle, WriteHandle, Allocate, Free, Resize, LoadProgram, Exit, ExitCode, Process, AllocationStrategy, Terminate, Unknown}
+use Rattle.dm_services.specs.State.{State, Answer}
+use Rattle.dm_services.specs.Text.{written, text_at, print}
+use Rattle.dm_services.specs.Characters.{character_of, read_character, echo_of, echo_character, write_character, poll_of, poll_character, direct_character, check_input}
+use Rattle.dm_services.specs.Lines.{line_length, line_read, line_into, read_line}
+use Rattle.dm_services.specs.Flush.{flush_and_read}
+use Rattle.dm_services.specs.Handles.{bad_handle, read_handle, write_handle}
+use Rattle.dm_services.specs.Vectors.{set_vector, get_vector}
+use Rattle.dm_services.specs.System.{tell_version, tell_process}
+use Rattle.dm_services.specs.Allocation.{allocated, settled, strategy_of, strategy_set, strategy_call}
 use Rattle.dm_proc.specs.declared.refusal.Refusal.{Refusal as ProgramRefusal}
 use Rattle.dm_proc.specs.declared.refusal.ArenaDestroyed.{ArenaDestroyed}
 use Rattle.dm_proc.specs.declared.parent.Ending.{Ending}
 use Rattle.dm_proc.specs.declared.parent.Ending.TheVariants as ending
 use Rattle.dm_proc.specs.Processes.{Processes}
-use Rattle.dm_machine.specs.Processes.{executed, overlaid, LoadingAs, concluded, Terminating, Keeping, tell_code}
-use Rattle.dm_machine.specs.Functions.{function_of, no_function, Calls}
-use Rattle.dm_machine.specs.Services.{service_at, Serves}
+use Rattle.dm_services.specs.Processes.{executed, overlaid, LoadingAs, concluded, Terminating, Keeping, tell_code}
+use Rattle.dm_services.specs.Functions.{function_of, no_function, Calls}
+use Rattle.dm_services.specs.Services.{service_at, Serves}
 use Rattle.dm_machine.specs.Step.{Steps, Runs, Acts, Instructs, listed, unlisted, after}
 use Rattle.dm_machine.specs.Run.{Answers, Goes, here, further, IsRun, over, whole, cut}
 use Rattle.dm_machine.specs.Laws.{Follows, none, run_on, changed, RoomIsEnough}

@@ -7,8 +7,8 @@ use Rattle.dm_exec.specs.Guest.{guest}
 use Rattle.dm_exec.specs.Stack.{interrupt_return}
 use Rattle.dm_exec.proofs.Unseen.{interrupt_return-unseen}
 use Rattle.dm_proc.specs.Writes.{bytes_from}
-use Rattle.dm_machine.specs.State.{Answer}
-use Rattle.dm_machine.specs.Buffers.{with_bytes}
+use Rattle.dm_services.specs.State.{Answer}
+use Rattle.dm_services.specs.Buffers.{with_bytes}
 use Rattle.dm_machine.specs.Laws.{with_change}
 
 abbrev pub answer_with : (Memory → Memory) → Answer → Answer

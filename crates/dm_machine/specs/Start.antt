@@ -10,8 +10,8 @@ use Rattle.dm_proc.specs.Programs.{program_of}
 use Rattle.dm_proc.specs.Request.{Passed}
 use Rattle.dm_proc.specs.Environment.{environment}
 use Rattle.dm_proc.specs.Processes.{Begins, PlanRefused}
-use Rattle.dm_machine.specs.declared.config.Sizes.{Sizes}
-use Rattle.dm_machine.specs.State.{State}
+use Rattle.dm_services.specs.declared.config.Sizes.{Sizes}
+use Rattle.dm_services.specs.State.{State}
 
 -- more than 512 pages of expanded memory, or more than 15,360 KiB of extended memory
 abbrev pub IsTooLarge : Sizes → Type 0

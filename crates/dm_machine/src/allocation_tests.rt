@@ -1,7 +1,7 @@
 //! Programs that allocate, from a fresh load on: what each call answers, and the headers that it
 //! leaves.
 ghost use Rattle.std.specs.Prelude.{IfOk};
-ghost use Rattle.dm_machine.specs.State.{HasProgram};
+ghost use Rattle.dm_services.specs.State.{HasProgram};
 
 use crate::tests::machine;
 use crate::{Machine, Stop};
@@ -35,9 +35,8 @@ fn call(machine: &mut Machine, registers: [u16; 3]) -> [u16; 3]
     requires { HasProgram machine.old }
     ensures { HasProgram machine.new }
 {
-    machine.cpu.ax = registers[0];
-    machine.cpu.bx = registers[1];
-    machine.cpu.es = registers[2];
+    let cpu = &mut machine.parts.cpu;
+    [cpu.ax, cpu.bx, cpu.es] = registers;
     machine.run(3);
     let cpu = machine.cpu();
     [cpu.ax, cpu.bx, u16::from(cpu.flags.carry)]

@@ -1,7 +1,7 @@
 //! The console and small calls of INT 21h, and room for output: what each call answers, worked by
 //! hand from the manual.
 ghost use Rattle.std.specs.Prelude.{IfOk};
-ghost use Rattle.dm_machine.specs.State.{HasProgram};
+ghost use Rattle.dm_services.specs.State.{HasProgram};
 
 use crate::{Config, Machine, Programs, Sizes, Stop};
 use dm_console::Console;
@@ -42,23 +42,40 @@ fn fed(alloc: Global, program: &[u8], input: &[u8]) -> Result<Machine, AllocErro
     Ok(machine)
 }
 
-/// Goes back to the program's start, with other input, no output, and AX, BX, CX and DX set.
+/// Goes back to the program's start, with other input, no output, CF and ZF as told, and these AX,
+/// BX, CX and DX.
+fn ask_with(
+    machine: &mut Machine,
+    alloc: Global,
+    input: &[u8],
+    registers: [u16; 4],
+    flag: bool,
+) -> Result<(), Fail>
+    requires { HasProgram machine.old }
+    ensures { HasProgram machine.new }
+{
+    machine.parts.console = Console::new(alloc, Vec::from_slice(alloc, input)?);
+    let cpu = &mut machine.parts.cpu;
+    cpu.cs = SEGMENT;
+    cpu.ip = 0x0100;
+    cpu.sp = 0xFFFE;
+    cpu.flags.carry = flag;
+    cpu.flags.zero = flag;
+    [cpu.ax, cpu.bx, cpu.cx, cpu.dx] = registers;
+    Ok(())
+}
+
+/// The same with CF and ZF clear.
 fn ask(machine: &mut Machine, alloc: Global, input: &[u8], registers: [u16; 4]) -> Result<(), Fail>
     requires { HasProgram machine.old }
     ensures { HasProgram machine.new }
 {
-    machine.console = Console::new(alloc, Vec::from_slice(alloc, input)?);
-    machine.cpu.cs = SEGMENT;
-    machine.cpu.ip = 0x0100;
-    machine.cpu.sp = 0xFFFE;
-    machine.cpu.flags.carry = false;
-    machine.cpu.flags.zero = false;
-    let [ax, bx, cx, dx] = registers;
-    machine.cpu.ax = ax;
-    machine.cpu.bx = bx;
-    machine.cpu.cx = cx;
-    machine.cpu.dx = dx;
-    Ok(())
+    ask_with(machine, alloc, input, registers, false)
+}
+
+/// How many bytes of the input are left.
+fn left(machine: &Machine) -> usize {
+    machine.parts.console.left()
 }
 
 /// Compares the bytes of a segment from an offset on; offsets wrap.
@@ -69,7 +86,7 @@ fn holds(rt: &impl Abort, machine: &Machine, segment: u16, offset: u16, bytes: &
     }
 }
 
-/// One call, with CF and ZF clear before it, and what it leaves.
+/// One call, and what it leaves.
 #[derive(Clone, Copy)]
 struct Row<'a> {
     name: &'a str,
@@ -77,20 +94,26 @@ struct Row<'a> {
     /// AX, BX, CX, DX.
     asked: [u16; 4],
     answered: [u16; 4],
-    /// CF, ZF.
-    flags: [bool; 2],
+    /// CF, ZF; None where the flag stays.
+    flags: [Option<bool>; 2],
     /// How many bytes of the input are left.
     left: usize,
     output: &'a [u8],
 }
 
-/// Makes a row's call, and compares what it leaves.
-fn leaves(rt: &impl Abort, alloc: Global, machine: &mut Machine, row: &Row) -> Result<(), Fail>
+/// Makes a row's call with CF and ZF as told, and compares what it leaves.
+fn leaves_with(
+    rt: &impl Abort,
+    alloc: Global,
+    machine: &mut Machine,
+    row: &Row,
+    flag: bool,
+) -> Result<(), Fail>
     requires { HasProgram machine.old }
     ensures { HasProgram machine.new }
 {
     let Row { name, .. } = *row;
-    ask(machine, alloc, row.input, row.asked)?;
+    ask_with(machine, alloc, row.input, row.asked, flag)?;
     assert_eq!(rt; machine.run(2), Stop::Steps, "{name}: stop");
     let cpu = machine.cpu();
     assert_eq!(rt;
@@ -100,14 +123,23 @@ fn leaves(rt: &impl Abort, alloc: Global, machine: &mut Machine, row: &Row) -> R
     );
     assert_eq!(rt;
         [cpu.flags.carry, cpu.flags.zero],
-        row.flags,
+        row.flags.map(|told| told.unwrap_or(flag)),
         "{name}: CF, ZF"
     );
     assert_eq!(rt; [cpu.sp, cpu.ip], [0xFFFE, 0x0102], "{name}: SP, IP");
-    assert_eq!(rt; machine.console.left(), row.left, "{name}: input left");
+    assert_eq!(rt; left(machine), row.left, "{name}: input left");
     assert_eq!(rt; machine.output(), row.output, "{name}: output");
     assert_eq!(rt; machine.room(), 0, "{name}: room");
     Ok(())
+}
+
+/// Makes a row's call, with CF and ZF clear before it and with both set, and compares what it leaves.
+fn leaves(rt: &impl Abort, alloc: Global, machine: &mut Machine, row: &Row) -> Result<(), Fail>
+    requires { HasProgram machine.old }
+    ensures { HasProgram machine.new }
+{
+    leaves_with(rt, alloc, machine, row, false)?;
+    leaves_with(rt, alloc, machine, row, true)
 }
 
 #[test]
@@ -117,7 +149,7 @@ fn single_bytes(rt: HostRuntime) -> Result<(), Fail> {
         input: b"xy",
         asked: [0, 0, 0, 0],
         answered: [0, 0, 0, 0],
-        flags: [false, false],
+        flags: [None, None],
         left: 2,
         output: b"",
     };
@@ -148,6 +180,7 @@ fn single_bytes(rt: HostRuntime) -> Result<(), Fail> {
             name: "06h with DL = FFh",
             asked: [0x0600, 0, 0, 0x00FF],
             answered: [0x0678, 0, 0, 0x00FF],
+            flags: [None, Some(false)],
             left: 1,
             ..row
         },
@@ -156,7 +189,7 @@ fn single_bytes(rt: HostRuntime) -> Result<(), Fail> {
             input: b"",
             asked: [0x0655, 0, 0, 0x00FF],
             answered: [0x0600, 0, 0, 0x00FF],
-            flags: [false, true],
+            flags: [None, Some(true)],
             left: 0,
             ..row
         },
@@ -203,7 +236,7 @@ fn flush_and_read(rt: HostRuntime) -> Result<(), Fail> {
         input: b"xy",
         asked: [0, 0, 0, 0],
         answered: [0, 0, 0, 0],
-        flags: [false, false],
+        flags: [None, None],
         left: 2,
         output: b"",
     };
@@ -221,8 +254,30 @@ fn flush_and_read(rt: HostRuntime) -> Result<(), Fail> {
             input: b"",
             asked: [0x0C06, 0, 0, 0x00FF],
             answered: [0x0C00, 0, 0, 0x00FF],
-            flags: [false, true],
+            flags: [None, Some(true)],
             left: 0,
+            ..row
+        },
+        Row {
+            name: "0Ch of 06h, for a byte",
+            asked: [0x0C06, 0, 0, 0x00FF],
+            answered: [0x0C78, 0, 0, 0x00FF],
+            flags: [None, Some(false)],
+            left: 1,
+            ..row
+        },
+        Row {
+            name: "0Ch of 06h, with a byte",
+            asked: [0x0C06, 0, 0, 0x0061],
+            answered: [0x0C06, 0, 0, 0x0061],
+            output: b"a",
+            ..row
+        },
+        Row {
+            name: "0Ch of 07h",
+            asked: [0x0C07, 0, 0, 0],
+            answered: [0x0C78, 0, 0, 0],
+            left: 1,
             ..row
         },
         Row {
@@ -259,7 +314,7 @@ fn handles_and_small_calls(rt: HostRuntime) -> Result<(), Fail> {
         input: b"xyz",
         asked: [0, 0, 0, 0],
         answered: [0, 0, 0, 0],
-        flags: [false, false],
+        flags: [None, None],
         left: 3,
         output: b"",
     };
@@ -269,6 +324,7 @@ fn handles_and_small_calls(rt: HostRuntime) -> Result<(), Fail> {
             input: b"",
             asked: [0x3F00, 0, 5, 0x0200],
             answered: [0, 0, 5, 0x0200],
+            flags: [Some(false), None],
             left: 0,
             ..row
         },
@@ -276,6 +332,7 @@ fn handles_and_small_calls(rt: HostRuntime) -> Result<(), Fail> {
             name: "3Fh of two bytes",
             asked: [0x3F00, 2, 2, 0x0200],
             answered: [2, 2, 2, 0x0200],
+            flags: [Some(false), None],
             left: 1,
             ..row
         },
@@ -283,6 +340,7 @@ fn handles_and_small_calls(rt: HostRuntime) -> Result<(), Fail> {
             name: "3Fh of more than is left",
             asked: [0x3F00, 0, 0xFFFF, 0x0200],
             answered: [3, 0, 0xFFFF, 0x0200],
+            flags: [Some(false), None],
             left: 0,
             ..row
         },
@@ -290,27 +348,51 @@ fn handles_and_small_calls(rt: HostRuntime) -> Result<(), Fail> {
             name: "3Fh of handle 3",
             asked: [0x3F00, 3, 5, 0x0200],
             answered: [6, 3, 5, 0x0200],
-            flags: [true, false],
+            flags: [Some(true), None],
+            ..row
+        },
+        Row {
+            name: "3Fh of handle 4",
+            asked: [0x3F00, 4, 5, 0x0200],
+            answered: [6, 4, 5, 0x0200],
+            flags: [Some(true), None],
             ..row
         },
         Row {
             name: "40h of no byte",
             asked: [0x4000, 1, 0, 0x0100],
             answered: [0, 1, 0, 0x0100],
+            flags: [Some(false), None],
             ..row
         },
         Row {
             name: "40h to handle 0",
             asked: [0x4000, 0, 2, 0x0100],
             answered: [2, 0, 2, 0x0100],
+            flags: [Some(false), None],
             output: &[0xCD, 0x21],
+            ..row
+        },
+        Row {
+            name: "40h to handle 2, from the segment's end",
+            asked: [0x4000, 2, 2, 0xFFFF],
+            answered: [2, 2, 2, 0xFFFF],
+            flags: [Some(false), None],
+            output: &[0, 0xCD],
+            ..row
+        },
+        Row {
+            name: "40h to handle 3",
+            asked: [0x4000, 3, 2, 0x0100],
+            answered: [6, 3, 2, 0x0100],
+            flags: [Some(true), None],
             ..row
         },
         Row {
             name: "40h to handle 4",
             asked: [0x4000, 4, 2, 0x0100],
             answered: [6, 4, 2, 0x0100],
-            flags: [true, false],
+            flags: [Some(true), None],
             ..row
         },
         Row {
@@ -371,7 +453,7 @@ fn calls_that_want_input_stop(rt: HostRuntime) -> Result<(), Fail> {
             "{ax:04X}"
         );
         assert_eq!(rt; machine.steps(), steps, "{ax:04X}");
-        assert_eq!(rt; machine.console.left(), input.len(), "{ax:04X}");
+        assert_eq!(rt; left(&machine), input.len(), "{ax:04X}");
         holds(&rt, &machine, SEGMENT, 0x0200, &[4, 0, 0]);
     }
     Ok(())
@@ -379,26 +461,29 @@ fn calls_that_want_input_stop(rt: HostRuntime) -> Result<(), Fail> {
 
 #[test]
 fn lines_go_into_their_buffers(rt: HostRuntime) -> Result<(), Fail> {
-    let rows: [(u16, u8, &[u8], &[u8], usize); 5] = [
+    // AX, the buffer's offset and first byte, the input, the buffer, and how much input is left
+    let rows: [(u16, u16, u8, &[u8], &[u8], usize); 6] = [
         (
+            0x0A00,
             0x0200,
             4,
             b"ab\ncd\re",
             &[4, 3, b'a', b'b', b'c', 0x0D, 0],
             1,
         ),
-        (0x0300, 0, b"ab\ncd\re", &[0, 0, 0], 7),
-        (0x0400, 1, b"ab\r", &[1, 0, 0x0D, 0], 0),
-        (0x0500, 4, b"\n\r\r", &[4, 0, 0x0D, 0], 1),
-        (0xFFFE, 4, b"ab\r", &[4, 2, b'a', b'b', 0x0D], 0),
+        (0x0A00, 0x0300, 0, b"ab\ncd\re", &[0, 0, 0], 7),
+        (0x0A00, 0x0400, 1, b"ab\r", &[1, 0, 0x0D, 0], 0),
+        (0x0A00, 0x0500, 4, b"\n\r\r", &[4, 0, 0x0D, 0], 1),
+        (0x0A00, 0xFFFE, 4, b"ab\r", &[4, 2, b'a', b'b', 0x0D], 0),
+        (0x0C0A, 0x0600, 4, b"ab\r", &[4, 2, b'a', b'b', 0x0D], 0),
     ];
     let mut machine = fed(rt.alloc(), &CALL, b"")?;
-    for (offset, size, input, bytes, left) in rows {
-        ask(&mut machine, rt.alloc(), input, [0x0A00, 0, 0, offset])?;
+    for (ax, offset, size, input, bytes, rest) in rows {
+        ask(&mut machine, rt.alloc(), input, [ax, 0, 0, offset])?;
         machine.poke(SEGMENT, offset, size);
         assert_eq!(rt; machine.run(2), Stop::Steps);
-        assert_eq!(rt; machine.cpu().ax, 0x0A00);
-        assert_eq!(rt; machine.console.left(), left);
+        assert_eq!(rt; machine.cpu().ax, ax);
+        assert_eq!(rt; left(&machine), rest);
         holds(&rt, &machine, SEGMENT, offset, bytes);
     }
     Ok(())
@@ -433,7 +518,7 @@ fn filter_in_upper_case(rt: HostRuntime) -> Result<(), Fail> {
     let mut machine = fed(rt.alloc(), &UPPER, b"Hello, `az{")?;
     assert_eq!(rt; machine.run(1000), Stop::Exited(0));
     assert_eq!(rt; machine.output(), b"HELLO, `AZ{".as_slice());
-    assert_eq!(rt; machine.console.left(), 0);
+    assert_eq!(rt; left(&machine), 0);
     Ok(())
 }
 

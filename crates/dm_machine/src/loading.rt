@@ -3,7 +3,7 @@ ghost use Rattle.std.specs.Prelude.{◌≡◌, ◌≤◌, ◌↔◌, ◌++◌, l
 ghost use Rattle.dm_proc.specs.Programs.{program_of, IsName};
 ghost use Rattle.dm_proc.specs.Request.{passed_of};
 ghost use Rattle.dm_machine.specs.Start.{passed_first, IsLoaded, IsBadProgram, HasNoRoom};
-ghost use Rattle.dm_machine.specs.State.{HasProgram};
+ghost use Rattle.dm_services.specs.State.{HasProgram};
 
 use crate::machine::Machine;
 use arrayvec::ArrayVec;
@@ -61,7 +61,7 @@ impl Machine {
         ensures short { IsErrOf result LoadError.Short ↔ HasNoRoom self.old name.now }
         ensures err { OnErr result (self.new ≡ self.old) }
     {
-        let Some(file) = self.programs.find(name) else {
+        let Some(file) = self.parts.programs.find(name) else {
             return Err(LoadError::NotFound);
         };
         let Ok(image) = Image::of(file) else {
@@ -69,17 +69,17 @@ impl Machine {
         };
         let arguments = arguments(tail);
         let loaded = Procs::load(
-            &mut self.space,
-            self.strategy,
+            &mut self.parts.space,
+            self.parts.strategy,
             &image,
-            self.variables.as_slice(),
+            self.parts.variables.as_slice(),
             name,
             &arguments,
         );
         match loaded {
             Ok((procs, cpu)) => {
-                self.procs = procs;
-                self.cpu = cpu;
+                self.parts.procs = procs;
+                self.parts.cpu = cpu;
                 Ok(())
             }
             Err(_) => Err(LoadError::Short),

@@ -2,15 +2,15 @@
 ghost use Rattle.std.specs.Prelude.{◌≡◌, ◌≤◌, ◌↔◌, IsTrue, IfOk, IsOk, IsErrOf, OnOk, OnErr, length, max};
 ghost use Rattle.dm_space.specs.Memory.{linear, peek, poke};
 ghost use Rattle.dm_machine.specs.Start.{IsNew, IsTooLarge};
-ghost use Rattle.dm_machine.specs.State.{HasProgram};
+ghost use Rattle.dm_services.specs.State.{HasProgram};
 
-use crate::config::{Config, Sizes};
 use crate::memo::Memo;
 use dm_alu::Flags;
 use dm_arena::Strategy;
 use dm_console::Console;
 use dm_exec::Cpu;
 use dm_proc::{Procs, Programs};
+use dm_services::{Config, Parts};
 use dm_space::Space;
 use std::alloc::{AllocError, Global};
 use std::marker::Model;
@@ -33,39 +33,16 @@ pub enum NewError {
 /// with which the first program ended, the count of steps, and what no step changes.
 #[derive(Drop)]
 pub struct Machine {
-    pub(crate) cpu: Cpu,
-    pub(crate) space: Space,
-    pub(crate) console: Console,
-    pub(crate) procs: Procs,
-    pub(crate) strategy: Strategy,
-    pub(crate) exited: Option<u8>,
-    pub(crate) steps: u64,
-    pub(crate) programs: Programs,
-    pub(crate) variables: Vec<u8>,
+    pub(crate) parts: Parts,
     pub(crate) memo: Memo,
-    sizes: Sizes,
 }
 
 impl Model for Machine {
-    ghost use Rattle.std.specs.Prelude.{◌≤◌, length};
-    ghost use Rattle.dm_machine.specs.State.{State, HaveSegments};
+    ghost use Rattle.dm_services.specs.State.{State};
 
     ghost Value = { State };
 
-    ghost view = { λ m. record {
-      cpu = m.cpu;
-      memory = m.space.memory;
-      console = m.console;
-      processes = m.procs;
-      strategy = m.strategy;
-      exited = m.exited;
-      steps = m.steps;
-      programs = m.programs;
-      variables = m.variables.items;
-      sizes = m.sizes;
-    } };
-
-    ghost invariant = { λ m. (length m.variables.items ≤ 0x7FFF) × HaveSegments m.procs.parents };
+    ghost view = { λ m. m.parts };
 }
 
 /// Registers before a program is loaded.
@@ -117,7 +94,7 @@ impl Machine {
         }
         let space = Space::new(alloc).map_err(|_| NewError::Memory)?;
         let memo = Memo::new(alloc).map_err(|_| NewError::Memory)?;
-        Ok(Machine {
+        let parts = Parts {
             cpu: clear_registers(),
             space,
             console: Console::new(alloc, input),
@@ -127,44 +104,44 @@ impl Machine {
             steps: 0,
             programs,
             variables,
-            memo,
             sizes,
-        })
+        };
+        Ok(Machine { parts, memo })
     }
 
     /// Whether a program is loaded.
     pub fn is_loaded(&self) -> bool
         ensures { IsTrue result ↔ HasProgram self.now }
     {
-        self.procs.psp() > 0
+        self.parts.procs.psp() > 0
     }
 
     /// How many steps were made; at 2^64 - 1 the count stays.
     pub fn steps(&self) -> u64
         ensures { result ≡ self.now.steps }
     {
-        self.steps
+        self.parts.steps
     }
 
     /// The registers and flags.
     pub fn cpu(&self) -> Cpu
         ensures { result ≡ self.now.cpu }
     {
-        self.cpu
+        self.parts.cpu
     }
 
     /// The memory.
     pub fn space(&self) -> &Space
         ensures { result.now.memory ≡ self.now.memory }
     {
-        &self.space
+        &self.parts.space
     }
 
     /// The byte at segment:offset; FFh where there is no memory.
     pub fn peek(&self, segment: u16, offset: u16) -> u8
         ensures { result ≡ peek self.now.memory (linear self.now.memory.a20 segment offset) }
     {
-        self.space.peek(segment, offset)
+        self.parts.space.peek(segment, offset)
     }
 
     /// Writes the byte at segment:offset. A write to ROM, or where there is no memory, is lost. A
@@ -173,7 +150,7 @@ impl Machine {
         requires { HasProgram self.old }
         ensures { self.new ≡ record self.old { memory = poke self.old.memory (linear self.old.memory.a20 segment offset) value } }
     {
-        self.space.poke(segment, offset, value);
+        self.parts.space.poke(segment, offset, value);
     }
 
     /// Makes the room, how many more bytes of output go out without memory, the larger of the room
@@ -185,20 +162,20 @@ impl Machine {
         ensures err { OnErr result (self.new ≡ self.old) }
         ensures has_room { bytes ≤ self.old.console.room → IsOk result }
     {
-        self.console.reserve(bytes)
+        self.parts.console.reserve(bytes)
     }
 
     /// How many more bytes of output go out without memory; 0 at the start.
     pub fn room(&self) -> usize
         ensures { result ≡ self.now.console.room }
     {
-        self.console.room()
+        self.parts.console.room()
     }
 
     /// All that the console wrote.
     pub fn output(&self) -> &[u8]
         ensures { result.now ≡ self.now.console.output }
     {
-        self.console.output()
+        self.parts.console.output()
     }
 }

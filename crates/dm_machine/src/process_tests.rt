@@ -1,7 +1,7 @@
 //! Programs that start programs, load overlays and end.
 ghost use Rattle.std.specs.Prelude.{◌≡◌, IfOk};
 ghost use Rattle.dm_proc.specs.Programs.{IsName};
-ghost use Rattle.dm_machine.specs.State.{HasProgram};
+ghost use Rattle.dm_services.specs.State.{HasProgram};
 
 use crate::tests::{HELLO, machine_of, machine_with, store};
 use crate::{LoadError, Machine, Stop};
@@ -80,15 +80,35 @@ fn put(machine: &mut Machine, offset: u16, bytes: &[u8])
     }
 }
 
+/// Makes a call with these AX, BX and DX, as far as its service.
+fn reach(machine: &mut Machine, registers: [u16; 3])
+    requires { HasProgram machine.old }
+    ensures { HasProgram machine.new }
+{
+    let cpu = &mut machine.parts.cpu;
+    [cpu.ax, cpu.bx, cpu.dx] = registers;
+    machine.run(1);
+}
+
 /// Makes a call with these AX, BX and DX, as far as the end of its service.
 fn ask(machine: &mut Machine, registers: [u16; 3])
     requires { HasProgram machine.old }
     ensures { HasProgram machine.new }
 {
-    machine.cpu.ax = registers[0];
-    machine.cpu.bx = registers[1];
-    machine.cpu.dx = registers[2];
-    machine.run(2);
+    reach(machine, registers);
+    machine.run(1);
+}
+
+/// A number that another byte of memory changes: of all that lies below 100000h.
+fn sum_of_memory(machine: &Machine) -> u64 {
+    let mut sum = 0u64;
+    for segment in 0..=0xFFFF {
+        for offset in 0..16 {
+            let byte = machine.peek(segment, offset) as u64;
+            sum = sum.wrapping_mul(0x0100_0000_01B3).wrapping_add(byte);
+        }
+    }
+    sum
 }
 
 /// Makes a call that starts no program, and goes back to the place of the next one: AX, BX and CF.
@@ -102,15 +122,25 @@ fn call(machine: &mut Machine, registers: [u16; 3]) -> [u16; 3]
     [cpu.ax, cpu.bx, u16::from(cpu.flags.carry)]
 }
 
-/// Makes a call of 4Bh with a name and the first two words of the parameter block.
-fn load_program(machine: &mut Machine, action: u8, name: &[u8], words: [u16; 2])
+/// Makes a call of 4Bh with a name and the first two words of the parameter block, as far as its
+/// service.
+fn reach_load(machine: &mut Machine, action: u8, name: &[u8], words: [u16; 2])
     requires { HasProgram machine.old }
     ensures { HasProgram machine.new }
 {
     let [[a, b], [c, d]] = [words[0].to_le_bytes(), words[1].to_le_bytes()];
     put(machine, NAME, name);
     put(machine, BLOCK, &[a, b, c, d]);
-    ask(machine, [0x4B00 + action as u16, BLOCK, NAME]);
+    reach(machine, [0x4B00 + action as u16, BLOCK, NAME]);
+}
+
+/// Makes a call of 4Bh with a name and the first two words of the parameter block.
+fn load_program(machine: &mut Machine, action: u8, name: &[u8], words: [u16; 2])
+    requires { HasProgram machine.old }
+    ensures { HasProgram machine.new }
+{
+    reach_load(machine, action, name, words);
+    machine.run(1);
 }
 
 /// Compares the bytes of headers.
@@ -160,9 +190,15 @@ fn a_child_prints_and_ends(rt: HostRuntime) -> Result<(), Fail> {
 #[test]
 fn what_a_child_leaves(rt: HostRuntime) -> Result<(), Fail> {
     // a program, the steps to its end, what 4Dh tells, and the largest block after it
-    let rows: [(&[u8], u64, u16, u16); 2] = [
+    let rows: [(&[u8], u64, u16, u16); 5] = [
         (&HELLO, 7, 0, 0x8EFC),
         (&RESIDENT, 4, 0x0305, 0x8ED9),
+        // MOV AL,7; INT 20h
+        (&[0xB0, 7, 0xCD, 0x20], 3, 0, 0x8EFC),
+        // MOV AL,7; INT 21h, with AH = 0
+        (&[0xB0, 7, 0xCD, 0x21], 3, 0, 0x8EFC),
+        // DIV CL, with CL = 0
+        (&[0xF6, 0xF1], 2, 0x00FF, 0x8EFC),
     ];
     for (file, steps, code, largest) in rows {
         let mut machine = caller(rt.alloc(), b"HI.COM", file)?;
@@ -208,20 +244,76 @@ fn programs_that_are_not_started(rt: HostRuntime) -> Result<(), Fail> {
     for (action, name, environment, error) in rows {
         let mut machine = caller(rt.alloc(), b"HI.EXE", &mz(0xFFFF))?;
         shrink(&mut machine);
-        load_program(&mut machine, action, name, [environment, 0]);
-        let cpu = machine.cpu();
-        assert_eq!(rt; [cpu.ax, cpu.bx, cpu.cs], [error, BLOCK, 0x0103]);
-        assert!(rt; cpu.flags.carry);
-        shows(&rt, &machine, &[(0x1103, [b'Z', 0, 0, 0xFC, 0x8E])]);
+        reach_load(&mut machine, action, name, [environment, 0]);
+        is_refused(&rt, &mut machine, error);
     }
+    Ok(())
+}
+
+/// The service of 4Bh answers an error, and no byte changes.
+fn is_refused(rt: &impl Abort, machine: &mut Machine, error: u16)
+    requires { HasProgram machine.old }
+    ensures { HasProgram machine.new }
+{
+    let before = sum_of_memory(machine);
+    machine.run(1);
+    let cpu = machine.cpu();
+    assert_eq!(rt; [cpu.ax, cpu.bx, cpu.cs], [error, BLOCK, 0x0103]);
+    assert!(rt; cpu.flags.carry);
+    assert_eq!(rt; sum_of_memory(machine), before);
+}
+
+#[test]
+fn the_last_list_has_a_header_at_a000h(rt: HostRuntime) -> Result<(), Fail> {
+    let mut machine = caller(rt.alloc(), b"HI.EXE", &mz(0x8EE9))?;
+    shrink(&mut machine);
+    machine.poke(0x1103, 3, 0xFC);
+    machine.poke(0x1103, 4, 0xCE);
+    reach_load(&mut machine, 0, b"HI.EXE\0", [0, 0]);
+    is_refused(&rt, &mut machine, 7);
+    // one paragraph less has room: the header behind it stands at 9FFFh
+    let mut machine = caller(rt.alloc(), b"HI.EXE", &mz(0x8EE8))?;
+    shrink(&mut machine);
+    machine.poke(0x1103, 3, 0xFC);
+    machine.poke(0x1103, 4, 0xCE);
+    load_program(&mut machine, 0, b"HI.EXE\0", [0, 0]);
+    shows(&rt, &machine, &[(0x9FFF, [b'Z', 0, 0, 0x00, 0x40])]);
+    Ok(())
+}
+
+/// Where a child's environment and its prefix stand, after 58h has set a strategy and two blocks were
+/// freed, of 20h paragraphs at 1104h and of 10h at 1127h.
+fn placed(alloc: Global, strategy: u16) -> Result<[u16; 2], Fail> {
+    let mut machine = caller(alloc, b"HI.COM", &HELLO)?;
+    shrink(&mut machine);
+    for size in [0x20, 1, 0x10, 1] {
+        call(&mut machine, [0x4800, size, 0]);
+    }
+    for segment in [0x1104, 0x1127] {
+        machine.parts.cpu.es = segment;
+        call(&mut machine, [0x4900, 0, 0]);
+    }
+    machine.parts.cpu.es = 0x0103;
+    call(&mut machine, [0x5801, strategy, 0]);
+    load_program(&mut machine, 0, b"hi.com\0", [0, 0]);
+    let prefix = machine.cpu().cs;
+    let [low, high] = [machine.peek(prefix, 0x2C), machine.peek(prefix, 0x2D)];
+    Ok([u16::from_le_bytes([low, high]), prefix])
+}
+
+#[test]
+fn children_are_placed_by_the_strategy(rt: HostRuntime) -> Result<(), Fail> {
+    assert_eq!(rt; placed(rt.alloc(), 0)?, [0x1104, 0x113A]);
+    assert_eq!(rt; placed(rt.alloc(), 1)?, [0x1127, 0x113A]);
+    assert_eq!(rt; placed(rt.alloc(), 2)?, [0x9FFF, 0x113A]);
     Ok(())
 }
 
 /// A call of 4Bh that asks for a file which is one byte short.
 fn is_bad(rt: &impl Abort, alloc: Global, action: u8) -> Result<(), Fail> {
     let mut machine = caller(alloc, b"HI.EXE", &short_mz())?;
-    load_program(&mut machine, action, b"HI.EXE\0", [0, 0]);
-    assert_eq!(rt; machine.cpu().ax, 11);
+    reach_load(&mut machine, action, b"HI.EXE\0", [0, 0]);
+    is_refused(rt, &mut machine, 11);
     Ok(())
 }
 
@@ -240,7 +332,14 @@ fn an_overlay_is_relocated(rt: HostRuntime) -> Result<(), Fail> {
         [machine.peek(0x3000, 0), machine.peek(0x3000, 1)],
         [0xF0, 0x3F]
     );
-    shows(&rt, &machine, &[(0x0102, [b'Z', 0x03, 0x01, 0xFD, 0x9E])]);
+    shows(
+        &rt,
+        &machine,
+        &[
+            (0x0100, [b'M', 0x03, 0x01, 0x01, 0x00]),
+            (0x0102, [b'Z', 0x03, 0x01, 0xFD, 0x9E]),
+        ],
+    );
     Ok(())
 }
 
@@ -256,7 +355,9 @@ fn an_exe_file_is_the_first_program(rt: HostRuntime) -> Result<(), Fail> {
     ];
     for (file, answer, word) in rows {
         let mut machine = machine_of(rt.alloc(), store(rt.alloc(), b"HI.EXE", file)?)?;
+        let before = sum_of_memory(&machine);
         assert_eq!(rt; machine.load(b"HI.EXE", b""), answer);
+        assert_eq!(rt; sum_of_memory(&machine) == before, answer.is_err());
         assert_eq!(rt; [machine.peek(0x0113, 0), machine.peek(0x0113, 1)], word);
     }
     Ok(())
@@ -281,12 +382,45 @@ fn sixteen_programs_are_alive_at_most(rt: HostRuntime) -> Result<(), Fail> {
 }
 
 #[test]
+fn a_destroyed_arena_is_told_before_too_many_programs(rt: HostRuntime) -> Result<(), Fail> {
+    let mut machine = machine_of(rt.alloc(), store(rt.alloc(), b"ME.COM", &NESTED)?)?;
+    machine.load(b"ME.COM", b"")?;
+    machine.run(16 * 10 - 1);
+    machine.poke(0x0100, 0, 0);
+    assert_eq!(rt; machine.run(2), Stop::Halted);
+    assert_eq!(rt; machine.cpu().ax, 7);
+    assert_eq!(rt; machine.cpu().cs, 0x0103 + 15 * 0x43);
+    Ok(())
+}
+
+/// An ending stops with `Destroyed` and changes nothing.
+fn is_destroyed(rt: &impl Abort, machine: &mut Machine, registers: [u16; 3])
+    requires { HasProgram machine.old }
+    ensures { HasProgram machine.new }
+{
+    reach(machine, registers);
+    let [sum, steps] = [sum_of_memory(machine), machine.steps()];
+    let cpu = machine.cpu();
+    assert_eq!(rt; machine.run(1), Stop::Destroyed);
+    assert_eq!(rt; machine.cpu(), cpu);
+    assert_eq!(rt; [sum_of_memory(machine), machine.steps()], [sum, steps]);
+}
+
+#[test]
+fn no_resident_end_in_a_destroyed_arena(rt: HostRuntime) -> Result<(), Fail> {
+    let mut machine = caller(rt.alloc(), b"HI.COM", &HELLO)?;
+    machine.poke(0x0102, 0, 0);
+    is_destroyed(&rt, &mut machine, [0x3105, 0, 0x20]);
+    machine.poke(0x0102, 0, b'Z');
+    assert_eq!(rt; machine.run(1), Stop::Exited(5));
+    Ok(())
+}
+
+#[test]
 fn no_end_in_a_destroyed_arena(rt: HostRuntime) -> Result<(), Fail> {
     let mut machine = caller(rt.alloc(), b"HI.COM", &HELLO)?;
     machine.poke(0x0102, 0, 0);
-    ask(&mut machine, [0x4C07, 0, 0]);
-    assert_eq!(rt; machine.run(1), Stop::Destroyed);
-    assert_eq!(rt; machine.steps(), 1);
+    is_destroyed(&rt, &mut machine, [0x4C07, 0, 0]);
     machine.poke(0x0102, 0, b'Z');
     assert_eq!(rt; machine.run(1), Stop::Exited(7));
     shows(

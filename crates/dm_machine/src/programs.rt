@@ -1,6 +1,6 @@
 //! Short programs, worked by hand from the manual: what each leaves where it stops.
 ghost use Rattle.std.specs.Prelude.{◌≡◌, IfOk};
-ghost use Rattle.dm_machine.specs.State.{HasProgram};
+ghost use Rattle.dm_services.specs.State.{HasProgram};
 
 use crate::tests::machine;
 use crate::{Machine, Stop};
@@ -609,8 +609,8 @@ fn repetition_is_a_step(rt: HostRuntime) -> Result<(), Fail> {
 fn quotient_out_of_range_takes_interrupt_0(rt: HostRuntime) -> Result<(), Fail> {
     // IDIV BL: -128 / 1 does not lie between -127 and 127
     let mut machine = loaded(rt.alloc(), &[0xF6, 0xFB])?;
-    machine.cpu.ax = 0xFF80;
-    machine.cpu.bx = 0x0001;
+    machine.parts.cpu.ax = 0xFF80;
+    machine.parts.cpu.bx = 0x0001;
     assert_eq!(rt; machine.run(1), Stop::Steps);
     let cpu = machine.cpu();
     assert_eq!(rt;

@@ -1,4 +1,4 @@
-use Rattle.dm_machine.specs.State.{HasProgram}
+use Rattle.dm_services.specs.State.{HasProgram}
 use Rattle.dm_machine.proofs.console_tests.calls_that_want_input_stop.Given as goal
 
 abbrev pub invariant-loop-ax : goal.invariant-loop-ax

@@ -1,4 +1,4 @@
-use Rattle.dm_machine.specs.State.{HasProgram}
+use Rattle.dm_services.specs.State.{HasProgram}
 use Rattle.dm_machine.proofs.console_tests.lines_go_into_their_buffers.Given as goal
 
 abbrev pub invariant-loop-offset : goal.invariant-loop-offset

@@ -1,4 +1,4 @@
-use Rattle.dm_machine.specs.State.{HasProgram}
+use Rattle.dm_services.specs.State.{HasProgram}
 use Rattle.dm_machine.proofs.process_tests.put.Given as goal
 
 abbrev pub invariant-loop-index : goal.invariant-loop-index

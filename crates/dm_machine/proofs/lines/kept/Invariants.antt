@@ -1,5 +1,0 @@
-use Rattle.dm_machine.proofs.Keeping.{IsKept}
-use Rattle.dm_machine.proofs.lines.kept.Given as goal
-
-abbrev pub invariant-loop-byte : goal.invariant-loop-byte
-invariant-loop-byte l = IsKept l.most l.line l.byte-index l.bytes.items

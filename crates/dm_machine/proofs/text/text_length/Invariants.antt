@@ -1,5 +1,0 @@
-use Rattle.dm_machine.proofs.Texts.{IsRead}
-use Rattle.dm_machine.proofs.text.text_length.Given as goal
-
-abbrev pub invariant-loop-index : goal.invariant-loop-index
-invariant-loop-index l = IsRead l.space.memory l.segment l.offset 65536 l.index

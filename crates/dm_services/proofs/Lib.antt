@@ -1,0 +1,5 @@
+mod Texts
+mod Stores
+mod Keeping
+mod Calls
+mod Endings

@@ -1,0 +1,64 @@
+-- INT 21h, single bytes of the console: MS-DOS Programmer's Reference, "Read Keyboard and Echo" (01h), "Display Character"
+-- (02h), "Direct Console I/O" (06h), "Direct Console Input" (07h), "Read Keyboard" (08h), "Check Keyboard Status" (0Bh).
+-- Input and output are redirected byte streams: there is no Ctrl-C check. What comes where no input is left is this
+-- machine's own: 01h, 07h and 08h stop it.
+use Rattle.std.specs.Prelude.{ℕ, ◌==◌, Bool, true, false, if◌then◌else◌, List, [], ◌∷◌}
+use Rattle.dm_exec.specs.Cpu.{byte_of, with_byte}
+use Rattle.dm_ins.specs.declared.operand.ByteRegister.TheVariants.{Al, Dl}
+use Rattle.dm_services.specs.declared.stop.Stop.TheVariants.{InputEnded}
+use Rattle.dm_services.specs.State.{State, Answer, go, stop_at, returned}
+use Rattle.dm_services.specs.Text.{written}
+
+abbrev pub with_al : State → ℕ → State
+with_al s byte = record s { cpu = with_byte s.cpu Al byte }
+
+-- what is left of the input
+abbrev pub with_input : State → List ℕ → State
+with_input s rest = record s { console = record s.console { input = rest } }
+
+-- bytes go out
+abbrev pub with_written : State → List ℕ → State
+with_written s bytes = record s { console = written s.console bytes }
+
+abbrev pub with_zero : State → Bool → State
+with_zero s b = record s { cpu = record s.cpu { flags = record s.cpu.flags { zero = b } } }
+
+-- 07h, 08h: AL is the next byte
+abbrev pub character_of : State → List ℕ → Answer
+character_of s [] = stop_at InputEnded s
+character_of s (byte ∷ rest) = go (returned (with_al (with_input s rest) byte))
+
+unfoldable pub read_character : State → Answer
+read_character s = character_of s s.console.input
+
+-- 01h: so it is, and that byte is written
+abbrev pub echo_of : State → List ℕ → Answer
+echo_of s [] = stop_at InputEnded s
+echo_of s (byte ∷ rest) = go (returned (with_al (with_written (with_input s rest) (byte ∷ [])) byte))
+
+unfoldable pub echo_character : State → Answer
+echo_character s = echo_of s s.console.input
+
+-- 02h: DL is written
+unfoldable pub write_character : State → Answer
+write_character s = go (returned (with_written s (byte_of s.cpu Dl ∷ [])))
+
+-- 06h with DL = FFh: AL is the next byte and ZF = 0; where none is left, AL = 0 and ZF = 1
+abbrev pub poll_of : State → List ℕ → Answer
+poll_of s [] = go (with_zero (returned (with_al s 0)) true)
+poll_of s (byte ∷ rest) = go (with_zero (returned (with_al (with_input s rest) byte)) false)
+
+unfoldable pub poll_character : State → Answer
+poll_character s = poll_of s s.console.input
+
+-- 06h: DL is written, unless it is FFh
+unfoldable pub direct_character : State → Answer
+direct_character s = if byte_of s.cpu Dl == 0xFF then poll_character s else write_character s
+
+-- 0Bh: AL = FFh if input is left, else 0
+abbrev pub status_of : List ℕ → ℕ
+status_of [] = 0
+status_of (byte ∷ rest) = 0xFF
+
+unfoldable pub check_input : State → Answer
+check_input s = go (returned (with_al s (status_of s.console.input)))

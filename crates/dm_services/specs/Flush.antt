@@ -1,0 +1,21 @@
+-- INT 21h function 0Ch: MS-DOS Programmer's Reference, "Flush Buffer, Read Keyboard". Input is a redirected byte stream:
+-- there is nothing to flush.
+use Rattle.std.specs.Prelude.{ℕ, ◌==◌, if◌then◌else◌}
+use Rattle.dm_exec.specs.Cpu.{byte_of}
+use Rattle.dm_ins.specs.declared.operand.ByteRegister.TheVariants.{Al}
+use Rattle.dm_services.specs.State.{State, Answer, go, returned}
+use Rattle.dm_services.specs.Characters.{with_al, echo_character, direct_character, read_character}
+use Rattle.dm_services.specs.Lines.{read_line}
+
+-- the call of that number, if it reads the console; else AL = 0
+abbrev pub read_by : State → ℕ → Answer
+read_by s function =
+    if function == 0x01 then echo_character s else
+    if function == 0x06 then direct_character s else
+    if function == 0x07 then read_character s else
+    if function == 0x08 then read_character s else
+    if function == 0x0A then read_line s else go (returned (with_al s 0))
+
+-- 0Ch: AL is the number of the call; AH stays
+unfoldable pub flush_and_read : State → Answer
+flush_and_read s = read_by s (byte_of s.cpu Al)

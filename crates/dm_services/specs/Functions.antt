@@ -1,0 +1,77 @@
+-- The functions of INT 21h: MS-DOS Programmer's Reference, "System Calls". The answer to a function that is not there is
+-- this machine's own.
+use Rattle.std.specs.Prelude.{◌≡◌, ℕ, ◌==◌, if◌then◌else◌, true}
+use Rattle.dm_exec.specs.Cpu.{byte_of}
+use Rattle.dm_ins.specs.declared.operand.ByteRegister.TheVariants.{Al}
+use Rattle.dm_services.specs.declared.functions.Function.{Function}
+use Rattle.dm_services.specs.declared.functions.Function.TheVariants.{EchoCharacter, WriteCharacter, DirectCharacter, ReadCharacter, WriteText, ReadLine, CheckInput, FlushAndRead, SetVector, Version, Keep, GetVector, ReadHandle, WriteHandle, Allocate, Free, Resize, LoadProgram, Exit, ExitCode, Process, AllocationStrategy, Terminate, Unknown}
+use Rattle.dm_services.specs.State.{State, Answer, go, returned, with_carry}
+use Rattle.dm_services.specs.Text.{print}
+use Rattle.dm_services.specs.Characters.{echo_character, write_character, direct_character, read_character, check_input}
+use Rattle.dm_services.specs.Lines.{read_line}
+use Rattle.dm_services.specs.Flush.{flush_and_read}
+use Rattle.dm_services.specs.Handles.{read_handle, write_handle}
+use Rattle.dm_services.specs.Vectors.{set_vector, get_vector}
+use Rattle.dm_services.specs.System.{tell_version, tell_process}
+use Rattle.dm_services.specs.Allocation.{Allocation, Freeing, Resizing, strategy_call}
+use Rattle.dm_services.specs.Processes.{Loading, Terminating, Keeping, tell_code}
+
+-- the function with a number, which calls have in AH
+abbrev pub function_of : ℕ → Function
+function_of number =
+    if number == 0x00 then Terminate else
+    if number == 0x01 then EchoCharacter else
+    if number == 0x02 then WriteCharacter else
+    if number == 0x06 then DirectCharacter else
+    if number == 0x07 then ReadCharacter else
+    if number == 0x08 then ReadCharacter else
+    if number == 0x09 then WriteText else
+    if number == 0x0A then ReadLine else
+    if number == 0x0B then CheckInput else
+    if number == 0x0C then FlushAndRead else
+    if number == 0x25 then SetVector else
+    if number == 0x30 then Version else
+    if number == 0x31 then Keep else
+    if number == 0x35 then GetVector else
+    if number == 0x3F then ReadHandle else
+    if number == 0x40 then WriteHandle else
+    if number == 0x48 then Allocate else
+    if number == 0x49 then Free else
+    if number == 0x4A then Resize else
+    if number == 0x4B then LoadProgram else
+    if number == 0x4C then Exit else
+    if number == 0x4D then ExitCode else
+    if number == 0x51 then Process else
+    if number == 0x58 then AllocationStrategy else
+    if number == 0x62 then Process else Unknown
+
+-- there is no such function: AX = 1, CF = 1
+unfoldable pub no_function : State → Answer
+no_function s = go (with_carry (returned (record s { cpu = record s.cpu { ax = 1 } })) true)
+
+-- the call of a function from s answers x
+abbrev pub Calls : State → Function → Answer → Type 0
+Calls s EchoCharacter x = x ≡ echo_character s
+Calls s WriteCharacter x = x ≡ write_character s
+Calls s DirectCharacter x = x ≡ direct_character s
+Calls s ReadCharacter x = x ≡ read_character s
+Calls s WriteText x = x ≡ print s
+Calls s ReadLine x = x ≡ read_line s
+Calls s CheckInput x = x ≡ check_input s
+Calls s FlushAndRead x = x ≡ flush_and_read s
+Calls s SetVector x = x ≡ set_vector s
+Calls s Version x = x ≡ tell_version s
+Calls s GetVector x = x ≡ get_vector s
+Calls s ReadHandle x = x ≡ read_handle s
+Calls s WriteHandle x = x ≡ write_handle s
+Calls s Allocate x = Allocation s x
+Calls s Free x = Freeing s x
+Calls s Resize x = Resizing s x
+Calls s LoadProgram x = Loading s x
+Calls s Exit x = Terminating s (byte_of s.cpu Al) x
+Calls s Keep x = Keeping s x
+Calls s Terminate x = Terminating s 0 x
+Calls s ExitCode x = x ≡ tell_code s
+Calls s Process x = x ≡ tell_process s
+Calls s AllocationStrategy x = x ≡ strategy_call s
+Calls s Unknown x = x ≡ no_function s

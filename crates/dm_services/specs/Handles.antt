@@ -1,0 +1,34 @@
+-- INT 21h, the handles of the console: MS-DOS Programmer's Reference, "Read File or Device" (3Fh), "Write File or Device"
+-- (40h). Handles 0 to 2 are the console, each in both directions; that 3 and 4 are bad is this machine's own.
+use Rattle.std.specs.Prelude.{ℕ, nat_lt, true, false, if◌then◌else◌, List, take, drop, length}
+use Rattle.dm_proc.specs.Writes.{bytes_from}
+use Rattle.dm_services.specs.State.{State, Answer, go, returned, with_carry}
+use Rattle.dm_services.specs.Characters.{with_input, with_written}
+use Rattle.dm_services.specs.Buffers.{with_bytes}
+
+abbrev pub with_ax : State → ℕ → State
+with_ax s ax = record s { cpu = record s.cpu { ax = ax } }
+
+-- a bad handle: AX = 6, CF = 1
+unfoldable pub bad_handle : State → Answer
+bad_handle s = go (with_carry (returned (with_ax s 6)) true)
+
+-- the bytes go to DS:DX and upwards, AX is their count, CF = 0
+abbrev pub with_read : State → List ℕ → State
+with_read s bytes = record s { memory = with_bytes s.memory s.cpu.ds s.cpu.dx bytes }
+
+abbrev pub read_from_console : State → List ℕ → Answer
+read_from_console s bytes =
+    go (with_carry (returned (with_ax (with_input (with_read s bytes) (drop (length bytes) s.console.input)) (length bytes))) false)
+
+-- 3Fh: the next CX bytes of the input, or all that are left
+unfoldable pub read_handle : State → Answer
+read_handle s = if nat_lt s.cpu.bx 3 then read_from_console s (take s.cpu.cx s.console.input) else bad_handle s
+
+-- 40h: the CX bytes at DS:DX are written, AX = CX, CF = 0
+abbrev pub write_to_console : State → Answer
+write_to_console s =
+    go (with_carry (returned (with_ax (with_written s (bytes_from s.memory s.cpu.ds s.cpu.dx s.cpu.cx)) s.cpu.cx)) false)
+
+unfoldable pub write_handle : State → Answer
+write_handle s = if nat_lt s.cpu.bx 3 then write_to_console s else bad_handle s

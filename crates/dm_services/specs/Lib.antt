@@ -1,0 +1,14 @@
+pub mod State
+pub mod Wanting
+pub mod Text
+pub mod Buffers
+pub mod Characters
+pub mod Lines
+pub mod Flush
+pub mod Handles
+pub mod Vectors
+pub mod System
+pub mod Allocation
+pub mod Processes
+pub mod Functions
+pub mod Services

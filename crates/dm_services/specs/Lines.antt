@@ -1,0 +1,42 @@
+-- INT 21h function 0Ah, a line of the console: MS-DOS Programmer's Reference, "Buffered Keyboard Input". Input is a
+-- redirected byte stream: nothing is edited, and (this machine's own) nothing is echoed.
+use Rattle.std.specs.Prelude.{ℕ, ◌+◌, ◌-◌, ◌==◌, not, if◌then◌else◌, List, [], ◌∷◌, ◌++◌, take, drop, length, Option, Some, None}
+use Rattle.std.specs.List.{filter, position}
+use Rattle.dm_space.specs.Memory.{Memory, linear, peek}
+use Rattle.dm_exec.specs.Guest.{up}
+use Rattle.dm_services.specs.declared.stop.Stop.TheVariants.{InputEnded}
+use Rattle.dm_services.specs.State.{State, Answer, go, stop_at, returned}
+use Rattle.dm_services.specs.Buffers.{with_bytes}
+
+-- how many bytes stand before the first 0Dh, if there is one
+unfoldable pub line_length : List ℕ → Option ℕ
+line_length input = position (λ byte. byte == 0x0D) input
+
+-- what a buffer for m bytes keeps of a line: its first m - 1 bytes other than 0Ah
+unfoldable pub kept : ℕ → List ℕ → List ℕ
+kept m line = take (m - 1) (filter (λ byte. not (byte == 0x0A)) line)
+
+-- a buffer has the bytes and 0Dh from byte 2 on, and their count (without the 0Dh) in byte 1
+abbrev pub filled : Memory → ℕ → ℕ → List ℕ → Memory
+filled m segment offset bytes =
+    with_bytes (with_bytes m segment (up offset 2) (bytes ++ 0x0D ∷ [])) segment (up offset 1) (length bytes ∷ [])
+
+-- the line of so many bytes is taken with its 0Dh
+abbrev pub with_line : State → ℕ → ℕ → State
+with_line s m line = record s {
+  memory = filled s.memory s.cpu.ds s.cpu.dx (kept m (take line s.console.input));
+  console = record s.console { input = drop (line + 1) s.console.input };
+}
+
+-- where no 0Dh is left, the machine stops
+abbrev pub line_read : State → ℕ → Option ℕ → Answer
+line_read s m None = stop_at InputEnded s
+line_read s m (Some line) = go (returned (with_line s m line))
+
+-- a buffer for no byte stays as it is, and no input is taken
+abbrev pub line_into : State → ℕ → Answer
+line_into s m = if m == 0 then go (returned s) else line_read s m (line_length s.console.input)
+
+-- 0Ah: a line of the input goes into the buffer at DS:DX, whose byte 0 says for how many bytes it is
+unfoldable pub read_line : State → Answer
+read_line s = line_into s (peek s.memory (linear s.memory.a20 s.cpu.ds s.cpu.dx))

@@ -1,0 +1,98 @@
+-- The calls that start and end programs: MS-DOS Programmer's Reference, functions 00h, 31h, 4Bh, 4Ch and 4Dh, and INT 20h.
+-- The error codes are 1 (no such call), 2 (no such program), 7 (arena destroyed), 8 (not enough memory), 10 (no end of the
+-- environment) and 11 (bad format).
+use Rattle.std.specs.Prelude.{◌≡◌, ℕ, ◌==◌, Bool, true, false, Some, Result, Ok, Err}
+use Rattle.dm_space.specs.Memory.{Memory}
+use Rattle.dm_exec.specs.declared.cpu.Cpu.{Cpu}
+use Rattle.dm_exec.specs.Cpu.{byte_of}
+use Rattle.dm_ins.specs.declared.operand.ByteRegister.TheVariants.{Al}
+use Rattle.dm_proc.specs.declared.refusal.Refusal.{Refusal}
+use Rattle.dm_proc.specs.declared.refusal.Refusal.TheVariants.{Function, NotFound, BadFormat, Environment, Destroyed, Short}
+use Rattle.dm_proc.specs.declared.refusal.ArenaDestroyed.{ArenaDestroyed}
+use Rattle.dm_proc.specs.declared.parent.Ending.{Ending}
+use Rattle.dm_proc.specs.declared.parent.Ending.TheVariants.{Returned, Exited}
+use Rattle.dm_proc.specs.Processes.{Processes, Executes, Overlays, Terminates, Keeps}
+use Rattle.dm_services.specs.declared.stop.Stop.TheVariants as stop
+use Rattle.dm_services.specs.State.{State, Answer, go, stop_at, returned}
+use Rattle.dm_services.specs.Allocation.{answered}
+
+abbrev pub code_of : Refusal → ℕ
+code_of Function = 1
+code_of NotFound = 2
+code_of BadFormat = 11
+code_of Environment = 10
+code_of Destroyed = 7
+code_of Short = 8
+
+-- a call of 4Bh that is refused changes AX and CF alone
+abbrev pub not_loaded : State → Refusal → Answer
+not_loaded s e = answered s (record s.cpu { ax = code_of e }) s.memory true
+
+-- what a start or an end of a process leaves
+abbrev pub with_processes : State → Processes → Cpu → Memory → State
+with_processes s qs d n = record s { cpu = d; memory = n; processes = qs }
+
+-- 4Bh with AL = 0: the child goes on
+abbrev pub executed : State → Result (Unit {0}) Refusal → Processes → Cpu → Memory → Answer
+executed s (Ok u) qs d n = go (with_processes s qs d n)
+executed s (Err e) qs d n = not_loaded s e
+
+pub record Executing (s : State) (x : Answer) : Type 0 where
+  pub result : Result (Unit {0}) Refusal
+  pub processes : Processes
+  pub cpu : Cpu
+  pub memory : Memory
+  pub executes : Executes s.processes s.cpu s.memory s.programs s.strategy result processes cpu memory
+  pub answer : x ≡ executed s result processes cpu memory
+
+-- 4Bh with AL = 3: an overlay is loaded, and the program goes on
+abbrev pub overlaid : State → Result (Unit {0}) Refusal → Memory → Answer
+overlaid s (Ok u) n = answered s s.cpu n false
+overlaid s (Err e) n = not_loaded s e
+
+pub record Overlaying (s : State) (x : Answer) : Type 0 where
+  pub result : Result (Unit {0}) Refusal
+  pub memory : Memory
+  pub overlays : Overlays s.cpu s.memory s.programs result memory
+  pub answer : x ≡ overlaid s result memory
+
+abbrev pub LoadingAs : Bool → State → Answer → Type 0
+LoadingAs true s x = Overlaying s x
+LoadingAs false s x = Executing s x
+
+-- 4Bh, by AL
+abbrev pub Loading : State → Answer → Type 0
+Loading s x = LoadingAs (byte_of s.cpu Al == 3) s x
+
+-- a process ends: its parent goes on, or the first program has ended with the code; without a list of blocks nothing
+-- changes
+abbrev pub concluded : State → ℕ → Result Ending ArenaDestroyed → Processes → Cpu → Memory → Answer
+concluded s code (Ok Returned) qs d n = go (with_processes s qs d n)
+concluded s code (Ok Exited) qs d n = record {
+  stop = Some (stop.Exited code);
+  state = (go (record (with_processes s qs d n) { exited = Some code })).state;
+}
+concluded s code (Err e) qs d n = stop_at stop.Destroyed s
+
+-- 4Ch and the other endings with a code: what the process owned is freed
+pub record Terminating (s : State) (code : ℕ) (x : Answer) : Type 0 where
+  pub result : Result Ending ArenaDestroyed
+  pub processes : Processes
+  pub cpu : Cpu
+  pub memory : Memory
+  pub terminates : Terminates s.processes s.cpu s.memory code result processes cpu memory
+  pub answer : x ≡ concluded s code result processes cpu memory
+
+-- 31h: the process ends with the code in AL, and keeps DX paragraphs
+pub record Keeping (s : State) (x : Answer) : Type 0 where
+  pub result : Result Ending ArenaDestroyed
+  pub processes : Processes
+  pub cpu : Cpu
+  pub memory : Memory
+  pub keeps : Keeps s.processes s.cpu s.memory (byte_of s.cpu Al) s.cpu.dx result processes cpu memory
+  pub answer : x ≡ concluded s (byte_of s.cpu Al) result processes cpu memory
+
+-- 4Dh: AX is the word of the last ending, which is told once
+unfoldable pub tell_code : State → Answer
+tell_code s =
+    go (returned (record s { cpu = record s.cpu { ax = s.processes.code }; processes = record s.processes { code = 0 } }))

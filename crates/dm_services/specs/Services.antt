@@ -1,0 +1,27 @@
+-- The services, and where they act: MS-DOS Programmer's Reference, "System Calls"; Intel 8086 Family User's Manual,
+-- section 2.6 (interrupt 0). The addresses are this machine's own.
+use Rattle.std.specs.Prelude.{ℕ, ◌==◌, if◌then◌else◌, Option, Some, None}
+use Rattle.dm_exec.specs.declared.cpu.Cpu.{Cpu}
+use Rattle.dm_exec.specs.Cpu.{byte_of}
+use Rattle.dm_ins.specs.declared.operand.ByteRegister.TheVariants.{Ah}
+use Rattle.dm_services.specs.declared.services.Service.{Service}
+use Rattle.dm_services.specs.declared.services.Service.TheVariants.{DivideError, Terminate, Dos}
+use Rattle.dm_services.specs.State.{State, Answer}
+use Rattle.dm_services.specs.Processes.{Terminating}
+use Rattle.dm_services.specs.Functions.{function_of, Calls}
+
+-- a service acts at exactly its CS:IP pair
+abbrev pub service_at_offset : ℕ → Option Service
+service_at_offset ip =
+    if ip == 0x0000 then Some DivideError else
+    if ip == 0x0080 then Some Terminate else
+    if ip == 0x0084 then Some Dos else None
+
+unfoldable pub service_at : Cpu → Option Service
+service_at c = if c.cs == 0xF000 then service_at_offset c.ip else None
+
+-- the service at s answers x: interrupt 0 ends the process with code FFh, INT 20h with 0, and INT 21h does what AH names
+abbrev pub Serves : State → Service → Answer → Type 0
+Serves s DivideError x = Terminating s 0xFF x
+Serves s Terminate x = Terminating s 0 x
+Serves s Dos x = Calls s (function_of (byte_of s.cpu Ah)) x

@@ -1,0 +1,22 @@
+-- The text that INT 21h function 09h writes: MS-DOS Programmer's Reference, "Display String".
+use Rattle.std.specs.Prelude.{ℕ, ◌-◌, ◌++◌, ◌==◌, not, max, length, List, take_while}
+use Rattle.dm_space.specs.Memory.{Memory}
+use Rattle.dm_console.specs.Streams.{Streams}
+use Rattle.dm_proc.specs.Writes.{bytes_from}
+use Rattle.dm_services.specs.State.{State, Answer, go, returned}
+
+-- the bytes from segment:offset on, up to the first `$`, and at most n of them; offsets wrap
+unfoldable pub text_within : Memory → ℕ → ℕ → ℕ → List ℕ
+text_within m segment offset n = take_while (λ b. not (b == 0x24)) (bytes_from m segment offset n)
+
+-- a text has at most the 65,536 bytes of a segment
+abbrev pub text_at : Memory → ℕ → ℕ → List ℕ
+text_at m segment offset = text_within m segment offset 65536
+
+-- a text goes out: the room grows to its length, if it must, and is used up by it
+abbrev pub written : Streams → List ℕ → Streams
+written c text = record c { output = c.output ++ text; room = max c.room (length text) - length text }
+
+-- 09h: the text at DS:DX is written
+unfoldable pub print : State → Answer
+print s = go (returned (record s { console = written s.console (text_at s.memory s.cpu.ds s.cpu.dx) }))

@@ -1,0 +1,25 @@
+//! The services that act in place of interrupt handlers: interrupt 0, INT 20h and the functions of
+//! INT 21h (MS-DOS Programmer's Reference, "System Calls").
+#![tactic(auto)]
+
+mod allocation;
+mod buffers;
+mod characters;
+mod config;
+mod flush;
+mod functions;
+mod handles;
+mod lines;
+mod parts;
+mod processes;
+mod services;
+mod stop;
+mod system;
+mod text;
+mod vectors;
+
+pub use config::{Config, Sizes};
+pub use functions::Function;
+pub use parts::Parts;
+pub use services::{Service, service_at};
+pub use stop::Stop;
