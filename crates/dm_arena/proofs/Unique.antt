@@ -7,6 +7,7 @@ use Rattle.dm_arena.specs.declared.header.Header.{Header}
 use Rattle.dm_arena.specs.Chain.{word, Spells, HasHeader, IsChain, IsHeader, IsArena, Becomes, next}
 use Rattle.dm_arena.specs.Blocks.{is_free, merge, join, join_after}
 use Rattle.dm_arena.specs.Joins.{Fills}
+use Rattle.dm_arena.specs.Listing.{Path, Leads}
 use Rattle.dm_arena.proofs.Reading.{header-unique}
 use Rattle.dm_arena.proofs.Chains.{has_right}
 use Rattle.dm_arena.proofs.Write.{each_of_five}
@@ -35,6 +36,13 @@ spells_short S h (b ∷ L) low s = (let x = s.0 in let f = s.1.fits in let r = s
 
 pub chain_short : (S : Memory) (L : List Header) → IsChain S 0x100 L → length L ≤ 0xFF00
 chain_short S L c = (let r = spells_short S 0x100 L (omega arith) c.1 in omega arith)
+
+path_short : (S : Memory) (h : ℕ) (P : List Header) (t : ℕ) → h ≤ 0xFFFF → Path S h P t → length P + h ≤ 0xFFFF
+path_short S h [] t low p = omega arith
+path_short S h (b ∷ P) t low p = (let x = p.0 in let f = p.1.fits in let r = path_short S (next b) P t f p.2 in omega arith)
+
+pub walk_short : (S : Memory) (P : List Header) (t : ℕ) → Leads S P t → length P < 0xFF00
+walk_short S P t w = (let r = path_short S 0x100 P t (omega arith) w.path in omega arith)
 
 -- bytes 0 to 4 of a header are those that it spells
 low_byte : (x y u v : ℕ) → x < 256 → u < 256 → x + 256 * y ≡ u + 256 * v → x ≡ u

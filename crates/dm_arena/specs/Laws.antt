@@ -1,11 +1,12 @@
 -- Laws of the definitions: memory spells at most one list, and each call has one answer.
-use Rattle.std.specs.Prelude.{◌≡◌, ℕ, ◌≤◌, List, length, Result}
+use Rattle.std.specs.Prelude.{◌≡◌, ℕ, ◌≤◌, ◌<◌, List, length, Result}
 use Rattle.dm_space.specs.Memory.{Memory}
 use Rattle.dm_space.specs.Unseen.{IsUnseen}
 use Rattle.dm_arena.specs.declared.header.Header.{Header}
 use Rattle.dm_arena.specs.declared.refusal.Refusal.{Refusal}
 use Rattle.dm_arena.specs.declared.fit.Strategy.{Strategy}
 use Rattle.dm_arena.specs.Chain.{first_header, IsChain}
+use Rattle.dm_arena.specs.Listing.{Leads}
 use Rattle.dm_arena.specs.Allocation.{Allocates}
 use Rattle.dm_arena.specs.Owned.{Frees, Resizes, Releases}
 use Rattle.dm_arena.specs.Pair.{Placed, Pairs}
@@ -15,6 +16,10 @@ ChainIsUnique = (S : Memory) (start : ℕ) (L M : List Header) → IsChain S sta
 
 abbrev pub ChainIsShort : Type 0
 ChainIsShort = (S : Memory) (L : List Header) → IsChain S first_header L → length L ≤ 0xFF00
+
+-- nor does a walk meet more, also where it breaks off: fewer lead to the header where it stands
+abbrev pub WalkIsShort : Type 0
+WalkIsShort = (S : Memory) (P : List Header) (t : ℕ) → Leads S P t → length P < 0xFF00
 
 -- an allocation's answer, and the memory that it leaves, are functions of the memory and the arguments
 abbrev pub AllocationHasOneAnswer : Type 0

@@ -1,5 +1,5 @@
 //! Laws of the arena's definitions, proved of no memory in particular.
-ghost use Rattle.dm_arena.specs.Laws.{ChainIsUnique, ChainIsShort, AllocationHasOneAnswer, FreeingHasOneAnswer, ResizingHasOneAnswer, ReleasingHasOneAnswer, PairingHasOneAnswer, IgnoresUnseen};
+ghost use Rattle.dm_arena.specs.Laws.{ChainIsUnique, ChainIsShort, WalkIsShort, AllocationHasOneAnswer, FreeingHasOneAnswer, ResizingHasOneAnswer, ReleasingHasOneAnswer, PairingHasOneAnswer, IgnoresUnseen};
 
 /// Memory spells at most one list from a segment on.
 pub fn chain_is_unique()
@@ -9,6 +9,11 @@ pub fn chain_is_unique()
 /// A list has at most FF00h headers.
 pub fn chain_is_short()
     ensures { ChainIsShort }
+{}
+
+/// A walk meets at most FF00h headers, also where the list is broken.
+pub fn walk_is_short()
+    ensures { WalkIsShort }
 {}
 
 /// Memory, strategy, size and owner determine what an allocation answers and every byte that it

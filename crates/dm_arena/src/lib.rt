@@ -24,6 +24,7 @@ pub use header::{Entry, Header};
 pub use laws::{
     allocation_has_one_answer, chain_is_short, chain_is_unique, freeing_has_one_answer,
     ignores_unseen, pairing_has_one_answer, releasing_has_one_answer, resizing_has_one_answer,
+    walk_is_short,
 };
 pub use listing::{Headers, Step, walk};
 pub use owned::{free, free_all, resize};

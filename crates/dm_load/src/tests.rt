@@ -45,11 +45,23 @@ fn relocation_wraps_at_65_536(rt: HostRuntime) -> Result<(), Fail> {
     // Bytes 2 and 3 of the image are FFF0h; bytes of the header's end are the image's start here.
     file[18] = 0xF0;
     file[19] = 0xFF;
+    // SS, SP, IP and CS
+    for (at, byte) in [
+        (0x0E, 2),
+        (0x10, 0x40),
+        (0x14, 0x34),
+        (0x15, 0x12),
+        (0x16, 3),
+    ] {
+        file[at] = byte;
+    }
     file.swap(0, 1);
     let image = Image::of(&file).expect(&rt, "the file is good");
     assert_eq!(rt; image.kind(), Kind::Mz);
     assert_eq!(rt; image.bytes().len(), 12);
-    assert_eq!(rt; image.code().offset, 0xFFF0 - 0xFFF0);
+    let [code, stack] = [image.code(), image.stack()];
+    assert_eq!(rt; [code.segment, code.offset], [3, 0x1234]);
+    assert_eq!(rt; [stack.segment, stack.offset], [2, 0x0040]);
     let mut bytes = [0; 12];
     if image.bytes().len() == 12 {
         image.relocated(0x0113, &mut bytes);

@@ -1,5 +1,6 @@
 mod StepLaws
 mod OneRun
+mod OneStop
 mod Memos
 mod UnseenParts
 mod ConsoleUnseen

@@ -39,7 +39,7 @@ use Rattle.dm_services.specs.Functions.{function_of, no_function, Calls}
 use Rattle.dm_services.specs.Services.{service_at, Serves}
 use Rattle.dm_machine.specs.Step.{Steps, Runs, Acts, Instructs, listed, unlisted, after}
 use Rattle.dm_machine.specs.Run.{Answers, Goes, here, further, IsRun, over, whole, cut}
-use Rattle.dm_machine.specs.Laws.{Follows, none, run_on, changed, RoomIsEnough}
+use Rattle.dm_machine.specs.Laws.{Follows, none, step_on, run_on, changed, reserved, RoomIsEnoughForRuns, RoomIsEnoughForSteps}
 use Rattle.dm_machine.proofs.OneRun.{steps-one}
 
 -- where the output would be full without memory
@@ -270,25 +270,40 @@ run-keeps s t n stop (cut e w) =
 
 follows-keep : (s t : State) → Follows s t → limit s.console ≤ limit t.console
 follows-keep s t none = same _
+follows-keep s t (step_on r u stop f answers) =
+    let before = follows-keep s r f in
+    let last = answers-keep r stop u answers in
+    omega (arith, before, last)
 follows-keep s t (run_on r u n stop f run) =
     let before = follows-keep s r f in
     let last = run-keeps r u n stop run in
     omega (arith, before, last)
 follows-keep s t (changed r m f) = follows-keep s r f
+follows-keep s t (reserved r n f) = (let before = follows-keep s r f in omega (arith, before))
 
 -- the step at which memory is wanting
-wanting : (s t : State) (n : ℕ) (x : Answer) → IsRun s n NoMemory t → Steps t x → limit s.console < length x.state.console.output
-wanting s t n x (over code e g h) step = cc
-wanting s t n x (whole e g goes) step = cc
-wanting s t n x (cut e w) step =
-    let before = goes-keep s w.before w.made w.goes in
-    let want = w.answers.0 in
-    let one : x ≡ want.answer = steps-one w.before x want.answer (subst (λ u. Steps u x) w.answers.1 step) want.gives in
-    let more = want.overflows in
-    subst (λ (y : Answer). limit s.console < length y.state.console.output) (sym one) (omega (arith, before, more))
+step-wants : (s t : State) (x : Answer) → Answers s (Some NoMemory) t → Steps t x → limit s.console < length x.state.console.output
+step-wants s t x answers step =
+    let want = answers.0 in
+    let one : x ≡ want.answer = steps-one s x want.answer (subst (λ u. Steps u x) answers.1 step) want.gives in
+    subst (λ (y : Answer). limit s.console < length y.state.console.output) (sym one) want.overflows
 
-pub room-is_enough : RoomIsEnough
-room-is_enough bytes s t u n h f run x step =
+run-wants : (s t : State) (n : ℕ) (x : Answer) → IsRun s n NoMemory t → Steps t x → limit s.console < length x.state.console.output
+run-wants s t n x (over code e g h) step = cc
+run-wants s t n x (whole e g goes) step = cc
+run-wants s t n x (cut e w) step =
+    let before = goes-keep s w.before w.made w.goes in
+    let more = step-wants w.before t x w.answers step in
+    omega (arith, before, more)
+
+pub room-enough_for_runs : RoomIsEnoughForRuns
+room-enough_for_runs bytes s t u n h f run x step =
     let before = follows-keep s t f in
-    let more = wanting t u n x run step in
+    let more = run-wants t u n x run step in
+    omega (arith, before, more)
+
+pub room-enough_for_steps : RoomIsEnoughForSteps
+room-enough_for_steps bytes s t u h f answers x step =
+    let before = follows-keep s t f in
+    let more = step-wants t u x answers step in
     omega (arith, before, more)

@@ -1,18 +1,22 @@
 -- Laws of steps and runs.
-use Rattle.std.specs.Prelude.{◌≡◌, ℕ, ◌+◌, ◌≤◌, ◌<◌, List, length}
+use Rattle.std.specs.Prelude.{◌≡◌, ◌≢◌, ℕ, ◌+◌, ◌≤◌, ◌<◌, max, List, length, Option, Some}
 use Rattle.dm_space.specs.Memory.{Memory}
 use Rattle.dm_space.specs.Unseen.{unseen_as, IsUnseen}
 use Rattle.dm_services.specs.declared.stop.Stop.{Stop}
 use Rattle.dm_services.specs.declared.stop.Stop.TheVariants.{Memory as NoMemory}
 use Rattle.dm_services.specs.State.{State, Answer}
 use Rattle.dm_machine.specs.Step.{Steps}
-use Rattle.dm_machine.specs.Run.{Goes, IsRun}
+use Rattle.dm_machine.specs.Run.{Answers, Goes, IsRun}
 
 abbrev pub StepHasOneAnswer : Type 0
 StepHasOneAnswer = (s : State) (x y : Answer) → Steps s x → Steps s y → x ≡ y
 
 abbrev pub ThereIsOneRun : Type 0
 ThereIsOneRun = (s t u : State) (n : ℕ) → Goes s n t → Goes s n u → t ≡ u
+
+-- runs of at most so many steps that meet no want of memory stop for the same reason, in the same state
+abbrev pub RunHasOneStop : Type 0
+RunHasOneStop = (s t u : State) (n : ℕ) (a b : Stop) → IsRun s n a t → IsRun s n b u → a ≢ NoMemory → b ≢ NoMemory → (a ≡ b) × (t ≡ u)
 
 -- the state with its memory changed
 abbrev pub with_change : (Memory → Memory) → State → State
@@ -41,15 +45,26 @@ UnseenPagesChangeNoRun =
     (other : ℕ → List ℕ) (s t : State) (n : ℕ) (stop : Stop) →
     IsRun s n stop t → IsRun (with_unseen_pages other s) n stop (with_unseen_pages other t)
 
--- runs one after another, and between them changes of memory from outside
+-- steps and runs one after another, and between them changes of memory from outside, and more room
 pub data Follows (s : State) : State → Type 0 where
   none : Follows s s
+  step_on : (t u : State) (stop : Option Stop) → Follows s t → Answers t stop u → Follows s u
   run_on : (t u : State) (n : ℕ) (stop : Stop) → Follows s t → IsRun t n stop u → Follows s u
   changed : (t : State) (memory : Memory) → Follows s t → Follows s (record t { memory = memory })
+  reserved : (t : State) (bytes : ℕ) → Follows s t → Follows s (record t { console = record t.console { room = max t.console.room bytes } })
 
--- where there is room for so many bytes, runs that write no more of them don't want memory: one that does stands before a
--- step with which more would have gone out
-abbrev pub RoomIsEnough : Type 0
-RoomIsEnough =
+-- memory is wanting in the state t, before a step that would leave more output than so many bytes
+abbrev pub WantsBeyond : ℕ → State → Type 0
+WantsBeyond bytes t = (x : Answer) → Steps t x → bytes < length x.state.console.output
+
+-- where there is room for so many bytes, steps and runs that write no more of them don't want memory: one that does stands
+-- before a step with which more would have gone out
+abbrev pub RoomIsEnoughForRuns : Type 0
+RoomIsEnoughForRuns =
     (bytes : ℕ) (s t u : State) (n : ℕ) → bytes ≤ s.console.room → Follows s t → IsRun t n NoMemory u →
-    (x : Answer) → Steps u x → length s.console.output + bytes < length x.state.console.output
+    WantsBeyond (length s.console.output + bytes) u
+
+abbrev pub RoomIsEnoughForSteps : Type 0
+RoomIsEnoughForSteps =
+    (bytes : ℕ) (s t u : State) → bytes ≤ s.console.room → Follows s t → Answers t (Some NoMemory) u →
+    WantsBeyond (length s.console.output + bytes) u

@@ -1,14 +1,16 @@
 //! Laws of steps and runs, each the contract of a function that does nothing.
-ghost use Rattle.dm_machine.specs.Laws.{StepHasOneAnswer, ThereIsOneRun, UnseenBytesChangeNoStep, UnseenBytesChangeNoRun, UnseenPagesChangeNoRun, RoomIsEnough};
+ghost use Rattle.dm_machine.specs.Laws.{StepHasOneAnswer, ThereIsOneRun, RunHasOneStop, UnseenBytesChangeNoStep, UnseenBytesChangeNoRun, UnseenPagesChangeNoRun, RoomIsEnoughForRuns, RoomIsEnoughForSteps};
 
 /// A step is a function of the state: no two answers of one step differ.
 pub fn a_step_has_one_answer()
     ensures { StepHasOneAnswer }
 {}
 
-/// There is one run: from one state, the same number of steps leads to one state.
+/// There is one run: from one state, the same number of steps leads to one state; and runs of at
+/// most so many steps stop for one reason in one state, unless one of them wants memory.
 pub fn there_is_one_run()
-    ensures { ThereIsOneRun }
+    ensures steps { ThereIsOneRun }
+    ensures stops { RunHasOneStop }
 {}
 
 /// Bytes that no address shows neither matter nor change: with others of them, each run makes the
@@ -23,11 +25,13 @@ pub fn unseen_bytes_change_nothing()
     ensures pages { UnseenPagesChangeNoRun }
 {}
 
-/// Room that was made beforehand is enough: over any list of runs, with changes of memory between
-/// them, steps that together write no more bytes than the room meet no want of memory.
+/// Room that was made beforehand is enough: over any list of steps and runs, with changes of memory
+/// and more room between them, steps that together write no more bytes than the room meet no want of
+/// memory.
 ///
-/// It is told from the other side: a run that wants memory stands before a step with which more
-/// bytes would have gone out since the room was made.
+/// It is told from the other side: a run, or a step, that wants memory stands before a step with
+/// which more bytes would have gone out since the room was made.
 pub fn room_is_enough()
-    ensures { RoomIsEnough }
+    ensures runs { RoomIsEnoughForRuns }
+    ensures steps { RoomIsEnoughForSteps }
 {}
