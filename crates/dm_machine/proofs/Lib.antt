@@ -2,8 +2,6 @@ mod StepLaws
 mod OneRun
 mod OneStop
 mod Memos
-mod UnseenParts
-mod ConsoleUnseen
 mod Confined
 mod NoRoom
 mod Rooms

@@ -5,6 +5,7 @@ use Rattle.dm_space.specs.Unseen.{unseen_as, IsUnseen}
 use Rattle.dm_services.specs.declared.stop.Stop.{Stop}
 use Rattle.dm_services.specs.declared.stop.Stop.TheVariants.{Memory as NoMemory}
 use Rattle.dm_services.specs.State.{State, Answer}
+use Rattle.dm_services.specs.Laws.{with_change}
 use Rattle.dm_machine.specs.Step.{Steps}
 use Rattle.dm_machine.specs.Run.{Answers, Goes, IsRun}
 
@@ -17,10 +18,6 @@ ThereIsOneRun = (s t u : State) (n : ℕ) → Goes s n t → Goes s n u → t �
 -- runs of at most so many steps that meet no want of memory stop for the same reason, in the same state
 abbrev pub RunHasOneStop : Type 0
 RunHasOneStop = (s t u : State) (n : ℕ) (a b : Stop) → IsRun s n a t → IsRun s n b u → a ≢ NoMemory → b ≢ NoMemory → (a ≡ b) × (t ≡ u)
-
--- the state with its memory changed
-abbrev pub with_change : (Memory → Memory) → State → State
-with_change change s = record s { memory = change s.memory }
 
 -- n steps that end nothing lead to the same state where memory is changed out of every program's sight, and the change
 -- stays; no service gives a program another view of memory yet

@@ -3,3 +3,8 @@ mod Stores
 mod Keeping
 mod Calls
 mod Endings
+pub mod OneAnswer
+mod UnseenParts
+mod ConsoleUnseen
+pub mod Unseen
+pub mod Rooms

@@ -9,6 +9,7 @@ mod config;
 mod flush;
 mod functions;
 mod handles;
+mod laws;
 mod lines;
 mod parts;
 mod processes;
@@ -20,6 +21,7 @@ mod vectors;
 
 pub use config::{Config, Sizes};
 pub use functions::Function;
+pub use laws::{services_have_one_answer, services_ignore_unseen, services_keep_room};
 pub use parts::Parts;
 pub use services::{Service, service_at};
 pub use stop::Stop;

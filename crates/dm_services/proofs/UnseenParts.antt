@@ -9,10 +9,7 @@ use Rattle.dm_exec.proofs.Unseen.{interrupt_return-unseen}
 use Rattle.dm_proc.specs.Writes.{bytes_from}
 use Rattle.dm_services.specs.State.{Answer}
 use Rattle.dm_services.specs.Buffers.{with_bytes}
-use Rattle.dm_machine.specs.Laws.{with_change}
-
-abbrev pub answer_with : (Memory → Memory) → Answer → Answer
-answer_with f x = record { stop = x.stop; state = with_change f x.state }
+use Rattle.dm_services.specs.Laws.{answer_with}
 
 pub byte-unseen : (f : Memory → Memory) (u : IsUnseen f) (m : Memory) (s o : ℕ) → peek (f m) (linear (f m).a20 s o) ≡ peek m (linear m.a20 s o)
 byte-unseen f u m s o = ap (λ on. peek (f m) (linear on s o)) (u.a20 m) ∙ u.peek_same m (linear m.a20 s o)

@@ -1,0 +1,34 @@
+-- Laws of the services: each has one answer, none depends on what no program sees, and none gives back room.
+use Rattle.std.specs.Prelude.{◌≡◌, ℕ, ◌+◌, ◌≤◌, length}
+use Rattle.dm_space.specs.Memory.{Memory}
+use Rattle.dm_space.specs.Unseen.{IsUnseen}
+use Rattle.dm_console.specs.Streams.{Streams}
+use Rattle.dm_services.specs.declared.services.Service.{Service}
+use Rattle.dm_services.specs.State.{State, Answer}
+use Rattle.dm_services.specs.Services.{Serves}
+
+-- what a service answers, and all that it leaves, are functions of the state
+abbrev pub ServicesHaveOneAnswer : Type 0
+ServicesHaveOneAnswer = (s : State) (service : Service) (x y : Answer) → Serves s service x → Serves s service y → x ≡ y
+
+-- the state, or the answer, with its memory changed
+abbrev pub with_change : (Memory → Memory) → State → State
+with_change change s = record s { memory = change s.memory }
+
+abbrev pub answer_with : (Memory → Memory) → Answer → Answer
+answer_with change x = record { stop = x.stop; state = with_change change x.state }
+
+-- where memory is changed out of every program's sight the answer is the same, and the change stays; no service gives a
+-- program another view of memory yet
+abbrev pub ServicesIgnoreUnseen : Type 0
+ServicesIgnoreUnseen =
+    (change : Memory → Memory) → IsUnseen change → (s : State) (service : Service) (x : Answer) →
+    Serves s service x → Serves (with_change change s) service (answer_with change x)
+
+-- where the output would be full without memory
+abbrev pub limit : Streams → ℕ
+limit c = c.room + length c.output
+
+-- what a service writes is taken from the room, or from more room than there was: the limit never sinks
+abbrev pub ServicesKeepRoom : Type 0
+ServicesKeepRoom = (s : State) (service : Service) (x : Answer) → Serves s service x → limit s.console ≤ limit x.state.console

@@ -1,0 +1,17 @@
+//! Laws of the services, each the contract of a function that does nothing.
+ghost use Rattle.dm_services.specs.Laws.{ServicesHaveOneAnswer, ServicesIgnoreUnseen, ServicesKeepRoom};
+
+/// The state determines what a service answers, its stop included, and all that it leaves.
+pub fn services_have_one_answer()
+    ensures { ServicesHaveOneAnswer }
+{}
+
+/// No service depends on memory that no program sees, or changes it.
+pub fn services_ignore_unseen()
+    ensures { ServicesIgnoreUnseen }
+{}
+
+/// No service gives back room: the output so far and the room for more together never get less.
+pub fn services_keep_room()
+    ensures { ServicesKeepRoom }
+{}
