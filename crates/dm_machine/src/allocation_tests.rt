@@ -3,7 +3,7 @@
 ghost use Rattle.std.specs.Prelude.{IfOk};
 ghost use Rattle.dm_services.specs.State.{HasProgram};
 
-use crate::tests::machine;
+use crate::tests::{machine, sum_of_memory};
 use crate::{Machine, Stop};
 use std::alloc::Global;
 use std::process::Abort;
@@ -184,6 +184,20 @@ fn no_block_inside_a_block(rt: HostRuntime) -> Result<(), Fail> {
             ([0x4900, 0, 0], [9, 0, 1]),
         ],
     );
+    Ok(())
+}
+
+#[test]
+fn a_refused_allocation_changes_no_byte(rt: HostRuntime) -> Result<(), Fail> {
+    let mut machine = caller(rt.alloc())?;
+    machine.poke(0x0102, 0, 0);
+    let cpu = &mut machine.parts.cpu;
+    [cpu.ax, cpu.bx] = [0x4800, 0x0010];
+    machine.run(1);
+    let before = sum_of_memory(&machine);
+    machine.run(1);
+    assert_eq!(rt; machine.cpu().ax, 7);
+    assert_eq!(rt; sum_of_memory(&machine), before);
     Ok(())
 }
 

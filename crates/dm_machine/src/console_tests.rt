@@ -3,6 +3,7 @@
 ghost use Rattle.std.specs.Prelude.{IfOk};
 ghost use Rattle.dm_services.specs.State.{HasProgram};
 
+use crate::tests::sum_of_memory;
 use crate::{Config, Machine, Programs, Sizes, Stop};
 use dm_console::Console;
 use std::alloc::{AllocError, Global};
@@ -320,6 +321,15 @@ fn handles_and_small_calls(rt: HostRuntime) -> Result<(), Fail> {
     };
     let rows = [
         Row {
+            name: "3Fh of handle 3 and no input",
+            input: b"",
+            asked: [0x3F00, 3, 5, 0x0200],
+            answered: [6, 3, 5, 0x0200],
+            flags: [Some(true), None],
+            left: 0,
+            ..row
+        },
+        Row {
             name: "3Fh and no input",
             input: b"",
             asked: [0x3F00, 0, 5, 0x0200],
@@ -443,6 +453,7 @@ fn calls_that_want_input_stop(rt: HostRuntime) -> Result<(), Fail> {
         assert_eq!(rt; machine.run(1), Stop::Steps, "{ax:04X}");
         let before = machine.cpu();
         let steps = machine.steps();
+        let memory = sum_of_memory(&machine);
         for _ in 0..2 {
             assert_eq!(rt; machine.run(1000), Stop::InputEnded, "{ax:04X}");
         }
@@ -453,6 +464,9 @@ fn calls_that_want_input_stop(rt: HostRuntime) -> Result<(), Fail> {
             "{ax:04X}"
         );
         assert_eq!(rt; machine.steps(), steps, "{ax:04X}");
+        assert_eq!(rt; sum_of_memory(&machine), memory, "{ax:04X}");
+        assert_eq!(rt; machine.output(), b"".as_slice(), "{ax:04X}");
+        assert_eq!(rt; machine.room(), 0, "{ax:04X}");
         assert_eq!(rt; left(&machine), input.len(), "{ax:04X}");
         holds(&rt, &machine, SEGMENT, 0x0200, &[4, 0, 0]);
     }
@@ -529,6 +543,7 @@ fn output_goes_into_room_made_beforehand(rt: HostRuntime) -> Result<(), Fail> {
     assert!(rt; machine.reserve_output(0).is_ok());
     assert!(rt; machine.reserve_output(2).is_ok());
     assert!(rt; machine.reserve_output(1).is_ok());
+    assert!(rt; machine.reserve_output(usize::MAX).is_err());
     assert_eq!(rt; machine.room(), 2);
     assert_eq!(rt; machine.run(100), Stop::Exited(0));
     assert_eq!(rt; machine.steps(), 7);

@@ -1,4 +1,4 @@
-//! The machine: its state, its steps and its runs.
+//! The machine: load, step and run, and their laws.
 #![tactic(auto)]
 
 mod laws;

@@ -20,7 +20,7 @@ pub enum LoadError {
     /// The program is neither a COM file of at most 65,278 bytes nor a good MZ file.
     #[error("bad format")]
     BadFormat,
-    /// Conventional memory has no room for the environment and the program.
+    /// Conventional memory has no room for the environment and the program, or its arena is destroyed.
     #[error("short")]
     Short,
 }
@@ -49,7 +49,7 @@ impl Machine {
     ///
     /// `NotFound` exactly where the store has no such program (ASCII case ignored), `BadFormat`
     /// exactly where it has one that is bad, `Short` exactly where there is no room for its two
-    /// blocks. A refusal changes nothing.
+    /// blocks or memory's arena is destroyed. A refusal changes nothing.
     pub fn load(&mut self, name: &[u8], tail: &[u8]) -> Result<(), LoadError>
         requires fresh { self.old.processes.present ≡ 0 }
         requires name { IsName name.now }

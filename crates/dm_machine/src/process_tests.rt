@@ -3,7 +3,7 @@ ghost use Rattle.std.specs.Prelude.{◌≡◌, IfOk};
 ghost use Rattle.dm_proc.specs.Programs.{IsName};
 ghost use Rattle.dm_services.specs.State.{HasProgram};
 
-use crate::tests::{HELLO, machine_of, machine_with, store};
+use crate::tests::{HELLO, machine_of, machine_with, store, sum_of_memory};
 use crate::{LoadError, Machine, Stop};
 use std::alloc::Global;
 use std::process::Abort;
@@ -39,17 +39,6 @@ fn mz(minimum: u16) -> [u8; 64] {
     file[0x18] = 0x1C;
     file[0x30] = 0xF0;
     file[0x31] = 0xFF;
-    file
-}
-
-/// An MZ file of 63 bytes, whose header says 64.
-fn short_mz() -> [u8; 63] {
-    let mut file = [0; 63];
-    file[0] = b'M';
-    file[1] = b'Z';
-    file[0x02] = 64;
-    file[0x04] = 1;
-    file[0x08] = 3;
     file
 }
 
@@ -99,18 +88,6 @@ fn ask(machine: &mut Machine, registers: [u16; 3])
     machine.run(1);
 }
 
-/// A number that another byte of memory changes: of all that lies below 100000h.
-fn sum_of_memory(machine: &Machine) -> u64 {
-    let mut sum = 0u64;
-    for segment in 0..=0xFFFF {
-        for offset in 0..16 {
-            let byte = machine.peek(segment, offset) as u64;
-            sum = sum.wrapping_mul(0x0100_0000_01B3).wrapping_add(byte);
-        }
-    }
-    sum
-}
-
 /// Makes a call that starts no program, and goes back to the place of the next one: AX, BX and CF.
 fn call(machine: &mut Machine, registers: [u16; 3]) -> [u16; 3]
     requires { HasProgram machine.old }
@@ -143,6 +120,15 @@ fn load_program(machine: &mut Machine, action: u8, name: &[u8], words: [u16; 2])
     machine.run(1);
 }
 
+/// Sets CF, so that a call shows that it clears it.
+fn set_carry(machine: &mut Machine)
+    requires { HasProgram machine.old }
+    ensures { HasProgram machine.new }
+{
+    let cpu = &mut machine.parts.cpu;
+    cpu.flags.carry = true;
+}
+
 /// Compares the bytes of headers.
 fn shows(rt: &impl Abort, machine: &Machine, headers: &[Header]) {
     for (segment, bytes) in headers {
@@ -168,6 +154,7 @@ fn shrink(machine: &mut Machine)
 fn a_child_prints_and_ends(rt: HostRuntime) -> Result<(), Fail> {
     let mut machine = caller(rt.alloc(), b"HI.COM", &HELLO)?;
     shrink(&mut machine);
+    set_carry(&mut machine);
     load_program(&mut machine, 0, b"hi.com\0", [0, 0]);
     shows(
         &rt,
@@ -182,6 +169,7 @@ fn a_child_prints_and_ends(rt: HostRuntime) -> Result<(), Fail> {
     assert_eq!(rt; machine.run(7), Stop::Steps);
     let cpu = machine.cpu();
     assert_eq!(rt; [cpu.cs, cpu.ip, cpu.ax], [0x0103, 0x0102, 0x4B00]);
+    assert_eq!(rt; cpu.sp, 0xFFFE);
     assert!(rt; !cpu.flags.carry);
     assert_eq!(rt; machine.output(), b"hi".as_slice());
     Ok(())
@@ -311,7 +299,8 @@ fn children_are_placed_by_the_strategy(rt: HostRuntime) -> Result<(), Fail> {
 
 /// A call of 4Bh that asks for a file which is one byte short.
 fn is_bad(rt: &impl Abort, alloc: Global, action: u8) -> Result<(), Fail> {
-    let mut machine = caller(alloc, b"HI.EXE", &short_mz())?;
+    let file = mz(0);
+    let mut machine = caller(alloc, b"HI.EXE", &file[..63])?;
     reach_load(&mut machine, action, b"HI.EXE\0", [0, 0]);
     is_refused(rt, &mut machine, 11);
     Ok(())
@@ -326,6 +315,7 @@ fn a_file_one_byte_short(rt: HostRuntime) -> Result<(), Fail> {
 #[test]
 fn an_overlay_is_relocated(rt: HostRuntime) -> Result<(), Fail> {
     let mut machine = caller(rt.alloc(), b"HI.EXE", &mz(0))?;
+    set_carry(&mut machine);
     load_program(&mut machine, 3, b"HI.EXE\0", [0x3000, 0x2000]);
     assert!(rt; !machine.cpu().flags.carry);
     assert_eq!(rt;

@@ -12,6 +12,18 @@ pub(crate) const HELLO: [u8; 15] = [
     0xB4, 0x09, 0xBA, 0x0C, 0x01, 0xCD, 0x21, 0xB8, 0x00, 0x4C, 0xCD, 0x21, 0x68, 0x69, 0x24,
 ];
 
+/// A number that another byte of memory changes: of all that lies below 100000h.
+pub(crate) fn sum_of_memory(machine: &Machine) -> u64 {
+    let mut sum = 0u64;
+    for segment in 0..=0xFFFF {
+        for offset in 0..16 {
+            let byte = machine.peek(segment, offset) as u64;
+            sum = sum.wrapping_mul(0x0100_0000_01B3).wrapping_add(byte);
+        }
+    }
+    sum
+}
+
 /// A store with one program.
 pub(crate) fn store(alloc: Global, name: &[u8], file: &[u8]) -> Result<Programs, Fail>
     requires { IsName name.now }
