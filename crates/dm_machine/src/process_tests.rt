@@ -42,6 +42,16 @@ fn mz(minimum: u16) -> [u8; 64] {
     file
 }
 
+/// The same file one byte short of its size.
+fn short_mz() -> [u8; 63] {
+    let file = mz(0);
+    let mut short = [0; 63];
+    for index in 0..63 {
+        short[index] = file[index];
+    }
+    short
+}
+
 /// A machine with the first program loaded, which makes one call after the other, and one more
 /// program in its store.
 fn caller(alloc: Global, name: &[u8], file: &[u8]) -> Result<Machine, Fail>
@@ -299,8 +309,7 @@ fn children_are_placed_by_the_strategy(rt: HostRuntime) -> Result<(), Fail> {
 
 /// A call of 4Bh that asks for a file which is one byte short.
 fn is_bad(rt: &impl Abort, alloc: Global, action: u8) -> Result<(), Fail> {
-    let file = mz(0);
-    let mut machine = caller(alloc, b"HI.EXE", &file[..63])?;
+    let mut machine = caller(alloc, b"HI.EXE", &short_mz())?;
     reach_load(&mut machine, action, b"HI.EXE\0", [0, 0]);
     is_refused(rt, &mut machine, 11);
     Ok(())
