@@ -3,7 +3,8 @@
 ghost use Rattle.std.specs.Prelude.{IfOk};
 ghost use Rattle.dm_services.specs.State.{HasProgram};
 
-use crate::tests::{machine, sum_of_memory};
+use crate::checks::{Header, same, shows};
+use crate::tests::{loaded, sum_of_memory};
 use crate::{Machine, Stop};
 use std::alloc::Global;
 use std::process::Abort;
@@ -15,9 +16,6 @@ const CALLS: [u8; 4] = [0xCD, 0x21, 0xEB, 0xFC];
 /// AX, BX and ES of a call, and the AX, BX and CF that it answers.
 type Call = ([u16; 3], [u16; 3]);
 
-/// A header: its segment and its bytes 0 to 4.
-type Header = (u16, [u8; 5]);
-
 /// 4Ah of the program's block: 1000h paragraphs.
 const SHRINK: Call = ([0x4A00, 0x1000, 0x0103], [0x4A00, 0x1000, 0]);
 
@@ -25,9 +23,7 @@ const SHRINK: Call = ([0x4A00, 0x1000, 0x0103], [0x4A00, 0x1000, 0]);
 fn caller(alloc: Global) -> Result<Machine, Fail>
     ensures { IfOk result (λ m. HasProgram m) }
 {
-    let mut machine = machine(alloc, &CALLS)?;
-    machine.load(b"HI.COM", b"")?;
-    Ok(machine)
+    loaded(alloc, &CALLS)
 }
 
 /// Makes a call, and goes back to the place of the next one.
@@ -48,20 +44,7 @@ fn answer(rt: &impl Abort, machine: &mut Machine, calls: &[Call])
     ensures { HasProgram machine.new }
 {
     for (asked, answered) in calls {
-        assert_eq!(rt; call(machine, *asked), *answered, "call {asked:?}");
-    }
-}
-
-/// Compares the bytes of headers.
-fn shows(rt: &impl Abort, machine: &Machine, headers: &[Header]) {
-    for (segment, bytes) in headers {
-        for offset in 0..5u16 {
-            assert_eq!(rt;
-                machine.peek(*segment, offset),
-                bytes[offset as usize],
-                "byte {offset} of the header at {segment:04X}"
-            );
-        }
+        same(rt, "AX, BX, CF", call(machine, *asked), *answered);
     }
 }
 
@@ -196,8 +179,8 @@ fn a_refused_allocation_changes_no_byte(rt: HostRuntime) -> Result<(), Fail> {
     machine.run(1);
     let before = sum_of_memory(&machine);
     machine.run(1);
-    assert_eq!(rt; machine.cpu().ax, 7);
-    assert_eq!(rt; sum_of_memory(&machine), before);
+    same(&rt, "AX", machine.cpu().ax, 7);
+    same(&rt, "memory", sum_of_memory(&machine), before);
     Ok(())
 }
 
@@ -222,6 +205,6 @@ fn a_destroyed_arena(rt: HostRuntime) -> Result<(), Fail> {
             (0x0102, [0, 0x03, 0x01, 0xFD, 0x9E]),
         ],
     );
-    assert_eq!(rt; machine.run(0), Stop::Steps);
+    same(&rt, "stop", machine.run(0), Stop::Steps);
     Ok(())
 }

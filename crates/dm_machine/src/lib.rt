@@ -21,6 +21,8 @@ pub use machine::{Machine, NewError};
 #[cfg(test)]
 mod allocation_tests;
 #[cfg(test)]
+mod checks;
+#[cfg(test)]
 mod console_tests;
 #[cfg(test)]
 mod process_tests;

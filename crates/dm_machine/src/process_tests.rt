@@ -3,6 +3,7 @@ ghost use Rattle.std.specs.Prelude.{◌≡◌, IfOk};
 ghost use Rattle.dm_proc.specs.Programs.{IsName};
 ghost use Rattle.dm_services.specs.State.{HasProgram};
 
+use crate::checks::{holds, same, shows};
 use crate::tests::{HELLO, machine_of, machine_with, store, sum_of_memory};
 use crate::{LoadError, Machine, Stop};
 use std::alloc::Global;
@@ -19,9 +20,6 @@ const RESIDENT: [u8; 8] = [0xB8, 0x05, 0x31, 0xBA, 0x20, 0x00, 0xCD, 0x21];
 const NAME: u16 = 0x0200;
 
 const BLOCK: u16 = 0x0280;
-
-/// A header: its segment and its bytes 0 to 4.
-type Header = (u16, [u8; 5]);
 
 /// An MZ file of 64 bytes: a header of three paragraphs with two relocations of the image's first
 /// word, FFF0h, and an image of one paragraph.
@@ -139,19 +137,6 @@ fn set_carry(machine: &mut Machine)
     cpu.flags.carry = true;
 }
 
-/// Compares the bytes of headers.
-fn shows(rt: &impl Abort, machine: &Machine, headers: &[Header]) {
-    for (segment, bytes) in headers {
-        for offset in 0..5u16 {
-            assert_eq!(rt;
-                machine.peek(*segment, offset),
-                bytes[offset as usize],
-                "byte {offset} of the header at {segment:04X}"
-            );
-        }
-    }
-}
-
 /// A call of 4Ah that leaves the first program 1000h paragraphs.
 fn shrink(machine: &mut Machine)
     requires { HasProgram machine.old }
@@ -175,13 +160,23 @@ fn a_child_prints_and_ends(rt: HostRuntime) -> Result<(), Fail> {
             (0x1104, [0, 0, 1, 0, b'h']),
         ],
     );
-    assert_eq!(rt; [machine.cpu().cs, machine.cpu().sp], [0x1106, 0xFFFE]);
-    assert_eq!(rt; machine.run(7), Stop::Steps);
+    same(
+        &rt,
+        "CS, SP",
+        [machine.cpu().cs, machine.cpu().sp],
+        [0x1106, 0xFFFE],
+    );
+    same(&rt, "stop", machine.run(7), Stop::Steps);
     let cpu = machine.cpu();
-    assert_eq!(rt; [cpu.cs, cpu.ip, cpu.ax], [0x0103, 0x0102, 0x4B00]);
-    assert_eq!(rt; cpu.sp, 0xFFFE);
-    assert!(rt; !cpu.flags.carry);
-    assert_eq!(rt; machine.output(), b"hi".as_slice());
+    same(
+        &rt,
+        "CS, IP, AX",
+        [cpu.cs, cpu.ip, cpu.ax],
+        [0x0103, 0x0102, 0x4B00],
+    );
+    same(&rt, "SP", cpu.sp, 0xFFFE);
+    same(&rt, "CF", cpu.flags.carry, false);
+    same(&rt, "output", machine.output(), b"hi".as_slice());
     Ok(())
 }
 
@@ -203,9 +198,19 @@ fn what_a_child_leaves(rt: HostRuntime) -> Result<(), Fail> {
         shrink(&mut machine);
         load_program(&mut machine, 0, b"hi.com\0", [0, 0]);
         machine.run(steps + 1);
-        assert_eq!(rt; call(&mut machine, [0x4D00, 7, 0]), [code, 7, 0]);
-        assert_eq!(rt; call(&mut machine, [0x4D00, 7, 0]), [0, 7, 0]);
-        assert_eq!(rt; call(&mut machine, [0x4800, 0xFFFF, 0]), [8, largest, 1]);
+        same(&rt, "4Dh", call(&mut machine, [0x4D00, 7, 0]), [code, 7, 0]);
+        same(
+            &rt,
+            "4Dh again",
+            call(&mut machine, [0x4D00, 7, 0]),
+            [0, 7, 0],
+        );
+        same(
+            &rt,
+            "48h",
+            call(&mut machine, [0x4800, 0xFFFF, 0]),
+            [8, largest, 1],
+        );
     }
     Ok(())
 }
@@ -256,9 +261,14 @@ fn is_refused(rt: &impl Abort, machine: &mut Machine, error: u16)
     let before = sum_of_memory(machine);
     machine.run(1);
     let cpu = machine.cpu();
-    assert_eq!(rt; [cpu.ax, cpu.bx, cpu.cs], [error, BLOCK, 0x0103]);
-    assert!(rt; cpu.flags.carry);
-    assert_eq!(rt; sum_of_memory(machine), before);
+    same(
+        rt,
+        "AX, BX, CS",
+        [cpu.ax, cpu.bx, cpu.cs],
+        [error, BLOCK, 0x0103],
+    );
+    same(rt, "CF", cpu.flags.carry, true);
+    same(rt, "memory", sum_of_memory(machine), before);
 }
 
 #[test]
@@ -301,9 +311,9 @@ fn placed(alloc: Global, strategy: u16) -> Result<[u16; 2], Fail> {
 
 #[test]
 fn children_are_placed_by_the_strategy(rt: HostRuntime) -> Result<(), Fail> {
-    assert_eq!(rt; placed(rt.alloc(), 0)?, [0x1104, 0x113A]);
-    assert_eq!(rt; placed(rt.alloc(), 1)?, [0x1127, 0x113A]);
-    assert_eq!(rt; placed(rt.alloc(), 2)?, [0x9FFF, 0x113A]);
+    same(&rt, "first fit", placed(rt.alloc(), 0)?, [0x1104, 0x113A]);
+    same(&rt, "best fit", placed(rt.alloc(), 1)?, [0x1127, 0x113A]);
+    same(&rt, "last fit", placed(rt.alloc(), 2)?, [0x9FFF, 0x113A]);
     Ok(())
 }
 
@@ -326,10 +336,12 @@ fn an_overlay_is_relocated(rt: HostRuntime) -> Result<(), Fail> {
     let mut machine = caller(rt.alloc(), b"HI.EXE", &mz(0))?;
     set_carry(&mut machine);
     load_program(&mut machine, 3, b"HI.EXE\0", [0x3000, 0x2000]);
-    assert!(rt; !machine.cpu().flags.carry);
-    assert_eq!(rt;
+    same(&rt, "CF", machine.cpu().flags.carry, false);
+    same(
+        &rt,
+        "relocated word",
         [machine.peek(0x3000, 0), machine.peek(0x3000, 1)],
-        [0xF0, 0x3F]
+        [0xF0, 0x3F],
     );
     shows(
         &rt,
@@ -355,9 +367,19 @@ fn an_exe_file_is_the_first_program(rt: HostRuntime) -> Result<(), Fail> {
     for (file, answer, word) in rows {
         let mut machine = machine_of(rt.alloc(), store(rt.alloc(), b"HI.EXE", file)?)?;
         let before = sum_of_memory(&machine);
-        assert_eq!(rt; machine.load(b"HI.EXE", b""), answer);
-        assert_eq!(rt; sum_of_memory(&machine) == before, answer.is_err());
-        assert_eq!(rt; [machine.peek(0x0113, 0), machine.peek(0x0113, 1)], word);
+        same(&rt, "load", machine.load(b"HI.EXE", b""), answer);
+        same(
+            &rt,
+            "memory stays",
+            sum_of_memory(&machine) == before,
+            answer.is_err(),
+        );
+        same(
+            &rt,
+            "relocated word",
+            [machine.peek(0x0113, 0), machine.peek(0x0113, 1)],
+            word,
+        );
     }
     Ok(())
 }
@@ -373,10 +395,10 @@ const NESTED: [u8; 43] = [
 fn sixteen_programs_are_alive_at_most(rt: HostRuntime) -> Result<(), Fail> {
     let mut machine = machine_of(rt.alloc(), store(rt.alloc(), b"ME.COM", &NESTED)?)?;
     machine.load(b"ME.COM", b"")?;
-    assert_eq!(rt; machine.run(1000), Stop::Halted);
-    assert_eq!(rt; machine.cpu().ax, 8);
-    assert_eq!(rt; machine.cpu().cs, 0x0103 + 15 * 0x43);
-    assert_eq!(rt; machine.steps(), 16 * 10);
+    same(&rt, "stop", machine.run(1000), Stop::Halted);
+    same(&rt, "AX", machine.cpu().ax, 8);
+    same(&rt, "CS", machine.cpu().cs, 0x0103 + 15 * 0x43);
+    same(&rt, "steps", machine.steps(), 16 * 10);
     Ok(())
 }
 
@@ -386,9 +408,9 @@ fn a_destroyed_arena_is_told_before_too_many_programs(rt: HostRuntime) -> Result
     machine.load(b"ME.COM", b"")?;
     machine.run(16 * 10 - 1);
     machine.poke(0x0100, 0, 0);
-    assert_eq!(rt; machine.run(2), Stop::Halted);
-    assert_eq!(rt; machine.cpu().ax, 7);
-    assert_eq!(rt; machine.cpu().cs, 0x0103 + 15 * 0x43);
+    same(&rt, "stop", machine.run(2), Stop::Halted);
+    same(&rt, "AX", machine.cpu().ax, 7);
+    same(&rt, "CS", machine.cpu().cs, 0x0103 + 15 * 0x43);
     Ok(())
 }
 
@@ -400,9 +422,14 @@ fn is_destroyed(rt: &impl Abort, machine: &mut Machine, registers: [u16; 3])
     reach(machine, registers);
     let [sum, steps] = [sum_of_memory(machine), machine.steps()];
     let cpu = machine.cpu();
-    assert_eq!(rt; machine.run(1), Stop::Destroyed);
-    assert_eq!(rt; machine.cpu(), cpu);
-    assert_eq!(rt; [sum_of_memory(machine), machine.steps()], [sum, steps]);
+    same(rt, "stop", machine.run(1), Stop::Destroyed);
+    same(rt, "registers", machine.cpu(), cpu);
+    same(
+        rt,
+        "memory, steps",
+        [sum_of_memory(machine), machine.steps()],
+        [sum, steps],
+    );
 }
 
 #[test]
@@ -411,7 +438,7 @@ fn no_resident_end_in_a_destroyed_arena(rt: HostRuntime) -> Result<(), Fail> {
     machine.poke(0x0102, 0, 0);
     is_destroyed(&rt, &mut machine, [0x3105, 0, 0x20]);
     machine.poke(0x0102, 0, b'Z');
-    assert_eq!(rt; machine.run(1), Stop::Exited(5));
+    same(&rt, "stop", machine.run(1), Stop::Exited(5));
     Ok(())
 }
 
@@ -421,7 +448,7 @@ fn no_end_in_a_destroyed_arena(rt: HostRuntime) -> Result<(), Fail> {
     machine.poke(0x0102, 0, 0);
     is_destroyed(&rt, &mut machine, [0x4C07, 0, 0]);
     machine.poke(0x0102, 0, b'Z');
-    assert_eq!(rt; machine.run(1), Stop::Exited(7));
+    same(&rt, "stop", machine.run(1), Stop::Exited(7));
     shows(
         &rt,
         &machine,
@@ -431,18 +458,6 @@ fn no_end_in_a_destroyed_arena(rt: HostRuntime) -> Result<(), Fail> {
         ],
     );
     Ok(())
-}
-
-/// Compares bytes of a segment.
-fn holds(rt: &impl Abort, machine: &Machine, segment: u16, offset: u16, bytes: &[u8]) {
-    for (index, byte) in bytes.iter().enumerate() {
-        let at = offset.wrapping_add((index % 0x1_0000) as u16);
-        assert_eq!(rt;
-            machine.peek(segment, at),
-            *byte,
-            "byte at {segment:04X}:{at:04X}"
-        );
-    }
 }
 
 /// An MZ file that starts at 1:0003 of its image, with its stack at 2:0040, and takes 10h paragraphs
@@ -464,9 +479,11 @@ fn an_exe_file_says_where_it_starts(rt: HostRuntime) -> Result<(), Fail> {
     let mut machine = machine_of(rt.alloc(), programs)?;
     machine.load(b"HI.EXE", b"")?;
     let cpu = machine.cpu();
-    assert_eq!(rt;
+    same(
+        &rt,
+        "CS, IP, SS, SP, DS, ES",
         [cpu.cs, cpu.ip, cpu.ss, cpu.sp, cpu.ds, cpu.es],
-        [0x0114, 0x0003, 0x0115, 0x0040, 0x0103, 0x0103]
+        [0x0114, 0x0003, 0x0115, 0x0040, 0x0103, 0x0103],
     );
     shows(
         &rt,
@@ -487,10 +504,10 @@ fn variables_go_to_children(rt: HostRuntime) -> Result<(), Fail> {
     let variables = Vec::from_slice(alloc, b"A=1\0")?;
     let mut machine = machine_with(alloc, programs, variables)?;
     machine.load(b"GO.COM", b"")?;
-    holds(&rt, &machine, 0x0101, 0, b"A=1\0\0\x01\0GO.COM\0");
+    holds(&rt, "memory", &machine, 0x0101, 0, b"A=1\0\0\x01\0GO.COM\0");
     shrink(&mut machine);
     load_program(&mut machine, 0, b"hi.com\0", [0, 0]);
-    holds(&rt, &machine, 0x1104, 0, b"A=1\0\0\x01\0hi.com\0");
+    holds(&rt, "memory", &machine, 0x1104, 0, b"A=1\0\0\x01\0hi.com\0");
     Ok(())
 }
 
@@ -506,9 +523,10 @@ fn a_child_is_passed_a_tail_and_two_blocks(rt: HostRuntime) -> Result<(), Fail> 
     put(&mut machine, BLOCK + 10, &[0x20, 0x03, 0x03, 0x01]);
     put(&mut machine, NAME, b"hi.com\0");
     ask(&mut machine, [0x4B00, BLOCK, NAME]);
-    holds(&rt, &machine, 0x1106, 0x80, b"\x02ab\x0D\0");
+    holds(&rt, "memory", &machine, 0x1106, 0x80, b"\x02ab\x0D\0");
     holds(
         &rt,
+        "memory",
         &machine,
         0x1106,
         0x5C,
@@ -525,10 +543,10 @@ fn vectors_come_back(rt: HostRuntime) -> Result<(), Fail> {
     shrink(&mut machine);
     load_program(&mut machine, 0, b"hi.com\0", [0, 0]);
     machine.run(3);
-    holds(&rt, &machine, 0, 0x90, &[0x00, 0x00, 0x06, 0x11]);
+    holds(&rt, "memory", &machine, 0, 0x90, &[0x00, 0x00, 0x06, 0x11]);
     machine.run(3);
-    assert_eq!(rt; machine.cpu().cs, 0x0103);
-    holds(&rt, &machine, 0, 0x90, &[0x90, 0x00, 0x00, 0xF0]);
+    same(&rt, "CS", machine.cpu().cs, 0x0103);
+    holds(&rt, "memory", &machine, 0, 0x90, &[0x90, 0x00, 0x00, 0xF0]);
     Ok(())
 }
 
@@ -542,7 +560,7 @@ fn the_first_program_ends(rt: HostRuntime) -> Result<(), Fail> {
     ] {
         let mut machine = caller(rt.alloc(), b"HI.COM", &HELLO)?;
         ask(&mut machine, [ax, 0, dx]);
-        assert_eq!(rt; machine.run(0), Stop::Exited(code));
+        same(&rt, "stop", machine.run(0), Stop::Exited(code));
         shows(&rt, &machine, &[(0x0102, header)]);
     }
     Ok(())

@@ -2,7 +2,8 @@
 ghost use Rattle.std.specs.Prelude.{◌≡◌, IfOk};
 ghost use Rattle.dm_services.specs.State.{HasProgram};
 
-use crate::tests::machine;
+use crate::checks::{holds, same, same_in};
+use crate::tests::loaded;
 use crate::{Machine, Stop};
 use std::alloc::Global;
 use std::process::Abort;
@@ -29,51 +30,36 @@ struct Row<'a> {
     bytes: (u16, &'a [u8]),
 }
 
-/// A machine with the program loaded.
-fn loaded(alloc: Global, program: &[u8]) -> Result<Machine, Fail>
-    ensures { IfOk result (λ m. HasProgram m) }
-{
-    let mut machine = machine(alloc, program)?;
-    machine.load(b"HI.COM", b"")?;
-    Ok(machine)
-}
-
-/// Compares the bytes of the program's segment from an offset on; offsets wrap.
-fn holds(rt: &impl Abort, machine: &Machine, name: &str, offset: u16, bytes: &[u8]) {
-    for (index, byte) in bytes.iter().enumerate() {
-        let at = offset.wrapping_add((index % 0x1_0000) as u16);
-        assert_eq!(rt;
-            machine.peek(SEGMENT, at),
-            *byte,
-            "{name}: byte at {at:04X}"
-        );
-    }
-}
-
 /// Runs a row's program to its stop, and compares what it leaves.
 fn leaves(rt: &impl Abort, alloc: Global, row: &Row) -> Result<(), Fail> {
     let Row { name, .. } = *row;
     let mut machine = loaded(alloc, row.program)?;
     let stop = machine.run(1000);
     let cpu = machine.cpu();
-    assert_eq!(rt; stop, row.stop, "{name}: stop");
-    assert_eq!(rt; machine.steps(), row.steps, "{name}: steps");
-    assert_eq!(rt;
+    same_in(rt, name, "stop", stop, row.stop);
+    same_in(rt, name, "steps", machine.steps(), row.steps);
+    same_in(
+        rt,
+        name,
+        "AX, BX, CX, DX",
         [cpu.ax, cpu.bx, cpu.cx, cpu.dx],
         row.general,
-        "{name}: AX, BX, CX, DX"
     );
-    assert_eq!(rt;
+    same_in(
+        rt,
+        name,
+        "SP, SI, DI, IP",
         [cpu.sp, cpu.si, cpu.di, cpu.ip],
         row.others,
-        "{name}: SP, SI, DI, IP"
     );
-    assert_eq!(rt;
+    same_in(
+        rt,
+        name,
+        "CF, ZF",
         [cpu.flags.carry, cpu.flags.zero],
         row.flags,
-        "{name}: CF, ZF"
     );
-    holds(rt, &machine, name, row.bytes.0, row.bytes.1);
+    holds(rt, name, &machine, SEGMENT, row.bytes.0, row.bytes.1);
     Ok(())
 }
 
@@ -579,9 +565,9 @@ const DECIMAL: [u8; 43] = [
 #[test]
 fn number_in_decimal(rt: HostRuntime) -> Result<(), Fail> {
     let mut machine = loaded(rt.alloc(), &DECIMAL)?;
-    assert_eq!(rt; machine.run(1000), Stop::Exited(0));
-    assert_eq!(rt; machine.steps(), 51);
-    assert_eq!(rt; machine.output(), b"12345".as_slice());
+    same(&rt, "stop", machine.run(1000), Stop::Exited(0));
+    same(&rt, "steps", machine.steps(), 51);
+    same(&rt, "output", machine.output(), b"12345".as_slice());
     Ok(())
 }
 
@@ -598,9 +584,9 @@ fn repetition_is_a_step(rt: HostRuntime) -> Result<(), Fail> {
         (6, 0, 0x010B),
     ] {
         let mut machine = loaded(rt.alloc(), &program)?;
-        assert_eq!(rt; machine.run(steps), Stop::Steps);
+        same(&rt, "stop", machine.run(steps), Stop::Steps);
         let cpu = machine.cpu();
-        assert_eq!(rt; [cpu.cx, cpu.ip], [cx, ip]);
+        same(&rt, "CX, IP", [cpu.cx, cpu.ip], [cx, ip]);
     }
     Ok(())
 }
@@ -611,21 +597,24 @@ fn quotient_out_of_range_takes_interrupt_0(rt: HostRuntime) -> Result<(), Fail> 
     let mut machine = loaded(rt.alloc(), &[0xF6, 0xFB])?;
     machine.parts.cpu.ax = 0xFF80;
     machine.parts.cpu.bx = 0x0001;
-    assert_eq!(rt; machine.run(1), Stop::Steps);
+    same(&rt, "stop", machine.run(1), Stop::Steps);
     let cpu = machine.cpu();
-    assert_eq!(rt;
+    same(
+        &rt,
+        "CS, IP, SP, AX",
         [cpu.cs, cpu.ip, cpu.sp, cpu.ax],
-        [0xF000, 0x0000, 0xFFF8, 0xFF80]
+        [0xF000, 0x0000, 0xFFF8, 0xFF80],
     );
-    assert!(rt; !cpu.flags.interrupt);
+    same(&rt, "IF", cpu.flags.interrupt, false);
     holds(
         &rt,
-        &machine,
         "IP and CS on the stack",
+        &machine,
+        SEGMENT,
         0xFFF8,
         &[0x02, 0x01, 0x03, 0x01],
     );
-    assert_eq!(rt; machine.run(1), Stop::Exited(255));
-    assert_eq!(rt; machine.steps(), 2);
+    same(&rt, "stop", machine.run(1), Stop::Exited(255));
+    same(&rt, "steps", machine.steps(), 2);
     Ok(())
 }

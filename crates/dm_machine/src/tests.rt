@@ -1,7 +1,9 @@
 //! Whole programs, from their bytes to their output.
 ghost use Rattle.std.specs.Prelude.{◌≡◌, ◌≤◌, IfOk, length};
 ghost use Rattle.dm_proc.specs.Programs.{IsName};
+ghost use Rattle.dm_services.specs.State.{HasProgram};
 
+use crate::checks::{holds, same};
 use crate::{AddError, Config, LoadError, Machine, NewError, Programs, Sizes, Stop};
 use std::alloc::{AllocError, Global};
 use std::process::Abort;
@@ -84,29 +86,27 @@ fn nops(alloc: Global, count: usize) -> Result<Vec<u8>, AllocError> {
     vec![in alloc; 0x90; count]
 }
 
-/// Compares the bytes from a segment's start on.
-fn shows(rt: &impl Abort, machine: &Machine, segment: u16, bytes: &[u8]) {
-    for (at, byte) in bytes.iter().enumerate() {
-        assert_eq!(rt;
-            machine.peek(segment, (at % 0x1_0000) as u16),
-            *byte,
-            "byte {at} of segment {segment:04X}"
-        );
-    }
+/// A machine with the one program loaded.
+pub(crate) fn loaded(alloc: Global, program: &[u8]) -> Result<Machine, Fail>
+    ensures { IfOk result (λ m. HasProgram m) }
+{
+    let mut machine = machine(alloc, program)?;
+    machine.load(b"HI.COM", b"")?;
+    Ok(machine)
 }
 
 #[test]
 fn hello_prints_hi(rt: HostRuntime) -> Result<(), Fail> {
     let mut machine = machine(rt.alloc(), &HELLO)?;
     machine.load(b"hi.com", b"")?;
-    assert_eq!(rt; machine.run(0), Stop::Steps);
-    assert_eq!(rt; machine.run(6), Stop::Steps);
-    assert_eq!(rt; machine.steps(), 6);
-    assert_eq!(rt; machine.run(100), Stop::Exited(0));
-    assert_eq!(rt; machine.steps(), 7);
-    assert_eq!(rt; machine.run(5), Stop::Exited(0));
-    assert_eq!(rt; machine.steps(), 7);
-    assert_eq!(rt; machine.output(), b"hi".as_slice());
+    same(&rt, "stop", machine.run(0), Stop::Steps);
+    same(&rt, "stop", machine.run(6), Stop::Steps);
+    same(&rt, "steps", machine.steps(), 6);
+    same(&rt, "stop", machine.run(100), Stop::Exited(0));
+    same(&rt, "steps", machine.steps(), 7);
+    same(&rt, "stop", machine.run(5), Stop::Exited(0));
+    same(&rt, "steps", machine.steps(), 7);
+    same(&rt, "output", machine.output(), b"hi".as_slice());
     Ok(())
 }
 
@@ -114,29 +114,74 @@ fn hello_prints_hi(rt: HostRuntime) -> Result<(), Fail> {
 fn hello_is_loaded_byte_by_byte(rt: HostRuntime) -> Result<(), Fail> {
     let mut machine = machine(rt.alloc(), &HELLO)?;
     machine.load(b"HI.COM", b" a")?;
-    shows(&rt, &machine, 0x0100, &[b'M', 0x03, 0x01, 0x01, 0x00]);
-    shows(
+    holds(
         &rt,
+        "memory",
+        &machine,
+        0x0100,
+        0,
+        &[b'M', 0x03, 0x01, 0x01, 0x00],
+    );
+    holds(
+        &rt,
+        "memory",
         &machine,
         0x0101,
+        0,
         &[0, 0, 1, 0, b'H', b'I', b'.', b'C', b'O', b'M', 0, 0],
     );
-    shows(&rt, &machine, 0x0102, &[b'Z', 0x03, 0x01, 0xFD, 0x9E]);
+    holds(
+        &rt,
+        "memory",
+        &machine,
+        0x0102,
+        0,
+        &[b'Z', 0x03, 0x01, 0xFD, 0x9E],
+    );
     let prefix = [
         0xCD, 0x20, 0x00, 0xA0, 0, 0, 0, 0, 0, 0, 0x88, 0x00, 0x00, 0xF0, 0x8C, 0x00, 0x00, 0xF0,
         0x90, 0x00, 0x00, 0xF0, 0, 0,
     ];
-    shows(&rt, &machine, 0x0103, &prefix);
-    assert_eq!(rt; machine.peek(0x0103, 0x2C), 0x01);
-    assert_eq!(rt; machine.peek(0x0103, 0x2D), 0x01);
-    shows(&rt, &machine, 0x0108, &[0xCD, 0x21, 0xCB, 0]);
-    shows(&rt, &machine, 0x010B, &[2, b' ', b'a', 0x0D, 0]);
-    shows(&rt, &machine, 0x0113, &HELLO);
+    holds(&rt, "memory", &machine, 0x0103, 0, &prefix);
+    holds(&rt, "memory", &machine, 0x0103, 0x2C, &[0x01, 0x01]);
+    holds(&rt, "memory", &machine, 0x0108, 0, &[0xCD, 0x21, 0xCB, 0]);
+    holds(
+        &rt,
+        "memory",
+        &machine,
+        0x010B,
+        0,
+        &[2, b' ', b'a', 0x0D, 0],
+    );
+    holds(&rt, "memory", &machine, 0x0113, 0, &HELLO);
     let cpu = machine.cpu();
-    assert_eq!(rt; [cpu.cs, cpu.ds, cpu.es, cpu.ss], [0x0103; 4]);
-    assert_eq!(rt; [cpu.ip, cpu.sp], [0x0100, 0xFFFE]);
-    assert_eq!(rt; cpu.flags.to_word(), 0xF202);
-    assert_eq!(rt; machine.peek(0x0103, 0xFFFE), 0);
+    same(
+        &rt,
+        "CS, DS, ES, SS",
+        [cpu.cs, cpu.ds, cpu.es, cpu.ss],
+        [0x0103; 4],
+    );
+    same(&rt, "IP, SP", [cpu.ip, cpu.sp], [0x0100, 0xFFFE]);
+    same(&rt, "FLAGS", cpu.flags.to_word(), 0xF202);
+    holds(&rt, "memory", &machine, 0x0103, 0xFFFE, &[0, 0]);
+    Ok(())
+}
+
+/// Compares what the load of a store's one program, which has this file, answers.
+fn answers(
+    rt: &impl Abort,
+    alloc: Global,
+    file: &[u8],
+    name: &[u8],
+    answer: Result<(), LoadError>,
+) -> Result<(), Fail>
+    requires { IsName name.now }
+{
+    let mut machine = machine(alloc, file)?;
+    same(rt, "load", machine.load(name, b""), answer);
+    same(rt, "is loaded", machine.is_loaded(), answer.is_ok());
+    let pointer = if answer.is_ok() { 0xFFFE } else { 0 };
+    same(rt, "SP", machine.cpu().sp, pointer);
     Ok(())
 }
 
@@ -145,20 +190,12 @@ fn which_files_load(rt: HostRuntime) -> Result<(), Fail> {
     let alloc = rt.alloc();
     let longer = nops(alloc, 65_279)?;
     let longest = nops(alloc, 65_278)?;
-    let rows = [
-        (longer.as_slice(), "HI.COM", Err(LoadError::BadFormat)),
-        (b"MZ".as_slice(), "HI.COM", Err(LoadError::BadFormat)),
-        (HELLO.as_slice(), "NO.COM", Err(LoadError::NotFound)),
-        (longest.as_slice(), "HI.COM", Ok(())),
-        (b"".as_slice(), "hi.com", Ok(())),
-    ];
-    for (file, name, answer) in rows {
-        let mut machine = machine(alloc, file)?;
-        assert_eq!(rt; machine.load(name.as_bytes(), b""), answer);
-        assert_eq!(rt; machine.is_loaded(), answer.is_ok());
-        assert_eq!(rt; machine.cpu().sp, if answer.is_ok() { 0xFFFE } else { 0 });
-    }
-    Ok(())
+    let bad = Err(LoadError::BadFormat);
+    answers(&rt, alloc, longer.as_slice(), b"HI.COM", bad)?;
+    answers(&rt, alloc, b"MZ", b"HI.COM", bad)?;
+    answers(&rt, alloc, &HELLO, b"NO.COM", Err(LoadError::NotFound))?;
+    answers(&rt, alloc, longest.as_slice(), b"HI.COM", Ok(()))?;
+    answers(&rt, alloc, b"", b"hi.com", Ok(()))
 }
 
 #[test]
@@ -171,10 +208,10 @@ fn sizes_too_large(rt: HostRuntime) -> Result<(), Fail> {
     ] {
         let programs = store(rt.alloc(), b"HI.COM", &HELLO)?;
         match sized(rt.alloc(), Sizes { ems_pages, xms_kib }, programs) {
-            Ok(_) => assert!(rt; fits),
+            Ok(_) => same(&rt, "fits", fits, true),
             Err(refusal) => {
-                assert_eq!(rt; refusal, NewError::TooLarge);
-                assert!(rt; !fits);
+                same(&rt, "refusal", refusal, NewError::TooLarge);
+                same(&rt, "fits", fits, false);
             }
         }
     }
@@ -184,13 +221,17 @@ fn sizes_too_large(rt: HostRuntime) -> Result<(), Fail> {
 #[test]
 fn store_takes_a_name_once(rt: HostRuntime) -> Result<(), Fail> {
     let mut programs = Programs::new(rt.alloc());
-    assert_eq!(rt;
+    same(
+        &rt,
+        "a name",
         programs.add(rt.alloc(), b"HI.COM", Vec::new(rt.alloc())),
-        Ok(())
+        Ok(()),
     );
-    assert_eq!(rt;
+    same(
+        &rt,
+        "the name again",
         programs.add(rt.alloc(), b"hi.com", Vec::new(rt.alloc())),
-        Err(AddError::Twice)
+        Err(AddError::Twice),
     );
     Ok(())
 }
@@ -212,36 +253,40 @@ fn stops_and_services(rt: HostRuntime) -> Result<(), Fail> {
         ),
     ];
     for (file, stop, steps) in rows {
-        let mut machine = machine(rt.alloc(), file)?;
-        machine.load(b"HI.COM", b"")?;
-        assert_eq!(rt; machine.run(1000), stop);
-        assert_eq!(rt; machine.steps(), steps);
-        assert_eq!(rt; machine.run(1000), stop);
-        assert_eq!(rt; machine.steps(), steps);
+        let mut machine = loaded(rt.alloc(), file)?;
+        same(&rt, "stop", machine.run(1000), stop);
+        same(&rt, "steps", machine.steps(), steps);
+        same(&rt, "stop", machine.run(1000), stop);
+        same(&rt, "steps", machine.steps(), steps);
     }
     Ok(())
 }
 
 #[test]
 fn unknown_function_answers_error_1(rt: HostRuntime) -> Result<(), Fail> {
-    let mut machine = machine(rt.alloc(), &[0xB4, 0xFF, 0xCD, 0x21])?;
-    machine.load(b"HI.COM", b"")?;
-    assert_eq!(rt; machine.run(3), Stop::Steps);
+    let mut machine = loaded(rt.alloc(), &[0xB4, 0xFF, 0xCD, 0x21])?;
+    same(&rt, "stop", machine.run(3), Stop::Steps);
     let cpu = machine.cpu();
-    assert_eq!(rt;
+    same(
+        &rt,
+        "AX, CS, IP, SP",
         [cpu.ax, cpu.cs, cpu.ip, cpu.sp],
-        [1, 0x0103, 0x0104, 0xFFFE]
+        [1, 0x0103, 0x0104, 0xFFFE],
     );
-    assert!(rt; cpu.flags.carry);
+    same(&rt, "CF", cpu.flags.carry, true);
     Ok(())
 }
 
 #[test]
 fn text_with_no_dollar_is_a_whole_segment(rt: HostRuntime) -> Result<(), Fail> {
-    let mut machine = machine(rt.alloc(), &[0xB4, 0x09, 0xCD, 0x21])?;
-    machine.load(b"HI.COM", b"")?;
-    assert_eq!(rt; machine.run(3), Stop::Steps);
-    assert_eq!(rt; machine.output().len(), 65_536);
-    assert_eq!(rt; machine.output().first(), Some(&0xCD));
+    let mut machine = loaded(rt.alloc(), &[0xB4, 0x09, 0xCD, 0x21])?;
+    same(&rt, "stop", machine.run(3), Stop::Steps);
+    same(&rt, "length of the output", machine.output().len(), 65_536);
+    same(
+        &rt,
+        "first byte of the output",
+        machine.output().first(),
+        Some(&0xCD),
+    );
     Ok(())
 }

@@ -12,7 +12,7 @@ use dm_ins::ByteRegister;
 
 /// What a call of INT 21h asks for.
 #[derive(Clone, Copy, Debug, PartialEq, Eq)]
-pub enum Function {
+pub(crate) enum Function {
     /// 00h: ends the process with the code 0.
     Terminate,
     /// 01h: reads a byte of the input into AL, and writes it.

@@ -20,8 +20,10 @@ mod text;
 mod vectors;
 
 pub use config::{Config, Sizes};
-pub use functions::Function;
 pub use laws::{services_have_one_answer, services_ignore_unseen, services_keep_room};
 pub use parts::Parts;
 pub use services::{Service, service_at};
 pub use stop::Stop;
+
+#[cfg(test)]
+mod tests;
