@@ -44,7 +44,7 @@ fn answer(rt: &impl Abort, machine: &mut Machine, calls: &[Call])
     ensures { HasProgram machine.new }
 {
     for (asked, answered) in calls {
-        same(rt, "AX, BX, CF", call(machine, *asked), *answered);
+        assert_eq!(rt; call(machine, *asked), *answered, "call {asked:?}");
     }
 }
 

@@ -1,5 +1,5 @@
-//! The console and small calls of INT 21h, and room for output: what each call answers, worked by
-//! hand from the manual.
+//! The console in whole runs: calls that want input, what calls leave in memory, and room for output,
+//! worked by hand from the manual.
 ghost use Rattle.std.specs.Prelude.{IfOk};
 ghost use Rattle.dm_services.specs.State.{HasProgram};
 
