@@ -23,6 +23,3 @@ pub use products::{Division, Sign, div, mul};
 pub use shifts::{ShiftOperation, shift, shift_by_one};
 pub use sums::{add, add_up, sub, subtract};
 pub use width::Width;
-
-#[cfg(test)]
-mod tests;

@@ -30,6 +30,3 @@ pub use listing::{Headers, Step, walk};
 pub use owned::{free, free_all, resize};
 pub use pair::{Pair, plan_pair, write_pair};
 pub use refusal::Refusal;
-
-#[cfg(test)]
-mod tests;

@@ -2,8 +2,10 @@
 use crate::commands::report;
 use crate::{Storage, dm_main};
 use dm_machine::Stop;
+use std::alloc::Global;
 use std::io;
 use std::io::{Read, Write};
+use std::process::Abort;
 use std::test::Fail;
 
 /// Prints `hi` and ends with code 0, in seven steps.
@@ -78,6 +80,31 @@ impl<'a> Storage for Files<'a> {
         }
         Err(io::Error::from(io::ErrorKind::NotFound))
     }
+}
+
+/// Runs a command line over these files, and reads `typed` and what comes behind it. Compares the
+/// status and what stands on the two streams.
+fn tells(
+    rt: &impl Abort,
+    alloc: Global,
+    files: &Files,
+    (line, rest, status, put_out, told): (&str, Rest, u8, &str, &str),
+) -> Result<(), Fail> {
+    let words: Vec<&str> = line.split(' ').collect(alloc)?;
+    let mut output = Vec::new(alloc);
+    let mut error = Vec::new(alloc);
+    let got = dm_main(
+        alloc,
+        files,
+        words.as_slice(),
+        Source(b"typed".as_slice(), rest),
+        &mut output,
+        &mut error,
+    );
+    assert_eq!(rt; error.as_slice(), told.as_bytes(), "{line}");
+    assert_eq!(rt; output.as_slice(), put_out.as_bytes(), "{line}");
+    assert_eq!(rt; got, status, "{line}");
+    Ok(())
 }
 
 #[test]
@@ -226,21 +253,8 @@ fn tells_each_fault_in_its_order(rt: HostRuntime) -> Result<(), Fail> {
             "dm: bad format\n",
         ),
     ];
-    for (line, rest, status, put_out, told) in cases {
-        let words: Vec<&str> = line.split(' ').collect(rt.alloc())?;
-        let mut output = Vec::new(rt.alloc());
-        let mut error = Vec::new(rt.alloc());
-        let got = dm_main(
-            rt.alloc(),
-            &Files(files.as_slice()),
-            words.as_slice(),
-            Source(b"typed".as_slice(), rest),
-            &mut output,
-            &mut error,
-        );
-        assert_eq!(rt; error.as_slice(), told.as_bytes(), "{line}");
-        assert_eq!(rt; output.as_slice(), put_out.as_bytes(), "{line}");
-        assert_eq!(rt; got, status, "{line}");
+    for case in cases {
+        tells(&rt, rt.alloc(), &Files(files.as_slice()), case)?;
     }
     Ok(())
 }

@@ -4,6 +4,3 @@
 mod console;
 
 pub use console::Console;
-
-#[cfg(test)]
-mod tests;

@@ -6,7 +6,5 @@ mod operands;
 mod prefixing;
 mod reading;
 mod rows;
-#[cfg(test)]
-mod tests;
 
 pub use decoding::{decode, no_spelling_begins_another};

@@ -23,6 +23,3 @@ pub use dm_alu::Flags;
 pub use effect::{Next, exec};
 pub use laws::{halt_changes_nothing, ignores_unseen};
 pub use stack::interrupt_return;
-
-#[cfg(test)]
-mod tests;

@@ -11,8 +11,6 @@ pub mod operand;
 pub mod prefix;
 mod search;
 pub mod table;
-#[cfg(test)]
-mod tests;
 
 pub use action::{Action, Mnemonic};
 pub use encoding::encode;

@@ -9,6 +9,3 @@ mod image;
 pub use format::{BadFormat, FarPointer, Kind};
 pub use header::kind;
 pub use image::Image;
-
-#[cfg(test)]
-mod tests;

@@ -21,7 +21,7 @@ fn fed(alloc: Global, program: &[u8], input: &[u8]) -> Result<Machine, Fail>
     ensures { IfOk result (λ m. HasProgram m) }
 {
     let mut machine = loaded(alloc, program)?;
-    machine.parts.console = Console::new(alloc, Vec::from_slice(alloc, input)?);
+    ask(&mut machine, alloc, input, [0; 4])?;
     Ok(machine)
 }
 

@@ -4,7 +4,7 @@ ghost use Rattle.dm_proc.specs.Programs.{IsName};
 ghost use Rattle.dm_services.specs.State.{HasProgram};
 
 use crate::checks::{holds, same, shows};
-use crate::tests::{HELLO, machine_of, machine_with, store, sum_of_memory};
+use crate::tests::{HELLO, loaded_as, machine_of, machine_with, store, sum_of_memory};
 use crate::{LoadError, Machine, Stop};
 use std::alloc::Global;
 use std::process::Abort;
@@ -63,18 +63,26 @@ fn caller(alloc: Global, name: &[u8], file: &[u8]) -> Result<Machine, Fail>
     Ok(machine)
 }
 
-/// Writes bytes into the first program's segment.
-fn put(machine: &mut Machine, offset: u16, bytes: &[u8])
+/// Writes bytes into a segment.
+fn put_at(machine: &mut Machine, segment: u16, offset: u16, bytes: &[u8])
     requires { HasProgram machine.old }
     ensures { HasProgram machine.new }
 {
     for (index, byte) in bytes.iter().enumerate() {
         machine.poke(
-            0x0103,
+            segment,
             offset.wrapping_add((index % 0x1_0000) as u16),
             *byte,
         );
     }
+}
+
+/// Writes bytes into the first program's segment.
+fn put(machine: &mut Machine, offset: u16, bytes: &[u8])
+    requires { HasProgram machine.old }
+    ensures { HasProgram machine.new }
+{
+    put_at(machine, 0x0103, offset, bytes);
 }
 
 /// Makes a call with these AX, BX and DX, as far as its service.
@@ -271,20 +279,25 @@ fn is_refused(rt: &impl Abort, machine: &mut Machine, error: u16)
     same(rt, "memory", sum_of_memory(machine), before);
 }
 
+/// A machine that is about to start a program of at least so many paragraphs, where the last block is
+/// told to end at DFFFh.
+fn beyond_memory(alloc: Global, minimum: u16) -> Result<Machine, Fail>
+    ensures { IfOk result (λ m. HasProgram m) }
+{
+    let mut machine = caller(alloc, b"HI.EXE", &mz(minimum))?;
+    shrink(&mut machine);
+    put_at(&mut machine, 0x1103, 3, &[0xFC, 0xCE]);
+    reach_load(&mut machine, 0, b"HI.EXE\0", [0, 0]);
+    Ok(machine)
+}
+
 #[test]
 fn the_last_list_has_a_header_at_a000h(rt: HostRuntime) -> Result<(), Fail> {
-    let mut machine = caller(rt.alloc(), b"HI.EXE", &mz(0x8EE9))?;
-    shrink(&mut machine);
-    machine.poke(0x1103, 3, 0xFC);
-    machine.poke(0x1103, 4, 0xCE);
-    reach_load(&mut machine, 0, b"HI.EXE\0", [0, 0]);
+    let mut machine = beyond_memory(rt.alloc(), 0x8EE9)?;
     is_refused(&rt, &mut machine, 7);
     // one paragraph less has room: the header behind it stands at 9FFFh
-    let mut machine = caller(rt.alloc(), b"HI.EXE", &mz(0x8EE8))?;
-    shrink(&mut machine);
-    machine.poke(0x1103, 3, 0xFC);
-    machine.poke(0x1103, 4, 0xCE);
-    load_program(&mut machine, 0, b"HI.EXE\0", [0, 0]);
+    let mut machine = beyond_memory(rt.alloc(), 0x8EE8)?;
+    machine.run(1);
     shows(&rt, &machine, &[(0x9FFF, [b'Z', 0, 0, 0x00, 0x40])]);
     Ok(())
 }
@@ -393,8 +406,7 @@ const NESTED: [u8; 43] = [
 
 #[test]
 fn sixteen_programs_are_alive_at_most(rt: HostRuntime) -> Result<(), Fail> {
-    let mut machine = machine_of(rt.alloc(), store(rt.alloc(), b"ME.COM", &NESTED)?)?;
-    machine.load(b"ME.COM", b"")?;
+    let mut machine = loaded_as(rt.alloc(), b"ME.COM", &NESTED)?;
     same(&rt, "stop", machine.run(1000), Stop::Halted);
     same(&rt, "AX", machine.cpu().ax, 8);
     same(&rt, "CS", machine.cpu().cs, 0x0103 + 15 * 0x43);
@@ -404,8 +416,7 @@ fn sixteen_programs_are_alive_at_most(rt: HostRuntime) -> Result<(), Fail> {
 
 #[test]
 fn a_destroyed_arena_is_told_before_too_many_programs(rt: HostRuntime) -> Result<(), Fail> {
-    let mut machine = machine_of(rt.alloc(), store(rt.alloc(), b"ME.COM", &NESTED)?)?;
-    machine.load(b"ME.COM", b"")?;
+    let mut machine = loaded_as(rt.alloc(), b"ME.COM", &NESTED)?;
     machine.run(16 * 10 - 1);
     machine.poke(0x0100, 0, 0);
     same(&rt, "stop", machine.run(2), Stop::Halted);
@@ -475,9 +486,7 @@ fn placed_mz() -> [u8; 64] {
 
 #[test]
 fn an_exe_file_says_where_it_starts(rt: HostRuntime) -> Result<(), Fail> {
-    let programs = store(rt.alloc(), b"HI.EXE", &placed_mz())?;
-    let mut machine = machine_of(rt.alloc(), programs)?;
-    machine.load(b"HI.EXE", b"")?;
+    let machine = loaded_as(rt.alloc(), b"HI.EXE", &placed_mz())?;
     let cpu = machine.cpu();
     same(
         &rt,

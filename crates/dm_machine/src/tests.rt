@@ -86,26 +86,37 @@ fn nops(alloc: Global, count: usize) -> Result<Vec<u8>, AllocError> {
     vec![in alloc; 0x90; count]
 }
 
-/// A machine with the one program loaded.
+/// A machine with the one program of this name loaded.
+pub(crate) fn loaded_as(alloc: Global, name: &[u8], program: &[u8]) -> Result<Machine, Fail>
+    requires { IsName name.now }
+    ensures { IfOk result (λ m. HasProgram m) }
+{
+    let mut machine = machine_of(alloc, store(alloc, name, program)?)?;
+    machine.load(name, b"")?;
+    Ok(machine)
+}
+
+/// A machine with the one COM program loaded.
 pub(crate) fn loaded(alloc: Global, program: &[u8]) -> Result<Machine, Fail>
     ensures { IfOk result (λ m. HasProgram m) }
 {
-    let mut machine = machine(alloc, program)?;
-    machine.load(b"HI.COM", b"")?;
-    Ok(machine)
+    loaded_as(alloc, b"HI.COM", program)
 }
 
 #[test]
 fn hello_prints_hi(rt: HostRuntime) -> Result<(), Fail> {
     let mut machine = machine(rt.alloc(), &HELLO)?;
     machine.load(b"hi.com", b"")?;
-    same(&rt, "stop", machine.run(0), Stop::Steps);
-    same(&rt, "stop", machine.run(6), Stop::Steps);
-    same(&rt, "steps", machine.steps(), 6);
-    same(&rt, "stop", machine.run(100), Stop::Exited(0));
-    same(&rt, "steps", machine.steps(), 7);
-    same(&rt, "stop", machine.run(5), Stop::Exited(0));
-    same(&rt, "steps", machine.steps(), 7);
+    // how many more steps at most, the stop, and the steps so far
+    for (more, stop, steps) in [
+        (0, Stop::Steps, 0),
+        (6, Stop::Steps, 6),
+        (100, Stop::Exited(0), 7),
+        (5, Stop::Exited(0), 7),
+    ] {
+        same(&rt, "stop", machine.run(more), stop);
+        same(&rt, "steps", machine.steps(), steps);
+    }
     same(&rt, "output", machine.output(), b"hi".as_slice());
     Ok(())
 }
@@ -114,46 +125,24 @@ fn hello_prints_hi(rt: HostRuntime) -> Result<(), Fail> {
 fn hello_is_loaded_byte_by_byte(rt: HostRuntime) -> Result<(), Fail> {
     let mut machine = machine(rt.alloc(), &HELLO)?;
     machine.load(b"HI.COM", b" a")?;
-    holds(
-        &rt,
-        "memory",
-        &machine,
-        0x0100,
-        0,
-        &[b'M', 0x03, 0x01, 0x01, 0x00],
-    );
-    holds(
-        &rt,
-        "memory",
-        &machine,
-        0x0101,
-        0,
-        &[0, 0, 1, 0, b'H', b'I', b'.', b'C', b'O', b'M', 0, 0],
-    );
-    holds(
-        &rt,
-        "memory",
-        &machine,
-        0x0102,
-        0,
-        &[b'Z', 0x03, 0x01, 0xFD, 0x9E],
-    );
     let prefix = [
         0xCD, 0x20, 0x00, 0xA0, 0, 0, 0, 0, 0, 0, 0x88, 0x00, 0x00, 0xF0, 0x8C, 0x00, 0x00, 0xF0,
         0x90, 0x00, 0x00, 0xF0, 0, 0,
     ];
-    holds(&rt, "memory", &machine, 0x0103, 0, &prefix);
-    holds(&rt, "memory", &machine, 0x0103, 0x2C, &[0x01, 0x01]);
-    holds(&rt, "memory", &machine, 0x0108, 0, &[0xCD, 0x21, 0xCB, 0]);
-    holds(
-        &rt,
-        "memory",
-        &machine,
-        0x010B,
-        0,
-        &[2, b' ', b'a', 0x0D, 0],
-    );
-    holds(&rt, "memory", &machine, 0x0113, 0, &HELLO);
+    let rows: [(u16, u16, &[u8]); 9] = [
+        (0x0100, 0, &[b'M', 0x03, 0x01, 0x01, 0x00]),
+        (0x0101, 0, b"\0\0\x01\0HI.COM\0\0"),
+        (0x0102, 0, &[b'Z', 0x03, 0x01, 0xFD, 0x9E]),
+        (0x0103, 0, &prefix),
+        (0x0103, 0x2C, &[0x01, 0x01]),
+        (0x0108, 0, &[0xCD, 0x21, 0xCB, 0]),
+        (0x010B, 0, b"\x02 a\r\0"),
+        (0x0113, 0, &HELLO),
+        (0x0103, 0xFFFE, &[0, 0]),
+    ];
+    for (segment, offset, bytes) in rows {
+        holds(&rt, "memory", &machine, segment, offset, bytes);
+    }
     let cpu = machine.cpu();
     same(
         &rt,
@@ -163,7 +152,6 @@ fn hello_is_loaded_byte_by_byte(rt: HostRuntime) -> Result<(), Fail> {
     );
     same(&rt, "IP, SP", [cpu.ip, cpu.sp], [0x0100, 0xFFFE]);
     same(&rt, "FLAGS", cpu.flags.to_word(), 0xF202);
-    holds(&rt, "memory", &machine, 0x0103, 0xFFFE, &[0, 0]);
     Ok(())
 }
 

@@ -4,7 +4,5 @@
 mod arguments;
 pub mod command_line;
 pub mod parse;
-#[cfg(test)]
-mod tests;
 
 pub use parse::options;

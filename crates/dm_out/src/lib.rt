@@ -2,8 +2,6 @@
 #![tactic(auto)]
 
 pub mod adapter;
-#[cfg(test)]
-mod tests;
 pub mod writer;
 
 pub use adapter::Sink;

@@ -30,6 +30,3 @@ pub use parent::{Ending, Parent};
 pub use procs::Procs;
 pub use programs::{AddError, Programs};
 pub use refusal::{ArenaDestroyed, Refusal};
-
-#[cfg(test)]
-mod tests;

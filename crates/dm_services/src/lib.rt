@@ -24,6 +24,3 @@ pub use laws::{services_have_one_answer, services_ignore_unseen, services_keep_r
 pub use parts::Parts;
 pub use services::{Service, service_at};
 pub use stop::Stop;
-
-#[cfg(test)]
-mod tests;

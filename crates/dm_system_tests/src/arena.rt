@@ -1,0 +1,270 @@
+//! Arena calls of a program with its prefix at 0103h, whose environment stands at 0101h.
+
+use crate::checks::same;
+use dm_arena::{
+    Entry, Header, Refusal, Step, Strategy, allocate, free, free_all, plan_pair, resize, walk,
+    write_pair,
+};
+use dm_space::Space;
+use std::process::Abort;
+use std::test::Fail;
+
+const OWNER: u16 = 0x103;
+
+fn entry(last: bool, segment: u16, owner: u16, size: u16) -> Entry {
+    let header = Header {
+        segment,
+        owner,
+        size,
+    };
+    Entry { header, last }
+}
+
+fn set_header(space: &mut Space, entry: Entry) {
+    let segment = entry.header.segment;
+    space.poke(segment, 0, if entry.last { b'Z' } else { b'M' });
+    space.poke16(segment, 1, entry.header.owner);
+    space.poke16(segment, 3, entry.header.size);
+}
+
+/// Compares the bytes of a header.
+fn stands(rt: &impl Abort, space: &Space, entry: Entry) {
+    let Header {
+        segment,
+        owner,
+        size,
+    } = entry.header;
+    let signature = if entry.last { b'Z' } else { b'M' };
+    same(rt, "signature", space.peek(segment, 0), signature);
+    same(rt, "owner", space.peek16(segment, 1), owner);
+    same(rt, "size", space.peek16(segment, 3), size);
+}
+
+/// A program that was given all of memory.
+fn loaded(space: &mut Space) {
+    set_header(space, entry(false, 0x100, OWNER, 1));
+    set_header(space, entry(true, 0x102, OWNER, 0x9EFD));
+}
+
+/// The same, once its block is resized to 1000h paragraphs.
+fn shrunk(space: &mut Space) -> Result<(), Refusal> {
+    loaded(space);
+    resize(space, OWNER, 0x1000)
+}
+
+#[test]
+fn first_header_holds_all_of_memory(rt: HostRuntime) -> Result<(), Fail> {
+    let space = Space::new(rt.alloc())?;
+    stands(&rt, &space, entry(true, 0x100, 0, 0x9EFF));
+    Ok(())
+}
+
+#[test]
+fn resized_block_leaves_the_rest_free(rt: HostRuntime) -> Result<(), Fail> {
+    let mut space = Space::new(rt.alloc())?;
+    loaded(&mut space);
+    same(
+        &rt,
+        "allocate",
+        allocate(&mut space, Strategy::First, 0xFFFF, OWNER),
+        Err(Refusal::Short { largest: 0 }),
+    );
+    same(&rt, "resize", resize(&mut space, OWNER, 0x1000), Ok(()));
+    stands(&rt, &space, entry(true, 0x1103, 0, 0x8EFC));
+    same(
+        &rt,
+        "allocate",
+        allocate(&mut space, Strategy::First, 0xFFFF, OWNER),
+        Err(Refusal::Short { largest: 0x8EFC }),
+    );
+    Ok(())
+}
+
+#[test]
+fn block_grows_back_over_the_rest(rt: HostRuntime) -> Result<(), Fail> {
+    let mut space = Space::new(rt.alloc())?;
+    same(&rt, "shrunk", shrunk(&mut space), Ok(()));
+    same(
+        &rt,
+        "resize",
+        resize(&mut space, OWNER, 0x9EFE),
+        Err(Refusal::Short { largest: 0x9EFD }),
+    );
+    stands(&rt, &space, entry(true, 0x1103, 0, 0x8EFC));
+    same(&rt, "resize", resize(&mut space, OWNER, 0x9EFD), Ok(()));
+    stands(&rt, &space, entry(true, 0x102, OWNER, 0x9EFD));
+    Ok(())
+}
+
+#[test]
+fn rest_of_a_block_may_be_empty(rt: HostRuntime) -> Result<(), Fail> {
+    // paragraphs asked for, the header that is then the last one
+    let rows = [
+        (0x8EFB, entry(true, 0x9FFF, 0, 0)),
+        (0x8EFC, entry(true, 0x1103, OWNER, 0x8EFC)),
+        (0, entry(true, 0x1104, 0, 0x8EFB)),
+    ];
+    for (n, last) in rows {
+        let mut space = Space::new(rt.alloc())?;
+        same(&rt, "shrunk", shrunk(&mut space), Ok(()));
+        same(
+            &rt,
+            "allocate",
+            allocate(&mut space, Strategy::First, n, OWNER),
+            Ok(0x1104),
+        );
+        stands(&rt, &space, last);
+    }
+    Ok(())
+}
+
+#[test]
+fn strategies_take_other_blocks(rt: HostRuntime) -> Result<(), Fail> {
+    let rows = [
+        (Strategy::First, 0x1104),
+        (Strategy::Best, 0x1117),
+        (Strategy::Last, 0x111A),
+    ];
+    for (strategy, segment) in rows {
+        let mut space = Space::new(rt.alloc())?;
+        same(&rt, "shrunk", shrunk(&mut space), Ok(()));
+        for (n, block) in [
+            (0x10, 0x1104),
+            (1, 0x1115),
+            (8, 0x1117),
+            (1, 0x1120),
+            (0x8EDE, 0x1122),
+        ] {
+            same(
+                &rt,
+                "allocate",
+                allocate(&mut space, Strategy::First, n, OWNER),
+                Ok(block),
+            );
+        }
+        same(&rt, "free", free(&mut space, 0x1104), Ok(()));
+        same(&rt, "free", free(&mut space, 0x1117), Ok(()));
+        same(
+            &rt,
+            "allocate",
+            allocate(&mut space, strategy, 5, OWNER),
+            Ok(segment),
+        );
+    }
+    Ok(())
+}
+
+#[test]
+fn nothing_is_freed_inside_a_block(rt: HostRuntime) -> Result<(), Fail> {
+    let mut space = Space::new(rt.alloc())?;
+    same(&rt, "shrunk", shrunk(&mut space), Ok(()));
+    same(
+        &rt,
+        "allocate",
+        allocate(&mut space, Strategy::First, 0x10, OWNER),
+        Ok(0x1104),
+    );
+    space.poke(0x1104, 0, b'M');
+    same(&rt, "free", free(&mut space, 0x1105), Err(Refusal::NoBlock));
+    same(&rt, "free", free(&mut space, 0), Err(Refusal::NoBlock));
+    Ok(())
+}
+
+#[test]
+fn broken_signature_destroys_the_arena(rt: HostRuntime) -> Result<(), Fail> {
+    let mut space = Space::new(rt.alloc())?;
+    loaded(&mut space);
+    space.poke(0x102, 0, 0);
+    same(
+        &rt,
+        "allocate",
+        allocate(&mut space, Strategy::First, 0, OWNER),
+        Err(Refusal::Destroyed),
+    );
+    same(
+        &rt,
+        "free",
+        free(&mut space, OWNER),
+        Err(Refusal::Destroyed),
+    );
+    same(
+        &rt,
+        "resize",
+        resize(&mut space, OWNER, 0),
+        Err(Refusal::Destroyed),
+    );
+    same(
+        &rt,
+        "free_all",
+        free_all(&mut space, OWNER),
+        Err(Refusal::Destroyed),
+    );
+    same(&rt, "byte in memory", space.peek(0x102, 0), 0);
+    let mut headers = walk(&space);
+    same(
+        &rt,
+        "advance",
+        headers.advance(),
+        Step::Told(entry(false, 0x100, OWNER, 1)),
+    );
+    same(&rt, "advance", headers.advance(), Step::Destroyed(0x102));
+    same(&rt, "advance", headers.advance(), Step::Destroyed(0x102));
+    Ok(())
+}
+
+#[test]
+fn ended_program_leaves_free_blocks(rt: HostRuntime) -> Result<(), Fail> {
+    let mut space = Space::new(rt.alloc())?;
+    loaded(&mut space);
+    same(&rt, "free_all", free_all(&mut space, OWNER), Ok(()));
+    let mut headers = walk(&space);
+    same(
+        &rt,
+        "advance",
+        headers.advance(),
+        Step::Told(entry(false, 0x100, 0, 1)),
+    );
+    same(
+        &rt,
+        "advance",
+        headers.advance(),
+        Step::Told(entry(true, 0x102, 0, 0x9EFD)),
+    );
+    same(&rt, "advance", headers.advance(), Step::End);
+    same(&rt, "advance", headers.advance(), Step::End);
+    same(
+        &rt,
+        "allocate",
+        allocate(&mut space, Strategy::Last, 0x9EFF, 7),
+        Ok(0x101),
+    );
+    Ok(())
+}
+
+#[test]
+fn two_blocks_share_what_is_left(rt: HostRuntime) -> Result<(), Fail> {
+    let mut space = Space::new(rt.alloc())?;
+    same(&rt, "shrunk", shrunk(&mut space), Ok(()));
+    // environment, least, most
+    for (environment, least, most) in [
+        (1, 0x8EFB, 0xFFFF),
+        (0xFFFF, 0, 0),
+        (1, 0x1_0000, 0x2_0000),
+    ] {
+        let refusal = plan_pair(&space, Strategy::First, environment, least, most).err();
+        same(
+            &rt,
+            "refusal",
+            refusal,
+            Some(Refusal::Short { largest: 0x8EFC }),
+        );
+    }
+    let pair = plan_pair(&space, Strategy::First, 1, 0x20, 0xFFFF).expect(&rt, "there is room");
+    same(&rt, "environment", pair.environment(), 0x1104);
+    same(&rt, "program", pair.program(), 0x1106);
+    same(&rt, "size", pair.size(), 0x8EFA);
+    write_pair(&mut space, pair);
+    stands(&rt, &space, entry(false, 0x1103, 0x1106, 1));
+    stands(&rt, &space, entry(true, 0x1105, 0x1106, 0x8EFA));
+    Ok(())
+}

@@ -1,0 +1,24 @@
+//! Room, output and input in turn.
+use crate::checks::same;
+use dm_console::Console;
+use std::test::Fail;
+
+#[test]
+fn room_is_taken_byte_by_byte(rt: HostRuntime) -> Result<(), Fail> {
+    let mut input = Vec::new(rt.alloc());
+    input.push(b'x')?;
+    let mut console = Console::new(rt.alloc(), input);
+    console.reserve(0)?;
+    same(&rt, "room", console.room(), 0);
+    console.reserve(2)?;
+    console.reserve(1)?;
+    same(&rt, "room", console.room(), 2);
+    console.put(b'h');
+    same(&rt, "room", console.room(), 1);
+    same(&rt, "output", console.output(), b"h".as_slice());
+    same(&rt, "input left", console.left(), 1);
+    same(&rt, "next", console.next(), Some(b'x'));
+    same(&rt, "next", console.next(), None);
+    same(&rt, "input left", console.left(), 0);
+    Ok(())
+}

@@ -1,0 +1,24 @@
+//! Worked rows of what lies around the processor: memory, arena, files, console, processes,
+//! services, and the program's words and writers.
+//!
+//! They stand apart from the crates that they try, since a crate with tests is proved twice.
+#![tactic(auto)]
+
+#[cfg(test)]
+mod arena;
+#[cfg(test)]
+mod checks;
+#[cfg(test)]
+mod console;
+#[cfg(test)]
+mod files;
+#[cfg(test)]
+mod options;
+#[cfg(test)]
+mod processes;
+#[cfg(test)]
+mod services;
+#[cfg(test)]
+mod space;
+#[cfg(test)]
+mod writers;

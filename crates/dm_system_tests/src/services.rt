@@ -1,0 +1,431 @@
+//! What calls of INT 21h answer, worked by hand from the manual.
+ghost use Rattle.std.specs.Prelude.{IfOk};
+ghost use Rattle.dm_services.specs.State.{HasProgram};
+
+use arrayvec::ArrayVec;
+use dm_arena::Strategy;
+use dm_console::Console;
+use dm_load::Image;
+use dm_proc::{Arguments, Procs, Programs};
+use dm_services::{Parts, Service, Sizes};
+use dm_space::Space;
+use std::alloc::Global;
+use std::process::Abort;
+use std::test::Fail;
+
+/// The segment of the program's prefix, and of its code, data and stack.
+const SEGMENT: u16 = 0x0103;
+
+/// INT 21h
+const CALL: [u8; 2] = [0xCD, 0x21];
+
+/// A program that has started.
+fn started(alloc: Global) -> Result<Parts, Fail>
+    ensures { IfOk result (λ p. HasProgram p) }
+{
+    let mut space = Space::new(alloc)?;
+    let image = Image::of(CALL.as_slice())?;
+    let arguments = Arguments {
+        tail: ArrayVec::new(),
+        first: [0; 16],
+        second: [0; 16],
+    };
+    let first = Strategy::First;
+    let (procs, cpu) = Procs::load(&mut space, first, &image, b"", b"HI.COM", &arguments)?;
+    Ok(Parts {
+        cpu,
+        space,
+        console: Console::new(alloc, Vec::new(alloc)),
+        procs,
+        strategy: first,
+        exited: None,
+        steps: 0,
+        programs: Programs::new(alloc),
+        variables: Vec::new(alloc),
+        sizes: Sizes {
+            ems_pages: 64,
+            xms_kib: 1024,
+        },
+    })
+}
+
+/// Stands at the service of the program's INT 21h, with this input, no output, CF and ZF as told,
+/// and these AX, BX, CX and DX.
+fn ask(
+    parts: &mut Parts,
+    alloc: Global,
+    input: &[u8],
+    registers: [u16; 4],
+    flag: bool,
+) -> Result<(), Fail>
+    requires { HasProgram parts.old }
+    ensures { HasProgram parts.new }
+{
+    parts.console = Console::new(alloc, Vec::from_slice(alloc, input)?);
+    let flags = if flag { 0xF043 } else { 0xF002 };
+    parts.space.poke16(SEGMENT, 0xFFF8, 0x0102);
+    parts.space.poke16(SEGMENT, 0xFFFA, SEGMENT);
+    parts.space.poke16(SEGMENT, 0xFFFC, flags);
+    let cpu = &mut parts.cpu;
+    cpu.cs = 0xF000;
+    cpu.ip = 0x0084;
+    cpu.sp = 0xFFF8;
+    [cpu.ax, cpu.bx, cpu.cx, cpu.dx] = registers;
+    Ok(())
+}
+
+/// One call, and what it leaves.
+#[derive(Clone, Copy)]
+struct Row<'a> {
+    name: &'a str,
+    input: &'a [u8],
+    /// AX, BX, CX, DX.
+    asked: [u16; 4],
+    answered: [u16; 4],
+    /// CF, ZF; None where the flag stays.
+    flags: [Option<bool>; 2],
+    /// How many bytes of the input are left.
+    left: usize,
+    output: &'a [u8],
+}
+
+/// Makes a row's call with CF and ZF as told, and compares what it leaves.
+fn leaves_with(
+    rt: &impl Abort,
+    alloc: Global,
+    parts: &mut Parts,
+    row: &Row,
+    flag: bool,
+) -> Result<(), Fail>
+    requires { HasProgram parts.old }
+    ensures { HasProgram parts.new }
+{
+    let Row { name, .. } = *row;
+    ask(parts, alloc, row.input, row.asked, flag)?;
+    let steps = parts.steps;
+    assert_eq!(rt; parts.serve(Service::Dos), None, "{name}: stop");
+    assert_eq!(rt; parts.steps, steps.saturating_add(1), "{name}: steps");
+    let cpu = parts.cpu;
+    assert_eq!(rt;
+        [cpu.ax, cpu.bx, cpu.cx, cpu.dx],
+        row.answered,
+        "{name}: AX, BX, CX, DX"
+    );
+    assert_eq!(rt;
+        [cpu.flags.carry, cpu.flags.zero],
+        [row.flags[0].unwrap_or(flag), row.flags[1].unwrap_or(flag)],
+        "{name}: CF, ZF"
+    );
+    assert_eq!(rt;
+        [cpu.sp, cpu.cs, cpu.ip],
+        [0xFFFE, SEGMENT, 0x0102],
+        "{name}: SP, CS, IP"
+    );
+    assert_eq!(rt; parts.console.left(), row.left, "{name}: input left");
+    assert_eq!(rt; parts.console.output(), row.output, "{name}: output");
+    assert_eq!(rt; parts.console.room(), 0, "{name}: room");
+    Ok(())
+}
+
+/// Makes a row's call, with CF and ZF clear before it and with both set, and compares what it leaves.
+fn leaves(rt: &impl Abort, alloc: Global, parts: &mut Parts, row: &Row) -> Result<(), Fail>
+    requires { HasProgram parts.old }
+    ensures { HasProgram parts.new }
+{
+    leaves_with(rt, alloc, parts, row, false)?;
+    leaves_with(rt, alloc, parts, row, true)
+}
+
+#[test]
+fn single_bytes(rt: HostRuntime) -> Result<(), Fail> {
+    let row = Row {
+        name: "",
+        input: b"xy",
+        asked: [0, 0, 0, 0],
+        answered: [0, 0, 0, 0],
+        flags: [None, None],
+        left: 2,
+        output: b"",
+    };
+    let rows = [
+        Row {
+            name: "01h",
+            asked: [0x0100, 0, 0, 0],
+            answered: [0x0178, 0, 0, 0],
+            left: 1,
+            output: b"x",
+            ..row
+        },
+        Row {
+            name: "02h",
+            asked: [0x0200, 0, 0, 0x2441],
+            answered: [0x0200, 0, 0, 0x2441],
+            output: b"A",
+            ..row
+        },
+        Row {
+            name: "06h with a byte",
+            asked: [0x0600, 0, 0, 0x0061],
+            answered: [0x0600, 0, 0, 0x0061],
+            output: b"a",
+            ..row
+        },
+        Row {
+            name: "06h with DL = FFh",
+            asked: [0x0600, 0, 0, 0x00FF],
+            answered: [0x0678, 0, 0, 0x00FF],
+            flags: [None, Some(false)],
+            left: 1,
+            ..row
+        },
+        Row {
+            name: "06h with DL = FFh and no input",
+            input: b"",
+            asked: [0x0655, 0, 0, 0x00FF],
+            answered: [0x0600, 0, 0, 0x00FF],
+            flags: [None, Some(true)],
+            left: 0,
+            ..row
+        },
+        Row {
+            name: "07h",
+            asked: [0x0700, 0, 0, 0],
+            answered: [0x0778, 0, 0, 0],
+            left: 1,
+            ..row
+        },
+        Row {
+            name: "08h",
+            asked: [0x0800, 0, 0, 0],
+            answered: [0x0878, 0, 0, 0],
+            left: 1,
+            ..row
+        },
+        Row {
+            name: "0Bh",
+            asked: [0x0B00, 0, 0, 0],
+            answered: [0x0BFF, 0, 0, 0],
+            ..row
+        },
+        Row {
+            name: "0Bh and no input",
+            input: b"",
+            asked: [0x0B55, 0, 0, 0],
+            answered: [0x0B00, 0, 0, 0],
+            left: 0,
+            ..row
+        },
+    ];
+    let mut parts = started(rt.alloc())?;
+    for row in &rows {
+        leaves(&rt, rt.alloc(), &mut parts, row)?;
+    }
+    Ok(())
+}
+
+#[test]
+fn flush_and_read(rt: HostRuntime) -> Result<(), Fail> {
+    let row = Row {
+        name: "",
+        input: b"xy",
+        asked: [0, 0, 0, 0],
+        answered: [0, 0, 0, 0],
+        flags: [None, None],
+        left: 2,
+        output: b"",
+    };
+    let rows = [
+        Row {
+            name: "0Ch of 01h",
+            asked: [0x0C01, 0, 0, 0],
+            answered: [0x0C78, 0, 0, 0],
+            left: 1,
+            output: b"x",
+            ..row
+        },
+        Row {
+            name: "0Ch of 06h, no input",
+            input: b"",
+            asked: [0x0C06, 0, 0, 0x00FF],
+            answered: [0x0C00, 0, 0, 0x00FF],
+            flags: [None, Some(true)],
+            left: 0,
+            ..row
+        },
+        Row {
+            name: "0Ch of 06h, for a byte",
+            asked: [0x0C06, 0, 0, 0x00FF],
+            answered: [0x0C78, 0, 0, 0x00FF],
+            flags: [None, Some(false)],
+            left: 1,
+            ..row
+        },
+        Row {
+            name: "0Ch of 06h, with a byte",
+            asked: [0x0C06, 0, 0, 0x0061],
+            answered: [0x0C06, 0, 0, 0x0061],
+            output: b"a",
+            ..row
+        },
+        Row {
+            name: "0Ch of 07h",
+            asked: [0x0C07, 0, 0, 0],
+            answered: [0x0C78, 0, 0, 0],
+            left: 1,
+            ..row
+        },
+        Row {
+            name: "0Ch of 08h",
+            asked: [0x0C08, 0, 0, 0],
+            answered: [0x0C78, 0, 0, 0],
+            left: 1,
+            ..row
+        },
+        Row {
+            name: "0Ch of 0Ah, for no byte",
+            asked: [0x0C0A, 0, 0, 0x0200],
+            answered: [0x0C0A, 0, 0, 0x0200],
+            ..row
+        },
+        Row {
+            name: "0Ch of 02h",
+            asked: [0x0C02, 0, 0, 0x0041],
+            answered: [0x0C00, 0, 0, 0x0041],
+            ..row
+        },
+    ];
+    let mut parts = started(rt.alloc())?;
+    for row in &rows {
+        leaves(&rt, rt.alloc(), &mut parts, row)?;
+    }
+    Ok(())
+}
+
+#[test]
+fn handles_and_small_calls(rt: HostRuntime) -> Result<(), Fail> {
+    let row = Row {
+        name: "",
+        input: b"xyz",
+        asked: [0, 0, 0, 0],
+        answered: [0, 0, 0, 0],
+        flags: [None, None],
+        left: 3,
+        output: b"",
+    };
+    let rows = [
+        Row {
+            name: "3Fh of handle 3 and no input",
+            input: b"",
+            asked: [0x3F00, 3, 5, 0x0200],
+            answered: [6, 3, 5, 0x0200],
+            flags: [Some(true), None],
+            left: 0,
+            ..row
+        },
+        Row {
+            name: "3Fh and no input",
+            input: b"",
+            asked: [0x3F00, 0, 5, 0x0200],
+            answered: [0, 0, 5, 0x0200],
+            flags: [Some(false), None],
+            left: 0,
+            ..row
+        },
+        Row {
+            name: "3Fh of two bytes",
+            asked: [0x3F00, 2, 2, 0x0200],
+            answered: [2, 2, 2, 0x0200],
+            flags: [Some(false), None],
+            left: 1,
+            ..row
+        },
+        Row {
+            name: "3Fh of more than is left",
+            asked: [0x3F00, 0, 0xFFFF, 0x0200],
+            answered: [3, 0, 0xFFFF, 0x0200],
+            flags: [Some(false), None],
+            left: 0,
+            ..row
+        },
+        Row {
+            name: "3Fh of handle 3",
+            asked: [0x3F00, 3, 5, 0x0200],
+            answered: [6, 3, 5, 0x0200],
+            flags: [Some(true), None],
+            ..row
+        },
+        Row {
+            name: "3Fh of handle 4",
+            asked: [0x3F00, 4, 5, 0x0200],
+            answered: [6, 4, 5, 0x0200],
+            flags: [Some(true), None],
+            ..row
+        },
+        Row {
+            name: "40h of no byte",
+            asked: [0x4000, 1, 0, 0x0100],
+            answered: [0, 1, 0, 0x0100],
+            flags: [Some(false), None],
+            ..row
+        },
+        Row {
+            name: "40h to handle 0",
+            asked: [0x4000, 0, 2, 0x0100],
+            answered: [2, 0, 2, 0x0100],
+            flags: [Some(false), None],
+            output: &[0xCD, 0x21],
+            ..row
+        },
+        Row {
+            name: "40h to handle 2, from the segment's end",
+            asked: [0x4000, 2, 2, 0xFFFF],
+            answered: [2, 2, 2, 0xFFFF],
+            flags: [Some(false), None],
+            output: &[0, 0xCD],
+            ..row
+        },
+        Row {
+            name: "40h to handle 3",
+            asked: [0x4000, 3, 2, 0x0100],
+            answered: [6, 3, 2, 0x0100],
+            flags: [Some(true), None],
+            ..row
+        },
+        Row {
+            name: "40h to handle 4",
+            asked: [0x4000, 4, 2, 0x0100],
+            answered: [6, 4, 2, 0x0100],
+            flags: [Some(true), None],
+            ..row
+        },
+        Row {
+            name: "30h",
+            asked: [0x3000, 7, 7, 7],
+            answered: [0x0005, 0, 0, 7],
+            ..row
+        },
+        Row {
+            name: "51h",
+            asked: [0x5100, 0, 0, 0],
+            answered: [0x5100, SEGMENT, 0, 0],
+            ..row
+        },
+        Row {
+            name: "62h",
+            asked: [0x6200, 0, 0, 0],
+            answered: [0x6200, SEGMENT, 0, 0],
+            ..row
+        },
+        Row {
+            name: "35h of 21h",
+            asked: [0x3521, 0, 0, 0],
+            answered: [0x3521, 0x0084, 0, 0],
+            ..row
+        },
+    ];
+    let mut parts = started(rt.alloc())?;
+    for row in &rows {
+        leaves(&rt, rt.alloc(), &mut parts, row)?;
+    }
+    Ok(())
+}

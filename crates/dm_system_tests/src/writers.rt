@@ -1,0 +1,54 @@
+//! The adapter over a standard writer that takes one byte a write and fails from a given write on.
+use dm_out::{Failed, Sink, write_all};
+use std::io;
+use std::io::Write;
+use std::test::Fail;
+
+/// Takes one byte a write, fails once `left` writes were made, or, where `refuses`, takes nothing from then on.
+#[derive(Drop)]
+struct Slow<'a> {
+    taken: &'a mut Vec<u8>,
+    left: usize,
+    refuses: bool,
+}
+
+impl Write for Slow<'_> {
+    fn write(&mut self, buf: &[u8]) -> io::Result<usize> {
+        let [first, ..] = buf else {
+            return Ok(0);
+        };
+        if self.left == 0 {
+            return match self.refuses {
+                true => Ok(0),
+                false => Err(io::Error::from(io::ErrorKind::BrokenPipe)),
+            };
+        }
+        self.left -= 1;
+        self.taken.push(*first)?;
+        Ok(1)
+    }
+
+    fn flush(&mut self) -> io::Result<()> {
+        Ok(())
+    }
+}
+
+#[test]
+fn stops_at_each_failing_write(rt: HostRuntime) -> Result<(), Fail> {
+    let text = b"hello".as_slice();
+    for left in 0..7usize {
+        for refuses in [false, true] {
+            let mut taken = Vec::new(rt.alloc());
+            let mut sink = Sink::new(Slow {
+                taken: &mut taken,
+                left,
+                refuses,
+            });
+            let want = if left < 5 { Err(Failed) } else { Ok(()) };
+            assert_eq!(rt; write_all(&mut sink, text), want, "after {left} writes");
+            drop(sink);
+            assert_eq!(rt; Some(taken.as_slice()), text.get(..left.min(5)));
+        }
+    }
+    Ok(())
+}
