@@ -1,7 +1,10 @@
+//! Bytes and the instructions that they begin with, from the manual.
+
+use crate::operands::memory;
 use dm_decode::decode;
 use dm_ins::{
-    Action, Address, Base, ByteRegister, Mnemonic, Operand, Prefixes, Repeat, SegmentRegister,
-    Width, WordRegister, encode,
+    Action, Base, ByteRegister, Mnemonic, Operand, Prefixes, Repeat, SegmentRegister, Width,
+    WordRegister, encode,
 };
 use std::process::Abort;
 
@@ -281,10 +284,6 @@ fn check(
     assert_eq!(rt; length as usize, text.len());
     assert_eq!(rt; ins.prefixes, prefixes);
     assert_eq!(rt; ins.action, action);
-}
-
-fn memory(width: Width, base: Base, displacement: u16) -> Operand {
-    Operand::Memory(width, Address { base, displacement })
 }
 
 #[test]

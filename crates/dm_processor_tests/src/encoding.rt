@@ -1,12 +1,11 @@
+//! Instructions and the bytes that encoding prefers, from the manual.
+
+use crate::operands::memory;
 use dm_ins::{
-    Action, Address, Base, ByteRegister, Ins, Mnemonic, Operand, Prefixes, Repeat, SegmentRegister,
-    Width, WordRegister, encode,
+    Action, Base, ByteRegister, Ins, Mnemonic, Operand, Prefixes, Repeat, SegmentRegister, Width,
+    WordRegister, encode,
 };
 use std::process::Abort;
-
-fn memory(width: Width, base: Base, displacement: u16) -> Operand {
-    Operand::Memory(width, Address { base, displacement })
-}
 
 fn check(
     rt: &impl Abort,

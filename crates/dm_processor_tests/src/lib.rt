@@ -13,3 +13,4 @@ mod decoding;
 mod effects;
 #[cfg(test)]
 mod encoding;
+mod operands;

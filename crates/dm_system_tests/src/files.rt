@@ -1,8 +1,8 @@
 //! Small MZ files, good and bad.
 
 use crate::checks::same;
+use crate::programs::nops;
 use dm_load::{BadFormat, Image, Kind, kind};
-use std::alloc::{AllocError, Global};
 use std::test::Fail;
 
 /// A file of one page with 1Ch bytes in it, and a relocation table behind the header's 28 bytes.
@@ -76,11 +76,6 @@ fn relocation_wraps_at_65_536(rt: HostRuntime) -> Result<(), Fail> {
     same(&rt, "relocated byte", bytes[2], 0x03);
     same(&rt, "relocated byte", bytes[3], 0x01);
     Ok(())
-}
-
-/// As many NOPs as asked for. (A function of its own, so that no proof sees so long a list.)
-fn nops(alloc: Global, count: usize) -> Result<Vec<u8>, AllocError> {
-    vec![in alloc; 0x90; count]
 }
 
 #[test]

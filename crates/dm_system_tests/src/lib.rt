@@ -16,6 +16,7 @@ mod files;
 mod options;
 #[cfg(test)]
 mod processes;
+mod programs;
 #[cfg(test)]
 mod services;
 #[cfg(test)]
