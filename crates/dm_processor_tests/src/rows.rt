@@ -198,6 +198,7 @@ fn check_row(
 ) -> Result<(), Fail> {
     let (bytes, before, after) = parts(row)?;
     let (ins, length) = instruction(bytes)?;
+    same(rt, row, length as usize, bytes.split_whitespace().count());
     let (mut cpu, mut wanted) = (START, START);
     set_all(&mut cpu, space, before)?;
     set_all(&mut wanted, wanted_space, before)?;
