@@ -136,20 +136,37 @@ fn clear(space: &mut Space, changes: &str) -> Result<(), Fail> {
     Ok(())
 }
 
-/// Compares the bytes that the rows of a text name.
+/// Compares the bytes that the changes name.
 fn compare_named(
+    rt: &impl Abort,
+    row: &str,
+    changes: &str,
+    one: &Space,
+    other: &Space,
+) -> Result<(), Fail> {
+    for change in changes.split_whitespace() {
+        for byte in bytes_of(change)? {
+            if let Some((segment, offset, _)) = byte {
+                let (found, wanted) = (one.peek(segment, offset), other.peek(segment, offset));
+                same(rt, row, (segment, offset, found), (segment, offset, wanted));
+            }
+        }
+    }
+    Ok(())
+}
+
+/// Compares the bytes that the rows of a text name; `row` is the one that was tried.
+fn compare_all(
     rt: &impl Abort,
     row: &str,
     rows: &str,
     one: &Space,
     other: &Space,
 ) -> Result<(), Fail> {
-    for change in rows.split_whitespace().filter(|word| word.contains('=')) {
-        for byte in bytes_of(change)? {
-            if let Some((segment, offset, _)) = byte {
-                let (found, wanted) = (one.peek(segment, offset), other.peek(segment, offset));
-                same(rt, row, (segment, offset, found), (segment, offset, wanted));
-            }
+    for line in rows.lines() {
+        if is_row(line) {
+            compare_named(rt, row, part(line, 2)?, one, other)?;
+            compare_named(rt, row, part(line, 3)?, one, other)?;
         }
     }
     Ok(())
@@ -179,12 +196,14 @@ fn instruction(bytes: &str) -> Result<(Ins, u8), Fail> {
     Ok((ins, length))
 }
 
-/// The parts of a row: its bytes, what is set before, and what changes.
-fn parts(row: &str) -> Result<(&str, &str, &str), Fail> {
-    let (_name, rest) = row.split_once('|').ok_or("no bytes")?;
-    let (bytes, rest) = rest.split_once('|').ok_or("nothing before")?;
-    let (before, after) = rest.split_once('|').ok_or("nothing after")?;
-    Ok((bytes, before, after))
+/// A part of a row: 0 its name, 1 its bytes, 2 what is set before, 3 what changes.
+fn part(row: &str, number: usize) -> Result<&str, Fail> {
+    Ok(row.split('|').nth(number).ok_or("a part is missing")?)
+}
+
+/// Whether a line of a text is a row, and no comment.
+fn is_row(line: &str) -> bool {
+    !line.starts_with('#')
 }
 
 /// Tries a row of a text. Both memories are as all rows find them, and are so again afterwards but for
@@ -196,7 +215,7 @@ fn check_row(
     space: &mut Space,
     wanted_space: &mut Space,
 ) -> Result<(), Fail> {
-    let (bytes, before, after) = parts(row)?;
+    let (bytes, before, after) = (part(row, 1)?, part(row, 2)?, part(row, 3)?);
     let (ins, length) = instruction(bytes)?;
     same(rt, row, length as usize, bytes.split_whitespace().count());
     let (mut cpu, mut wanted) = (START, START);
@@ -207,7 +226,7 @@ fn check_row(
     let goes_on = exec(&mut cpu, space, &ins, length) == Next::Go;
     same(rt, row, goes_on, ins.action.mnemonic != Mnemonic::Hlt);
     same(rt, row, cpu, wanted);
-    compare_named(rt, row, rows, space, wanted_space)?;
+    compare_all(rt, row, rows, space, wanted_space)?;
     for changes in [before, after] {
         clear(space, changes)?;
         clear(wanted_space, changes)?;
@@ -220,8 +239,10 @@ fn check_row(
 pub(crate) fn check(rt: &impl Abort, alloc: Global, rows: &str) -> Result<(), Fail> {
     let mut space = Space::new(alloc)?;
     let mut wanted = Space::new(alloc)?;
-    for row in rows.lines().filter(|row| !row.starts_with('#')) {
-        check_row(rt, row, rows, &mut space, &mut wanted)?;
+    for row in rows.lines() {
+        if is_row(row) {
+            check_row(rt, row, rows, &mut space, &mut wanted)?;
+        }
     }
     same(
         rt,
@@ -234,11 +255,12 @@ pub(crate) fn check(rt: &impl Abort, alloc: Global, rows: &str) -> Result<(), Fa
 
 /// Notes each mnemonic of a text that was not seen before.
 pub(crate) fn note(seen: &mut Vec<Mnemonic>, rows: &str) -> Result<(), Fail> {
-    for row in rows.lines().filter(|row| !row.starts_with('#')) {
-        let (bytes, _, _) = parts(row)?;
-        let (ins, _) = instruction(bytes)?;
-        if !seen.contains(&ins.action.mnemonic) {
-            seen.push(ins.action.mnemonic)?;
+    for row in rows.lines() {
+        if is_row(row) {
+            let (ins, _) = instruction(part(row, 1)?)?;
+            if !seen.contains(&ins.action.mnemonic) {
+                seen.push(ins.action.mnemonic)?;
+            }
         }
     }
     Ok(())
