@@ -13,4 +13,7 @@ mod decoding;
 mod effects;
 #[cfg(test)]
 mod encoding;
+#[cfg(test)]
 mod operands;
+#[cfg(test)]
+mod rows;

@@ -1,6 +1,6 @@
--- The search of the rows that finds the least spelling: which bytes each row has for some operands,
--- with the shortest displacement, and which of several is the least. This is how it is found, and no
--- part of what is promised: the contracts of `encode` and `Ins::new` speak of the spelling alone.
+-- Only for the search of the rows that finds the least spelling, and no part of what is promised: the contracts of
+-- `encode` and `Ins::new` speak of the spelling alone (Spelling.antt, Ins.antt). Which bytes each row has for some
+-- operands, with the shortest displacement, and which of several is the least.
 use Rattle.std.specs.Prelude.{◌^◌, ◌≡◌, ℕ, ◌+◌, ◌*◌, ◌/◌, ◌%◌, ◌<◌, Bool, true, false, List, [], ◌∷◌, ◌++◌, Option, Some, None, IfSome, IsSomeAnd, ◌==◌, if◌then◌else◌}
 use Rattle.dm_ins.specs.declared.operand.Width.{Width}
 use Rattle.dm_ins.specs.declared.operand.Width.TheVariants.{Byte, Word}
@@ -30,7 +30,7 @@ use Rattle.dm_ins.specs.Registers.{word_number, byte_number, segment_number}
 use Rattle.dm_ins.specs.Table.{entry_of, member_of}
 use Rattle.dm_ins.specs.Spelling.{word, extended}
 use Rattle.dm_ins.specs.Order.{before}
-use Rattle.dm_ins.specs.Steps.{◌>>=◌}
+use Rattle.dm_ins.specs.Walks.{◌>>=◌}
 
 -- the r/m field of an address (6 for a direct one)
 abbrev pub rm_of : Base → ℕ
