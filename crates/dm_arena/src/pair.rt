@@ -1,7 +1,7 @@
 //! Two blocks planned and written together: the environment of a program, and the program's own.
 ghost use Rattle.std.specs.Prelude.{◌≡◌, ◌≤◌, ◌<◌, ◌⊎◌, min, MatchBool, MatchOption, MatchResult};
 ghost use Rattle.dm_arena.specs.Chain.{first_header, next, Becomes};
-ghost use Rattle.dm_arena.specs.Blocks.{rest_of};
+ghost use Rattle.dm_arena.specs.Walks.{rest_of};
 ghost use Rattle.dm_arena.specs.Pair.{paired, IsPair, IsPlannedOn, PairRefused};
 
 use crate::cut::{Cut, cut_of, is_clear_cut, taken_of, write_cut};
@@ -27,7 +27,7 @@ pub struct Pair {
 }
 
 impl Model for Pair {
-    ghost use Rattle.dm_arena.specs.Joins.{cut_list};
+    ghost use Rattle.dm_arena.specs.Blocks.{cut_list};
     ghost use Rattle.dm_arena.specs.Pair.{Planned, IsCutFitting};
 
     ghost Value = { Planned };

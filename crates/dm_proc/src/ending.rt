@@ -2,11 +2,11 @@
 ghost use Rattle.std.specs.Prelude.{◌≡◌, ◌+◌};
 ghost use Rattle.dm_proc.specs.Processes.{Ends, Keeps, Terminates};
 
-use crate::block::write_from;
 use crate::parent::Ending;
 use crate::procs::Procs;
 use crate::psp::push_guest;
 use crate::refusal::ArenaDestroyed;
+use crate::writes::write_from;
 use arrayvec::ArrayVec;
 use dm_arena::{Refusal, free_all, resize};
 use dm_exec::Cpu;

@@ -1,6 +1,6 @@
 use Rattle.std.proofs.Common.{◌≡◌, ◌+◌, inr, sym, ◌∙◌, ap}
 use Rattle.dm_arena.specs.Chain.{first_header}
-use Rattle.dm_arena.specs.Reading.{IsSpelledFrom}
+use Rattle.dm_arena.specs.Walks.{IsSpelledFrom}
 use Rattle.dm_arena.specs.Blocks.{join, largest, taken}
 use Rattle.dm_arena.proofs.Choosing.{chosen, left-all}
 use Rattle.dm_arena.proofs.Allocating.{block_within, block_ends}
