@@ -58,7 +58,7 @@ impl Procs {
         else {
             return Err(Refusal::Environment);
         };
-        if plan(space, strategy, &program.image, environment_bytes).is_err() { let _present = self.psp(); } let pair = plan(space, strategy, &program.image, environment_bytes)?;
+        let pair = plan(space, strategy, &program.image, environment_bytes)?;
         if self.is_full() {
             return Err(Refusal::Short);
         }
