@@ -12,6 +12,7 @@ mod console;
 mod files;
 #[cfg(test)]
 mod options;
+#[cfg(test)]
 mod programs;
 #[cfg(test)]
 mod services;
