@@ -27,17 +27,20 @@ pub(crate) fn none() -> Arguments {
 /// An MZ file of a header of three paragraphs and one word, FFF0h, with two relocations of it.
 fn mz(minimum: u8, maximum: u8) -> [u8; 50] {
     let mut file = [0; 50];
-    file[0] = b'M';
-    file[1] = b'Z';
-    file[2] = 50;
-    file[4] = 1;
-    file[6] = 2;
-    file[8] = 3;
-    file[0x0A] = minimum;
-    file[0x0C] = maximum;
-    file[0x18] = 28;
-    file[0x30] = 0xF0;
-    file[0x31] = 0xFF;
+    for (at, byte) in [
+        (0, b'M'),
+        (1, b'Z'),
+        (2, 50),
+        (4, 1),
+        (6, 2),
+        (8, 3),
+        (0x18, 28),
+    ] {
+        file[at] = byte;
+    }
+    for (at, byte) in [(0x0A, minimum), (0x0C, maximum), (0x30, 0xF0), (0x31, 0xFF)] {
+        file[at] = byte;
+    }
     file
 }
 

@@ -138,6 +138,32 @@ fn mz(minimum: u16, maximum: u16) -> [u8; 34] {
     file
 }
 
+/// Loads an MZ program with this minimum and maximum where 100h paragraphs are left for its block; the
+/// block's size, and where the program starts.
+fn asks_for(
+    rt: &impl Abort,
+    alloc: Global,
+    asked: (u16, u16),
+    wanted: Result<u16, Refusal>,
+) -> Result<(), Fail> {
+    let mut space = Space::new(alloc)?;
+    let loaded = load(&mut space, &mz(asked.0, asked.1), 0x102).ok_or("the file is good")?;
+    let size = loaded.map(|_| space.peek16(PREFIX - 1, 3));
+    same(rt, "size", (asked, size), (asked, wanted));
+    if let Ok(cpu) = loaded {
+        let start = (cpu.cs, cpu.ip, cpu.ss, cpu.sp);
+        same(rt, "CS, IP, SS, SP", start, (0x116, 0x1234, 0x115, 0x40));
+        same(
+            rt,
+            "DS, ES, AX",
+            (cpu.ds, cpu.es, cpu.ax),
+            (PREFIX, PREFIX, 0),
+        );
+        same(rt, "image", space.peek16(0x113, 0), 0x21CD);
+    }
+    Ok(())
+}
+
 #[test]
 fn mz_programs_take_what_they_ask_for(rt: HostRuntime) -> Result<(), Fail> {
     // minimum, maximum, the block's size where 100h paragraphs are left for it; the prefix and the
@@ -158,26 +184,7 @@ fn mz_programs_take_what_they_ask_for(rt: HostRuntime) -> Result<(), Fail> {
         (0xFFFF, 0xFFFF, Err(Refusal::Short)),
     ];
     for (minimum, maximum, wanted) in rows {
-        let mut space = Space::new(rt.alloc())?;
-        let loaded = load(&mut space, &mz(minimum, maximum), 0x102).ok_or("the file is good")?;
-        let size = loaded.map(|_| space.peek16(PREFIX - 1, 3));
-        let asked = (minimum, maximum);
-        same(&rt, "size", (asked, size), (asked, wanted));
-        if let Ok(cpu) = loaded {
-            same(
-                &rt,
-                "CS, IP, SS, SP",
-                (cpu.cs, cpu.ip, cpu.ss, cpu.sp),
-                (0x116, 0x1234, 0x115, 0x40),
-            );
-            same(
-                &rt,
-                "DS, ES, AX",
-                (cpu.ds, cpu.es, cpu.ax),
-                (PREFIX, PREFIX, 0),
-            );
-            same(&rt, "image", space.peek16(0x113, 0), 0x21CD);
-        }
+        asks_for(&rt, rt.alloc(), (minimum, maximum), wanted)?;
     }
     Ok(())
 }

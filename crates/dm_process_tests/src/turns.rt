@@ -9,12 +9,20 @@ use dm_exec::Cpu;
 use dm_proc::{Ending, Procs, Programs, Refusal, overlay};
 use dm_space::Space;
 use std::alloc::Global;
+use std::process::Abort;
 use std::test::Fail;
 
-/// An MZ file of a header of two paragraphs and one word, that takes 11h paragraphs and one more.
-fn small() -> [u8; 34] {
+/// An MZ file of a header of two paragraphs and one word, that takes 10h paragraphs and so many more.
+fn small(maximum: u8) -> [u8; 34] {
     let mut file = [0; 34];
-    for (at, byte) in [(0, b'M'), (1, b'Z'), (2, 34), (4, 1), (8, 2), (0x0C, 1)] {
+    for (at, byte) in [
+        (0, b'M'),
+        (1, b'Z'),
+        (2, 34),
+        (4, 1),
+        (8, 2),
+        (0x0C, maximum),
+    ] {
         file[at] = byte;
     }
     file
@@ -23,7 +31,7 @@ fn small() -> [u8; 34] {
 /// A store with a small program, whose blocks leave room for more, and a file of 18 letters.
 fn store(alloc: Global) -> Result<Programs, Fail> {
     let mut programs = Programs::new(alloc);
-    programs.add(alloc, b"S", Vec::from_slice(alloc, &small())?)?;
+    programs.add(alloc, b"S", Vec::from_slice(alloc, &small(1))?)?;
     programs.add(alloc, b"L", Vec::from_slice(alloc, b"ABCDEFGHIJKLMNOPQR")?)?;
     Ok(programs)
 }
@@ -104,36 +112,43 @@ fn end(procs: &mut Procs, cpu: &mut Cpu, space: &mut Space, kept: Option<u16>) -
     }
 }
 
+/// Lets a child set the vectors 21h to 25h and end, with the block behind its own its parent's: the
+/// three between come back. Compares the owner and the size of its block, and its word.
+fn ends(
+    rt: &impl Abort,
+    alloc: Global,
+    programs: &Programs,
+    kept: Option<u16>,
+    wanted: (u16, u16, u16),
+) -> Result<(), Fail> {
+    let mut space = Space::new(alloc)?;
+    let (mut procs, mut cpu) = asking(&mut space).ok_or("there is room")?;
+    put(&mut space, 0, 0x88, b"0123456789AB");
+    let answer = procs.exec(&mut cpu, &mut space, programs, Strategy::First);
+    same(rt, "answer", answer, Ok(()));
+    put(&mut space, 0, 0x84, b"abcdefghijklmnopqrst");
+    space.poke16(0x1118, 1, 0x103);
+    let ending = end(&mut procs, &mut cpu, &mut space, kept);
+    same(rt, "ending", (kept, ending), (kept, Some(Ending::Returned)));
+    holds(rt, "vectors", &space, (0, 0x84), b"abcd0123456789ABqrst");
+    let [owner, size] = [space.peek16(0x1105, 1), space.peek16(0x1105, 3)];
+    let found = (owner, size, procs.take_code());
+    same(rt, "owner, size, word", (kept, found), (kept, wanted));
+    Ok(())
+}
+
 #[test]
 fn endings_put_three_vectors_back(rt: HostRuntime) -> Result<(), Fail> {
     let programs = store(rt.alloc())?;
-    // how the child ends, the owner and the size of its block then, its word
+    // how the child ends; the owner and the size of its block then, and its word
     let rows = [
-        (None, (0, 0x12), 0x0007),
-        (Some(0x10), (0x1106, 0x10), 0x0307),
-        (Some(0x12), (0x1106, 0x12), 0x0307),
-        (Some(0xFFFF), (0x1106, 0x12), 0x0307),
+        (None, (0, 0x12, 0x0007)),
+        (Some(0x10), (0x1106, 0x10, 0x0307)),
+        (Some(0x12), (0x1106, 0x12, 0x0307)),
+        (Some(0xFFFF), (0x1106, 0x12, 0x0307)),
     ];
-    for (kept, block, word) in rows {
-        let mut space = Space::new(rt.alloc())?;
-        let (mut procs, mut cpu) = asking(&mut space).expect(&rt, "there is room");
-        put(&mut space, 0, 0x88, b"0123456789AB");
-        let answer = procs.exec(&mut cpu, &mut space, &programs, Strategy::First);
-        same(&rt, "answer", answer, Ok(()));
-        // the child sets the vectors 21h to 25h; the block behind its own is its parent's
-        put(&mut space, 0, 0x84, b"abcdefghijklmnopqrst");
-        space.poke16(0x1118, 1, 0x103);
-        let ending = end(&mut procs, &mut cpu, &mut space, kept);
-        same(
-            &rt,
-            "ending",
-            (kept, ending),
-            (kept, Some(Ending::Returned)),
-        );
-        holds(&rt, "vectors", &space, (0, 0x84), b"abcd0123456789ABqrst");
-        let found = (space.peek16(0x1105, 1), space.peek16(0x1105, 3));
-        same(&rt, "owner, size", (kept, found), (kept, block));
-        same(&rt, "word", (kept, procs.take_code()), (kept, word));
+    for (kept, wanted) in rows {
+        ends(&rt, rt.alloc(), &programs, kept, wanted)?;
     }
     Ok(())
 }
