@@ -132,10 +132,7 @@ const UPPER: [u8; 44] = [
 #[test]
 fn filter_in_upper_case(rt: HostRuntime) -> Result<(), Fail> {
     let mut machine = loaded(rt.alloc(), &UPPER, b"Hello, `az{")?;
-    let acts = [
-        Act::Run(1000, Stop::Exited(0)),
-        Act::Output(b"HELLO, `AZ{"),
-    ];
+    let acts = [Act::Run(1000, Stop::Exited(0)), Act::Output(b"HELLO, `AZ{")];
     play(&rt, &mut machine, "a filter", &acts);
     Ok(())
 }

@@ -4,8 +4,6 @@
 //! They stand apart from the crate that they try, since a crate with tests is proved twice.
 #![tactic(auto)]
 
-pub mod machines;
-
 #[cfg(test)]
 mod acts;
 #[cfg(test)]
@@ -14,6 +12,7 @@ mod allocation;
 mod checks;
 #[cfg(test)]
 mod console;
+pub mod machines;
 #[cfg(test)]
 mod processes;
 #[cfg(test)]

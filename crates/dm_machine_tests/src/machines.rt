@@ -54,12 +54,7 @@ pub fn machine_with(
 }
 
 /// A machine with the one program of this name loaded, and this input.
-pub fn loaded_as(
-    alloc: Global,
-    name: &[u8],
-    program: &[u8],
-    input: &[u8],
-) -> Result<Machine, Fail>
+pub fn loaded_as(alloc: Global, name: &[u8], program: &[u8], input: &[u8]) -> Result<Machine, Fail>
     requires { IsName name.now }
     ensures { IfOk result (λ m. HasProgram m) }
 {

@@ -15,11 +15,7 @@ use std::test::Fail;
 const RESIDENT: [u8; 8] = [0xB8, 0x05, 0x31, 0xBA, 0x20, 0x00, 0xCD, 0x21];
 
 /// A call of 4Bh that starts the program of the store, as far as its first instruction.
-const START: [Act; 3] = [
-    SHRINK,
-    Load(0, b"hi.com\0", [0, 0]),
-    Run(1, Stop::Steps),
-];
+const START: [Act; 3] = [SHRINK, Load(0, b"hi.com\0", [0, 0]), Run(1, Stop::Steps)];
 
 /// An MZ file of 64 bytes: a header of three paragraphs with two relocations of the image's first
 /// word, FFF0h, and an image of one paragraph.

@@ -1,9 +1,8 @@
 //! How machines start, load programs and stop.
 ghost use Rattle.dm_proc.specs.Programs.{IsName};
 
-use crate::acts::Act;
 use crate::acts::Register::{Ax, Carry, Cs, Ds, Es, Ip, Sp, Ss};
-use crate::acts::play;
+use crate::acts::{Act, play};
 use crate::checks::same;
 use crate::machines::{loaded, machine_with, sized, store, sum_of_memory};
 use dm_machine::{AddError, LoadError, NewError, Programs, Sizes, Stop};

@@ -4,7 +4,7 @@ use Rattle.dm_cli.proofs.commands.loaded.Goals as goal
 pub returns-clause-started : goal.returns-clause-started
 returns-clause-started g c =
     let head = first_of (λ path. path.now) c.args.options.now.files.items c.in_ok-first.first.now
-        (rw (c.ok_or.ensures.ok_part, c.in_ok-first.was, c.deref.ensures.value) at c.first.ensures.value) in
+    (rw (c.ok_or.ensures.ok_part, c.in_ok-first.was, c.deref.ensures.value) at c.first.ensures.value) in
     record {
       store = c.in_ok-programs.programs;
       stores = rw (c.as_slice.ensures.value) at c.in_ok-programs.ensures.store;
