@@ -26,11 +26,12 @@ fn instruction(bytes: &str) -> Result<(Ins, u8), Fail> {
 
 /// A part of a row: 0 its bytes, 1 its text.
 fn part(row: &str, number: usize) -> Result<&str, Fail> {
-    Ok(row
-        .split('|')
-        .nth(number)
-        .ok_or("a part is missing")?
-        .trim())
+    Ok(
+        row.split('|')
+            .nth(number)
+            .ok_or("a part is missing")?
+            .trim(),
+    )
 }
 
 /// Whether a line of a text is a row, and no comment.
