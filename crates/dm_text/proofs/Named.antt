@@ -12,6 +12,7 @@ use Rattle.dm_ins.specs.declared.action.Mnemonic.TheVariants.{Add}
 use Rattle.dm_ins.specs.Registers.{word_registers, byte_registers}
 use Rattle.dm_text.specs.Names.{name_of, byte_name, word_name, segment_name, mnemonics, segment_registers, named}
 use Rattle.dm_text.specs.Laws.{NamesAreRead}
+use Rattle.dm_text.proofs.Pieces.{mnemonic_bytes}
 
 words_again : (r : WordRegister) → named word_name word_registers (word_name r) ≡ Some r
 words_again Ax = refl
@@ -32,6 +33,7 @@ mnemonics_again _ = refl
 
 pub names_are_read : NamesAreRead
 names_are_read = record {
+  words = mnemonic_bytes;
   mnemonic = mnemonics_again;
   word_register = words_again;
   byte_register = bytes_again;

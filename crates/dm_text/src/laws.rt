@@ -10,7 +10,7 @@ pub fn names_are_read()
 {}
 
 /// The law that in the text of an instruction a sign or a space stands between any two names or
-/// numbers, so that it can be read in one way. It does nothing when called.
+/// numbers, so that a reader finds them apart again. It does nothing when called.
 #[tactic(auto, using(crate::proofs::Parted::texts_are_parted))]
 pub fn texts_are_parted()
     ensures { TextsAreParted }
