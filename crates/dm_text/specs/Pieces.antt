@@ -1,0 +1,81 @@
+-- The pieces that a line of text is made of, and their bytes. The way numbers are written is that of ASM-86: hexadecimal, a
+-- digit in front, and an h behind.
+-- Source: Intel 8086 Family User's Manual, section 2.9 (programming facilities: constants of ASM-86). How many digits there
+-- are is this machine's own.
+use Rattle.std.specs.Prelude.{ℕ, ◌+◌, ◌/◌, ◌%◌, Bool, true, false, ◌&&◌, ◌||◌, ◌==◌, List, [], ◌∷◌, ◌++◌, nat_lt, nat_le, if◌then◌else◌}
+use Rattle.std.specs.List.{list_all}
+
+-- a name is letters and digits; a byte and a word are numbers; a sign is one byte between them
+pub data Piece : Type 0 where
+  name : List ℕ → Piece
+  byte : ℕ → Piece
+  word : ℕ → Piece
+  sign : ℕ → Piece
+
+-- a digit from 0 to 9 or from A to F
+abbrev pub digit : ℕ → ℕ
+digit d = if nat_lt d 10 then 48 + d else 55 + d
+
+-- 0, two digits, h
+unfoldable pub byte_digits : ℕ → List ℕ
+byte_digits n = 48 ∷ digit (n / 16) ∷ digit (n % 16) ∷ 104 ∷ []
+
+-- 0, four digits, h
+unfoldable pub word_digits : ℕ → List ℕ
+word_digits n = 48 ∷ digit (n / 4096) ∷ digit (n / 256 % 16) ∷ digit (n / 16 % 16) ∷ digit (n % 16) ∷ 104 ∷ []
+
+abbrev pub piece_bytes : Piece → List ℕ
+piece_bytes (name w) = w
+piece_bytes (byte n) = byte_digits n
+piece_bytes (word n) = word_digits n
+piece_bytes (sign b) = b ∷ []
+
+abbrev pub bytes_of : List Piece → List ℕ
+bytes_of [] = []
+bytes_of (p ∷ ps) = piece_bytes p ++ bytes_of ps
+
+-- ---- the signs
+
+abbrev pub space : Piece
+space = sign 32
+
+abbrev pub plus : Piece
+plus = sign 43
+
+abbrev pub comma : Piece
+comma = sign 44
+
+abbrev pub colon : Piece
+colon = sign 58
+
+abbrev pub left_bracket : Piece
+left_bracket = sign 91
+
+abbrev pub right_bracket : Piece
+right_bracket = sign 93
+
+-- ---- pieces that a reader can tell apart
+
+-- digits and capital letters
+abbrev pub is_in_names : ℕ → Bool
+is_in_names b = (nat_le 48 b && nat_le b 57) || (nat_le 65 b && nat_le b 90)
+
+abbrev pub is_name : List ℕ → Bool
+is_name [] = false
+is_name (b ∷ w) = list_all is_in_names (b ∷ w)
+
+-- a space and + , : [ ]
+abbrev pub is_mark : ℕ → Bool
+is_mark b = (b == 32) || (b == 43) || (b == 44) || (b == 58) || (b == 91) || (b == 93)
+
+-- each name is digits and capital letters, each sign one of these six; and no name or number stands right behind another one (the first
+-- argument says whether one stands in front)
+abbrev pub parted : Bool → List Piece → Bool
+parted behind [] = true
+parted true (name w ∷ ps) = false
+parted true (byte n ∷ ps) = false
+parted true (word n ∷ ps) = false
+parted false (name w ∷ ps) = is_name w && parted true ps
+parted false (byte n ∷ ps) = parted true ps
+parted false (word n ∷ ps) = parted true ps
+parted behind (sign b ∷ ps) = is_mark b && parted false ps

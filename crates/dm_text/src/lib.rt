@@ -1,0 +1,12 @@
+//! The text of an instruction, and the names that it is made of.
+#![tactic(auto)]
+
+mod laws;
+mod line;
+mod names;
+mod texts;
+
+pub use laws::{names_are_read, texts_are_parted};
+pub use line::Line;
+pub use names::{byte_register_name, mnemonic_name, segment_register_name, word_register_name};
+pub use texts::text;

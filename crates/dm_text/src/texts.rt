@@ -1,0 +1,281 @@
+//! The text of an instruction: the prefix words that it keeps, its mnemonic and its operands (Intel
+//! 8086 Family User's Manual, section 2.7 and section 2.8).
+
+ghost use Rattle.std.specs.Prelude.{◌≡◌, ◌+◌, ◌≤◌, ◌++◌, length};
+ghost use Rattle.dm_text.specs.Pieces.{bytes_of};
+ghost use Rattle.dm_text.specs.Texts.{register_pair, base_pieces, displacement_pieces, address_pieces, is_shift, is_general, gives_size, size_pieces, memory_pieces, operand_pieces, second_pieces, operands_pieces, is_accumulator, is_nop, action_pieces, segment_pieces, lock_pieces, repeat_pieces, prefix_pieces, text_of};
+
+use crate::line::Line;
+use crate::names::{byte_register_name, mnemonic_name, segment_register_name, word_register_name};
+use dm_ins::{
+    Action, Address, Base, Ins, Mnemonic, Operand, Prefixes, Repeat, SegmentRegister, Width,
+    WordRegister,
+};
+
+/// Puts two registers that are added.
+fn put_pair(line: &mut Line, first: WordRegister, second: WordRegister)
+    requires { length line.old + 5 ≤ 64 }
+    ensures items { line.new ≡ line.old ++ bytes_of (register_pair first second) }
+    ensures len { length line.new ≡ length line.old + 5 }
+{
+    line.put(word_register_name(first));
+    line.put(b"+");
+    line.put(word_register_name(second));
+}
+
+/// Puts the registers of an address.
+fn put_base(line: &mut Line, base: Base)
+    requires { length line.old + 5 ≤ 64 }
+    ensures items { line.new ≡ line.old ++ bytes_of (base_pieces base) }
+    ensures within { length line.new ≤ length line.old + 5 }
+{
+    match base {
+        Base::Direct => {}
+        Base::BxSi => put_pair(line, WordRegister::Bx, WordRegister::Si),
+        Base::BxDi => put_pair(line, WordRegister::Bx, WordRegister::Di),
+        Base::BpSi => put_pair(line, WordRegister::Bp, WordRegister::Si),
+        Base::BpDi => put_pair(line, WordRegister::Bp, WordRegister::Di),
+        Base::OnSi => line.put(word_register_name(WordRegister::Si)),
+        Base::OnDi => line.put(word_register_name(WordRegister::Di)),
+        Base::OnBp => line.put(word_register_name(WordRegister::Bp)),
+        Base::OnBx => line.put(word_register_name(WordRegister::Bx)),
+    }
+}
+
+/// Puts the displacement behind registers: 0 is left out.
+fn put_displacement(line: &mut Line, n: u16)
+    requires { length line.old + 7 ≤ 64 }
+    ensures items { line.new ≡ line.old ++ bytes_of (displacement_pieces n) }
+    ensures within { length line.new ≤ length line.old + 7 }
+{
+    if n != 0 {
+        line.put(b"+");
+        line.put_word(n);
+    }
+}
+
+/// Puts what stands between the brackets of a memory operand.
+#[tactic(auto, using(crate::proofs::Pieces::appended))]
+fn put_address(line: &mut Line, address: Address)
+    requires { length line.old + 12 ≤ 64 }
+    ensures items { line.new ≡ line.old ++ bytes_of (address_pieces address) }
+    ensures within { length line.new ≤ length line.old + 12 }
+{
+    match address.base {
+        Base::Direct => line.put_word(address.displacement),
+        base => {
+            put_base(line, base);
+            put_displacement(line, address.displacement);
+        }
+    }
+}
+
+/// Whether this is the mnemonic of a shift or a rotate.
+fn shifts(mnemonic: Mnemonic) -> bool
+    ensures { result ≡ is_shift mnemonic }
+{
+    matches!(
+        mnemonic,
+        Mnemonic::Rol
+            | Mnemonic::Ror
+            | Mnemonic::Rcl
+            | Mnemonic::Rcr
+            | Mnemonic::Shl
+            | Mnemonic::Shr
+            | Mnemonic::Sar
+    )
+}
+
+/// Whether the operand is a general register.
+fn general(operand: Operand) -> bool
+    ensures { result ≡ is_general operand }
+{
+    matches!(operand, Operand::ByteRegister(_) | Operand::WordRegister(_))
+}
+
+/// Whether a general register gives the size of the other operand. A shift's CL gives none.
+fn size_is_given(action: &Action) -> bool
+    ensures { result ≡ gives_size action.now }
+{
+    general(action.first) || !shifts(action.mnemonic) && general(action.second)
+}
+
+/// The word before a memory operand, with a space behind it.
+fn size(action: &Action, width: Width) -> &'static [u8]
+    ensures value { result.now ≡ bytes_of (size_pieces action.now width) }
+    ensures within { length result.now ≤ 5 }
+{
+    match action.mnemonic {
+        Mnemonic::CallFar | Mnemonic::JmpFar => b"",
+        Mnemonic::Call | Mnemonic::Jmp => b"NEAR ",
+        _ => {
+            if size_is_given(action) {
+                b""
+            } else {
+                match width {
+                    Width::Byte => b"BYTE ",
+                    Width::Word => b"WORD ",
+                }
+            }
+        }
+    }
+}
+
+/// Puts a memory operand.
+#[tactic(auto, using(crate::proofs::Pieces::appended))]
+fn put_memory(line: &mut Line, action: &Action, width: Width, address: Address)
+    requires { length line.old + 19 ≤ 64 }
+    ensures items { line.new ≡ line.old ++ bytes_of (memory_pieces action.now width address) }
+    ensures within { length line.new ≤ length line.old + 19 }
+{
+    line.put(size(action, width));
+    line.put(b"[");
+    put_address(line, address);
+    line.put(b"]");
+}
+
+/// Puts an operand; `next` is the offset of the next instruction, from which a target counts.
+fn put_operand(line: &mut Line, action: &Action, next: u16, operand: Operand)
+    requires { length line.old + 19 ≤ 64 }
+    ensures items { line.new ≡ line.old ++ bytes_of (operand_pieces action.now next operand) }
+    ensures within { length line.new ≤ length line.old + 19 }
+{
+    match operand {
+        Operand::Nothing => {}
+        Operand::ByteRegister(register) => line.put(byte_register_name(register)),
+        Operand::WordRegister(register) => line.put(word_register_name(register)),
+        Operand::SegmentRegister(register) => line.put(segment_register_name(register)),
+        Operand::Memory(width, address) => put_memory(line, action, width, address),
+        Operand::ByteValue(n) => line.put_byte(n),
+        Operand::WordValue(n) => line.put_word(n),
+        Operand::One => line.put(b"1"),
+        Operand::Target(distance) => line.put_word(next.wrapping_add(distance)),
+        Operand::FarTarget(offset, segment) => {
+            line.put_word(segment);
+            line.put(b":");
+            line.put_word(offset);
+        }
+    }
+}
+
+/// Puts the second operand behind a comma, if there is one.
+fn put_second(line: &mut Line, action: &Action, next: u16)
+    requires { length line.old + 20 ≤ 64 }
+    ensures items { line.new ≡ line.old ++ bytes_of (second_pieces action.now next) }
+    ensures within { length line.new ≤ length line.old + 20 }
+{
+    match action.second {
+        Operand::Nothing => {}
+        operand => {
+            line.put(b",");
+            put_operand(line, action, next, operand);
+        }
+    }
+}
+
+/// Puts the operands behind a space, if there are any.
+#[tactic(auto, using(crate::proofs::Pieces::appended))]
+fn put_operands(line: &mut Line, action: &Action, next: u16)
+    requires { length line.old + 40 ≤ 64 }
+    ensures { line.new ≡ line.old ++ bytes_of (operands_pieces action.now next) }
+{
+    match action.first {
+        Operand::Nothing => {}
+        operand => {
+            line.put(b" ");
+            put_operand(line, action, next, operand);
+            put_second(line, action, next);
+        }
+    }
+}
+
+/// Whether the operand is AX.
+fn accumulator(operand: Operand) -> bool
+    ensures { result ≡ is_accumulator operand }
+{
+    matches!(operand, Operand::WordRegister(WordRegister::Ax))
+}
+
+/// Whether the action is XCHG AX,AX.
+fn nop(action: &Action) -> bool
+    ensures { result ≡ is_nop action.now }
+{
+    match action.mnemonic {
+        Mnemonic::Xchg => accumulator(action.first) && accumulator(action.second),
+        _ => false,
+    }
+}
+
+/// Puts the mnemonic and the operands.
+#[tactic(auto, using(crate::proofs::Pieces::appended), unfolding(crate::specs::Texts::action_pieces))]
+fn put_action(line: &mut Line, action: &Action, next: u16)
+    requires { length line.old + 49 ≤ 64 }
+    ensures { line.new ≡ line.old ++ bytes_of (action_pieces action.now next) }
+{
+    if nop(action) {
+        line.put(b"NOP");
+    } else {
+        line.put(mnemonic_name(action.mnemonic));
+        put_operands(line, action, next);
+    }
+}
+
+/// Puts a segment override, with a space behind it.
+fn put_segment(line: &mut Line, segment: Option<SegmentRegister>)
+    requires { length line.old + 3 ≤ 64 }
+    ensures items { line.new ≡ line.old ++ bytes_of (segment_pieces segment) }
+    ensures within { length line.new ≤ length line.old + 3 }
+{
+    if let Some(register) = segment {
+        line.put(segment_register_name(register));
+        line.put(b" ");
+    }
+}
+
+/// The word of a LOCK prefix, with a space behind it.
+fn lock_word(lock: bool) -> &'static [u8]
+    ensures value { result.now ≡ bytes_of (lock_pieces lock) }
+    ensures within { length result.now ≤ 5 }
+{
+    if lock { b"LOCK " } else { b"" }
+}
+
+/// The word of a repeat prefix, with a space behind it.
+fn repeat_word(repeat: Option<Repeat>) -> &'static [u8]
+    ensures value { result.now ≡ bytes_of (repeat_pieces repeat) }
+    ensures within { length result.now ≤ 6 }
+{
+    match repeat {
+        None => b"",
+        Some(Repeat::NotEqual) => b"REPNE ",
+        Some(Repeat::Equal) => b"REP ",
+    }
+}
+
+/// Puts the words of the prefixes that are kept, each with a space behind it.
+#[tactic(auto, using(crate::proofs::Pieces::appended))]
+fn put_prefixes(line: &mut Line, prefixes: Prefixes)
+    requires { length line.old + 14 ≤ 64 }
+    ensures items { line.new ≡ line.old ++ bytes_of (prefix_pieces prefixes) }
+    ensures within { length line.new ≤ length line.old + 14 }
+{
+    put_segment(line, prefixes.segment);
+    line.put(lock_word(prefixes.lock));
+    line.put(repeat_word(prefixes.repeat));
+}
+
+/// Makes `line` the text of an instruction, in at most 64 bytes: the line of an assembler for it,
+/// with no label, comment or line end. `next` is the offset of the next instruction, from which the
+/// targets of jumps and calls count.
+///
+/// Prefix words come first (the segment's, LOCK, REP or REPNE), then the mnemonic, then the operands
+/// with a comma between them. Numbers are hexadecimal, two digits for a byte and four for a word;
+/// `BYTE`, `WORD` or `NEAR` stands before memory where nothing else says its size.
+#[tactic(auto, using(crate::proofs::Pieces::appended), unfolding(crate::specs::Texts::text_of, crate::specs::Texts::pieces))]
+pub fn text(ins: &Ins, next: u16, line: &mut Line)
+    ensures { line.new ≡ text_of ins.now next }
+{
+    line.clear();
+    put_prefixes(line, ins.prefixes);
+    put_action(line, &ins.action, next);
+}
