@@ -109,34 +109,31 @@ fn leaves_with(
     let Row { name, .. } = *row;
     ask(parts, alloc, row.input, row.asked, flag)?;
     let steps = parts.steps;
-    assert_eq!(rt; parts.serve(Service::Dos), None, "{name}: stop");
-    assert_eq!(rt; parts.steps, steps.saturating_add(1), "{name}: steps");
-    let cpu = parts.cpu;
-    assert_eq!(rt;
-        [cpu.ax, cpu.bx, cpu.cx, cpu.dx],
-        row.answered,
-        "{name}: AX, BX, CX, DX"
-    );
-    assert_eq!(rt;
-        [cpu.flags.carry, cpu.flags.zero],
-        [row.flags[0].unwrap_or(flag), row.flags[1].unwrap_or(flag)],
-        "{name}: CF, ZF"
-    );
-    assert_eq!(rt;
-        [cpu.sp, cpu.cs, cpu.ip],
-        [0xFFFE, SEGMENT, 0x0102],
-        "{name}: SP, CS, IP"
-    );
-    assert_eq!(rt; parts.console.left(), row.left, "{name}: input left");
-    assert_eq!(rt; parts.console.output(), row.output, "{name}: output");
-    assert_eq!(rt; parts.console.room(), 0, "{name}: room");
-    // CF and ZF are replaced in the popped flags alone
+    let stop = parts.serve(Service::Dos);
     same(
         rt,
         name,
-        parts.space.peek16(SEGMENT, 0xFFFC),
-        pushed_flags(flag),
+        (stop, parts.steps),
+        (None, steps.saturating_add(1)),
     );
+    let cpu = parts.cpu;
+    // AX, BX, CX and DX; SP, CS and IP; CF and ZF; how much input is left, the output and its room
+    same(rt, name, [cpu.ax, cpu.bx, cpu.cx, cpu.dx], row.answered);
+    same(
+        rt,
+        name,
+        [cpu.sp, cpu.cs, cpu.ip],
+        [0xFFFE, SEGMENT, 0x0102],
+    );
+    let [carry, zero] = row.flags;
+    let flags = [carry.unwrap_or(flag), zero.unwrap_or(flag)];
+    same(rt, name, [cpu.flags.carry, cpu.flags.zero], flags);
+    let console = &parts.console;
+    let streams = (console.left(), console.output(), console.room());
+    same(rt, name, streams, (row.left, row.output, 0));
+    // CF and ZF are replaced in the popped flags alone
+    let pushed = parts.space.peek16(SEGMENT, 0xFFFC);
+    same(rt, name, pushed, pushed_flags(flag));
     Ok(())
 }
 
