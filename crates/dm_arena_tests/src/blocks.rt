@@ -33,7 +33,7 @@ fn spelled(alloc: Global, blocks: &[(u16, u16)]) -> Result<Space, AllocError> {
     Ok(space)
 }
 
-/// Compares the headers of a list, and the bytes around headers, which no call writes.
+/// Compares the headers of a list.
 fn spells(rt: &impl Abort, call: Call, space: &Space, blocks: &[(u16, u16)]) {
     let mut segment = 0x100u16;
     for (index, block) in blocks.iter().enumerate() {
@@ -50,10 +50,19 @@ fn spells(rt: &impl Abort, call: Call, space: &Space, blocks: &[(u16, u16)]) {
         same(rt, "size", (call, size), (call, block.1));
         segment = segment.wrapping_add(block.1).wrapping_add(1);
     }
+}
+
+/// Compares the bytes from 0100h:0000 on with those of a memory in which the new list alone was
+/// written: the bytes around headers stay, and so do those of headers that are none any more.
+fn is_memory(rt: &impl Abort, call: Call, space: &Space, wanted: &Space) {
     for offset in 0..0x800 {
-        if offset % 16 > 4 {
-            same(rt, "byte behind a header", space.peek(0x100, offset), 0xEE);
-        }
+        let found = (call, offset, space.peek(0x100, offset));
+        same(
+            rt,
+            "byte",
+            found,
+            (call, offset, wanted.peek(0x100, offset)),
+        );
     }
 }
 
@@ -107,6 +116,9 @@ fn leaves(
     let found = answer(&mut space, call);
     same(rt, "answer", (call, found), (call, wanted));
     spells(rt, call, &space, after);
+    let mut left = spelled(alloc, before)?;
+    spell(&mut left, after);
+    is_memory(rt, call, &space, &left);
     Ok(())
 }
 
@@ -323,7 +335,7 @@ fn two_blocks_are_chosen_in_turn(rt: HostRuntime) -> Result<(), Fail> {
             (0x101, 0x107, 0x40),
             &[(0x107, 1), (0, 1), (9, 1), (0x107, 0x40), (9, 1)],
         ),
-        // the most and the least may be over FFFFh paragraphs
+        // the most may be over FFFFh paragraphs
         (
             &holes,
             Pair(first, 1, 0, 0x1_0005),
@@ -483,25 +495,28 @@ fn bytes_that_spell_no_list(rt: HostRuntime) -> Result<(), Fail> {
         Resize(0x101, 1),
         FreeAll(7),
         Pair(Strategy::Best, 1, 0, 0),
+        // these would be refused in a clear list too: no block begins there, none is so large
+        Free(0x105),
+        Resize(0x105, 1),
+        Resize(0x101, 0xFFFF),
+        Allocate(Strategy::First, 0xFFFF),
+        Pair(Strategy::First, 0xFFFF, 0, 0),
     ];
     for (blocks, offset, byte) in rows {
+        let mut space = spelled(rt.alloc(), blocks)?;
+        let mut wanted = spelled(rt.alloc(), blocks)?;
+        space.poke(0x100, offset, byte);
+        wanted.poke(0x100, offset, byte);
         for call in calls {
-            let mut space = spelled(rt.alloc(), blocks)?;
-            space.poke(0x100, offset, byte);
             let found = answer(&mut space, call);
+            let refused = Err(Refusal::Destroyed);
             same(
                 &rt,
                 "answer",
-                (call, found),
-                (call, Err(Refusal::Destroyed)),
+                (blocks, call, found),
+                (blocks, call, refused),
             );
-            same(&rt, "byte", (call, space.peek(0x100, offset)), (call, byte));
-            same(
-                &rt,
-                "size",
-                space.peek16(0x100, 3),
-                blocks.first().map_or(0, |block| block.1),
-            );
+            is_memory(&rt, call, &space, &wanted);
         }
     }
     Ok(())

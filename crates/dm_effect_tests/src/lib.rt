@@ -6,6 +6,8 @@
 #[cfg(test)]
 mod checks;
 #[cfg(test)]
+mod edges;
+#[cfg(test)]
 mod effects;
 #[cfg(test)]
 mod rows;

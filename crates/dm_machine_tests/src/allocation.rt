@@ -132,9 +132,11 @@ fn strategies_choose_among_holes(rt: HostRuntime) -> Result<(), Fail> {
 fn a_strategy_that_is_not_there(rt: HostRuntime) -> Result<(), Fail> {
     let rows: [(&str, &[Act]); 2] = [
         (
-            "strategy 3",
+            "strategies 3 and 100h",
             &[
                 Call([0x5801, 3, 0, 0, 0], [1, 3, 1]),
+                Call([0x5801, 0x0100, 0, 0, 0], [1, 0x0100, 1]),
+                Call([0x5801, 0x0102, 0, 0, 0], [1, 0x0102, 1]),
                 Call([0x5800, 7, 0, 0, 0], [0, 7, 0]),
             ],
         ),

@@ -87,19 +87,47 @@ fn reads_a_line(
     Ok(())
 }
 
+/// A line of 300 bytes, and one byte behind it.
+fn long_line() -> [u8; 302] {
+    let mut line = [b'a'; 302];
+    line[300] = b'\r';
+    line
+}
+
+/// A buffer for 255 bytes that has got such a line, and the byte behind it.
+fn full_buffer() -> [u8; 258] {
+    let mut buffer = [b'a'; 258];
+    [buffer[0], buffer[1], buffer[256], buffer[257]] = [255, 254, b'\r', 0];
+    buffer
+}
+
 #[test]
 fn lines_go_into_their_buffers(rt: HostRuntime) -> Result<(), Fail> {
-    let rows: [Line; 6] = [
+    let (long, full) = (long_line(), full_buffer());
+    let rows: [Line; 7] = [
         (0x0A00, 0x0200, 4, b"ab\ncd\re", b"\x04\x03abc\r\0", 1),
         (0x0A00, 0x0300, 0, b"ab\ncd\re", &[0, 0, 0], 7),
         (0x0A00, 0x0400, 1, b"ab\r", &[1, 0, 0x0D, 0], 0),
         (0x0A00, 0x0500, 4, b"\n\r\r", &[4, 0, 0x0D, 0], 1),
         (0x0A00, 0xFFFE, 4, b"ab\r", b"\x04\x02ab\r", 0),
         (0x0C0A, 0x0600, 4, b"ab\r", b"\x04\x02ab\r", 0),
+        (0x0A00, 0x0680, 255, &long, &full, 1),
     ];
     for row in rows {
         reads_a_line(&rt, rt.alloc(), row)?;
     }
+    Ok(())
+}
+
+#[test]
+fn text_goes_on_at_the_start_of_its_segment(rt: HostRuntime) -> Result<(), Fail> {
+    let mut machine = caller(rt.alloc(), b"")?;
+    let acts = [
+        Act::Put(SEGMENT, 0xFFFF, b"xy$"),
+        Act::Call([0x0900, 0, 0, 0xFFFF, SEGMENT], [0x0900, 0, 1]),
+        Act::Output(b"xy"),
+    ];
+    play(&rt, &mut machine, "09h over the segment's end", &acts);
     Ok(())
 }
 

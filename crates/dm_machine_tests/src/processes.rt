@@ -400,6 +400,25 @@ fn vectors_come_back(rt: HostRuntime) -> Result<(), Fail> {
     Ok(())
 }
 
+/// A child is told its own prefix by the function with this number.
+fn tells_its_prefix(rt: &impl Abort, alloc: Global, number: u8) -> Result<(), Fail> {
+    // MOV AH,number; INT 21h; HLT
+    let child = [0xB4, number, 0xCD, 0x21, 0xF4];
+    let mut machine = caller_of(alloc, b"HI.COM", &child, b"")?;
+    let acts = [Run(1000, Stop::Halted), Has(&[(Bx, 0x1106), (Cs, 0x1106)])];
+    play(rt, &mut machine, "start", &START);
+    play(rt, &mut machine, "its prefix", &acts);
+    Ok(())
+}
+
+#[test]
+fn a_child_is_told_its_own_prefix(rt: HostRuntime) -> Result<(), Fail> {
+    for number in [0x51, 0x62] {
+        tells_its_prefix(&rt, rt.alloc(), number)?;
+    }
+    Ok(())
+}
+
 /// The first program's end: AX, DX, the code, and the header of its block after it.
 fn ends(
     rt: &impl Abort,

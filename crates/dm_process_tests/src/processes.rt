@@ -9,6 +9,7 @@ use dm_load::Image;
 use dm_proc::{Arguments, Ending, Procs, Programs, Refusal, overlay};
 use dm_space::Space;
 use std::alloc::{AllocError, Global};
+use std::process::Abort;
 use std::test::Fail;
 
 pub(crate) const HI: [u8; 15] = [
@@ -74,6 +75,13 @@ pub(crate) fn started(space: &mut Space) -> Option<(Procs, Cpu)> {
     Some((procs, cpu))
 }
 
+/// The registers that a program starts with as zeros, and its flags, IF alone.
+pub(crate) fn has_no_values(rt: &impl Abort, cpu: &Cpu) {
+    let values = [cpu.ax, cpu.bx, cpu.cx, cpu.dx, cpu.si, cpu.di, cpu.bp];
+    same(rt, "AX, BX, CX, DX, SI, DI, BP", values, [0; 7]);
+    same(rt, "FLAGS", cpu.flags.to_word(), 0xF202);
+}
+
 #[test]
 fn first_program_has_all_of_memory(rt: HostRuntime) -> Result<(), Fail> {
     let mut space = Space::new(rt.alloc())?;
@@ -104,6 +112,7 @@ fn child_runs_and_returns(rt: HostRuntime) -> Result<(), Fail> {
     let programs = store(rt.alloc())?;
     let mut space = Space::new(rt.alloc())?;
     let (mut procs, mut cpu) = started(&mut space).expect(&rt, "there is room");
+    [cpu.si, cpu.di, cpu.bp] = [0x1111, 0x2222, 0x3333];
     let answer = procs.exec(&mut cpu, &mut space, &programs, Strategy::First);
     same(&rt, "answer", answer, Ok(()));
     same(
@@ -112,6 +121,7 @@ fn child_runs_and_returns(rt: HostRuntime) -> Result<(), Fail> {
         (procs.psp(), cpu.cs, cpu.sp),
         (0x1106, 0x1106, 0xFFFE),
     );
+    has_no_values(&rt, &cpu);
     for (segment, offset, word) in [(0x1103, 3, 1), (0x1105, 3, 0x8EFA), (0x1106, 0x16, 0x103)] {
         same(&rt, "word in memory", space.peek16(segment, offset), word);
     }
@@ -128,6 +138,12 @@ fn child_runs_and_returns(rt: HostRuntime) -> Result<(), Fail> {
         "CF, IF",
         (cpu.flags.carry, cpu.flags.interrupt),
         (false, true),
+    );
+    same(
+        &rt,
+        "SI, DI, BP",
+        [cpu.si, cpu.di, cpu.bp],
+        [0x1111, 0x2222, 0x3333],
     );
     same(
         &rt,

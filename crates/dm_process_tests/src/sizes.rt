@@ -2,7 +2,7 @@
 
 use crate::checks::same;
 use crate::guest::{fill, holds};
-use crate::processes::none;
+use crate::processes::{has_no_values, none};
 use dm_arena::Strategy;
 use dm_exec::Cpu;
 use dm_load::Image;
@@ -60,6 +60,7 @@ fn com(
         start,
         (PREFIX, PREFIX, PREFIX, PREFIX, 0x100),
     );
+    has_no_values(rt, &cpu);
     same(
         rt,
         "first word on the stack",
@@ -153,12 +154,8 @@ fn asks_for(
     if let Ok(cpu) = loaded {
         let start = (cpu.cs, cpu.ip, cpu.ss, cpu.sp);
         same(rt, "CS, IP, SS, SP", start, (0x116, 0x1234, 0x115, 0x40));
-        same(
-            rt,
-            "DS, ES, AX",
-            (cpu.ds, cpu.es, cpu.ax),
-            (PREFIX, PREFIX, 0),
-        );
+        same(rt, "DS, ES", (cpu.ds, cpu.es), (PREFIX, PREFIX));
+        has_no_values(rt, &cpu);
         same(rt, "image", space.peek16(0x113, 0), 0x21CD);
     }
     Ok(())
@@ -186,5 +183,19 @@ fn mz_programs_take_what_they_ask_for(rt: HostRuntime) -> Result<(), Fail> {
     for (minimum, maximum, wanted) in rows {
         asks_for(&rt, rt.alloc(), (minimum, maximum), wanted)?;
     }
+    Ok(())
+}
+
+#[test]
+fn segments_of_mz_programs_wrap(rt: HostRuntime) -> Result<(), Fail> {
+    let mut space = Space::new(rt.alloc())?;
+    let mut file = mz(0, 0);
+    // Counted from 0113h, the code is in the prefix, and the stack one paragraph before the image.
+    [file[0x16], file[0x17]] = [0xF0, 0xFF];
+    [file[0x0E], file[0x0F]] = [0xFF, 0xFF];
+    let loaded = load(&mut space, &file, 0x102).ok_or("the file is good")?;
+    let start = loaded.map(|cpu| (cpu.cs, cpu.ip, cpu.ss, cpu.sp));
+    let wanted = Ok((PREFIX, 0x1234, 0x112, 0x40));
+    same(&rt, "CS, IP, SS, SP", start, wanted);
     Ok(())
 }

@@ -12,7 +12,8 @@ use std::alloc::Global;
 use std::process::Abort;
 use std::test::Fail;
 
-/// An MZ file of a header of two paragraphs and one word, that takes 10h paragraphs and so many more.
+/// An MZ file of a header of two paragraphs and one word, that takes 11h paragraphs, the last one for
+/// its image, and so many more.
 fn small(maximum: u8) -> [u8; 34] {
     let mut file = [0; 34];
     for (at, byte) in [
@@ -153,6 +154,102 @@ fn endings_put_three_vectors_back(rt: HostRuntime) -> Result<(), Fail> {
     Ok(())
 }
 
+/// A small program's child, which has started.
+fn child(rt: &impl Abort, alloc: Global, space: &mut Space) -> Result<(Procs, Cpu), Fail> {
+    let programs = store(alloc)?;
+    let (mut procs, mut cpu) = asking(space).ok_or("there is room")?;
+    put(space, 0, 0x88, b"0123456789AB");
+    let answer = procs.exec(&mut cpu, space, &programs, Strategy::First);
+    same(rt, "answer", answer, Ok(()));
+    Ok((procs, cpu))
+}
+
+#[test]
+fn blocks_are_freed_before_vectors_come_back(rt: HostRuntime) -> Result<(), Fail> {
+    let mut space = Space::new(rt.alloc())?;
+    let (mut procs, mut cpu) = child(&rt, rt.alloc(), &mut space)?;
+    // The child's block is told to end behind one paragraph: the next header, its own too, stands in
+    // its prefix, over the vectors 23h and 24h that are kept there.
+    space.poke16(0x1105, 3, 1);
+    put(&mut space, 0x1107, 0, &[b'Z', 0x06, 0x11, 0xF8, 0x8E]);
+    let ending = end(&mut procs, &mut cpu, &mut space, None);
+    same(&rt, "ending", ending, Some(Ending::Returned));
+    holds(
+        &rt,
+        "header",
+        &space,
+        (0x1107, 0),
+        &[b'Z', 0, 0, 0xF8, 0x8E],
+    );
+    holds(&rt, "vectors", &space, (0, 0x88), b"012345Z\0\0\xF8\x8EB");
+    Ok(())
+}
+
+#[test]
+fn resident_program_may_have_no_block(rt: HostRuntime) -> Result<(), Fail> {
+    let mut space = Space::new(rt.alloc())?;
+    let (mut procs, mut cpu) = child(&rt, rt.alloc(), &mut space)?;
+    put(&mut space, 0, 0x88, b"abcdefghijkl");
+    // The list ends with the environment's block, which is told to have all the rest.
+    put(&mut space, 0x1103, 0, &[b'Z', 0x06, 0x11, 0xFC, 0x8E]);
+    let ending = end(&mut procs, &mut cpu, &mut space, Some(0x10));
+    same(&rt, "ending", ending, Some(Ending::Returned));
+    holds(&rt, "vectors", &space, (0, 0x88), b"0123456789AB");
+    for (segment, bytes) in [
+        (0x1103, [b'Z', 0x06, 0x11, 0xFC, 0x8E]),
+        (0x1105, [b'M', 0x06, 0x11, 0x12, 0x00]),
+    ] {
+        holds(&rt, "header", &space, (segment, 0), &bytes);
+    }
+    let back = (procs.psp(), cpu.cs, cpu.ip, procs.take_code());
+    same(
+        &rt,
+        "process, CS, IP, word",
+        back,
+        (0x103, 0x103, 0x1234, 0x307),
+    );
+    Ok(())
+}
+
+#[test]
+fn resident_program_leaves_no_header_at_a000h(rt: HostRuntime) -> Result<(), Fail> {
+    let mut space = Space::new(rt.alloc())?;
+    let (mut procs, mut cpu) = child(&rt, rt.alloc(), &mut space)?;
+    put(&mut space, 0, 0x88, b"abcdefghijkl");
+    let before = cpu;
+    // The child's block is told to be the last one, up to F105h.
+    let told = [b'Z', 0x06, 0x11, 0x00, 0xE0];
+    put(&mut space, 0x1105, 0, &told);
+    let ending = end(&mut procs, &mut cpu, &mut space, Some(0x8EFA));
+    same(&rt, "ending", ending, None);
+    same(
+        &rt,
+        "process, registers",
+        (procs.psp(), cpu),
+        (0x1106, before),
+    );
+    holds(&rt, "header", &space, (0x1105, 0), &told);
+    holds(&rt, "vectors", &space, (0, 0x88), b"abcdefghijkl");
+    // one paragraph less: the new header stands at 9FFFh
+    let ending = end(&mut procs, &mut cpu, &mut space, Some(0x8EF9));
+    same(&rt, "ending", ending, Some(Ending::Returned));
+    holds(
+        &rt,
+        "header",
+        &space,
+        (0x1105, 0),
+        &[b'M', 0x06, 0x11, 0xF9, 0x8E],
+    );
+    holds(
+        &rt,
+        "header",
+        &space,
+        (0x9FFF, 0),
+        &[b'Z', 0, 0, 0x06, 0x51],
+    );
+    Ok(())
+}
+
 #[test]
 fn word_of_an_ending_is_kept_through_a_start(rt: HostRuntime) -> Result<(), Fail> {
     let programs = store(rt.alloc())?;
@@ -206,6 +303,30 @@ fn sixteen_processes_are_alive_at_most(rt: HostRuntime) -> Result<(), Fail> {
         space.peek16(0x1106 + 14 * 0x15 + 0x12, 1),
         0,
     );
+    Ok(())
+}
+
+#[test]
+fn header_at_a000h_is_told_before_too_many_processes(rt: HostRuntime) -> Result<(), Fail> {
+    let programs = store(rt.alloc())?;
+    let mut space = Space::new(rt.alloc())?;
+    let (mut procs, cpu) = asking(&mut space).expect(&rt, "there is room");
+    let children = starts(&mut procs, &mut space, &programs, cpu);
+    same(&rt, "children", children, (15, Some(Refusal::Short)));
+    // what the last block, which is free, is told to have: by last fit the environment's header would
+    // stand at 9FFFh, then at A000h
+    for (size, refusal) in [(0x8DC2, Refusal::Short), (0x8DC3, Refusal::Destroyed)] {
+        space.poke16(0x123E, 3, size);
+        let mut asked = cpu;
+        let answer = procs.exec(&mut asked, &mut space, &programs, Strategy::Last);
+        same(&rt, "answer", (size, answer), (size, Err(refusal)));
+        same(
+            &rt,
+            "process, registers",
+            (procs.psp(), asked),
+            (0x122C, cpu),
+        );
+    }
     Ok(())
 }
 

@@ -3,6 +3,7 @@
 use crate::checks::same;
 use crate::programs::nops;
 use dm_load::{BadFormat, Image, Kind, kind};
+use std::process::Abort;
 use std::test::Fail;
 
 /// A file of one page with 1Ch bytes in it, and a relocation table behind the header's 28 bytes.
@@ -167,6 +168,118 @@ fn relocations_come_in_their_order(rt: HostRuntime) -> Result<(), Fail> {
         }
         let asked = (first, second);
         same(&rt, "relocated", (asked, bytes), (asked, wanted));
+    }
+    Ok(())
+}
+
+/// Words that are put over a file, each at its place.
+type Words<'a> = &'a [(usize, u16)];
+
+/// An MZ file of 68 bytes with these words put over it. Before, its header of three paragraphs tells
+/// no relocation, and the 20 bytes of its image count from 0.
+fn counting(words: Words) -> [u8; 68] {
+    let mut file = [0; 68];
+    [file[0], file[1]] = *b"MZ";
+    [file[2], file[4], file[8]] = [68, 1, 3];
+    for at in 0..20u8 {
+        file[48 + at as usize] = at;
+    }
+    for (at, word) in words {
+        if *at < 67 {
+            [file[*at], file[*at + 1]] = word.to_le_bytes();
+        }
+    }
+    file
+}
+
+/// The image of such a file with some of its bytes changed.
+fn changed(file: &[u8; 68], changes: &[(usize, u8)]) -> [u8; 20] {
+    let mut image = [0; 20];
+    for at in 0..20 {
+        image[at] = file[48 + at];
+    }
+    for (at, byte) in changes {
+        if *at < 20 {
+            image[*at] = *byte;
+        }
+    }
+    image
+}
+
+/// Such a file is good or bad; where it is good, its image relocated by 0101h has these bytes changed.
+fn is_relocated(rt: &impl Abort, words: Words, good: bool, changes: &[(usize, u8)]) {
+    let file = counting(words);
+    let Ok(image) = Image::of(&file) else {
+        same(rt, "is good", (words, false), (words, good));
+        return;
+    };
+    same(rt, "is good", (words, true), (words, good));
+    let mut bytes = [0; 20];
+    same(rt, "length", image.bytes().len(), 20);
+    if image.bytes().len() == 20 {
+        image.relocated(0x0101, &mut bytes);
+    }
+    let wanted = changed(&file, changes);
+    same(rt, "relocated", (words, bytes), (words, wanted));
+}
+
+#[test]
+fn relocations_are_found_by_table_and_segment(rt: HostRuntime) -> Result<(), Fail> {
+    // words of the file, among them how many relocations there are, and their table; whether the file
+    // is good, and the bytes of the image that change
+    let rows: [(Words, bool, &[(usize, u8)]); 12] = [
+        // the word at 1:0002 is the image's last one; one byte more is outside, and so are words that
+        // would be inside if the segment said nothing, or if the sum were cut to 16 or 20 bits
+        (
+            &[(6, 1), (0x18, 0x1C), (0x1C, 2), (0x1E, 1)],
+            true,
+            &[(0x12, 0x13), (0x13, 0x14)],
+        ),
+        (&[(6, 1), (0x18, 0x1C), (0x1C, 3), (0x1E, 1)], false, &[]),
+        (&[(6, 1), (0x18, 0x1C), (0x1C, 0), (0x1E, 2)], false, &[]),
+        (
+            &[(6, 1), (0x18, 0x1C), (0x1C, 0), (0x1E, 0x1000)],
+            false,
+            &[],
+        ),
+        (
+            &[(6, 1), (0x18, 0x1C), (0x1C, 0x10), (0x1E, 0xFFFF)],
+            false,
+            &[],
+        ),
+        // the table is where word 18h says
+        (
+            &[(6, 1), (0x18, 0x20), (0x1C, 8), (0x20, 4)],
+            true,
+            &[(4, 5), (5, 6)],
+        ),
+        // only a table that has relocations has to be in the file
+        (&[(0x18, 0xFFFF)], true, &[]),
+        (&[(6, 1), (0x18, 0xFFFF)], false, &[]),
+        (&[(6, 1), (0x18, 65), (64, 0), (66, 0)], false, &[]),
+        // a table in the image is read from the file: here the second entry, 000Ch, is relocated itself
+        (
+            &[(6, 1), (0x18, 64), (64, 2), (66, 0)],
+            true,
+            &[(2, 3), (3, 4)],
+        ),
+        (
+            &[
+                (6, 2),
+                (0x18, 0x30),
+                (0x30, 4),
+                (0x32, 0),
+                (0x34, 0x0C),
+                (0x36, 0),
+            ],
+            true,
+            &[(4, 0x0D), (5, 1), (0x0C, 0x0D), (0x0D, 0x0E)],
+        ),
+        // the checksum and the overlay's number say nothing
+        (&[(0x12, 0xBEEF), (0x1A, 1)], true, &[]),
+    ];
+    for (words, good, changes) in rows {
+        is_relocated(&rt, words, good, changes);
     }
     Ok(())
 }

@@ -2,9 +2,11 @@
 ghost use Rattle.std.specs.Prelude.{IfOk};
 ghost use Rattle.dm_services.specs.State.{HasProgram};
 
+use crate::checks::same;
 use arrayvec::ArrayVec;
 use dm_arena::Strategy;
 use dm_console::Console;
+use dm_exec::{Cpu, Flags};
 use dm_load::Image;
 use dm_proc::{Arguments, Procs, Programs};
 use dm_services::{Parts, Service, Sizes};
@@ -49,6 +51,11 @@ fn started(alloc: Global) -> Result<Parts, Fail>
     })
 }
 
+/// The flags' word that INT 21h has pushed, with CF and ZF as told.
+fn pushed_flags(flag: bool) -> u16 {
+    if flag { 0xF043 } else { 0xF002 }
+}
+
 /// Stands at the service of the program's INT 21h, with this input, no output, CF and ZF as told,
 /// and these AX, BX, CX and DX.
 fn ask(
@@ -62,10 +69,9 @@ fn ask(
     ensures { HasProgram parts.new }
 {
     parts.console = Console::new(alloc, Vec::from_slice(alloc, input)?);
-    let flags = if flag { 0xF043 } else { 0xF002 };
     parts.space.poke16(SEGMENT, 0xFFF8, 0x0102);
     parts.space.poke16(SEGMENT, 0xFFFA, SEGMENT);
-    parts.space.poke16(SEGMENT, 0xFFFC, flags);
+    parts.space.poke16(SEGMENT, 0xFFFC, pushed_flags(flag));
     let cpu = &mut parts.cpu;
     cpu.cs = 0xF000;
     cpu.ip = 0x0084;
@@ -103,27 +109,31 @@ fn leaves_with(
     let Row { name, .. } = *row;
     ask(parts, alloc, row.input, row.asked, flag)?;
     let steps = parts.steps;
-    assert_eq!(rt; parts.serve(Service::Dos), None, "{name}: stop");
-    assert_eq!(rt; parts.steps, steps.saturating_add(1), "{name}: steps");
+    let stop = parts.serve(Service::Dos);
+    same(
+        rt,
+        name,
+        (stop, parts.steps),
+        (None, steps.saturating_add(1)),
+    );
     let cpu = parts.cpu;
-    assert_eq!(rt;
-        [cpu.ax, cpu.bx, cpu.cx, cpu.dx],
-        row.answered,
-        "{name}: AX, BX, CX, DX"
-    );
-    assert_eq!(rt;
-        [cpu.flags.carry, cpu.flags.zero],
-        [row.flags[0].unwrap_or(flag), row.flags[1].unwrap_or(flag)],
-        "{name}: CF, ZF"
-    );
-    assert_eq!(rt;
+    // AX, BX, CX and DX; SP, CS and IP; CF and ZF; how much input is left, the output and its room
+    same(rt, name, [cpu.ax, cpu.bx, cpu.cx, cpu.dx], row.answered);
+    same(
+        rt,
+        name,
         [cpu.sp, cpu.cs, cpu.ip],
         [0xFFFE, SEGMENT, 0x0102],
-        "{name}: SP, CS, IP"
     );
-    assert_eq!(rt; parts.console.left(), row.left, "{name}: input left");
-    assert_eq!(rt; parts.console.output(), row.output, "{name}: output");
-    assert_eq!(rt; parts.console.room(), 0, "{name}: room");
+    let [carry, zero] = row.flags;
+    let flags = [carry.unwrap_or(flag), zero.unwrap_or(flag)];
+    same(rt, name, [cpu.flags.carry, cpu.flags.zero], flags);
+    let console = &parts.console;
+    let streams = (console.left(), console.output(), console.room());
+    same(rt, name, streams, (row.left, row.output, 0));
+    // CF and ZF are replaced in the popped flags alone
+    let pushed = parts.space.peek16(SEGMENT, 0xFFFC);
+    same(rt, name, pushed, pushed_flags(flag));
     Ok(())
 }
 
@@ -332,6 +342,13 @@ fn handles_and_small_calls(rt: HostRuntime) -> Result<(), Fail> {
             ..row
         },
         Row {
+            name: "3Fh of no byte",
+            asked: [0x3F00, 0, 0, 0x0200],
+            answered: [0, 0, 0, 0x0200],
+            flags: [Some(false), None],
+            ..row
+        },
+        Row {
             name: "3Fh of two bytes",
             asked: [0x3F00, 2, 2, 0x0200],
             answered: [2, 2, 2, 0x0200],
@@ -426,6 +443,88 @@ fn handles_and_small_calls(rt: HostRuntime) -> Result<(), Fail> {
     let mut parts = started(rt.alloc())?;
     for row in &rows {
         leaves(&rt, rt.alloc(), &mut parts, row)?;
+    }
+    Ok(())
+}
+
+/// The numbers of the functions, which calls have in AH.
+const FUNCTIONS: [u8; 25] = [
+    0x00, 0x01, 0x02, 0x06, 0x07, 0x08, 0x09, 0x0A, 0x0B, 0x0C, 0x25, 0x30, 0x31, 0x35, 0x3F, 0x40,
+    0x48, 0x49, 0x4A, 0x4B, 0x4C, 0x4D, 0x51, 0x58, 0x62,
+];
+
+#[test]
+fn every_other_number_is_error_1(rt: HostRuntime) -> Result<(), Fail> {
+    let mut parts = started(rt.alloc())?;
+    for number in 0..=0xFFu8 {
+        if !FUNCTIONS.contains(&number) {
+            let row = Row {
+                name: "no function",
+                input: b"x",
+                asked: [u16::from(number) * 0x100 + 0x55, 2, 3, 4],
+                answered: [1, 2, 3, 4],
+                flags: [Some(true), None],
+                left: 1,
+                output: b"",
+            };
+            leaves(&rt, rt.alloc(), &mut parts, &row)?;
+        }
+    }
+    Ok(())
+}
+
+/// Makes a call of the arena with these AX, BX and ES, and compares all registers behind it: AX, BX and
+/// CF are as told, the others as they were.
+fn leaves_the_others(
+    rt: &impl Abort,
+    alloc: Global,
+    parts: &mut Parts,
+    row: ([u16; 3], [u16; 2], bool),
+) -> Result<(), Fail>
+    requires { HasProgram parts.old }
+    ensures { HasProgram parts.new }
+{
+    let (asked, left, carry) = row;
+    let [ax, bx, es] = asked;
+    ask(parts, alloc, b"", [ax, bx, 0x1111, 0x2222], false)?;
+    let cpu = &mut parts.cpu;
+    [cpu.si, cpu.di, cpu.bp, cpu.es] = [0x3333, 0x4444, 0x5555, es];
+    let before = parts.cpu;
+    let stop = parts.serve(Service::Dos);
+    same(rt, "stop", (asked, stop), (asked, None));
+    let [ax, bx] = left;
+    let wanted = Cpu {
+        ax,
+        bx,
+        sp: 0xFFFE,
+        cs: SEGMENT,
+        ip: 0x0102,
+        flags: Flags {
+            carry,
+            ..Flags::from_word(pushed_flags(false))
+        },
+        ..before
+    };
+    same(rt, "registers", (asked, parts.cpu), (asked, wanted));
+    Ok(())
+}
+
+#[test]
+fn calls_of_the_arena_leave_the_other_registers(rt: HostRuntime) -> Result<(), Fail> {
+    // AX, BX and ES; AX and BX behind the call, and CF
+    let rows = [
+        ([0x4800, 0x0010, 0x7777], [0x0008, 0x0000], true),
+        ([0x4A55, 0x1000, SEGMENT], [0x4A55, 0x1000], false),
+        ([0x4800, 0x0010, 0x7777], [0x1104, 0x0010], false),
+        ([0x4800, 0xFFFF, 0x7777], [0x0008, 0x8EEB], true),
+        ([0x4955, 0x0005, 0x1104], [0x4955, 0x0005], false),
+        ([0x4955, 0x0005, 0x1105], [0x0009, 0x0005], true),
+        ([0x4A55, 0x0005, 0x1105], [0x0009, 0x0005], true),
+        ([0x4A55, 0x9EFE, SEGMENT], [0x0008, 0x9EFD], true),
+    ];
+    let mut parts = started(rt.alloc())?;
+    for row in rows {
+        leaves_the_others(&rt, rt.alloc(), &mut parts, row)?;
     }
     Ok(())
 }

@@ -41,6 +41,70 @@ fn each_part_of_the_map_reads_as_it_starts(rt: HostRuntime) -> Result<(), Fail> 
 }
 
 #[test]
+fn each_part_of_the_map_keeps_or_loses_a_write(rt: HostRuntime) -> Result<(), Fail> {
+    let mut space = Space::new(rt.alloc())?;
+    // segment, offset, what is read there once 5Ah was written: at both ends of conventional and plain
+    // RAM, of the hole, of upper RAM, of the frame, where no window shows a page, and of ROM
+    let bytes = [
+        (0x9FFF, 0x000F, 0x5A),
+        (0xA000, 0x0000, 0x5A),
+        (0xBFFF, 0x000F, 0x5A),
+        (0xC000, 0x0000, 0xFF),
+        (0xCFFF, 0x000F, 0xFF),
+        (0xD000, 0x0000, 0x5A),
+        (0xDFFF, 0x000F, 0x5A),
+        (0xE000, 0x0000, 0xFF),
+        (0xEFFF, 0x000F, 0xFF),
+        (0xF000, 0x0000, 0xCF),
+        (0xFFFF, 0x000F, 0xFF),
+    ];
+    for (segment, offset, byte) in bytes {
+        space.poke(segment, offset, 0x5A);
+        let found = space.peek(segment, offset);
+        same(
+            &rt,
+            "byte",
+            (segment, offset, found),
+            (segment, offset, byte),
+        );
+    }
+    Ok(())
+}
+
+#[test]
+fn the_high_area_goes_round_while_a20_is_off(rt: HostRuntime) -> Result<(), Fail> {
+    let mut space = Space::new(rt.alloc())?;
+    // A20, an offset in segment FFFFh, the byte that is written there
+    let written = [
+        (false, 0x0010, 0x51),
+        (false, 0xFFFF, 0x52),
+        (true, 0x0010, 0x53),
+        (true, 0xFFFF, 0x54),
+    ];
+    for (on, offset, byte) in written {
+        space.set_a20(on);
+        space.poke(0xFFFF, offset, byte);
+    }
+    // A20, segment, offset, the byte that is read: the ends of the high area, 100000h and 10FFEFh,
+    // and the places 100000h below them
+    let read = [
+        (true, 0xFFFF, 0x0010, 0x53),
+        (true, 0xFFFF, 0xFFFF, 0x54),
+        (true, 0x0000, 0x0000, 0x51),
+        (true, 0x0000, 0xFFEF, 0x52),
+        (false, 0xFFFF, 0x0010, 0x51),
+        (false, 0xFFFF, 0xFFFF, 0x52),
+    ];
+    for (on, segment, offset, byte) in read {
+        space.set_a20(on);
+        let found = space.peek(segment, offset);
+        let asked = (on, segment, offset);
+        same(&rt, "byte", (asked, found), (asked, byte));
+    }
+    Ok(())
+}
+
+#[test]
 fn word_wraps_at_segment_end(rt: HostRuntime) -> Result<(), Fail> {
     let mut space = Space::new(rt.alloc())?;
     space.poke16(0x2000, 0xFFFF, 0x1234);
