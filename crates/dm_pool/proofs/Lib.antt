@@ -1,0 +1,10 @@
+pub mod Blocks
+pub mod Told
+pub mod Fits
+pub mod FreeList
+pub mod FreeRuns
+pub mod Gaps
+pub mod Layouts
+pub mod Order
+pub mod Parts
+pub mod Spelled

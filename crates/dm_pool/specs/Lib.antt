@@ -1,0 +1,5 @@
+pub mod Blocks
+pub mod FreeList
+pub mod Gaps
+pub mod Bytes
+pub mod Order
