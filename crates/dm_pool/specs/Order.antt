@@ -1,7 +1,7 @@
 -- The blocks in the order in which they lie, for the code's own use: no public contract speaks of it.
 use Rattle.std.specs.Prelude.{ℕ, ◌+◌, ◌*◌, ◌^◌, ◌<◌, ◌≤◌, ◌≡◌, ◌⊎◌, Bool, true, false, List, length, get_or, nat_lt, count_by, replicate, [], Option, Some, None}
 use Rattle.dm_pool.specs.declared.places.Place.{Place}
-use Rattle.dm_pool.specs.Blocks.{Apart}
+use Rattle.dm_pool.specs.Blocks.{Blocks, Apart, contents_of}
 use Rattle.dm_pool.specs.FreeList.{AreBased, Tells}
 
 -- where blocks lie by their numbers, the numbers of those that have units as they lie, and where the first free run is
@@ -53,3 +53,7 @@ pub record IsCut (places : List (Option Place)) (order : List ℕ) (rest end : �
 pub record IsToldIn (l : Layout) (bytes : List ℕ) : Type 0 where
   pub whole : length bytes ≡ l.units * 1024
   pub tells : Tells l.places l.units 0 l.first bytes
+
+-- the blocks that a table and the pool's bytes are
+abbrev pub blocks_in : Layout → List ℕ → Blocks
+blocks_in l bytes = record { units = l.units; places = l.places; contents = contents_of l.places bytes }

@@ -2,6 +2,7 @@
 #![tactic(auto)]
 
 mod places;
+mod pool;
 mod runs;
 mod table;
 

@@ -1,6 +1,6 @@
 //! Where blocks lie: by their numbers, and in the order in which they lie.
 ghost use Rattle.std.specs.Prelude.{◌≡◌, ℕ, ◌+◌, ◌^◌, ◌<◌, ◌≤◌, true, false, Some, None, get_or, set, length, replicate, IfSome, MatchOption};
-ghost use Rattle.dm_pool.specs.Gaps.{is_clear, first_empty};
+ghost use Rattle.dm_pool.specs.Gaps.{is_clear, is_free, first_empty};
 ghost use Rattle.dm_pool.specs.Order.{no_layout, IsNth, IsOrder, IsTable};
 
 use crate::places::Place;
@@ -63,6 +63,40 @@ fn rank(places: &[Option<Place>], order: &[u16], base: usize) -> usize
         }
     }
     order.len()
+}
+
+/// The lowest number that has no block.
+fn first_empty(places: &[Option<Place>]) -> Option<usize>
+    ensures first { result ≡ first_empty places.now }
+    ensures vacant { IfSome result (λ i. (i < length places.now) × (get_or places.now i None ≡ None)) }
+{
+    for i in 0..places.len() {
+        match places[i] {
+            None => return Some(i),
+            Some(_) => {}
+        }
+    }
+    None
+}
+
+/// Whether no block but the one with a number has a unit among so many from a unit on.
+fn is_clear_but(places: &[Option<Place>], slot: usize, from: usize, units: usize) -> bool
+    requires bounded { (i : ℕ) (b : _) → get_or places.now i None ≡ Some b → b.base + b.units < 2 ^ 31 }
+    requires range { from + units < 2 ^ 31 }
+    ensures { result ≡ is_clear (set places.now slot None) from units }
+{
+    for i in 0..places.len() {
+        if i == slot {
+            continue;
+        }
+        let Some(place) = places[i] else {
+            continue;
+        };
+        if place.base < from + units && from < place.base + place.units {
+            return false;
+        }
+    }
+    true
 }
 
 /// A block comes into the order, if it has units.
@@ -168,6 +202,25 @@ impl Table {
             Some(place) => place,
             None => Place { base: 0, units: 0 },
         }
+    }
+
+    /// The lowest number that has no block.
+    pub(crate) fn first_empty(&self) -> Option<usize>
+        ensures first { result ≡ first_empty self.now.places }
+        ensures vacant { IfSome result (λ i. (i < 576) × (get_or self.now.places i None ≡ None)) }
+    {
+        first_empty(&self.places)
+    }
+
+    /// Whether so many units from a unit on are in the pool, and free once the block with a number has gone.
+    pub(crate) fn is_free_but(&self, slot: usize, from: usize, units: usize) -> bool
+        requires { from ≤ self.now.units }
+        ensures { result ≡ is_free (set self.now.places slot None) self.now.units units from }
+    {
+        if units > self.units - from {
+            return false;
+        }
+        is_clear_but(&self.places, slot, from, units)
     }
 
     /// A block comes. It gets a number that has no block.
