@@ -6,6 +6,7 @@ pub mod FreeList
 pub mod FreeRuns
 pub mod Gaps
 pub mod Layouts
+pub mod Maximal
 pub mod Order
 pub mod Parts
 pub mod Spelled

@@ -3,7 +3,7 @@
 ghost use Rattle.std.specs.Prelude.{◌≡◌, ℕ, ◌+◌, ◌-◌, ◌*◌, ◌^◌, ◌<◌, ◌≤◌, length};
 ghost use Rattle.dm_pool.specs.Blocks.{contents_of};
 ghost use Rattle.dm_pool.specs.FreeList.{word, IsBelow, IsKeptOutside, Tells};
-ghost use Rattle.dm_pool.specs.Gaps.{lowest};
+ghost use Rattle.dm_pool.specs.Gaps.{lowest, gaps, free_units, largest, count_fitting};
 ghost use Rattle.dm_pool.specs.Order.{IsCut, IsToldIn};
 
 use crate::places::{Place, UNIT};
@@ -107,4 +107,53 @@ pub(crate) fn first_fit(table: &Table, bytes: &[u8], wanted: usize) -> Option<us
         at = run.next;
     }
     None
+}
+
+/// How many units are in no block.
+pub(crate) fn free_units(table: &Table, bytes: &[u8]) -> usize
+    requires { IsToldIn table.now bytes.now }
+    ensures { result ≡ free_units (gaps table.now.places table.now.units) }
+{
+    table.recall();
+    let mut sum = 0usize;
+    let mut at = table.first();
+    while at != NOWHERE {
+        let run = run_at(bytes, at as usize);
+        sum += run.units as usize;
+        at = run.next;
+    }
+    sum
+}
+
+/// The units of the largest gap, 0 if there is none.
+pub(crate) fn largest(table: &Table, bytes: &[u8]) -> usize
+    requires { IsToldIn table.now bytes.now }
+    ensures { result ≡ largest (gaps table.now.places table.now.units) }
+{
+    table.recall();
+    let mut most = 0usize;
+    let mut at = table.first();
+    while at != NOWHERE {
+        let run = run_at(bytes, at as usize);
+        most = most.max(run.units as usize);
+        at = run.next;
+    }
+    most
+}
+
+/// How many blocks of so many units fit into the gaps, one after the other.
+pub(crate) fn count_fitting(table: &Table, bytes: &[u8], units: usize) -> usize
+    requires told { IsToldIn table.now bytes.now }
+    requires some { 0 < units }
+    ensures { result ≡ count_fitting units (gaps table.now.places table.now.units) }
+{
+    table.recall();
+    let mut count = 0usize;
+    let mut at = table.first();
+    while at != NOWHERE {
+        let run = run_at(bytes, at as usize);
+        count += run.units as usize / units;
+        at = run.next;
+    }
+    count
 }
