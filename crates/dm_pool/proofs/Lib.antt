@@ -10,3 +10,4 @@ pub mod Maximal
 pub mod Order
 pub mod Parts
 pub mod Spelled
+pub mod Stored

@@ -3,3 +3,5 @@ pub mod FreeList
 pub mod Gaps
 pub mod Bytes
 pub mod Order
+pub mod Stored
+pub mod Lending

@@ -36,6 +36,8 @@ fn clear(bytes: &mut [u8], base: usize, units: usize)
 pub(crate) fn take(table: &mut Table, bytes: &mut [u8], units: usize) -> Option<usize>
     requires { IsToldIn table.old bytes.old }
     ensures told { IsToldIn table.new bytes.new }
+    ensures units { table.new.units ≡ table.old.units }
+    ensures small { IfSome result (λ slot. slot < 576) }
     ensures taken { MatchOption result ((taken (blocks_in table.old bytes.old) units ≡ None) × (table.new ≡ table.old) × (bytes.new ≡ bytes.old)) (λ slot. taken (blocks_in table.old bytes.old) units ≡ Some (slot, blocks_in table.new bytes.new)) }
 {
     table.recall();
@@ -53,6 +55,7 @@ pub(crate) fn give(table: &mut Table, bytes: &mut [u8], slot: usize)
     requires told { IsToldIn table.old bytes.old }
     requires live { IsLive (blocks_in table.old bytes.old) slot }
     ensures told { IsToldIn table.new bytes.new }
+    ensures units { table.new.units ≡ table.old.units }
     ensures blocks { blocks_in table.new bytes.new ≡ without (blocks_in table.old bytes.old) slot }
 {
     table.recall();
@@ -99,6 +102,7 @@ pub(crate) fn resize(table: &mut Table, bytes: &mut [u8], slot: usize, units: us
     requires told { IsToldIn table.old bytes.old }
     requires live { IsLive (blocks_in table.old bytes.old) slot }
     ensures told { IsToldIn table.new bytes.new }
+    ensures units { table.new.units ≡ table.old.units }
     ensures resized { MatchBool result (resized (blocks_in table.old bytes.old) slot units ≡ Some (blocks_in table.new bytes.new)) ((resized (blocks_in table.old bytes.old) slot units ≡ None) × (table.new ≡ table.old) × (bytes.new ≡ bytes.old)) }
 {
     let Some(base) = new_base(table, bytes, slot, units) else {

@@ -1,0 +1,130 @@
+//! The bytes of a machine, in one region: low memory by linear address, scratch bytes, and a pool of units of 1 KiB.
+ghost use Rattle.std.specs.Prelude.{◌≡◌, ◌↔◌, ◌*◌, ◌<◌, ◌≤◌, Some, None, [], get_or, length, IfOk, IfSome, IsErrOf, MatchOption};
+ghost use Rattle.std.specs.Borrow.{sem};
+ghost use Rattle.std.specs.Bool.{MatchBool};
+ghost use Rattle.dm_pool.specs.Blocks.{no_blocks, taken, resized, without, IsAt, IsLive};
+ghost use Rattle.dm_pool.specs.Gaps.{gaps, free_units, largest, count_fitting};
+ghost use Rattle.dm_pool.specs.Stored.{zeros_of, units_of, IsTooLarge};
+ghost use Rattle.dm_pool.specs.Lending.{LendsLow, LendsScratch, LendsBlock};
+
+use crate::block::Block;
+use crate::places::UNIT;
+use crate::pool;
+use crate::runs;
+use crate::sizes::Sizes;
+use crate::table::Table;
+use dm_region::Region;
+use std::alloc::{AllocError, Global};
+use std::marker::Model;
+
+/// How many bytes have a linear address of their own, up to the end of the high memory area.
+const LOW: usize = 0x11_0000;
+
+/// How many bytes have no address: what is put together out of sight stands in them.
+const SCRATCH: usize = 0x20_0000;
+
+/// Where the pool begins.
+const POOL: usize = LOW + SCRATCH;
+
+/// Low memory, scratch bytes and a pool of blocks, in one allocation that is given back when the store is dropped.
+#[derive(Drop)]
+pub struct Store {
+    region: Region,
+    table: Table,
+}
+
+impl Model for Store {
+    ghost use Rattle.dm_pool.specs.Stored.{Stored, IsStore, stored};
+
+    ghost Value = { Stored };
+
+    ghost view = { λ s. stored s.region s.table };
+
+    ghost invariant = { λ s. IsStore s.region s.table };
+}
+
+impl Store {
+    /// The bytes of low memory.
+    #[inline(always)]
+    pub fn low(&self) -> &[u8]
+        ensures value { result.now ≡ self.now.low }
+        ensures length { length result.now ≡ 0x110000 }
+    {
+        self.region.part(0, LOW)
+    }
+
+    /// The bytes of low memory, lent to be written.
+    #[inline(always)]
+    pub fn low_mut(&mut self) -> &mut [u8]
+        ensures* writes_back { sem 𝓛 (LendsLow self.entry result) }
+        ensures value { result.now ≡ self.old.low }
+        ensures length { length result.now ≡ 0x110000 }
+    {
+        self.region.part_mut(0, LOW)
+    }
+
+    /// The scratch bytes.
+    pub fn scratch(&self) -> &[u8]
+        ensures value { result.now ≡ self.now.scratch }
+        ensures length { length result.now ≡ 0x200000 }
+    {
+        self.region.part(LOW, SCRATCH)
+    }
+
+    /// The scratch bytes, lent to be written.
+    pub fn scratch_mut(&mut self) -> &mut [u8]
+        ensures* writes_back { sem 𝓛 (LendsScratch self.entry result) }
+        ensures value { result.now ≡ self.old.scratch }
+        ensures length { length result.now ≡ 0x200000 }
+    {
+        self.region.part_mut(LOW, SCRATCH)
+    }
+
+    /// How many bytes the pool has.
+    fn pool_len(&self) -> usize
+        ensures { result ≡ self.now.blocks.units * 1024 }
+    {
+        self.table.recall();
+        self.table.units() * UNIT
+    }
+
+    /// The number of a block that is taken.
+    fn take_slot(&mut self, units: usize) -> Option<usize>
+        ensures taken { MatchOption result ((taken self.old.blocks units ≡ None) × (self.new ≡ self.old)) (λ slot. (taken self.old.blocks units ≡ Some (slot, self.new.blocks)) × (self.new ≡ record self.old { blocks = self.new.blocks })) }
+        ensures small { IfSome result (λ slot. slot < 576) }
+    {
+        let len = self.pool_len();
+        pool::take(&mut self.table, self.region.part_mut(POOL, len), units)
+    }
+
+    /// Takes a block of so many units of 1 KiB, all zeros, in the lowest gap that holds them; a block of no unit needs no gap. None
+    /// where no gap holds them, or where there are 576 blocks; then nothing has changed.
+    pub fn take(&mut self, units: usize) -> Option<Block>
+        ensures { MatchOption result ((taken self.old.blocks units ≡ None) × (self.new ≡ self.old)) (λ block. (taken self.old.blocks units ≡ Some (block, self.new.blocks)) × (self.new ≡ record self.old { blocks = self.new.blocks })) }
+    {
+        match self.take_slot(units) {
+            Some(slot) => Some(Block::new(slot)),
+            None => None,
+        }
+    }
+
+    /// Gives a block back. Its units are free then, together with the free ones beside them.
+    pub fn give(&mut self, block: Block)
+        requires { IsLive self.old.blocks block }
+        ensures { self.new ≡ record self.old { blocks = without self.old.blocks block } }
+    {
+        let len = self.pool_len();
+        pool::give(&mut self.table, self.region.part_mut(POOL, len), block.slot());
+    }
+
+    /// Gives a block another size: bytes up to the smaller size stay, and new ones are zeros. The block stays where it is if it fits
+    /// there, else it moves to the lowest gap that holds it, its old place counted as taken; a block of no unit needs no gap. False
+    /// where neither holds it, and then nothing has changed.
+    pub fn resize(&mut self, block: Block, units: usize) -> bool
+        requires { IsLive self.old.blocks block }
+        ensures { MatchBool result ((resized self.old.blocks block units ≡ Some self.new.blocks) × (self.new ≡ record self.old { blocks = self.new.blocks })) ((resized self.old.blocks block units ≡ None) × (self.new ≡ self.old)) }
+    {
+        let len = self.pool_len();
+        pool::resize(&mut self.table, self.region.part_mut(POOL, len), block.slot(), units)
+    }
+}
