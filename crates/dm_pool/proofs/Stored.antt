@@ -1,10 +1,12 @@
 -- The parts of a store's region, as one of them is lent.
-use Rattle.std.proofs.Common.{◌≡◌, ℕ, zero, suc, ◌+◌, ◌*◌, ◌<◌, ◌≤◌, List, [], ◌∷◌, ◌++◌, length, take, drop, refl, sym, ap, ◌∙◌, subst, inl, inr, ◌⊎◌, arith}
+use Rattle.std.proofs.Common.{◌≡◌, ℕ, zero, suc, Bool, true, false, Option, Some, None, ◌+◌, ◌*◌, ◌<◌, ◌≤◌, List, [], ◌∷◌, ◌++◌, length, take, drop, refl, sym, ap, ◌∙◌, subst, inl, inr, ◌⊎◌, arith}
 use Rattle.std.specs.List.{refill, length_refill}
 use Rattle.std.proofs.lemmas.List.{length-replicate}
 use Rattle.dm_region.specs.Parts.{part, with_part}
 use Rattle.dm_region.proofs.Bytes.{left_length}
-use Rattle.dm_pool.specs.Blocks.{Blocks}
+use Rattle.std.specs.Prelude.{MatchOption}
+use Rattle.std.specs.Bool.{MatchBool}
+use Rattle.dm_pool.specs.Blocks.{Blocks, taken, resized}
 use Rattle.dm_pool.specs.Order.{Layout, IsToldIn, blocks_in}
 use Rattle.dm_pool.specs.Stored.{Stored, IsStore, stored, low_part, scratch_part, pool_part, refit, zeros_of}
 use Rattle.dm_pool.proofs.Blocks.{elsewhere, written, part_length, refilled}
@@ -43,16 +45,44 @@ same_stored low low' scratch scratch' blocks blocks' a b c =
     let three : Blocks → Stored = λ x. record { low = low'; scratch = scratch'; blocks = x } in
     ap one a ∙ ap two b ∙ ap three c
 
--- the pool's bytes are lent with its table, and w and l are what the borrower leaves
-module _ (xs w : List ℕ) (n : ℕ) (l : Layout) (whole : length xs ≡ 0x310000 + n * 1024) (long : length w ≡ n * 1024) (same : l.units ≡ n) (told : IsToldIn l w) where
-  all : 0x310000 + n * 1024 ≤ length xs
-  all = omega (arith, whole)
+-- the pool's N bytes are lent with its table, and w and l are what the borrower leaves
+module _ (xs w : List ℕ) (n N : ℕ) (l : Layout) (whole : length xs ≡ 0x310000 + n * 1024) (all : N ≡ n * 1024) (long : length w ≡ N) (same : l.units ≡ n) (told : IsToldIn l w) where
+  fits : 0x310000 + N ≤ length xs
+  fits = omega (arith, whole, all)
 
-  left : pool_part (lent xs w 0x310000 (n * 1024) all) l.units ≡ w
-  left = ap (pool_part (lent xs w 0x310000 (n * 1024) all)) same ∙ lent_whole xs w 0x310000 (n * 1024) all long
+  left : pool_part (lent xs w 0x310000 N fits) l.units ≡ w
+  left = let e : l.units * 1024 ≡ N = omega (arith, same, all) in ap (part (lent xs w 0x310000 N fits) 0x310000) e ∙ lent_whole xs w 0x310000 N fits long
 
-  pub pool_store : IsStore (with_part xs 0x310000 (n * 1024) (refill (n * 1024) (part xs 0x310000 (n * 1024)) w)) l
-  pool_store = record { whole = omega (arith, lent_length xs w 0x310000 (n * 1024) all, whole, same); told = subst (IsToldIn l) (sym left) told }
+  pub pool_store : IsStore (with_part xs 0x310000 N (refill N (part xs 0x310000 N) w)) l
+  pool_store = record { whole = omega (arith, lent_length xs w 0x310000 N fits, whole, same); told = subst (IsToldIn l) (sym left) told }
 
-  pub pool_stored : stored (with_part xs 0x310000 (n * 1024) (refill (n * 1024) (part xs 0x310000 (n * 1024)) w)) l ≡ record { low = low_part xs; scratch = scratch_part xs; blocks = blocks_in l w }
-  pool_stored = same_stored _ _ _ _ _ _ (lent_elsewhere xs w 0x310000 (n * 1024) all 0 0x110000 (inl (omega arith))) (lent_elsewhere xs w 0x310000 (n * 1024) all 0x110000 0x200000 (inl (omega arith))) (ap (blocks_in l) left)
+  pub pool_stored : stored (with_part xs 0x310000 N (refill N (part xs 0x310000 N) w)) l ≡ record { low = low_part xs; scratch = scratch_part xs; blocks = blocks_in l w }
+  pool_stored = same_stored _ _ _ _ _ _ (lent_elsewhere xs w 0x310000 N fits 0 0x110000 (inl (omega arith))) (lent_elsewhere xs w 0x310000 N fits 0x110000 0x200000 (inl (omega arith))) (ap (blocks_in l) left)
+
+-- the pool's bytes as they are lent
+pub pool_told : (xs p : List ℕ) (N : ℕ) (l : Layout) → N ≡ l.units * 1024 → p ≡ part xs 0x310000 N → IsStore xs l → IsToldIn l p
+pool_told xs p N l all e s = subst (IsToldIn l) (sym (e ∙ ap (part xs 0x310000) all)) s.told
+
+pub pool_fits : (xs : List ℕ) (N : ℕ) (l : Layout) → N ≡ l.units * 1024 → IsStore xs l → 0x310000 + N ≤ length xs
+pool_fits xs N l all s = omega (arith, s.whole, all)
+
+-- what a call on the pool told of its table and bytes, told of the store
+module _ (x y : Stored) (l l' : Layout) (p w : List ℕ) (was : blocks_in l p ≡ x.blocks) (new : y ≡ record { low = x.low; scratch = x.scratch; blocks = blocks_in l' w }) where
+  kept : l' ≡ l → w ≡ p → y ≡ x
+  kept a b = new ∙ ap (λ (k : Layout). record x { blocks = blocks_in k w }) a ∙ ap (λ (q : List ℕ). record x { blocks = blocks_in l q }) b ∙ ap (λ (s : Blocks). record x { blocks = s }) was
+
+  blocks_are : y.blocks ≡ blocks_in l' w
+  blocks_are = ap (λ (s : Stored). s.blocks) new
+
+  rest_is : y ≡ record x { blocks = y.blocks }
+  rest_is = new ∙ ap (λ (s : Blocks). record x { blocks = s }) (sym blocks_are)
+
+  pub told_taken : (o : Option ℕ) (u : ℕ) → MatchOption o ((taken (blocks_in l p) u ≡ None) × (l' ≡ l) × (w ≡ p)) (λ i. taken (blocks_in l p) u ≡ Some (i, blocks_in l' w))
+      → MatchOption o ((taken x.blocks u ≡ None) × (y ≡ x)) (λ i. (taken x.blocks u ≡ Some (i, y.blocks)) × (y ≡ record x { blocks = y.blocks }))
+  told_taken None u h = (ap (λ s. taken s u) (sym was) ∙ h.0, kept h.1 h.2)
+  told_taken (Some i) u h = (ap (λ s. taken s u) (sym was) ∙ h ∙ ap (λ (s : Blocks). Some (i, s)) (sym blocks_are), rest_is)
+
+  pub told_resized : (b : Bool) (i u : ℕ) → MatchBool b (resized (blocks_in l p) i u ≡ Some (blocks_in l' w)) ((resized (blocks_in l p) i u ≡ None) × (l' ≡ l) × (w ≡ p))
+      → MatchBool b ((resized x.blocks i u ≡ Some y.blocks) × (y ≡ record x { blocks = y.blocks })) ((resized x.blocks i u ≡ None) × (y ≡ x))
+  told_resized true i u h = (ap (λ s. resized s i u) (sym was) ∙ h ∙ ap (λ (s : Blocks). Some s) (sym blocks_are), rest_is)
+  told_resized false i u h = (ap (λ s. resized s i u) (sym was) ∙ h.0, kept h.1 h.2)

@@ -43,6 +43,14 @@ impl Model for Store {
     ghost invariant = { λ s. IsStore s.region s.table };
 }
 
+/// How many bytes the pool has.
+fn pool_len(table: &Table) -> usize
+    ensures { result ≡ table.now.units * 1024 }
+{
+    table.recall();
+    table.units() * UNIT
+}
+
 impl Store {
     /// The bytes of low memory.
     #[inline(always)]
@@ -80,20 +88,12 @@ impl Store {
         self.region.part_mut(LOW, SCRATCH)
     }
 
-    /// How many bytes the pool has.
-    fn pool_len(&self) -> usize
-        ensures { result ≡ self.now.blocks.units * 1024 }
-    {
-        self.table.recall();
-        self.table.units() * UNIT
-    }
-
     /// The number of a block that is taken.
     fn take_slot(&mut self, units: usize) -> Option<usize>
         ensures taken { MatchOption result ((taken self.old.blocks units ≡ None) × (self.new ≡ self.old)) (λ slot. (taken self.old.blocks units ≡ Some (slot, self.new.blocks)) × (self.new ≡ record self.old { blocks = self.new.blocks })) }
         ensures small { IfSome result (λ slot. slot < 576) }
     {
-        let len = self.pool_len();
+        let len = pool_len(&self.table);
         pool::take(&mut self.table, self.region.part_mut(POOL, len), units)
     }
 
@@ -113,7 +113,7 @@ impl Store {
         requires { IsLive self.old.blocks block }
         ensures { self.new ≡ record self.old { blocks = without self.old.blocks block } }
     {
-        let len = self.pool_len();
+        let len = pool_len(&self.table);
         pool::give(&mut self.table, self.region.part_mut(POOL, len), block.slot());
     }
 
@@ -124,7 +124,7 @@ impl Store {
         requires { IsLive self.old.blocks block }
         ensures { MatchBool result ((resized self.old.blocks block units ≡ Some self.new.blocks) × (self.new ≡ record self.old { blocks = self.new.blocks })) ((resized self.old.blocks block units ≡ None) × (self.new ≡ self.old)) }
     {
-        let len = self.pool_len();
+        let len = pool_len(&self.table);
         pool::resize(&mut self.table, self.region.part_mut(POOL, len), block.slot(), units)
     }
 }
