@@ -1,15 +1,20 @@
 -- The parts of a store's region, as one of them is lent.
-use Rattle.std.proofs.Common.{◌≡◌, ℕ, zero, suc, Bool, true, false, Option, Some, None, ◌+◌, ◌*◌, ◌<◌, ◌≤◌, List, [], ◌∷◌, ◌++◌, length, take, drop, refl, sym, ap, ◌∙◌, subst, inl, inr, ◌⊎◌, arith}
+use Rattle.std.proofs.Common.{◌≡◌, ℕ, zero, suc, Bool, true, false, Option, Some, None, ◌+◌, ◌*◌, ◌<◌, ◌≤◌, List, [], ◌∷◌, ◌++◌, length, get_or, take, drop, refl, sym, ap, ◌∙◌, subst, inl, inr, ◌⊎◌, arith}
 use Rattle.std.specs.List.{refill, length_refill}
 use Rattle.std.proofs.lemmas.List.{length-replicate}
 use Rattle.dm_region.specs.Parts.{part, with_part}
 use Rattle.dm_region.proofs.Bytes.{left_length}
 use Rattle.std.specs.Prelude.{MatchOption}
 use Rattle.std.specs.Bool.{MatchBool}
-use Rattle.dm_pool.specs.Blocks.{Blocks, taken, resized}
-use Rattle.dm_pool.specs.Order.{Layout, IsToldIn, blocks_in}
+use Rattle.dm_pool.specs.declared.places.Place.{Place}
+use Rattle.dm_pool.specs.Blocks.{Blocks, taken, resized, with_content, contents_of}
+use Rattle.dm_pool.specs.FreeList.{IsTold}
+use Rattle.dm_pool.specs.Order.{Layout, IsLaid, IsToldIn, blocks_in}
 use Rattle.dm_pool.specs.Stored.{Stored, IsStore, stored, low_part, scratch_part, pool_part, refit, zeros_of}
-use Rattle.dm_pool.proofs.Blocks.{elsewhere, written, part_length, refilled}
+use Rattle.dm_pool.proofs.Blocks.{elsewhere, written, part_length, refilled, lent_is}
+use Rattle.dm_pool.proofs.Layouts.{pool_of}
+use Rattle.dm_pool.proofs.Parts.{part_in, part_with_part}
+use Rattle.dm_pool.proofs.Told.{told_lent}
 
 pub length-zeros_of : (n : ℕ) → length (zeros_of n) ≡ n
 unfolding zeros_of
@@ -86,3 +91,38 @@ module _ (x y : Stored) (l l' : Layout) (p w : List ℕ) (was : blocks_in l p �
       → MatchBool b ((resized x.blocks i u ≡ Some y.blocks) × (y ≡ record x { blocks = y.blocks })) ((resized x.blocks i u ≡ None) × (y ≡ x))
   told_resized true i u h = (ap (λ s. resized s i u) (sym was) ∙ h ∙ ap (λ (s : Blocks). Some s) (sym blocks_are), rest_is)
   told_resized false i u h = (ap (λ s. resized s i u) (sym was) ∙ h.0, kept h.1 h.2)
+
+-- a block is lent, and w is what the borrower leaves
+module _ (xs : List ℕ) (l : Layout) (i : ℕ) (b : Place) (w : List ℕ) (s : IsStore xs l) (laid : IsLaid l.units l.places) (at : get_or l.places i None ≡ Some b) where
+  abbrev pub block_left : List ℕ
+  block_left = with_part xs (0x310000 + b.base * 1024) (b.units * 1024) (refill (b.units * 1024) (part xs (0x310000 + b.base * 1024) (b.units * 1024)) w)
+
+  abbrev p : List ℕ
+  p = pool_part xs l.units
+
+  inside : b.base * 1024 + b.units * 1024 ≤ l.units * 1024
+  inside = omega (arith, laid.within i b at)
+
+  room : 0x310000 + b.base * 1024 + b.units * 1024 ≤ length xs
+  room = omega (arith, inside, s.whole)
+
+  there : part xs (0x310000 + b.base * 1024) (b.units * 1024) ≡ part p (b.base * 1024) (b.units * 1024)
+  there = sym (part_in xs 0x310000 (l.units * 1024) (b.base * 1024) (b.units * 1024) inside)
+
+  pool_after : pool_part block_left l.units ≡ with_part p (b.base * 1024) (b.units * 1024) (refill (b.units * 1024) (part p (b.base * 1024) (b.units * 1024)) w)
+  pool_after =
+      part_with_part xs (refill (b.units * 1024) (part xs (0x310000 + b.base * 1024) (b.units * 1024)) w) 0x310000 (l.units * 1024) (b.base * 1024) (b.units * 1024)
+      (four xs w (0x310000 + b.base * 1024) (b.units * 1024) room) inside (omega (arith, s.whole))
+      ∙ ap (λ (o : List ℕ). with_part p (b.base * 1024) (b.units * 1024) (refill (b.units * 1024) o w)) there
+
+  is_told : IsTold l.units l.places p l.first
+  is_told = record { pool = pool_of l.units l.places p laid s.told.whole; based = laid.based; tells = s.told.tells }
+
+  pub block_store : IsStore block_left l
+  block_store =
+      let t = told_lent l.units l.places p l.first i b w is_told at in
+      record { whole = lent_length xs w (0x310000 + b.base * 1024) (b.units * 1024) room ∙ s.whole; told = subst (IsToldIn l) (sym pool_after) (record { whole = t.pool.whole; tells = t.tells }) }
+
+  pub block_stored : stored block_left l ≡ record { low = low_part xs; scratch = scratch_part xs; blocks = with_content (blocks_in l p) i (refit (get_or (contents_of l.places p) i []) w) }
+  block_stored = same_stored _ _ _ _ _ _ (lent_elsewhere xs w (0x310000 + b.base * 1024) (b.units * 1024) room 0 0x110000 (inl (omega arith))) (lent_elsewhere xs w (0x310000 + b.base * 1024) (b.units * 1024) room 0x110000 0x200000 (inl (omega arith)))
+      (ap (blocks_in l) pool_after ∙ lent_is l.units l.places p is_told.pool i b at w)

@@ -1,5 +1,5 @@
 //! The bytes of a machine, in one region: low memory by linear address, scratch bytes, and a pool of units of 1 KiB.
-ghost use Rattle.std.specs.Prelude.{◌≡◌, ◌↔◌, ◌*◌, ◌<◌, ◌≤◌, Some, None, [], get_or, length, IfOk, IfSome, IsErrOf, MatchOption};
+ghost use Rattle.std.specs.Prelude.{◌≡◌, ◌↔◌, ◌+◌, ◌*◌, ◌^◌, ◌<◌, ◌≤◌, Some, None, [], get_or, length, IfOk, IfSome, IsErrOf, MatchOption};
 ghost use Rattle.std.specs.Borrow.{sem};
 ghost use Rattle.std.specs.Bool.{MatchBool};
 ghost use Rattle.dm_pool.specs.Blocks.{no_blocks, taken, resized, without, IsAt, IsLive};
@@ -8,7 +8,7 @@ ghost use Rattle.dm_pool.specs.Stored.{zeros_of, units_of, IsTooLarge};
 ghost use Rattle.dm_pool.specs.Lending.{LendsLow, LendsScratch, LendsBlock};
 
 use crate::block::Block;
-use crate::places::UNIT;
+use crate::places::{Place, UNIT};
 use crate::pool;
 use crate::runs;
 use crate::sizes::Sizes;
@@ -49,6 +49,17 @@ fn pool_len(table: &Table) -> usize
 {
     table.recall();
     table.units() * UNIT
+}
+
+/// Where a block lies.
+fn place_of(table: &Table, block: Block) -> Place
+    requires { (b : _) × (get_or table.now.places block None ≡ Some b) }
+    ensures place { get_or table.now.places block None ≡ Some result }
+    ensures within { result.base + result.units ≤ table.now.units }
+    ensures small { table.now.units < 2 ^ 31 }
+{
+    table.recall();
+    table.place(block.slot())
 }
 
 impl Store {
@@ -126,5 +137,58 @@ impl Store {
     {
         let len = pool_len(&self.table);
         pool::resize(&mut self.table, self.region.part_mut(POOL, len), block.slot(), units)
+    }
+
+    /// The first unit of a block, counted from the pool's first; 0 for a block of no unit.
+    pub fn base(&self, block: Block) -> usize
+        requires { IsLive self.now.blocks block }
+        ensures { (units : _) × IsAt self.now.blocks block (record { base = result; units = units }) }
+    {
+        place_of(&self.table, block).base
+    }
+
+    /// The bytes of a block.
+    pub fn bytes(&self, block: Block) -> &[u8]
+        requires { IsLive self.now.blocks block }
+        ensures { result.now ≡ get_or self.now.blocks.contents block [] }
+    {
+        let place = place_of(&self.table, block);
+        self.region.part(POOL + place.base * UNIT, place.units * UNIT)
+    }
+
+    /// The bytes of a block, lent to be written.
+    pub fn bytes_mut(&mut self, block: Block) -> &mut [u8]
+        requires { IsLive self.old.blocks block }
+        ensures* writes_back { sem 𝓛 (LendsBlock self.entry block result) }
+        ensures value { result.now ≡ get_or self.old.blocks.contents block [] }
+    {
+        self.table.recall();
+        let place = place_of(&self.table, block);
+        self.region.part_mut(POOL + place.base * UNIT, place.units * UNIT)
+    }
+
+    /// The units of the largest gap, 0 if there is none.
+    pub fn largest(&self) -> usize
+        ensures { result ≡ largest (gaps self.now.blocks.places self.now.blocks.units) }
+    {
+        let len = pool_len(&self.table);
+        runs::largest(&self.table, self.region.part(POOL, len))
+    }
+
+    /// How many units are in no block.
+    pub fn free(&self) -> usize
+        ensures { result ≡ free_units (gaps self.now.blocks.places self.now.blocks.units) }
+    {
+        let len = pool_len(&self.table);
+        runs::free_units(&self.table, self.region.part(POOL, len))
+    }
+
+    /// How many blocks of so many units fit into the gaps, one after the other.
+    pub fn count_fitting(&self, units: usize) -> usize
+        requires { 0 < units }
+        ensures { result ≡ count_fitting units (gaps self.now.blocks.places self.now.blocks.units) }
+    {
+        let len = pool_len(&self.table);
+        runs::count_fitting(&self.table, self.region.part(POOL, len), units)
     }
 }
