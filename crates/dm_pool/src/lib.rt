@@ -12,4 +12,4 @@ mod table;
 pub use block::Block;
 pub use places::{Place, UNIT};
 pub use sizes::Sizes;
-pub use store::Store;
+pub use store::{NewError, Store};

@@ -16,12 +16,16 @@ use crate::table::Table;
 use dm_region::Region;
 use std::alloc::{AllocError, Global};
 use std::marker::Model;
+use thiserror::Error;
 
 /// How many bytes have a linear address of their own, up to the end of the high memory area.
 const LOW: usize = 0x11_0000;
 
 /// How many bytes have no address: what is put together out of sight stands in them.
 const SCRATCH: usize = 0x20_0000;
+
+/// How many units a page of expanded memory has.
+const PAGE_UNITS: usize = 16;
 
 /// Where the pool begins.
 const POOL: usize = LOW + SCRATCH;
@@ -41,6 +45,39 @@ impl Model for Store {
     ghost view = { λ s. stored s.region s.table };
 
     ghost invariant = { λ s. IsStore s.region s.table };
+}
+
+/// Why no store was made.
+#[derive(Clone, Copy, Debug, PartialEq, Eq, Error)]
+pub enum NewError {
+    /// Over 512 pages of expanded memory, or over 15,360 KiB of extended memory.
+    #[error("too large")]
+    TooLarge,
+    /// Memory was refused.
+    #[error("out of memory")]
+    Memory,
+}
+
+/// A region of zeros. (A function of its own, so that no proof of a large one writes them out.)
+#[tactic(auto, unfolding(crate::specs::Stored::zeros_of))]
+fn blank(alloc: Global, len: usize) -> Result<Region, AllocError>
+    ensures { IfOk result (λ region. region ≡ zeros_of len) }
+{
+    Region::new(alloc, len)
+}
+
+/// A store of zeros, whose pool has so many units and no block.
+fn store_of(alloc: Global, units: usize) -> Result<Store, AllocError>
+    requires { units < 2 ^ 31 }
+    ensures low { IfOk result (λ store. store.low ≡ zeros_of 0x110000) }
+    ensures scratch { IfOk result (λ store. store.scratch ≡ zeros_of 0x200000) }
+    ensures blocks { IfOk result (λ store. store.blocks ≡ no_blocks units) }
+{
+    let mut region = blank(alloc, POOL + units * UNIT)?;
+    let mut table = Table::new(units);
+    let first = runs::spell(&table, region.part_mut(POOL, units * UNIT));
+    table.set_first(first);
+    Ok(Store { region, table })
 }
 
 /// How many bytes the pool has.
@@ -63,6 +100,28 @@ fn place_of(table: &Table, block: Block) -> Place
 }
 
 impl Store {
+    /// A store of zeros with no block: 110000h bytes of low memory, 200000h scratch bytes, and a pool of 16 units of 1 KiB for each page
+    /// and one for each KiB of extended memory.
+    ///
+    /// # Errors
+    ///
+    /// `TooLarge` where there are over 512 pages or over 15,360 KiB; else `Memory` where memory was refused.
+    pub fn new(alloc: Global, sizes: Sizes) -> Result<Store, NewError>
+        ensures low { IfOk result (λ store. store.low ≡ zeros_of 0x110000) }
+        ensures scratch { IfOk result (λ store. store.scratch ≡ zeros_of 0x200000) }
+        ensures blocks { IfOk result (λ store. store.blocks ≡ no_blocks (units_of sizes)) }
+        ensures too_large { IsErrOf result NewError.TooLarge ↔ IsTooLarge sizes }
+    {
+        if sizes.ems_pages > 512 || sizes.xms_kib > 15_360 {
+            return Err(NewError::TooLarge);
+        }
+        let units = PAGE_UNITS * sizes.ems_pages as usize + sizes.xms_kib as usize;
+        match store_of(alloc, units) {
+            Ok(store) => Ok(store),
+            Err(_) => Err(NewError::Memory),
+        }
+    }
+
     /// The bytes of low memory.
     #[inline(always)]
     pub fn low(&self) -> &[u8]
