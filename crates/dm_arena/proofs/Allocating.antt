@@ -9,10 +9,9 @@ use Rattle.dm_arena.specs.declared.cut.Cut.{Cut}
 use Rattle.dm_arena.specs.declared.fit.Strategy.{Strategy}
 use Rattle.dm_arena.specs.declared.fit.Strategy.TheVariants.{First, Best, Last}
 use Rattle.dm_arena.specs.Chain.{IsHeader, signature, Spells, HasHeader, IsNonEmpty, next, IsClear, IsArena, Becomes}
-use Rattle.dm_arena.specs.Reading.{is_nil}
-use Rattle.dm_arena.specs.Blocks.{is_free, merge, join, join_after, fits, pick, cut, cut_low, cut_high, taken, IsIn}
-use Rattle.dm_arena.specs.Joins.{Fills, IsReplaceable, IsReplaced, IsJoined, cut_list}
-use Rattle.dm_arena.specs.Allocation.{Taking, changed, Placing, IsPlan}
+use Rattle.dm_arena.specs.Walks.{is_nil, pick, Fills, IsReplaceable, IsReplaced, IsJoined, Placing, IsPlan}
+use Rattle.dm_arena.specs.Blocks.{is_free, merge, join, join_after, fits, cut, cut_low, cut_high, taken, IsIn, cut_list}
+use Rattle.dm_arena.specs.Allocation.{Taking, changed}
 use Rattle.dm_arena.proofs.Chains.{has_left, has_right, has_either, spells_end, clear_map}
 use Rattle.dm_arena.proofs.Reading.{clear-below}
 use Rattle.dm_arena.proofs.Fitting.{fit_found}

@@ -4,10 +4,8 @@ use Rattle.dm_space.specs.Memory.{Memory}
 use Rattle.dm_arena.specs.declared.header.Header.{Header}
 use Rattle.dm_arena.specs.declared.header.Entry.{Entry}
 use Rattle.dm_arena.specs.Chain.{Spells, HasHeader, IsNonEmpty, next, IsClear, IsArena, Becomes}
-use Rattle.dm_arena.specs.Reading.{is_nil, IsFront}
-use Rattle.dm_arena.specs.Joins.{IsReplaceable, IsReplaced}
-use Rattle.dm_arena.specs.Owned.{BlockAt, freed}
-use Rattle.dm_arena.specs.Reading.{NoBlockAt, IsFinding, IsFoundAt}
+use Rattle.dm_arena.specs.Walks.{is_nil, IsFront, IsReplaceable, IsReplaced, IsFinding, IsFoundAt}
+use Rattle.dm_arena.specs.Owned.{BlockAt, freed, NoBlockAt}
 use Rattle.dm_arena.proofs.Chains.{has_left, has_right, has_either, clear_within}
 
 append_nil : (P : List Header) → P ++ [] ≡ P

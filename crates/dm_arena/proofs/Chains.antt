@@ -4,8 +4,8 @@ use Rattle.dm_space.specs.Memory.{Memory, place, peek, byte_at}
 use Rattle.dm_space.specs.Places.{IsWritable}
 use Rattle.dm_space.proofs.Places.{paragraph-apart, place-shaped, peek-place}
 use Rattle.dm_arena.specs.declared.header.Header.{Header}
-use Rattle.dm_arena.specs.Chain.{IsHeader, signature, Spells, HasHeader, next, IsClear}
-use Rattle.dm_arena.specs.Reading.{mark, is_nil, IsHeaderWritten}
+use Rattle.dm_arena.specs.Chain.{IsHeader, signature, Spells, HasHeader, next, IsClear, mark}
+use Rattle.dm_arena.specs.Walks.{is_nil, IsHeaderWritten}
 
 -- bytes 0 to 4 of the headers of L are the same
 pub record Agrees (S T : Memory) (L : List Header) : Type 0 where

@@ -8,9 +8,8 @@ use Rattle.dm_arena.specs.declared.fit.Strategy.{Strategy}
 use Rattle.dm_arena.specs.declared.fit.Spoken.{Spoken}
 use Rattle.dm_arena.specs.declared.fit.Choice.{Choice}
 use Rattle.dm_arena.specs.Chain.{Spells, IsNonEmpty, next}
-use Rattle.dm_arena.specs.Reading.{is_nil, IsSpelledFrom}
-use Rattle.dm_arena.specs.Blocks.{join, pick, better, largest, free_size, left_of, left_part}
-use Rattle.dm_arena.specs.Joins.{IsChoosing, IsJoinedFront}
+use Rattle.dm_arena.specs.Walks.{is_nil, IsSpelledFrom, pick, better, left_of, left_part, IsChoosing, IsJoinedFront}
+use Rattle.dm_arena.specs.Blocks.{join, largest, free_size}
 
 pub pick-append : (st : Strategy) (n : ℕ) (best : Option Header) (X Y : List Header) → pick st n best (X ++ Y) ≡ pick st n (pick st n best X) Y
 pick-append st n best [] Y = refl

@@ -4,7 +4,8 @@ use Rattle.std.proofs.lemmas.Bool.Decides.{nat_tests}
 use Rattle.dm_arena.specs.declared.header.Header.{Header}
 use Rattle.dm_arena.specs.declared.fit.Strategy.{Strategy}
 use Rattle.dm_arena.specs.declared.fit.Strategy.TheVariants.{First, Best, Last}
-use Rattle.dm_arena.specs.Blocks.{fits, prefers, IsIn, IsFit, pick, better}
+use Rattle.dm_arena.specs.Blocks.{fits, prefers, IsIn, IsFit}
+use Rattle.dm_arena.specs.Walks.{pick, better}
 
 prefers-trans : (st : Strategy) (a b c : Header) → IsTrue (prefers st a b) → IsTrue (prefers st b c) → IsTrue (prefers st a c)
 prefers-trans First a b c x y = grind (arith, nat_tests)

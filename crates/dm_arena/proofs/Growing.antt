@@ -7,11 +7,9 @@ use Rattle.dm_arena.specs.declared.header.Entry.{Entry}
 use Rattle.dm_arena.specs.declared.cut.Cut.{Cut}
 use Rattle.dm_arena.specs.declared.fit.Strategy.TheVariants.{First}
 use Rattle.dm_arena.specs.Chain.{Spells, HasHeader, IsNonEmpty, next, IsClear, IsArena, Becomes}
-use Rattle.dm_arena.specs.Reading.{IsSpelledFrom, IsFront}
-use Rattle.dm_arena.specs.Blocks.{is_free, merge, cut, cut_low}
-use Rattle.dm_arena.specs.Joins.{Fills, IsReplaceable, IsReplaced, cut_list}
-use Rattle.dm_arena.specs.Owned.{BlockRunAt, absorb, AllFree, BeginsTaken, IsGrown, IsGrowable, resized}
-use Rattle.dm_arena.specs.Reading.{IsFoundAt}
+use Rattle.dm_arena.specs.Walks.{IsSpelledFrom, IsFront, Fills, IsReplaceable, IsReplaced, IsGrown, IsGrowable, IsFoundAt}
+use Rattle.dm_arena.specs.Blocks.{is_free, merge, cut, cut_low, cut_list}
+use Rattle.dm_arena.specs.Owned.{BlockRunAt, absorb, AllFree, BeginsTaken, resized}
 use Rattle.dm_arena.proofs.Chains.{has_left, has_right, has_either, spells_end}
 use Rattle.dm_arena.proofs.Reading.{clear-below}
 use Rattle.dm_arena.proofs.Allocating.{cut_fills, low_rest, high_rest}

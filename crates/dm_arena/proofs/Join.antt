@@ -4,10 +4,9 @@ use Rattle.dm_space.specs.Memory.{Memory}
 use Rattle.dm_space.proofs.Places.{place-shaped, shaped-then}
 use Rattle.dm_arena.specs.declared.header.Header.{Header}
 use Rattle.dm_arena.specs.declared.header.Entry.{Entry}
-use Rattle.dm_arena.specs.Chain.{IsHeader, signature, Spells, HasHeader, IsNonEmpty, next, IsClear, IsArena}
-use Rattle.dm_arena.specs.Reading.{mark, is_nil, IsHeaderWritten}
+use Rattle.dm_arena.specs.Chain.{IsHeader, signature, Spells, HasHeader, IsNonEmpty, next, IsClear, IsArena, mark}
+use Rattle.dm_arena.specs.Walks.{is_nil, IsHeaderWritten, IsJoiningAll, IsJoinedFront, IsJoined}
 use Rattle.dm_arena.specs.Blocks.{join}
-use Rattle.dm_arena.specs.Joins.{IsJoiningAll, IsJoinedFront, IsJoined}
 use Rattle.dm_arena.proofs.Chains.{Agrees, spells_kept, spells_replace, spells_above, spells_below, has_left, has_right, has_either, clear_within, clear_map, agrees_written, mark-signature}
 
 append-nil : (P : List Header) → P ++ [] ≡ P

@@ -8,11 +8,10 @@ use Rattle.dm_arena.specs.declared.refusal.Refusal.TheVariants.{Destroyed, Short
 use Rattle.dm_arena.specs.declared.fit.Strategy.{Strategy}
 use Rattle.dm_arena.specs.declared.fit.Strategy.TheVariants.{First, Best, Last}
 use Rattle.dm_arena.specs.Chain.{first_header, HasHeader, IsClear, IsArena, Becomes}
-use Rattle.dm_arena.specs.Reading.{NoBlockAt}
+use Rattle.dm_arena.specs.Owned.{NoBlockAt, BlockAt, freed, Frees, FreeRefused, absorb, AllFree, BeginsTaken, BlockRunAt, resized, Resizes, ResizeRefused, released, Releases}
 use Rattle.dm_arena.specs.Blocks.{is_free, join, largest, fits, prefers, IsIn, cut, cut_low, taken}
-use Rattle.dm_arena.specs.Joins.{Fills}
+use Rattle.dm_arena.specs.Walks.{Fills}
 use Rattle.dm_arena.specs.Allocation.{Taking, changed, Allocates, AllocateRefused}
-use Rattle.dm_arena.specs.Owned.{BlockAt, freed, Frees, FreeRefused, absorb, AllFree, BeginsTaken, BlockRunAt, resized, Resizes, ResizeRefused, released, Releases}
 use Rattle.dm_arena.proofs.Chains.{has_right}
 use Rattle.dm_arena.proofs.Allocating.{in_middle}
 use Rattle.dm_arena.proofs.Unique.{arena_unique, becomes_unique, fills_of, join_fills, split_unique}

@@ -7,8 +7,8 @@ use Rattle.dm_arena.specs.declared.refusal.Refusal.TheVariants.{Destroyed, Short
 use Rattle.dm_arena.specs.declared.fit.Spoken.{Spoken}
 use Rattle.dm_arena.specs.declared.fit.Strategy.{Strategy}
 use Rattle.dm_arena.specs.Chain.{first_header, IsArena, IsClear, Becomes, next}
-use Rattle.dm_arena.specs.Blocks.{join, largest, pick, fits, IsIn, cut, taken, left_of, rest_of}
-use Rattle.dm_arena.specs.Joins.{Fills}
+use Rattle.dm_arena.specs.Blocks.{join, largest, fits, IsIn, cut, taken}
+use Rattle.dm_arena.specs.Walks.{pick, left_of, rest_of, Fills}
 use Rattle.dm_arena.specs.Allocation.{Taking, changed}
 use Rattle.dm_arena.specs.Pair.{Pairing, Planned, paired, IsPair, Placed, placed_of, Pairs, PairRefused}
 use Rattle.dm_arena.proofs.Allocating.{taking_of, in_middle, fits_size, cut_fills}

@@ -10,8 +10,8 @@ use Rattle.dm_arena.specs.declared.fit.Spoken.{Spoken}
 use Rattle.dm_arena.specs.declared.fit.Strategy.{Strategy}
 use Rattle.dm_arena.specs.declared.fit.Strategy.TheVariants.{First, Best, Last}
 use Rattle.dm_arena.specs.Chain.{HasHeader, IsClear, IsArena, IsNonEmpty, Spells, Becomes, next}
-use Rattle.dm_arena.specs.Blocks.{is_free, join, fits, pick, better, largest, free_size, cut, cut_low, cut_high, taken, IsIn, IsFit, left_of, left_part, rest_of}
-use Rattle.dm_arena.specs.Joins.{Fills, IsJoined, IsReplaceable, IsReplaced, cut_list}
+use Rattle.dm_arena.specs.Blocks.{is_free, join, fits, largest, free_size, cut, cut_low, cut_high, taken, IsIn, IsFit, cut_list}
+use Rattle.dm_arena.specs.Walks.{pick, better, left_of, left_part, rest_of, Fills, IsJoined, IsReplaceable, IsReplaced}
 use Rattle.dm_arena.specs.Allocation.{changed}
 use Rattle.dm_arena.specs.Pair.{Pairing, Planned, IsPair, paired}
 use Rattle.dm_arena.proofs.Chains.{has_left, has_right, has_either, spells_end, clear_within, clear_map}

@@ -4,10 +4,9 @@ use Rattle.dm_space.specs.Memory.{Memory, peek}
 use Rattle.dm_space.proofs.Places.{place-low, place-low-injective}
 use Rattle.dm_arena.specs.declared.header.Header.{Header}
 use Rattle.dm_arena.specs.declared.header.Entry.{Entry}
-use Rattle.dm_arena.specs.Chain.{word, IsHeader, signature, Spells, HasHeader, next, IsArena, IsClear}
-use Rattle.dm_arena.specs.Reading.{is_nil, mark, IsFront, IsSpelledFrom, IsArenaFrom}
+use Rattle.dm_arena.specs.Chain.{word, IsHeader, signature, Spells, HasHeader, next, IsArena, IsClear, mark}
+use Rattle.dm_arena.specs.Walks.{is_nil, IsFront, IsSpelledFrom, IsArenaFrom, IsJoining, IsJoinedFront}
 use Rattle.dm_arena.specs.Blocks.{is_free, merge, join, join_after}
-use Rattle.dm_arena.specs.Joins.{IsJoining, IsJoinedFront}
 
 pub joining_start : (S : Memory) (L : List Header) (e : Entry) → (K : List Header) × IsFront S L e K → (K : List Header) × IsJoining S L e K
 joining_start S L e (K, f) = (K, record { is = ap join f.is; last = f.last; rest = f.rest; within = λ g w. rw f.is (inr w) })

@@ -5,9 +5,8 @@ use Rattle.dm_space.proofs.Places.{place-shaped, shaped-then}
 use Rattle.dm_arena.specs.declared.header.Header.{Header}
 use Rattle.dm_arena.specs.declared.header.Entry.{Entry}
 use Rattle.dm_arena.specs.Chain.{Spells, HasHeader, IsNonEmpty, next, IsArena, Becomes, DiffersInHeaders}
-use Rattle.dm_arena.specs.Reading.{is_nil, IsFront}
-use Rattle.dm_arena.specs.Joins.{IsReplaceable, IsReplaced}
-use Rattle.dm_arena.specs.Owned.{released, released_block, IsReleasing}
+use Rattle.dm_arena.specs.Walks.{is_nil, IsFront, IsReplaceable, IsReplaced, IsReleasing}
+use Rattle.dm_arena.specs.Owned.{released, released_block}
 use Rattle.dm_arena.proofs.Chains.{has_left, has_right, has_either, spells_end, clear_within, clear_map}
 
 released-has : (o : ℕ) (P : List Header) (g : ℕ) → HasHeader (released o P) g → HasHeader P g

@@ -3,9 +3,8 @@ use Rattle.std.proofs.Common.{◌≡◌, ℕ, ◌<◌, ◌≤◌, Bool, List, []
 use Rattle.dm_space.specs.Memory.{Memory}
 use Rattle.dm_space.proofs.Places.{place-shaped, shaped-then}
 use Rattle.dm_arena.specs.declared.header.Header.{Header}
-use Rattle.dm_arena.specs.Chain.{IsHeader, signature, Spells, HasHeader, next, IsClear}
-use Rattle.dm_arena.specs.Reading.{mark, IsHeaderWritten}
-use Rattle.dm_arena.specs.Joins.{Fills, IsReplaceable, IsReplaced}
+use Rattle.dm_arena.specs.Chain.{IsHeader, signature, Spells, HasHeader, next, IsClear, mark}
+use Rattle.dm_arena.specs.Walks.{IsHeaderWritten, Fills, IsReplaceable, IsReplaced}
 use Rattle.dm_arena.proofs.Chains.{Agrees, spells_kept, spells_replace, spells_above, spells_below, spells_end, header_kept, has_left, has_right, clear_map, agrees_written, byte_kept, mark-signature}
 
 -- what comes after blocks that fill h to t is spelled from t on

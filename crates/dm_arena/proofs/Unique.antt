@@ -6,7 +6,7 @@ use Rattle.dm_space.proofs.Places.{place-decide, place-shaped, peek-place, memor
 use Rattle.dm_arena.specs.declared.header.Header.{Header}
 use Rattle.dm_arena.specs.Chain.{word, Spells, HasHeader, IsChain, IsHeader, IsArena, Becomes, next}
 use Rattle.dm_arena.specs.Blocks.{is_free, merge, join, join_after}
-use Rattle.dm_arena.specs.Joins.{Fills}
+use Rattle.dm_arena.specs.Walks.{Fills}
 use Rattle.dm_arena.specs.Listing.{Path, Leads}
 use Rattle.dm_arena.proofs.Reading.{header-unique}
 use Rattle.dm_arena.proofs.Chains.{has_right}

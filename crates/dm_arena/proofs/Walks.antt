@@ -4,8 +4,8 @@ use Rattle.std.specs.Prelude.{if◌then◌else◌, IfSome}
 use Rattle.dm_space.specs.Memory.{Memory}
 use Rattle.dm_arena.specs.declared.header.Header.{Header}
 use Rattle.dm_arena.specs.declared.header.Entry.{Entry}
-use Rattle.dm_arena.specs.Chain.{first_header, IsHeader, signature, Spells, HasHeader, IsNonEmpty, next, IsClear, NoArena}
-use Rattle.dm_arena.specs.Reading.{is_nil, mark}
+use Rattle.dm_arena.specs.Chain.{first_header, IsHeader, signature, Spells, HasHeader, IsNonEmpty, next, IsClear, NoArena, mark}
+use Rattle.dm_arena.specs.Walks.{is_nil}
 use Rattle.dm_arena.specs.declared.listing.Step.{Step}
 use Rattle.dm_arena.specs.declared.listing.Step.TheVariants.{Told, Destroyed}
 use Rattle.dm_arena.specs.Listing.{Walking, Path, Leads, Follows, Closes, IsStep, IsStepFrom, IsUnderWay}

@@ -1,15 +1,13 @@
 -- Allocation: what it answers, and what it leaves.
 -- MS-DOS Programmer's Reference, function 48h.
-use Rattle.std.specs.Prelude.{◌≡◌, ℕ, ◌+◌, ◌⊎◌, List, ◌∷◌, ◌++◌, Result, Ok, Err, IsTrue}
+use Rattle.std.specs.Prelude.{Err, IsTrue, List, Ok, Result, ℕ, ◌++◌, ◌+◌, ◌∷◌, ◌≡◌, ◌⊎◌}
 use Rattle.dm_space.specs.Memory.{Memory}
 use Rattle.dm_arena.specs.declared.header.Header.{Header}
-use Rattle.dm_arena.specs.declared.allocation.Plan.{Plan}
 use Rattle.dm_arena.specs.declared.refusal.Refusal.{Refusal}
-use Rattle.dm_arena.specs.declared.refusal.Refusal.TheVariants.{Destroyed, Short, NoBlock}
+use Rattle.dm_arena.specs.declared.refusal.Refusal.TheVariants.{Destroyed, NoBlock, Short}
 use Rattle.dm_arena.specs.declared.fit.Strategy.{Strategy}
-use Rattle.dm_arena.specs.Chain.{first_header, next, IsArena, NoArena, IsClear, Becomes}
-use Rattle.dm_arena.specs.Blocks.{join, largest, fits, IsIn, IsFit, cut, taken}
-use Rattle.dm_arena.specs.Joins.{Fills, cut_list}
+use Rattle.dm_arena.specs.Chain.{Becomes, IsArena, IsClear, NoArena, first_header}
+use Rattle.dm_arena.specs.Blocks.{IsFit, IsIn, cut, fits, join, largest, taken}
 
 -- the arena, and the block of its joined list that the strategy takes for n paragraphs
 pub record Taking (S : Memory) (start : ℕ) (strategy : Strategy) (n : ℕ) : Type 0 where
@@ -37,21 +35,3 @@ abbrev pub Allocates : Memory → Strategy → ℕ → ℕ → Result ℕ Refusa
 Allocates S strategy n owner (Ok segment) T =
     (t : Taking S first_header strategy n) × (segment ≡ taken strategy n t.block + 1) × Becomes S first_header (changed t owner) T
 Allocates S strategy n owner (Err e) T = (T ≡ S) × AllocateRefused S first_header strategy n owner e
-
--- what is planned
-pub record IsPlan (S : Memory) (start : ℕ) (strategy : Strategy) (n owner : ℕ) (plan : Plan) : Type 0 where
-  pub taking : Taking S start strategy n
-  pub cut_is : cut_list plan.cut ≡ cut strategy n owner taking.block
-  pub segment_is : plan.segment ≡ taken strategy n taking.block + 1
-  pub clear : IsClear S (changed taking owner)
-
--- the headers C may stand in the place of a block of the joined arena
-pub record Placing (S : Memory) (start : ℕ) (C : List Header) : Type 0 where
-  pub list : List Header
-  pub before : List Header
-  pub block : Header
-  pub after : List Header
-  pub arena : IsArena S start list
-  pub joined : join list ≡ before ++ block ∷ after
-  pub fills : Fills block.segment C (next block)
-  pub clear : IsClear S (before ++ (C ++ after))

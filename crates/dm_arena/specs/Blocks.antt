@@ -1,10 +1,10 @@
 -- Lists of blocks: joined, chosen from and cut.
 -- MS-DOS Programmer's Reference, functions 48h, 4Ah and 58h: which free block is taken, and which end of it.
-use Rattle.std.specs.Prelude.{◌++◌, if◌then◌else◌, option_to_list, ◌≡◌, ℕ, ◌+◌, ◌-◌, ◌⊎◌, Bool, cond, ◌&&◌, ◌||◌, ◌==◌, nat_lt, nat_le, max, List, [], ◌∷◌, Option, Some, None, IsTrue}
+use Rattle.std.specs.Prelude.{Bool, IsTrue, List, [], cond, max, nat_le, nat_lt, option_to_list, ℕ, ◌&&◌, ◌+◌, ◌-◌, ◌==◌, ◌||◌, ◌∷◌, ◌≡◌, ◌⊎◌}
 use Rattle.dm_arena.specs.declared.header.Header.{Header}
 use Rattle.dm_arena.specs.declared.fit.Strategy.{Strategy}
-use Rattle.dm_arena.specs.declared.fit.Spoken.{Spoken}
-use Rattle.dm_arena.specs.declared.fit.Strategy.TheVariants.{First, Best, Last}
+use Rattle.dm_arena.specs.declared.fit.Strategy.TheVariants.{Best, First, Last}
+use Rattle.dm_arena.specs.declared.cut.Cut.{Cut}
 
 abbrev pub is_free : Header → Bool
 is_free b = b.owner == 0
@@ -70,29 +70,5 @@ taken First n b = b.segment
 taken Best n b = b.segment
 taken Last n b = b.segment + b.size - n
 
--- the search, as it goes
-abbrev pub better : Strategy → ℕ → Option Header → Header → Option Header
-better strategy n None c = cond (fits n c) (Some c) None
-better strategy n (Some b) c = cond (fits n c && prefers strategy c b) (Some c) (Some b)
-
-abbrev pub pick : Strategy → ℕ → Option Header → List Header → Option Header
-pick strategy n best [] = best
-pick strategy n best (c ∷ L) = pick strategy n (better strategy n best c) L
-
--- what there is to choose from, of a block of the list: all of it, but of the block that is spoken for only the rest
-abbrev pub left_part : Option Spoken → Header → Option Header
-left_part None b = Some b
-left_part (Some s) b = if s.segment == b.segment then s.rest else Some b
-
-abbrev pub left_of : Option Spoken → List Header → List Header
-left_of spoken [] = []
-left_of spoken (b ∷ L) = option_to_list (left_part spoken b) ++ left_of spoken L
-
--- the part of a cut block that stays free
-abbrev pub rest_block : Strategy → ℕ → Header → Header
-rest_block First n b = record { segment = b.segment + 1 + n; owner = 0; size = b.size - n - 1 }
-rest_block Best n b = record { segment = b.segment + 1 + n; owner = 0; size = b.size - n - 1 }
-rest_block Last n b = record { segment = b.segment; owner = 0; size = b.size - n - 1 }
-
-abbrev pub rest_of : Strategy → ℕ → Header → Option Header
-rest_of strategy n b = if b.size == n then None else Some (rest_block strategy n b)
+abbrev pub cut_list : Cut → List Header
+cut_list c = c.first ∷ option_to_list c.second

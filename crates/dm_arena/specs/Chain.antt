@@ -2,10 +2,10 @@
 -- MS-DOS Programmer's Reference, "Arena header": byte 0 of a header is `M`, or `Z` in the last one; the word at 1 is the
 -- owner, 0 for a free block; the word at 3 is the size of the block in paragraphs. The block follows its header of one
 -- paragraph, and the next header follows the block.
-use Rattle.std.specs.Prelude.{◌≡◌, ◌≢◌, ℕ, ◌+◌, ◌*◌, ◌<◌, ◌≤◌, ◌⊎◌, List, [], ◌∷◌}
+use Rattle.std.specs.Prelude.{Bool, List, [], cond, ℕ, ◌*◌, ◌+◌, ◌<◌, ◌∷◌, ◌≡◌, ◌≢◌, ◌≤◌, ◌⊎◌}
 use Rattle.dm_space.specs.declared.place.Place.{Place}
-use Rattle.dm_space.specs.Memory.{Memory, place, peek, byte_at}
-use Rattle.dm_space.specs.Places.{IsWritable, IsShaped}
+use Rattle.dm_space.specs.Memory.{Memory, byte_at, peek, place}
+use Rattle.dm_space.specs.Places.{IsShaped, IsWritable}
 use Rattle.dm_arena.specs.declared.header.Header.{Header}
 
 -- the segment of the first header of conventional memory
@@ -75,3 +75,7 @@ pub record Becomes (S : Memory) (start : ℕ) (L : List Header) (T : Memory) : T
   pub clear : IsClear S L
   pub chain : IsChain T start L
   pub differs : DiffersInHeaders S L T
+
+-- the signature of an entry
+abbrev pub mark : Bool → ℕ
+mark last = cond last 0x5A 0x4D

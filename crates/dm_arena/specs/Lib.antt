@@ -1,9 +1,8 @@
 pub mod Chain
-pub mod Reading
 pub mod Blocks
-pub mod Joins
 pub mod Allocation
 pub mod Owned
 pub mod Pair
 pub mod Listing
 pub mod Laws
+pub mod Walks

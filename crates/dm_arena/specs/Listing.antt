@@ -5,8 +5,7 @@ use Rattle.dm_arena.specs.declared.header.Header.{Header}
 use Rattle.dm_arena.specs.declared.header.Entry.{Entry}
 use Rattle.dm_arena.specs.declared.listing.Step.{Step}
 use Rattle.dm_arena.specs.declared.listing.Step.TheVariants.{Told, End, Destroyed}
-use Rattle.dm_arena.specs.Chain.{first_header, next, IsHeader, IsClear, IsArena, NoArena}
-use Rattle.dm_arena.specs.Reading.{mark}
+use Rattle.dm_arena.specs.Chain.{first_header, next, mark, IsHeader, IsClear, IsArena, NoArena}
 
 -- the memory that is walked over, and the segment where the next header has to stand; none once the last was told
 pub record Walking : Type 0 where

@@ -1,14 +1,12 @@
 -- Blocks that are owned: freed, resized, and freed all together.
 -- MS-DOS Programmer's Reference, functions 49h and 4Ah.
-use Rattle.std.specs.Prelude.{◌≡◌, ℕ, ◌+◌, ◌<◌, ◌≤◌, ◌⊎◌, true, false, List, [], ◌∷◌, ◌++◌, Result, Ok, Err, ◌==◌, if◌then◌else◌}
+use Rattle.std.specs.Prelude.{Err, List, Ok, Result, [], false, if◌then◌else◌, true, ℕ, ◌++◌, ◌+◌, ◌<◌, ◌==◌, ◌∷◌, ◌≡◌, ◌≢◌, ◌≤◌, ◌⊎◌}
 use Rattle.dm_space.specs.Memory.{Memory}
 use Rattle.dm_arena.specs.declared.header.Header.{Header}
-use Rattle.dm_arena.specs.declared.header.Entry.{Entry}
 use Rattle.dm_arena.specs.declared.refusal.Refusal.{Refusal}
-use Rattle.dm_arena.specs.declared.refusal.Refusal.TheVariants.{Destroyed, Short, NoBlock}
-use Rattle.dm_arena.specs.Chain.{first_header, next, Spells, IsArena, NoArena, IsClear, Becomes, DiffersInHeaders}
-use Rattle.dm_arena.specs.Reading.{is_nil, NoBlockAt}
-use Rattle.dm_arena.specs.Blocks.{is_free, merge, cut_low}
+use Rattle.dm_arena.specs.declared.refusal.Refusal.TheVariants.{Destroyed, NoBlock, Short}
+use Rattle.dm_arena.specs.Chain.{Becomes, HasHeader, IsArena, IsClear, NoArena, first_header}
+use Rattle.dm_arena.specs.Blocks.{cut_low, is_free, merge}
 
 -- the arena, and its block at a segment
 pub record BlockAt (S : Memory) (start : ℕ) (segment : ℕ) : Type 0 where
@@ -22,6 +20,10 @@ pub record BlockAt (S : Memory) (start : ℕ) (segment : ℕ) : Type 0 where
 
 abbrev pub freed : Header → Header
 freed b = record b { owner = 0 }
+
+-- no block of L begins at the segment
+abbrev pub NoBlockAt : List Header → ℕ → Type 0
+NoBlockAt L segment = (h : ℕ) → HasHeader L h → h + 1 ≢ segment
 
 abbrev pub FreeRefused : Memory → ℕ → ℕ → Refusal → Type 0
 FreeRefused S start segment Destroyed = NoArena S start
@@ -73,18 +75,6 @@ abbrev pub Resizes : Memory → ℕ → ℕ → Result (Unit {0}) Refusal → Me
 Resizes S segment n (Ok u) T = (r : BlockRunAt S first_header segment) × (n ≤ (absorb r.block r.run).size) × Becomes S first_header (resized r n) T
 Resizes S segment n (Err e) T = (T ≡ S) × ResizeRefused S first_header segment n e
 
--- g is e with the free blocks R of K taken in, and Q is left
-pub record IsGrown (S : Memory) (e : Entry) (K : List Header) (g : Entry) (R Q : List Header) : Type 0 where
-  pub is : K ≡ R ++ Q
-  pub free : AllFree R
-  pub header : g.header ≡ absorb e.header R
-  pub last : g.last ≡ is_nil Q
-  pub rest : Spells S (next g.header) Q
-
-pub record IsGrowable (S : Memory) (e : Entry) (K : List Header) : Type 0 where
-  pub last : e.last ≡ is_nil K
-  pub rest : Spells S (next e.header) K
-
 -- each block of the owner made free
 abbrev pub released_block : ℕ → Header → Header
 released_block owner b = record b { owner = (if b.owner == owner then 0 else b.owner) }
@@ -97,10 +87,3 @@ released owner (b ∷ L) = released_block owner b ∷ released owner L
 abbrev pub Releases : Memory → ℕ → Result (Unit {0}) Refusal → Memory → Type 0
 Releases S owner (Ok u) T = (L : List Header) × IsArena S first_header L × Becomes S first_header (released owner L) T
 Releases S owner (Err e) T = (T ≡ S) × (e ≡ Destroyed) × NoArena S first_header
-
--- the blocks P are released, and K is left from segment h on
-pub record IsReleasing (S : Memory) (start : ℕ) (owner : ℕ) (L : List Header) (T : Memory) (h : ℕ) (P K : List Header) : Type 0 where
-  pub rest : Spells T h K
-  pub spells : Spells T start (released owner P ++ K)
-  pub is : L ≡ P ++ K
-  pub differs : DiffersInHeaders S (released owner P) T

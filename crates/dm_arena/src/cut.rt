@@ -2,8 +2,8 @@
 ghost use Rattle.std.specs.Prelude.{◌≡◌, ℕ, ◌+◌, ◌<◌, ◌≤◌, List, MatchBool, MatchOption};
 ghost use Rattle.dm_arena.specs.declared.header.Header.{Header};
 ghost use Rattle.dm_arena.specs.Chain.{next};
-ghost use Rattle.dm_arena.specs.Blocks.{cut, taken};
-ghost use Rattle.dm_arena.specs.Joins.{cut_list, IsReplaceable, IsReplaced};
+ghost use Rattle.dm_arena.specs.Blocks.{cut, taken, cut_list};
+ghost use Rattle.dm_arena.specs.Walks.{IsReplaceable, IsReplaced};
 
 use crate::fit::Strategy;
 use crate::header::{Entry, Header, write_header};

@@ -2,9 +2,9 @@
 ghost use Rattle.std.specs.Prelude.{◌≡◌, List, None, max, option_to_list};
 ghost use Rattle.dm_arena.specs.declared.header.Header.{Header};
 ghost use Rattle.dm_arena.specs.Chain.{first_header};
-ghost use Rattle.dm_arena.specs.Reading.{IsSpelledFrom};
-ghost use Rattle.dm_arena.specs.Blocks;
-ghost use Rattle.dm_arena.specs.Blocks.{better, join, largest, left_of, pick};
+ghost use Rattle.dm_arena.specs.Walks.{IsSpelledFrom, better, left_of, pick};
+ghost use Rattle.dm_arena.specs.Walks;
+ghost use Rattle.dm_arena.specs.Blocks.{join, largest};
 
 use crate::header::Header;
 use crate::joined::joined_at;
@@ -60,7 +60,7 @@ pub(crate) struct Spoken {
 
 /// What there is to choose from, of a block of the list.
 fn left_part(spoken: Option<Spoken>, header: Header) -> Option<Header>
-    ensures { result ≡ Blocks.left_part spoken header }
+    ensures { result ≡ Walks.left_part spoken header }
 {
     match spoken {
         Some(block) => {

@@ -4,10 +4,10 @@
 //! word of the owner (0 for a free block) and the word of the size in paragraphs.
 ghost use Rattle.std.specs.Prelude.{◌≡◌, ℕ, ◌+◌, ◌*◌, ◌<◌, ◌≤◌, ◌==◌};
 ghost use Rattle.dm_arena.specs.Blocks;
-ghost use Rattle.dm_space.specs.Memory.{peek};
+ghost use Rattle.dm_space.specs.Memory.{peek, IsHeld};
 ghost use Rattle.dm_space.specs.Places.{IsPoked};
-ghost use Rattle.dm_arena.specs.Chain.{next, word};
-ghost use Rattle.dm_arena.specs.Reading.{IsEntryAt, IsHeaderWritten, mark};
+ghost use Rattle.dm_arena.specs.Chain.{next, word, mark};
+ghost use Rattle.dm_arena.specs.Walks.{IsEntryAt, IsHeaderWritten};
 
 use dm_space::Space;
 
@@ -72,14 +72,21 @@ fn word_of(space: &Space, segment: u16, offset: u16) -> u16
     u16::from_le_bytes([low, high])
 }
 
+/// Tells a proof how large the memory is, and does nothing else: a byte that is written is read back
+/// only where there is one, and the sizes are known once a call has told them.
+fn knows_sizes(space: &Space)
+    ensures held { IsHeld space.now }
+{
+    let _a20 = space.a20();
+}
+
 /// Writes a byte of the paragraph at a segment.
 fn set_byte(space: &mut Space, segment: u16, offset: u16, value: u8)
     requires { offset < 16 }
     ensures memory { IsPoked space.old.memory (16 * segment + offset) value space.new.memory }
     ensures scratch { space.new.scratch ≡ space.old.scratch }
 {
-    // Any call that tells the sizes of the memory: a byte is kept only where there is one.
-    let _a20 = space.a20();
+    knows_sizes(space);
     space.poke(segment, offset, value);
 }
 

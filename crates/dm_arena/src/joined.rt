@@ -2,8 +2,7 @@
 ghost use Rattle.std.specs.Prelude.{◌≡◌, ℕ, ◌+◌, ◌≤◌, List};
 ghost use Rattle.dm_arena.specs.declared.header.Header.{Header};
 ghost use Rattle.dm_arena.specs.Chain.{first_header, next, IsArena};
-ghost use Rattle.dm_arena.specs.Reading.{IsSpelledFrom};
-ghost use Rattle.dm_arena.specs.Joins.{IsJoinedFront, IsJoined};
+ghost use Rattle.dm_arena.specs.Walks.{IsSpelledFrom, IsJoinedFront, IsJoined};
 
 use crate::header::{Entry, write_header};
 use crate::list::{FIRST, entry_at};

@@ -2,7 +2,7 @@
 ghost use Rattle.std.specs.Prelude.{◌≡◌, ℕ, ◌+◌, ◌≤◌, List, MatchBool, MatchOption};
 ghost use Rattle.dm_arena.specs.declared.header.Header.{Header};
 ghost use Rattle.dm_arena.specs.Chain.{first_header, next, IsArena, NoArena};
-ghost use Rattle.dm_arena.specs.Reading.{IsFront, IsSpelledFrom, FindsBlock};
+ghost use Rattle.dm_arena.specs.Walks.{IsFront, IsSpelledFrom, FindsBlock};
 
 use crate::header::{Entry, header_at};
 use dm_space::Space;

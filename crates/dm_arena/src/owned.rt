@@ -2,7 +2,8 @@
 ghost use Rattle.std.specs.Prelude.{◌≡◌, ◌≤◌, List};
 ghost use Rattle.dm_arena.specs.declared.header.Header.{Header};
 ghost use Rattle.dm_arena.specs.Chain.{first_header, next, Becomes, IsArena};
-ghost use Rattle.dm_arena.specs.Owned.{released, released_block, BeginsTaken, Frees, IsGrowable, IsGrown, Releases, Resizes};
+ghost use Rattle.dm_arena.specs.Owned.{released, released_block, BeginsTaken, Frees, Releases, Resizes};
+ghost use Rattle.dm_arena.specs.Walks.{IsGrowable, IsGrown};
 
 use crate::cut::{Cut, cut_of, is_clear_cut, write_cut};
 use crate::fit::Strategy;

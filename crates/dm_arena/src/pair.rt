@@ -1,7 +1,7 @@
 //! Two blocks planned and written together: the environment of a program, and the program's own.
 ghost use Rattle.std.specs.Prelude.{◌≡◌, ◌≤◌, ◌<◌, ◌⊎◌, min, MatchBool, MatchOption, MatchResult};
 ghost use Rattle.dm_arena.specs.Chain.{first_header, next, Becomes};
-ghost use Rattle.dm_arena.specs.Blocks.{rest_of};
+ghost use Rattle.dm_arena.specs.Walks.{rest_of};
 ghost use Rattle.dm_arena.specs.Pair.{paired, IsPair, IsPlannedOn, PairRefused};
 
 use crate::cut::{Cut, cut_of, is_clear_cut, taken_of, write_cut};
@@ -27,7 +27,7 @@ pub struct Pair {
 }
 
 impl Model for Pair {
-    ghost use Rattle.dm_arena.specs.Joins.{cut_list};
+    ghost use Rattle.dm_arena.specs.Blocks.{cut_list};
     ghost use Rattle.dm_arena.specs.Pair.{Planned, IsCutFitting};
 
     ghost Value = { Planned };
@@ -129,23 +129,23 @@ fn are_clear(first: Cut, second: Cut) -> bool
 pub fn plan_pair(
     space: &Space,
     strategy: Strategy,
-    environment: u16,
+    environment_paragraphs: u16,
     least: u32,
     most: u32,
 ) -> Result<Pair, Refusal>
-    ensures { MatchResult result (λ pair. IsPair space.now.memory first_header strategy environment least most pair) (λ e. PairRefused space.now.memory first_header strategy environment least most e) }
+    ensures { MatchResult result (λ pair. IsPair space.now.memory first_header strategy environment_paragraphs least most pair) (λ e. PairRefused space.now.memory first_header strategy environment_paragraphs least most e) }
 {
     if !is_arena(space) {
         return Err(Refusal::Destroyed);
     }
-    let choice = choose(space, strategy, environment, None);
+    let choice = choose(space, strategy, environment_paragraphs, None);
     let short = Refusal::Short {
         largest: choice.largest,
     };
     let Some(block) = choice.block else {
         return Err(short);
     };
-    let spoken = spoken_of(strategy, environment, block);
+    let spoken = spoken_of(strategy, environment_paragraphs, block);
     let left = choose(space, strategy, 0, Some(spoken)).largest;
     let size = smaller(most, left);
     if (size as u32) < least {
@@ -154,14 +154,15 @@ pub fn plan_pair(
     let Some(whole) = choose(space, strategy, size, Some(spoken)).block else {
         return Err(short);
     };
+    let environment_segment = taken_of(strategy, environment_paragraphs, block) + 1;
     let program = taken_of(strategy, size, whole) + 1;
-    let first = cut_of(strategy, environment, program, block);
+    let first = cut_of(strategy, environment_paragraphs, program, block);
     let second = cut_of(strategy, size, program, whole);
     if !are_clear(first, second) {
         return Err(Refusal::Destroyed);
     }
     Ok(Pair {
-        environment: taken_of(strategy, environment, block) + 1,
+        environment: environment_segment,
         program,
         size,
         first,

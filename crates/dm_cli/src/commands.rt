@@ -1,6 +1,6 @@
 //! The commands of `dm`, with their fault texts and statuses.
-ghost use Rattle.std.specs.Prelude.{◌≡◌, IfOk, map};
-ghost use Rattle.dm_cli.specs.Names.{last_part};
+ghost use Rattle.std.specs.Prelude.{◌≡◌, IfErr, IfOk, OnOk, map};
+ghost use Rattle.dm_cli.specs.Stores.{AddsFile, IsFaultOf, IsStarted, Stores};
 ghost use Rattle.dm_cli.specs.Statuses.{status_of, TellsWrongLine};
 ghost use Rattle.dm_services.specs.State.{HasProgram};
 
@@ -28,21 +28,38 @@ const USAGE: u8 = 2;
 /// The most bytes of a command tail.
 const MOST_TAIL_BYTES: usize = 126;
 
+/// Adds the file at `path` to the store, under the last part of its path.
+fn add_file<'a, F: Storage>(
+    alloc: Global,
+    storage: &F,
+    programs: &mut Programs,
+    path: &'a str,
+) -> Result<(), Fault<'a>>
+    ensures ok { OnOk result (AddsFile (F.contents storage.now path.now) programs.old path.now programs.new) }
+    ensures fault { IfErr result (λ e. IsFaultOf (Fault.CannotRead path.entry) (F.contents storage.now path.now) programs.old path.now e) }
+{
+    if !names_file(path) {
+        return Err(Fault::CannotRead(path));
+    }
+    let bytes = read_file(alloc, storage, path)?;
+    let name = program_name(path)?;
+    match programs.add(alloc, name, bytes) {
+        Ok(()) => Ok(()),
+        Err(refusal) => Err(Fault::from(refusal)),
+    }
+}
+
 /// The store of the files at `paths`, each under the last part of its path.
 fn read_programs<'a, F: Storage>(
     alloc: Global,
     storage: &F,
     paths: &[&'a str],
 ) -> Result<Programs, Fault<'a>>
-    ensures names { IfOk result (λ store. map (λ p. p.0) store ≡ map (λ path. last_part path.now) paths.now) }
+    ensures store { IfOk result (λ store. Stores (F.contents storage.now) (map (λ path. path.now) paths.now) store) }
 {
     let mut programs = Programs::new(alloc);
     for path in paths {
-        if !names_file(path) {
-            return Err(Fault::CannotRead(path));
-        }
-        let bytes = read_file(alloc, storage, path)?;
-        programs.add(alloc, program_name(path)?, bytes)?;
+        add_file(alloc, storage, &mut programs, path)?;
     }
     Ok(programs)
 }
@@ -54,7 +71,10 @@ fn loaded<'a, F: Storage, I: Read + Drop>(
     options: &MachineOptions<'a>,
     input: I,
 ) -> Result<Machine, Fault<'a>>
-    ensures { IfOk result (λ machine. HasProgram machine) }
+    ensures started { IfOk result (IsStarted (F.contents storage.now) (I.remaining input)
+        (record { ems_pages = options.now.ems_pages; xms_kib = options.now.xms_kib })
+        (map (λ path. path.now) options.now.files.items) options.now.tail.now) }
+    ensures loaded { IfOk result (λ machine. HasProgram machine) }
 {
     let programs = read_programs(alloc, storage, options.files.as_slice())?;
     let input = read_whole(alloc, input, "standard input")?;

@@ -1,5 +1,6 @@
 //! Reading whole files and standard input.
-ghost use Rattle.std.specs.Prelude.{◌≡◌, ◌<◌, ◌≤◌, ◌⊎◌, IfErr, IfOk, IfSome, length};
+ghost use Rattle.std.specs.Prelude.{◌≡◌, ◌<◌, ◌⊎◌, ℕ, List, Option, Some, None, IfErr, IfOk, IfSome, length};
+ghost use Rattle.dm_cli.specs.Stores.{IsRead};
 
 use crate::fault::Fault;
 use std::alloc::Global;
@@ -15,8 +16,12 @@ pub trait Storage {
     /// An open file.
     type File: Read + Drop;
 
+    // The bytes of the file at a path, where the storage can tell them.
+    ghost contents: { Self → List ℕ → Option (List ℕ) } = { λ _ _. None };
+
     /// Opens a file for reading.
-    fn open(&self, path: &str) -> io::Result<Self::File>;
+    fn open(&self, path: &str) -> io::Result<Self::File>
+        ensures contents { IfOk result (λ file. IfSome (contents self.now path.now) (λ xs. Self.File.remaining file ≡ Some xs)) };
 }
 
 /// The files of the system.
@@ -49,10 +54,9 @@ pub(crate) fn read_whole<'a, R: Read + Drop>(
     reader: R,
     name: &'a str,
 ) -> Result<Vec<u8>, Fault<'a>>
-    ensures bytes { IfOk result (λ v. IfSome (R.remaining reader) (λ xs. v.items ≡ xs)) }
-    ensures short { IfOk result (λ v. length v.items ≤ MOST_BYTES) }
+    ensures bytes { IfOk result (λ v. IsRead (R.remaining reader) v.items) }
     ensures faults { IfErr result (λ e. (e ≡ Fault.CannotRead name.entry) ⊎ (e ≡ Fault.OutOfMemory)
-        ⊎ ((e ≡ Fault.InputTooLong) × IfSome (R.remaining reader) (λ xs. MOST_BYTES < length xs))) }
+        ⊎ ((e ≡ Fault.InputTooLong) × IfSome (R.remaining reader) (λ xs. 16777216 < length xs))) }
 {
     let mut bytes = Vec::new(alloc);
     let mut limited = reader.take(MOST_BYTES as u64 + 1);
@@ -68,7 +72,11 @@ pub(crate) fn read_file<'a, F: Storage>(
     alloc: Global,
     storage: &F,
     path: &'a str,
-) -> Result<Vec<u8>, Fault<'a>> {
+) -> Result<Vec<u8>, Fault<'a>>
+    ensures bytes { IfOk result (λ v. IsRead (F.contents storage.now path.now) v.items) }
+    ensures faults { IfErr result (λ e. (e ≡ Fault.CannotRead path.entry) ⊎ (e ≡ Fault.OutOfMemory)
+        ⊎ ((e ≡ Fault.InputTooLong) × IfSome (F.contents storage.now path.now) (λ xs. 16777216 < length xs))) }
+{
     match storage.open(path) {
         Ok(file) => read_whole(alloc, file, path),
         Err(error) => Err(read_fault(&error, path)),

@@ -47,9 +47,10 @@ fn perform(cpu: &mut Cpu, space: &mut Space, ins: &Ins, start: u16)
 }
 
 /// Does the instruction of `len` bytes that stands at CS:IP (Intel 8086 Family User's Manual,
-/// section 2.7): changes registers, flags and memory as the instruction says and leaves the rest.
-/// Of a string instruction with a repeat prefix it does one repetition, and IP stays at the
-/// instruction until the last one. A flag that the manual leaves undefined stays.
+/// section 2.7): registers, flags and memory become what the instruction says. Nothing is promised of
+/// the scratch bytes, which no program sees. Of a string instruction with a repeat prefix it does one
+/// repetition, and IP stays at the instruction until the last one. A flag that the manual leaves
+/// undefined stays.
 #[inline(always)]
 #[tactic(auto, unfolding(crate::specs::Effect::effect))]
 pub fn exec(cpu: &mut Cpu, space: &mut Space, ins: &Ins, len: u8) -> Next

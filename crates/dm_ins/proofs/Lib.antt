@@ -1,5 +1,5 @@
 mod TableRules
-pub mod Steps
+pub mod Walks
 mod Demands
 mod Least
 mod Order

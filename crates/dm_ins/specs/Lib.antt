@@ -3,5 +3,5 @@ pub mod Table
 pub mod Spelling
 pub mod Ins
 pub mod Order
-pub mod Steps
-pub mod Encoding
+pub mod Walks
+pub mod Search

@@ -2,7 +2,7 @@
 
 ghost use Rattle.std.specs.Prelude.{◌≡◌, ◌<◌, IfSome, IsSome};
 ghost use Rattle.dm_ins.specs.Spelling.{extended};
-ghost use Rattle.dm_ins.specs.Encoding.{DemandFits, OperandFits, as_signed, asks_data, asks_place, asks_register, demand_of, is_direct, numbered, same_width};
+ghost use Rattle.dm_ins.specs.Search.{DemandFits, OperandFits, as_signed, asks_data, asks_place, asks_register, demand_of, is_direct, numbered, same_width};
 
 use crate::operand::{Address, Base, Operand, Width, extend};
 use crate::table::Kind;
@@ -114,7 +114,7 @@ fn signed(n: u16) -> Option<Demand>
 }
 
 /// What the operand asks of the bytes where a row has this kind, if it is of the kind.
-#[tactic(auto, unfolding(crate::specs::Encoding::demand_of))]
+#[tactic(auto, unfolding(crate::specs::Search::demand_of))]
 pub fn demand_for(kind: Kind, operand: Operand) -> Option<Demand>
     ensures value { result ≡ demand_of kind operand }
     ensures fits { IfSome result DemandFits }

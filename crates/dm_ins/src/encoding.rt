@@ -5,7 +5,7 @@ ghost use Rattle.arrayvec.specs.ArrayVec.{array_vec_len};
 ghost use Rattle.dm_ins.specs.Spelling.{prefix_byte};
 ghost use Rattle.dm_ins.specs.Ins.{Spells};
 ghost use Rattle.dm_ins.specs.Order.{before};
-ghost use Rattle.dm_ins.specs.Encoding.{prefix_list};
+ghost use Rattle.dm_ins.specs.Search.{prefix_list};
 
 use crate::fill::RowBytes;
 use crate::ins::Ins;

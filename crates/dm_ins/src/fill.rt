@@ -3,7 +3,7 @@
 ghost use Rattle.std.specs.Prelude.{◌≡◌, ◌+◌, ◌<◌, ◌≤◌, ◌++◌, IfSome, IsSome};
 ghost use Rattle.arrayvec.specs.ArrayVec.{array_vec_len};
 ghost use Rattle.dm_ins.specs.Spelling.{word};
-ghost use Rattle.dm_ins.specs.Encoding.{OperandFits, PlaceFits, behind_bytes, bytes_of, data_bytes, either, fields_bytes, memory_bytes, rm_of, seen_bytes, with_displacement};
+ghost use Rattle.dm_ins.specs.Search.{OperandFits, PlaceFits, behind_bytes, bytes_of, data_bytes, either, fields_bytes, memory_bytes, rm_of, seen_bytes, with_displacement};
 
 use crate::demand::{Data, Place, demand_for, has_no_base};
 use crate::operand::{Address, Base, Operand, extend};
@@ -107,7 +107,7 @@ fn put_memory(out: &mut RowBytes, register: u8, address: Address)
     }
 }
 
-#[tactic(auto, unfolding(crate::specs::Encoding::fields_bytes))]
+#[tactic(auto, unfolding(crate::specs::Search::fields_bytes))]
 fn put_fields(out: &mut RowBytes, register: u8, place: Place)
     requires room { array_vec_len out.old + 3 ≤ 12 }
     requires register { register < 8 }
@@ -162,7 +162,7 @@ fn put_behind(out: &mut RowBytes, register: Option<u8>, place: Option<Place>, se
 }
 
 /// The bytes of the row with these operands, if they are of its kinds.
-#[tactic(auto, unfolding(crate::specs::Encoding::bytes_of))]
+#[tactic(auto, unfolding(crate::specs::Search::bytes_of))]
 pub fn fill(choice: Choice, first: Operand, second: Operand) -> Option<RowBytes>
     requires { IfSome choice.register (λ n. n < 8) }
     ensures bytes { seen_bytes result ≡ bytes_of choice first second }

@@ -17,16 +17,3 @@ pub use laws::{
 };
 pub use loading::LoadError;
 pub use machine::{Machine, NewError};
-
-#[cfg(test)]
-mod allocation_tests;
-#[cfg(test)]
-mod checks;
-#[cfg(test)]
-mod console_tests;
-#[cfg(test)]
-mod process_tests;
-#[cfg(test)]
-mod programs;
-#[cfg(test)]
-mod tests;

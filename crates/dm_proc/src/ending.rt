@@ -1,12 +1,12 @@
 //! How a program ends (MS-DOS Programmer's Reference, functions 4Ch and 31h).
-ghost use Rattle.std.specs.Prelude.{◌≡◌, ◌+◌};
+ghost use Rattle.std.specs.Prelude.{◌≡◌, ◌+◌, IsErrOf, MatchBool};
 ghost use Rattle.dm_proc.specs.Processes.{Ends, Keeps, Terminates};
 
-use crate::block::write_from;
 use crate::parent::Ending;
 use crate::procs::Procs;
 use crate::psp::push_guest;
 use crate::refusal::ArenaDestroyed;
+use crate::writes::write_from;
 use arrayvec::ArrayVec;
 use dm_arena::{Refusal, free_all, resize};
 use dm_exec::Cpu;
@@ -19,6 +19,16 @@ fn vectors_back(space: &mut Space, segment: u16)
     let mut vectors: ArrayVec<u8, 12> = ArrayVec::new();
     push_guest(&mut vectors, space, segment, 0x0A, 12);
     write_from(space, 0, 0x88, vectors.as_slice());
+}
+
+/// Whether a call of the arena met no clear list of blocks, or would have left none.
+fn is_destroyed(answer: Result<(), Refusal>) -> bool
+    ensures { MatchBool result (IsErrOf answer Refusal.Destroyed) (IsErrOf answer Refusal.Destroyed → ⊥) }
+{
+    match answer {
+        Err(Refusal::Destroyed) => true,
+        Ok(()) | Err(Refusal::Short { .. } | Refusal::NoBlock) => false,
+    }
 }
 
 impl Procs {
@@ -68,11 +78,10 @@ impl Procs {
     ) -> Result<Ending, ArenaDestroyed>
         ensures { Keeps self.old cpu.old space.old.memory code paragraphs result self.new cpu.new space.new.memory }
     {
-        match resize(space, self.psp(), paragraphs) {
-            Err(Refusal::Destroyed) => Err(ArenaDestroyed),
-            Ok(()) | Err(Refusal::Short { .. } | Refusal::NoBlock) => {
-                Ok(self.end(cpu, space, 0x300 + code as u16))
-            }
+        let answer = resize(space, self.psp(), paragraphs);
+        if is_destroyed(answer) {
+            return Err(ArenaDestroyed);
         }
+        Ok(self.end(cpu, space, 0x300 + code as u16))
     }
 }

@@ -54,17 +54,25 @@ impl Procs {
         }
         let program = asked_program(cpu, space, programs)?;
         let segment = environment_segment(cpu, space, self.psp());
-        let Some(environment) = make_environment(space, segment, program.name.as_slice()) else {
+        let Some(environment_bytes) = make_environment(space, segment, program.name.as_slice())
+        else {
             return Err(Refusal::Environment);
         };
-        let pair = plan(space, strategy, &program.image, environment)?;
+        let pair = plan(space, strategy, &program.image, environment_bytes)?;
         if self.is_full() {
             return Err(Refusal::Short);
         }
         let arguments = arguments_at(cpu, space);
         let after = returned(cpu, space);
         let parent = self.psp();
-        let started = start(space, &program.image, pair, environment, parent, &arguments);
+        let started = start(
+            space,
+            &program.image,
+            pair,
+            environment_bytes,
+            parent,
+            &arguments,
+        );
         self.begin(started.segment, after);
         *cpu = started.cpu;
         Ok(())
@@ -92,9 +100,9 @@ impl Procs {
         ensures loads { Loads space.old.memory strategy image.now variables.now name.now (passed_of arguments.now) result space.new.memory }
         ensures present { IfOk result (λ r. 0 < r.0.present) }
     {
-        let environment = put_environment(space, variables, name);
-        let pair = plan(space, strategy, image, environment)?;
-        let started = start(space, image, pair, environment, 0, arguments);
+        let environment_bytes = put_environment(space, variables, name);
+        let pair = plan(space, strategy, image, environment_bytes)?;
+        let started = start(space, image, pair, environment_bytes, 0, arguments);
         Ok((Procs::of_first(started.segment), started.cpu))
     }
 }

@@ -8,17 +8,17 @@ ghost use Rattle.dm_proc.specs.Writes.{apply, block};
 ghost use Rattle.dm_proc.specs.Room.{paragraphs};
 ghost use Rattle.dm_proc.specs.Room;
 ghost use Rattle.dm_arena.specs.Pair.{placed_of};
-ghost use Rattle.dm_proc.specs.Blocks.{as_placed};
+ghost use Rattle.dm_proc.specs.Placed.{as_placed};
 ghost use Rattle.dm_proc.specs.Request.{passed_of};
 ghost use Rattle.dm_proc.specs.Start.{start_writes, zero_word, stack_writes};
 ghost use Rattle.dm_proc.specs.Processes.{PlanRefused, IsWritten};
 
 use crate::arguments::Arguments;
-use crate::block::{write_bytes, write_from, write_scratch};
-use crate::blocks::Blocks;
+use crate::placed::Blocks;
 use crate::psp::make_prefix;
 use crate::refusal::Refusal;
 use crate::room::{least, most};
+use crate::writes::{write_bytes, write_from, write_scratch};
 use dm_arena::{Pair, Strategy, plan_pair, write_pair};
 use dm_exec::{Cpu, Flags};
 use dm_load::{FarPointer, Image, Kind};
@@ -102,13 +102,19 @@ fn write_stack(space: &mut Space, image: &Image, blocks: Blocks)
 
 /// Makes all writes of a start behind those of the headers, in this order: environment (which the
 /// scratch part begins with), prefix, image, a COM program's zero word.
-fn write_start(space: &mut Space, image: &Image, blocks: Blocks, environment: usize, prefix: &[u8])
+fn write_start(
+    space: &mut Space,
+    image: &Image,
+    blocks: Blocks,
+    environment_bytes: usize,
+    prefix: &[u8],
+)
     requires size { Room.least image.now ≤ blocks.size }
-    requires environment { environment ≤ 0x200000 }
+    requires environment { environment_bytes ≤ 0x200000 }
     requires prefix { length prefix.now ≤ 0x200000 }
-    ensures { space.new.memory ≡ apply (start_writes space.old.memory.a20 (as_placed blocks) (take environment space.old.scratch) prefix.now image.now) space.old.memory }
+    ensures { space.new.memory ≡ apply (start_writes space.old.memory.a20 (as_placed blocks) (take environment_bytes space.old.scratch) prefix.now image.now) space.old.memory }
 {
-    write_scratch(space, blocks.environment, environment);
+    write_scratch(space, blocks.environment_segment, environment_bytes);
     write_bytes(space, blocks.program, prefix);
     let start = blocks.program.wrapping_add(0x10);
     write_image(space, image, start, start);
@@ -159,13 +165,19 @@ pub(crate) fn plan(
     space: &Space,
     strategy: Strategy,
     image: &Image,
-    environment: usize,
+    environment_bytes: usize,
 ) -> Result<Pair, Refusal>
-    requires { environment < 0x8100 }
-    ensures { MatchResult result (λ pair. IsPair space.now.memory first_header strategy (paragraphs environment) (Room.least image.now) (Room.most image.now) pair) (λ e. PlanRefused space.now.memory strategy environment image.now e) }
+    requires { environment_bytes < 0x8100 }
+    ensures { MatchResult result (λ pair. IsPair space.now.memory first_header strategy (paragraphs environment_bytes) (Room.least image.now) (Room.most image.now) pair) (λ e. PlanRefused space.now.memory strategy environment_bytes image.now e) }
 {
-    let paragraphs = environment.div_ceil(16) as u16;
-    match plan_pair(space, strategy, paragraphs, least(image), most(image)) {
+    let environment_paragraphs = environment_bytes.div_ceil(16) as u16;
+    match plan_pair(
+        space,
+        strategy,
+        environment_paragraphs,
+        least(image),
+        most(image),
+    ) {
         Ok(pair) => Ok(pair),
         Err(dm_arena::Refusal::Short { .. }) => Err(Refusal::Short),
         Err(dm_arena::Refusal::Destroyed) => Err(Refusal::Destroyed),
@@ -186,25 +198,25 @@ pub(crate) fn start(
     space: &mut Space,
     image: &Image,
     pair: Pair,
-    environment: usize,
+    environment_bytes: usize,
     parent: u16,
     arguments: &Arguments,
 ) -> Started
     requires planned { IsPlannedOn space.old.memory pair }
     requires size { Room.least image.now ≤ pair.size }
-    requires environment { environment ≤ 0x200000 }
+    requires environment { environment_bytes ≤ 0x200000 }
     ensures segment { result.segment ≡ pair.program }
     ensures registers { result.cpu ≡ Rattle.dm_proc.specs.Start.start_registers (placed_of pair) image.now }
-    ensures written { (p : IsPlannedOn space.old.memory pair) → IsWritten space.old.memory pair p (take environment space.old.scratch) image.now parent (passed_of arguments.now) space.new.memory }
+    ensures written { (p : IsPlannedOn space.old.memory pair) → IsWritten space.old.memory pair p (take environment_bytes space.old.scratch) image.now parent (passed_of arguments.now) space.new.memory }
 {
     let blocks = Blocks {
-        environment: pair.environment(),
+        environment_segment: pair.environment(),
         program: pair.program(),
         size: pair.size(),
     };
     let prefix = make_prefix(space, blocks, parent, arguments);
     write_pair(space, pair);
-    write_start(space, image, blocks, environment, prefix.as_slice());
+    write_start(space, image, blocks, environment_bytes, prefix.as_slice());
     Started {
         segment: blocks.program,
         cpu: start_registers(image, blocks),

@@ -4,8 +4,6 @@
 #![tactic(auto)]
 
 mod arguments;
-mod block;
-mod blocks;
 mod ending;
 mod environment;
 mod exec;
@@ -13,12 +11,14 @@ mod launch;
 mod laws;
 mod overlays;
 mod parent;
+mod placed;
 mod procs;
 mod programs;
 mod psp;
 mod refusal;
 mod request;
 mod room;
+mod writes;
 
 pub use arguments::Arguments;
 pub use laws::{

@@ -2,11 +2,11 @@
 ghost use Rattle.std.specs.Prelude.{◌≡◌, ◌+◌, ◌≤◌, ◌++◌, length};
 ghost use Rattle.dm_proc.specs.Writes.{bytes_from};
 ghost use Rattle.dm_proc.specs.Start.{word_bytes, zeros, prefix};
-ghost use Rattle.dm_proc.specs.Blocks.{as_placed};
+ghost use Rattle.dm_proc.specs.Placed.{as_placed};
 ghost use Rattle.dm_proc.specs.Request.{passed_of};
 
 use crate::arguments::Arguments;
-use crate::blocks::Blocks;
+use crate::placed::Blocks;
 use arrayvec::ArrayVec;
 use dm_space::Space;
 
@@ -83,7 +83,7 @@ pub(crate) fn make_prefix(
     push_guest(&mut prefix, space, 0, 0x88, 12);
     push_word(&mut prefix, parent);
     push_zeros(&mut prefix, 20);
-    push_word(&mut prefix, blocks.environment);
+    push_word(&mut prefix, blocks.environment_segment);
     push_zeros(&mut prefix, 34);
     push_bytes(&mut prefix, &[0xCD, 0x21, 0xCB]);
     push_zeros(&mut prefix, 9);

@@ -1,4 +1,4 @@
-//! Worked rows of the processor: arithmetic, instructions to bytes and back, and effects.
+//! Worked rows of the processor: arithmetic, and instructions to bytes and back.
 //!
 //! They stand apart from the crates that they try, since a crate with tests is proved twice.
 #![tactic(auto)]
@@ -10,7 +10,6 @@ mod checks;
 #[cfg(test)]
 mod decoding;
 #[cfg(test)]
-mod effects;
-#[cfg(test)]
 mod encoding;
+#[cfg(test)]
 mod operands;

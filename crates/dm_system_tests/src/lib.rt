@@ -1,11 +1,9 @@
-//! Worked rows of what lies around the processor: memory, arena, files, console, processes,
-//! services, and the program's words and writers.
+//! Worked rows of what lies around the processor: memory, files, console, services, and the
+//! program's words and writers.
 //!
 //! They stand apart from the crates that they try, since a crate with tests is proved twice.
 #![tactic(auto)]
 
-#[cfg(test)]
-mod arena;
 #[cfg(test)]
 mod checks;
 #[cfg(test)]
@@ -15,7 +13,6 @@ mod files;
 #[cfg(test)]
 mod options;
 #[cfg(test)]
-mod processes;
 mod programs;
 #[cfg(test)]
 mod services;

@@ -1,6 +1,6 @@
 use Rattle.std.proofs.Common.{ap, inr, rules, ◌∙◌}
 use Rattle.dm_arena.proofs.Allocating.{block_within, block_ends, planned, unplanned}
-use Rattle.dm_arena.specs.Reading.{IsSpelledFrom}
+use Rattle.dm_arena.specs.Walks.{IsSpelledFrom}
 use Rattle.dm_arena.proofs.Fitting.{none_found}
 use Rattle.dm_arena.specs.Blocks.{join, largest}
 use Rattle.dm_arena.proofs.Choosing.{chosen, left-all}

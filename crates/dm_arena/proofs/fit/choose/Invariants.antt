@@ -1,8 +1,7 @@
 use Rattle.std.proofs.Common.{◌-◌, List}
 use Rattle.dm_arena.specs.declared.header.Header.{Header}
 use Rattle.dm_arena.specs.Chain.{first_header}
-use Rattle.dm_arena.specs.Reading.{IsSpelledFrom}
-use Rattle.dm_arena.specs.Joins.{IsChoosing}
+use Rattle.dm_arena.specs.Walks.{IsSpelledFrom, IsChoosing}
 use Rattle.dm_arena.proofs.fit.choose.Given as goal
 
 abbrev pub invariant-walk : goal.invariant-walk

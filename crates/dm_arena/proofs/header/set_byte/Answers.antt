@@ -3,4 +3,4 @@ use Rattle.dm_arena.proofs.Bytes.{write-at}
 use Rattle.dm_arena.proofs.header.set_byte.Goals as goal
 
 pub returns-clause-memory : goal.returns-clause-memory
-returns-clause-memory c = write-at _ _ _ _ _ (omega arith) c.requires c.a20-a20.ensures.held c.poke.ensures
+returns-clause-memory c = write-at _ _ _ _ _ (omega arith) c.requires c.knows_sizes.ensures.held c.poke.ensures

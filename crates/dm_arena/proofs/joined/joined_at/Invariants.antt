@@ -1,8 +1,7 @@
 use Rattle.std.proofs.Common.{◌-◌, ◌≡◌, ◌≤◌, List}
 use Rattle.dm_arena.specs.declared.header.Header.{Header}
 use Rattle.dm_arena.specs.Chain.{next}
-use Rattle.dm_arena.specs.Reading.{IsSpelledFrom}
-use Rattle.dm_arena.specs.Joins.{IsJoining}
+use Rattle.dm_arena.specs.Walks.{IsSpelledFrom, IsJoining}
 use Rattle.dm_arena.proofs.joined.joined_at.Given as goal
 
 abbrev pub invariant-loop-entry : goal.invariant-loop-entry

@@ -1,7 +1,6 @@
 use Rattle.std.proofs.Common.{◌-◌, ◌≤◌, List}
 use Rattle.dm_arena.specs.declared.header.Header.{Header}
-use Rattle.dm_arena.specs.Reading.{IsSpelledFrom}
-use Rattle.dm_arena.specs.Reading.{IsFinding}
+use Rattle.dm_arena.specs.Walks.{IsSpelledFrom, IsFinding}
 use Rattle.dm_arena.proofs.list.find.Given as goal
 
 abbrev pub invariant-walk : goal.invariant-walk

@@ -1,7 +1,7 @@
 use Rattle.std.proofs.Common.{◌-◌, List}
 use Rattle.dm_arena.specs.declared.header.Header.{Header}
 use Rattle.dm_arena.specs.Chain.{first_header}
-use Rattle.dm_arena.specs.Reading.{IsArenaFrom}
+use Rattle.dm_arena.specs.Walks.{IsArenaFrom}
 use Rattle.dm_arena.proofs.list.is_arena.Given as goal
 
 abbrev pub invariant-walk : goal.invariant-walk

@@ -1,5 +1,5 @@
 use Rattle.dm_arena.specs.Chain.{first_header}
-use Rattle.dm_arena.specs.Reading.{IsSpelledFrom}
+use Rattle.dm_arena.specs.Walks.{IsSpelledFrom}
 use Rattle.dm_arena.proofs.Blocks.{freeing, frees}
 use Rattle.dm_arena.proofs.owned.free.Goals as goal
 

@@ -1,7 +1,7 @@
 use Rattle.std.proofs.Common.{◌-◌, ◌≡◌, List}
 use Rattle.dm_arena.specs.declared.header.Header.{Header}
 use Rattle.dm_arena.specs.Chain.{first_header, IsArena, IsNonEmpty}
-use Rattle.dm_arena.specs.Owned.{IsReleasing}
+use Rattle.dm_arena.specs.Walks.{IsReleasing}
 use Rattle.dm_arena.proofs.owned.release.Given as goal
 
 abbrev pub invariant-walk : goal.invariant-walk

@@ -1,7 +1,6 @@
 use Rattle.std.proofs.Common.{refl, inr, arith}
 use Rattle.dm_arena.specs.Chain.{first_header}
-use Rattle.dm_arena.specs.Reading.{IsSpelledFrom}
-use Rattle.dm_arena.specs.Owned.{IsGrowable}
+use Rattle.dm_arena.specs.Walks.{IsSpelledFrom, IsGrowable}
 use Rattle.dm_arena.proofs.Growing.{run_at, size_is, clear_resized, resizing, resizes, unresized}
 use Rattle.dm_arena.proofs.owned.resize.Goals as goal
 

@@ -1,6 +1,6 @@
 use Rattle.std.proofs.Common.{◌≡◌, ◌+◌, inr, sym, ◌∙◌, ap}
 use Rattle.dm_arena.specs.Chain.{first_header}
-use Rattle.dm_arena.specs.Reading.{IsSpelledFrom}
+use Rattle.dm_arena.specs.Walks.{IsSpelledFrom}
 use Rattle.dm_arena.specs.Blocks.{join, largest, taken}
 use Rattle.dm_arena.proofs.Choosing.{chosen, left-all}
 use Rattle.dm_arena.proofs.Allocating.{block_within, block_ends}
@@ -42,15 +42,15 @@ cut_of-first-requires-clause-fits c =
     let e = chosen _ _ a.0 _ _ (c.choose-choice.ensures.block a.0 s) c.in-Some.is in
     block_ends _ _ _ _ 0 a.0 _ a.1 e
 
-pub taken_of-requires-clause-within : goal.taken_of-requires-clause-within
-taken_of-requires-clause-within c =
+pub taken_of-environment_segment-requires-clause-within : goal.taken_of-environment_segment-requires-clause-within
+taken_of-environment_segment-requires-clause-within c =
     let a = c.if-not-is_arena.ensures in
     let s : IsSpelledFrom c.args.space.now.memory first_header a.0 = record { nonempty = a.1.0.0; spells = a.1.0.1 } in
     let e = chosen _ _ a.0 _ _ (c.choose-choice.ensures.block a.0 s) c.in-Some.is in
     block_within _ _ _ _ 0 a.0 _ a.1 e
 
-pub taken_of-requires-clause-fits : goal.taken_of-requires-clause-fits
-taken_of-requires-clause-fits c =
+pub taken_of-environment_segment-requires-clause-fits : goal.taken_of-environment_segment-requires-clause-fits
+taken_of-environment_segment-requires-clause-fits c =
     let a = c.if-not-is_arena.ensures in
     let s : IsSpelledFrom c.args.space.now.memory first_header a.0 = record { nonempty = a.1.0.0; spells = a.1.0.1 } in
     let e = chosen _ _ a.0 _ _ (c.choose-choice.ensures.block a.0 s) c.in-Some.is in
@@ -122,7 +122,7 @@ returns c =
     let o : c.taken_of-program.result + 1 ≡ taken c.args.strategy c.smaller-size.result c.in-Some-block.whole + 1 = ap (λ x. x + 1) c.taken_of-program.ensures.value in
     record {
       pairing = pairing _ _ _ _ a.0 _ a.1 e _ c.spoken_of-spoken.ensures.segment c.spoken_of-spoken.ensures.rest _ _ k c.args.least c.args.most _ _ (c.choose-left.ensures.largest a.0 s) c.smaller-size.ensures c.if-size-least.false o;
-      environment_is = ap (λ x. x + 1) c.taken_of.ensures.value;
+      environment_is = ap (λ x. x + 1) c.taken_of-environment_segment.ensures.value;
       first_is = c.cut_of-first.ensures.cut;
       second_is = c.cut_of-second.ensures.cut;
       clear = pair_clear _ _ _ _ a.0 _ a.1 e _ c.spoken_of-spoken.ensures.segment c.spoken_of-spoken.ensures.rest _ _ k c.args.least c.args.most _ _ (c.choose-left.ensures.largest a.0 s) c.smaller-size.ensures c.if-size-least.false o c.cut_of-first.result c.cut_of-second.result c.cut_of-first.ensures.cut c.cut_of-second.ensures.cut c.if-not-are_clear.ensures.low;

@@ -1,5 +1,5 @@
 use Rattle.std.proofs.Common.{◌+◌, ◌*◌}
-use Rattle.dm_ins.specs.Encoding.{Best, seen_bytes}
+use Rattle.dm_ins.specs.Search.{Best, seen_bytes}
 use Rattle.dm_ins.proofs.search.better_under.Given as goal
 
 -- of the rows so far

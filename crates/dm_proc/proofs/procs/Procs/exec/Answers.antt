@@ -43,8 +43,8 @@ returns c =
       starts = started_at _ _ _ _ _ _ _ _ _ _ _ _ same
           (bytes c.args.self.now c.args.cpu.now _ _ _ _ _ _ _ _ _ does c.in_ok-program.ensures c.environment_segment-segment.ensures c.psp.ensures c.as_slice.ensures.value made)
           c.psp-parent.ensures (c.arguments_at-arguments.ensures ∙ ap (passed c.args.cpu.now) same)
-          (starts _ c.args.strategy _ _ _ _ c.in_ok-pair.pair _ c.in-Some.environment (ap length made.bytes ∙ sym made.whole) c.in_ok-pair.ensures
-          (c.start-started.ensures.written (planned_on _ c.args.strategy c.in-Some.environment _ _ c.in_ok-pair.ensures)));
+          (starts _ c.args.strategy _ _ _ _ c.in_ok-pair.pair _ c.in-Some.environment_bytes (ap length made.bytes ∙ sym made.whole) c.in_ok-pair.ensures
+          (c.start-started.ensures.written (planned_on _ c.args.strategy c.in-Some.environment_bytes _ _ c.in_ok-pair.ensures)));
       registers = c.start-started.ensures.registers;
       processes = begun _ _ _ _ _ _ c.start-started.ensures.segment (c.returned-after.ensures ∙ ap (returned c.args.cpu.now) same) c.begin.ensures;
     }

@@ -1,18 +1,16 @@
-use Rattle.std.proofs.Common.{◌≡◌, ℕ, refl, subst}
+use Rattle.std.proofs.Common.{◌≡◌, ℕ, refl, subst, Result}
 use Rattle.dm_space.specs.Memory.{Memory}
 use Rattle.dm_arena.specs.declared.refusal.Refusal.{Refusal}
-use Rattle.dm_arena.specs.declared.refusal.Refusal.TheVariants.{Destroyed}
-use Rattle.dm_arena.specs.Chain.{first_header}
-use Rattle.dm_arena.specs.Owned.{ResizeRefused}
+use Rattle.dm_arena.specs.Owned.{Resizes}
 use Rattle.dm_proc.proofs.procs.Procs.keep.Goals as goal
 
-refused : (S : Memory) (segment present n : ℕ) (e : Refusal) → segment ≡ present → e ≡ Destroyed → ResizeRefused S first_header segment n e → ResizeRefused S first_header present n Destroyed
-refused S segment present n e f g h =
-    let P : ℕ → Type 0 = λ k. ResizeRefused S first_header k n e in
-    let Q : Refusal → Type 0 = λ r. ResizeRefused S first_header present n r in
+resized-at : (S T : Memory) (segment present n : ℕ) (r q : Result (Unit {0}) Refusal) → segment ≡ present → r ≡ q → Resizes S segment n r T → Resizes S present n q T
+resized-at S T segment present n r q f g h =
+    let P : ℕ → Type 0 = λ k. Resizes S k n r T in
+    let Q : Result (Unit {0}) Refusal → Type 0 = λ s. Resizes S present n s T in
     subst Q g (subst P f h)
 
-pub returns-in-Err-Destroyed : goal.returns-in-Err-Destroyed
-returns-in-Err-Destroyed c =
-    let r = c.in-Err-Destroyed.ensures.memory in
-    (refl, refl, r.0, (refl, refused _ _ _ _ _ c.psp.ensures c.in-Err-Destroyed.field-0-is r.1))
+pub returns-then-is_destroyed : goal.returns-then-is_destroyed
+returns-then-is_destroyed c =
+    let r = resized-at _ _ _ _ _ _ _ c.psp.ensures c.if-is_destroyed.ensures c.resize-answer.ensures.memory in
+    (refl, refl, r.0, (refl, r.1))

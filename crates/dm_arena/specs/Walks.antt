@@ -1,0 +1,179 @@
+-- What only the walks over headers, and the private steps of the calls, say of each other. No public contract mentions any of
+-- it: a reader who checks what the calls promise can leave this file out.
+use Rattle.std.specs.Prelude.{Bool, List, None, Option, Some, [], cond, false, if◌then◌else◌, max, option_to_list, true, ℕ, ◌&&◌, ◌*◌, ◌++◌, ◌+◌, ◌-◌, ◌<◌, ◌==◌, ◌∷◌, ◌≡◌, ◌≢◌}
+use Rattle.dm_space.specs.declared.place.Place.{Place}
+use Rattle.dm_space.specs.Memory.{Memory, byte_at, place}
+use Rattle.dm_space.specs.Places.{IsShaped, IsWritable}
+use Rattle.dm_arena.specs.declared.header.Header.{Header}
+use Rattle.dm_arena.specs.declared.header.Entry.{Entry}
+use Rattle.dm_arena.specs.Chain.{DiffersInHeaders, HasHeader, IsArena, IsClear, IsHeader, IsNonEmpty, Spells, mark, next, signature}
+use Rattle.dm_arena.specs.declared.fit.Strategy.{Strategy}
+use Rattle.dm_arena.specs.declared.fit.Spoken.{Spoken}
+use Rattle.dm_arena.specs.declared.fit.Choice.{Choice}
+use Rattle.dm_arena.specs.Blocks.{cut, cut_list, fits, join, join_after, largest, prefers, taken}
+use Rattle.dm_arena.specs.declared.fit.Strategy.TheVariants.{Best, First, Last}
+use Rattle.dm_arena.specs.Owned.{AllFree, NoBlockAt, absorb, released}
+use Rattle.dm_arena.specs.declared.allocation.Plan.{Plan}
+use Rattle.dm_arena.specs.Allocation.{Taking, changed}
+
+-- what stands at segment h: the header of an entry, or none that a list could have there
+abbrev pub IsEntryAt : Memory → ℕ → Option Entry → Type 0
+IsEntryAt S h None = (b : Header) (L : List Header) → b.segment ≡ h → IsHeader S b (signature L) → ⊥
+IsEntryAt S h (Some e) = (e.header.segment ≡ h) × IsHeader S e.header (mark e.last)
+
+-- T is S with the header b written
+pub record IsHeaderWritten (S : Memory) (b : Header) (signature : ℕ) (T : Memory) : Type 0 where
+  pub shape : IsShaped S T
+  pub written : IsWritable (place S (16 * b.segment)) → IsHeader T b signature
+  pub kept : (p : Place) → ((k : ℕ) → k < 5 → p ≢ place S (16 * b.segment + k)) → byte_at T p ≡ byte_at S p
+
+-- the list L is spelled from h on
+pub record IsSpelledFrom (S : Memory) (h : ℕ) (L : List Header) : Type 0 where
+  pub nonempty : IsNonEmpty L
+  pub spells : Spells S h L
+
+abbrev pub is_nil : List Header → Bool
+is_nil [] = true
+is_nil (b ∷ L) = false
+
+-- e is the first header of the list L that memory spells, and K is the rest
+pub record IsFront (S : Memory) (L : List Header) (e : Entry) (K : List Header) : Type 0 where
+  pub is : L ≡ e.header ∷ K
+  pub last : e.last ≡ is_nil K
+  pub rest : Spells S (next e.header) K
+
+-- the list L, spelled from h on below A000h
+pub record IsArenaFrom (S : Memory) (h : ℕ) (L : List Header) : Type 0 where
+  pub spelled : IsSpelledFrom S h L
+  pub below : (g : ℕ) → HasHeader L g → g < 0xA000
+
+-- the walk that looks for a block
+pub record IsFinding (S : Memory) (L : List Header) (segment h : ℕ) (P K : List Header) : Type 0 where
+  pub spelled : IsSpelledFrom S h K
+  pub is : L ≡ P ++ K
+  pub none : NoBlockAt P segment
+
+pub record IsFoundAt (S : Memory) (L : List Header) (segment : ℕ) (e : Entry) (P Q : List Header) : Type 0 where
+  pub is : L ≡ P ++ e.header ∷ Q
+  pub at : e.header.segment + 1 ≡ segment
+  pub last : e.last ≡ is_nil Q
+  pub rest : Spells S (next e.header) Q
+
+abbrev pub FindsBlock : Memory → ℕ → ℕ → Option Entry → Type 0
+FindsBlock S start segment None = (L : List Header) → IsSpelledFrom S start L → NoBlockAt L segment
+FindsBlock S start segment (Some e) = (L : List Header) → IsSpelledFrom S start L → (P : List Header) × (Q : List Header) × IsFoundAt S L segment e P Q
+
+-- e is the first block of the joined list, and K the headers after it
+pub record IsJoinedFront (S : Memory) (L : List Header) (e : Entry) (K : List Header) : Type 0 where
+  pub is : join L ≡ e.header ∷ join K
+  pub last : e.last ≡ is_nil K
+  pub rest : Spells S (next e.header) K
+  pub within : (g : ℕ) → HasHeader K g → HasHeader L g
+
+-- the same, while e grows
+pub record IsJoining (S : Memory) (L : List Header) (e : Entry) (K : List Header) : Type 0 where
+  pub is : join L ≡ join_after e.header K
+  pub last : e.last ≡ is_nil K
+  pub rest : Spells S (next e.header) K
+  pub within : (g : ℕ) → HasHeader K g → HasHeader L g
+
+-- T spells the joined list of S
+pub record IsJoined (S : Memory) (start : ℕ) (L : List Header) (T : Memory) : Type 0 where
+  pub spells : Spells T start (join L)
+  pub differs : DiffersInHeaders S (join L) T
+
+-- the headers `done` are joined, and those of K are left from segment h on
+pub record IsJoiningAll (S : Memory) (start : ℕ) (L : List Header) (T : Memory) (h : ℕ) (done K : List Header) : Type 0 where
+  pub rest : Spells T h K
+  pub spells : Spells T start (done ++ K)
+  pub is : done ++ join K ≡ join L
+  pub within : (g : ℕ) → HasHeader (done ++ K) g → HasHeader L g
+  pub differs : DiffersInHeaders S done T
+
+-- the headers C lie end to end from h to t
+abbrev pub Fills : ℕ → List Header → ℕ → Type 0
+Fills h [] t = h ≡ t
+Fills h (c ∷ C) t = (c.segment ≡ h) × Fills (next c) C t
+
+-- the blocks B of the arena, before Q, may become C
+pub record IsReplaceable (S : Memory) (start : ℕ) (P B Q C : List Header) (last : Bool) (h t : ℕ) : Type 0 where
+  pub nonempty : IsNonEmpty B
+  pub spells : Spells S start (P ++ (B ++ Q))
+  pub old_fills : Fills h B t
+  pub new_fills : Fills h C t
+  pub end : last ≡ is_nil Q
+  pub clear : IsClear S (P ++ (C ++ Q))
+
+pub record IsReplaced (S : Memory) (start : ℕ) (P Q C : List Header) (T : Memory) : Type 0 where
+  pub spells : Spells T start (P ++ (C ++ Q))
+  pub differs : DiffersInHeaders S C T
+
+-- the search, as it goes
+abbrev pub better : Strategy → ℕ → Option Header → Header → Option Header
+better strategy n None c = cond (fits n c) (Some c) None
+better strategy n (Some b) c = cond (fits n c && prefers strategy c b) (Some c) (Some b)
+
+abbrev pub pick : Strategy → ℕ → Option Header → List Header → Option Header
+pick strategy n best [] = best
+pick strategy n best (c ∷ L) = pick strategy n (better strategy n best c) L
+
+-- what there is to choose from, of a block of the list: all of it, but of the block that is spoken for only the rest
+abbrev pub left_part : Option Spoken → Header → Option Header
+left_part None b = Some b
+left_part (Some s) b = if s.segment == b.segment then s.rest else Some b
+
+abbrev pub left_of : Option Spoken → List Header → List Header
+left_of spoken [] = []
+left_of spoken (b ∷ L) = option_to_list (left_part spoken b) ++ left_of spoken L
+
+-- the part of a cut block that stays free
+abbrev pub rest_block : Strategy → ℕ → Header → Header
+rest_block First n b = record { segment = b.segment + 1 + n; owner = 0; size = b.size - n - 1 }
+rest_block Best n b = record { segment = b.segment + 1 + n; owner = 0; size = b.size - n - 1 }
+rest_block Last n b = record { segment = b.segment; owner = 0; size = b.size - n - 1 }
+
+abbrev pub rest_of : Strategy → ℕ → Header → Option Header
+rest_of strategy n b = if b.size == n then None else Some (rest_block strategy n b)
+
+-- what is left to choose from
+pub record IsChoosing (S : Memory) (L : List Header) (strategy : Strategy) (n : ℕ) (spoken : Option Spoken) (h : ℕ) (choice : Choice) (K : List Header) : Type 0 where
+  pub spelled : IsSpelledFrom S h K
+  pub block_is : pick strategy n choice.block (left_of spoken (join K)) ≡ pick strategy n None (left_of spoken (join L))
+  pub largest_is : max choice.largest (largest (left_of spoken (join K))) ≡ largest (left_of spoken (join L))
+
+-- what is planned
+pub record IsPlan (S : Memory) (start : ℕ) (strategy : Strategy) (n owner : ℕ) (plan : Plan) : Type 0 where
+  pub taking : Taking S start strategy n
+  pub cut_is : cut_list plan.cut ≡ cut strategy n owner taking.block
+  pub segment_is : plan.segment ≡ taken strategy n taking.block + 1
+  pub clear : IsClear S (changed taking owner)
+
+-- the headers C may stand in the place of a block of the joined arena
+pub record Placing (S : Memory) (start : ℕ) (C : List Header) : Type 0 where
+  pub list : List Header
+  pub before : List Header
+  pub block : Header
+  pub after : List Header
+  pub arena : IsArena S start list
+  pub joined : join list ≡ before ++ block ∷ after
+  pub fills : Fills block.segment C (next block)
+  pub clear : IsClear S (before ++ (C ++ after))
+
+-- g is e with the free blocks R of K taken in, and Q is left
+pub record IsGrown (S : Memory) (e : Entry) (K : List Header) (g : Entry) (R Q : List Header) : Type 0 where
+  pub is : K ≡ R ++ Q
+  pub free : AllFree R
+  pub header : g.header ≡ absorb e.header R
+  pub last : g.last ≡ is_nil Q
+  pub rest : Spells S (next g.header) Q
+
+pub record IsGrowable (S : Memory) (e : Entry) (K : List Header) : Type 0 where
+  pub last : e.last ≡ is_nil K
+  pub rest : Spells S (next e.header) K
+
+-- the blocks P are released, and K is left from segment h on
+pub record IsReleasing (S : Memory) (start : ℕ) (owner : ℕ) (L : List Header) (T : Memory) (h : ℕ) (P K : List Header) : Type 0 where
+  pub rest : Spells T h K
+  pub spells : Spells T start (released owner P ++ K)
+  pub is : L ≡ P ++ K
+  pub differs : DiffersInHeaders S (released owner P) T

@@ -1,0 +1,19 @@
+use Rattle.dm_cli.proofs.Starts.{first_of}
+use Rattle.dm_cli.proofs.commands.loaded.Goals as goal
+
+pub returns-clause-started : goal.returns-clause-started
+returns-clause-started g c =
+    let head = first_of (λ path. path.now) c.args.options.now.files.items c.in_ok-first.first.now
+    (rw (c.ok_or.ensures.ok_part, c.in_ok-first.was, c.deref.ensures.value) at c.first.ensures.value) in
+    record {
+      store = c.in_ok-programs.programs;
+      stores = rw (c.as_slice.ensures.value) at c.in_ok-programs.ensures.store;
+      input = c.in_ok-input.input.items;
+      read = c.in_ok-input.ensures.bytes;
+      fresh = c.in_ok-machine.machine;
+      new = rw (c.new.ensures.items) at c.in_ok-machine.ensures.ok;
+      first = c.in_ok-first.first.now.now;
+      others = head.0;
+      is_first = head.1;
+      loaded = rw (c.in_ok-program_name.ensures.name.0, c.as_bytes-tail.ensures.value) at c.in_ok-load.ensures.ok;
+    }

@@ -1,0 +1,47 @@
+-- What a run starts with: the store of the files, standard input, and the machine with its first program loaded.
+use Rattle.std.specs.Prelude.{ℕ, ◌≡◌, ◌<◌, ◌≤◌, ◌++◌, List, [], ◌∷◌, Option, IfSome, length, true}
+use Rattle.dm_cli.specs.declared.fault.Fault.{Fault}
+use Rattle.dm_cli.specs.declared.fault.Fault.TheVariants.{InputTooLong, NameTooLong, NameTwice, OutOfMemory}
+use Rattle.dm_cli.specs.Names.{last_part}
+use Rattle.dm_machine.specs.Start.{IsNew, IsLoaded}
+use Rattle.dm_proc.specs.Programs.{IsName, has_name}
+use Rattle.dm_services.specs.declared.config.Sizes.{Sizes}
+use Rattle.dm_services.specs.State.{State}
+
+-- all bytes of a file or of standard input, at most 16 MiB, where it is known which it has
+pub record IsRead (known : Option (List ℕ)) (bytes : List ℕ) : Type 0 where
+  pub all : IfSome known (λ xs. bytes ≡ xs)
+  pub short : length bytes ≤ 16777216
+
+-- a file is added to a store, under the last part of its path
+pub record AddsFile (known : Option (List ℕ)) (store : List (List ℕ × List ℕ)) (path : List ℕ) (t : List (List ℕ × List ℕ)) : Type 0 where
+  pub bytes : List ℕ
+  pub read : IsRead known bytes
+  pub added : t ≡ store ++ (last_part path, bytes) ∷ []
+
+-- a store of the files at these paths, in their order
+pub data Stores (known : List ℕ → Option (List ℕ)) : List (List ℕ) → List (List ℕ × List ℕ) → Type 0 where
+  none : Stores known [] []
+  more : (paths : List (List ℕ)) (path : List ℕ) (s t : List (List ℕ × List ℕ)) → Stores known paths s → AddsFile (known path) s path t → Stores known (paths ++ path ∷ []) t
+
+-- the faults of one file, in the order in which they are found: that its path names no file or that it was not opened
+-- or not read; that it is too long; that its name is; and, once it was read, that its name stands in the store
+pub data IsFaultOf (unread : Fault) (known : Option (List ℕ)) (store : List (List ℕ × List ℕ)) (path : List ℕ) : Fault → Type 0 where
+  not_read : IsFaultOf unread known store path unread
+  too_long : IfSome known (λ xs. 16777216 < length xs) → IsFaultOf unread known store path InputTooLong
+  long_name : (bytes : List ℕ) → IsRead known bytes → 64 < length (last_part path) → IsFaultOf unread known store path NameTooLong
+  twice : (bytes : List ℕ) → IsRead known bytes → IsName (last_part path) → has_name store (last_part path) ≡ true → IsFaultOf unread known store path NameTwice
+  no_memory : IsFaultOf unread known store path OutOfMemory
+
+-- the machine that a run begins with: a new one of these sizes, with no variables, and its first program loaded
+pub record IsStarted (known : List ℕ → Option (List ℕ)) (typed : Option (List ℕ)) (sizes : Sizes) (paths : List (List ℕ)) (tail : List ℕ) (m : State) : Type 0 where
+  pub store : List (List ℕ × List ℕ)
+  pub stores : Stores known paths store
+  pub input : List ℕ
+  pub read : IsRead typed input
+  pub fresh : State
+  pub new : IsNew sizes [] store input fresh
+  pub first : List ℕ
+  pub others : List (List ℕ)
+  pub is_first : paths ≡ first ∷ others
+  pub loaded : IsLoaded fresh (last_part first) tail m

@@ -1,0 +1,11 @@
+//! Worked rows of the effects of instructions.
+//!
+//! They stand apart from the crates that they try, since a crate with tests is proved twice.
+#![tactic(auto)]
+
+#[cfg(test)]
+mod checks;
+#[cfg(test)]
+mod effects;
+#[cfg(test)]
+mod rows;

@@ -1,8 +1,0 @@
--- Steps that may give nothing.
-use Rattle.std.proofs.Common.{◌≡◌, Option, Some, None, refl}
-use Rattle.dm_ins.specs.Steps.{◌>>=◌}
-
--- where two steps give a value, so does the first, and the second on it
-pub bind_some : {A B : Type 0} (o : Option A) (f : A → Option B) (y : B) → (o >>= f) ≡ Some y → (x : A) × (o ≡ Some x) × (f x ≡ Some y)
-bind_some None f y e = absurd cc
-bind_some (Some x) f y e = (x, refl, e)

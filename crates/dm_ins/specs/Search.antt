@@ -1,0 +1,214 @@
+-- Only for the search of the rows that finds the least spelling, and no part of what is promised: the contracts of
+-- `encode` and `Ins::new` speak of the spelling alone (Spelling.antt, Ins.antt). Which bytes each row has for some
+-- operands, with the shortest displacement, and which of several is the least.
+use Rattle.std.specs.Prelude.{◌^◌, ◌≡◌, ℕ, ◌+◌, ◌*◌, ◌/◌, ◌%◌, ◌<◌, Bool, true, false, List, [], ◌∷◌, ◌++◌, Option, Some, None, IfSome, IsSomeAnd, ◌==◌, if◌then◌else◌}
+use Rattle.dm_ins.specs.declared.operand.Width.{Width}
+use Rattle.dm_ins.specs.declared.operand.Width.TheVariants.{Byte, Word}
+use Rattle.dm_ins.specs.declared.operand.SegmentRegister.{SegmentRegister}
+use Rattle.dm_ins.specs.declared.operand.Base.{Base}
+use Rattle.dm_ins.specs.declared.operand.Base.TheVariants.{Direct, BxSi, BxDi, BpSi, BpDi, OnSi, OnDi, OnBp, OnBx}
+use Rattle.dm_ins.specs.declared.operand.Address.{Address}
+use Rattle.dm_ins.specs.declared.operand.Operand.{Operand}
+use Rattle.dm_ins.specs.declared.operand.Operand.TheVariants as operand
+use Rattle.dm_ins.specs.declared.demand.Place.{Place}
+use Rattle.dm_ins.specs.declared.demand.Place.TheVariants as place
+use Rattle.dm_ins.specs.declared.demand.Data.{Data}
+use Rattle.dm_ins.specs.declared.demand.Data.TheVariants as data_is
+use Rattle.arrayvec.specs.ArrayVec.{ArrayVec}
+use Rattle.dm_ins.specs.declared.action.Action.{Action}
+use Rattle.dm_ins.specs.declared.prefix.Repeat.{Repeat}
+use Rattle.dm_ins.specs.declared.prefix.Prefix.{Prefix}
+use Rattle.dm_ins.specs.declared.prefix.Prefix.TheVariants as prefix
+use Rattle.dm_ins.specs.declared.prefix.Prefixes.{Prefixes}
+use Rattle.dm_ins.specs.declared.demand.Demand.{Demand}
+use Rattle.dm_ins.specs.declared.fill.Choice.{Choice}
+use Rattle.dm_ins.specs.declared.table.Kind.{Kind}
+use Rattle.dm_ins.specs.declared.table.Kind.TheVariants as is
+use Rattle.dm_ins.specs.declared.table.Entry.{Entry}
+use Rattle.dm_ins.specs.declared.table.Entry.TheVariants.{Unlisted, Plain, Group, Second}
+use Rattle.dm_ins.specs.Registers.{word_number, byte_number, segment_number}
+use Rattle.dm_ins.specs.Table.{entry_of, member_of}
+use Rattle.dm_ins.specs.Spelling.{word, extended}
+use Rattle.dm_ins.specs.Order.{before}
+use Rattle.dm_ins.specs.Walks.{◌>>=◌}
+
+-- the r/m field of an address (6 for a direct one)
+abbrev pub rm_of : Base → ℕ
+rm_of Direct = 6
+rm_of BxSi = 0
+rm_of BxDi = 1
+rm_of BpSi = 2
+rm_of BpDi = 3
+rm_of OnSi = 4
+rm_of OnDi = 5
+rm_of OnBp = 6
+rm_of OnBx = 7
+
+abbrev pub is_direct : Base → Bool
+is_direct Direct = true
+is_direct _ = false
+
+abbrev pub same_width : Width → Width → Bool
+same_width Byte Byte = true
+same_width Word Word = true
+same_width _ _ = false
+
+abbrev pub numbered : Width → Operand → Option ℕ
+numbered Byte (operand.ByteRegister r) = Some (byte_number r)
+numbered Word (operand.WordRegister r) = Some (word_number r)
+numbered _ _ = None
+
+abbrev pub asks_data : Data → Demand
+asks_data d = record { register = None; place = None; tail = d }
+
+abbrev pub asks_register : ℕ → Demand
+asks_register n = record { register = Some n; place = None; tail = data_is.Nothing }
+
+abbrev pub asks_place : Place → Demand
+asks_place p = record { register = None; place = Some p; tail = data_is.Nothing }
+
+-- a word that is a byte extended by sign
+abbrev pub as_signed : ℕ → Option Demand
+as_signed n = if extended (n % 256) == n then Some (asks_data (data_is.Byte (n % 256))) else None
+
+unfoldable pub demand_of : Kind → Operand → Option Demand
+demand_of is.Nothing operand.Nothing = Some (asks_data data_is.Nothing)
+demand_of is.Nothing _ = None
+demand_of (is.Place w) (operand.Memory v a) = if same_width w v then Some (asks_place (place.Memory a)) else None
+demand_of (is.Place w) o = do
+  n ← numbered w o
+  Some (asks_place (place.Register n))
+demand_of (is.Register w) o = do
+  n ← numbered w o
+  Some (asks_register n)
+demand_of is.Memory (operand.Memory v a) = if same_width Word v then Some (asks_place (place.Memory a)) else None
+demand_of is.Memory _ = None
+demand_of is.ByteValue (operand.ByteValue n) = Some (asks_data (data_is.Byte n))
+demand_of is.ByteValue _ = None
+demand_of is.WordValue (operand.WordValue n) = Some (asks_data (data_is.Word n))
+demand_of is.WordValue _ = None
+demand_of is.SignedValue (operand.WordValue n) = as_signed n
+demand_of is.SignedValue _ = None
+demand_of is.Short (operand.Target n) = as_signed n
+demand_of is.Short _ = None
+demand_of is.Near (operand.Target n) = Some (asks_data (data_is.Word n))
+demand_of is.Near _ = None
+demand_of (is.Direct w) (operand.Memory v a) = if same_width w v then (if is_direct a.base then Some (asks_data (data_is.Word a.displacement)) else None) else None
+demand_of (is.Direct w) _ = None
+demand_of is.Far (operand.FarTarget n s) = Some (asks_data (data_is.Words n s))
+demand_of is.Far _ = None
+demand_of (is.Escape r) (operand.ByteValue n) = if n / 8 == r % 8 then Some (asks_register (n % 8)) else None
+demand_of (is.Escape r) _ = None
+demand_of (is.Byte r) (operand.ByteRegister s) = if byte_number r == byte_number s then Some (asks_data data_is.Nothing) else None
+demand_of (is.Byte r) _ = None
+demand_of (is.Word r) (operand.WordRegister s) = if word_number r == word_number s then Some (asks_data data_is.Nothing) else None
+demand_of (is.Word r) _ = None
+demand_of (is.TheSegment r) (operand.SegmentRegister s) = if segment_number r == segment_number s then Some (asks_data data_is.Nothing) else None
+demand_of (is.TheSegment r) _ = None
+demand_of is.One operand.One = Some (asks_data data_is.Nothing)
+demand_of is.One _ = None
+
+abbrev pub data_bytes : Data → List ℕ
+data_bytes data_is.Nothing = []
+data_bytes (data_is.Byte n) = n ∷ []
+data_bytes (data_is.Word n) = word n
+data_bytes (data_is.Words n s) = word n ++ word s
+
+abbrev pub with_displacement : ℕ → ℕ → ℕ → List ℕ
+with_displacement r rm n = if extended (n % 256) == n then (64 + (8 * r + rm)) ∷ n % 256 ∷ [] else (128 + (8 * r + rm)) ∷ word n
+
+abbrev pub memory_bytes : ℕ → Address → List ℕ
+memory_bytes r a =
+    if is_direct a.base then (8 * r + 6) ∷ word a.displacement
+    else if rm_of a.base == 6 then with_displacement r 6 a.displacement
+    else if a.displacement == 0 then (8 * r + rm_of a.base) ∷ []
+    else with_displacement r (rm_of a.base) a.displacement
+
+unfoldable pub fields_bytes : ℕ → Place → List ℕ
+fields_bytes r (place.Register n) = (192 + (8 * r + n)) ∷ []
+fields_bytes r (place.Memory a) = memory_bytes r a
+
+abbrev pub either : {A : Type 0} → Option A → Option A → Option A
+either None b = b
+either (Some x) b = Some x
+
+abbrev pub second_bytes : Option ℕ → List ℕ
+second_bytes None = []
+second_bytes (Some c) = c ∷ []
+
+-- the bytes between the first one and the data
+abbrev pub behind_bytes : Option ℕ → Option Place → Option ℕ → List ℕ
+behind_bytes (Some r) (Some p) c = fields_bytes r p
+behind_bytes (Some r) None c = second_bytes c
+behind_bytes None p c = second_bytes c
+
+unfoldable pub bytes_of : Choice → Operand → Operand → Option (List ℕ)
+bytes_of c one two = do
+  d ← demand_of c.row.first one
+  e ← demand_of c.row.second two
+  Some (c.opcode ∷ behind_bytes (either c.register (either d.register e.register)) (either d.place e.place) c.second ++ (data_bytes d.tail ++ data_bytes e.tail))
+
+-- the rows, numbered by the first byte and the reg field
+abbrev pub choice_at : Entry → ℕ → ℕ → Option Choice
+choice_at Unlisted b r = None
+choice_at (Plain p) b r = if r == 0 then Some (record { opcode = b; row = p; register = None; second = None }) else None
+choice_at (Group g) b r = do
+  p ← member_of g r
+  Some (record { opcode = b; row = p; register = Some r; second = None })
+choice_at (Second c p) b r = if r == 0 then Some (record { opcode = b; row = p; register = None; second = Some c }) else None
+
+abbrev pub PlaceFits : Place → Type 0
+PlaceFits (place.Register n) = n < 8
+PlaceFits (place.Memory a) = Unit {0}
+
+abbrev pub DemandFits : Demand → Type 0
+DemandFits d = IfSome d.register (λ n. n < 8) × IfSome d.place PlaceFits
+
+abbrev pub seen_bytes : Option (ArrayVec ℕ) → Option (List ℕ)
+seen_bytes None = None
+seen_bytes (Some v) = Some v.items
+
+-- the numbers in an operand fit their types
+abbrev pub OperandFits : Operand → Type 0
+OperandFits (operand.Memory w a) = a.displacement < 2 ^ 16
+OperandFits (operand.ByteValue n) = n < 2 ^ 8
+OperandFits (operand.WordValue n) = n < 2 ^ 16
+OperandFits (operand.Target n) = n < 2 ^ 16
+OperandFits (operand.FarTarget n s) = (n < 2 ^ 16) × (s < 2 ^ 16)
+OperandFits _ = Unit {0}
+
+-- the bytes that the row under the first byte b and the reg field g has for an action
+pub record CandidateAt (b g : ℕ) (a : Action) (c : List ℕ) : Type 0 where
+  pub choice : Choice
+  pub is_choice : choice_at (entry_of b) b g ≡ Some choice
+  pub mnemonic : choice.row.mnemonic ≡ a.mnemonic
+  pub is_bytes : bytes_of choice a.first a.second ≡ Some c
+  pub first_fits : OperandFits a.first
+  pub second_fits : OperandFits a.second
+
+abbrev pub better_of : Option (List ℕ) → Option (List ℕ) → Option (List ℕ)
+better_of None new = new
+better_of (Some a) None = Some a
+better_of (Some a) (Some b) = if before b a then Some b else Some a
+
+-- of the first n rows, in the order of first byte and reg field, the least bytes for the action, if
+-- there are any
+pub record Best (n : ℕ) (a : Action) (o : Option (List ℕ)) : Type 0 where
+  pub found : IfSome o (λ v. (b g : ℕ) × (g < 8) × CandidateAt b g a v)
+  pub least : (b g : ℕ) (c : List ℕ) → g < 8 → 8 * b + g < n → CandidateAt b g a c → IsSomeAnd o (λ v. before c v ≡ false)
+
+-- the prefixes that are kept, in the order of their bytes
+abbrev pub segment_list : Option SegmentRegister → List Prefix
+segment_list None = []
+segment_list (Some s) = prefix.Segment s ∷ []
+
+abbrev pub lock_list : Bool → List Prefix
+lock_list false = []
+lock_list true = prefix.Lock ∷ []
+
+abbrev pub repeat_list : Option Repeat → List Prefix
+repeat_list None = []
+repeat_list (Some r) = prefix.Repeat r ∷ []
+
+abbrev pub prefix_list : Prefixes → List Prefix
+prefix_list p = segment_list p.segment ++ lock_list p.lock ++ repeat_list p.repeat

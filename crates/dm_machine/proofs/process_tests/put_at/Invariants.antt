@@ -1,5 +1,0 @@
-use Rattle.dm_services.specs.State.{HasProgram}
-use Rattle.dm_machine.proofs.process_tests.put_at.Given as goal
-
-abbrev pub invariant-loop-index : goal.invariant-loop-index
-invariant-loop-index l = HasProgram l.machine

@@ -1,0 +1,15 @@
+//! What the tests compare. (Functions of their own, since an assertion's texts are dear to prove:
+//! here they are proved once.)
+use std::fmt::Debug;
+use std::process::Abort;
+
+/// Compares two values of a row; `what` says which they are.
+pub(crate) fn same<T: PartialEq + Debug + Copy>(
+    rt: &impl Abort,
+    row: &str,
+    what: &str,
+    found: T,
+    wanted: T,
+) {
+    assert_eq!(rt; found, wanted, "{row}: {what}");
+}

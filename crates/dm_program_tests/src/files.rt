@@ -1,0 +1,116 @@
+//! Files, readers and writers in memory.
+use dm_cli::Storage;
+use std::io;
+use std::io::{ErrorKind, Read, Write};
+
+/// How a reader ends, once it has given all its bytes.
+#[derive(Clone, Copy)]
+pub(crate) enum Ending {
+    End,
+    Fault(ErrorKind),
+}
+
+/// Some bytes, so many zeros behind them, and the reader's end.
+#[derive(Clone, Copy)]
+pub(crate) struct Source<'a> {
+    pub(crate) bytes: &'a [u8],
+    pub(crate) zeros: usize,
+    pub(crate) ending: Ending,
+}
+
+/// Just these bytes.
+pub(crate) fn just(bytes: &[u8]) -> Source<'_> {
+    filled(bytes, 0)
+}
+
+/// These bytes, and so many zeros behind them.
+pub(crate) fn filled(bytes: &[u8], zeros: usize) -> Source<'_> {
+    let ending = Ending::End;
+    Source {
+        bytes,
+        zeros,
+        ending,
+    }
+}
+
+/// These bytes, and then a read that fails.
+pub(crate) fn failing(bytes: &[u8], kind: ErrorKind) -> Source<'_> {
+    let ending = Ending::Fault(kind);
+    Source {
+        bytes,
+        zeros: 0,
+        ending,
+    }
+}
+
+impl Read for Source<'_> {
+    fn read(&mut self, buf: &mut [u8]) -> io::Result<usize> {
+        if !self.bytes.is_empty() {
+            return self.bytes.read(buf);
+        }
+        let count = self.zeros.min(buf.len());
+        if count == 0 && !buf.is_empty() {
+            return match self.ending {
+                Ending::End => Ok(0),
+                Ending::Fault(kind) => Err(io::Error::from(kind)),
+            };
+        }
+        buf[..count].fill(0);
+        self.zeros -= count;
+        Ok(count)
+    }
+}
+
+/// Files by their paths, and paths that are not opened, each for its reason.
+#[derive(Drop)]
+pub(crate) struct Files<'a> {
+    pub(crate) known: &'a [(&'a str, Source<'a>)],
+    pub(crate) refused: &'a [(&'a str, ErrorKind)],
+}
+
+impl<'a> Storage for Files<'a> {
+    type File = Source<'a>;
+
+    fn open(&self, path: &str) -> io::Result<Source<'a>> {
+        for (known, source) in self.known {
+            if *known == path {
+                return Ok(*source);
+            }
+        }
+        for (known, kind) in self.refused {
+            if *known == path {
+                return Err(io::Error::from(*kind));
+            }
+        }
+        Err(io::Error::from(ErrorKind::NotFound))
+    }
+}
+
+/// Takes one byte a write, and fails or takes nothing once `left` writes were made.
+#[derive(Drop)]
+pub(crate) struct Slow {
+    pub(crate) taken: Vec<u8>,
+    pub(crate) left: usize,
+    pub(crate) refuses: bool,
+}
+
+impl Write for Slow {
+    fn write(&mut self, buf: &[u8]) -> io::Result<usize> {
+        let [first, ..] = buf else {
+            return Ok(0);
+        };
+        if self.left == 0 {
+            return match self.refuses {
+                true => Ok(0),
+                false => Err(io::Error::from(ErrorKind::BrokenPipe)),
+            };
+        }
+        self.left -= 1;
+        self.taken.push(*first)?;
+        Ok(1)
+    }
+
+    fn flush(&mut self) -> io::Result<()> {
+        Ok(())
+    }
+}
