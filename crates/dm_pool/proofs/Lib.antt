@@ -3,6 +3,7 @@ pub mod Takes
 pub mod Told
 pub mod Fits
 pub mod FreeList
+pub mod Fresh
 pub mod FreeRuns
 pub mod Gaps
 pub mod Layouts

@@ -1,7 +1,7 @@
 -- A part of a slice as its loan leaves it, as `with_part` has it.
-use Rattle.std.proofs.Common.{◌≡◌, ℕ, zero, suc, ◌+◌, ◌-◌, ◌≤◌, List, [], ◌∷◌, ◌++◌, length, take, drop, refl, ap, ◌∙◌, arith}
+use Rattle.std.proofs.Common.{◌≡◌, ℕ, zero, suc, ◌+◌, ◌-◌, ◌≤◌, List, [], ◌∷◌, ◌++◌, length, take, drop, refl, sym, ap, ◌∙◌, arith}
 use Rattle.std.specs.List.{copy_within}
-use Rattle.std.proofs.lemmas.List.{drop-drop, append_assoc}
+use Rattle.std.proofs.lemmas.List.{drop-drop, append_assoc, append-nil}
 use lib.Seq.{paste}
 use borrow.Rule.Slice.PartMut.{put_mid}
 use Rattle.dm_region.specs.Parts.{part, with_part}
@@ -60,3 +60,37 @@ within_part ws (x ∷ xs) (suc P) Q M (suc K) N e k le in' =
 -- a write into a part of a part
 pub part_with_part : (xs ws : List ℕ) (P N Q M : ℕ) → length ws ≡ M → Q + M ≤ N → P + N ≤ length xs → part (with_part xs (P + Q) M ws) P N ≡ with_part (part xs P N) Q M ws
 part_with_part xs ws P N Q M e le in' = within_part ws xs P Q M (P + Q + M) N e refl le in'
+
+whole : (N : ℕ) (xs : List ℕ) → xs ≡ take N xs ++ drop N xs
+whole zero xs = refl
+whole (suc N) [] = refl
+whole (suc N) (x ∷ xs) = ap (λ l. x ∷ l) (whole N xs)
+
+behind : (M N : ℕ) (xs : List ℕ) → M ≤ N → drop M xs ≡ drop M (take N xs) ++ drop N xs
+behind zero N xs le = whole N xs
+behind (suc M) zero xs le = absurd (omega (arith, le))
+behind (suc M) (suc N) [] le = refl
+behind (suc M) (suc N) (x ∷ xs) le = behind M N xs (omega (arith, le))
+
+rewritten_from : (xs d : List ℕ) (N t M K : ℕ) → K ≡ t + M → K ≤ N → take t xs ++ (d ++ drop K xs) ≡ (take t (take N xs) ++ (d ++ drop K (take N xs))) ++ drop N xs
+rewritten_from xs d N zero M K e le = ap (λ l. d ++ l) (behind K N xs le) ∙ sym (append_assoc d (drop K (take N xs)) (drop N xs))
+rewritten_from xs d N (suc t) M zero e le = absurd (omega (arith, e))
+rewritten_from xs d zero (suc t) M (suc K) e le = absurd (omega (arith, le))
+rewritten_from [] d (suc N) (suc t) M (suc K) e le = sym (append-nil (d ++ []))
+rewritten_from (x ∷ xs) d (suc N) (suc t) M (suc K) e le = ap (λ l. x ∷ l) (rewritten_from xs d N t M K (omega (arith, e)) (omega (arith, le)))
+
+rewritten : (xs d : List ℕ) (P N t M K : ℕ) → K ≡ P + t + M → t + M ≤ N → P + N ≤ length xs
+    → take (P + t) xs ++ (d ++ drop K xs) ≡ take P xs ++ ((take t (take N (drop P xs)) ++ (d ++ drop (t + M) (take N (drop P xs)))) ++ drop (P + N) xs)
+rewritten xs d zero N t M K e le in' =
+    let a : 0 + t ≡ t = omega arith in let b : K ≡ t + M = omega (arith, e) in let n : N ≡ 0 + N = omega arith in
+    ap (λ i. take i xs ++ (d ++ drop K xs)) a ∙ ap (λ i. take t xs ++ (d ++ drop i xs)) b ∙ rewritten_from xs d N t M (t + M) refl le ∙ ap (λ i. (take t (take N xs) ++ (d ++ drop (t + M) (take N xs))) ++ drop i xs) n
+rewritten [] d (suc P) N t M K e le in' = absurd (omega (arith, in'))
+rewritten (x ∷ xs) d (suc P) N t M zero e le in' = absurd (omega (arith, e))
+rewritten (x ∷ xs) d (suc P) N t M (suc K) e le in' =
+    let a : suc P + t ≡ suc (P + t) = omega arith in let b : suc (P + N) ≡ suc P + N = omega arith in
+    ap (λ i. take i (x ∷ xs) ++ (d ++ drop (suc K) (x ∷ xs))) a ∙ ap (λ l. x ∷ l) (rewritten xs d P N t M K (omega (arith, e)) le (omega (arith, in')))
+    ∙ ap (λ i. x ∷ (take P xs ++ ((take t (take N (drop P xs)) ++ (d ++ drop (t + M) (take N (drop P xs)))) ++ drop i (x ∷ xs)))) b
+
+-- to write within a part is to write the part as it is then
+pub part_rewritten : (xs d : List ℕ) (P N t M : ℕ) → t + M ≤ N → P + N ≤ length xs → with_part xs (P + t) M d ≡ with_part xs P N (with_part (part xs P N) t M d)
+part_rewritten xs d P N t M le in' = rewritten xs d P N t M (P + t + M) refl le in'

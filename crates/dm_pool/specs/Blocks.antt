@@ -1,6 +1,6 @@
 -- A pool of units of 1024 bytes, and its blocks by their numbers.
 use Rattle.std.specs.Prelude.{ℕ, ◌+◌, ◌*◌, ◌^◌, ◌<◌, ◌≤◌, ◌≡◌, ◌⊎◌, List, [], ◌∷◌, ◌++◌, ◌==◌, if◌then◌else◌, map, length, take, drop, set, get_or, replicate, Option, Some, None}
-use Rattle.dm_region.specs.Parts.{part}
+use Rattle.dm_region.specs.Parts.{part, with_part}
 use Rattle.dm_pool.specs.declared.places.Place.{Place}
 use Rattle.dm_pool.specs.Gaps.{is_free, lowest, first_empty}
 
@@ -76,6 +76,10 @@ at_place s i u (Some b) = moved s i u (new_base s i b u)
 -- the pool with a block resized
 abbrev pub resized : Blocks → ℕ → ℕ → Option Blocks
 resized s i u = at_place s i u (get_or s.places i None)
+
+-- the pool with `len` bytes of one block, from its byte `from` on, copied to the place from byte `to` on of another or the same
+abbrev pub moved_bytes : Blocks → ℕ → ℕ → ℕ → ℕ → ℕ → Blocks
+moved_bytes s i from j to len = with_content s j (with_part (get_or s.contents j []) to len (part (get_or s.contents i []) from len))
 
 -- a pool with no block
 unfoldable pub no_blocks : ℕ → Blocks

@@ -3,7 +3,7 @@ ghost use Rattle.std.specs.Prelude.{◌≡◌, ◌+◌, ◌*◌, ◌^◌, ◌<�
 ghost use Rattle.std.specs.Bool.{MatchBool};
 ghost use Rattle.dm_region.specs.Parts.{with_part};
 ghost use Rattle.dm_pool.specs.Gaps.{is_clear, lowest};
-ghost use Rattle.dm_pool.specs.Blocks.{taken, without, new_base, resized, content, fitted, zeros, IsAt, IsLive};
+ghost use Rattle.dm_pool.specs.Blocks.{taken, without, new_base, resized, content, contents_of, fitted, zeros, IsAt, IsLive};
 ghost use Rattle.dm_pool.specs.Order.{blocks_in, IsToldIn};
 
 use crate::places::{Place, UNIT};
@@ -31,6 +31,18 @@ fn clear(bytes: &mut [u8], base: usize, units: usize)
     bytes[from..from + units * UNIT].fill(0);
 }
 
+/// Writes the free runs anew, as the table has them now.
+fn retell(table: &mut Table, bytes: &mut [u8])
+    requires { length bytes.old ≡ table.old.units * 1024 }
+    ensures told { IsToldIn table.new bytes.new }
+    ensures units { table.new.units ≡ table.old.units }
+    ensures places { table.new.places ≡ table.old.places }
+    ensures contents { contents_of table.old.places bytes.new ≡ contents_of table.old.places bytes.old }
+{
+    let first = spell(table, bytes);
+    table.set_first(first);
+}
+
 /// Takes a block of so many units, all zeros, in the lowest gap that holds them. None where no gap does, or where there are as
 /// many blocks as can be.
 pub(crate) fn take(table: &mut Table, bytes: &mut [u8], units: usize) -> Option<usize>
@@ -45,8 +57,7 @@ pub(crate) fn take(table: &mut Table, bytes: &mut [u8], units: usize) -> Option<
     let base = lowest_gap(table, bytes, units)?;
     clear(bytes, base, units);
     table.put(slot, Place { base, units });
-    let first = spell(table, bytes);
-    table.set_first(first);
+    retell(table, bytes);
     Some(slot)
 }
 
@@ -60,8 +71,7 @@ pub(crate) fn give(table: &mut Table, bytes: &mut [u8], slot: usize)
 {
     table.recall();
     table.remove(slot);
-    let first = spell(table, bytes);
-    table.set_first(first);
+    retell(table, bytes);
 }
 
 /// Where a block is to lie that gets so many units: where it is, if the units there are its own or free, else in the lowest gap, its
@@ -113,7 +123,6 @@ pub(crate) fn resize(table: &mut Table, bytes: &mut [u8], slot: usize, units: us
     move_block(bytes, table.place(slot), place);
     table.remove(slot);
     table.put(slot, place);
-    let first = spell(table, bytes);
-    table.set_first(first);
+    retell(table, bytes);
     true
 }

@@ -1,8 +1,8 @@
 //! The bytes of a machine, in one region: low memory by linear address, scratch bytes, and a pool of units of 1 KiB.
-ghost use Rattle.std.specs.Prelude.{◌≡◌, ◌↔◌, ◌+◌, ◌*◌, ◌^◌, ◌<◌, ◌≤◌, Some, None, [], get_or, length, IfOk, IfSome, IsErrOf, MatchOption};
+ghost use Rattle.std.specs.Prelude.{◌≡◌, ◌↔◌, IsTrue, ◌+◌, ◌*◌, ◌^◌, ◌<◌, ◌≤◌, Some, None, [], get_or, length, IfOk, IfSome, IsErrOf, MatchOption};
 ghost use Rattle.std.specs.Borrow.{sem};
 ghost use Rattle.std.specs.Bool.{MatchBool};
-ghost use Rattle.dm_pool.specs.Blocks.{no_blocks, taken, resized, without, IsAt, IsLive};
+ghost use Rattle.dm_pool.specs.Blocks.{no_blocks, taken, resized, without, moved_bytes, IsAt, IsLive};
 ghost use Rattle.dm_pool.specs.Gaps.{gaps, free_units, largest, count_fitting};
 ghost use Rattle.dm_pool.specs.Stored.{zeros_of, units_of, IsTooLarge};
 ghost use Rattle.dm_pool.specs.Lending.{LendsLow, LendsScratch, LendsBlock};
@@ -198,6 +198,13 @@ impl Store {
         pool::resize(&mut self.table, self.region.part_mut(POOL, len), block.slot(), units)
     }
 
+    /// Whether the store has a block: it was taken, and not given back since.
+    pub fn has(&self, block: Block) -> bool
+        ensures { IsTrue result ↔ IsLive self.now.blocks block }
+    {
+        self.table.has(block.slot())
+    }
+
     /// The first unit of a block, counted from the pool's first; 0 for a block of no unit.
     pub fn base(&self, block: Block) -> usize
         requires { IsLive self.now.blocks block }
@@ -224,6 +231,20 @@ impl Store {
         self.table.recall();
         let place = place_of(&self.table, block);
         self.region.part_mut(POOL + place.base * UNIT, place.units * UNIT)
+    }
+
+    /// Copies `len` bytes of a block, from its byte `from` on, to the place from byte `to` on of another block or the same one. The bytes
+    /// copied are those that stood there before.
+    pub fn move_bytes(&mut self, source: Block, from: usize, destination: Block, to: usize, len: usize)
+        requires source { IsLive self.old.blocks source × (from + len ≤ length (get_or self.old.blocks.contents source [])) }
+        requires destination { IsLive self.old.blocks destination × (to + len ≤ length (get_or self.old.blocks.contents destination [])) }
+        ensures { self.new ≡ record self.old { blocks = moved_bytes self.old.blocks source from destination to len } }
+    {
+        self.table.recall();
+        let source = place_of(&self.table, source);
+        let destination = place_of(&self.table, destination);
+        let (from, to) = (source.base * UNIT + from, destination.base * UNIT + to);
+        self.region.copy(POOL + from, POOL + to, len);
     }
 
     /// The units of the largest gap, 0 if there is none.

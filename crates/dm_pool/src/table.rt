@@ -1,5 +1,5 @@
 //! Where blocks lie: by their numbers, and in the order in which they lie.
-ghost use Rattle.std.specs.Prelude.{◌≡◌, ℕ, ◌+◌, ◌^◌, ◌<◌, ◌≤◌, true, false, Some, None, get_or, set, length, replicate, IfSome, MatchOption};
+ghost use Rattle.std.specs.Prelude.{◌≡◌, ◌↔◌, IsTrue, ℕ, ◌+◌, ◌^◌, ◌<◌, ◌≤◌, true, false, Some, None, get_or, set, length, replicate, IfSome, MatchOption};
 ghost use Rattle.dm_pool.specs.Gaps.{is_clear, is_free, first_empty};
 ghost use Rattle.dm_pool.specs.Order.{no_layout, IsNth, IsOrder, IsTable};
 
@@ -172,6 +172,14 @@ impl Table {
         ensures { self.new ≡ record self.old { first = first } }
     {
         self.first = first;
+    }
+
+    /// Whether there is a block with a number.
+    pub(crate) fn has(&self, slot: usize) -> bool
+        requires { slot < 576 }
+        ensures { IsTrue result ↔ ((b : _) × (get_or self.now.places slot None ≡ Some b)) }
+    {
+        self.places[slot].is_some()
     }
 
     /// Where the block with a number lies.
