@@ -268,9 +268,6 @@ clear_nothing [] = refl
 clear_nothing (None ∷ bs) = clear_nothing bs
 clear_nothing (Some c ∷ bs) = both_true (ap (λ y. not (y && nat_lt 0 (c.base + c.units))) (le-ltb c.base 0 (omega arith))) (clear_nothing bs)
 
-pub free_without : (bs : List (Option Place)) (k n u p : ℕ) → is_free bs n u p ≡ true → is_free (set bs k None) n u p ≡ true
-free_without bs k n u p h = let both = both_so (nat_le (p + u) n) (is_clear bs p u) h in both_true both.0 (clear_without bs k p u both.1)
-
 pub if_some : (o : Option ℕ) (P Q : ℕ → Type 0) → IfSome o P → ((p : ℕ) → P p → Q p) → IfSome o Q
 if_some None P Q h f = tt
 if_some (Some p) P Q h f = f p h

@@ -6,7 +6,7 @@ use Rattle.std.proofs.Math.Bool.{true≢false}
 use Rattle.std.proofs.lemmas.Bool.Decides.{leb_tells}
 use Rattle.std.specs.Cmp.Derive.{both_true}
 use Rattle.std.proofs.lemmas.Option.{none-some, same_Some}
-use Rattle.dm_pool.specs.Gaps.{overlaps, is_clear, is_free, first_of, lowest, first_empty, next_index, used, Holds, IsCovered, Run, AreGaps, first_fit}
+use Rattle.dm_pool.specs.Gaps.{overlaps, is_clear, is_free, first_of, lowest, first_empty, next_index, IsCovered, Run, AreGaps, first_fit}
 use Rattle.dm_pool.specs.declared.places.Place.{Place}
 
 and_false : (b : Bool) → (b && false) ≡ false
@@ -80,18 +80,6 @@ pub first_none : (bs : List (Option Place)) → ((j : ℕ) → j < length bs →
 first_none [] h = refl
 first_none (None ∷ bs) h = let x = h 0 (omega arith) in absurd (none-some x.0 x.1)
 first_none (Some c ∷ bs) h = ap next_index (first_none bs (λ j l. h (suc j) (omega arith)))
-
-pub used_some : (bs : List (Option Place)) (i j : ℕ) (b : Place) → i < length bs → get_or bs i None ≡ Some b → j ≡ suc i → used (drop i bs) ≡ b.units + used (drop j bs)
-used_some [] i j b lt e n = absurd (omega arith)
-used_some (x ∷ bs) zero j b lt e n = ap (λ y. used (y ∷ bs)) e ∙ ap (λ k. b.units + used (drop k (x ∷ bs))) (sym n)
-used_some (x ∷ bs) (suc i) zero b lt e n = absurd (omega arith)
-used_some (x ∷ bs) (suc i) (suc j) b lt e n = used_some bs i j b (omega arith) e (omega arith)
-
-pub used_none : (bs : List (Option Place)) (i j : ℕ) → i < length bs → get_or bs i None ≡ None → j ≡ suc i → used (drop i bs) ≡ used (drop j bs)
-used_none [] i j lt e n = absurd (omega arith)
-used_none (x ∷ bs) zero j lt e n = ap (λ y. used (y ∷ bs)) e ∙ ap (λ k. used (drop k (x ∷ bs))) (sym n)
-used_none (x ∷ bs) (suc i) zero lt e n = absurd (omega arith)
-used_none (x ∷ bs) (suc i) (suc j) lt e n = used_none bs i j (omega arith) e (omega arith)
 
 pub below_or_not : (a b : ℕ) → (a < b) ⊎ (b ≤ a)
 below_or_not zero zero = inr (omega arith)

@@ -8,6 +8,7 @@ pub mod FreeRuns
 pub mod Gaps
 pub mod Layouts
 pub mod Maximal
+pub mod Moved
 pub mod Order
 pub mod Parts
 pub mod Spelled
