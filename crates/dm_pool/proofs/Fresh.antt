@@ -32,6 +32,5 @@ unfolding no_layout
 none_units n = refl
 
 pub none_blocks : (n : ℕ) (l : Layout) (w : List ℕ) → l.units ≡ (no_layout n).units → l.places ≡ (no_layout n).places → blocks_in l w ≡ no_blocks n
-unfolding no_layout
-unfolding no_blocks
+unfolding no_layout no_blocks
 none_blocks n l w u p = same_blocks l.units n l.places (replicate 576 None) (contents_of l.places w) (replicate 576 []) u p (ap (λ ps. contents_of ps w) p ∙ none_content 576 w)

@@ -82,3 +82,13 @@ module _ (xs : List ℕ) (l : Layout) (i j : ℕ) (a b : Place) (from to len : �
   moved_stored =
       let with_blocks : Blocks → Stored = λ k. record { low = low_part xs; scratch = scratch_part xs; blocks = k } in
       ap (λ (ys : List ℕ). stored ys l) as_left ∙ block_stored xs l j b left s laid goes ∙ ap with_blocks (ap (with_content (blocks_in l p) j) refitted ∙ as_moved)
+
+-- what lies within a block's bytes lies within its units
+pub within_units : (xs : List ℕ) (l : Layout) (v : Stored) (i n : ℕ) (a : Place) → IsStore xs l → IsLaid l.units l.places → stored xs l ≡ v → get_or l.places i None ≡ Some a → n ≤ length (get_or v.blocks.contents i []) → n ≤ a.units * 1024
+within_units xs l v i n a s laid is at h =
+    let p = pool_part xs l.units in
+    let pool_is = part_length xs 0x310000 (l.units * 1024) (omega (arith, s.whole)) in
+    let inside = laid.within i a at in
+    let long = part_length p (a.base * 1024) (a.units * 1024) (omega (arith, inside, pool_is)) in
+    let same = ap (λ (w : Stored). length (get_or w.blocks.contents i [])) (sym is) ∙ ap length (content_of l.places i a p at) ∙ long in
+    omega (arith, h, same)

@@ -179,7 +179,10 @@ impl Table {
         requires { slot < 576 }
         ensures { IsTrue result ↔ ((b : _) × (get_or self.now.places slot None ≡ Some b)) }
     {
-        self.places[slot].is_some()
+        match self.places[slot] {
+            Some(_) => true,
+            None => false,
+        }
     }
 
     /// Where the block with a number lies.
