@@ -1,13 +1,13 @@
 -- A walk over the free runs, as the free bytes tell them.
-use Rattle.std.proofs.Common.{◌≡◌, ℕ, zero, suc, ◌+◌, ◌-◌, ◌*◌, ◌/◌, ◌^◌, ◌<◌, ◌≤◌, List, [], ◌∷◌, length, Option, Some, None, refl, sym, ap, ◌∙◌, subst, inl, inr, ◌⊎◌, arith}
-use Rattle.std.specs.Prelude.{nat_le, max, if◌then◌else◌}
+use Rattle.std.proofs.Common.{◌≡◌, ℕ, ◌+◌, ◌-◌, ◌*◌, ◌/◌, ◌^◌, ◌<◌, ◌≤◌, List, [], ◌∷◌, Option, Some, refl, sym, ap, ◌∙◌, subst, inl, inr, ◌⊎◌, arith}
+use Rattle.std.specs.Prelude.{if◌then◌else◌}
 use Rattle.std.proofs.Math.Nat.{div-le_self}
 use Rattle.std.proofs.lemmas.Bool.{le-leb}
 use Rattle.std.proofs.lemmas.List.Sums.{sum_by-cons}
 use Rattle.dm_pool.specs.declared.places.Place.{Place}
-use Rattle.dm_pool.specs.Gaps.{Run, AreGaps, gaps, first_fit, lowest, largest, free_units, count_fitting}
+use Rattle.dm_pool.specs.Gaps.{Run, AreGaps, gaps, first_fit, free_units, count_fitting}
 use Rattle.dm_pool.specs.FreeList.{word, AreBased, Spells, Tells}
-use Rattle.dm_pool.proofs.Gaps.{fit_is_lowest, past}
+use Rattle.dm_pool.proofs.Gaps.{past}
 use Rattle.dm_pool.proofs.Maximal.{gaps_are, gaps_are_one}
 
 -- the run at `at` and those behind it are still to be met

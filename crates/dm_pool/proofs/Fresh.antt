@@ -1,9 +1,8 @@
 -- A store as it is made: zeros, and no block.
-use Rattle.std.proofs.Common.{◌≡◌, ℕ, zero, suc, ◌+◌, ◌-◌, ◌*◌, ◌≤◌, List, [], ◌∷◌, length, take, drop, replicate, map, Option, None, refl, sym, ap, ◌∙◌, arith}
+use Rattle.std.proofs.Common.{◌≡◌, ℕ, zero, suc, ◌+◌, ◌-◌, ◌≤◌, List, [], ◌∷◌, take, drop, replicate, None, refl, ap, ◌∙◌, arith}
 use Rattle.std.proofs.lemmas.List.{take-replicate}
 use Rattle.dm_region.specs.Parts.{part}
-use Rattle.dm_pool.specs.declared.places.Place.{Place}
-use Rattle.dm_pool.specs.Blocks.{Blocks, content, contents_of, no_blocks}
+use Rattle.dm_pool.specs.Blocks.{contents_of, no_blocks}
 use Rattle.dm_pool.specs.Order.{Layout, no_layout, blocks_in}
 use Rattle.dm_pool.specs.Stored.{zeros_of, low_part, scratch_part}
 use Rattle.dm_pool.proofs.Takes.{same_blocks}

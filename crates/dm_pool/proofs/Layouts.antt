@@ -1,5 +1,5 @@
 -- What holds of a table of blocks, as one comes and one goes.
-use Rattle.std.proofs.Common.{◌≡◌, ℕ, ◌+◌, ◌^◌, ◌<◌, ◌≤◌, Bool, true, false, cond, ◌*◌, List, [], length, get_or, set, replicate, Option, Some, None, refl, sym, ap, ◌∙◌, subst, inl, inr, ◌⊎◌, arith}
+use Rattle.std.proofs.Common.{◌≡◌, ℕ, ◌+◌, ◌^◌, ◌<◌, ◌≤◌, true, cond, ◌*◌, List, [], length, get_or, set, replicate, Option, Some, None, sym, ap, ◌∙◌, subst, inl, inr, ◌⊎◌, arith}
 use Rattle.std.specs.Prelude.{count_by}
 use Rattle.std.proofs.lemmas.Option.{none-some, same_Some}
 use Rattle.std.proofs.lemmas.List.{length-set, get_or-set_same, get_or-set_other}
@@ -7,8 +7,7 @@ use Rattle.std.proofs.lemmas.List.Folds.{sum_by-replicate}
 use Rattle.dm_pool.specs.declared.places.Place.{Place}
 use Rattle.dm_pool.specs.Gaps.{is_clear}
 use Rattle.dm_pool.specs.Blocks.{Apart, IsPool}
-use Rattle.dm_pool.specs.FreeList.{AreBased}
-use Rattle.dm_pool.specs.Order.{has_units, IsOrder, IsLaid, IsTable}
+use Rattle.dm_pool.specs.Order.{has_units, IsOrder, IsLaid}
 use Rattle.dm_pool.proofs.Blocks.{same_or_not, no_place, clear_apart}
 
 none : (n : ℕ) → 0 ≡ count_by has_units (replicate n None)

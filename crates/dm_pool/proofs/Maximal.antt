@@ -1,10 +1,10 @@
 -- The gaps of a pool are those that its definition counts, and no others.
-use Rattle.std.proofs.Common.{◌≡◌, ℕ, zero, suc, ◌+◌, ◌-◌, ◌<◌, ◌≤◌, Bool, true, false, List, [], ◌∷◌, length, get_or, Option, Some, None, refl, sym, ap, ◌∙◌, subst, inl, inr, ◌⊎◌, arith}
-use Rattle.std.specs.Prelude.{nat_eq, ◌==◌, if◌then◌else◌}
+use Rattle.std.proofs.Common.{◌≡◌, ℕ, zero, suc, ◌+◌, ◌<◌, ◌≤◌, Bool, true, false, List, [], ◌∷◌, Option, refl, sym, ap, ◌∙◌, subst, inl, inr, arith}
+use Rattle.std.specs.Prelude.{if◌then◌else◌}
 use Rattle.std.proofs.Math.Bool.{true≢false}
 use Rattle.std.proofs.lemmas.Bool.{cases_lt, cases_eq, eq-eqb, ne_eqb}
 use Rattle.dm_pool.specs.declared.places.Place.{Place}
-use Rattle.dm_pool.specs.Gaps.{Run, is_clear, overlaps, IsCovered, AreGaps, with_unit, gaps_from, gaps}
+use Rattle.dm_pool.specs.Gaps.{Run, is_clear, IsCovered, AreGaps, with_unit, gaps_from, gaps}
 use Rattle.dm_pool.specs.FreeList.{AreBased}
 use Rattle.dm_pool.proofs.Gaps.{clear, clear_part, before, after}
 use Rattle.dm_pool.proofs.Blocks.{clear_apart}

@@ -1,10 +1,9 @@
 -- Bytes of one block, copied into another or the same one.
-use Rattle.std.proofs.Common.{◌≡◌, ℕ, ◌+◌, ◌*◌, ◌≤◌, List, [], length, get_or, set, take, drop, Option, Some, None, refl, sym, ap, ◌∙◌, subst, arith}
-use Rattle.std.specs.List.{refill}
+use Rattle.std.proofs.Common.{◌≡◌, ℕ, ◌+◌, ◌*◌, ◌≤◌, List, [], length, get_or, Some, None, sym, ap, ◌∙◌, subst, arith}
 use Rattle.dm_region.specs.Parts.{part, with_part}
 use Rattle.dm_region.proofs.Bytes.{length-with_part}
 use Rattle.dm_pool.specs.declared.places.Place.{Place}
-use Rattle.dm_pool.specs.Blocks.{Blocks, content, contents_of, with_content, moved_bytes}
+use Rattle.dm_pool.specs.Blocks.{Blocks, contents_of, with_content, moved_bytes}
 use Rattle.dm_pool.specs.Order.{Layout, IsLaid, blocks_in}
 use Rattle.dm_pool.specs.Stored.{Stored, IsStore, stored, low_part, scratch_part, pool_part, refit}
 use Rattle.dm_pool.proofs.Blocks.{part_length, refilled, content_of}

@@ -1,5 +1,5 @@
 -- The blocks in the order in which they lie, for the code's own use: no public contract speaks of it.
-use Rattle.std.specs.Prelude.{ℕ, ◌+◌, ◌*◌, ◌^◌, ◌<◌, ◌≤◌, ◌≡◌, ◌⊎◌, Bool, true, false, List, length, get_or, nat_lt, count_by, replicate, [], Option, Some, None}
+use Rattle.std.specs.Prelude.{ℕ, ◌+◌, ◌*◌, ◌^◌, ◌<◌, ◌≤◌, ◌≡◌, Bool, false, List, length, get_or, nat_lt, count_by, replicate, [], Option, Some, None}
 use Rattle.dm_pool.specs.declared.places.Place.{Place}
 use Rattle.dm_pool.specs.Blocks.{Blocks, Apart, contents_of}
 use Rattle.dm_pool.specs.FreeList.{AreBased, Tells}

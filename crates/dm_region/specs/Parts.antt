@@ -2,7 +2,6 @@
 use Rattle.std.specs.Prelude.{ℕ, ◌+◌, List, ◌++◌, take, drop}
 use Rattle.std.specs.Borrow.{Fml, MutBor, Array, u8, Lends}
 use Rattle.std.specs.List.{refill}
-use Rattle.dm_region.specs.declared.region.Region.{Region}
 use Rattle.dm_region.specs.contracts.region.Region.{the_row}
 
 -- the len bytes from the place from on

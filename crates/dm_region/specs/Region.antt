@@ -1,5 +1,5 @@
 -- What holds of the parts of a region, and the bytes that it has.
-use Rattle.std.specs.Prelude.{◌≡◌, ℕ, ◌+◌, ◌^◌, ◌<◌, List, ◌++◌, map, length, take, drop, Some}
+use Rattle.std.specs.Prelude.{◌≡◌, ℕ, ◌^◌, ◌<◌, List, map, length, Some}
 use Rattle.dm_region.specs.Places.{somes}
 use Rattle.dm_region.specs.declared.region.Region.TheInside.{Inside}
 

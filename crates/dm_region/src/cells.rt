@@ -115,7 +115,7 @@ pub(crate) fn deallocate<T, A: Allocator>(
 }
 
 impl<T> Cells<T> {
-    ghost use Rattle.dm_region.specs.Lends.{lends_slot, lends_run};
+    ghost use Rattle.dm_region.specs.Lends.{lends_run};
 
     /// Puts a value into an empty place.
     pub(crate) fn write(&mut self, base: Base<T>, index: usize, item: T)

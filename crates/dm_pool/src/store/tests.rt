@@ -13,7 +13,10 @@ fn beginning(store: &Store, unit: usize) -> [u8; 8] {
     if unit < 4 {
         let at = POOL + unit * UNIT;
         if at + 8 <= store.region.len() {
-            bytes.copy_from_slice(store.region.part(at, 8));
+            let part = store.region.part(at, 8);
+            if part.len() == 8 {
+                bytes.copy_from_slice(part);
+            }
         }
     }
     bytes

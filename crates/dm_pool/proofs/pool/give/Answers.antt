@@ -1,8 +1,7 @@
-use Rattle.std.proofs.Common.{◌≡◌, List, ℕ, None, set, sym, ap, ◌∙◌, subst}
+use Rattle.std.proofs.Common.{◌≡◌, None, set, sym, ap, ◌∙◌, subst}
 use Rattle.std.proofs.lemmas.List.{map-set}
 use Rattle.dm_pool.specs.Blocks.{content, contents_of}
-use Rattle.dm_pool.specs.Order.{Layout}
-use Rattle.dm_pool.proofs.Takes.{laid_blocks, same_blocks}
+use Rattle.dm_pool.proofs.Takes.{same_blocks}
 use Rattle.dm_pool.proofs.pool.give.Goals as goal
 
 pub returns-clause-blocks : goal.returns-clause-blocks

@@ -1,8 +1,7 @@
-use Rattle.std.proofs.Common.{Some, IfSome, None, sym, ap, ◌∙◌, refl}
+use Rattle.std.proofs.Common.{sym, ap, ◌∙◌}
 use Rattle.dm_pool.specs.Gaps.{lowest}
 use Rattle.dm_pool.proofs.Takes.{lowest_free, gap_free}
 use Rattle.dm_pool.proofs.Told.{lowest_zero}
-use Rattle.dm_pool.proofs.Maximal.{gaps_are, gaps_are_one}
 use Rattle.dm_pool.proofs.pool.lowest_gap.Goals as goal
 
 pub returns-then-units-eq0 : goal.returns-then-units-eq0

@@ -1,7 +1,7 @@
-use Rattle.std.proofs.Common.{◌≡◌, ◌+◌, ◌-◌, ◌*◌, ◌≤◌, ℕ, List, length, replicate, sym, ap, refl, ◌∙◌, arith}
+use Rattle.std.proofs.Common.{◌≡◌, ◌+◌, ◌-◌, ◌*◌, ◌≤◌, ap, refl, ◌∙◌, arith}
 use Rattle.std.specs.Prelude.{min}
 use Rattle.std.proofs.lemmas.List.{length-replicate}
-use Rattle.dm_region.specs.Parts.{part, with_part}
+use Rattle.dm_region.specs.Parts.{with_part}
 use Rattle.dm_pool.specs.Blocks.{zeros}
 use Rattle.dm_pool.proofs.Blocks.{resized_bytes, fitted_is}
 use Rattle.dm_pool.proofs.Parts.{copied_part}

@@ -1,4 +1,4 @@
-use Rattle.std.proofs.Common.{◌≡◌, ◌+◌, ◌≤◌, true, None, set, sym, ap, ◌∙◌, subst, refl, arith}
+use Rattle.std.proofs.Common.{None, set, sym, ap, ◌∙◌, refl, arith}
 use Rattle.dm_pool.specs.Gaps.{is_clear}
 use Rattle.dm_pool.proofs.Blocks.{if_some, clear_nothing, clear_without}
 use Rattle.dm_pool.proofs.Takes.{gap_free}

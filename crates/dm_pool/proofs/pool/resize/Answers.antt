@@ -1,9 +1,7 @@
-use Rattle.std.proofs.Common.{◌≡◌, ◌+◌, ◌*◌, ◌<◌, ◌≤◌, ◌++◌, List, ℕ, length, None, set, Some, sym, ap, subst, ◌∙◌, refl, length-append, length-take, arith}
+use Rattle.std.proofs.Common.{◌≡◌, ◌*◌, ◌<◌, ◌++◌, ℕ, length, None, set, Some, sym, ap, subst, ◌∙◌, refl, length-append, length-take, arith}
 use Rattle.std.proofs.lemmas.List.{length-replicate, get_or-set_other}
-use Rattle.dm_region.specs.Parts.{with_part}
 use Rattle.dm_pool.specs.declared.places.Place.{Place}
 use Rattle.dm_pool.specs.Blocks.{Blocks, zeros, fitted, content, contents_of}
-use Rattle.dm_pool.specs.Order.{Layout}
 use Rattle.dm_pool.proofs.Blocks.{resize_is, clear_apart}
 use Rattle.dm_pool.proofs.Layouts.{pool_of}
 use Rattle.dm_pool.proofs.Takes.{laid_blocks, set_again}

@@ -1,8 +1,7 @@
-use Rattle.std.proofs.Common.{◌≡◌, ◌+◌, ◌*◌, ◌<◌, ◌≤◌, List, ℕ, length, set, Some, sym, ap, subst, ◌∙◌, refl, arith}
+use Rattle.std.proofs.Common.{◌≡◌, ◌*◌, ◌<◌, length, set, Some, sym, ap, subst, ◌∙◌, refl, arith}
 use Rattle.std.proofs.lemmas.List.{length-replicate}
 use Rattle.dm_pool.specs.declared.places.Place.{Place}
 use Rattle.dm_pool.specs.Blocks.{Blocks, zeros, contents_of}
-use Rattle.dm_pool.specs.Order.{Layout}
 use Rattle.dm_pool.proofs.Blocks.{take_is, clear_apart}
 use Rattle.dm_pool.proofs.Layouts.{pool_of}
 use Rattle.dm_pool.proofs.Takes.{laid_blocks}

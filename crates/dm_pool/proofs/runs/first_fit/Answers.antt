@@ -1,4 +1,4 @@
-use Rattle.std.proofs.Common.{◌≡◌, ◌-◌, ◌<◌, Some, sym, subst, ap, ◌∙◌, arith}
+use Rattle.std.proofs.Common.{◌-◌, ◌<◌, Some, sym, subst, ap, ◌∙◌, arith}
 use Rattle.dm_pool.specs.FreeList.{Tells}
 use Rattle.dm_pool.specs.Gaps.{first_fit}
 use Rattle.dm_pool.proofs.Gaps.{fit_is_lowest}

@@ -1,7 +1,6 @@
-use Rattle.std.proofs.Common.{◌≡◌, ◌-◌, ◌<◌, subst, refl, arith}
+use Rattle.std.proofs.Common.{◌<◌, subst, arith}
 use Rattle.dm_pool.specs.Order.{IsCut}
-use Rattle.dm_pool.specs.FreeList.{IsBelow}
-use Rattle.dm_pool.proofs.Spelled.{none_below, cut_none, top_below, cut_below}
+use Rattle.dm_pool.proofs.Spelled.{none_below, top_below, cut_below}
 use Rattle.dm_pool.proofs.runs.highest.Goals as goal
 
 pub returns-then-rest-eq0-clause-below : goal.returns-then-rest-eq0-clause-below

@@ -1,8 +1,7 @@
-use Rattle.std.proofs.Common.{◌≡◌, ◌+◌, ◌-◌, ◌*◌, ◌/◌, ◌<◌, ◌≤◌, sym, subst, ap, refl, ◌∙◌, arith}
-use Rattle.std.specs.Prelude.{max}
+use Rattle.std.proofs.Common.{◌-◌, ◌<◌, sym, subst, ap, arith}
 use Rattle.dm_pool.specs.FreeList.{Tells}
-use Rattle.dm_pool.specs.Gaps.{gaps, largest}
-use Rattle.dm_pool.proofs.Fits.{sets_out, tells_gaps, meets, none_left, run_within, run_falls, goes_on, free_within, free_split}
+use Rattle.dm_pool.specs.Gaps.{largest}
+use Rattle.dm_pool.proofs.Fits.{sets_out, tells_gaps, meets, none_left, run_within, run_falls, goes_on}
 use Rattle.dm_pool.proofs.runs.largest.Goals as goal
 
 pub loop-at-init : goal.loop-at-init

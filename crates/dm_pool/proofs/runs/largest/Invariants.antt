@@ -1,4 +1,4 @@
-use Rattle.std.proofs.Common.{◌≡◌, ◌+◌, ◌-◌, ◌≤◌}
+use Rattle.std.proofs.Common.{◌≡◌, ◌-◌}
 use Rattle.std.specs.Prelude.{max}
 use Rattle.dm_pool.specs.Gaps.{gaps, largest}
 use Rattle.dm_pool.proofs.Fits.{Passing}

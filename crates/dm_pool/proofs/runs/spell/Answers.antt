@@ -1,6 +1,4 @@
-use Rattle.std.proofs.Common.{◌≡◌, ◌+◌, ◌<◌, ◌≤◌, ◌∙◌, ◌⊎◌, sym, subst, inl, inr, refl, Fits, w64, arith}
-use Rattle.dm_pool.specs.declared.places.Place.{Place}
-use Rattle.dm_pool.specs.FreeList.{IsBelow}
+use Rattle.std.proofs.Common.{◌+◌, ◌∙◌, sym, subst, arith}
 use Rattle.dm_pool.specs.Order.{IsCut}
 use Rattle.dm_pool.proofs.FreeRuns.{tells_same, tells_gap, tells_lower, contents_gap, end_lower}
 use Rattle.dm_pool.proofs.Spelled.{falls}

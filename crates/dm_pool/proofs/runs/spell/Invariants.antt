@@ -1,4 +1,3 @@
-use Rattle.std.proofs.Common.{◌≡◌, ℕ}
 use Rattle.dm_pool.specs.Order.{IsCut}
 use Rattle.dm_pool.proofs.FreeRuns.{Spelling}
 use Rattle.dm_pool.proofs.runs.spell.Given as goal

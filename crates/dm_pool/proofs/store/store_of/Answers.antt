@@ -1,7 +1,7 @@
-use Rattle.std.proofs.Common.{◌≡◌, ◌+◌, ◌*◌, ◌≤◌, ℕ, List, length, refl, sym, ap, ◌∙◌, subst, arith}
+use Rattle.std.proofs.Common.{◌+◌, ◌*◌, length, refl, sym, ap, ◌∙◌, subst, arith}
 use Rattle.dm_pool.specs.FreeList.{Tells}
-use Rattle.dm_pool.specs.Order.{Layout, IsToldIn}
-use Rattle.dm_pool.specs.Stored.{Stored, IsStore, stored, zeros_of}
+use Rattle.dm_pool.specs.Order.{Layout}
+use Rattle.dm_pool.specs.Stored.{Stored}
 use Rattle.dm_pool.proofs.Blocks.{part_length}
 use Rattle.dm_pool.proofs.Fresh.{low_zeros, scratch_zeros, none_units, none_blocks}
 use Rattle.dm_pool.proofs.Stored.{length-zeros_of, pool_store, pool_stored}

@@ -1,4 +1,4 @@
-use Rattle.std.proofs.Common.{◌≡◌, ◌<◌, ◌*◌, Some, ap, sym, subst, ◌∙◌, length, lit<, arith}
+use Rattle.std.proofs.Common.{Some, ap, sym, subst, ◌∙◌, length, lit<, arith}
 use Rattle.std.specs.List.{insert}
 use Rattle.dm_pool.specs.Order.{IsOrder}
 use Rattle.dm_pool.proofs.Blocks.{clear_apart}

@@ -1,6 +1,5 @@
 use Rattle.std.proofs.Common.{sym, ◌∙◌}
 use Rattle.std.proofs.lemmas.Option.{none-some}
-use Rattle.dm_pool.proofs.Order.{order_room, order_come, order_go}
 use Rattle.dm_pool.proofs.table.rank.Goals as goal
 
 -- an order has live blocks alone

@@ -1,6 +1,5 @@
-use Rattle.std.proofs.Common.{◌+◌, ◌-◌, ◌≡◌, ◌++◌, suc, ◌∙◌, sym, ap, refl, arith, length, replicate, None, map, Some, set}
-use Rattle.std.proofs.lemmas.List.{append-nil, length-map, length-replicate}
-use Rattle.dm_region.specs.Places.{somes}
+use Rattle.std.proofs.Common.{◌+◌, ◌-◌, ◌≡◌, ◌++◌, suc, ◌∙◌, ap, arith, replicate, None, Some, set}
+use Rattle.std.proofs.lemmas.List.{append-nil, length-replicate}
 use Rattle.dm_region.proofs.Bytes.{count, fill_step, map_replicate, full_of}
 use Rattle.dm_region.proofs.region.zeros.Goals as goal
 

@@ -1,4 +1,4 @@
-use Rattle.std.proofs.Common.{◌≡◌, ◌++◌, ◌-◌, ℕ, map, replicate, Some, None}
+use Rattle.std.proofs.Common.{◌≡◌, ◌++◌, ◌-◌, replicate, Some, None}
 use Rattle.dm_region.proofs.region.zeros.Given as goal
 
 abbrev pub invariant-loop-i : goal.invariant-loop-i

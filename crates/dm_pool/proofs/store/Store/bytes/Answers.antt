@@ -1,5 +1,4 @@
-use Rattle.std.proofs.Common.{◌≡◌, ◌+◌, ◌*◌, ◌≤◌, Some, None, [], get_or, length, sym, ap, ◌∙◌, Fits, w64, arith}
-use Rattle.dm_region.specs.Parts.{part}
+use Rattle.std.proofs.Common.{◌*◌, None, [], get_or, sym, ap, ◌∙◌, arith}
 use Rattle.dm_pool.specs.Stored.{Stored, pool_part}
 use Rattle.dm_pool.proofs.Blocks.{content_of}
 use Rattle.dm_pool.proofs.Parts.{part_in}

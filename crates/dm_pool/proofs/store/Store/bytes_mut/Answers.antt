@@ -1,4 +1,4 @@
-use Rattle.std.proofs.Common.{◌≡◌, ◌+◌, ◌*◌, ◌≤◌, Some, None, [], List, ℕ, get_or, length, refl, sym, ap, ◌∙◌, Fits, w64, arith}
+use Rattle.std.proofs.Common.{◌*◌, None, [], get_or, refl, sym, ap, ◌∙◌, arith}
 use Rattle.dm_pool.specs.Blocks.{with_content}
 use Rattle.dm_pool.specs.Stored.{Stored, pool_part, refit}
 use Rattle.dm_pool.proofs.Blocks.{content_of}

@@ -1,4 +1,4 @@
-use Rattle.std.proofs.Common.{◌≡◌, ap, ◌∙◌}
+use Rattle.std.proofs.Common.{ap, ◌∙◌}
 use Rattle.dm_pool.specs.Gaps.{gaps, count_fitting}
 use Rattle.dm_pool.specs.Stored.{Stored}
 use Rattle.dm_pool.proofs.Stored.{pool_fits, pool_told}

@@ -1,4 +1,4 @@
-use Rattle.std.proofs.Common.{refl, sym, ◌∙◌, ap, List, ℕ, ◌+◌, ◌*◌, ◌≤◌, length, inl, inr, subst, arith}
+use Rattle.std.proofs.Common.{refl, sym, ◌∙◌, ap, ◌+◌, ◌*◌, ◌≤◌, length, inr, subst, arith}
 use Rattle.dm_pool.specs.Stored.{Stored, refit}
 use Rattle.dm_pool.specs.Order.{IsToldIn, blocks_in}
 use Rattle.dm_pool.proofs.Blocks.{part_length}

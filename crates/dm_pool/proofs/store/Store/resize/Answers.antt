@@ -1,12 +1,11 @@
-use Rattle.std.proofs.Common.{◌≡◌, ◌+◌, ◌*◌, ◌≤◌, List, ℕ, Option, None, Some, get_or, length, sym, ap, refl, ◌∙◌, subst, arith}
+use Rattle.std.proofs.Common.{◌≡◌, None, Some, get_or, length, sym, ap, refl, ◌∙◌, subst}
 use Rattle.std.specs.Bool.{MatchBool}
 use Rattle.dm_region.specs.Parts.{part}
 use Rattle.dm_pool.proofs.Blocks.{part_length}
-use Rattle.dm_pool.specs.declared.places.Place.{Place}
-use Rattle.dm_pool.specs.Blocks.{Blocks, without, resized}
-use Rattle.dm_pool.specs.Order.{Layout, IsToldIn, blocks_in}
+use Rattle.dm_pool.specs.Blocks.{resized}
+use Rattle.dm_pool.specs.Order.{blocks_in}
 use Rattle.dm_pool.specs.Stored.{Stored}
-use Rattle.dm_pool.proofs.Stored.{pool_fits, pool_told, pool_store, pool_stored, same_stored, told_taken, told_resized}
+use Rattle.dm_pool.proofs.Stored.{pool_fits, pool_told, pool_store, pool_stored, same_stored, told_resized}
 use Rattle.dm_pool.proofs.store.Store.resize.Goals as goal
 
 pub part_mut-requires : goal.part_mut-requires

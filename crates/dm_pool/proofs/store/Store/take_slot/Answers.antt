@@ -1,11 +1,9 @@
-use Rattle.std.proofs.Common.{◌≡◌, ◌+◌, ◌*◌, ◌≤◌, List, ℕ, Option, None, Some, get_or, length, sym, ap, refl, ◌∙◌, subst, arith}
+use Rattle.std.proofs.Common.{◌≡◌, length, ap, refl, ◌∙◌}
 use Rattle.dm_region.specs.Parts.{part}
 use Rattle.dm_pool.proofs.Blocks.{part_length}
-use Rattle.dm_pool.specs.declared.places.Place.{Place}
-use Rattle.dm_pool.specs.Blocks.{Blocks, without, resized}
-use Rattle.dm_pool.specs.Order.{Layout, IsToldIn, blocks_in}
+use Rattle.dm_pool.specs.Order.{blocks_in}
 use Rattle.dm_pool.specs.Stored.{Stored}
-use Rattle.dm_pool.proofs.Stored.{pool_fits, pool_told, pool_store, pool_stored, same_stored, told_taken, told_resized}
+use Rattle.dm_pool.proofs.Stored.{pool_fits, pool_told, pool_store, pool_stored, same_stored, told_taken}
 use Rattle.dm_pool.proofs.store.Store.take_slot.Goals as goal
 
 pub part_mut-requires : goal.part_mut-requires

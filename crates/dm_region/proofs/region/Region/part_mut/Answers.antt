@@ -9,7 +9,7 @@ use Rattle.dm_region.proofs.region.Region.part_mut.Goals as goal
 pub slice_mut-requires : goal.slice_mut-requires
 slice_mut-requires c =
     let r = c.self.inside in let inv = c.self.invariant in let xs = somes r.cells.slots in
-    (sym inv.cells_at, (omega (arith, count r.cells.slots xs inv.full, ap length c.self.view_is, c.requires), (part xs c.args.from c.args.len, run r.cells.slots xs c.args.from c.args.len inv.full)))
+    (sym inv.cells_at, (omega (arith, count r.cells.slots xs inv.full, ap length c.self.view_is, c.requires), (_, run r.cells.slots xs _ _ inv.full)))
 
 pub invariant_of-self-lent : goal.invariant_of-self-lent
 invariant_of-self-lent c = λ w.
