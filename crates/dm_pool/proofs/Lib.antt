@@ -1,0 +1,15 @@
+pub mod Blocks
+pub mod Takes
+pub mod Told
+pub mod Fits
+pub mod FreeList
+pub mod Fresh
+pub mod FreeRuns
+pub mod Gaps
+pub mod Layouts
+pub mod Maximal
+pub mod Moved
+pub mod Order
+pub mod Parts
+pub mod Spelled
+pub mod Stored

@@ -1,0 +1,10 @@
+use Rattle.std.proofs.Common.{◌∙◌, ap, length, arith}
+use Rattle.dm_pool.specs.Stored.{Stored}
+use Rattle.dm_pool.proofs.Blocks.{part_length}
+use Rattle.dm_pool.proofs.store.Store.scratch.Goals as goal
+
+pub returns-clause-value : goal.returns-clause-value
+returns-clause-value c = c.part.ensures ∙ ap (λ (s : Stored). s.scratch) c.self.view_is
+
+pub returns-clause-length : goal.returns-clause-length
+returns-clause-length c = ap length c.part.ensures ∙ part_length c.self.inside.region 0x110000 _ (omega (arith, c.self.invariant.whole))

@@ -1,0 +1,5 @@
+use Rattle.dm_pool.proofs.Layouts.{go_laid}
+use Rattle.dm_pool.proofs.table.Table.remove.Goals as goal
+
+pub invariant_of-self : goal.invariant_of-self
+invariant_of-self c = record { laid = go_laid c.self.inside.units c.self.inside.places c.args.slot c.requires.0 c.self.invariant.laid; order = c.order_out.ensures }

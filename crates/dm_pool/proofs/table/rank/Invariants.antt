@@ -1,0 +1,7 @@
+use Rattle.std.proofs.Common.{ℕ, ◌<◌}
+use Rattle.dm_pool.specs.declared.places.Place.{Place}
+use Rattle.dm_pool.specs.Order.{IsNth}
+use Rattle.dm_pool.proofs.table.rank.Given as goal
+
+abbrev pub invariant-loop-i : goal.invariant-loop-i
+invariant-loop-i l = (p : ℕ) (b : Place) → p < l.i → IsNth l.places l.order p b → b.base < l.base

@@ -1,0 +1,15 @@
+-- What a store holds after the loan of a part of it.
+use Rattle.std.specs.Prelude.{ℕ, List, [], get_or}
+use Rattle.std.specs.Borrow.{Lends, MutBor, Fml, Array, u8}
+use Rattle.dm_pool.specs.Blocks.{with_content}
+use Rattle.dm_pool.specs.Stored.{Stored, refit}
+use Rattle.dm_pool.specs.contracts.store.Store.{the_row}
+
+abbrev pub LendsLow : MutBor Stored → MutBor (List ℕ) → Fml
+LendsLow s r = Lends the_row (Array u8 0) s r (λ w. record s.now { low = refit s.now.low w })
+
+abbrev pub LendsScratch : MutBor Stored → MutBor (List ℕ) → Fml
+LendsScratch s r = Lends the_row (Array u8 0) s r (λ w. record s.now { scratch = refit s.now.scratch w })
+
+abbrev pub LendsBlock : MutBor Stored → ℕ → MutBor (List ℕ) → Fml
+LendsBlock s i r = Lends the_row (Array u8 0) s r (λ w. record s.now { blocks = with_content s.now.blocks i (refit (get_or s.now.blocks.contents i []) w) })

@@ -1,0 +1,6 @@
+pub mod Blocks
+pub mod FreeList
+pub mod Gaps
+pub mod Order
+pub mod Stored
+pub mod Lending

@@ -1,0 +1,38 @@
+//! The names of blocks.
+ghost use Rattle.std.specs.Prelude.{◌≡◌, ◌<◌};
+
+use std::marker::Model;
+
+/// A block of a pool, by its number.
+#[derive(Clone, Copy, Debug, PartialEq, Eq)]
+pub struct Block {
+    slot: usize,
+}
+
+impl Model for Block {
+    ghost use Rattle.std.specs.Prelude.{ℕ, ◌<◌};
+
+    ghost Value = { ℕ };
+
+    ghost view = { λ b. b.slot };
+
+    ghost invariant = { λ b. b.slot < 576 };
+
+    ghost inverse = { λ n. record { slot = n } };
+}
+
+impl Block {
+    pub(crate) fn new(slot: usize) -> Block
+        requires { slot < 576 }
+        ensures { result ≡ slot }
+    {
+        Block { slot }
+    }
+
+    pub(crate) fn slot(self) -> usize
+        ensures value { result ≡ self }
+        ensures small { result < 576 }
+    {
+        self.slot
+    }
+}

@@ -1,0 +1,15 @@
+//! Blocks of units, and the bytes of a machine.
+#![tactic(auto)]
+
+mod block;
+mod places;
+mod pool;
+mod runs;
+mod sizes;
+mod store;
+mod table;
+
+pub use block::Block;
+pub use places::{Place, UNIT};
+pub use sizes::Sizes;
+pub use store::{NewError, Store};

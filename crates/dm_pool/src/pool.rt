@@ -1,0 +1,128 @@
+//! Blocks that come, go and change their size, over a table of blocks and the bytes of the pool.
+ghost use Rattle.std.specs.Prelude.{◌≡◌, ◌+◌, ◌*◌, ◌^◌, ◌<◌, ◌≤◌, true, set, length, IfSome, MatchOption};
+ghost use Rattle.std.specs.Bool.{MatchBool};
+ghost use Rattle.dm_region.specs.Parts.{with_part};
+ghost use Rattle.dm_pool.specs.Gaps.{is_clear, lowest};
+ghost use Rattle.dm_pool.specs.Blocks.{taken, without, new_base, resized, content, contents_of, fitted, zeros, IsAt, IsLive};
+ghost use Rattle.dm_pool.specs.Order.{blocks_in, IsToldIn};
+
+use crate::places::{Place, UNIT};
+use crate::runs::{first_fit, spell};
+use crate::table::Table;
+
+/// The low end of the lowest gap that holds so many units; no unit lies at 0.
+fn lowest_gap(table: &Table, bytes: &[u8], units: usize) -> Option<usize>
+    requires { IsToldIn table.now bytes.now }
+    ensures lowest { result ≡ lowest table.now.places table.now.units units }
+    ensures free { IfSome result (λ base. (base + units ≤ table.now.units) × (is_clear table.now.places base units ≡ true) × (units ≡ 0 → base ≡ 0)) }
+{
+    if units == 0 {
+        return Some(0);
+    }
+    first_fit(table, bytes, units)
+}
+
+/// Writes zeros into so many units from a unit on.
+fn clear(bytes: &mut [u8], base: usize, units: usize)
+    requires { (base * 1024 + units * 1024 ≤ length bytes.old) × (base + units < 2 ^ 31) }
+    ensures { bytes.new ≡ with_part bytes.old (base * 1024) (units * 1024) (zeros units) }
+{
+    let from = base * UNIT;
+    bytes[from..from + units * UNIT].fill(0);
+}
+
+/// Writes the free runs anew, as the table has them now.
+fn retell(table: &mut Table, bytes: &mut [u8])
+    requires { length bytes.old ≡ table.old.units * 1024 }
+    ensures told { IsToldIn table.new bytes.new }
+    ensures units { table.new.units ≡ table.old.units }
+    ensures places { table.new.places ≡ table.old.places }
+    ensures contents { contents_of table.old.places bytes.new ≡ contents_of table.old.places bytes.old }
+{
+    let first = spell(table, bytes);
+    table.set_first(first);
+}
+
+/// Takes a block of so many units, all zeros, in the lowest gap that holds them. None where no gap does, or where there are as
+/// many blocks as can be.
+pub(crate) fn take(table: &mut Table, bytes: &mut [u8], units: usize) -> Option<usize>
+    requires { IsToldIn table.old bytes.old }
+    ensures told { IsToldIn table.new bytes.new }
+    ensures units { table.new.units ≡ table.old.units }
+    ensures small { IfSome result (λ slot. slot < 576) }
+    ensures taken { MatchOption result ((taken (blocks_in table.old bytes.old) units ≡ None) × (table.new ≡ table.old) × (bytes.new ≡ bytes.old)) (λ slot. taken (blocks_in table.old bytes.old) units ≡ Some (slot, blocks_in table.new bytes.new)) }
+{
+    table.recall();
+    let slot = table.first_empty()?;
+    let base = lowest_gap(table, bytes, units)?;
+    clear(bytes, base, units);
+    table.put(slot, Place { base, units });
+    retell(table, bytes);
+    Some(slot)
+}
+
+/// Gives a block back.
+pub(crate) fn give(table: &mut Table, bytes: &mut [u8], slot: usize)
+    requires told { IsToldIn table.old bytes.old }
+    requires live { IsLive (blocks_in table.old bytes.old) slot }
+    ensures told { IsToldIn table.new bytes.new }
+    ensures units { table.new.units ≡ table.old.units }
+    ensures blocks { blocks_in table.new bytes.new ≡ without (blocks_in table.old bytes.old) slot }
+{
+    table.recall();
+    table.remove(slot);
+    retell(table, bytes);
+}
+
+/// Where a block is to lie that gets so many units: where it is, if the units there are its own or free, else in the lowest gap, its
+/// own units counted as taken.
+fn new_base(table: &Table, bytes: &[u8], slot: usize, units: usize) -> Option<usize>
+    requires told { IsToldIn table.now bytes.now }
+    requires live { IsLive (blocks_in table.now bytes.now) slot }
+    ensures base { (b : _) → IsAt (blocks_in table.now bytes.now) slot b → result ≡ new_base (blocks_in table.now bytes.now) slot b units }
+    ensures free { IfSome result (λ base. (base + units ≤ table.now.units) × (is_clear (set table.now.places slot None) base units ≡ true) × (units ≡ 0 → base ≡ 0)) }
+{
+    if units == 0 {
+        return Some(0);
+    }
+    table.recall();
+    let place = table.place(slot);
+    if table.is_free_but(slot, place.base, units) {
+        return Some(place.base);
+    }
+    first_fit(table, bytes, units)
+}
+
+/// Moves a block's bytes to another place; what is new there is zeros.
+fn move_block(bytes: &mut [u8], from: Place, to: Place)
+    requires source { from.base * 1024 + from.units * 1024 ≤ length bytes.old }
+    requires destination { to.base * 1024 + to.units * 1024 ≤ length bytes.old }
+    requires small { (from.base + from.units < 2 ^ 31) × (to.base + to.units < 2 ^ 31) }
+    ensures { bytes.new ≡ with_part bytes.old (to.base * 1024) (to.units * 1024) (fitted (content bytes.old (Some from)) to.units) }
+{
+    let kept = from.units.min(to.units);
+    let start = from.base * UNIT;
+    bytes.copy_within(start..start + kept * UNIT, to.base * UNIT);
+    clear(bytes, to.base + kept, to.units - kept);
+}
+
+/// Gives a block another size: bytes up to the smaller size stay, new ones are zeros. False where neither its place nor a gap holds
+/// it, and then nothing has changed.
+pub(crate) fn resize(table: &mut Table, bytes: &mut [u8], slot: usize, units: usize) -> bool
+    requires told { IsToldIn table.old bytes.old }
+    requires live { IsLive (blocks_in table.old bytes.old) slot }
+    ensures told { IsToldIn table.new bytes.new }
+    ensures units { table.new.units ≡ table.old.units }
+    ensures resized { MatchBool result (resized (blocks_in table.old bytes.old) slot units ≡ Some (blocks_in table.new bytes.new)) ((resized (blocks_in table.old bytes.old) slot units ≡ None) × (table.new ≡ table.old) × (bytes.new ≡ bytes.old)) }
+{
+    let Some(base) = new_base(table, bytes, slot, units) else {
+        return false;
+    };
+    table.recall();
+    let place = Place { base, units };
+    move_block(bytes, table.place(slot), place);
+    table.remove(slot);
+    table.put(slot, place);
+    retell(table, bytes);
+    true
+}

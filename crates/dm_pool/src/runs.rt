@@ -1,0 +1,159 @@
+//! Free runs, kept in the free bytes themselves. A run begins with its length in units and the unit where the next run begins, four
+//! bytes each, low byte first; FFFFFFFFh stands for no run.
+ghost use Rattle.std.specs.Prelude.{◌≡◌, ℕ, ◌+◌, ◌-◌, ◌*◌, ◌^◌, ◌<◌, ◌≤◌, length};
+ghost use Rattle.dm_pool.specs.Blocks.{contents_of};
+ghost use Rattle.dm_pool.specs.FreeList.{word, IsBelow, IsKeptOutside, Tells};
+ghost use Rattle.dm_pool.specs.Gaps.{lowest, gaps, free_units, largest, count_fitting};
+ghost use Rattle.dm_pool.specs.Order.{IsCut, IsToldIn};
+
+use crate::places::{Place, UNIT};
+use crate::table::Table;
+use byteorder::{ByteOrder, LittleEndian};
+
+/// Where no run is.
+const NOWHERE: u32 = u32::MAX;
+
+/// A run of free units.
+#[derive(Clone, Copy)]
+pub(crate) struct FreeRun {
+    pub(crate) units: u32,
+    /// Where the next run begins.
+    pub(crate) next: u32,
+}
+
+/// The run that begins at a unit.
+pub(crate) fn run_at(bytes: &[u8], unit: usize) -> FreeRun
+    requires { (unit * 1024 + 8 ≤ length bytes.now) × (unit < 2 ^ 31) }
+    ensures { (result.units ≡ word bytes.now (unit * 1024)) × (result.next ≡ word bytes.now (unit * 1024 + 4)) }
+{
+    let at = unit * UNIT;
+    FreeRun {
+        units: LittleEndian::read_u32(&bytes[at..at + 4]),
+        next: LittleEndian::read_u32(&bytes[at + 4..at + 8]),
+    }
+}
+
+/// Writes a number into four bytes, low byte first.
+fn write_word(bytes: &mut [u8], at: usize, value: u32)
+    requires { at + 4 ≤ length bytes.old }
+    ensures value { word bytes.new at ≡ value }
+    ensures kept { IsKeptOutside bytes.old at 4 bytes.new }
+{
+    LittleEndian::write_u32(&mut bytes[at..at + 4], value);
+}
+
+/// Writes the beginning of the run at a unit.
+fn write_run(bytes: &mut [u8], unit: usize, run: FreeRun)
+    requires { (unit * 1024 + 8 ≤ length bytes.old) × (unit < 2 ^ 31) }
+    ensures units { word bytes.new (unit * 1024) ≡ run.units }
+    ensures next { word bytes.new (unit * 1024 + 4) ≡ run.next }
+    ensures kept { IsKeptOutside bytes.old (unit * 1024) 8 bytes.new }
+{
+    let at = unit * UNIT;
+    write_word(bytes, at, run.units);
+    write_word(bytes, at + 4, run.next);
+}
+
+/// The highest of the first `rest` blocks of the order; one of no unit at 0 where `rest` is 0.
+fn highest(table: &Table, rest: usize) -> Place
+    requires { rest ≤ length table.now.order }
+    ensures below { (end : ℕ) → IsCut table.now.places table.now.order rest end → IsBelow table.now.places end result }
+    ensures cut { (end : ℕ) → IsCut table.now.places table.now.order rest end → IsCut table.now.places table.now.order (rest - 1) result.base }
+{
+    table.recall();
+    if rest == 0 {
+        return Place { base: 0, units: 0 };
+    }
+    table.nth(rest - 1)
+}
+
+/// Writes all free runs, from the highest down, and tells where the first one begins.
+pub(crate) fn spell(table: &Table, bytes: &mut [u8]) -> u32
+    requires { length bytes.old ≡ table.now.units * 1024 }
+    ensures contents { contents_of table.now.places bytes.new ≡ contents_of table.now.places bytes.old }
+    ensures told { Tells table.now.places table.now.units 0 result bytes.new }
+{
+    table.recall();
+    let mut end = table.units();
+    let mut next = NOWHERE;
+    let mut rest = table.count();
+    while end > 0 {
+        let top = highest(table, rest);
+        rest = rest.saturating_sub(1);
+        let edge = top.base + top.units;
+        if edge < end {
+            let units = (end - edge) as u32;
+            write_run(bytes, edge, FreeRun { units, next });
+            next = edge as u32;
+        }
+        end = top.base;
+    }
+    next
+}
+
+/// Where the lowest run of so many units begins. It walks the runs as the free bytes tell them.
+pub(crate) fn first_fit(table: &Table, bytes: &[u8], wanted: usize) -> Option<usize>
+    requires told { IsToldIn table.now bytes.now }
+    requires some { 0 < wanted }
+    ensures { result ≡ lowest table.now.places table.now.units wanted }
+{
+    table.recall();
+    let mut at = table.first();
+    while at != NOWHERE {
+        let run = run_at(bytes, at as usize);
+        if wanted <= run.units as usize {
+            return Some(at as usize);
+        }
+        at = run.next;
+    }
+    None
+}
+
+/// How many units are in no block.
+pub(crate) fn free_units(table: &Table, bytes: &[u8]) -> usize
+    requires { IsToldIn table.now bytes.now }
+    ensures { result ≡ free_units (gaps table.now.places table.now.units) }
+{
+    table.recall();
+    let mut sum = 0usize;
+    let mut at = table.first();
+    while at != NOWHERE {
+        let run = run_at(bytes, at as usize);
+        sum += run.units as usize;
+        at = run.next;
+    }
+    sum
+}
+
+/// The units of the largest gap, 0 if there is none.
+pub(crate) fn largest(table: &Table, bytes: &[u8]) -> usize
+    requires { IsToldIn table.now bytes.now }
+    ensures { result ≡ largest (gaps table.now.places table.now.units) }
+{
+    table.recall();
+    let mut most = 0usize;
+    let mut at = table.first();
+    while at != NOWHERE {
+        let run = run_at(bytes, at as usize);
+        most = most.max(run.units as usize);
+        at = run.next;
+    }
+    most
+}
+
+/// How many blocks of so many units fit into the gaps, one after the other.
+pub(crate) fn count_fitting(table: &Table, bytes: &[u8], units: usize) -> usize
+    requires told { IsToldIn table.now bytes.now }
+    requires some { 0 < units }
+    ensures { result ≡ count_fitting units (gaps table.now.places table.now.units) }
+{
+    table.recall();
+    let mut count = 0usize;
+    let mut at = table.first();
+    while at != NOWHERE {
+        let run = run_at(bytes, at as usize);
+        count += run.units as usize / units;
+        at = run.next;
+    }
+    count
+}

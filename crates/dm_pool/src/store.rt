@@ -1,0 +1,277 @@
+//! The bytes of a machine, in one region: low memory by linear address, scratch bytes, and a pool of units of 1 KiB.
+ghost use Rattle.std.specs.Prelude.{◌≡◌, ◌↔◌, IsTrue, ◌+◌, ◌*◌, ◌^◌, ◌<◌, ◌≤◌, Some, None, [], get_or, length, IfOk, IfSome, IsErrOf, MatchOption};
+ghost use Rattle.std.specs.Borrow.{sem};
+ghost use Rattle.std.specs.Bool.{MatchBool};
+ghost use Rattle.dm_pool.specs.Blocks.{no_blocks, taken, resized, without, moved_bytes, IsAt, IsLive};
+ghost use Rattle.dm_pool.specs.Gaps.{gaps, free_units, largest, count_fitting};
+ghost use Rattle.dm_pool.specs.Stored.{zeros_of, units_of, IsTooLarge};
+ghost use Rattle.dm_pool.specs.Lending.{LendsLow, LendsScratch, LendsBlock};
+
+use crate::block::Block;
+use crate::places::{Place, UNIT};
+use crate::pool;
+use crate::runs;
+use crate::sizes::Sizes;
+use crate::table::Table;
+use dm_region::Region;
+use std::alloc::{AllocError, Global};
+use std::marker::Model;
+use thiserror::Error;
+
+/// How many bytes have a linear address of their own, up to the end of the high memory area.
+const LOW: usize = 0x11_0000;
+
+/// How many bytes have no address: what is put together out of sight stands in them.
+const SCRATCH: usize = 0x20_0000;
+
+/// How many units a page of expanded memory has.
+const PAGE_UNITS: usize = 16;
+
+/// Where the pool begins.
+const POOL: usize = LOW + SCRATCH;
+
+/// Low memory, scratch bytes and a pool of blocks, in one allocation that is given back when the store is dropped.
+#[derive(Drop)]
+pub struct Store {
+    region: Region,
+    table: Table,
+}
+
+impl Model for Store {
+    ghost use Rattle.dm_pool.specs.Stored.{Stored, IsStore, stored};
+
+    ghost Value = { Stored };
+
+    ghost view = { λ s. stored s.region s.table };
+
+    ghost invariant = { λ s. IsStore s.region s.table };
+}
+
+/// Why no store was made.
+#[derive(Clone, Copy, Debug, PartialEq, Eq, Error)]
+pub enum NewError {
+    /// Over 512 pages of expanded memory, or over 15,360 KiB of extended memory.
+    #[error("too large")]
+    TooLarge,
+    /// Memory was refused.
+    #[error("out of memory")]
+    Memory,
+}
+
+/// A region of zeros. (A function of its own, so that no proof of a large one writes them out.)
+#[tactic(auto, unfolding(crate::specs::Stored::zeros_of))]
+fn blank(alloc: Global, len: usize) -> Result<Region, AllocError>
+    ensures { IfOk result (λ region. region ≡ zeros_of len) }
+{
+    Region::new(alloc, len)
+}
+
+/// A store of zeros, whose pool has so many units and no block.
+fn store_of(alloc: Global, units: usize) -> Result<Store, AllocError>
+    requires { units < 2 ^ 31 }
+    ensures low { IfOk result (λ store. store.low ≡ zeros_of 0x110000) }
+    ensures scratch { IfOk result (λ store. store.scratch ≡ zeros_of 0x200000) }
+    ensures blocks { IfOk result (λ store. store.blocks ≡ no_blocks units) }
+{
+    let mut region = blank(alloc, POOL + units * UNIT)?;
+    let mut table = Table::new(units);
+    let first = runs::spell(&table, region.part_mut(POOL, units * UNIT));
+    table.set_first(first);
+    Ok(Store { region, table })
+}
+
+/// How many bytes the pool has.
+fn pool_len(table: &Table) -> usize
+    ensures { result ≡ table.now.units * 1024 }
+{
+    table.recall();
+    table.units() * UNIT
+}
+
+/// Where a block lies.
+fn place_of(table: &Table, block: Block) -> Place
+    requires { (b : _) × (get_or table.now.places block None ≡ Some b) }
+    ensures place { get_or table.now.places block None ≡ Some result }
+    ensures within { result.base + result.units ≤ table.now.units }
+    ensures small { table.now.units < 2 ^ 31 }
+{
+    table.recall();
+    table.place(block.slot())
+}
+
+impl Store {
+    /// A store of zeros with no block: 110000h bytes of low memory, 200000h scratch bytes, and a pool of 16 units of 1 KiB for each page
+    /// and one for each KiB of extended memory.
+    ///
+    /// # Errors
+    ///
+    /// `TooLarge` where there are over 512 pages or over 15,360 KiB; else `Memory` where memory was refused.
+    pub fn new(alloc: Global, sizes: Sizes) -> Result<Store, NewError>
+        ensures low { IfOk result (λ store. store.low ≡ zeros_of 0x110000) }
+        ensures scratch { IfOk result (λ store. store.scratch ≡ zeros_of 0x200000) }
+        ensures blocks { IfOk result (λ store. store.blocks ≡ no_blocks (units_of sizes)) }
+        ensures too_large { IsErrOf result NewError.TooLarge ↔ IsTooLarge sizes }
+    {
+        if sizes.ems_pages > 512 || sizes.xms_kib > 15_360 {
+            return Err(NewError::TooLarge);
+        }
+        let units = PAGE_UNITS * sizes.ems_pages as usize + sizes.xms_kib as usize;
+        match store_of(alloc, units) {
+            Ok(store) => Ok(store),
+            Err(_) => Err(NewError::Memory),
+        }
+    }
+
+    /// The bytes of low memory.
+    #[inline(always)]
+    pub fn low(&self) -> &[u8]
+        ensures value { result.now ≡ self.now.low }
+        ensures length { length result.now ≡ 0x110000 }
+    {
+        self.region.part(0, LOW)
+    }
+
+    /// The bytes of low memory, lent to be written.
+    #[inline(always)]
+    pub fn low_mut(&mut self) -> &mut [u8]
+        ensures* writes_back { sem 𝓛 (LendsLow self.entry result) }
+        ensures value { result.now ≡ self.old.low }
+        ensures length { length result.now ≡ 0x110000 }
+    {
+        self.region.part_mut(0, LOW)
+    }
+
+    /// The scratch bytes.
+    pub fn scratch(&self) -> &[u8]
+        ensures value { result.now ≡ self.now.scratch }
+        ensures length { length result.now ≡ 0x200000 }
+    {
+        self.region.part(LOW, SCRATCH)
+    }
+
+    /// The scratch bytes, lent to be written.
+    pub fn scratch_mut(&mut self) -> &mut [u8]
+        ensures* writes_back { sem 𝓛 (LendsScratch self.entry result) }
+        ensures value { result.now ≡ self.old.scratch }
+        ensures length { length result.now ≡ 0x200000 }
+    {
+        self.region.part_mut(LOW, SCRATCH)
+    }
+
+    /// The number of a block that is taken.
+    fn take_slot(&mut self, units: usize) -> Option<usize>
+        ensures taken { MatchOption result ((taken self.old.blocks units ≡ None) × (self.new ≡ self.old)) (λ slot. (taken self.old.blocks units ≡ Some (slot, self.new.blocks)) × (self.new ≡ record self.old { blocks = self.new.blocks })) }
+        ensures small { IfSome result (λ slot. slot < 576) }
+    {
+        let len = pool_len(&self.table);
+        pool::take(&mut self.table, self.region.part_mut(POOL, len), units)
+    }
+
+    /// Takes a block of so many units of 1 KiB, all zeros, in the lowest gap that holds them; a block of no unit needs no gap. None
+    /// where no gap holds them, or where there are 576 blocks; then nothing has changed.
+    pub fn take(&mut self, units: usize) -> Option<Block>
+        ensures { MatchOption result ((taken self.old.blocks units ≡ None) × (self.new ≡ self.old)) (λ block. (taken self.old.blocks units ≡ Some (block, self.new.blocks)) × (self.new ≡ record self.old { blocks = self.new.blocks })) }
+    {
+        match self.take_slot(units) {
+            Some(slot) => Some(Block::new(slot)),
+            None => None,
+        }
+    }
+
+    /// Gives a block back. Its units are free then, together with the free ones beside them.
+    pub fn give(&mut self, block: Block)
+        requires { IsLive self.old.blocks block }
+        ensures { self.new ≡ record self.old { blocks = without self.old.blocks block } }
+    {
+        let len = pool_len(&self.table);
+        pool::give(&mut self.table, self.region.part_mut(POOL, len), block.slot());
+    }
+
+    /// Gives a block another size: bytes up to the smaller size stay, and new ones are zeros. The block stays where it is if it fits
+    /// there, else it moves to the lowest gap that holds it, its old place counted as taken; a block of no unit needs no gap. False
+    /// where neither holds it, and then nothing has changed.
+    pub fn resize(&mut self, block: Block, units: usize) -> bool
+        requires { IsLive self.old.blocks block }
+        ensures { MatchBool result ((resized self.old.blocks block units ≡ Some self.new.blocks) × (self.new ≡ record self.old { blocks = self.new.blocks })) ((resized self.old.blocks block units ≡ None) × (self.new ≡ self.old)) }
+    {
+        let len = pool_len(&self.table);
+        pool::resize(&mut self.table, self.region.part_mut(POOL, len), block.slot(), units)
+    }
+
+    /// Whether the store has a block: it was taken, and not given back since.
+    pub fn has(&self, block: Block) -> bool
+        ensures { IsTrue result ↔ IsLive self.now.blocks block }
+    {
+        self.table.has(block.slot())
+    }
+
+    /// The first unit of a block, counted from the pool's first; 0 for a block of no unit.
+    pub fn base(&self, block: Block) -> usize
+        requires { IsLive self.now.blocks block }
+        ensures { (units : _) × IsAt self.now.blocks block (record { base = result; units = units }) }
+    {
+        place_of(&self.table, block).base
+    }
+
+    /// The bytes of a block.
+    pub fn bytes(&self, block: Block) -> &[u8]
+        requires { IsLive self.now.blocks block }
+        ensures { result.now ≡ get_or self.now.blocks.contents block [] }
+    {
+        let place = place_of(&self.table, block);
+        self.region.part(POOL + place.base * UNIT, place.units * UNIT)
+    }
+
+    /// The bytes of a block, lent to be written.
+    pub fn bytes_mut(&mut self, block: Block) -> &mut [u8]
+        requires { IsLive self.old.blocks block }
+        ensures* writes_back { sem 𝓛 (LendsBlock self.entry block result) }
+        ensures value { result.now ≡ get_or self.old.blocks.contents block [] }
+    {
+        self.table.recall();
+        let place = place_of(&self.table, block);
+        self.region.part_mut(POOL + place.base * UNIT, place.units * UNIT)
+    }
+
+    /// Copies `len` bytes of a block, from its byte `from` on, to the place from byte `to` on of another block or the same one. The bytes
+    /// copied are those that stood there before.
+    pub fn move_bytes(&mut self, source: Block, from: usize, destination: Block, to: usize, len: usize)
+        requires source { IsLive self.old.blocks source × (from + len ≤ length (get_or self.old.blocks.contents source [])) }
+        requires destination { IsLive self.old.blocks destination × (to + len ≤ length (get_or self.old.blocks.contents destination [])) }
+        ensures { self.new ≡ record self.old { blocks = moved_bytes self.old.blocks source from destination to len } }
+    {
+        self.table.recall();
+        let source = place_of(&self.table, source);
+        let destination = place_of(&self.table, destination);
+        let (from, to) = (source.base * UNIT + from, destination.base * UNIT + to);
+        self.region.copy(POOL + from, POOL + to, len);
+    }
+
+    /// The units of the largest gap, 0 if there is none.
+    pub fn largest(&self) -> usize
+        ensures { result ≡ largest (gaps self.now.blocks.places self.now.blocks.units) }
+    {
+        let len = pool_len(&self.table);
+        runs::largest(&self.table, self.region.part(POOL, len))
+    }
+
+    /// How many units are in no block.
+    pub fn free(&self) -> usize
+        ensures { result ≡ free_units (gaps self.now.blocks.places self.now.blocks.units) }
+    {
+        let len = pool_len(&self.table);
+        runs::free_units(&self.table, self.region.part(POOL, len))
+    }
+
+    /// How many blocks of so many units fit into the gaps, one after the other.
+    pub fn count_fitting(&self, units: usize) -> usize
+        requires { 0 < units }
+        ensures { result ≡ count_fitting units (gaps self.now.blocks.places self.now.blocks.units) }
+    {
+        let len = pool_len(&self.table);
+        runs::count_fitting(&self.table, self.region.part(POOL, len), units)
+    }
+}
+
+#[cfg(test)]
+mod tests;

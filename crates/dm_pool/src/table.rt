@@ -1,0 +1,262 @@
+//! Where blocks lie: by their numbers, and in the order in which they lie.
+ghost use Rattle.std.specs.Prelude.{◌≡◌, ◌↔◌, IsTrue, ℕ, ◌+◌, ◌^◌, ◌<◌, ◌≤◌, true, false, Some, None, get_or, set, length, replicate, IfSome, MatchOption};
+ghost use Rattle.dm_pool.specs.Gaps.{is_clear, is_free, first_empty};
+ghost use Rattle.dm_pool.specs.Order.{no_layout, IsNth, IsOrder, IsTable};
+
+use crate::places::Place;
+use arrayvec::ArrayVec;
+use std::marker::Model;
+
+/// The most blocks of a pool.
+pub(crate) const SLOTS: usize = 576;
+
+/// Where the blocks of a pool lie.
+#[derive(Drop)]
+pub(crate) struct Table {
+    units: usize,
+    places: [Option<Place>; SLOTS],
+    /// The numbers of the blocks that have units, as they lie.
+    order: ArrayVec<u16, SLOTS>,
+    /// Where the first free run is.
+    first: u32,
+}
+
+impl Model for Table {
+    ghost use Rattle.dm_pool.specs.Order.{Layout, IsTable};
+
+    ghost Value = { Layout };
+
+    ghost view = { λ t. record { units = t.units; places = t.places; order = t.order.items; first = t.first } };
+
+    ghost invariant = { λ t. IsTable (record { units = t.units; places = t.places; order = t.order.items; first = t.first }) };
+}
+
+/// No block.
+#[tactic(auto, unfolding(crate::specs::Order::no_layout))]
+fn no_blocks(units: usize) -> Table
+    requires { units < 2 ^ 31 }
+    ensures { result ≡ no_layout units }
+{
+    Table {
+        units,
+        places: [None; SLOTS],
+        order: ArrayVec::new(),
+        first: u32::MAX,
+    }
+}
+
+/// How many of the blocks of an order begin below a unit: those are the first ones.
+fn rank(places: &[Option<Place>], order: &[u16], base: usize) -> usize
+    requires order { IsOrder places.now order.now }
+    requires count { length places.now ≡ 576 }
+    ensures within { result ≤ length order.now }
+    ensures below { (p : ℕ) (b : Place) → p < result → IsNth places.now order.now p b → b.base < base }
+    ensures above { (p : ℕ) (b : Place) → result ≤ p → p < length order.now → IsNth places.now order.now p b → base ≤ b.base }
+{
+    for i in 0..order.len() {
+        let slot = order[i] as usize;
+        let Some(place) = places[slot] else {
+            return i;
+        };
+        if place.base >= base {
+            return i;
+        }
+    }
+    order.len()
+}
+
+/// The lowest number that has no block.
+fn first_empty(places: &[Option<Place>]) -> Option<usize>
+    ensures first { result ≡ first_empty places.now }
+    ensures vacant { IfSome result (λ i. (i < length places.now) × (get_or places.now i None ≡ None)) }
+{
+    for i in 0..places.len() {
+        match places[i] {
+            None => return Some(i),
+            Some(_) => {}
+        }
+    }
+    None
+}
+
+/// Whether no block but the one with a number has a unit among so many from a unit on.
+fn is_clear_but(places: &[Option<Place>], slot: usize, from: usize, units: usize) -> bool
+    requires bounded { (i : ℕ) (b : _) → get_or places.now i None ≡ Some b → b.base + b.units < 2 ^ 31 }
+    requires range { from + units < 2 ^ 31 }
+    ensures { result ≡ is_clear (set places.now slot None) from units }
+{
+    for i in 0..places.len() {
+        if i == slot {
+            continue;
+        }
+        let Some(place) = places[i] else {
+            continue;
+        };
+        if place.base < from + units && from < place.base + place.units {
+            return false;
+        }
+    }
+    true
+}
+
+/// A block comes into the order, if it has units.
+fn order_in(
+    order: &mut ArrayVec<u16, SLOTS>,
+    places: &[Option<Place>],
+    slot: usize,
+    place: Place,
+)
+    requires order { IsOrder places.now order.old.items }
+    requires count { length places.now ≡ 576 }
+    requires vacant { (slot < 576) × (get_or places.now slot None ≡ None) }
+    requires free { is_clear places.now place.base place.units ≡ true }
+    ensures { IsOrder (set places.now slot (Some place)) order.new.items }
+{
+    if place.units > 0 {
+        let position = rank(places, order, place.base);
+        order.insert(position, slot as u16);
+    }
+}
+
+/// A block goes from the order, if it has units.
+fn order_out(
+    order: &mut ArrayVec<u16, SLOTS>,
+    places: &[Option<Place>],
+    slot: usize,
+    place: Place,
+)
+    requires order { IsOrder places.now order.old.items }
+    requires count { length places.now ≡ 576 }
+    requires live { (slot < 576) × (get_or places.now slot None ≡ Some place) }
+    ensures { IsOrder (set places.now slot None) order.new.items }
+{
+    if place.units > 0 {
+        let position = rank(places, order, place.base);
+        order.remove(position);
+    }
+}
+
+impl Table {
+    /// A table with no block, for so many units.
+    pub(crate) fn new(units: usize) -> Table
+        requires { units < 2 ^ 31 }
+        ensures { result ≡ no_layout units }
+    {
+        no_blocks(units)
+    }
+
+    /// Does nothing: it tells proofs what holds of every table.
+    #[inline(always)]
+    pub(crate) fn recall(&self)
+        ensures { IsTable self.now }
+    {
+        let _units = self.units;
+    }
+
+    /// The units of the pool.
+    pub(crate) fn units(&self) -> usize
+        ensures { result ≡ self.now.units }
+    {
+        self.units
+    }
+
+    /// Where the first free run is, `u32::MAX` for none.
+    pub(crate) fn first(&self) -> u32
+        ensures { result ≡ self.now.first }
+    {
+        self.first
+    }
+
+    /// Keeps where the first free run is.
+    pub(crate) fn set_first(&mut self, first: u32)
+        ensures { self.new ≡ record self.old { first = first } }
+    {
+        self.first = first;
+    }
+
+    /// Whether there is a block with a number.
+    pub(crate) fn has(&self, slot: usize) -> bool
+        requires { slot < 576 }
+        ensures { IsTrue result ↔ ((b : _) × (get_or self.now.places slot None ≡ Some b)) }
+    {
+        match self.places[slot] {
+            Some(_) => true,
+            None => false,
+        }
+    }
+
+    /// Where the block with a number lies.
+    pub(crate) fn place(&self, slot: usize) -> Place
+        requires { (slot < 576) × ((b : _) × (get_or self.now.places slot None ≡ Some b)) }
+        ensures { get_or self.now.places slot None ≡ Some result }
+    {
+        match self.places[slot] {
+            Some(place) => place,
+            None => Place { base: 0, units: 0 },
+        }
+    }
+
+    /// How many blocks have units.
+    pub(crate) fn count(&self) -> usize
+        ensures { result ≡ length self.now.order }
+    {
+        self.order.len()
+    }
+
+    /// The block at a position of the order.
+    pub(crate) fn nth(&self, position: usize) -> Place
+        requires { position < length self.now.order }
+        ensures { IsNth self.now.places self.now.order position result }
+    {
+        let slot = self.order[position] as usize;
+        match self.places[slot] {
+            Some(place) => place,
+            None => Place { base: 0, units: 0 },
+        }
+    }
+
+    /// The lowest number that has no block.
+    pub(crate) fn first_empty(&self) -> Option<usize>
+        ensures first { result ≡ first_empty self.now.places }
+        ensures vacant { IfSome result (λ i. (i < 576) × (get_or self.now.places i None ≡ None)) }
+    {
+        first_empty(&self.places)
+    }
+
+    /// Whether so many units from a unit on are in the pool, and free once the block with a number has gone.
+    pub(crate) fn is_free_but(&self, slot: usize, from: usize, units: usize) -> bool
+        requires { from ≤ self.now.units }
+        ensures { result ≡ is_free (set self.now.places slot None) self.now.units units from }
+    {
+        if units > self.units - from {
+            return false;
+        }
+        is_clear_but(&self.places, slot, from, units)
+    }
+
+    /// A block comes. It gets a number that has no block.
+    pub(crate) fn put(&mut self, slot: usize, place: Place)
+        requires vacant { (slot < 576) × (get_or self.old.places slot None ≡ None) }
+        requires within { place.base + place.units ≤ self.old.units }
+        requires free { is_clear self.old.places place.base place.units ≡ true }
+        requires based { place.units ≡ 0 → place.base ≡ 0 }
+        ensures places { self.new.places ≡ set self.old.places slot (Some place) }
+        ensures units { self.new.units ≡ self.old.units }
+        ensures first { self.new.first ≡ self.old.first }
+    {
+        order_in(&mut self.order, &self.places, slot, place);
+        self.places[slot] = Some(place);
+    }
+
+    /// The block with a number goes.
+    pub(crate) fn remove(&mut self, slot: usize)
+        requires { (slot < 576) × ((b : _) × (get_or self.old.places slot None ≡ Some b)) }
+        ensures places { self.new.places ≡ set self.old.places slot None }
+        ensures units { self.new.units ≡ self.old.units }
+        ensures first { self.new.first ≡ self.old.first }
+    {
+        let place = self.place(slot);
+        order_out(&mut self.order, &self.places, slot, place);
+        self.places[slot] = None;
+    }
+}

@@ -1,0 +1,5 @@
+pub mod Lends
+pub mod Ownership
+pub mod Parts
+pub mod Places
+pub mod Region

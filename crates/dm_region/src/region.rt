@@ -1,0 +1,121 @@
+//! A region of bytes, all of which have a value.
+ghost use Rattle.std.specs.Prelude.{◌≡◌, ◌+◌, ◌≤◌, length, replicate, IfOk};
+ghost use Rattle.std.specs.Borrow.{sem};
+ghost use Rattle.dm_region.specs.Parts.{part, with_part, LendsPart};
+
+use crate::cells::{Base, Cells, Deed, allocate, deallocate};
+use std::alloc::{AllocError, Global};
+use std::marker::Model;
+
+/// The most bytes of one allocation.
+const MOST_BYTES: usize = 0x7FFF_FFFF_FFFF_FFFF;
+
+/// Bytes in one allocation of their own, which contracts see as a list. The allocation is given back when the region is
+/// dropped, and its length never changes.
+pub struct Region {
+    base: Base<u8>,
+    len: usize,
+    cells: Cells<u8>,
+    deed: Deed<u8, Global>,
+    alloc: Global,
+}
+
+impl Model for Region {
+    ghost use Rattle.std.specs.Prelude.{List, ℕ};
+
+    ghost Value = { List ℕ };
+
+    ghost use Rattle.dm_region.specs.Region.{IsRegion, bytes_of};
+
+    ghost view = { bytes_of };
+
+    ghost invariant = { IsRegion };
+}
+
+/// A region of `len` zeros, where one allocation may have that many bytes.
+fn zeros(alloc: Global, len: usize) -> Result<Region, AllocError>
+    requires { len ≤ MOST_BYTES }
+    ensures { IfOk result (λ region. region ≡ replicate len 0) }
+{
+    let (base, mut cells, deed) = allocate(&alloc, len)?;
+    for i in 0..len {
+        cells.write(base, i, 0);
+    }
+    Ok(Region {
+        base,
+        len,
+        cells,
+        deed,
+        alloc,
+    })
+}
+
+impl Region {
+    /// A region of `len` zeros; `len` may be 0.
+    ///
+    /// # Errors
+    ///
+    /// `AllocError` where memory was refused: always where `len` is 2^63 or more, since no allocation is so large.
+    pub fn new(alloc: Global, len: usize) -> Result<Region, AllocError>
+        ensures { IfOk result (λ region. region ≡ replicate len 0) }
+    {
+        if len > MOST_BYTES {
+            return Err(AllocError);
+        }
+        zeros(alloc, len)
+    }
+
+    /// How many bytes the region has.
+    pub fn len(&self) -> usize
+        ensures { result ≡ length self.now }
+    {
+        self.len
+    }
+
+    /// The `len` bytes from byte `from` on.
+    #[inline(always)]
+    pub fn part(&self, from: usize, len: usize) -> &[u8]
+        requires { from + len ≤ length self.now }
+        ensures { result.now ≡ part self.now from len }
+    {
+        self.cells.slice(self.base, from, len)
+    }
+
+    /// The `len` bytes from byte `from` on, lent to be written.
+    #[inline(always)]
+    pub fn part_mut(&mut self, from: usize, len: usize) -> &mut [u8]
+        requires { from + len ≤ length self.old }
+        ensures* writes_back { sem 𝓛 (LendsPart self.entry from len result) }
+        ensures value { result.now ≡ part self.old from len }
+    {
+        let base = self.base;
+        self.cells.slice_mut(base, from, len)
+    }
+
+    /// Copies the `len` bytes from byte `from` on to the place from byte `to` on. Both may overlap: the bytes copied are those
+    /// that stood there before.
+    pub fn copy(&mut self, from: usize, to: usize, len: usize)
+        requires source { from + len ≤ length self.old }
+        requires destination { to + len ≤ length self.old }
+        ensures { self.new ≡ with_part self.old to len (part self.old from len) }
+    {
+        let end = self.len;
+        self.part_mut(0, end).copy_within(from..from + len, to);
+    }
+}
+
+impl Drop for Region {
+    fn drop(self) {
+        let Region {
+            base,
+            len,
+            mut cells,
+            deed,
+            alloc,
+        } = self;
+        for i in 0..len {
+            let _byte = cells.read(base, i);
+        }
+        deallocate(&alloc, base, len, cells, deed);
+    }
+}

@@ -1,0 +1,335 @@
+//! Blocks of a pool that come, go and change their size.
+
+use crate::checks::same;
+use dm_pool::{Block, NewError, Sizes, Store, UNIT};
+use std::alloc::Global;
+use std::process::Abort;
+use std::test::Fail;
+
+/// How many blocks a row may name.
+const NAMES: usize = 8;
+
+/// What is done with a block, by its name, and where it lies then: None where the call is refused.
+#[derive(Clone, Copy)]
+enum Step {
+    /// Takes a block of so many units.
+    Take(usize, usize, Option<usize>),
+    /// Gives it back.
+    Give(usize),
+    /// Gives it another size.
+    Resize(usize, usize, Option<usize>),
+    /// The units of the largest gap, all free units, and how many blocks of two units fit.
+    Tells(usize, usize, usize),
+}
+
+/// A store of so many KiB of extended memory, and the blocks that were taken of it.
+#[derive(Drop)]
+struct Taken {
+    store: Store,
+    blocks: [Option<Block>; NAMES],
+}
+
+fn made(alloc: Global, pages: u32, kib: u32) -> Result<Store, NewError> {
+    Store::new(
+        alloc,
+        Sizes {
+            ems_pages: pages,
+            xms_kib: kib,
+        },
+    )
+}
+
+/// Where a block lies and how many bytes it has.
+fn place_of(store: &Store, block: Block) -> (Option<usize>, usize) {
+    if store.has(block) {
+        (Some(store.base(block)), store.bytes(block).len())
+    } else {
+        (None, 0)
+    }
+}
+
+/// Whether a block's first bytes are its own, and those behind them zeros.
+fn is_sound(store: &Store, block: Block, kept: usize, own: u8) -> bool {
+    if !store.has(block) {
+        return false;
+    }
+    for (i, byte) in store.bytes(block).iter().enumerate() {
+        let wanted = if i < kept { own } else { 0 };
+        if *byte != wanted {
+            return false;
+        }
+    }
+    true
+}
+
+/// The byte that a block is filled with.
+fn own_byte(name: usize) -> u8 {
+    (name % NAMES) as u8 + 1
+}
+
+fn fill(store: &mut Store, block: Block, own: u8) {
+    if store.has(block) {
+        store.bytes_mut(block).fill(own);
+    }
+}
+
+/// Takes a block; its bytes have to be zeros.
+fn take(rt: &impl Abort, taken: &mut Taken, name: usize, units: usize, base: Option<usize>) {
+    let Some(block) = taken.store.take(units) else {
+        same(rt, "base of a block that is refused", None, base);
+        return;
+    };
+    taken.blocks[name % NAMES] = Some(block);
+    let (found, bytes) = place_of(&taken.store, block);
+    same(rt, "base of a new block", found, base);
+    same(rt, "bytes of a new block", Some(bytes), units.checked_mul(UNIT));
+    same(rt, "zeros", is_sound(&taken.store, block, 0, 0), true);
+    fill(&mut taken.store, block, own_byte(name));
+}
+
+/// Resizes a block; what it keeps has to be its own, and what is new zeros.
+fn resize(rt: &impl Abort, taken: &mut Taken, name: usize, units: usize, base: Option<usize>) {
+    let Some(block) = taken.blocks[name % NAMES] else {
+        return;
+    };
+    let (_, kept) = place_of(&taken.store, block);
+    if !taken.store.has(block) {
+        return;
+    }
+    let done = taken.store.resize(block, units);
+    let (found, _) = place_of(&taken.store, block);
+    same(rt, "base of a resized block", if done { found } else { None }, base);
+    same(rt, "what it keeps", is_sound(&taken.store, block, kept, own_byte(name)), true);
+    fill(&mut taken.store, block, own_byte(name));
+}
+
+fn give(taken: &mut Taken, name: usize) {
+    if let Some(block) = taken.blocks[name % NAMES] {
+        if taken.store.has(block) {
+            taken.store.give(block);
+        }
+    }
+    taken.blocks[name % NAMES] = None;
+}
+
+/// All blocks have their own bytes.
+fn keep(rt: &impl Abort, taken: &Taken) {
+    for name in 0..NAMES {
+        if let Some(block) = taken.blocks[name] {
+            let own = is_sound(&taken.store, block, usize::MAX, own_byte(name));
+            same(rt, "bytes of a block", own, true);
+        }
+    }
+}
+
+fn play(rt: &impl Abort, taken: &mut Taken, step: Step) {
+    match step {
+        Step::Take(name, units, base) => take(rt, taken, name, units, base),
+        Step::Give(name) => give(taken, name),
+        Step::Resize(name, units, base) => resize(rt, taken, name, units, base),
+        Step::Tells(largest, free, fitting) => {
+            same(rt, "largest gap", taken.store.largest(), largest);
+            same(rt, "free units", taken.store.free(), free);
+            same(rt, "blocks of two units", taken.store.count_fitting(2), fitting);
+        }
+    }
+    keep(rt, taken);
+}
+
+#[test]
+fn blocks_take_the_lowest_gap(rt: HostRuntime) -> Result<(), Fail> {
+    let mut taken = Taken {
+        store: made(rt.alloc(), 0, 8)?,
+        blocks: [None; NAMES],
+    };
+    let steps = [
+        Step::Tells(8, 8, 4),
+        Step::Take(0, 3, Some(0)),
+        Step::Take(1, 2, Some(3)),
+        Step::Take(2, 3, Some(5)),
+        Step::Tells(0, 0, 0),
+        Step::Take(3, 1, None),
+        Step::Take(4, 0, Some(0)),
+        Step::Give(1),
+        Step::Tells(2, 2, 1),
+        Step::Take(3, 3, None),
+        // it stays where the units behind it are free
+        Step::Resize(0, 5, Some(0)),
+        Step::Tells(0, 0, 0),
+        Step::Resize(0, 1, Some(0)),
+        Step::Tells(4, 4, 2),
+        // its place reaches the end, so it moves to the lowest gap
+        Step::Resize(2, 4, Some(1)),
+        Step::Tells(3, 3, 1),
+        // it moves to no gap that its own units would make larger
+        Step::Take(3, 1, Some(5)),
+        Step::Give(0),
+        Step::Tells(2, 3, 1),
+        Step::Resize(2, 5, None),
+        Step::Tells(2, 3, 1),
+        Step::Give(3),
+        Step::Resize(2, 7, Some(1)),
+        Step::Resize(2, 8, None),
+        Step::Resize(2, usize::MAX, None),
+        Step::Resize(2, 0, Some(0)),
+        Step::Tells(8, 8, 4),
+        Step::Resize(2, 2, Some(0)),
+        Step::Take(5, usize::MAX, None),
+    ];
+    for step in steps {
+        play(&rt, &mut taken, step);
+    }
+    Ok(())
+}
+
+#[test]
+fn sizes_have_bounds(rt: HostRuntime) {
+    let alloc = rt.alloc();
+    same(&rt, "513 pages", made(alloc, 513, 0).err(), Some(NewError::TooLarge));
+    same(&rt, "15,361 KiB", made(alloc, 0, 15_361).err(), Some(NewError::TooLarge));
+    same(&rt, "nothing", made(alloc, 0, 0).is_ok(), true);
+    match made(alloc, 512, 15_360) {
+        Ok(store) => {
+            same(&rt, "free units", store.free(), 23_552);
+            same(&rt, "low bytes", store.low().len(), 0x11_0000);
+            same(&rt, "scratch bytes", store.scratch().len(), 0x20_0000);
+        }
+        Err(_) => same(&rt, "the largest sizes", false, true),
+    }
+}
+
+#[test]
+fn a_table_has_576_blocks(rt: HostRuntime) -> Result<(), Fail> {
+    let mut store = made(rt.alloc(), 0, 1)?;
+    for _ in 0..576 {
+        same(&rt, "a block of no unit", store.take(0).is_some(), true);
+    }
+    same(&rt, "one more", store.take(0).is_none(), true);
+    same(&rt, "free units", store.free(), 1);
+    Ok(())
+}
+
+/// Whether no block but one has a unit among so many from a unit on.
+fn is_free(places: &[Option<(usize, usize)>; NAMES], but: usize, base: usize, units: usize) -> bool {
+    for name in 0..NAMES {
+        if let Some((low, count)) = places[name] {
+            if name != but && low < base.saturating_add(units) && base < low.saturating_add(count) {
+                return false;
+            }
+        }
+    }
+    true
+}
+
+/// The lowest gap of a pool of 64 units that holds so many.
+fn lowest(places: &[Option<(usize, usize)>; NAMES], units: usize) -> Option<usize> {
+    for base in 0..65usize {
+        if base.saturating_add(units) <= 64 && is_free(places, NAMES, base, units) {
+            return Some(base);
+        }
+    }
+    None
+}
+
+/// Where a block is to lie that gets so many units.
+fn new_base(places: &[Option<(usize, usize)>; NAMES], name: usize, low: usize, units: usize) -> Option<usize> {
+    if units == 0 {
+        Some(0)
+    } else if low.saturating_add(units) <= 64 && is_free(places, name, low, units) {
+        Some(low)
+    } else {
+        lowest(places, units)
+    }
+}
+
+/// 400 calls, one by one against a plain list of places.
+#[test]
+fn blocks_lie_where_a_plain_list_has_them(rt: HostRuntime) -> Result<(), Fail> {
+    let mut taken = Taken {
+        store: made(rt.alloc(), 0, 64)?,
+        blocks: [None; NAMES],
+    };
+    let mut places = [None; NAMES];
+    let mut number = 1u32;
+    for _ in 0..400 {
+        number = number.wrapping_mul(1_664_525).wrapping_add(1_013_904_223);
+        let name = (number >> 8) as usize % NAMES;
+        let units = (number >> 16) as usize % 24;
+        let place = places[name];
+        match place {
+            None => {
+                let base = lowest(&places, units);
+                play(&rt, &mut taken, Step::Take(name, units, base));
+                places[name] = base.map(|base| (base, units));
+            }
+            Some(_) if number >> 30 == 0 => {
+                play(&rt, &mut taken, Step::Give(name));
+                places[name] = None;
+            }
+            Some((low, _)) => {
+                let base = new_base(&places, name, low, units);
+                play(&rt, &mut taken, Step::Resize(name, units, base));
+                if let Some(base) = base {
+                    places[name] = Some((base, units));
+                }
+            }
+        }
+    }
+    Ok(())
+}
+
+/// Copies bytes from a place of one block to a place of another one, where both have so many bytes there.
+fn move_bytes(store: &mut Store, source: (Block, usize), destination: (Block, usize), len: usize) -> bool {
+    if !store.has(source.0) || !store.has(destination.0) {
+        return false;
+    }
+    let (last, end) = (store.bytes(source.0).len(), store.bytes(destination.0).len());
+    if source.1 > last || len > last - source.1 || destination.1 > end || len > end - destination.1 {
+        return false;
+    }
+    store.move_bytes(source.0, source.1, destination.0, destination.1, len);
+    true
+}
+
+fn write(store: &mut Store, block: Block, letters: [u8; 6]) {
+    if store.has(block) {
+        for (byte, letter) in store.bytes_mut(block).iter_mut().zip(letters.iter()) {
+            *byte = *letter;
+        }
+    }
+}
+
+/// The first six bytes of a block.
+fn beginning(store: &Store, block: Block) -> [u8; 6] {
+    let mut letters = [0; 6];
+    if store.has(block) {
+        for (letter, byte) in letters.iter_mut().zip(store.bytes(block).iter()) {
+            *letter = *byte;
+        }
+    }
+    letters
+}
+
+/// The bytes copied are those that stood there before, also where the two places overlap.
+#[test]
+fn bytes_move_within_and_between_blocks(rt: HostRuntime) -> Result<(), Fail> {
+    let mut store = made(rt.alloc(), 0, 2)?;
+    let (Some(one), Some(two)) = (store.take(1), store.take(1)) else {
+        same(&rt, "two blocks", false, true);
+        return Ok(());
+    };
+    write(&mut store, one, *b"ABCDEF");
+    write(&mut store, two, *b"uvwxyz");
+    same(&rt, "upwards", move_bytes(&mut store, (one, 0), (one, 2), 3), true);
+    same(&rt, "upwards", beginning(&store, one), *b"ABABCF");
+    same(&rt, "downwards", move_bytes(&mut store, (one, 2), (one, 0), 4), true);
+    same(&rt, "downwards", beginning(&store, one), *b"ABCFCF");
+    same(&rt, "to another block", move_bytes(&mut store, (one, 1), (two, 3), 2), true);
+    same(&rt, "to another block", beginning(&store, two), *b"uvwBCz");
+    same(&rt, "from another block", beginning(&store, one), *b"ABCFCF");
+    same(&rt, "the last byte", move_bytes(&mut store, (two, 1023), (one, 5), 1), true);
+    same(&rt, "the last byte", beginning(&store, one), *b"ABCFC\0");
+    same(&rt, "no byte", move_bytes(&mut store, (one, 0), (one, 1024), 0), true);
+    same(&rt, "no byte", beginning(&store, one), *b"ABCFC\0");
+    Ok(())
+}

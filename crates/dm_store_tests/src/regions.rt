@@ -1,0 +1,87 @@
+//! Regions of bytes: parts that are written, copies that overlap, and refused lengths.
+ghost use Rattle.std.specs.Prelude.{◌≡◌, IfOk, length};
+
+use crate::checks::same;
+use dm_region::Region;
+use std::alloc::{AllocError, Global};
+use std::test::Fail;
+
+/// A region of the ten letters from `a` to `j`.
+fn letters(alloc: Global) -> Result<Region, AllocError>
+    ensures { IfOk result (λ region. length region ≡ 10) }
+{
+    let mut region = Region::new(alloc, 10)?;
+    region.part_mut(0, 10).copy_from_slice(b"abcdefghij");
+    Ok(region)
+}
+
+#[test]
+fn regions_begin_as_zeros(rt: HostRuntime) -> Result<(), Fail> {
+    let empty = Region::new(rt.alloc(), 0)?;
+    same(&rt, "length", empty.len(), 0);
+    same(&rt, "bytes", empty.part(0, 0), b"".as_slice());
+    let region = Region::new(rt.alloc(), 10)?;
+    same(&rt, "length", region.len(), 10);
+    same(&rt, "bytes", region.part(0, 10), [0; 10].as_slice());
+    Ok(())
+}
+
+#[test]
+fn an_empty_region_lends_empty_parts(rt: HostRuntime) -> Result<(), Fail> {
+    let mut region = Region::new(rt.alloc(), 0)?;
+    region.part_mut(0, 0).fill(b'x');
+    region.copy(0, 0, 0);
+    same(&rt, "length", region.len(), 0);
+    Ok(())
+}
+
+#[test]
+fn parts_are_read_and_written(rt: HostRuntime) -> Result<(), Fail> {
+    // first byte, length; the part's bytes; all bytes once the part is filled with `x`
+    let rows = [
+        (0, 3, b"abc".as_slice(), b"xxxdefghij".as_slice()),
+        (3, 4, b"defg".as_slice(), b"abcxxxxhij".as_slice()),
+        (9, 1, b"j".as_slice(), b"abcdefghix".as_slice()),
+        (0, 10, b"abcdefghij".as_slice(), b"xxxxxxxxxx".as_slice()),
+        (5, 0, b"".as_slice(), b"abcdefghij".as_slice()),
+        (10, 0, b"".as_slice(), b"abcdefghij".as_slice()),
+    ];
+    for (from, len, part, filled) in rows {
+        let mut region = letters(rt.alloc())?;
+        same(&rt, "part", region.part(from, len), part);
+        region.part_mut(from, len).fill(b'x');
+        same(&rt, "filled", region.part(0, 10), filled);
+    }
+    Ok(())
+}
+
+#[test]
+fn copies_read_before_they_write(rt: HostRuntime) -> Result<(), Fail> {
+    // first byte, first byte of the copy, length; all bytes then. Apart, touching, upwards and downwards over each other, in
+    // place, and empty
+    let rows = [
+        (0, 5, 3, b"abcdeabcij"),
+        (6, 1, 3, b"aghiefghij"),
+        (0, 5, 5, b"abcdeabcde"),
+        (0, 1, 9, b"aabcdefghi"),
+        (1, 0, 9, b"bcdefghijj"),
+        (2, 4, 5, b"abcdcdefgj"),
+        (4, 2, 5, b"abefghihij"),
+        (0, 0, 10, b"abcdefghij"),
+        (10, 0, 0, b"abcdefghij"),
+        (0, 10, 0, b"abcdefghij"),
+    ];
+    for (from, to, len, copied) in rows {
+        let mut region = letters(rt.alloc())?;
+        region.copy(from, to, len);
+        same(&rt, "copied", region.part(0, 10), copied.as_slice());
+    }
+    Ok(())
+}
+
+#[test]
+fn lengths_beyond_one_allocation_are_refused(rt: HostRuntime) {
+    for len in [1 << 63, (1 << 63) + 1, usize::MAX] {
+        same(&rt, "made", Region::new(rt.alloc(), len).is_ok(), false);
+    }
+}
