@@ -1,3 +1,4 @@
+pub mod Ends
 pub mod Lends
 pub mod Ownership
 pub mod Parts

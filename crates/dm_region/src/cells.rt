@@ -1,10 +1,11 @@
 //! A block of memory, as Rust's `[MaybeUninit<T>]`: a row of places, each empty or holding a value. All functions that follow a
 //! pointer are here.
-ghost use Rattle.std.specs.Prelude.{◌≡◌, ℕ, ◌<◌, List, Option, Some, None, map, length, take, drop, replicate, get_or, slice_set, IfOk, ⊤};
-ghost use Rattle.std.specs.Borrow.{sem};
+ghost use Rattle.std.specs.Prelude.{◌≡◌, ℕ, ◌<◌, ◌≤◌, List, Option, Some, None, map, length, take, drop, replicate, get_or, slice_set, IfOk, ⊤};
+ghost use Rattle.std.specs.Borrow.{sem, u8};
 ghost use Rattle.std.specs.Vec.Ownership.{FitsInBlock};
 ghost use base.Fml.{ftrue};
 ghost use denote.RawPtr.{Ptr};
+ghost use Rattle.dm_region.specs.Ends.{lends_ends};
 ghost use Rattle.dm_region.specs.Places.{IsRun, IsFilled};
 ghost use Rattle.dm_region.specs.Ownership.{cells_own, cells_lent, deed_owns};
 
@@ -111,6 +112,22 @@ pub(crate) fn deallocate<T, A: Allocator>(
     let Deed { mark: _ } = deed;
     unsafe {
         alloc.deallocate(base.ptr as *mut u8, len * size_of::<T>(), align_of::<T>());
+    }
+}
+
+/// The first `len` bytes of a slice, and those from byte `other` on, lent at once to be written.
+pub fn ends_mut(bytes: &mut [u8], len: usize, other: usize) -> (&mut [u8], &mut [u8])
+    requires { (len ≤ other) × (other ≤ length bytes.old) }
+    ensures* writes_back { sem 𝓛 (lends_ends u8 bytes.entry len other result) }
+    ensures ends { (result.0.now ≡ take len bytes.old) × (result.1.now ≡ drop other bytes.old) }
+{
+    let count = bytes.len();
+    let first = bytes.as_mut_ptr();
+    unsafe {
+        (
+            slice::from_raw_parts_mut(first, len),
+            slice::from_raw_parts_mut(first.add(other), count - other),
+        )
     }
 }
 

@@ -5,4 +5,5 @@
 mod cells;
 mod region;
 
+pub use cells::ends_mut;
 pub use region::Region;

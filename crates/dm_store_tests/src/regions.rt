@@ -1,8 +1,8 @@
-//! Regions of bytes: parts that are written, copies that overlap, and refused lengths.
+//! Regions of bytes: parts that are written, copies that overlap, two parts at once, and refused lengths.
 ghost use Rattle.std.specs.Prelude.{◌≡◌, IfOk, length};
 
 use crate::checks::same;
-use dm_region::Region;
+use dm_region::{Region, ends_mut};
 use std::alloc::{AllocError, Global};
 use std::test::Fail;
 
@@ -76,6 +76,47 @@ fn copies_read_before_they_write(rt: HostRuntime) -> Result<(), Fail> {
         region.copy(from, to, len);
         same(&rt, "copied", region.part(0, 10), copied.as_slice());
     }
+    Ok(())
+}
+
+#[test]
+fn two_parts_are_written_at_once(rt: HostRuntime) -> Result<(), Fail> {
+    // first byte and length of what holds both, length of the first, where the second begins; all bytes once the first is filled
+    // with `x` and the second with `y`. Touching, with a gap, and empty
+    let rows = [
+        (0, 10, 5, 5, b"xxxxxyyyyy"),
+        (2, 4, 3, 3, b"abxxxyghij"),
+        (1, 8, 2, 5, b"axxdefyyyj"),
+        (0, 10, 1, 9, b"xbcdefghiy"),
+        (3, 2, 0, 0, b"abcyyfghij"),
+        (3, 2, 2, 2, b"abcxxfghij"),
+        (10, 0, 0, 0, b"abcdefghij"),
+    ];
+    for (from, span, len, other, filled) in rows {
+        let mut region = letters(rt.alloc())?;
+        let (first, second) = ends_mut(region.part_mut(from, span), len, other);
+        first.fill(b'x');
+        second.fill(b'y');
+        same(&rt, "filled", region.part(0, 10), filled.as_slice());
+    }
+    Ok(())
+}
+
+#[test]
+fn bytes_move_upwards(rt: HostRuntime) -> Result<(), Fail> {
+    let mut region = letters(rt.alloc())?;
+    let (first, second) = ends_mut(region.part_mut(1, 8), 3, 5);
+    second.copy_from_slice(first);
+    same(&rt, "bytes", region.part(0, 10), b"abcdefbcdj".as_slice());
+    Ok(())
+}
+
+#[test]
+fn bytes_move_downwards(rt: HostRuntime) -> Result<(), Fail> {
+    let mut region = letters(rt.alloc())?;
+    let (first, second) = ends_mut(region.part_mut(1, 6), 3, 3);
+    first.copy_from_slice(second);
+    same(&rt, "bytes", region.part(0, 10), b"aefgefghij".as_slice());
     Ok(())
 }
 
