@@ -51,9 +51,9 @@ here (suc P) ws (x ∷ xs) r le = here P ws xs r (omega arith)
 -- another part is as it was
 pub elsewhere : (xs ws : List ℕ) (P N Q M : ℕ) → length ws ≡ N → P + N ≤ length xs → (Q + M ≤ P) ⊎ (P + N ≤ Q) → part (with_part xs P N ws) Q M ≡ part xs Q M
 elsewhere xs ws P N Q M e in' far = elim far [
-    | inl h ↦ earlier Q M P xs (ws ++ drop (P + N) xs) h (omega arith)
-    | inr h ↦ ap (take M) (later P Q (P + N) ws xs (omega arith) h in')
-  ]
+  | inl h ↦ earlier Q M P xs (ws ++ drop (P + N) xs) h (omega arith)
+  | inr h ↦ ap (take M) (later P Q (P + N) ws xs (omega arith) h in')
+]
 
 pub written : (xs ws : List ℕ) (P N : ℕ) → length ws ≡ N → P + N ≤ length xs → part (with_part xs P N ws) P N ≡ ws
 written xs ws P N e in' = ap (λ n. take n (drop P (with_part xs P N ws))) (sym e) ∙ here P ws xs (drop (P + N) xs) (omega arith)
@@ -80,9 +80,9 @@ content_of (p ∷ places) (suc k) b xs e = content_of places k b xs e
 -- a place that is clear is apart from each block
 pub clear_apart : (places : List (Option Place)) (p u : ℕ) → is_clear places p u ≡ true → (i : ℕ) (d : Place) → get_or places i None ≡ Some d → (d.base + d.units ≤ p) ⊎ (p + u ≤ d.base)
 clear_apart places p u h i d e = elim (below_or_not d.base (p + u)) [
-    | inl lo ↦ elim (below_or_not p (d.base + d.units)) [ inl hi ↦ absurd (true≢false (sym h ∙ covered places i d p u e (hits d p u lo hi))) | inr le ↦ inl le ]
-    | inr le ↦ inr le
-  ]
+  | inl lo ↦ elim (below_or_not p (d.base + d.units)) [ inl hi ↦ absurd (true≢false (sym h ∙ covered places i d p u e (hits d p u lo hi))) | inr le ↦ inl le ]
+  | inr le ↦ inr le
+]
 
 both_so : (a b : Bool) → (a && b) ≡ true → (a ≡ true) × (b ≡ true)
 both_so true b e = (refl, e)
@@ -226,12 +226,12 @@ fitted_is xs b u kept e fits =
     let P = b.base * 1024 in let own = part xs P (b.units * 1024) in let long : length own ≡ b.units * 1024 = part_length xs P (b.units * 1024) fits in
     elim (below_or_not b.units u) [
       | inl more ↦
-        let same : kept ≡ b.units = omega arith in
-        ap (λ k. part xs P (k * 1024) ++ replicate ((u - k) * 1024) 0) same ∙ sym (take_more own (u * 1024) ((u - b.units) * 1024) (u * 1024) (omega arith) (omega arith))
+          let same : kept ≡ b.units = omega arith in
+          ap (λ k. part xs P (k * 1024) ++ replicate ((u - k) * 1024) 0) same ∙ sym (take_more own (u * 1024) ((u - b.units) * 1024) (u * 1024) (omega arith) (omega arith))
       | inr less ↦
-        let same : kept ≡ u = omega arith in let none : (u - u) * 1024 ≡ 0 = omega arith in
-        ap (λ k. part xs P (k * 1024) ++ replicate ((u - k) * 1024) 0) same ∙ ap (λ k. part xs P (u * 1024) ++ replicate k 0) none ∙ append-nil (part xs P (u * 1024))
-        ∙ sym (take_less (drop P xs) (zeros u) (u * 1024) (b.units * 1024) (omega arith) (omega arith))
+          let same : kept ≡ u = omega arith in let none : (u - u) * 1024 ≡ 0 = omega arith in
+          ap (λ k. part xs P (k * 1024) ++ replicate ((u - k) * 1024) 0) same ∙ ap (λ k. part xs P (u * 1024) ++ replicate k 0) none ∙ append-nil (part xs P (u * 1024))
+          ∙ sym (take_less (drop P xs) (zeros u) (u * 1024) (b.units * 1024) (omega arith) (omega arith))
     ]
 
 pub refilled : (n : ℕ) (old ws : List ℕ) → length ws ≡ n → refill n old ws ≡ ws

@@ -49,7 +49,15 @@ meets_run places units from bytes at (g ∷ gs) are told ne =
     let behind : Spells bytes (word bytes (at * 1024 + 4)) gs = subst (λ n. Spells bytes n gs) (sym link) told.2 in
     let some = are.2 in
     record {
-      run = g; behind = gs; splits = refl; low = low; size = ap (λ n. word bytes (n * 1024)) (sym low) ∙ told.1; some = some; room = are.4; gaps = are.6; told = behind;
+      run = g;
+      behind = gs;
+      splits = refl;
+      low = low;
+      size = ap (λ n. word bytes (n * 1024)) (sym low) ∙ told.1;
+      some = some;
+      room = are.4;
+      gaps = are.6;
+      told = behind;
       rising = after_run places units (g.low + g.size) bytes at (word bytes (at * 1024 + 4)) gs are.6 (omega (arith, low, some)) behind;
     }
 

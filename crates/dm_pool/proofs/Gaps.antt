@@ -51,9 +51,9 @@ pub found : (f : ℕ → Bool) (n p q : ℕ) → p ≤ q → q < p + n → f q �
 unfolding first_of
 found f zero p q le lt hit miss = absurd (omega arith)
 found f (suc n) p q le lt hit miss = elim (same_or_less p q le) [
-    | inl e ↦ ap (λ c. if c then Some p else first_of f n (suc p)) (ap f e ∙ hit) ∙ ap Some e
-    | inr l ↦ ap (λ c. if c then Some p else first_of f n (suc p)) (miss p (omega arith) l) ∙ found f n (suc p) q (omega arith) (omega arith) hit (λ r a b. miss r (omega arith) b)
-  ]
+  | inl e ↦ ap (λ c. if c then Some p else first_of f n (suc p)) (ap f e ∙ hit) ∙ ap Some e
+  | inr l ↦ ap (λ c. if c then Some p else first_of f n (suc p)) (miss p (omega arith) l) ∙ found f n (suc p) q (omega arith) (omega arith) hit (λ r a b. miss r (omega arith) b)
+]
 
 pub not_found : (f : ℕ → Bool) (n p : ℕ) → ((r : ℕ) → p ≤ r → r < p + n → f r ≡ false) → first_of f n p ≡ None
 unfolding first_of
@@ -89,9 +89,9 @@ below_or_not (suc a) (suc b) = elim (below_or_not a b) [ inl h ↦ inl (omega ar
 
 not_overlap : (b : Place) (p u q v : ℕ) → overlaps b p u ≡ false → p ≤ q → q + v ≤ p + u → overlaps b q v ≡ false
 not_overlap b p u q v h lo hi = elim (below_or_not b.base (q + v)) [
-    | inl l ↦ elim (below_or_not q (b.base + b.units)) [ inl r ↦ absurd (true≢false (sym (hits b p u (omega arith) (omega arith)) ∙ h)) | inr r ↦ after b q v r ]
-    | inr l ↦ before b q v l
-  ]
+  | inl l ↦ elim (below_or_not q (b.base + b.units)) [ inl r ↦ absurd (true≢false (sym (hits b p u (omega arith) (omega arith)) ∙ h)) | inr r ↦ after b q v r ]
+  | inr l ↦ before b q v l
+]
 
 not_true : (b : Bool) → not b ≡ true → b ≡ false
 not_true true e = absurd (true≢false (sym e))
@@ -119,22 +119,22 @@ unclear bs k q u h lo hi = elim (test (is_clear bs q u)) [ inl y ↦ absurd (tru
 
 fits_at : (bs : List (Option Place)) (n u k : ℕ) (gs : List Run) → 0 < u → AreGaps bs n k gs → ((q : ℕ) → q < k → is_free bs n u q ≡ false) → first_fit gs u ≡ lowest bs n u
 fits_at bs n u k [] pos are miss = sym (not_found (is_free bs n u) (suc n) 0 (λ q le lt. elim (below_or_not q k) [
-    | inl h ↦ miss q h
-    | inr h ↦ elim (below_or_not q n) [ inl i ↦ taken bs n u q (unclear bs q q u (are q h i) (omega arith) (omega arith)) | inr i ↦ outside bs n u q (omega arith) ]
-  ]))
+  | inl h ↦ miss q h
+  | inr h ↦ elim (below_or_not q n) [ inl i ↦ taken bs n u q (unclear bs q q u (are q h i) (omega arith) (omega arith)) | inr i ↦ outside bs n u q (omega arith) ]
+]))
 fits_at bs n u k (g ∷ gs) pos are miss =
     let before' : (q : ℕ) → q < g.low → is_free bs n u q ≡ false = λ q lt. elim (below_or_not q k) [ inl h ↦ miss q h | inr h ↦ taken bs n u q (unclear bs q q u (are.1 q h lt) (omega arith) (omega arith)) ] in
     elim (below_or_not g.size u) [
       | inl small ↦
-        ap (λ c. if c then Some g.low else first_fit gs u) (past u g.size small)
-        ∙ fits_at bs n u (g.low + g.size) gs pos are.6 (λ q lt. elim (below_or_not q g.low) [
-          | inl h ↦ before' q h
-          | inr h ↦ elim (below_or_not (g.low + g.size) n) [ inl i ↦ taken bs n u q (unclear bs (g.low + g.size) q u (are.5 i) (omega arith) (omega arith)) | inr i ↦ outside bs n u q (omega arith) ]
-        ])
+          ap (λ c. if c then Some g.low else first_fit gs u) (past u g.size small)
+          ∙ fits_at bs n u (g.low + g.size) gs pos are.6 (λ q lt. elim (below_or_not q g.low) [
+            | inl h ↦ before' q h
+            | inr h ↦ elim (below_or_not (g.low + g.size) n) [ inl i ↦ taken bs n u q (unclear bs (g.low + g.size) q u (are.5 i) (omega arith) (omega arith)) | inr i ↦ outside bs n u q (omega arith) ]
+          ])
       | inr large ↦
-        let room = are.4 in
-        ap (λ c. if c then Some g.low else first_fit gs u) (le-leb u g.size large)
-        ∙ sym (found (is_free bs n u) (suc n) 0 g.low (omega arith) (omega arith) (free bs n u g.low (omega arith) (clear_part bs g.low g.size g.low u are.3 (omega arith) (omega arith))) (λ q le lt. before' q lt))
+          let room = are.4 in
+          ap (λ c. if c then Some g.low else first_fit gs u) (le-leb u g.size large)
+          ∙ sym (found (is_free bs n u) (suc n) 0 g.low (omega arith) (omega arith) (free bs n u g.low (omega arith) (clear_part bs g.low g.size g.low u are.3 (omega arith) (omega arith))) (λ q le lt. before' q lt))
     ]
 
 -- the first run that fits begins at the lowest free place

@@ -34,9 +34,9 @@ none_laid units n c s = record {
 
 at_set : (ps : List (Option Place)) (k i : ℕ) (o : Option Place) (b : Place) → k < length ps → get_or (set ps k o) i None ≡ Some b → (o ≡ Some b) × (i ≡ k) ⊎ (get_or ps i None ≡ Some b) × ¬ (i ≡ k)
 at_set ps k i o b lt e = elim (same_or_not i k) [
-    | inl s ↦ inl (sym (ap (λ j. get_or (set ps k o) j None) s ∙ get_or-set_same ps k o None lt) ∙ e, s)
-    | inr ne ↦ inr (sym (get_or-set_other ps k i o None ne) ∙ e, ne)
-  ]
+  | inl s ↦ inl (sym (ap (λ j. get_or (set ps k o) j None) s ∙ get_or-set_same ps k o None lt) ∙ e, s)
+  | inr ne ↦ inr (sym (get_or-set_other ps k i o None ne) ∙ e, ne)
+]
 
 turned : (d e : Place) → Apart d e → Apart e d
 turned d e a = elim a [ inl h ↦ inr h | inr h ↦ inl h ]

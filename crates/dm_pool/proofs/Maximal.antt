@@ -13,15 +13,15 @@ use Rattle.dm_pool.proofs.FreeRuns.{lowered}
 -- a clear unit before a clear run
 clear_more : (bs : List (Option Place)) (k u : ℕ) → AreBased bs → is_clear bs k 1 ≡ true → is_clear bs (suc k) u ≡ true → is_clear bs k (suc u) ≡ true
 clear_more bs k u based one rest = clear bs k (suc u) (λ i b lt e. elim (clear_apart bs k 1 one i b e) [
-    | inl h ↦ after b k (suc u) h
-    | inr h ↦ elim (clear_apart bs (suc k) u rest i b e) [
-      | inl g ↦ elim (cases_lt 0 b.units) [
-        | inl pos ↦ absurd (omega (arith, h, g, pos))
-        | inr none ↦ let z : b.units ≡ 0 = omega (arith, none) in absurd (omega (arith, h, based i b e z))
-      ]
-      | inr g ↦ before b k (suc u) (omega (arith, g))
+  | inl h ↦ after b k (suc u) h
+  | inr h ↦ elim (clear_apart bs (suc k) u rest i b e) [
+    | inl g ↦ elim (cases_lt 0 b.units) [
+      | inl pos ↦ absurd (omega (arith, h, g, pos))
+      | inr none ↦ let z : b.units ≡ 0 = omega (arith, none) in absurd (omega (arith, h, based i b e z))
     ]
-  ])
+    | inr g ↦ before b k (suc u) (omega (arith, g))
+  ]
+])
 
 both : (b : Bool) → b ≡ true → b ≡ false → ⊥
 both b t f = true≢false (sym t ∙ f)
@@ -31,21 +31,21 @@ grown bs n k gs false based lt e are = lowered bs n (suc k) k gs (λ j lo hi. le
 grown bs n k [] true based lt e are =
     (omega arith, (λ j lo hi. absurd (omega (arith, lo, hi))), omega arith, e, omega (arith, lt), (λ h. let next : suc k ≡ k + 1 = omega arith in subst (IsCovered bs) next (are (suc k) (omega arith) (omega (arith, h)))), λ j lo hi. are j (omega (arith, lo)) hi)
 grown bs n k (g ∷ gs) true based lt e are = elim (cases_eq g.low (suc k)) [
-    | inl s ↦
+  | inl s ↦
       let end : g.low + g.size ≡ k + suc g.size = omega (arith, s) in
       let joined = clear_more bs k g.size based e (subst (λ l. is_clear bs l g.size ≡ true) s are.3) in
       let some = are.2 in let room = are.4 in
       let made : AreGaps bs n k (record { low = k; size = suc g.size } ∷ gs) =
-          (omega arith, (λ j lo hi. absurd (omega (arith, lo, hi))), omega arith, joined, omega (arith, end, room), (λ h. subst (IsCovered bs) end (are.5 (omega (arith, h, end)))), subst (λ l. AreGaps bs n l gs) end are.6) in
+      (omega arith, (λ j lo hi. absurd (omega (arith, lo, hi))), omega arith, joined, omega (arith, end, room), (λ h. subst (IsCovered bs) end (are.5 (omega (arith, h, end)))), subst (λ l. AreGaps bs n l gs) end are.6) in
       subst (λ t. AreGaps bs n k (if t then record { low = k; size = suc g.size } ∷ gs else record { low = k; size = 1 } ∷ g ∷ gs)) (sym (eq-eqb g.low (suc k) s)) made
-    | inr ne ↦
+  | inr ne ↦
       let low = are.0 in
       let gap : suc k < g.low = elim (cases_lt (suc k) g.low) [ inl h ↦ h | inr h ↦ absurd (ne (omega (arith, low, h))) ] in
       let next : suc k ≡ k + 1 = omega arith in
       let made : AreGaps bs n k (record { low = k; size = 1 } ∷ g ∷ gs) =
-          (omega arith, (λ j lo hi. absurd (omega (arith, lo, hi))), omega arith, e, omega (arith, lt), (λ h. subst (IsCovered bs) next (are.1 (suc k) (omega arith) gap)), subst (λ l. AreGaps bs n l (g ∷ gs)) next are) in
+      (omega arith, (λ j lo hi. absurd (omega (arith, lo, hi))), omega arith, e, omega (arith, lt), (λ h. subst (IsCovered bs) next (are.1 (suc k) (omega arith) gap)), subst (λ l. AreGaps bs n l (g ∷ gs)) next are) in
       subst (λ t. AreGaps bs n k (if t then record { low = k; size = suc g.size } ∷ gs else record { low = k; size = 1 } ∷ g ∷ gs)) (sym (ne_eqb g.low (suc k) ne)) made
-  ]
+]
 
 gaps_are_from : (bs : List (Option Place)) (n m k : ℕ) → AreBased bs → k + m ≡ n → AreGaps bs n k (gaps_from bs m k)
 unfolding gaps_from

@@ -165,9 +165,9 @@ pub order_same : (ps : List (Option Place)) (order : List ℕ) (k : ℕ) (o : Op
 order_same ps order k o is lt old new =
     let ps' = set ps k o in
     let other : (q : ℕ) → q < length order → ¬ (get_or order q 0 ≡ k) = λ q h e.
-        let live = is.live q h in
-        let some : has_units (get_or ps k None) ≡ true = ap has_units (ap (λ i. get_or ps i None) (sym e) ∙ live.1) ∙ unit_block live.0 live.2 in
-        true_or_false (has_units (get_or ps k None)) some old in
+    let live = is.live q h in
+    let some : has_units (get_or ps k None) ≡ true = ap has_units (ap (λ i. get_or ps i None) (sym e) ∙ live.1) ∙ unit_block live.0 live.2 in
+    true_or_false (has_units (get_or ps k None)) some old in
     let back : (q : ℕ) (d : Place) → q < length order → IsNth ps' order q d → IsNth ps order q d = λ q d h at. sym (get_or-set_other ps k (get_or order q 0) o None (other q h)) ∙ at in
     record {
       live = λ p h. let l = is.live p h in (l.0, get_or-set_other ps k (get_or order p 0) o None (other p h) ∙ l.1, l.2);
@@ -198,9 +198,9 @@ module _ (ps : List (Option Place)) (order : List ℕ) (k r : ℕ) (b : Place) (
         | inr c ↦ elim c [
           | inl x ↦ let low = below q b x at in absurd (omega (arith, low))
           | inr x ↦
-            let less : r < length order = omega (arith, x, h) in let l = is.live r less in
-            let low = above r l.0 (omega arith) less l.1 in let some = l.2 in let rise = is.rising r q l.0 b x h l.1 at in
-            absurd (omega (arith, low, some, rise))
+              let less : r < length order = omega (arith, x, h) in let l = is.live r less in
+              let low = above r l.0 (omega arith) less l.1 in let some = l.2 in let rise = is.rising r q l.0 b x h l.1 at in
+              absurd (omega (arith, low, some, rise))
         ]
       ]
 
@@ -252,17 +252,17 @@ module _ (ps : List (Option Place)) (order : List ℕ) (k r : ℕ) (b : Place) (
   found_still (suc q) i h ne e = elim (cases_lt (suc q) r) [
     | inl x ↦ (suc q, omega (arith, stands_there.0, shorter, x), get_or-remove_below order r 0 (suc q) x stands_there.0 ∙ e)
     | inr x ↦
-      let more : r ≤ q = elim (cases_order (suc q) r) [ inl s ↦ absurd (ne s) | inr c ↦ elim c [ inl y ↦ absurd (omega (arith, x, y)) | inr y ↦ omega (arith, y) ] ] in
-      let next : q + 1 ≡ suc q = omega arith in
-      (q, omega (arith, h, shorter), get_or-remove_above order r 0 q more stands_there.0 ∙ ap (λ j. get_or order j 0) next ∙ e)
+        let more : r ≤ q = elim (cases_order (suc q) r) [ inl s ↦ absurd (ne s) | inr c ↦ elim c [ inl y ↦ absurd (omega (arith, x, y)) | inr y ↦ omega (arith, y) ] ] in
+        let next : q + 1 ≡ suc q = omega arith in
+        (q, omega (arith, h, shorter), get_or-remove_above order r 0 q more stands_there.0 ∙ ap (λ j. get_or order j 0) next ∙ e)
   ]
 
   whole_still : (i : ℕ) (d : Place) → get_or gone i None ≡ Some d → 0 < d.units → (p : ℕ) × (p < length rest) × (get_or rest p 0 ≡ i)
   whole_still i d at some = elim (same_or_not i k) [
     | inl e ↦ absurd (none-some d (sym (get_or-set_same ps k None None lt) ∙ ap (λ j. get_or gone j None) (sym e) ∙ at))
     | inr ne ↦
-      let q = is.whole i d (sym (get_or-set_other ps k i None None ne) ∙ at) some in
-      found_still q.0 i q.1 (λ s. ne (sym q.2 ∙ ap (λ j. get_or order j 0) s ∙ stands_there.1)) q.2
+        let q = is.whole i d (sym (get_or-set_other ps k i None None ne) ∙ at) some in
+        found_still q.0 i q.1 (λ s. ne (sym q.2 ∙ ap (λ j. get_or order j 0) s ∙ stands_there.1)) q.2
   ]
 
   pub order_go : IsOrder gone rest

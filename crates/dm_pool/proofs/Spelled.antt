@@ -37,9 +37,9 @@ module _ (units end rest : ℕ) (places : List (Option Place)) (order : List ℕ
   under p b h to = elim (cases_lt p (rest - 1)) [
     | inl x ↦ let r = is.rising p (rest - 1) b top x last to at in omega (arith, r)
     | inr x ↦
-      let e : p ≡ rest - 1 = omega (arith, h, x) in
-      let same : b ≡ top = same_Some b top (sym to ∙ ap (λ j. get_or places (get_or order j 0) None) e ∙ at) in
-      omega (arith, ap (λ (z : Place). z.base) same, ap (λ (z : Place). z.units) same)
+        let e : p ≡ rest - 1 = omega (arith, h, x) in
+        let same : b ≡ top = same_Some b top (sym to ∙ ap (λ j. get_or places (get_or order j 0) None) e ∙ at) in
+        omega (arith, ap (λ (z : Place). z.base) same, ap (λ (z : Place). z.units) same)
   ]
 
   pub top_below : IsBelow places end top
@@ -47,8 +47,8 @@ module _ (units end rest : ℕ) (places : List (Option Place)) (order : List ℕ
     edge = cut.lower (rest - 1) top (omega (arith, some)) at;
     free = free_above places (top.base + top.units) end (cut.lower (rest - 1) top (omega (arith, some)) at) (λ i b e lt. elim (cases_lt 0 b.units) [
       | inl pos ↦
-        let q = is.whole i b e pos in let to = ap (λ j. get_or places j None) q.2 ∙ e in
-        elim (cases_lt q.0 rest) [ inl x ↦ under q.0 b x to | inr x ↦ let up = cut.upper q.0 b x q.1 to in absurd (omega (arith, up, lt)) ]
+          let q = is.whole i b e pos in let to = ap (λ j. get_or places j None) q.2 ∙ e in
+          elim (cases_lt q.0 rest) [ inl x ↦ under q.0 b x to | inr x ↦ let up = cut.upper q.0 b x q.1 to in absurd (omega (arith, up, lt)) ]
       | inr none ↦ let z : b.units ≡ 0 = omega (arith, none) in omega (arith, laid.based i b e z, z)
     ]);
     there = inr (some_units, (get_or order (rest - 1) 0, at));

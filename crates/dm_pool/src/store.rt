@@ -9,10 +9,9 @@ ghost use Rattle.dm_pool.specs.Lending.{LendsLow, LendsScratch, LendsBlock};
 
 use crate::block::Block;
 use crate::places::{Place, UNIT};
-use crate::pool;
-use crate::runs;
 use crate::sizes::Sizes;
 use crate::table::Table;
+use crate::{pool, runs};
 use dm_region::Region;
 use std::alloc::{AllocError, Global};
 use std::marker::Model;
@@ -184,7 +183,11 @@ impl Store {
         ensures { self.new ≡ record self.old { blocks = without self.old.blocks block } }
     {
         let len = pool_len(&self.table);
-        pool::give(&mut self.table, self.region.part_mut(POOL, len), block.slot());
+        pool::give(
+            &mut self.table,
+            self.region.part_mut(POOL, len),
+            block.slot(),
+        );
     }
 
     /// Gives a block another size: bytes up to the smaller size stay, and new ones are zeros. The block stays where it is if it fits
@@ -195,7 +198,12 @@ impl Store {
         ensures { MatchBool result ((resized self.old.blocks block units ≡ Some self.new.blocks) × (self.new ≡ record self.old { blocks = self.new.blocks })) ((resized self.old.blocks block units ≡ None) × (self.new ≡ self.old)) }
     {
         let len = pool_len(&self.table);
-        pool::resize(&mut self.table, self.region.part_mut(POOL, len), block.slot(), units)
+        pool::resize(
+            &mut self.table,
+            self.region.part_mut(POOL, len),
+            block.slot(),
+            units,
+        )
     }
 
     /// Whether the store has a block: it was taken, and not given back since.
@@ -219,7 +227,8 @@ impl Store {
         ensures { result.now ≡ get_or self.now.blocks.contents block [] }
     {
         let place = place_of(&self.table, block);
-        self.region.part(POOL + place.base * UNIT, place.units * UNIT)
+        self.region
+            .part(POOL + place.base * UNIT, place.units * UNIT)
     }
 
     /// The bytes of a block, lent to be written.
@@ -230,12 +239,20 @@ impl Store {
     {
         self.table.recall();
         let place = place_of(&self.table, block);
-        self.region.part_mut(POOL + place.base * UNIT, place.units * UNIT)
+        self.region
+            .part_mut(POOL + place.base * UNIT, place.units * UNIT)
     }
 
     /// Copies `len` bytes of a block, from its byte `from` on, to the place from byte `to` on of another block or the same one. The bytes
     /// copied are those that stood there before.
-    pub fn move_bytes(&mut self, source: Block, from: usize, destination: Block, to: usize, len: usize)
+    pub fn move_bytes(
+        &mut self,
+        source: Block,
+        from: usize,
+        destination: Block,
+        to: usize,
+        len: usize,
+    )
         requires source { IsLive self.old.blocks source × (from + len ≤ length (get_or self.old.blocks.contents source [])) }
         requires destination { IsLive self.old.blocks destination × (to + len ≤ length (get_or self.old.blocks.contents destination [])) }
         ensures { self.new ≡ record self.old { blocks = moved_bytes self.old.blocks source from destination to len } }

@@ -100,12 +100,7 @@ fn is_clear_but(places: &[Option<Place>], slot: usize, from: usize, units: usize
 }
 
 /// A block comes into the order, if it has units.
-fn order_in(
-    order: &mut ArrayVec<u16, SLOTS>,
-    places: &[Option<Place>],
-    slot: usize,
-    place: Place,
-)
+fn order_in(order: &mut ArrayVec<u16, SLOTS>, places: &[Option<Place>], slot: usize, place: Place)
     requires order { IsOrder places.now order.old.items }
     requires count { length places.now ≡ 576 }
     requires vacant { (slot < 576) × (get_or places.now slot None ≡ None) }
@@ -119,12 +114,7 @@ fn order_in(
 }
 
 /// A block goes from the order, if it has units.
-fn order_out(
-    order: &mut ArrayVec<u16, SLOTS>,
-    places: &[Option<Place>],
-    slot: usize,
-    place: Place,
-)
+fn order_out(order: &mut ArrayVec<u16, SLOTS>, places: &[Option<Place>], slot: usize, place: Place)
     requires order { IsOrder places.now order.old.items }
     requires count { length places.now ≡ 576 }
     requires live { (slot < 576) × (get_or places.now slot None ≡ Some place) }

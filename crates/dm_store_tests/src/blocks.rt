@@ -82,7 +82,12 @@ fn take(rt: &impl Abort, taken: &mut Taken, name: usize, units: usize, base: Opt
     taken.blocks[name % NAMES] = Some(block);
     let (found, bytes) = place_of(&taken.store, block);
     same(rt, "base of a new block", found, base);
-    same(rt, "bytes of a new block", Some(bytes), units.checked_mul(UNIT));
+    same(
+        rt,
+        "bytes of a new block",
+        Some(bytes),
+        units.checked_mul(UNIT),
+    );
     same(rt, "zeros", is_sound(&taken.store, block, 0, 0), true);
     fill(&mut taken.store, block, own_byte(name));
 }
@@ -98,8 +103,18 @@ fn resize(rt: &impl Abort, taken: &mut Taken, name: usize, units: usize, base: O
     }
     let done = taken.store.resize(block, units);
     let (found, _) = place_of(&taken.store, block);
-    same(rt, "base of a resized block", if done { found } else { None }, base);
-    same(rt, "what it keeps", is_sound(&taken.store, block, kept, own_byte(name)), true);
+    same(
+        rt,
+        "base of a resized block",
+        if done { found } else { None },
+        base,
+    );
+    same(
+        rt,
+        "what it keeps",
+        is_sound(&taken.store, block, kept, own_byte(name)),
+        true,
+    );
     fill(&mut taken.store, block, own_byte(name));
 }
 
@@ -130,7 +145,12 @@ fn play(rt: &impl Abort, taken: &mut Taken, step: Step) {
         Step::Tells(largest, free, fitting) => {
             same(rt, "largest gap", taken.store.largest(), largest);
             same(rt, "free units", taken.store.free(), free);
-            same(rt, "blocks of two units", taken.store.count_fitting(2), fitting);
+            same(
+                rt,
+                "blocks of two units",
+                taken.store.count_fitting(2),
+                fitting,
+            );
         }
     }
     keep(rt, taken);
@@ -185,8 +205,18 @@ fn blocks_take_the_lowest_gap(rt: HostRuntime) -> Result<(), Fail> {
 #[test]
 fn sizes_have_bounds(rt: HostRuntime) {
     let alloc = rt.alloc();
-    same(&rt, "513 pages", made(alloc, 513, 0).err(), Some(NewError::TooLarge));
-    same(&rt, "15,361 KiB", made(alloc, 0, 15_361).err(), Some(NewError::TooLarge));
+    same(
+        &rt,
+        "513 pages",
+        made(alloc, 513, 0).err(),
+        Some(NewError::TooLarge),
+    );
+    same(
+        &rt,
+        "15,361 KiB",
+        made(alloc, 0, 15_361).err(),
+        Some(NewError::TooLarge),
+    );
     same(&rt, "nothing", made(alloc, 0, 0).is_ok(), true);
     match made(alloc, 512, 15_360) {
         Ok(store) => {
@@ -210,7 +240,12 @@ fn a_table_has_576_blocks(rt: HostRuntime) -> Result<(), Fail> {
 }
 
 /// Whether no block but one has a unit among so many from a unit on.
-fn is_free(places: &[Option<(usize, usize)>; NAMES], but: usize, base: usize, units: usize) -> bool {
+fn is_free(
+    places: &[Option<(usize, usize)>; NAMES],
+    but: usize,
+    base: usize,
+    units: usize,
+) -> bool {
     for name in 0..NAMES {
         if let Some((low, count)) = places[name] {
             if name != but && low < base.saturating_add(units) && base < low.saturating_add(count) {
@@ -232,7 +267,12 @@ fn lowest(places: &[Option<(usize, usize)>; NAMES], units: usize) -> Option<usiz
 }
 
 /// Where a block is to lie that gets so many units.
-fn new_base(places: &[Option<(usize, usize)>; NAMES], name: usize, low: usize, units: usize) -> Option<usize> {
+fn new_base(
+    places: &[Option<(usize, usize)>; NAMES],
+    name: usize,
+    low: usize,
+    units: usize,
+) -> Option<usize> {
     if units == 0 {
         Some(0)
     } else if low.saturating_add(units) <= 64 && is_free(places, name, low, units) {
@@ -279,12 +319,24 @@ fn blocks_lie_where_a_plain_list_has_them(rt: HostRuntime) -> Result<(), Fail> {
 }
 
 /// Copies bytes from a place of one block to a place of another one, where both have so many bytes there.
-fn move_bytes(store: &mut Store, source: (Block, usize), destination: (Block, usize), len: usize) -> bool {
+fn move_bytes(
+    store: &mut Store,
+    source: (Block, usize),
+    destination: (Block, usize),
+    len: usize,
+) -> bool {
     if !store.has(source.0) || !store.has(destination.0) {
         return false;
     }
-    let (last, end) = (store.bytes(source.0).len(), store.bytes(destination.0).len());
-    if source.1 > last || len > last - source.1 || destination.1 > end || len > end - destination.1 {
+    let (last, end) = (
+        store.bytes(source.0).len(),
+        store.bytes(destination.0).len(),
+    );
+    if source.1 > last
+        || len > last - source.1
+        || destination.1 > end
+        || len > end - destination.1
+    {
         return false;
     }
     store.move_bytes(source.0, source.1, destination.0, destination.1, len);
@@ -320,16 +372,46 @@ fn bytes_move_within_and_between_blocks(rt: HostRuntime) -> Result<(), Fail> {
     };
     write(&mut store, one, *b"ABCDEF");
     write(&mut store, two, *b"uvwxyz");
-    same(&rt, "upwards", move_bytes(&mut store, (one, 0), (one, 2), 3), true);
+    same(
+        &rt,
+        "upwards",
+        move_bytes(&mut store, (one, 0), (one, 2), 3),
+        true,
+    );
     same(&rt, "upwards", beginning(&store, one), *b"ABABCF");
-    same(&rt, "downwards", move_bytes(&mut store, (one, 2), (one, 0), 4), true);
+    same(
+        &rt,
+        "downwards",
+        move_bytes(&mut store, (one, 2), (one, 0), 4),
+        true,
+    );
     same(&rt, "downwards", beginning(&store, one), *b"ABCFCF");
-    same(&rt, "to another block", move_bytes(&mut store, (one, 1), (two, 3), 2), true);
+    same(
+        &rt,
+        "to another block",
+        move_bytes(&mut store, (one, 1), (two, 3), 2),
+        true,
+    );
     same(&rt, "to another block", beginning(&store, two), *b"uvwBCz");
-    same(&rt, "from another block", beginning(&store, one), *b"ABCFCF");
-    same(&rt, "the last byte", move_bytes(&mut store, (two, 1023), (one, 5), 1), true);
+    same(
+        &rt,
+        "from another block",
+        beginning(&store, one),
+        *b"ABCFCF",
+    );
+    same(
+        &rt,
+        "the last byte",
+        move_bytes(&mut store, (two, 1023), (one, 5), 1),
+        true,
+    );
     same(&rt, "the last byte", beginning(&store, one), *b"ABCFC\0");
-    same(&rt, "no byte", move_bytes(&mut store, (one, 0), (one, 1024), 0), true);
+    same(
+        &rt,
+        "no byte",
+        move_bytes(&mut store, (one, 0), (one, 1024), 0),
+        true,
+    );
     same(&rt, "no byte", beginning(&store, one), *b"ABCFC\0");
     Ok(())
 }

@@ -54,22 +54,52 @@ fn free_bytes_tell_the_gaps(rt: HostRuntime) -> Result<(), Fail> {
         xms_kib: 4,
     };
     let mut store = Store::new(rt.alloc(), sizes)?;
-    same(&rt, "one run of four units", beginning(&store, 0), [4, 0, 0, 0, 0xFF, 0xFF, 0xFF, 0xFF]);
+    same(
+        &rt,
+        "one run of four units",
+        beginning(&store, 0),
+        [4, 0, 0, 0, 0xFF, 0xFF, 0xFF, 0xFF],
+    );
     let _first = store.take(1);
     let second = store.take(1);
     let third = store.take(1);
     let fourth = store.take(1);
     give(&mut store, second);
-    same(&rt, "a run of one unit", beginning(&store, 1), [1, 0, 0, 0, 0xFF, 0xFF, 0xFF, 0xFF]);
+    same(
+        &rt,
+        "a run of one unit",
+        beginning(&store, 1),
+        [1, 0, 0, 0, 0xFF, 0xFF, 0xFF, 0xFF],
+    );
     give(&mut store, fourth);
-    same(&rt, "the next run is at unit 3", beginning(&store, 1), [1, 0, 0, 0, 3, 0, 0, 0]);
-    same(&rt, "the last run", beginning(&store, 3), [1, 0, 0, 0, 0xFF, 0xFF, 0xFF, 0xFF]);
+    same(
+        &rt,
+        "the next run is at unit 3",
+        beginning(&store, 1),
+        [1, 0, 0, 0, 3, 0, 0, 0],
+    );
+    same(
+        &rt,
+        "the last run",
+        beginning(&store, 3),
+        [1, 0, 0, 0, 0xFF, 0xFF, 0xFF, 0xFF],
+    );
     give(&mut store, third);
-    same(&rt, "three units are one run", beginning(&store, 1), [3, 0, 0, 0, 0xFF, 0xFF, 0xFF, 0xFF]);
+    same(
+        &rt,
+        "three units are one run",
+        beginning(&store, 1),
+        [3, 0, 0, 0, 0xFF, 0xFF, 0xFF, 0xFF],
+    );
     let two = store.take(2);
     holds(&rt, "units 1 and 2", base_of(&store, two) == Some(1));
     same(&rt, "zeros", beginning(&store, 1), [0; 8]);
-    same(&rt, "the run that is left", beginning(&store, 3), [1, 0, 0, 0, 0xFF, 0xFF, 0xFF, 0xFF]);
+    same(
+        &rt,
+        "the run that is left",
+        beginning(&store, 3),
+        [1, 0, 0, 0, 0xFF, 0xFF, 0xFF, 0xFF],
+    );
     holds(&rt, "no more two units", store.take(2).is_none());
     let one = store.take(1);
     holds(&rt, "unit 3", base_of(&store, one) == Some(3));

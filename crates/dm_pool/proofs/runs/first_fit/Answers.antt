@@ -27,9 +27,10 @@ loop-at-smaller c =
 
 pub loop-at-preserved : goal.loop-at-preserved
 loop-at-preserved c =
-    let t = c.args.table.now in let p = c.loop-at.invariant.0 in let m = meets t.places t.units c.args.bytes.now c.loop-at.at p c.loop-at-test.true in
-    (goes_on t.places t.units c.args.bytes.now c.loop-at.at c.run_at-run.result.next p.rest c.run_at-run.ensures.1 m,
-    sym (fit_behind p.rest m.run m.behind c.args.wanted m.splits (omega (arith, c.if-wanted-run.false, c.run_at-run.ensures.0, m.size))) ∙ c.loop-at.invariant.1)
+    let t = c.args.table.now in let p = c.loop-at.invariant.0 in let m = meets t.places t.units c.args.bytes.now c.loop-at.at p c.loop-at-test.true in (
+      goes_on t.places t.units c.args.bytes.now c.loop-at.at c.run_at-run.result.next p.rest c.run_at-run.ensures.1 m,
+      sym (fit_behind p.rest m.run m.behind c.args.wanted m.splits (omega (arith, c.if-wanted-run.false, c.run_at-run.ensures.0, m.size))) ∙ c.loop-at.invariant.1,
+    )
 
 pub returns : goal.returns
 returns c =

@@ -7,9 +7,9 @@ returns-in-None c = record { first = sym (first_at c.args.places.now c.loop-i.i 
 
 pub loop-i-preserved : goal.loop-i-preserved
 loop-i-preserved c = λ j lt. let i = c.loop-i.i in elim (below_or_not j i) [
-    | inl h ↦ c.loop-i.invariant j h
-    | inr h ↦ let same : j ≡ i = omega (arith, lt, h) in (c.in-Some.field-0, ap (λ k. get_or c.args.places.now k None) same ∙ c.in-Some.is)
-  ]
+  | inl h ↦ c.loop-i.invariant j h
+  | inr h ↦ let same : j ≡ i = omega (arith, lt, h) in (c.in-Some.field-0, ap (λ k. get_or c.args.places.now k None) same ∙ c.in-Some.is)
+]
 
 pub returns : goal.returns
 returns c = record { first = sym (first_none c.args.places.now (λ j lt. c.loop-i.invariant j (omega (arith, lt, c.loop-i-test.false)))); vacant = tt }

@@ -14,7 +14,7 @@ pub returns-then-place-gt0 : goal.returns-then-place-gt0
 returns-then-place-gt0 c =
     let ps = c.args.places.now in let few = c.requires.count in let r = c.rank-position.ensures in let o = c.deref.result.now in let k = c.args.slot in let at = c.rank-position.result in
     let come = order_come ps o k at c.args.place (subst (IsOrder ps) (sym c.deref.ensures.0) c.requires.order) (omega (arith, few, c.requires.vacant.0)) few c.requires.vacant.1
-        (λ i d e. clear_apart ps c.args.place.base c.args.place.units c.requires.free i d e) r.within r.below r.above c.if-place-gt0.true in
+    (λ i d e. clear_apart ps c.args.place.base c.args.place.units c.requires.free i d e) r.within r.below r.above c.if-place-gt0.true in
     subst (IsOrder _) (ap (λ l. insert l at k) c.deref.ensures.0 ∙ sym c.insert.ensures.items) come
 
 pub returns-else-place-gt0 : goal.returns-else-place-gt0

@@ -17,14 +17,18 @@ invariant_of-self-lent c = λ w. block_store c.self.inside.region c.self.inside.
 
 pub returns : goal.returns
 returns c =
-    let xs = c.self.inside.region in let t = c.self.inside.table in let b = c.place_of-place.result in
-    ((refl, λ w.
-        block_stored xs t c.args.block b w c.self.invariant c.recall.ensures.laid c.place_of-place.ensures.place
-        ∙ ap (λ (s : Stored). record s { blocks = with_content s.blocks c.args.block (refit (get_or s.blocks.contents c.args.block []) w) }) c.self.view_is),
-    record {
-      writes_back = tt;
-      value = c.part_mut.ensures.value
-      ∙ sym (part_in xs 0x310000 (t.units * 1024) (b.base * 1024) (b.units * 1024) (omega (arith, c.place_of-place.ensures.within)))
-      ∙ sym (content_of t.places c.args.block b (pool_part xs t.units) c.place_of-place.ensures.place)
-      ∙ ap (λ (s : Stored). get_or s.blocks.contents c.args.block []) c.self.view_is;
-    })
+    let xs = c.self.inside.region in let t = c.self.inside.table in let b = c.place_of-place.result in (
+      (
+        refl,
+        λ w.
+            block_stored xs t c.args.block b w c.self.invariant c.recall.ensures.laid c.place_of-place.ensures.place
+            ∙ ap (λ (s : Stored). record s { blocks = with_content s.blocks c.args.block (refit (get_or s.blocks.contents c.args.block []) w) }) c.self.view_is,
+      ),
+      record {
+        writes_back = tt;
+        value = c.part_mut.ensures.value
+            ∙ sym (part_in xs 0x310000 (t.units * 1024) (b.base * 1024) (b.units * 1024) (omega (arith, c.place_of-place.ensures.within)))
+            ∙ sym (content_of t.places c.args.block b (pool_part xs t.units) c.place_of-place.ensures.place)
+            ∙ ap (λ (s : Stored). get_or s.blocks.contents c.args.block []) c.self.view_is;
+      },
+    )

@@ -19,7 +19,6 @@ give-requires-clause-live c =
     let same = sym c.slot.ensures.value in
     (c.slot.ensures.small, (c.requires.1.0, ap (λ (v : Stored). get_or v.blocks.places c.slot.result None) c.self.view_is ∙ ap (λ i. get_or c.args.self.now.blocks.places i None) c.slot.ensures.value ∙ c.requires.1.1))
 
-
 pub invariant_of-self : goal.invariant_of-self
 invariant_of-self c =
     let s = c.self.inside in let len = pool_fits s.region c.pool_len-len.result s.table c.pool_len-len.ensures c.self.invariant in

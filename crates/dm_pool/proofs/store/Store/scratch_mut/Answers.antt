@@ -15,8 +15,12 @@ invariant_of-self-lent c = λ w.
 
 pub returns : goal.returns
 returns c =
-    let xs = c.self.inside.region in let t = c.self.inside.table in let fits : 0x110000 + 0x200000 ≤ length xs = omega (arith, c.self.invariant.whole) in
-    ((refl, λ w.
-        same_stored _ _ _ _ _ _ (lent_elsewhere xs w 0x110000 0x200000 fits 0 0x110000 (inl (omega arith))) (lent_refit xs w 0x110000 0x200000 fits) (ap (blocks_in t) (lent_elsewhere xs w 0x110000 0x200000 fits 0x310000 (t.units * 1024) (inr (omega arith))))
-        ∙ ap (λ (s : Stored). record s { scratch = refit s.scratch w }) c.self.view_is),
-    record { writes_back = tt; value = c.part_mut.ensures.value ∙ ap (λ (s : Stored). s.scratch) c.self.view_is; length = ap length c.part_mut.ensures.value ∙ part_length xs 0x110000 0x200000 fits })
+    let xs = c.self.inside.region in let t = c.self.inside.table in let fits : 0x110000 + 0x200000 ≤ length xs = omega (arith, c.self.invariant.whole) in (
+      (
+        refl,
+        λ w.
+            same_stored _ _ _ _ _ _ (lent_elsewhere xs w 0x110000 0x200000 fits 0 0x110000 (inl (omega arith))) (lent_refit xs w 0x110000 0x200000 fits) (ap (blocks_in t) (lent_elsewhere xs w 0x110000 0x200000 fits 0x310000 (t.units * 1024) (inr (omega arith))))
+            ∙ ap (λ (s : Stored). record s { scratch = refit s.scratch w }) c.self.view_is,
+      ),
+      record { writes_back = tt; value = c.part_mut.ensures.value ∙ ap (λ (s : Stored). s.scratch) c.self.view_is; length = ap length c.part_mut.ensures.value ∙ part_length xs 0x110000 0x200000 fits },
+    )

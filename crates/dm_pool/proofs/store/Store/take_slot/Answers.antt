@@ -12,7 +12,6 @@ part_mut-requires c = pool_fits c.self.inside.region c.pool_len-len.result c.sel
 pub take-requires : goal.take-requires
 take-requires c = pool_told c.self.inside.region c.part_mut.result.now c.pool_len-len.result c.self.inside.table c.pool_len-len.ensures c.part_mut.ensures.value c.self.invariant
 
-
 pub invariant_of-self : goal.invariant_of-self
 invariant_of-self c =
     let s = c.self.inside in let len = pool_fits s.region c.pool_len-len.result s.table c.pool_len-len.ensures c.self.invariant in
