@@ -1,0 +1,36 @@
+//! Operands as they are written, where labels have no place yet.
+
+use crate::token::Name;
+use dm_ins::{Base, ByteRegister, SegmentRegister, WordRegister};
+use dm_read::Size;
+
+/// A number as it is written, with its sign: from -8000h to FFFFh.
+#[derive(Clone, Copy, Debug, PartialEq, Eq)]
+pub enum Amount {
+    Plus(u16),
+    /// With `-` before it: at most 8000h.
+    Minus(u16),
+}
+
+/// A number, or a label and what is added to it.
+#[derive(Clone, Copy, Debug, PartialEq, Eq)]
+pub struct Value {
+    pub label: Option<Name>,
+    pub amount: Amount,
+}
+
+/// An operand as it is written, where labels have no place yet.
+#[derive(Clone, Copy, Debug, PartialEq, Eq)]
+pub enum Term {
+    /// None stands there.
+    Nothing,
+    ByteRegister(ByteRegister),
+    WordRegister(WordRegister),
+    SegmentRegister(SegmentRegister),
+    /// A memory operand with the word before it: registers and what is added to them, or an address alone.
+    Memory(Size, Base, Value),
+    /// A number, or a target.
+    Number(Value),
+    /// A segment and an offset.
+    Far(u16, u16),
+}
