@@ -1,3 +1,4 @@
 pub mod Words
 pub mod Tokens
 pub mod Operands
+pub mod Statements

@@ -2,10 +2,15 @@
 #![tactic(auto)]
 
 mod lexing;
+mod lists;
 mod operands;
+mod statement;
+mod statements;
 mod term;
 mod token;
 mod words;
 
+pub use statement::{Bytes, Instruction, Item, Statement, Words};
+pub use statements::read_line;
 pub use term::{Amount, Term, Value};
-pub use token::{Name, Token};
+pub use token::Name;

@@ -12,8 +12,15 @@ pub enum Amount {
     Minus(u16),
 }
 
+impl Default for Amount {
+    /// Zero.
+    fn default() -> Self {
+        Amount::Plus(0)
+    }
+}
+
 /// A number, or a label and what is added to it.
-#[derive(Clone, Copy, Debug, PartialEq, Eq)]
+#[derive(Clone, Copy, Debug, Default, PartialEq, Eq)]
 pub struct Value {
     pub label: Option<Name>,
     pub amount: Amount,
