@@ -2,3 +2,4 @@ pub mod Words
 pub mod Tokens
 pub mod Operands
 pub mod Statements
+pub mod Placing

@@ -4,12 +4,14 @@
 mod lexing;
 mod lists;
 mod operands;
+mod placing;
 mod statement;
 mod statements;
 mod term;
 mod token;
 mod words;
 
+pub use placing::{byte, outline, word_at, written};
 pub use statement::{Bytes, Instruction, Item, Statement, Words};
 pub use statements::read_line;
 pub use term::{Amount, Term, Value};
