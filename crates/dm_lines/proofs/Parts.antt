@@ -1,10 +1,9 @@
 -- Where brackets and commas stand among tokens.
-use Rattle.std.proofs.Common.{◌≡◌, ℕ, zero, suc, ◌<◌, ◌+◌, ◌-◌, Bool, true, false, List, [], ◌∷◌, ◌++◌, Option, Some, None, take, drop, refl, ap, sym, ◌∙◌, get_or, length, arith, add-one}
+use Rattle.std.proofs.Common.{◌≡◌, ℕ, zero, suc, ◌<◌, ◌+◌, ◌-◌, Bool, true, false, List, [], ◌∷◌, ◌++◌, Some, None, take, drop, refl, ap, sym, ◌∙◌, get_or, length, arith, add-one}
 use Rattle.std.specs.Prelude.{if◌then◌else◌}
 use Rattle.std.proofs.Math.Seq.{drop-cons, take-suc, take-length, drop-length}
 use Rattle.std.proofs.lemmas.List.{take_rest}
 use Rattle.dm_lines.specs.declared.token.Token.{Token}
-use Rattle.dm_lines.specs.declared.token.Token.TheVariants as t
 use Rattle.dm_lines.specs.Operands.{onto, is_close, inside, begin, is_comma, parts, term_pair, terms_of}
 
 -- ---- the bracket at the end

@@ -1,7 +1,7 @@
 -- What is written where an operand stands: with the place of its label, and before any label has a place.
 -- Source: Intel 8086 Family User's Manual, section 2.9 (labels and numbers of ASM-86); which operands a label may be is this
 -- machine's own (docs/DECISIONS.md).
-use Rattle.std.specs.Prelude.{◌≡◌, ℕ, ◌+◌, ◌-◌, ◌%◌, Bool, true, false, ◌==◌, Option, Some, None, nat_lt, nat_le, if◌then◌else◌}
+use Rattle.std.specs.Prelude.{ℕ, ◌+◌, ◌-◌, ◌%◌, Bool, true, false, ◌==◌, Option, Some, None, nat_lt, nat_le, if◌then◌else◌}
 use Rattle.dm_ins.specs.declared.action.Mnemonic.{Mnemonic}
 use Rattle.dm_ins.specs.declared.action.Mnemonic.TheVariants.{Mov}
 use Rattle.dm_ins.specs.Walks.{◌>>=◌}

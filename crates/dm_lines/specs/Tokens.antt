@@ -1,7 +1,7 @@
 -- The tokens of a line: words, numbers, signs and quoted text.
 -- Source: Intel 8086 Family User's Manual, section 2.9 (statements, names and constants of ASM-86); the bounds of names and
 -- numbers are this machine's own.
-use Rattle.std.specs.Prelude.{◌≡◌, ℕ, ◌+◌, ◌-◌, ◌*◌, Bool, true, false, not, ◌&&◌, ◌||◌, ◌==◌, List, [], ◌∷◌, ◌++◌, length, Option, Some, None, nat_le, if◌then◌else◌, replicate, take, drop, slice_index}
+use Rattle.std.specs.Prelude.{ℕ, ◌+◌, ◌-◌, ◌*◌, Bool, true, false, not, ◌&&◌, ◌||◌, ◌==◌, List, [], ◌∷◌, ◌++◌, length, Option, Some, None, nat_le, if◌then◌else◌, replicate, take, drop, slice_index}
 use Rattle.dm_ins.specs.Walks.{◌>>=◌}
 use Rattle.dm_lines.specs.Words.{reserved}
 use Rattle.dm_lines.specs.declared.token.Name as Name'

@@ -88,10 +88,30 @@ fn base(tokens: &[Token]) -> Option<(Base, &[Token])>
     ensures { seen result ≡ base_at tokens.now }
 {
     match tokens {
-        [Token::Word(WordRegister::Bx), Token::Plus, Token::Word(WordRegister::Si), rest @ ..] => Some((Base::BxSi, rest)),
-        [Token::Word(WordRegister::Bx), Token::Plus, Token::Word(WordRegister::Di), rest @ ..] => Some((Base::BxDi, rest)),
-        [Token::Word(WordRegister::Bp), Token::Plus, Token::Word(WordRegister::Si), rest @ ..] => Some((Base::BpSi, rest)),
-        [Token::Word(WordRegister::Bp), Token::Plus, Token::Word(WordRegister::Di), rest @ ..] => Some((Base::BpDi, rest)),
+        [
+            Token::Word(WordRegister::Bx),
+            Token::Plus,
+            Token::Word(WordRegister::Si),
+            rest @ ..,
+        ] => Some((Base::BxSi, rest)),
+        [
+            Token::Word(WordRegister::Bx),
+            Token::Plus,
+            Token::Word(WordRegister::Di),
+            rest @ ..,
+        ] => Some((Base::BxDi, rest)),
+        [
+            Token::Word(WordRegister::Bp),
+            Token::Plus,
+            Token::Word(WordRegister::Si),
+            rest @ ..,
+        ] => Some((Base::BpSi, rest)),
+        [
+            Token::Word(WordRegister::Bp),
+            Token::Plus,
+            Token::Word(WordRegister::Di),
+            rest @ ..,
+        ] => Some((Base::BpDi, rest)),
         [Token::Word(WordRegister::Si), rest @ ..] => Some((Base::OnSi, rest)),
         [Token::Word(WordRegister::Di), rest @ ..] => Some((Base::OnDi, rest)),
         [Token::Word(WordRegister::Bp), rest @ ..] => Some((Base::OnBp, rest)),
@@ -107,7 +127,13 @@ fn address(tokens: &[Token]) -> Option<(Base, Value)>
     match base(tokens) {
         Some((base, rest)) => {
             let amount = added(rest)?;
-            Some((base, Value { label: None, amount }))
+            Some((
+                base,
+                Value {
+                    label: None,
+                    amount,
+                },
+            ))
         }
         None => Some((Base::Direct, value(tokens)?)),
     }

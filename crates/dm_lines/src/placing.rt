@@ -16,19 +16,9 @@ fn moved_by(amount: Amount, place: u16) -> Option<u16>
     match amount {
         Amount::Plus(n) => {
             let sum = place as u32 + n as u32;
-            if sum < 65536 {
-                Some(sum as u16)
-            } else {
-                None
-            }
+            if sum < 65536 { Some(sum as u16) } else { None }
         }
-        Amount::Minus(n) => {
-            if n <= place {
-                Some(place - n)
-            } else {
-                None
-            }
-        }
+        Amount::Minus(n) => { if n <= place { Some(place - n) } else { None } }
     }
 }
 
@@ -47,11 +37,7 @@ pub fn word_at(value: Value, place: u16) -> Option<u16>
 fn low_byte(n: u16) -> Option<u8>
     ensures { result ≡ low_byte_of n }
 {
-    if n < 256 {
-        Some(n as u8)
-    } else {
-        None
-    }
+    if n < 256 { Some(n as u8) } else { None }
 }
 
 /// The byte that a number is, from -80h to FFh.
@@ -154,7 +140,13 @@ pub fn written(mnemonic: Mnemonic, term: &Term, place: u16, next: u16) -> Option
         Term::SegmentRegister(register) => Some(Written::SegmentRegister(*register)),
         Term::Memory(size, base, value) => {
             let displacement = word_at(*value, place)?;
-            Some(Written::Memory(*size, Address { base: *base, displacement }))
+            Some(Written::Memory(
+                *size,
+                Address {
+                    base: *base,
+                    displacement,
+                },
+            ))
         }
         Term::Number(value) => {
             let numeral = numeral(mnemonic, *value, place, next)?;

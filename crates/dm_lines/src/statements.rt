@@ -105,9 +105,19 @@ fn with_operands(prefixes: Prefixes, mnemonic: Mnemonic, first: Term, second: Te
     ensures { result ≡ with_terms prefixes mnemonic first second }
 {
     if may_exchange(mnemonic) && lies_in_memory(&second) {
-        Instruction { prefixes, mnemonic, first: second, second: first }
+        Instruction {
+            prefixes,
+            mnemonic,
+            first: second,
+            second: first,
+        }
     } else {
-        Instruction { prefixes, mnemonic, first, second }
+        Instruction {
+            prefixes,
+            mnemonic,
+            first,
+            second,
+        }
     }
 }
 
@@ -162,8 +172,14 @@ fn read_statement(tokens: &[Token]) -> Option<Statement>
     ensures { option_map seen_statement result ≡ statement_of tokens.now }
 {
     match tokens {
-        [Token::Name(label), Token::Colon, rest @ ..] => Some(Statement { label: Some(*label), item: read_item(rest)? }),
-        _ => Some(Statement { label: None, item: read_item(tokens)? }),
+        [Token::Name(label), Token::Colon, rest @ ..] => Some(Statement {
+            label: Some(*label),
+            item: read_item(rest)?,
+        }),
+        _ => Some(Statement {
+            label: None,
+            item: read_item(tokens)?,
+        }),
     }
 }
 

@@ -423,8 +423,16 @@ fn lines_have_255_bytes(rt: HostRuntime) -> Result<(), Fail> {
 #[test]
 fn comments_and_texts_hold_any_byte(rt: HostRuntime) -> Result<(), Fail> {
     check_line(&rt, rt.alloc(), "a comment", b"RET;\x00\x0D\xFF'", "RET")?;
-    check_line(&rt, rt.alloc(), "a text", b"DB '\x00\x0D\xFF'", "DB 0 13 255")?;
-    for bad in [b"RET\x00", b"RET\x0D", b"RET\xFF", b"RET(", b"RET\"", b"RET.", b"RET!"] {
+    check_line(
+        &rt,
+        rt.alloc(),
+        "a text",
+        b"DB '\x00\x0D\xFF'",
+        "DB 0 13 255",
+    )?;
+    for bad in [
+        b"RET\x00", b"RET\x0D", b"RET\xFF", b"RET(", b"RET\"", b"RET.", b"RET!",
+    ] {
         check_line(&rt, rt.alloc(), "a byte that is no sign", bad, "none")?;
     }
     Ok(())

@@ -39,7 +39,12 @@ RET| 0 0| ,|";
 
 /// A number of a part of a row.
 fn number(part: &str, place: usize) -> Result<u16, Fail> {
-    Ok(part.split_whitespace().nth(place).ok_or("a number is missing")?.parse::<u16>()?)
+    Ok(
+        part.split_whitespace()
+            .nth(place)
+            .ok_or("a number is missing")?
+            .parse::<u16>()?,
+    )
 }
 
 /// The instruction of a line.
@@ -56,9 +61,15 @@ fn check_row(rt: &impl Abort, alloc: Global, row: &str) -> Result<(), Fail> {
     let place = number(places, 0)?;
     let next = number(places, 1)?;
     let mut text = String::new(alloc);
-    put_written(&mut text, written(words.mnemonic, &words.first, place, next))?;
+    put_written(
+        &mut text,
+        written(words.mnemonic, &words.first, place, next),
+    )?;
     text.push(',')?;
-    put_written(&mut text, written(words.mnemonic, &words.second, place, next))?;
+    put_written(
+        &mut text,
+        written(words.mnemonic, &words.second, place, next),
+    )?;
     same(rt, row, text.as_str().trim(), part(row, 2)?.trim());
     let mut alone = String::new(alloc);
     put_written(&mut alone, Some(outline(words.mnemonic, &words.second)))?;

@@ -129,7 +129,13 @@ pub(crate) fn shown(alloc: Global, statement: &Option<Statement>) -> Result<Stri
 }
 
 /// Tries a line.
-pub(crate) fn check_line(rt: &impl Abort, alloc: Global, what: &str, line: &[u8], wanted: &str) -> Result<(), Fail> {
+pub(crate) fn check_line(
+    rt: &impl Abort,
+    alloc: Global,
+    what: &str,
+    line: &[u8],
+    wanted: &str,
+) -> Result<(), Fail> {
     let found = shown(alloc, &read_line(line))?;
     same(rt, what, found.as_str(), wanted);
     Ok(())
@@ -138,7 +144,13 @@ pub(crate) fn check_line(rt: &impl Abort, alloc: Global, what: &str, line: &[u8]
 /// Tries each row of a text.
 pub(crate) fn check(rt: &impl Abort, alloc: Global, rows: &str) -> Result<(), Fail> {
     for row in rows.lines() {
-        check_line(rt, alloc, row, part(row, 0)?.as_bytes(), part(row, 1)?.trim())?;
+        check_line(
+            rt,
+            alloc,
+            row,
+            part(row, 0)?.as_bytes(),
+            part(row, 1)?.trim(),
+        )?;
     }
     Ok(())
 }

@@ -6,5 +6,5 @@ use Rattle.dm_lines.proofs.lexing.line_tokens.Given as goal
 abbrev pub invariant-loop-byte : goal.invariant-loop-byte
 invariant-loop-byte l = record {
   room : array_vec_len l.tokens + array_vec_len l.word ≤ l.byte-index;
-  same : with_front l.tokens.items (lexed l.quoted l.word.items (drop l.byte-index l.line)) ≡ lexed false [] l.line
+  same : with_front l.tokens.items (lexed l.quoted l.word.items (drop l.byte-index l.line)) ≡ lexed false [] l.line;
 }

@@ -7,7 +7,7 @@ use Rattle.dm_lines.proofs.lists.bytes.Given as goal
 abbrev pub invariant-loop-found : goal.invariant-loop-found
 invariant-loop-found l = record {
   room : array_vec_len l.found + length l.rest ≤ 255;
-  same : joined_to l.found.items (bytes_of (parts l.rest)) ≡ bytes_of (parts l.tokens)
+  same : joined_to l.found.items (bytes_of (parts l.rest)) ≡ bytes_of (parts l.tokens);
 }
 
 abbrev pub decreases-loop-found : goal.decreases-loop-found

@@ -1,4 +1,4 @@
-use Rattle.std.proofs.Common.{rules, arith}
+use Rattle.std.proofs.Common.{rules}
 use Rattle.dm_lines.proofs.Parts.{inside_closed, inside_open}
 use Rattle.dm_lines.proofs.operands.before_bracket.Goals as goal
 

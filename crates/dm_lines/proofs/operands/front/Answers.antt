@@ -1,4 +1,4 @@
-use Rattle.std.proofs.Common.{rules, arith, sym, ◌∙◌}
+use Rattle.std.proofs.Common.{arith, sym, ◌∙◌}
 use Rattle.dm_lines.proofs.Parts.{comma_found, comma_later, no_comma}
 use Rattle.dm_lines.proofs.operands.front.Goals as goal
 

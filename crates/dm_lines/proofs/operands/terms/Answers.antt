@@ -1,5 +1,4 @@
-use Rattle.std.proofs.Common.{rules, ◌≡◌, ◌∷◌}
-use Rattle.dm_lines.specs.Operands.{parts}
+use Rattle.std.proofs.Common.{rules}
 use Rattle.dm_lines.proofs.Parts.{too_many}
 use Rattle.dm_lines.proofs.operands.terms.Goals as goal
 
