@@ -1,4 +1,4 @@
-mod TableRules
+pub mod TableRules
 pub mod Walks
 mod Demands
 mod Least
