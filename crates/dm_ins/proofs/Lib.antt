@@ -6,4 +6,4 @@ mod Order
 mod KeptPrefixes
 mod Sound
 mod Rows
-mod Shortest
+pub mod Shortest

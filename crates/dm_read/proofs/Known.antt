@@ -1,4 +1,4 @@
--- What is known of the values of an instruction of the table: they fit what the rows of its mnemonic have room for.
+-- What is known of the values of an instruction of the table beyond their types, by the rows of its mnemonic.
 use Rattle.std.proofs.Common.{◌≡◌, ℕ, ◌+◌, ◌*◌, ◌%◌, ◌<◌, ◌^◌, Bool, true, false, ◌&&◌, List, Option, Some, None, refl, sym, subst, arith, inl, inr}
 use Rattle.std.specs.Prelude.{nat_lt, if◌then◌else◌, IfSome}
 use Rattle.std.proofs.lemmas.Bool.{cases_lt, lt-ltb, le-ltb}
@@ -17,7 +17,9 @@ use Rattle.dm_ins.specs.declared.table.Row.{Row}
 use Rattle.dm_ins.specs.declared.table.Entry.{Entry}
 use Rattle.dm_ins.specs.Table.{entry_of, entries, groups}
 use Rattle.dm_ins.specs.Spelling.{extended, direct, register, at_place, Fills, SpellsAction}
+use Rattle.dm_ins.specs.Search.{OperandFits}
 use Rattle.dm_ins.proofs.TableRules.{both_true}
+use Rattle.dm_ins.proofs.Shortest.{action_fits}
 use Rattle.dm_read.specs.Shapes.{is_move}
 use Rattle.dm_read.proofs.Rows.{if_row, entry_all, rows_all, of_row, register_fits}
 
@@ -60,22 +62,14 @@ all_suit = refl
 
 -- ---- what is known of a value
 
-unfoldable pub TargetIs : Bool → ℕ → Type 0
-TargetIs true d = d < 2 ^ 16
-TargetIs false d = (j : ℕ) × (j < 2 ^ 8) × (d ≡ extended j)
-
-unfoldable pub ByteIs : Bool → ℕ → Type 0
-ByteIs true n = n < 64
-ByteIs false n = n < 2 ^ 8
-
+-- a target of one byte is one extended by sign; ESC's number is one of 64
 unfoldable pub Known : Mnemonic → Operand → Type 0
-Known m (operand.Target d) = TargetIs (is_near m) d
-Known m (operand.ByteValue n) = ByteIs (is_escape m) n
-Known m (operand.WordValue n) = n < 2 ^ 16
+Known m (operand.Target d) = is_near m ≡ false → (j : ℕ) × (j < 2 ^ 8) × (d ≡ extended j)
+Known m (operand.ByteValue n) = is_escape m ≡ true → n < 64
 Known m _ = Unit {0}
 
-extended_fits : (n : ℕ) → n < 2 ^ 8 → extended n < 2 ^ 16
-extended_fits n h = elim (cases_lt n 128) [ inl lt ↦ rw (lt-ltb n 128 lt) (omega arith) | inr le ↦ rw (le-ltb n 128 le) (omega arith) ]
+never : {P : Type 0} (b : Bool) → b ≡ true → b ≡ false → P
+never b e f = absurd cc
 
 register_known : (m : Mnemonic) (v : Width) (n : ℕ) → Known m (register v n)
 unfolding Known
@@ -88,55 +82,40 @@ place_known m v n None = register_known m v n
 place_known m v n (Some a) = tt
 
 known : (m : Mnemonic) (k : Kind) (f : Fields) (o : Operand) (d : List ℕ) → f.register < 8 → suits m k ≡ true → Fills k f o d → Known m o
-unfolding Known suits ByteIs TargetIs
-known m is.Nothing f o d lt s h = subst (Known m) (sym h.0) tt
-known m (is.Place v) f o d lt s h = subst (Known m) (sym h.0) (place_known m v f.rm f.memory)
-known m (is.Register v) f o d lt s h = subst (Known m) (sym h.0) (register_known m v f.register)
-known m is.Memory f o d lt s h = subst (Known m) (sym h.2) tt
-known m is.ByteValue f o d lt s h = subst (Known m) (sym h.2) (subst (λ (b : Bool). ByteIs b h.0) (sym (is_opposite (is_escape m) s)) h.1)
-known m is.WordValue f o d lt s h = subst (Known m) (sym h.2) h.1
-known m is.SignedValue f o d lt s h = subst (Known m) (sym h.2) (extended_fits h.0 h.1)
-known m is.Short f o d lt s h = subst (Known m) (sym h.2) (subst (λ (b : Bool). TargetIs b (extended h.0)) (sym (is_opposite (is_near m) s)) (h.0, h.1, refl))
-known m is.Near f o d lt s h = subst (Known m) (sym h.2) (subst (λ (b : Bool). TargetIs b h.0) (sym s) h.1)
-known m (is.Direct v) f o d lt s h = subst (Known m) (sym h.2) tt
-known m is.Far f o d lt s h = subst (Known m) (sym h.4) tt
-known m (is.Escape r) f o d lt s h = subst (Known m) (sym h.0) (subst (λ (b : Bool). ByteIs b (8 * (r % 8) + f.register)) (sym s) (let e : 8 * (r % 8) + f.register < 64 = omega arith in e))
-known m (is.Byte r) f o d lt s h = subst (Known m) (sym h.0) tt
-known m (is.Word r) f o d lt s h = subst (Known m) (sym h.0) tt
-known m (is.TheSegment r) f o d lt s h = subst (Known m) (sym h.0) tt
-known m is.One f o d lt s h = subst (Known m) (sym h.0) tt
+unfolding Known suits
+known m is.Nothing f o d lt s h = rw h.0 tt
+known m (is.Place v) f o d lt s h = rw h.0 (place_known m v f.rm f.memory)
+known m (is.Register v) f o d lt s h = rw h.0 (register_known m v f.register)
+known m is.Memory f o d lt s h = rw h.2 tt
+known m is.ByteValue f o d lt s h = rw h.2 (λ e. never (is_escape m) e (is_opposite (is_escape m) s))
+known m is.WordValue f o d lt s h = rw h.2 tt
+known m is.SignedValue f o d lt s h = rw h.2 tt
+known m is.Short f o d lt s h = rw h.2 (λ e. (h.0, h.1, refl))
+known m is.Near f o d lt s h = rw h.2 (λ e. never (is_near m) s e)
+known m (is.Direct v) f o d lt s h = rw h.2 tt
+known m is.Far f o d lt s h = rw h.4 tt
+known m (is.Escape r) f o d lt s h = rw h.0 (λ e. omega arith)
+known m (is.Byte r) f o d lt s h = rw h.0 tt
+known m (is.Word r) f o d lt s h = rw h.0 tt
+known m (is.TheSegment r) f o d lt s h = rw h.0 tt
+known m is.One f o d lt s h = rw h.0 tt
 
+-- an instruction whose values are known, and fit their types
 pub record KnownAction (a : Action) : Type 0 where
   pub first : Known a.mnemonic a.first
   pub second : Known a.mnemonic a.second
+  pub first_fits : OperandFits a.first
+  pub second_fits : OperandFits a.second
 
 pub known_action : (a : Action) (x : List ℕ) → SpellsAction a x → KnownAction a
 unfolding row_suits
 known_action a x s =
     let suit = both_true _ _ (of_row row_suits s.first_byte s.fields s.behind s.row all_suit s.has_row) in
     let lt = register_fits (entry_of s.first_byte) s.fields s.behind s.row s.has_row in
+    let fit = action_fits a x s in
     record {
       first = subst (λ (m : Mnemonic). Known m a.first) (sym s.mnemonic) (known s.row.mnemonic s.row.first s.fields a.first s.first_part lt suit.0 s.first);
       second = subst (λ (m : Mnemonic). Known m a.second) (sym s.mnemonic) (known s.row.mnemonic s.row.second s.fields a.second s.second_part lt suit.1 s.second);
+      first_fits = fit.0;
+      second_fits = fit.1;
     }
-
--- ---- as far as its own words need it
-
-unfoldable pub Fits : Operand → Type 0
-Fits (operand.Target d) = d < 2 ^ 16
-Fits (operand.ByteValue n) = n < 2 ^ 8
-Fits _ = Unit {0}
-
-pub fits_known : (m : Mnemonic) (o : Operand) → Known m o → Fits o
-unfolding Known Fits TargetIs ByteIs
-fits_known m (operand.Target d) k = by (is_near m) k
-  where
-    by : (b : Bool) → TargetIs b d → d < 2 ^ 16
-    by true t = t
-    by false t = rw t.2 (extended_fits t.0 t.1)
-fits_known m (operand.ByteValue n) k = by (is_escape m) k
-  where
-    by : (b : Bool) → ByteIs b n → n < 2 ^ 8
-    by true t = omega arith
-    by false t = t
-fits_known m _ k = tt

@@ -4,3 +4,7 @@ mod One
 mod Known
 mod Own
 pub mod Sizes
+mod Alike
+mod Places
+mod Lengths
+mod StandIns

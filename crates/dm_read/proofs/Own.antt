@@ -11,7 +11,8 @@ use Rattle.dm_ins.specs.Spelling.{SpellsAction}
 use Rattle.dm_read.specs.Words.{IsWritten, AreWords, word_before, word_written}
 use Rattle.dm_read.specs.Own.{written_of, words_of}
 use Rattle.dm_read.specs.Laws.{OwnWordsAreRead}
-use Rattle.dm_read.proofs.Known.{Fits, fits_known, KnownAction, known_action}
+use Rattle.dm_ins.specs.Search.{OperandFits}
+use Rattle.dm_ins.proofs.Shortest.{action_fits}
 
 back : (next d : ℕ) → next < 65536 → d < 65536 → ((next + d) % 65536 + 65536 - next) % 65536 ≡ d
 back next d p q = omega arith
@@ -19,8 +20,7 @@ back next d p q = omega arith
 own_byte : (n : ℕ) → n < 256 → IsSomeAnd (if nat_lt n 256 then Some n else None) (λ b. operand.ByteValue n ≡ operand.ByteValue b)
 own_byte n lt = rw (lt-ltb n 256 lt) refl
 
-own_written : (a : Action) (next : ℕ) (o : Operand) → next < 2 ^ 16 → Fits o → IsWritten (written_of a next o) o
-unfolding Fits
+own_written : (a : Action) (next : ℕ) (o : Operand) → next < 2 ^ 16 → OperandFits o → IsWritten (written_of a next o) o
 own_written a next operand.Nothing p f = refl
 own_written a next (operand.ByteRegister r) p f = refl
 own_written a next (operand.WordRegister r) p f = refl
@@ -48,11 +48,11 @@ own_word a next (operand.FarTarget n s) = refl
 pub own_words_are_read : OwnWordsAreRead
 unfolding words_of
 own_words_are_read a next x lt s =
-    let k = known_action a x s in
+    let f = action_fits a x s in
     record {
       mnemonic = refl;
-      first = own_written a next a.first lt (fits_known a.mnemonic a.first k.first);
-      second = own_written a next a.second lt (fits_known a.mnemonic a.second k.second);
+      first = own_written a next a.first lt f.0;
+      second = own_written a next a.second lt f.1;
       first_word = own_word a next a.first;
       second_word = own_word a next a.second;
     }
