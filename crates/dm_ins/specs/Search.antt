@@ -157,6 +157,11 @@ choice_at (Group g) b r = do
   Some (record { opcode = b; row = p; register = Some r; second = None })
 choice_at (Second c p) b r = if r == 0 then Some (record { opcode = b; row = p; register = None; second = Some c }) else None
 
+-- whether the reg field chooses among the rows of an entry
+abbrev pub has_group : Entry → Bool
+has_group (Group g) = true
+has_group _ = false
+
 abbrev pub PlaceFits : Place → Type 0
 PlaceFits (place.Register n) = n < 8
 PlaceFits (place.Memory a) = Unit {0}

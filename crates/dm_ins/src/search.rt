@@ -3,7 +3,7 @@
 ghost use Rattle.std.specs.Prelude.{◌≡◌, ◌+◌, ◌*◌, ◌<◌, ◌↔◌, IsTrue, IfSome, IfNone, List, ℕ};
 ghost use Rattle.dm_ins.specs.Table.{entry_of};
 ghost use Rattle.dm_ins.specs.Order.{before};
-ghost use Rattle.dm_ins.specs.Search.{Best, CandidateAt, better_of, choice_at, seen_bytes};
+ghost use Rattle.dm_ins.specs.Search.{Best, CandidateAt, better_of, choice_at, has_group, seen_bytes};
 
 use crate::action::{Action, Mnemonic};
 use crate::fill::{Choice, RowBytes, fill};
@@ -104,8 +104,16 @@ fn better(best: Option<RowBytes>, new: Option<RowBytes>) -> Option<RowBytes>
     }
 }
 
-/// The least of the best bytes so far and those of the rows under one more first byte.
-fn better_under(opcode: u8, action: &Action, best: Option<RowBytes>) -> Option<RowBytes>
+/// Whether the reg field chooses among the rows under the first byte.
+fn has_members(opcode: u8) -> bool
+    ensures { result ≡ has_group (entry_of opcode) }
+{
+    matches!(entry_at(opcode), Entry::Group(_))
+}
+
+/// The least of the best bytes so far and those of the rows under one more first byte, for each reg
+/// field.
+fn better_in_group(opcode: u8, action: &Action, best: Option<RowBytes>) -> Option<RowBytes>
     requires { Best (8 * opcode) action.now (seen_bytes best) }
     ensures { Best (8 * opcode + 8) action.now (seen_bytes result) }
 {
@@ -114,6 +122,19 @@ fn better_under(opcode: u8, action: &Action, best: Option<RowBytes>) -> Option<R
         best = better(best, candidate(opcode, register, action));
     }
     best
+}
+
+/// The least of the best bytes so far and those of the rows under one more first byte.
+fn better_under(opcode: u8, action: &Action, best: Option<RowBytes>) -> Option<RowBytes>
+    requires { Best (8 * opcode) action.now (seen_bytes best) }
+    ensures { Best (8 * opcode + 8) action.now (seen_bytes result) }
+{
+    if has_members(opcode) {
+        better_in_group(opcode, action, best)
+    } else {
+        // There is one row at most, which stands under the reg field 0.
+        better(best, candidate(opcode, 0, action))
+    }
 }
 
 /// The least of the rows' bytes for the action, or None where no row has it.

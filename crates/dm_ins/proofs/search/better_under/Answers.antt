@@ -1,11 +1,7 @@
-use Rattle.std.proofs.Common.{◌+◌, ◌*◌, arith}
-use Rattle.dm_ins.proofs.Order.{best_at, best_more}
+use Rattle.std.proofs.Common.{sym, ◌∙◌}
+use Rattle.dm_ins.proofs.Order.{best_alone}
 use Rattle.dm_ins.proofs.search.better_under.Goals as goal
 
-pub loop-register-init : goal.loop-register-init
-loop-register-init c = best_at (8 * c.args.opcode) (8 * c.args.opcode + 0) c.args.action.now _ (omega arith) c.requires
-
-pub loop-register-preserved : goal.loop-register-preserved
-loop-register-preserved c =
-    rw c.better-best.ensures (best_at (8 * c.args.opcode + c.loop-register.register + 1) (8 * c.args.opcode + (c.loop-register.register + 1)) c.args.action.now _ (omega arith)
-    (best_more c.args.action.now c.args.opcode c.loop-register.register (omega arith) _ _ c.loop-register.invariant c.candidate.ensures.found c.candidate.ensures.none))
+pub returns-else-has_members : goal.returns-else-has_members
+returns-else-has_members c =
+    rw c.better.ensures (best_alone c.args.action.now c.args.opcode (sym c.has_members.ensures ∙ c.if-has_members.false) _ _ c.requires c.candidate.ensures.found c.candidate.ensures.none)
