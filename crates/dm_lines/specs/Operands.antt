@@ -75,17 +75,17 @@ base_at (t.Word Bp ∷ ts) = Some (OnBp, ts)
 base_at (t.Word Bx ∷ ts) = Some (OnBx, ts)
 base_at _ = None
 
--- registers and what is added to them, or a value alone
-abbrev pub based : Option (Base × List Token) → List Token → Option (Base × Value)
-based (Some b) ts = do
-  v ← plain (added_of b.1)
-  Some (b.0, v)
-based None ts = do
+-- registers and what is added to them, or a number or label
+abbrev pub based : Size → Option (Base × List Token) → List Token → Option Term
+based s (Some b) ts = do
+  n ← added_of b.1
+  Some (term.Memory s b.0 n)
+based s None ts = do
   v ← value_of ts
-  Some (Direct, v)
+  Some (term.Address s v)
 
-abbrev pub address_of : List Token → Option (Base × Value)
-address_of ts = based (base_at ts) ts
+abbrev pub place_of : Size → List Token → Option Term
+place_of s ts = based s (base_at ts) ts
 
 abbrev pub onto : Token → Option (List Token) → Option (List Token)
 onto t None = None
@@ -104,8 +104,7 @@ inside (t ∷ u ∷ ts) = onto t (inside (u ∷ ts))
 abbrev pub memory_of : Size → List Token → Option Term
 memory_of s ts = do
   inner ← inside ts
-  a ← address_of inner
-  Some (term.Memory s a.0 a.1)
+  place_of s inner
 
 -- ---- operands
 

@@ -4,6 +4,7 @@
 use Rattle.std.specs.Prelude.{ℕ, ◌+◌, ◌-◌, ◌%◌, Bool, true, false, ◌==◌, Option, Some, None, nat_lt, nat_le, if◌then◌else◌}
 use Rattle.dm_ins.specs.declared.action.Mnemonic.{Mnemonic}
 use Rattle.dm_ins.specs.declared.action.Mnemonic.TheVariants.{Mov}
+use Rattle.dm_ins.specs.declared.operand.Base.TheVariants.{Direct}
 use Rattle.dm_ins.specs.Walks.{◌>>=◌}
 use Rattle.dm_read.specs.declared.written.Numeral.{Numeral}
 use Rattle.dm_read.specs.declared.written.Written.{Written}
@@ -79,9 +80,10 @@ written_of m term.Nothing place next = Some w.Nothing
 written_of m (term.ByteRegister r) place next = Some (w.ByteRegister r)
 written_of m (term.WordRegister r) place next = Some (w.WordRegister r)
 written_of m (term.SegmentRegister r) place next = Some (w.SegmentRegister r)
-written_of m (term.Memory s b v) place next = do
+written_of m (term.Memory s b n) place next = Some (w.Memory s (record { base = b; displacement = word_of n }))
+written_of m (term.Address s v) place next = do
   d ← standing v place
-  Some (w.Memory s (record { base = b; displacement = d }))
+  Some (w.Memory s (record { base = Direct; displacement = d }))
 written_of m (term.Number v) place next = do
   n ← numeral_at m v place next
   Some (w.Number n)
@@ -117,6 +119,7 @@ outline_of m term.Nothing = w.Nothing
 outline_of m (term.ByteRegister r) = w.ByteRegister r
 outline_of m (term.WordRegister r) = w.WordRegister r
 outline_of m (term.SegmentRegister r) = w.SegmentRegister r
-outline_of m (term.Memory s b v) = w.Memory s (record { base = b; displacement = word_outline v })
+outline_of m (term.Memory s b n) = w.Memory s (record { base = b; displacement = word_of n })
+outline_of m (term.Address s v) = w.Memory s (record { base = Direct; displacement = word_outline v })
 outline_of m (term.Number v) = w.Number (numeral_outline m v)
 outline_of m (term.Far s o) = w.Far s o

@@ -108,7 +108,8 @@ prefixed p (t.Repeat r ∷ ts) = if is_some p.repeat then None else prefixed (re
 prefixed p ts = Some (p, ts)
 
 abbrev pub is_memory : Term → Bool
-is_memory (term.Memory s b v) = true
+is_memory (term.Memory s b n) = true
+is_memory (term.Address s v) = true
 is_memory _ = false
 
 abbrev pub exchanges : Mnemonic → Bool

@@ -1,7 +1,7 @@
 //! From tokens to operands (Intel 8086 Family User's Manual, section 2.8, addressing modes, as ASM-86 writes them in section 2.9).
 
 ghost use Rattle.std.specs.Prelude.{◌≡◌, ◌<◌, ◌≤◌, ◌+◌, ◌∷◌, length, IfSome};
-ghost use Rattle.dm_lines.specs.Operands.{seen, option_now, is_close, is_comma, minus, amount_of, added_of, value_of, plain, word_of, inside, base_at, based, address_of, memory_of, far_of, from_number, term_of, parts, parts_behind, term_pair, terms_of};
+ghost use Rattle.dm_lines.specs.Operands.{seen, option_now, is_close, is_comma, minus, amount_of, added_of, value_of, plain, word_of, inside, base_at, based, place_of, memory_of, far_of, from_number, term_of, parts, parts_behind, term_pair, terms_of};
 
 use crate::term::{Amount, Term, Value};
 use crate::token::Token;
@@ -120,25 +120,6 @@ fn base(tokens: &[Token]) -> Option<(Base, &[Token])>
     }
 }
 
-/// What stands between brackets: registers and what is added to them, or a value.
-fn address(tokens: &[Token]) -> Option<(Base, Value)>
-    ensures { result ≡ address_of tokens.now }
-{
-    match base(tokens) {
-        Some((base, rest)) => {
-            let amount = added(rest)?;
-            Some((
-                base,
-                Value {
-                    label: None,
-                    amount,
-                },
-            ))
-        }
-        None => Some((Base::Direct, value(tokens)?)),
-    }
-}
-
 /// Whether this is the bracket behind an address.
 fn closes(token: Token) -> bool
     ensures { result ≡ is_close token }
@@ -161,13 +142,25 @@ fn before_bracket(tokens: &[Token]) -> Option<&[Token]>
     }
 }
 
+/// The memory operand between whose brackets these tokens stand: registers and what is added to them, or a value.
+fn place(size: Size, tokens: &[Token]) -> Option<Term>
+    ensures { result ≡ place_of size tokens.now }
+{
+    match base(tokens) {
+        Some((base, rest)) => {
+            let amount = added(rest)?;
+            Some(Term::Memory(size, base, amount))
+        }
+        None => Some(Term::Address(size, value(tokens)?)),
+    }
+}
+
 /// The memory operand whose bracket was opened before these tokens.
 fn memory(size: Size, tokens: &[Token]) -> Option<Term>
     ensures { result ≡ memory_of size tokens.now }
 {
     let inner = before_bracket(tokens)?;
-    let (base, value) = address(inner)?;
-    Some(Term::Memory(size, base, value))
+    place(size, inner)
 }
 
 /// A target in the segment of a number that stood before a colon.

@@ -6,7 +6,7 @@ ghost use Rattle.dm_lines.specs.Placing.{moved, standing, low_byte_of, byte_of, 
 
 use crate::operands::word;
 use crate::term::{Amount, Term, Value};
-use dm_ins::{Address, Mnemonic};
+use dm_ins::{Address, Base, Mnemonic};
 use dm_read::{Numeral, Written};
 
 /// A label's place and what is added to it; None outside 0 to FFFFh.
@@ -128,6 +128,13 @@ fn numeral(mnemonic: Mnemonic, value: Value, place: u16, next: u16) -> Option<Nu
     }
 }
 
+/// The address at these registers and a displacement.
+fn at(base: Base, displacement: u16) -> Address
+    ensures { result ≡ record { base = base; displacement = displacement } }
+{
+    Address { base, displacement }
+}
+
 /// What is written where an operand stands whose label, if it has one, stands at `place`, in an instruction before `next`; None
 /// where a label and what is added to it lie outside 0 to FFFFh.
 pub fn written(mnemonic: Mnemonic, term: &Term, place: u16, next: u16) -> Option<Written>
@@ -138,15 +145,12 @@ pub fn written(mnemonic: Mnemonic, term: &Term, place: u16, next: u16) -> Option
         Term::ByteRegister(register) => Some(Written::ByteRegister(*register)),
         Term::WordRegister(register) => Some(Written::WordRegister(*register)),
         Term::SegmentRegister(register) => Some(Written::SegmentRegister(*register)),
-        Term::Memory(size, base, value) => {
+        Term::Memory(size, base, amount) => {
+            Some(Written::Memory(*size, at(*base, word(*amount))))
+        }
+        Term::Address(size, value) => {
             let displacement = word_at(*value, place)?;
-            Some(Written::Memory(
-                *size,
-                Address {
-                    base: *base,
-                    displacement,
-                },
-            ))
+            Some(Written::Memory(*size, at(Base::Direct, displacement)))
         }
         Term::Number(value) => {
             let numeral = numeral(mnemonic, *value, place, next)?;
@@ -220,13 +224,8 @@ pub fn outline(mnemonic: Mnemonic, term: &Term) -> Written
         Term::ByteRegister(register) => Written::ByteRegister(*register),
         Term::WordRegister(register) => Written::WordRegister(*register),
         Term::SegmentRegister(register) => Written::SegmentRegister(*register),
-        Term::Memory(size, base, value) => Written::Memory(
-            *size,
-            Address {
-                base: *base,
-                displacement: word_alone(*value),
-            },
-        ),
+        Term::Memory(size, base, amount) => Written::Memory(*size, at(*base, word(*amount))),
+        Term::Address(size, value) => Written::Memory(*size, at(Base::Direct, word_alone(*value))),
         Term::Number(value) => Written::Number(numeral_alone(mnemonic, *value)),
         Term::Far(segment, offset) => Written::Far(*segment, *offset),
     }

@@ -90,7 +90,7 @@ fn read_prefixes(tokens: &[Token]) -> Option<(Prefixes, &[Token])>
 fn lies_in_memory(term: &Term) -> bool
     ensures { result ≡ is_memory term.now }
 {
-    matches!(term, Term::Memory(..))
+    matches!(term, Term::Memory(..) | Term::Address(..))
 }
 
 /// Whether the operands of this mnemonic can be exchanged, and memory stands first then.

@@ -34,8 +34,10 @@ pub enum Term {
     ByteRegister(ByteRegister),
     WordRegister(WordRegister),
     SegmentRegister(SegmentRegister),
-    /// A memory operand with the word before it: registers and what is added to them, or an address alone.
-    Memory(Size, Base, Value),
+    /// A memory operand at registers and what is added to them, with the word before it.
+    Memory(Size, Base, Amount),
+    /// A memory operand at a number or a label, with the word before it.
+    Address(Size, Value),
     /// A number, or a target.
     Number(Value),
     /// A segment and an offset.

@@ -52,8 +52,13 @@ fn put_term(text: &mut String, term: &Term) -> Result<(), Fail> {
         Term::ByteRegister(register) => write!(text, " {register:?}")?,
         Term::WordRegister(register) => write!(text, " {register:?}")?,
         Term::SegmentRegister(register) => write!(text, " {register:?}")?,
-        Term::Memory(size, base, value) => {
+        Term::Memory(size, base, amount) => {
             write!(text, " [{size:?} {base:?} ")?;
+            put_amount(text, *amount)?;
+            text.push(']')?;
+        }
+        Term::Address(size, value) => {
+            write!(text, " [{size:?} Direct ")?;
             put_value(text, value)?;
             text.push(']')?;
         }
