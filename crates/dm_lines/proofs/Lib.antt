@@ -1,2 +1,3 @@
 pub mod Lexed
 pub mod Parts
+pub mod Printed

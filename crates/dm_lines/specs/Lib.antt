@@ -3,3 +3,4 @@ pub mod Tokens
 pub mod Operands
 pub mod Statements
 pub mod Placing
+pub mod Laws

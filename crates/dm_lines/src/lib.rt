@@ -1,6 +1,7 @@
 //! From a line of assembly to a statement.
 #![tactic(auto)]
 
+mod laws;
 mod lexing;
 mod lists;
 mod operands;
@@ -11,6 +12,7 @@ mod term;
 mod token;
 mod words;
 
+pub use laws::pieces_are_read;
 pub use placing::{byte, outline, word_at, written};
 pub use statement::{Bytes, Instruction, Item, Statement, Words};
 pub use statements::read_line;
