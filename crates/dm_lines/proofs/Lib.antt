@@ -1,3 +1,4 @@
 pub mod Lexed
 pub mod Parts
 pub mod Printed
+pub mod OwnTerms

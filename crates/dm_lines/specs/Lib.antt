@@ -3,4 +3,5 @@ pub mod Tokens
 pub mod Operands
 pub mod Statements
 pub mod Placing
+pub mod Own
 pub mod Laws
