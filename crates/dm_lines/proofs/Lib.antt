@@ -2,3 +2,4 @@ pub mod Lexed
 pub mod Parts
 pub mod Printed
 pub mod OwnTerms
+pub mod Named
