@@ -3,3 +3,4 @@ pub mod Parts
 pub mod Printed
 pub mod OwnTerms
 pub mod Named
+pub mod Again
