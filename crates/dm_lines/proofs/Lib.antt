@@ -4,3 +4,4 @@ pub mod Printed
 pub mod OwnTerms
 pub mod Named
 pub mod Again
+pub mod Stated
