@@ -13,7 +13,7 @@ use Rattle.dm_ins.specs.declared.table.Entry.{Entry}
 use Rattle.dm_ins.specs.declared.table.Entry.TheVariants.{Unlisted, Plain, Group, Second}
 use Rattle.dm_ins.specs.Table.{entry_of}
 use Rattle.dm_ins.specs.Order.{before}
-use Rattle.dm_ins.specs.Search.{better_of, Best, CandidateAt, bytes_of, choice_at, has_group}
+use Rattle.dm_ins.specs.Search.{better_of, Best, CandidateAt, HasNoMnemonic, bytes_of, choice_at, has_group}
 
 abbrev Before : List ℕ → List ℕ → Type 0
 Before a b = (length a < length b) ⊎ ((length a ≡ length b) × (slice_cmp nat_cmp a b ≡ Less))
@@ -119,6 +119,14 @@ module _ (a : Action) (b g : ℕ) (fits : g < 8) where
   }
   best_more (Some old) (Some new) best some none = kept_best (before new old) old new refl best some
 
+-- a row of another mnemonic has no bytes
+pub best_without : (a : Action) (b g : ℕ) → g < 8 → (o : Option (List ℕ)) → Best (8 * b + g) a o → HasNoMnemonic b g a.mnemonic → Best (8 * b + g + 1) a o
+best_without a b g lt o best none = subst (Best (8 * b + g + 1) a) (same o) (best_more a b g lt o None best tt (λ c x. none x.choice x.is_choice x.mnemonic))
+  where
+    same : (o : Option (List ℕ)) → better_of o None ≡ o
+    same None = refl
+    same (Some v) = refl
+
 pub best_at : (m n : ℕ) (a : Action) (o : Option (List ℕ)) → m ≡ n → Best m a o → Best n a o
 best_at m n a o e best = subst (λ k. Best k a o) e best
 
@@ -142,16 +150,14 @@ no_other (Group g) b k x n lt e = absurd cc
 no_other (Second c p) b k x n lt e = no_choice _ x (nat_eq k 0) (not_zero k lt) e
 
 -- the row under the reg field 0 is the only one
-pub best_alone : (a : Action) (b : ℕ) → has_group (entry_of b) ≡ false → (o new : Option (List ℕ)) → Best (8 * b) a o → IfSome new (λ v. CandidateAt b 0 a v) → IfNone new ((c : List ℕ) → CandidateAt b 0 a c → ⊥) → Best (8 * b + 8) a (better_of o new)
-best_alone a b n o new best some none =
-    let one : Best (8 * b + 0 + 1) a (better_of o new) = best_more a b 0 (omega arith) o new (best_at (8 * b) (8 * b + 0) a o (omega arith) best) some none in
-    record {
-      found = one.found;
-      least = λ i k c f lt x. elim (cases_lt (8 * i + k) (8 * b + 1)) [
-        | inl below ↦ one.least i k c f (omega arith) x
-        | inr le ↦ (let e : i ≡ b = omega arith in let more : 0 < k = omega arith in absurd (no_other (entry_of b) b k x.choice n more (rw e at x.is_choice)))
-      ];
-    }
+pub best_alone : (a : Action) (b : ℕ) → has_group (entry_of b) ≡ false → (o : Option (List ℕ)) → Best (8 * b + 0 + 1) a o → Best (8 * b + 8) a o
+best_alone a b n o best = record {
+  found = best.found;
+  least = λ i k c f lt x. elim (cases_lt (8 * i + k) (8 * b + 1)) [
+    | inl below ↦ best.least i k c f (omega arith) x
+    | inr le ↦ (let e : i ≡ b = omega arith in let more : 0 < k = omega arith in absurd (no_other (entry_of b) b k x.choice n more (rw e at x.is_choice)))
+  ];
+}
 
 -- ---- lists one behind the other
 

@@ -1,6 +1,5 @@
 -- An operand with another value in its place: the instruction keeps its length.
-use Rattle.std.proofs.Common.{◌≡◌, ℕ, ◌+◌, ◌*◌, ◌%◌, ◌<◌, ◌^◌, Bool, true, false, List, [], ◌∷◌, length, Option, Some, None, refl, sym, ap, subst, ◌∙◌, arith, inl, inr}
-use Rattle.std.specs.Prelude.{◌⊎◌}
+use Rattle.std.proofs.Common.{◌≡◌, ℕ, ◌+◌, ◌*◌, ◌%◌, ◌<◌, Bool, true, false, List, [], ◌∷◌, length, refl, sym, ap, ◌∙◌, arith}
 use Rattle.dm_ins.specs.declared.operand.Width.{Width}
 use Rattle.dm_ins.specs.declared.operand.Width.TheVariants.{Byte, Word}
 use Rattle.dm_ins.specs.declared.operand.Base.{Base}
@@ -13,10 +12,10 @@ use Rattle.dm_ins.specs.declared.action.Mnemonic.TheVariants as op
 use Rattle.dm_ins.specs.declared.fields.Fields.{Fields}
 use Rattle.dm_ins.specs.declared.table.Kind.{Kind}
 use Rattle.dm_ins.specs.declared.table.Kind.TheVariants as is
-use Rattle.dm_ins.specs.Spelling.{word, extended, direct, register, at_place, Fills}
+use Rattle.dm_ins.specs.Spelling.{word, direct, register, Fills}
 use Rattle.dm_ins.specs.Search.{OperandFits}
-use Rattle.dm_read.specs.Shapes.{is_move, has_no_base}
-use Rattle.dm_read.proofs.Known.{Known, suits, is_near, is_escape, opposite, is_opposite}
+use Rattle.dm_read.specs.StandIns.{is_move, has_no_base}
+use Rattle.dm_read.proofs.Known.{Known, suits, is_near, is_escape, is_opposite}
 
 -- the same registers, and the same displacement behind them
 pub record SameBase (a b : Address) : Type 0 where

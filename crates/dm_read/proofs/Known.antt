@@ -1,7 +1,5 @@
 -- What is known of the values of an instruction of the table beyond their types, by the rows of its mnemonic.
-use Rattle.std.proofs.Common.{◌≡◌, ℕ, ◌+◌, ◌*◌, ◌%◌, ◌<◌, ◌^◌, Bool, true, false, ◌&&◌, List, Option, Some, None, refl, sym, subst, arith, inl, inr}
-use Rattle.std.specs.Prelude.{nat_lt, if◌then◌else◌, IfSome}
-use Rattle.std.proofs.lemmas.Bool.{cases_lt, lt-ltb, le-ltb}
+use Rattle.std.proofs.Common.{◌≡◌, ℕ, ◌<◌, ◌^◌, Bool, true, false, ◌&&◌, List, Option, Some, None, refl, sym, subst, arith}
 use Rattle.dm_ins.specs.declared.operand.Width.{Width}
 use Rattle.dm_ins.specs.declared.operand.Width.TheVariants.{Byte, Word}
 use Rattle.dm_ins.specs.declared.operand.Address.{Address}
@@ -14,13 +12,12 @@ use Rattle.dm_ins.specs.declared.fields.Fields.{Fields}
 use Rattle.dm_ins.specs.declared.table.Kind.{Kind}
 use Rattle.dm_ins.specs.declared.table.Kind.TheVariants as is
 use Rattle.dm_ins.specs.declared.table.Row.{Row}
-use Rattle.dm_ins.specs.declared.table.Entry.{Entry}
-use Rattle.dm_ins.specs.Table.{entry_of, entries, groups}
-use Rattle.dm_ins.specs.Spelling.{extended, direct, register, at_place, Fills, SpellsAction}
+use Rattle.dm_ins.specs.Table.{entry_of}
+use Rattle.dm_ins.specs.Spelling.{extended, register, at_place, Fills, SpellsAction}
 use Rattle.dm_ins.specs.Search.{OperandFits}
 use Rattle.dm_ins.proofs.TableRules.{both_true}
 use Rattle.dm_ins.proofs.Shortest.{action_fits}
-use Rattle.dm_read.specs.Shapes.{is_move}
+use Rattle.dm_read.specs.StandIns.{is_move}
 use Rattle.dm_read.proofs.Rows.{if_row, entry_all, rows_all, of_row, register_fits}
 
 -- ---- one form of target, of byte and of word for each mnemonic

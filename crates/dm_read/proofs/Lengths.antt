@@ -1,25 +1,17 @@
 -- Words in which others stand for some values are an instruction wherever the words are one, and one as long.
-use Rattle.std.proofs.Common.{◌≡◌, ℕ, ◌+◌, ◌*◌, ◌%◌, ◌<◌, ◌≤◌, ◌^◌, Bool, true, false, ◌&&◌, List, [], ◌∷◌, ◌++◌, length, Option, Some, None, refl, sym, ap, subst, ◌∙◌, arith, inl, inr}
-use Rattle.std.specs.Prelude.{◌⊎◌, map, IfSome, IsSomeAnd, if◌then◌else◌, nat_lt}
-use Rattle.std.specs.List.{list_all}
+use Rattle.std.proofs.Common.{◌≡◌, ℕ, ◌<◌, Bool, true, false, List, ◌∷◌, ◌++◌, length, refl, sym, ap, subst, ◌∙◌, arith, inl}
+use Rattle.std.specs.Prelude.{if◌then◌else◌}
 use Rattle.std.proofs.lemmas.List.{length-append}
-use Rattle.std.proofs.lemmas.Bool.{cases_lt, lt-ltb}
-use Rattle.dm_ins.specs.declared.operand.Operand.{Operand}
-use Rattle.dm_ins.specs.declared.operand.Operand.TheVariants as operand
 use Rattle.dm_ins.specs.declared.action.Mnemonic.{Mnemonic}
 use Rattle.dm_ins.specs.declared.action.Action.{Action}
 use Rattle.dm_ins.specs.declared.fields.Fields.{Fields}
 use Rattle.dm_ins.specs.declared.table.Row.{Row}
-use Rattle.dm_ins.specs.declared.ins.Ins.{Ins}
-use Rattle.dm_ins.specs.Table.{entry_of, entries, groups}
-use Rattle.dm_ins.specs.Spelling.{Fills, HasRow, SpellsAction, prefix_byte}
-use Rattle.dm_ins.specs.Ins.{Spells}
-use Rattle.dm_ins.specs.Order.{before}
-use Rattle.dm_ins.specs.Search.{OperandFits}
+use Rattle.dm_ins.specs.Table.{entry_of}
+use Rattle.dm_ins.specs.Spelling.{Fills, SpellsAction}
 use Rattle.dm_ins.proofs.TableRules.{both_true}
 use Rattle.dm_read.proofs.Rows.{if_row, entry_all, rows_all, of_row, register_fits}
-use Rattle.dm_read.proofs.Known.{Known, KnownAction, known_action, suits, row_suits, all_suit, opposite, is_opposite}
-use Rattle.dm_read.proofs.Alike.{Alike, alike_back, uses_memory, exchanged}
+use Rattle.dm_read.proofs.Known.{Known, KnownAction, suits, row_suits, all_suit, opposite, is_opposite}
+use Rattle.dm_read.proofs.Alike.{Alike, uses_memory, exchanged}
 use Rattle.dm_read.proofs.Places.{Moved, same_register, still_row, placed}
 
 -- no row has two operands in memory by the mod r/m byte
@@ -55,10 +47,11 @@ same_length b h k u v s t d e f = grind (arith, length-append)
 
 joined : (a b : Action) (x : List ℕ) (s : SpellsAction a x) → b.mnemonic ≡ a.mnemonic → Parts a b x s → AsLong b x
 joined a b x s e p =
-    let r = still_row (entry_of s.first_byte) s.fields p.g s.behind s.row p.moved s.has_row in
-    (s.first_byte ∷ r.0 ++ (p.first_part ++ p.second_part),
-    record { first_byte = s.first_byte; fields = p.g; row = s.row; behind = r.0; first_part = p.first_part; second_part = p.second_part; has_row = r.1; mnemonic = e ∙ s.mnemonic; first = p.first; second = p.second; parts = refl },
-    same_length s.first_byte r.0 s.behind p.first_part p.second_part s.first_part s.second_part r.2 p.first_long p.second_long ∙ ap length (sym s.parts))
+    let r = still_row (entry_of s.first_byte) s.fields p.g s.behind s.row p.moved s.has_row in (
+      s.first_byte ∷ r.0 ++ (p.first_part ++ p.second_part),
+      record { first_byte = s.first_byte; fields = p.g; row = s.row; behind = r.0; first_part = p.first_part; second_part = p.second_part; has_row = r.1; mnemonic = e ∙ s.mnemonic; first = p.first; second = p.second; parts = refl },
+      same_length s.first_byte r.0 s.behind p.first_part p.second_part s.first_part s.second_part r.2 p.first_long p.second_long ∙ ap length (sym s.parts),
+    )
 
 pub as_long : (a b : Action) (x : List ℕ) → SpellsAction a x → KnownAction b → AlikeActions a b → AsLong b x
 unfolding row_suits one_place
@@ -66,20 +59,28 @@ as_long a b x s kn al = joined a b x s al.mnemonic (by (uses_memory s.row.first)
   where
     lt : s.fields.register < 8
     lt = register_fits (entry_of s.first_byte) s.fields s.behind s.row s.has_row
+
     m : b.mnemonic ≡ s.row.mnemonic
     m = al.mnemonic ∙ s.mnemonic
+
     suit : (suits s.row.mnemonic s.row.first ≡ true) × (suits s.row.mnemonic s.row.second ≡ true)
     suit = both_true _ _ (of_row row_suits s.first_byte s.fields s.behind s.row all_suit s.has_row)
+
     apart : one_place s.row ≡ true
     apart = of_row one_place s.first_byte s.fields s.behind s.row all_one_place s.has_row
+
     first_alike : Alike s.row.mnemonic a.first b.first
     first_alike = subst (λ (n : Mnemonic). Alike n a.first b.first) s.mnemonic al.first
+
     second_alike : Alike s.row.mnemonic a.second b.second
     second_alike = subst (λ (n : Mnemonic). Alike n a.second b.second) s.mnemonic al.second
+
     first_known : Known s.row.mnemonic b.first
     first_known = subst (λ (n : Mnemonic). Known n b.first) m kn.first
+
     second_known : Known s.row.mnemonic b.second
     second_known = subst (λ (n : Mnemonic). Known n b.second) m kn.second
+
     by : (f g : Bool) → uses_memory s.row.first ≡ f → uses_memory s.row.second ≡ g → Parts a b x s
     by true g e h =
         let p = placed s.row.mnemonic s.row.first s.fields a.first b.first s.first_part e first_alike kn.first_fits s.first in

@@ -1,5 +1,5 @@
 -- Words are one instruction at most: a test of each two rows of the table.
-use Rattle.std.proofs.Common.{◌≡◌, ℕ, ◌<◌, Bool, true, false, List, [], ◌∷◌, Option, Some, None, nat_eq, nat_lt, ◌&&◌, ◌||◌, refl, sym, ap, subst, ◌∙◌, inl, inr}
+use Rattle.std.proofs.Common.{◌≡◌, ℕ, Bool, true, false, List, [], ◌∷◌, Option, Some, None, nat_eq, nat_lt, ◌&&◌, ◌||◌, refl, sym, ap, subst, ◌∙◌, inl, inr}
 use Rattle.std.specs.Prelude.{if◌then◌else◌, IsSomeAnd}
 use Rattle.std.specs.List.{list_all}
 use Rattle.std.proofs.lemmas.Bool.{eqb-true, eq-eqb}
@@ -15,7 +15,6 @@ use Rattle.dm_ins.specs.declared.fields.Fields.{Fields}
 use Rattle.dm_ins.specs.declared.table.Kind.{Kind}
 use Rattle.dm_ins.specs.declared.table.Kind.TheVariants as is
 use Rattle.dm_ins.specs.declared.table.Row.{Row}
-use Rattle.dm_ins.specs.Table.{entries, groups}
 use Rattle.dm_ins.specs.Spelling.{direct, register, at_place, Fills, SpellsAction}
 use Rattle.dm_ins.proofs.TableRules.{both_true}
 use Rattle.dm_text.specs.Texts.{is_shift, is_general}
@@ -24,8 +23,7 @@ use Rattle.dm_read.specs.declared.written.Size.TheVariants.{Absent, Byte, Word, 
 use Rattle.dm_read.specs.declared.written.Numeral.{Numeral}
 use Rattle.dm_read.specs.declared.written.Written.{Written}
 use Rattle.dm_read.specs.declared.written.Written.TheVariants as w
-use Rattle.dm_read.specs.declared.written.Words.{Words}
-use Rattle.dm_read.specs.Words.{IsNumber, IsWritten, AreWords, width_word, jump_word, word_before}
+use Rattle.dm_read.specs.Words.{IsNumber, IsWritten, width_word, jump_word, word_before}
 use Rattle.dm_read.specs.Laws.{WordsAreOne}
 use Rattle.dm_read.proofs.Rows.{if_row, entry_all, rows_all, of_row}
 
@@ -305,9 +303,9 @@ words_are_one words a b x y p q sa sb =
     let mb = looks_written words.second b.second q.second in
     let n : a.mnemonic ≡ b.mnemonic = p.mnemonic ∙ sym q.mnemonic in
     let u : word_code a.mnemonic (sort a.first) (sort a.second) (sort a.first) ≡ word_code b.mnemonic (sort b.first) (sort b.second) (sort b.first) =
-        sym (word_is a a.first) ∙ ap size_code (sym p.first_word ∙ q.first_word) ∙ word_is b b.first in
+    sym (word_is a a.first) ∙ ap size_code (sym p.first_word ∙ q.first_word) ∙ word_is b b.first in
     let v : word_code a.mnemonic (sort a.first) (sort a.second) (sort a.second) ≡ word_code b.mnemonic (sort b.first) (sort b.second) (sort b.second) =
-        sym (word_is a a.second) ∙ ap size_code (sym p.second_word ∙ q.second_word) ∙ word_is b b.second in
+    sym (word_is a a.second) ∙ ap size_code (sym p.second_word ∙ q.second_word) ∙ word_is b b.second in
     let k = same_sorts a b x y sa sb (five _ _ _ _ _ (same_nat _ _ (ap class n)) (same_nat _ _ (la.looks_so ∙ sym lb.looks_so)) (same_nat _ _ (ma.looks_so ∙ sym mb.looks_so)) (same_nat _ _ u) (same_nat _ _ v)) in
     let both = both_true _ _ k in
     let f : a.first ≡ b.first = sym la.again ∙ ap (of_sort words.first) (eqb-true _ _ both.0) ∙ lb.again in

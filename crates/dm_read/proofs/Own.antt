@@ -1,14 +1,12 @@
 -- An instruction's own words are that instruction.
-use Rattle.std.proofs.Common.{◌≡◌, ℕ, ◌+◌, ◌-◌, ◌%◌, ◌<◌, ◌^◌, true, false, List, nat_lt, refl, sym, subst, arith, inl, inr}
-use Rattle.std.specs.Prelude.{if◌then◌else◌, IsSomeAnd, Option, Some, None}
+use Rattle.std.proofs.Common.{◌≡◌, ℕ, ◌+◌, ◌-◌, ◌%◌, ◌<◌, ◌^◌, nat_lt, refl, arith, inl, inr}
+use Rattle.std.specs.Prelude.{if◌then◌else◌, IsSomeAnd, Some, None}
 use Rattle.std.proofs.lemmas.Bool.{lt-ltb}
 use Rattle.dm_ins.specs.declared.operand.Width.TheVariants as width
 use Rattle.dm_ins.specs.declared.operand.Operand.{Operand}
 use Rattle.dm_ins.specs.declared.operand.Operand.TheVariants as operand
-use Rattle.dm_ins.specs.declared.action.Mnemonic.{Mnemonic}
 use Rattle.dm_ins.specs.declared.action.Action.{Action}
-use Rattle.dm_ins.specs.Spelling.{SpellsAction}
-use Rattle.dm_read.specs.Words.{IsWritten, AreWords, word_before, word_written}
+use Rattle.dm_read.specs.Words.{IsWritten, word_before, word_written}
 use Rattle.dm_read.specs.Own.{written_of, words_of}
 use Rattle.dm_read.specs.Laws.{OwnWordsAreRead}
 use Rattle.dm_ins.specs.Search.{OperandFits}

@@ -1,14 +1,11 @@
 -- A direct address with another displacement in its place: the mod r/m byte keeps its length.
 use Rattle.std.proofs.Common.{◌≡◌, ℕ, ◌+◌, ◌*◌, ◌<◌, ◌^◌, Bool, true, false, List, [], ◌∷◌, length, get_or, Option, Some, None, refl, sym, ap, subst, ◌∙◌, arith, inl, inr}
-use Rattle.std.specs.Prelude.{◌⊎◌, ◌≢◌}
-use Rattle.std.specs.List.{list_all}
+use Rattle.std.specs.Prelude.{◌⊎◌}
 use Rattle.dm_ins.specs.declared.operand.Width.{Width}
-use Rattle.dm_ins.specs.declared.operand.Width.TheVariants.{Byte, Word}
 use Rattle.dm_ins.specs.declared.operand.Base.{Base}
 use Rattle.dm_ins.specs.declared.operand.Base.TheVariants.{Direct, BxSi}
 use Rattle.dm_ins.specs.declared.operand.Address.{Address}
 use Rattle.dm_ins.specs.declared.operand.Operand.{Operand}
-use Rattle.dm_ins.specs.declared.operand.Operand.TheVariants as operand
 use Rattle.dm_ins.specs.declared.action.Mnemonic.{Mnemonic}
 use Rattle.dm_ins.specs.declared.fields.Fields.{Fields}
 use Rattle.dm_ins.specs.declared.table.Kind.{Kind}
@@ -20,7 +17,7 @@ use Rattle.dm_ins.specs.Registers.{bases}
 use Rattle.dm_ins.specs.Spelling.{word, direct, based, at_place, Fills, SpellsMemory, SpellsFields, HasRow, MaySpellFields, has_fields, no_fields}
 use Rattle.dm_ins.specs.Search.{OperandFits}
 use Rattle.dm_ins.proofs.TableRules.{passes}
-use Rattle.dm_read.specs.Shapes.{has_no_base}
+use Rattle.dm_read.specs.StandIns.{has_no_base}
 use Rattle.dm_read.proofs.Known.{opposite}
 use Rattle.dm_read.proofs.Alike.{Alike, SameBase, same_address, direct_is, register_alike, uses_memory}
 
@@ -75,10 +72,11 @@ AsLong P d = (e : List ℕ) × P e × (length e ≡ length d)
 fields_moved : (f g : Fields) (d : List ℕ) → MovedFields f g → SpellsFields f d → AsLong (SpellsFields g) d
 fields_moved f g d h s =
     let m = direct_spelled h.old h.new s.mode f.rm s.displacement h.fits (rw h.was at s.spells_memory) in
-    rw h.now
-    ((64 * s.mode + 8 * f.register + f.rm) ∷ word h.new,
-    record { mode = s.mode; displacement = word h.new; register_fits = s.register_fits; rm_fits = s.rm_fits; spells_memory = m.0; parts = refl },
-    rw s.parts (omega (arith, m.1)))
+    rw h.now (
+      (64 * s.mode + 8 * f.register + f.rm) ∷ word h.new,
+      record { mode = s.mode; displacement = word h.new; register_fits = s.register_fits; rm_fits = s.rm_fits; spells_memory = m.0; parts = refl },
+      rw s.parts (omega (arith, m.1)),
+    )
 
 none_is_no_memory : (n : ℕ) → Some (direct n) ≡ None → ⊥
 none_is_no_memory n e = cc

@@ -1,12 +1,11 @@
 -- The word before memory is the one that the text of an instruction shows.
-use Rattle.std.proofs.Common.{◌≡◌, Bool, true, false, List, [], ◌∷◌, refl, ◌∙◌, sym, ap}
-use Rattle.std.specs.Prelude.{if◌then◌else◌, codes}
+use Rattle.std.proofs.Common.{◌≡◌, Bool, true, false, [], ◌∷◌, refl, ◌∙◌, ap}
+use Rattle.std.specs.Prelude.{if◌then◌else◌}
 use Rattle.dm_ins.specs.declared.operand.Width.{Width}
 use Rattle.dm_ins.specs.declared.operand.Width.TheVariants as width
 use Rattle.dm_ins.specs.declared.action.Mnemonic.{Mnemonic}
 use Rattle.dm_ins.specs.declared.action.Mnemonic.TheVariants as op
-use Rattle.dm_ins.specs.declared.action.Action.{Action}
-use Rattle.dm_text.specs.Pieces.{Piece, name, space}
+use Rattle.dm_text.specs.Pieces.{name, space}
 use Rattle.dm_text.specs.Texts as text
 use Rattle.dm_read.specs.declared.written.Size.{Size}
 use Rattle.dm_read.specs.declared.written.Size.TheVariants.{Absent}

@@ -1,6 +1,6 @@
 -- Words in which others stand for some values are an instruction wherever the words are one, and one with as many bytes.
-use Rattle.std.proofs.Common.{◌≡◌, ℕ, ◌+◌, ◌%◌, ◌<◌, ◌≤◌, ◌^◌, Bool, true, false, List, [], ◌∷◌, ◌++◌, length, Option, Some, None, refl, sym, ap, subst, ◌∙◌, arith, inl, inr}
-use Rattle.std.specs.Prelude.{◌⊎◌, map, IfSome, IsSomeAnd, if◌then◌else◌, nat_lt}
+use Rattle.std.proofs.Common.{◌≡◌, ℕ, ◌%◌, ◌<◌, ◌≤◌, ◌^◌, true, false, List, ◌++◌, length, Option, Some, None, refl, sym, ap, subst, ◌∙◌, arith, inl, inr}
+use Rattle.std.specs.Prelude.{◌⊎◌, map, IfSome, IsSomeAnd}
 use Rattle.std.proofs.lemmas.List.{length-append}
 use Rattle.std.proofs.lemmas.Bool.{cases_lt, lt-ltb}
 use Rattle.dm_ins.specs.declared.operand.Width.TheVariants as width
@@ -10,7 +10,7 @@ use Rattle.dm_ins.specs.declared.operand.Operand.TheVariants as operand
 use Rattle.dm_ins.specs.declared.action.Mnemonic.{Mnemonic}
 use Rattle.dm_ins.specs.declared.action.Action.{Action}
 use Rattle.dm_ins.specs.declared.ins.Ins.{Ins}
-use Rattle.dm_ins.specs.Spelling.{SpellsAction, SpellsPrefixed, prefix_byte}
+use Rattle.dm_ins.specs.Spelling.{SpellsAction, prefix_byte}
 use Rattle.dm_ins.specs.Ins.{Spells}
 use Rattle.dm_ins.specs.Order.{before}
 use Rattle.dm_ins.specs.Search.{OperandFits}
@@ -21,12 +21,12 @@ use Rattle.dm_read.specs.declared.written.Written.{Written}
 use Rattle.dm_read.specs.declared.written.Written.TheVariants as w
 use Rattle.dm_read.specs.declared.written.Words.{Words}
 use Rattle.dm_read.specs.Words.{IsNumber, IsWritten, AreWords, word_before, word_written}
-use Rattle.dm_read.specs.Shapes.{is_move, NumberStands, AddressStands, OperandStands, StandsFor}
+use Rattle.dm_read.specs.StandIns.{is_move, NumberStands, AddressStands, OperandStands, StandsFor}
 use Rattle.dm_read.specs.Laws.{StandInsAreRead, LengthsAreKnown, Encodes}
 use Rattle.dm_read.proofs.One.{words_are_one}
-use Rattle.dm_read.proofs.Known.{Known, KnownAction, known_action, is_escape, is_near}
-use Rattle.dm_read.proofs.Alike.{Alike, SameBase, alike_self, alike_back, escape_is_no_move}
-use Rattle.dm_read.proofs.Lengths.{AlikeActions, AsLong, as_long}
+use Rattle.dm_read.proofs.Known.{Known, KnownAction, known_action}
+use Rattle.dm_read.proofs.Alike.{Alike, alike_self, alike_back, escape_is_no_move}
+use Rattle.dm_read.proofs.Lengths.{AlikeActions, as_long}
 
 -- ---- an operand that stands for another one
 
@@ -161,16 +161,22 @@ stand_in stand words a x s are sp = record {
   where
     kn : KnownAction a
     kn = known_action a x sp
+
     first : OperandStands a.mnemonic stand.first words.first
     first = subst (λ (m : Mnemonic). OperandStands m stand.first words.first) (sym are.mnemonic) s.first
+
     second : OperandStands a.mnemonic stand.second words.second
     second = subst (λ (m : Mnemonic). OperandStands m stand.second words.second) (sym are.mnemonic) s.second
+
     f : StandIn a.mnemonic stand.first a.first
     f = stands_in a.mnemonic stand.first words.first a.first first are.first kn.first_fits kn.first
+
     g : StandIn a.mnemonic stand.second a.second
     g = stands_in a.mnemonic stand.second words.second a.second second are.second kn.second_fits kn.second
+
     b : Action
     b = record { mnemonic = a.mnemonic; first = f.p; second = g.p }
+
     al : AlikeActions a b
     al = record { mnemonic = refl; first = f.alike; second = g.alike }
 

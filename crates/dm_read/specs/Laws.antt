@@ -13,7 +13,7 @@ use Rattle.dm_read.specs.declared.written.Size.TheVariants.{Absent, Byte, Word, 
 use Rattle.dm_read.specs.declared.written.Words.{Words}
 use Rattle.dm_read.specs.Words.{AreWords, size_word}
 use Rattle.dm_read.specs.Own.{words_of}
-use Rattle.dm_read.specs.Shapes.{StandsFor}
+use Rattle.dm_read.specs.StandIns.{StandsFor}
 
 -- words are one instruction of the table at most
 abbrev pub WordsAreOne : Type 0

@@ -1,6 +1,7 @@
 -- The words that the text of an instruction shows, where the next instruction stands at an offset.
--- Source: the text of an instruction, whose numbers are this machine's own; a target is written as the offset that it leads to.
-use Rattle.std.specs.Prelude.{ℕ, ◌+◌, ◌-◌, ◌%◌, ◌==◌, nat_lt, if◌then◌else◌, Option, Some, None}
+-- Source: Intel 8086 Family User's Manual, section 2.7 (instructions and their operands); how sizes, numbers and targets are written
+-- is this machine's own (docs/DECISIONS.md).
+use Rattle.std.specs.Prelude.{ℕ, ◌+◌, ◌-◌, ◌%◌, ◌==◌, nat_lt, if◌then◌else◌, Some, None}
 use Rattle.dm_ins.specs.declared.operand.Operand.{Operand}
 use Rattle.dm_ins.specs.declared.operand.Operand.TheVariants as operand
 use Rattle.dm_ins.specs.declared.action.Action.{Action}
@@ -10,7 +11,7 @@ use Rattle.dm_read.specs.declared.written.Written.TheVariants as w
 use Rattle.dm_read.specs.declared.written.Words.{Words}
 use Rattle.dm_read.specs.Words.{size_word}
 
--- a number of four digits as each kind of operand
+-- a number from 0 to FFFFh as each kind of operand
 abbrev pub numeral_of : ℕ → ℕ → Numeral
 numeral_of next n = record {
   byte = if nat_lt n 0x100 then Some n else None;
@@ -19,7 +20,7 @@ numeral_of next n = record {
   is_one = n == 1;
 }
 
--- an operand of an action
+-- an operand of an action; a target is written as the offset that it leads to
 abbrev pub written_of : Action → ℕ → Operand → Written
 written_of a next operand.Nothing = w.Nothing
 written_of a next (operand.ByteRegister r) = w.ByteRegister r

@@ -13,7 +13,7 @@ use Rattle.dm_read.specs.declared.written.Written.TheVariants as w
 use Rattle.dm_read.specs.declared.written.Words.{Words}
 use Rattle.dm_read.specs.declared.reading.Way.{Way}
 use Rattle.dm_read.specs.declared.reading.Way.TheVariants.{AsByte, AsWord, AsTarget, AsOne}
-use Rattle.dm_read.specs.Words.{AreWords, word_before, word_written}
+use Rattle.dm_read.specs.Words.{word_before, word_written}
 
 abbrev pub ways : List Way
 ways = AsByte ∷ AsWord ∷ AsTarget ∷ AsOne ∷ []

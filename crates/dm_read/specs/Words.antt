@@ -1,7 +1,7 @@
--- Which instruction some written words are: operands are written as the text of an instruction has them.
--- Source: Intel 8086 Family User's Manual, section 2.7 (instructions and their operands) and section 2.8 (addressing modes);
--- where a word says the size of memory is this machine's own, and stands in the text of an instruction.
-use Rattle.std.specs.Prelude.{◌≡◌, ℕ, true, ◌⊎◌, IsSomeAnd, if◌then◌else◌}
+-- Which instruction some written words are.
+-- Source: Intel 8086 Family User's Manual, section 2.7 (instructions and their operands) and section 2.8 (addressing modes); where
+-- a word says the size of memory is this machine's own (docs/DECISIONS.md).
+use Rattle.std.specs.Prelude.{◌≡◌, true, ◌⊎◌, IsSomeAnd, if◌then◌else◌}
 use Rattle.dm_ins.specs.declared.operand.Width.{Width}
 use Rattle.dm_ins.specs.declared.operand.Width.TheVariants as width
 use Rattle.dm_ins.specs.declared.operand.Operand.{Operand}

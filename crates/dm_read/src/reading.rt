@@ -61,11 +61,7 @@ fn take_as(way: Way, written: Written) -> Option<Operand>
                 Some(Operand::WordValue(word))
             }
             Way::AsTarget => Some(Operand::Target(n.distance)),
-            Way::AsOne => if n.is_one {
-                Some(Operand::One)
-            } else {
-                None
-            },
+            Way::AsOne => if n.is_one { Some(Operand::One) } else { None },
         },
         Written::Far(segment, offset) => first(way, Operand::FarTarget(offset, segment)),
     }

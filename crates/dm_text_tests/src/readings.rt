@@ -3,9 +3,7 @@
 
 use crate::checks::same;
 use crate::words::check;
-use dm_ins::{
-    Address, Base, ByteRegister, Mnemonic, Prefixes, Repeat, SegmentRegister, encode,
-};
+use dm_ins::{Address, Base, ByteRegister, Mnemonic, Prefixes, Repeat, SegmentRegister, encode};
 use dm_read::{
     Size, Words, Written, own_words_are_read, read_words, stand_ins_have_the_length,
     words_are_one_instruction,

@@ -15,9 +15,7 @@ use dm_ins::{
     Address, Base, ByteRegister, Ins, Mnemonic, Prefixes, SegmentRegister, WordRegister, encode,
 };
 use dm_read::{Numeral, Size, Words, Written, read_words};
-use dm_text::{
-    byte_register_name, mnemonic_name, segment_register_name, word_register_name,
-};
+use dm_text::{byte_register_name, mnemonic_name, segment_register_name, word_register_name};
 use std::process::Abort;
 use std::test::Fail;
 
@@ -317,7 +315,8 @@ fn unknown(mnemonic: Mnemonic, written: Written) -> Written {
         Written::Memory(
             size,
             Address {
-                base: Base::Direct, ..
+                base: Base::Direct,
+                ..
             },
         ) => Written::Memory(
             size,
