@@ -7,9 +7,12 @@ use Rattle.dm_ins.specs.declared.ins.Ins.{Ins}
 use Rattle.dm_ins.specs.Spelling.{SpellsAction}
 use Rattle.dm_text.specs.Texts.{text_of}
 use Rattle.dm_read.specs.declared.written.Written.{Written}
-use Rattle.dm_read.specs.Shapes.{OperandStands}
+use Rattle.dm_read.specs.StandIns.{OperandStands}
 use Rattle.dm_read.specs.Own as read
+use Rattle.dm_lines.specs.declared.term.Amount.{Amount}
+use Rattle.dm_lines.specs.declared.term.Amount.TheVariants.{Plus, Minus}
 use Rattle.dm_lines.specs.declared.term.Term.{Term}
+use Rattle.dm_lines.specs.declared.term.Term.TheVariants as term
 use Rattle.dm_lines.specs.Statements.{line_of}
 use Rattle.dm_lines.specs.Placing.{written_of, outline_of}
 use Rattle.dm_lines.specs.Own.{own_term, own_statement}
@@ -49,9 +52,20 @@ PiecesAreRead = (ps : List Piece) → parted false ps ≡ true → AllFit ps →
 abbrev pub OwnTermsAreWritten : Type 0
 OwnTermsAreWritten = (a : Action) (next place : ℕ) (o : Operand) → written_of a.mnemonic (own_term a next o) place next ≡ Some (read.written_of a next o)
 
+-- the numbers in an operand fit their types
+abbrev pub AmountFits : Amount → Type 0
+AmountFits (Plus n) = n < 2 ^ 16
+AmountFits (Minus n) = n < 2 ^ 16
+
+abbrev pub TermFits : Term → Type 0
+TermFits (term.Memory s b n) = AmountFits n
+TermFits (term.Address s v) = AmountFits v.amount
+TermFits (term.Number v) = AmountFits v.amount
+TermFits _ = Unit {0}
+
 -- an outline stands for what is written once its label has a place
 abbrev pub OutlinesStand : Type 0
-OutlinesStand = (m : Mnemonic) (t : Term) (place next : ℕ) (x : Written) → written_of m t place next ≡ Some x → OperandStands m (outline_of m t) x
+OutlinesStand = (m : Mnemonic) (t : Term) (place next : ℕ) (x : Written) → TermFits t → written_of m t place next ≡ Some x → OperandStands m (outline_of m t) x
 
 -- the text of each instruction of the table is read as that instruction
 abbrev pub TextsAreRead : Type 0

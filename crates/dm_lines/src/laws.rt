@@ -1,6 +1,6 @@
 //! What holds of the text of every instruction.
 
-ghost use Rattle.dm_lines.specs.Laws.{PiecesAreRead, OwnTermsAreWritten};
+ghost use Rattle.dm_lines.specs.Laws.{PiecesAreRead, OwnTermsAreWritten, OutlinesStand};
 
 /// The law that a text whose pieces stand apart is read piece by piece: a name is a word, a number that number. It does nothing when
 /// called.
@@ -14,4 +14,11 @@ pub fn pieces_are_read()
 #[tactic(auto, using(crate::proofs::OwnTerms::own_terms_are_written))]
 pub fn own_terms_are_written()
     ensures { OwnTermsAreWritten }
+{}
+
+/// The law that an outline stands for what is written once its label has a place: an instruction whose operands are outlines has as
+/// many bytes. It does nothing when called.
+#[tactic(auto, using(crate::proofs::OwnTerms::outlines_stand))]
+pub fn outlines_stand()
+    ensures { OutlinesStand }
 {}

@@ -1,5 +1,5 @@
 mod Readings
-mod Rows
+pub mod Rows
 mod One
 mod Known
 mod Own
