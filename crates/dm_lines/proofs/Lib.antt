@@ -5,3 +5,4 @@ pub mod OwnTerms
 pub mod Named
 pub mod Again
 pub mod Stated
+pub mod InTable
