@@ -6,3 +6,4 @@ pub mod Named
 pub mod Again
 pub mod Stated
 pub mod InTable
+pub mod TextRead

@@ -1,6 +1,6 @@
 //! What holds of the text of every instruction.
 
-ghost use Rattle.dm_lines.specs.Laws.{PiecesAreRead, OwnTermsAreWritten, OutlinesStand};
+ghost use Rattle.dm_lines.specs.Laws.{PiecesAreRead, OwnTermsAreWritten, OutlinesStand, TextsAreRead};
 
 /// The law that a text whose pieces stand apart is read piece by piece: a name is a word, a number that number. It does nothing when
 /// called.
@@ -21,4 +21,10 @@ pub fn own_terms_are_written()
 #[tactic(auto, using(crate::proofs::OwnTerms::outlines_stand))]
 pub fn outlines_stand()
     ensures { OutlinesStand }
+{}
+
+/// The law that the text of each instruction of the table is read as that instruction, whatever stands behind it. It does nothing
+/// when called.
+pub fn texts_are_read()
+    ensures { TextsAreRead }
 {}
