@@ -1,5 +1,5 @@
 -- An instruction of the table can be written.
-use Rattle.std.proofs.Common.{◌≡◌, ℕ, ◌+◌, ◌*◌, ◌%◌, ◌<◌, ◌^◌, Bool, true, false, List, [], Option, Some, None, ◌&&◌, refl, sym, subst, ◌∙◌, arith}
+use Rattle.std.proofs.Common.{◌≡◌, ℕ, Bool, true, false, List, Option, Some, None, ◌&&◌, refl, subst}
 use Rattle.std.specs.Prelude.{if◌then◌else◌}
 use Rattle.dm_ins.specs.declared.operand.Width.{Width}
 use Rattle.dm_ins.specs.declared.operand.Width.TheVariants.{Byte, Word}
@@ -12,7 +12,7 @@ use Rattle.dm_ins.specs.declared.fields.Fields.{Fields}
 use Rattle.dm_ins.specs.declared.table.Kind.{Kind}
 use Rattle.dm_ins.specs.declared.table.Kind.TheVariants as is
 use Rattle.dm_ins.specs.declared.table.Row.{Row}
-use Rattle.dm_ins.specs.Spelling.{direct, register, at_place, Fills, SpellsAction}
+use Rattle.dm_ins.specs.Spelling.{register, at_place, Fills, SpellsAction}
 use Rattle.dm_ins.proofs.TableRules.{both_true}
 use Rattle.dm_read.proofs.Rows.{if_row, entry_all, rows_all, of_row}
 use Rattle.dm_lines.specs.Statements.{is_memory, exchanges}

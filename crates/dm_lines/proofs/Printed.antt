@@ -1,15 +1,15 @@
 -- Pieces of text are read as their tokens.
-use Rattle.std.proofs.Common.{◌≡◌, ℕ, zero, suc, ◌<◌, ◌≤◌, ◌+◌, ◌-◌, ◌*◌, ◌/◌, ◌%◌, ◌^◌, Bool, true, false, ◌&&◌, ◌||◌, List, [], ◌∷◌, ◌++◌, map, Option, Some, None, nat_eq, leb, eqb, refl, sym, ap, subst, ◌∙◌, append_assoc, append-nil, arith}
+use Rattle.std.proofs.Common.{◌≡◌, ℕ, ◌<◌, ◌+◌, ◌-◌, ◌*◌, ◌/◌, ◌%◌, Bool, true, false, ◌&&◌, ◌||◌, List, [], ◌∷◌, ◌++◌, map, Option, Some, None, leb, eqb, refl, sym, ap, subst, ◌∙◌, append_assoc, append-nil, arith}
 use Rattle.std.specs.Prelude.{◌==◌, if◌then◌else◌, nat_le}
 use Rattle.std.specs.List.{list_all}
 use Rattle.std.proofs.lemmas.Bool.{eqb-true}
 use Rattle.std.proofs.lemmas.Bool.Decides.{nat_tests}
 use borrow.Author.Count.{below_none, below_more}
-use Rattle.dm_text.specs.Pieces.{Piece, name, byte, word, sign, digit, byte_digits, word_digits, bytes_of, is_in_names, is_name, is_mark, parted}
+use Rattle.dm_text.specs.Pieces.{Piece, name, byte, word, sign, digit, byte_digits, word_digits, bytes_of, is_in_names, is_mark, parted}
 use Rattle.dm_lines.specs.declared.token.Token.{Token}
 use Rattle.dm_lines.specs.declared.token.Token.TheVariants as t
 use Rattle.dm_lines.specs.Tokens.{upper, is_word_byte, digit_of, magnitude_of, word_token, closed, with_front, then_tokens, marked, lexed, tokens_of}
-use Rattle.dm_lines.specs.Laws.{piece_tokens, all_tokens, AllFit, PiecesAreRead}
+use Rattle.dm_lines.specs.Laws.{all_tokens, AllFit, PiecesAreRead}
 
 both_true : (a b : Bool) → (a && b) ≡ true → (a ≡ true) × (b ≡ true)
 both_true true true e = (refl, refl)

@@ -1,5 +1,5 @@
 -- The text of each instruction of the table is read as that instruction.
-use Rattle.std.proofs.Common.{◌≡◌, ℕ, ◌+◌, ◌*◌, ◌/◌, ◌%◌, ◌<◌, ◌≤◌, ◌^◌, Bool, true, false, List, [], ◌∷◌, ◌++◌, length, Option, Some, None, refl, sym, ap, subst, ◌∙◌, arith, length-append}
+use Rattle.std.proofs.Common.{◌≡◌, ℕ, ◌+◌, ◌<◌, ◌≤◌, ◌^◌, Bool, true, false, List, [], ◌∷◌, ◌++◌, length, Option, Some, None, sym, ap, subst, ◌∙◌, arith, length-append}
 use Rattle.std.specs.Prelude.{◌==◌, if◌then◌else◌, nat_lt, codes}
 use Rattle.std.proofs.lemmas.Bool.Decides.{nat_tests}
 use Rattle.dm_ins.specs.declared.operand.Width.{Width}
@@ -25,7 +25,7 @@ use Rattle.dm_ins.specs.Search.{OperandFits}
 use Rattle.dm_ins.specs.Walks.{◌>>=◌}
 use Rattle.dm_ins.proofs.Shortest.{action_fits}
 use Rattle.dm_text.specs.Names.{byte_name, word_name, segment_name, name_of}
-use Rattle.dm_text.specs.Pieces.{Piece, name, byte, word, sign, space, plus, comma, left_bracket, right_bracket, byte_digits, word_digits, bytes_of}
+use Rattle.dm_text.specs.Pieces.{Piece, name, word, sign, space, plus, comma, left_bracket, right_bracket, byte_digits, word_digits, bytes_of}
 use Rattle.dm_text.specs.Texts.{base_pieces, displacement_pieces, address_pieces, size_pieces, memory_pieces, operand_pieces, behind, second_pieces, operands_pieces, mnemonic_pieces, is_nop, action_pieces, segment_pieces, lock_pieces, repeat_pieces, prefix_pieces, pieces, text_of}
 use Rattle.dm_text.proofs.Pieces.{bytes-append}
 use Rattle.dm_text.proofs.Parted.{texts_are_parted}
@@ -34,9 +34,7 @@ use Rattle.dm_read.specs.declared.written.Size.TheVariants.{Absent, Byte, Word, 
 use Rattle.dm_read.specs.Words.{size_word}
 use Rattle.dm_read.specs.Laws.{word_pieces}
 use Rattle.dm_read.proofs.Sizes.{sizes_are_shown}
-use Rattle.dm_lines.specs.Tokens.{tokens_of}
 use Rattle.dm_lines.specs.Statements.{statement_of, line_of}
-use Rattle.dm_lines.specs.Own.{own_statement}
 use Rattle.dm_lines.specs.Laws.{AllFit, TextsAreRead}
 use Rattle.dm_lines.proofs.Printed.{pieces_are_read}
 use Rattle.dm_lines.proofs.Again.{pieces_again}
@@ -121,8 +119,10 @@ action_fit a next h k = by (is_nop a)
   where
     second : AllFit (second_pieces a next)
     second = behind_fit comma a.second (operand_pieces a next a.second) (tt, operand_fit a next a.second k)
+
     operands : AllFit (operands_pieces a next)
     operands = behind_fit space a.first (operand_pieces a next a.first ++ second_pieces a next) (tt, fit-append (operand_pieces a next a.first) (second_pieces a next) (operand_fit a next a.first h) second)
+
     by : (n : Bool) → AllFit (if n then name (codes "NOP") ∷ [] else mnemonic_pieces a.mnemonic ++ operands_pieces a next)
     by true = (tt, tt)
     by false = fit-append (mnemonic_pieces a.mnemonic) (operands_pieces a next) (mnemonic_fit a.mnemonic) operands
@@ -247,8 +247,10 @@ action_long a next = by (is_nop a)
   where
     second : Long 20 (second_pieces a next)
     second = behind_long 19 44 a.second (operand_pieces a next a.second) (operand_long a next a.second)
+
     operands : Long 40 (operands_pieces a next)
     operands = behind_long 39 32 a.first (operand_pieces a next a.first ++ second_pieces a next) (long-append 19 20 (operand_pieces a next a.first) (second_pieces a next) (operand_long a next a.first) second)
+
     by : (n : Bool) → Long 49 (if n then name (codes "NOP") ∷ [] else mnemonic_pieces a.mnemonic ++ operands_pieces a next)
     by true = omega arith
     by false = long-append 9 40 (mnemonic_pieces a.mnemonic) (operands_pieces a next) (mnemonic_long a.mnemonic) operands
