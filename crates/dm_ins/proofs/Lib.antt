@@ -1,4 +1,4 @@
-mod TableRules
+pub mod TableRules
 pub mod Walks
 mod Demands
 mod Least
@@ -6,4 +6,4 @@ mod Order
 mod KeptPrefixes
 mod Sound
 mod Rows
-mod Shortest
+pub mod Shortest

@@ -1,16 +1,19 @@
 -- Spellings in order, and the least of several.
-use Rattle.std.proofs.Common.{◌*◌, ◌≡◌, ℕ, ◌+◌, ◌<◌, ◌≤◌, Bool, true, false, List, [], ◌∷◌, ◌++◌, length, Option, Some, None, refl, sym, ap, subst, ◌∙◌, arith, inl, inr, nat_lt}
+use Rattle.std.proofs.Common.{◌*◌, ◌≡◌, ℕ, ◌+◌, ◌<◌, ◌≤◌, Bool, true, false, List, [], ◌∷◌, ◌++◌, length, Option, Some, None, refl, sym, ap, subst, ◌∙◌, arith, inl, inr, nat_eq, nat_lt}
 use Rattle.std.specs.Prelude.{◌⊎◌, cond, IfSome, IfNone}
 use Rattle.std.specs.Ordering.{is_lt, nat_cmp, ordering_reverse, ordering_then}
 use Rattle.std.specs.declared.cmp.Ordering.{Ordering}
 use Rattle.std.specs.declared.cmp.Ordering.TheVariants.{Less, Equal, Greater}
 use Rattle.std.specs.Cmp.Lexicographic.{slice_cmp, nat_list_cmp_total}
 use Rattle.std.proofs.lemmas.List.{length-append}
-use Rattle.std.proofs.lemmas.Bool.{cases_lt, ltb-true, ltb-false, lt-ltb, le-ltb}
+use Rattle.std.proofs.lemmas.Bool.{cases_lt, eqb-true, ltb-true, ltb-false, lt-ltb, le-ltb}
 use Rattle.dm_ins.specs.declared.action.Action.{Action}
 use Rattle.dm_ins.specs.declared.fill.Choice.{Choice}
+use Rattle.dm_ins.specs.declared.table.Entry.{Entry}
+use Rattle.dm_ins.specs.declared.table.Entry.TheVariants.{Unlisted, Plain, Group, Second}
+use Rattle.dm_ins.specs.Table.{entry_of}
 use Rattle.dm_ins.specs.Order.{before}
-use Rattle.dm_ins.specs.Search.{better_of, Best, CandidateAt, bytes_of}
+use Rattle.dm_ins.specs.Search.{better_of, Best, CandidateAt, HasNoMnemonic, bytes_of, choice_at, has_group}
 
 abbrev Before : List ℕ → List ℕ → Type 0
 Before a b = (length a < length b) ⊎ ((length a ≡ length b) × (slice_cmp nat_cmp a b ≡ Less))
@@ -116,8 +119,45 @@ module _ (a : Action) (b g : ℕ) (fits : g < 8) where
   }
   best_more (Some old) (Some new) best some none = kept_best (before new old) old new refl best some
 
+-- a row of another mnemonic has no bytes
+pub best_without : (a : Action) (b g : ℕ) → g < 8 → (o : Option (List ℕ)) → Best (8 * b + g) a o → HasNoMnemonic b g a.mnemonic → Best (8 * b + g + 1) a o
+best_without a b g lt o best none = subst (Best (8 * b + g + 1) a) (same o) (best_more a b g lt o None best tt (λ c x. none x.choice x.is_choice x.mnemonic))
+  where
+    same : (o : Option (List ℕ)) → better_of o None ≡ o
+    same None = refl
+    same (Some v) = refl
+
 pub best_at : (m n : ℕ) (a : Action) (o : Option (List ℕ)) → m ≡ n → Best m a o → Best n a o
 best_at m n a o e best = subst (λ k. Best k a o) e best
+
+-- ---- a first byte with no group
+
+not_zero : (k : ℕ) → 0 < k → nat_eq k 0 ≡ false
+not_zero k lt = by (nat_eq k 0) refl
+  where
+    by : (z : Bool) → nat_eq k 0 ≡ z → nat_eq k 0 ≡ false
+    by true e = absurd (omega (arith, eqb-true k 0 e))
+    by false e = e
+
+no_choice : {A : Type 0} (x y : A) (z : Bool) → z ≡ false → cond z (Some x) None ≡ Some y → ⊥
+no_choice x y true e h = absurd cc
+no_choice x y false e h = absurd cc
+
+no_other : (e : Entry) (b k : ℕ) (x : Choice) → has_group e ≡ false → 0 < k → choice_at e b k ≡ Some x → ⊥
+no_other Unlisted b k x n lt e = absurd cc
+no_other (Plain p) b k x n lt e = no_choice _ x (nat_eq k 0) (not_zero k lt) e
+no_other (Group g) b k x n lt e = absurd cc
+no_other (Second c p) b k x n lt e = no_choice _ x (nat_eq k 0) (not_zero k lt) e
+
+-- the row under the reg field 0 is the only one
+pub best_alone : (a : Action) (b : ℕ) → has_group (entry_of b) ≡ false → (o : Option (List ℕ)) → Best (8 * b + 0 + 1) a o → Best (8 * b + 8) a o
+best_alone a b n o best = record {
+  found = best.found;
+  least = λ i k c f lt x. elim (cases_lt (8 * i + k) (8 * b + 1)) [
+    | inl below ↦ best.least i k c f (omega arith) x
+    | inr le ↦ (let e : i ≡ b = omega arith in let more : 0 < k = omega arith in absurd (no_other (entry_of b) b k x.choice n more (rw e at x.is_choice)))
+  ];
+}
 
 -- ---- lists one behind the other
 

@@ -78,7 +78,8 @@ operand_fits (is.Word r) m o d lt f h = rw h.0 tt
 operand_fits (is.TheSegment r) m o d lt f h = rw h.0 tt
 operand_fits is.One m o d lt f h = rw h.0 tt
 
-action_fits : (a : Action) (d : List ℕ) → SpellsAction a d → OperandFits a.first × OperandFits a.second
+-- the numbers of an instruction of the table fit their types
+pub action_fits : (a : Action) (d : List ℕ) → SpellsAction a d → OperandFits a.first × OperandFits a.second
 action_fits a d h =
     let r = row_fits (entry_of h.first_byte) h.fields h.behind h.row h.has_row in
     let f = fields_fit (entry_of h.first_byte) h.fields h.behind h.row h.has_row in

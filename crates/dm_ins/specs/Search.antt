@@ -15,6 +15,7 @@ use Rattle.dm_ins.specs.declared.demand.Place.TheVariants as place
 use Rattle.dm_ins.specs.declared.demand.Data.{Data}
 use Rattle.dm_ins.specs.declared.demand.Data.TheVariants as data_is
 use Rattle.arrayvec.specs.ArrayVec.{ArrayVec}
+use Rattle.dm_ins.specs.declared.action.Mnemonic.{Mnemonic}
 use Rattle.dm_ins.specs.declared.action.Action.{Action}
 use Rattle.dm_ins.specs.declared.prefix.Repeat.{Repeat}
 use Rattle.dm_ins.specs.declared.prefix.Prefix.{Prefix}
@@ -157,6 +158,11 @@ choice_at (Group g) b r = do
   Some (record { opcode = b; row = p; register = Some r; second = None })
 choice_at (Second c p) b r = if r == 0 then Some (record { opcode = b; row = p; register = None; second = Some c }) else None
 
+-- whether the reg field chooses among the rows of an entry
+abbrev pub has_group : Entry → Bool
+has_group (Group g) = true
+has_group _ = false
+
 abbrev pub PlaceFits : Place → Type 0
 PlaceFits (place.Register n) = n < 8
 PlaceFits (place.Memory a) = Unit {0}
@@ -185,6 +191,10 @@ pub record CandidateAt (b g : ℕ) (a : Action) (c : List ℕ) : Type 0 where
   pub is_bytes : bytes_of choice a.first a.second ≡ Some c
   pub first_fits : OperandFits a.first
   pub second_fits : OperandFits a.second
+
+-- the row under the first byte b and the reg field g, if there is one, has another mnemonic
+abbrev pub HasNoMnemonic : ℕ → ℕ → Mnemonic → Type 0
+HasNoMnemonic b g m = (c : Choice) → choice_at (entry_of b) b g ≡ Some c → c.row.mnemonic ≡ m → ⊥
 
 abbrev pub better_of : Option (List ℕ) → Option (List ℕ) → Option (List ℕ)
 better_of None new = new

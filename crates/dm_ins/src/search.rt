@@ -1,9 +1,9 @@
 //! The least bytes of an action, by a search of the rows.
 
-ghost use Rattle.std.specs.Prelude.{◌≡◌, ◌+◌, ◌*◌, ◌<◌, ◌↔◌, IsTrue, IfSome, IfNone, List, ℕ};
+ghost use Rattle.std.specs.Prelude.{◌≡◌, ◌+◌, ◌*◌, ◌<◌, ◌↔◌, IsFalse, IsTrue, IfSome, IfNone, List, ℕ};
 ghost use Rattle.dm_ins.specs.Table.{entry_of};
 ghost use Rattle.dm_ins.specs.Order.{before};
-ghost use Rattle.dm_ins.specs.Search.{Best, CandidateAt, better_of, choice_at, seen_bytes};
+ghost use Rattle.dm_ins.specs.Search.{Best, CandidateAt, HasNoMnemonic, better_of, choice_at, has_group, seen_bytes};
 
 use crate::action::{Action, Mnemonic};
 use crate::fill::{Choice, RowBytes, fill};
@@ -104,16 +104,66 @@ fn better(best: Option<RowBytes>, new: Option<RowBytes>) -> Option<RowBytes>
     }
 }
 
-/// The least of the best bytes so far and those of the rows under one more first byte.
-fn better_under(opcode: u8, action: &Action, best: Option<RowBytes>) -> Option<RowBytes>
-    requires { Best (8 * opcode) action.now (seen_bytes best) }
-    ensures { Best (8 * opcode + 8) action.now (seen_bytes result) }
+/// Whether the row under the first byte and the reg field has the mnemonic.
+#[inline(always)]
+fn has_mnemonic(opcode: u8, register: u8, mnemonic: Mnemonic) -> bool
+    requires { register < 8 }
+    ensures { IsFalse result → HasNoMnemonic opcode register mnemonic }
 {
-    let mut best = best;
-    for register in 0..8 {
-        best = better(best, candidate(opcode, register, action));
+    match entry_at(opcode) {
+        Entry::Unlisted => false,
+        Entry::Plain(row) | Entry::Second(_, row) => is_same(row.mnemonic, mnemonic),
+        Entry::Group(group) => match member(group, register) {
+            None => false,
+            Some(row) => is_same(row.mnemonic, mnemonic),
+        },
     }
-    best
+}
+
+/// Whether the reg field chooses among the rows under the first byte.
+#[inline(always)]
+fn has_members(opcode: u8) -> bool
+    ensures { result ≡ has_group (entry_of opcode) }
+{
+    matches!(entry_at(opcode), Entry::Group(_))
+}
+
+/// Makes `best` the least of the best bytes so far and those of one more row. Few rows have the
+/// mnemonic, so that is asked first.
+#[inline(always)]
+fn improve_at(opcode: u8, register: u8, action: &Action, best: &mut Option<RowBytes>)
+    requires register { register < 8 }
+    requires best { Best (8 * opcode + register) action.now (seen_bytes best.old) }
+    ensures { Best (8 * opcode + register + 1) action.now (seen_bytes best.new) }
+{
+    if has_mnemonic(opcode, register, action.mnemonic) {
+        *best = better(best.take(), candidate(opcode, register, action));
+    }
+}
+
+/// Makes `best` the least of the best bytes so far and those of the rows of a group under one more
+/// first byte.
+fn improve_in_group(opcode: u8, action: &Action, best: &mut Option<RowBytes>)
+    requires { Best (8 * opcode) action.now (seen_bytes best.old) }
+    ensures { Best (8 * opcode + 8) action.now (seen_bytes best.new) }
+{
+    for register in 0..8 {
+        improve_at(opcode, register, action, best);
+    }
+}
+
+/// Makes `best` the least of the best bytes so far and those of the rows under one more first byte.
+/// Outside the groups there is one row at most, which stands under the reg field 0.
+#[inline(always)]
+fn improve_under(opcode: u8, action: &Action, best: &mut Option<RowBytes>)
+    requires { Best (8 * opcode) action.now (seen_bytes best.old) }
+    ensures { Best (8 * opcode + 8) action.now (seen_bytes best.new) }
+{
+    if has_members(opcode) {
+        improve_in_group(opcode, action, best);
+    } else {
+        improve_at(opcode, 0, action, best);
+    }
 }
 
 /// The least of the rows' bytes for the action, or None where no row has it.
@@ -122,7 +172,7 @@ pub fn least(action: &Action) -> Option<RowBytes>
 {
     let mut best = None;
     for opcode in 0..=255 {
-        best = better_under(opcode, action, best);
+        improve_under(opcode, action, &mut best);
     }
     best
 }

@@ -1,6 +1,10 @@
 //! From the words of a line to an instruction of the table.
 #![tactic(auto)]
 
+mod laws;
+mod reading;
 mod written;
 
+pub use laws::{own_words_are_read, stand_ins_have_the_length, words_are_one_instruction};
+pub use reading::read_words;
 pub use written::{Numeral, Size, Words, Written};

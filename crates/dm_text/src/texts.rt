@@ -94,7 +94,7 @@ fn general(operand: Operand) -> bool
 }
 
 /// Whether a general register gives the size of the other operand. A shift's CL gives none.
-fn size_is_given(action: &Action) -> bool
+pub fn size_is_given(action: &Action) -> bool
     ensures { result ≡ gives_size action.now }
 {
     general(action.first) || !shifts(action.mnemonic) && general(action.second)

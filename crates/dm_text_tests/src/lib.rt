@@ -1,4 +1,4 @@
-//! Worked rows of the text of instructions.
+//! Worked rows of the text of instructions, and of the words that are instructions.
 //!
 //! They stand apart from the crates that they try, since a crate with tests is proved twice.
 #![tactic(auto)]
@@ -6,6 +6,10 @@
 #[cfg(test)]
 mod checks;
 #[cfg(test)]
+mod readings;
+#[cfg(test)]
 mod rows;
 #[cfg(test)]
 mod texts;
+#[cfg(test)]
+mod words;

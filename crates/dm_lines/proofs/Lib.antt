@@ -1,0 +1,7 @@
+pub mod Lexed
+pub mod Parts
+pub mod Printed
+pub mod OwnTerms
+pub mod Named
+pub mod Again
+pub mod Stated

@@ -1,0 +1,7 @@
+use Rattle.std.proofs.Common.{◌≡◌, drop}
+use Rattle.dm_text.specs.Names.{named}
+use Rattle.dm_lines.specs.Words.{spelling_of}
+use Rattle.dm_lines.proofs.words.find.Given as goal
+
+abbrev pub invariant-loop-reserved : goal.invariant-loop-reserved
+invariant-loop-reserved l = named spelling_of (drop l.reserved-index l.words) l.word ≡ named spelling_of l.words l.word

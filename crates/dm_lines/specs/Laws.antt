@@ -1,0 +1,58 @@
+-- What holds of the text of every instruction: it is read again as that instruction.
+use Rattle.std.specs.Prelude.{◌≡◌, ℕ, ◌^◌, ◌<◌, true, false, List, [], ◌∷◌, Option, Some}
+use Rattle.dm_ins.specs.declared.operand.Operand.{Operand}
+use Rattle.dm_ins.specs.declared.action.Mnemonic.{Mnemonic}
+use Rattle.dm_ins.specs.declared.action.Action.{Action}
+use Rattle.dm_ins.specs.declared.ins.Ins.{Ins}
+use Rattle.dm_ins.specs.Spelling.{SpellsAction}
+use Rattle.dm_text.specs.Texts.{text_of}
+use Rattle.dm_read.specs.declared.written.Written.{Written}
+use Rattle.dm_read.specs.Shapes.{OperandStands}
+use Rattle.dm_read.specs.Own as read
+use Rattle.dm_lines.specs.declared.term.Term.{Term}
+use Rattle.dm_lines.specs.Statements.{line_of}
+use Rattle.dm_lines.specs.Placing.{written_of, outline_of}
+use Rattle.dm_lines.specs.Own.{own_term, own_statement}
+use Rattle.dm_text.specs.Pieces.{Piece, name, byte, word, sign, bytes_of, parted}
+use Rattle.dm_lines.specs.declared.token.Token.{Token}
+use Rattle.dm_lines.specs.declared.token.Token.TheVariants as t
+use Rattle.dm_lines.specs.Tokens.{closed, then_tokens, marked, tokens_of}
+
+-- ---- pieces of text
+
+abbrev pub piece_tokens : Piece → Option (List Token)
+piece_tokens (name w) = closed w
+piece_tokens (byte n) = Some (t.Number n ∷ [])
+piece_tokens (word n) = Some (t.Number n ∷ [])
+piece_tokens (sign b) = marked b
+
+abbrev pub all_tokens : List Piece → Option (List Token)
+all_tokens [] = Some []
+all_tokens (p ∷ ps) = then_tokens (piece_tokens p) (all_tokens ps)
+
+abbrev pub PieceFits : Piece → Type 0
+PieceFits (byte n) = n < 2 ^ 8
+PieceFits (word n) = n < 2 ^ 16
+PieceFits _ = Unit {0}
+
+abbrev pub AllFit : List Piece → Type 0
+AllFit [] = Unit {0}
+AllFit (p ∷ ps) = PieceFits p × AllFit ps
+
+-- a text whose pieces stand apart is read piece by piece: a name is a word, a number is that number
+abbrev pub PiecesAreRead : Type 0
+PiecesAreRead = (ps : List Piece) → parted false ps ≡ true → AllFit ps → tokens_of (bytes_of ps) ≡ all_tokens ps
+
+-- ---- instructions
+
+-- what an instruction's operand is read as is what its text shows
+abbrev pub OwnTermsAreWritten : Type 0
+OwnTermsAreWritten = (a : Action) (next place : ℕ) (o : Operand) → written_of a.mnemonic (own_term a next o) place next ≡ Some (read.written_of a next o)
+
+-- an outline stands for what is written once its label has a place
+abbrev pub OutlinesStand : Type 0
+OutlinesStand = (m : Mnemonic) (t : Term) (place next : ℕ) (x : Written) → written_of m t place next ≡ Some x → OperandStands m (outline_of m t) x
+
+-- the text of each instruction of the table is read as that instruction
+abbrev pub TextsAreRead : Type 0
+TextsAreRead = (i : Ins) (bytes : List ℕ) (next : ℕ) → SpellsAction i.action bytes → line_of (text_of i next) ≡ Some (own_statement i next)

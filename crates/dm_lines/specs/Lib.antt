@@ -1,0 +1,7 @@
+pub mod Words
+pub mod Tokens
+pub mod Operands
+pub mod Statements
+pub mod Placing
+pub mod Own
+pub mod Laws

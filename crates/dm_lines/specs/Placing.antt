@@ -1,0 +1,125 @@
+-- What is written where an operand stands: with the place of its label, and before any label has a place.
+-- Source: Intel 8086 Family User's Manual, section 2.9 (labels and numbers of ASM-86); which operands a label may be is this
+-- machine's own (docs/DECISIONS.md).
+use Rattle.std.specs.Prelude.{ℕ, ◌+◌, ◌-◌, ◌%◌, Bool, true, false, ◌==◌, Option, Some, None, nat_lt, nat_le, if◌then◌else◌}
+use Rattle.dm_ins.specs.declared.action.Mnemonic.{Mnemonic}
+use Rattle.dm_ins.specs.declared.action.Mnemonic.TheVariants.{Mov}
+use Rattle.dm_ins.specs.declared.operand.Base.TheVariants.{Direct}
+use Rattle.dm_ins.specs.Walks.{◌>>=◌}
+use Rattle.dm_read.specs.declared.written.Numeral.{Numeral}
+use Rattle.dm_read.specs.declared.written.Written.{Written}
+use Rattle.dm_read.specs.declared.written.Written.TheVariants as w
+use Rattle.dm_lines.specs.declared.token.Name as Name'
+use Rattle.dm_lines.specs.declared.term.Amount.{Amount}
+use Rattle.dm_lines.specs.declared.term.Amount.TheVariants.{Plus, Minus}
+use Rattle.dm_lines.specs.declared.term.Value.{Value}
+use Rattle.dm_lines.specs.declared.term.Term.{Term}
+use Rattle.dm_lines.specs.declared.term.Term.TheVariants as term
+use Rattle.dm_lines.specs.Operands.{word_of}
+
+-- ---- values
+
+-- a label's place and what is added to it: 0 to FFFFh
+abbrev pub moved : Amount → ℕ → Option ℕ
+moved (Plus n) place = if nat_lt (place + n) 65536 then Some (place + n) else None
+moved (Minus n) place = if nat_le n place then Some (place - n) else None
+
+abbrev pub word_from : Option Name'.Name → Amount → ℕ → Option ℕ
+word_from None n place = Some (word_of n)
+word_from (Some l) n place = moved n place
+
+-- the word that a value is where its label stands at a place
+abbrev pub standing : Value → ℕ → Option ℕ
+standing v place = word_from v.label v.amount place
+
+abbrev pub low_byte_of : ℕ → Option ℕ
+low_byte_of n = if nat_lt n 256 then Some n else None
+
+-- a byte is -80h to FFh
+abbrev pub byte_of : Amount → Option ℕ
+byte_of (Plus n) = low_byte_of n
+byte_of (Minus n) = if nat_le n 128 then Some ((256 - n) % 256) else None
+
+-- displacements count modulo 10000h
+abbrev pub distance_of : ℕ → ℕ → ℕ
+distance_of target next = (target + 65536 - next) % 65536
+
+abbrev pub is_one_of : Amount → Bool
+is_one_of (Plus n) = n == 1
+is_one_of (Minus n) = false
+
+-- ---- as each kind of operand
+
+-- a label is an immediate value of MOV alone
+abbrev pub takes_labels : Mnemonic → Bool
+takes_labels Mov = true
+takes_labels _ = false
+
+abbrev pub number_at : Amount → ℕ → Numeral
+number_at n next = record { byte = byte_of n; word = Some (word_of n); distance = distance_of (word_of n) next; is_one = is_one_of n }
+
+abbrev pub label_at : Mnemonic → ℕ → ℕ → Numeral
+label_at m target next =
+    if takes_labels m
+    then record { byte = low_byte_of target; word = Some target; distance = distance_of target next; is_one = false }
+    else record { byte = None; word = None; distance = distance_of target next; is_one = false }
+
+abbrev pub numeral_from : Mnemonic → Option Name'.Name → Amount → ℕ → ℕ → Option Numeral
+numeral_from m None n place next = Some (number_at n next)
+numeral_from m (Some l) n place next = do
+  target ← moved n place
+  Some (label_at m target next)
+
+abbrev pub numeral_at : Mnemonic → Value → ℕ → ℕ → Option Numeral
+numeral_at m v place next = numeral_from m v.label v.amount place next
+
+-- what is written where an operand stands, in an instruction of this mnemonic: its label stands at a place, the next instruction
+-- at another
+abbrev pub written_of : Mnemonic → Term → ℕ → ℕ → Option Written
+written_of m term.Nothing place next = Some w.Nothing
+written_of m (term.ByteRegister r) place next = Some (w.ByteRegister r)
+written_of m (term.WordRegister r) place next = Some (w.WordRegister r)
+written_of m (term.SegmentRegister r) place next = Some (w.SegmentRegister r)
+written_of m (term.Memory s b n) place next = Some (w.Memory s (record { base = b; displacement = word_of n }))
+written_of m (term.Address s v) place next = do
+  d ← standing v place
+  Some (w.Memory s (record { base = Direct; displacement = d }))
+written_of m (term.Number v) place next = do
+  n ← numeral_at m v place next
+  Some (w.Number n)
+written_of m (term.Far s o) place next = Some (w.Far s o)
+
+-- ---- before any label has a place: each byte is in range, each target is near
+
+abbrev pub number_outline : Amount → Numeral
+number_outline n = record { byte = Some (word_of n % 64); word = Some (word_of n); distance = 0; is_one = is_one_of n }
+
+abbrev pub label_outline : Mnemonic → Numeral
+label_outline m =
+    if takes_labels m
+    then record { byte = Some 0; word = Some 0; distance = 0; is_one = false }
+    else record { byte = None; word = None; distance = 0; is_one = false }
+
+abbrev pub numeral_without : Mnemonic → Option Name'.Name → Amount → Numeral
+numeral_without m None n = number_outline n
+numeral_without m (Some l) n = label_outline m
+
+abbrev pub numeral_outline : Mnemonic → Value → Numeral
+numeral_outline m v = numeral_without m v.label v.amount
+
+abbrev pub word_without : Option Name'.Name → Amount → ℕ
+word_without None n = word_of n
+word_without (Some l) n = 0
+
+abbrev pub word_outline : Value → ℕ
+word_outline v = word_without v.label v.amount
+
+abbrev pub outline_of : Mnemonic → Term → Written
+outline_of m term.Nothing = w.Nothing
+outline_of m (term.ByteRegister r) = w.ByteRegister r
+outline_of m (term.WordRegister r) = w.WordRegister r
+outline_of m (term.SegmentRegister r) = w.SegmentRegister r
+outline_of m (term.Memory s b n) = w.Memory s (record { base = b; displacement = word_of n })
+outline_of m (term.Address s v) = w.Memory s (record { base = Direct; displacement = word_outline v })
+outline_of m (term.Number v) = w.Number (numeral_outline m v)
+outline_of m (term.Far s o) = w.Far s o

@@ -1,0 +1,167 @@
+-- The statement of a line: a label, and an instruction or data.
+-- Source: Intel 8086 Family User's Manual, section 2.9 (statements of ASM-86); which of its forms there are is this machine's own
+-- (docs/DECISIONS.md).
+use Rattle.std.specs.Prelude.{ℕ, Bool, true, false, List, [], ◌∷◌, ◌++◌, length, Option, Some, None, is_some, nat_lt, if◌then◌else◌}
+use Rattle.dm_ins.specs.declared.operand.WordRegister.TheVariants.{Ax}
+use Rattle.dm_ins.specs.declared.action.Mnemonic.{Mnemonic}
+use Rattle.dm_ins.specs.declared.action.Mnemonic.TheVariants as op
+use Rattle.dm_ins.specs.declared.prefix.Prefixes.{Prefixes}
+use Rattle.dm_ins.specs.Spelling.{no_prefix}
+use Rattle.dm_ins.specs.Walks.{◌>>=◌}
+use Rattle.dm_lines.specs.declared.token.Name as Name'
+use Rattle.dm_lines.specs.declared.token.Token.{Token}
+use Rattle.dm_lines.specs.declared.token.Token.TheVariants as t
+use Rattle.dm_lines.specs.declared.term.Amount.{Amount}
+use Rattle.dm_lines.specs.declared.term.Amount.TheVariants.{Plus}
+use Rattle.dm_lines.specs.declared.term.Value.{Value}
+use Rattle.dm_lines.specs.declared.term.Term.{Term}
+use Rattle.dm_lines.specs.declared.term.Term.TheVariants as term
+use Rattle.dm_lines.specs.declared.statement.Instruction.{Instruction}
+use Rattle.dm_lines.specs.declared.statement.Item as Item'
+use Rattle.dm_lines.specs.declared.statement.Item.TheVariants as code
+use Rattle.dm_lines.specs.declared.statement.Statement as Statement'
+use Rattle.dm_lines.specs.Tokens.{tokens_of}
+use Rattle.dm_lines.specs.Operands.{amount_of, value_of, parts, terms_of}
+
+-- what stands on a line behind its label
+pub data Item : Type 0 where
+  nothing : Item
+  instruction : Instruction → Item
+  bytes : List Amount → Item
+  words : List Value → Item
+
+pub record Statement : Type 0 where
+  pub label : Option Name'.Name
+  pub item : Item
+
+abbrev pub seen_item : Item'.Item → Item
+seen_item code.Nothing = nothing
+seen_item (code.Instruction i) = instruction i
+seen_item (code.Bytes b) = bytes b.items
+seen_item (code.Words w) = words w.items
+
+abbrev pub seen_statement : Statement'.Statement → Statement
+seen_statement s = record { label = s.label; item = seen_item s.item }
+
+-- ---- data
+
+abbrev pub joined_to : {A : Type 0} → List A → Option (List A) → Option (List A)
+joined_to xs None = None
+joined_to xs (Some ys) = Some (xs ++ ys)
+
+abbrev pub then_list : {A : Type 0} → Option (List A) → Option (List A) → Option (List A)
+then_list None r = None
+then_list (Some xs) r = joined_to xs r
+
+abbrev pub one : {A : Type 0} → Option A → Option (List A)
+one None = None
+one (Some x) = Some (x ∷ [])
+
+-- the bytes of a text, up to the quote that ends it
+abbrev pub letters : List Token → Option (List Amount)
+letters (t.Quote ∷ []) = Some []
+letters (t.Letter b ∷ ts) = joined_to (Plus b ∷ []) (letters ts)
+letters _ = None
+
+-- an item of a DB is a text between quotes or a number
+abbrev pub bytes_item : List Token → Option (List Amount)
+bytes_item (t.Quote ∷ ts) = letters ts
+bytes_item ts = one (amount_of ts)
+
+abbrev pub bytes_of : List (List Token) → Option (List Amount)
+bytes_of [] = Some []
+bytes_of (p ∷ ps) = then_list (bytes_item p) (bytes_of ps)
+
+-- an item of a DW is a number, or a label and what is added to it
+abbrev pub words_of : List (List Token) → Option (List Value)
+words_of [] = Some []
+words_of (p ∷ ps) = then_list (one (value_of p)) (words_of ps)
+
+-- ---- instructions
+
+-- SHORT stands behind JMP alone, FAR behind JMP and CALL
+abbrev pub short_of : Mnemonic → Option Mnemonic
+short_of op.Jmp = Some op.JmpShort
+short_of _ = None
+
+abbrev pub far_of : Mnemonic → Option Mnemonic
+far_of op.Jmp = Some op.JmpFar
+far_of op.Call = Some op.CallFar
+far_of _ = None
+
+-- a mnemonic of one or two words, and what follows it
+abbrev pub mnemonic_at : List Token → Option (Mnemonic × List Token)
+mnemonic_at (t.Mnemonic m ∷ t.Short ∷ ts) = do
+  j ← short_of m
+  Some (j, ts)
+mnemonic_at (t.Mnemonic m ∷ t.Far ∷ ts) = do
+  j ← far_of m
+  Some (j, ts)
+mnemonic_at (t.Mnemonic m ∷ ts) = Some (m, ts)
+mnemonic_at _ = None
+
+-- prefix words in any order, at most one of each kind, and what follows them
+abbrev pub prefixed : Prefixes → List Token → Option (Prefixes × List Token)
+prefixed p (t.Segment r ∷ ts) = if is_some p.segment then None else prefixed (record p { segment = Some r }) ts
+prefixed p (t.Lock ∷ ts) = if p.lock then None else prefixed (record p { lock = true }) ts
+prefixed p (t.Repeat r ∷ ts) = if is_some p.repeat then None else prefixed (record p { repeat = Some r }) ts
+prefixed p ts = Some (p, ts)
+
+abbrev pub is_memory : Term → Bool
+is_memory (term.Memory s b n) = true
+is_memory (term.Address s v) = true
+is_memory _ = false
+
+abbrev pub exchanges : Mnemonic → Bool
+exchanges op.Xchg = true
+exchanges op.Test = true
+exchanges _ = false
+
+-- XCHG and TEST take memory on either side: it comes first
+abbrev pub with_terms : Prefixes → Mnemonic → Term → Term → Instruction
+with_terms p m x y =
+    if (if exchanges m then is_memory y else false)
+    then record { prefixes = p; mnemonic = m; first = y; second = x }
+    else record { prefixes = p; mnemonic = m; first = x; second = y }
+
+abbrev pub operated : Prefixes → List Token → Option Instruction
+operated p ts = do
+  m ← mnemonic_at ts
+  xs ← terms_of m.1
+  Some (with_terms p m.0 xs.0 xs.1)
+
+-- NOP is XCHG AX,AX
+abbrev pub action_of : Prefixes → List Token → Option Instruction
+action_of p (t.Nop ∷ []) = Some (record { prefixes = p; mnemonic = op.Xchg; first = term.WordRegister Ax; second = term.WordRegister Ax })
+action_of p ts = operated p ts
+
+abbrev pub instruction_of : List Token → Option Instruction
+instruction_of ts = do
+  p ← prefixed no_prefix ts
+  action_of p.0 p.1
+
+-- ---- lines
+
+abbrev pub item_of : List Token → Option Item
+item_of [] = Some nothing
+item_of (t.DataBytes ∷ ts) = do
+  bs ← bytes_of (parts ts)
+  Some (bytes bs)
+item_of (t.DataWords ∷ ts) = do
+  ws ← words_of (parts ts)
+  Some (words ws)
+item_of ts = do
+  i ← instruction_of ts
+  Some (instruction i)
+
+abbrev pub labelled : Option Name'.Name → Option Item → Option Statement
+labelled l None = None
+labelled l (Some i) = Some (record { label = l; item = i })
+
+abbrev pub statement_of : List Token → Option Statement
+statement_of (t.Name l ∷ t.Colon ∷ ts) = labelled (Some l) (item_of ts)
+statement_of ts = labelled None (item_of ts)
+
+-- a line has at most 255 bytes
+unfoldable pub line_of : List ℕ → Option Statement
+line_of line = if nat_lt 255 (length line) then None else tokens_of line >>= statement_of

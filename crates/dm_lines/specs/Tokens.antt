@@ -1,0 +1,98 @@
+-- The tokens of a line: words, numbers, signs and quoted text.
+-- Source: Intel 8086 Family User's Manual, section 2.9 (statements, names and constants of ASM-86); the bounds of names and
+-- numbers are this machine's own.
+use Rattle.std.specs.Prelude.{ℕ, ◌+◌, ◌-◌, ◌*◌, Bool, true, false, not, ◌&&◌, ◌||◌, ◌==◌, List, [], ◌∷◌, ◌++◌, length, Option, Some, None, nat_le, if◌then◌else◌, replicate, take, drop, slice_index}
+use Rattle.dm_ins.specs.Walks.{◌>>=◌}
+use Rattle.dm_lines.specs.Words.{reserved}
+use Rattle.dm_lines.specs.declared.token.Name as Name'
+use Rattle.dm_lines.specs.declared.token.Token.{Token}
+use Rattle.dm_lines.specs.declared.token.Token.TheVariants.{Name, Number, Comma, Colon, Plus, Minus, Open, Close, Quote, Letter}
+
+-- ---- bytes
+
+abbrev pub upper : ℕ → ℕ
+upper b = if nat_le 97 b && nat_le b 122 then b - 32 else b
+
+-- letters, digits and _
+abbrev pub is_word_byte : ℕ → Bool
+is_word_byte b = (nat_le 65 b && nat_le b 90) || (nat_le 97 b && nat_le b 122) || (nat_le 48 b && nat_le b 57) || b == 95
+
+-- what a digit from 0 to F stands for
+abbrev pub digit_of : ℕ → Option ℕ
+digit_of b = if nat_le 48 b && nat_le b 57 then Some (b - 48) else if nat_le 65 b && nat_le b 70 then Some (b - 55) else None
+
+-- ---- words, in upper case
+
+-- the number that the digits go on to spell, below 65536
+abbrev pub magnitude_of : ℕ → ℕ → List ℕ → Option ℕ
+magnitude_of base n [] = Some n
+magnitude_of base n (b ∷ bs) = do
+  d ← digit_of b
+  if nat_le base d then None else if nat_le 65536 (n * base + d) then None else magnitude_of base (n * base + d) bs
+
+-- hexadecimal with H behind, else decimal
+abbrev pub number_of : List ℕ → Option ℕ
+number_of w = if slice_index w (length w - 1) == 72 then magnitude_of 16 0 (take (length w - 1) w) else magnitude_of 10 0 w
+
+-- with zeros behind, 31 bytes
+abbrev pub padded_of : List ℕ → Name'.Name
+padded_of w = record { bytes = w ++ drop (length w) (replicate 31 0) }
+
+abbrev pub or_name : List ℕ → Option Token → Option Token
+or_name w (Some t) = Some t
+or_name w None = if nat_le (length w) 31 then Some (Name (padded_of w)) else None
+
+-- a word that begins with a digit is a number, a reserved word is itself, any other one is a label of at most 31 letters
+unfoldable pub word_token : List ℕ → Option Token
+word_token w =
+    if nat_le 48 (slice_index w 0) && nat_le (slice_index w 0) 57 then (do
+      n ← number_of w
+      Some (Number n))
+    else or_name w (reserved w)
+
+-- ---- lines
+
+-- the token of the word that ends here, if one was begun
+abbrev pub closed : List ℕ → Option (List Token)
+closed [] = Some []
+closed (b ∷ w) = do
+  t ← word_token (b ∷ w)
+  Some (t ∷ [])
+
+abbrev pub with_front : List Token → Option (List Token) → Option (List Token)
+with_front xs None = None
+with_front xs (Some ys) = Some (xs ++ ys)
+
+abbrev pub then_tokens : Option (List Token) → Option (List Token) → Option (List Token)
+then_tokens None r = None
+then_tokens (Some xs) r = with_front xs r
+
+-- a byte between words: a tab, a space, or a sign
+abbrev pub marked : ℕ → Option (List Token)
+marked b =
+    if b == 9 || b == 32 then Some []
+    else if b == 39 then Some (Quote ∷ [])
+    else if b == 43 then Some (Plus ∷ [])
+    else if b == 44 then Some (Comma ∷ [])
+    else if b == 45 then Some (Minus ∷ [])
+    else if b == 58 then Some (Colon ∷ [])
+    else if b == 91 then Some (Open ∷ [])
+    else if b == 93 then Some (Close ∷ [])
+    else None
+
+abbrev pub inside_quotes : ℕ → Token
+inside_quotes b = if b == 39 then Quote else Letter b
+
+-- the tokens of what is left of a line, inside quotes (true) or behind the first bytes of a word: a quoted text ends with a
+-- quote, and a semicolon outside ends the line
+abbrev pub lexed : Bool → List ℕ → List ℕ → Option (List Token)
+lexed true w [] = None
+lexed true w (b ∷ bs) = with_front (inside_quotes b ∷ []) (lexed (not (b == 39)) w bs)
+lexed false w [] = closed w
+lexed false w (b ∷ bs) =
+    if is_word_byte b then lexed false (w ++ upper b ∷ []) bs
+    else if b == 59 then closed w
+    else then_tokens (closed w) (then_tokens (marked b) (lexed (b == 39) [] bs))
+
+unfoldable pub tokens_of : List ℕ → Option (List Token)
+tokens_of line = lexed false [] line

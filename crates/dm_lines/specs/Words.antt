@@ -1,0 +1,113 @@
+-- The words that no label may be, and the tokens that they are.
+-- Source: Intel 8086 Family User's Manual, section 2.7 (mnemonics, prefixes, and in table 2-15 the other names of the conditional
+-- jumps) and section 2.9 (NEAR, FAR, SHORT, BYTE, WORD, DB and DW of ASM-86). How NEAR, BYTE and WORD are used is this machine's own.
+use Rattle.std.specs.Prelude.{ℕ, List, Option, option_map, codes}
+use Rattle.dm_ins.specs.declared.action.Mnemonic.{Mnemonic}
+use Rattle.dm_ins.specs.declared.action.Mnemonic.TheVariants as op
+use Rattle.dm_ins.specs.declared.prefix.Repeat.TheVariants.{NotEqual, Equal}
+use Rattle.dm_read.specs.declared.written.Size.TheVariants as size
+use Rattle.dm_text.specs.Names.{byte_name, word_name, segment_name, name_of, named}
+use Rattle.dm_lines.specs.declared.words.Alias.{Alias}
+use Rattle.dm_lines.specs.declared.words.Alias.TheVariants as alias
+use Rattle.dm_lines.specs.declared.words.Keyword.{Keyword}
+use Rattle.dm_lines.specs.declared.words.Keyword.TheVariants as keyword
+use Rattle.dm_lines.specs.declared.words.Reserved.{Reserved}
+use Rattle.dm_lines.specs.declared.words.Reserved.TheVariants as word
+use Rattle.dm_lines.specs.declared.words.TheConstants.{RESERVED}
+use Rattle.dm_lines.specs.declared.token.Token.{Token}
+use Rattle.dm_lines.specs.declared.token.Token.TheVariants as t
+
+-- ---- how they are written
+
+abbrev pub alias_name : Alias → List ℕ
+alias_name alias.Jc = codes "JC"
+alias_name alias.Jnae = codes "JNAE"
+alias_name alias.Jnc = codes "JNC"
+alias_name alias.Jnb = codes "JNB"
+alias_name alias.Je = codes "JE"
+alias_name alias.Jne = codes "JNE"
+alias_name alias.Jna = codes "JNA"
+alias_name alias.Jnbe = codes "JNBE"
+alias_name alias.Jpe = codes "JPE"
+alias_name alias.Jpo = codes "JPO"
+alias_name alias.Jnge = codes "JNGE"
+alias_name alias.Jnl = codes "JNL"
+alias_name alias.Jng = codes "JNG"
+alias_name alias.Jnle = codes "JNLE"
+alias_name alias.Loopz = codes "LOOPZ"
+alias_name alias.Loopnz = codes "LOOPNZ"
+alias_name alias.Sal = codes "SAL"
+
+abbrev pub keyword_name : Keyword → List ℕ
+keyword_name keyword.Nop = codes "NOP"
+keyword_name keyword.Lock = codes "LOCK"
+keyword_name keyword.Rep = codes "REP"
+keyword_name keyword.Repe = codes "REPE"
+keyword_name keyword.Repz = codes "REPZ"
+keyword_name keyword.Repne = codes "REPNE"
+keyword_name keyword.Repnz = codes "REPNZ"
+keyword_name keyword.Far = codes "FAR"
+keyword_name keyword.Short = codes "SHORT"
+keyword_name keyword.Byte = codes "BYTE"
+keyword_name keyword.Word = codes "WORD"
+keyword_name keyword.Near = codes "NEAR"
+keyword_name keyword.Db = codes "DB"
+keyword_name keyword.Dw = codes "DW"
+
+abbrev pub spelling_of : Reserved → List ℕ
+spelling_of (word.Byte r) = byte_name r
+spelling_of (word.Word r) = word_name r
+spelling_of (word.Segment r) = segment_name r
+spelling_of (word.Mnemonic m) = name_of m
+spelling_of (word.Alias a) = alias_name a
+spelling_of (word.Keyword k) = keyword_name k
+
+-- ---- what they are
+
+-- the mnemonic that has this other name
+abbrev pub alias_mnemonic : Alias → Mnemonic
+alias_mnemonic alias.Jc = op.Jb
+alias_mnemonic alias.Jnae = op.Jb
+alias_mnemonic alias.Jnc = op.Jae
+alias_mnemonic alias.Jnb = op.Jae
+alias_mnemonic alias.Je = op.Jz
+alias_mnemonic alias.Jne = op.Jnz
+alias_mnemonic alias.Jna = op.Jbe
+alias_mnemonic alias.Jnbe = op.Ja
+alias_mnemonic alias.Jpe = op.Jp
+alias_mnemonic alias.Jpo = op.Jnp
+alias_mnemonic alias.Jnge = op.Jl
+alias_mnemonic alias.Jnl = op.Jge
+alias_mnemonic alias.Jng = op.Jle
+alias_mnemonic alias.Jnle = op.Jg
+alias_mnemonic alias.Loopz = op.Loope
+alias_mnemonic alias.Loopnz = op.Loopne
+alias_mnemonic alias.Sal = op.Shl
+
+abbrev pub keyword_token : Keyword → Token
+keyword_token keyword.Nop = t.Nop
+keyword_token keyword.Lock = t.Lock
+keyword_token keyword.Rep = t.Repeat Equal
+keyword_token keyword.Repe = t.Repeat Equal
+keyword_token keyword.Repz = t.Repeat Equal
+keyword_token keyword.Repne = t.Repeat NotEqual
+keyword_token keyword.Repnz = t.Repeat NotEqual
+keyword_token keyword.Far = t.Far
+keyword_token keyword.Short = t.Short
+keyword_token keyword.Byte = t.Size size.Byte
+keyword_token keyword.Word = t.Size size.Word
+keyword_token keyword.Near = t.Size size.Near
+keyword_token keyword.Db = t.DataBytes
+keyword_token keyword.Dw = t.DataWords
+
+abbrev pub meaning_of : Reserved → Token
+meaning_of (word.Byte r) = t.Byte r
+meaning_of (word.Word r) = t.Word r
+meaning_of (word.Segment r) = t.Segment r
+meaning_of (word.Mnemonic m) = t.Mnemonic m
+meaning_of (word.Alias a) = t.Mnemonic (alias_mnemonic a)
+meaning_of (word.Keyword k) = keyword_token k
+
+-- the token of a word in upper case, where it is reserved
+unfoldable pub reserved : List ℕ → Option Token
+reserved w = option_map meaning_of (named spelling_of RESERVED w)

@@ -1,0 +1,188 @@
+//! From the bytes of a line to its tokens (Intel 8086 Family User's Manual, section 2.9, statements, names and constants of
+//! ASM-86).
+
+ghost use Rattle.std.specs.Prelude.{◌≡◌, ◌<◌, ◌≤◌, ◌+◌, length, option_map, IfSome, drop, replicate, ◌++◌, []};
+ghost use Rattle.arrayvec.specs.ArrayVec.{array_vec_len};
+ghost use Rattle.dm_lines.specs.Tokens.{upper, is_word_byte, digit_of, magnitude_of, number_of, word_token, closed, with_front, marked, inside_quotes, lexed, tokens_of};
+
+use crate::token::{Name, Token};
+use crate::words::reserved_token;
+use arrayvec::ArrayVec;
+
+/// The tokens of a line: at most one for each byte.
+pub type Tokens = ArrayVec<Token, 255>;
+
+/// The bytes of a word.
+type Letters = ArrayVec<u8, 255>;
+
+/// A letter in upper case; any other byte as it is.
+fn upper_byte(byte: u8) -> u8
+    ensures { result ≡ upper byte }
+{
+    if b'a' <= byte && byte <= b'z' {
+        byte - 32
+    } else {
+        byte
+    }
+}
+
+/// Whether words are made of this byte: letters, digits and underscores.
+fn is_in_word(byte: u8) -> bool
+    ensures { result ≡ is_word_byte byte }
+{
+    b'A' <= byte && byte <= b'Z'
+        || b'a' <= byte && byte <= b'z'
+        || b'0' <= byte && byte <= b'9'
+        || byte == b'_'
+}
+
+/// What a digit from 0 to F stands for.
+fn digit(byte: u8) -> Option<u8>
+    ensures { result ≡ digit_of byte }
+{
+    if b'0' <= byte && byte <= b'9' {
+        Some(byte - b'0')
+    } else if b'A' <= byte && byte <= b'F' {
+        Some(byte - (b'A' - 10))
+    } else {
+        None
+    }
+}
+
+/// The number that digits spell, where it is below 65,536.
+fn magnitude(base: u8, digits: &[u8]) -> Option<u16>
+    requires { base ≤ 16 }
+    ensures { result ≡ magnitude_of base 0 digits.now }
+{
+    let mut n: u16 = 0;
+    for byte in digits {
+        let value = digit(*byte)?;
+        if base <= value {
+            return None;
+        }
+        let next = n as u32 * base as u32 + value as u32;
+        if 65536 <= next {
+            return None;
+        }
+        n = next as u16;
+    }
+    Some(n)
+}
+
+/// The number that a word spells: hexadecimal with an H behind it, else decimal.
+fn number(word: &[u8]) -> Option<u16>
+    requires { 0 < length word.now }
+    ensures { result ≡ number_of word.now }
+{
+    let end = word.len() - 1;
+    if word[end] == b'H' {
+        magnitude(16, &word[..end])
+    } else {
+        magnitude(10, word)
+    }
+}
+
+/// A word as a label.
+fn padded(word: &[u8]) -> Name
+    requires { length word.now ≤ 31 }
+    ensures { result.bytes ≡ word.now ++ drop (length word.now) (replicate 31 0) }
+{
+    let mut bytes = [0; 31];
+    bytes[..word.len()].copy_from_slice(word);
+    Name { bytes }
+}
+
+/// The token of a word in upper case.
+#[tactic(auto, unfolding(crate::specs::Tokens::word_token))]
+fn token_of(word: &[u8]) -> Option<Token>
+    requires { 0 < length word.now }
+    ensures { result ≡ word_token word.now }
+{
+    if b'0' <= word[0] && word[0] <= b'9' {
+        Some(Token::Number(number(word)?))
+    } else if let Some(token) = reserved_token(word) {
+        Some(token)
+    } else if word.len() <= 31 {
+        Some(Token::Name(padded(word)))
+    } else {
+        None
+    }
+}
+
+/// Ends the word, if one is begun.
+fn close(tokens: &mut Tokens, word: &mut Letters) -> Option<()>
+    requires { array_vec_len tokens.old + array_vec_len word.old ≤ 255 }
+    ensures items { option_map (λ _. tokens.new.items) result ≡ with_front tokens.old.items (closed word.old.items) }
+    ensures len { IfSome result (λ _. array_vec_len tokens.new ≤ array_vec_len tokens.old + array_vec_len word.old) }
+    ensures word { IfSome result (λ _. word.new.items ≡ []) }
+{
+    if !word.is_empty() {
+        tokens.push(token_of(word.as_slice())?);
+        word.clear();
+    }
+    Some(())
+}
+
+/// Puts the token of a byte between words.
+fn mark(tokens: &mut Tokens, byte: u8) -> Option<()>
+    requires { array_vec_len tokens.old < 255 }
+    ensures items { option_map (λ _. tokens.new.items) result ≡ with_front tokens.old.items (marked byte) }
+    ensures len { IfSome result (λ _. array_vec_len tokens.new ≤ array_vec_len tokens.old + 1) }
+{
+    match byte {
+        b'\t' | b' ' => {}
+        b'\'' => tokens.push(Token::Quote),
+        b'+' => tokens.push(Token::Plus),
+        b',' => tokens.push(Token::Comma),
+        b'-' => tokens.push(Token::Minus),
+        b':' => tokens.push(Token::Colon),
+        b'[' => tokens.push(Token::Open),
+        b']' => tokens.push(Token::Close),
+        _ => return None,
+    }
+    Some(())
+}
+
+/// The token of a byte inside quotes.
+fn quoted_token(byte: u8) -> Token
+    ensures { result ≡ inside_quotes byte }
+{
+    if byte == b'\'' {
+        Token::Quote
+    } else {
+        Token::Letter(byte)
+    }
+}
+
+/// The tokens of a line.
+#[tactic(auto, unfolding(crate::specs::Tokens::tokens_of))]
+pub(crate) fn line_tokens(line: &[u8]) -> Option<Tokens>
+    requires { length line.now ≤ 255 }
+    ensures { option_map (λ t. t.items) result ≡ tokens_of line.now }
+{
+    let mut tokens = ArrayVec::new();
+    let mut word = ArrayVec::new();
+    let mut quoted = false;
+    for byte in line {
+        if quoted {
+            tokens.push(quoted_token(*byte));
+            quoted = *byte != b'\'';
+            continue;
+        }
+        if is_in_word(*byte) {
+            word.push(upper_byte(*byte));
+            continue;
+        }
+        if *byte == b';' {
+            break;
+        }
+        close(&mut tokens, &mut word)?;
+        mark(&mut tokens, *byte)?;
+        quoted = *byte == b'\'';
+    }
+    if quoted {
+        return None;
+    }
+    close(&mut tokens, &mut word)?;
+    Some(tokens)
+}

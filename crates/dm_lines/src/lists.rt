@@ -1,0 +1,88 @@
+//! The items of data: DB and DW.
+
+ghost use Rattle.std.specs.Prelude.{◌≡◌, ◌<◌, ◌≤◌, ◌+◌, length, option_map, IfSome};
+ghost use Rattle.arrayvec.specs.ArrayVec.{array_vec_len};
+ghost use Rattle.dm_lines.specs.Operands.{amount_of, parts};
+ghost use Rattle.dm_lines.specs.Statements.{joined_to, letters, one, bytes_item, bytes_of, words_of};
+
+use crate::operands::{amount, front, value};
+use crate::statement::{Bytes, Words};
+use crate::term::Amount;
+use crate::token::Token;
+use arrayvec::ArrayVec;
+
+/// Puts the bytes of a text, up to the quote that ends it.
+fn put_text(bytes: &mut Bytes, tokens: &[Token]) -> Option<()>
+    requires { array_vec_len bytes.old + length tokens.now ≤ 255 }
+    ensures items { option_map (λ _. bytes.new.items) result ≡ joined_to bytes.old.items (letters tokens.now) }
+    ensures len { IfSome result (λ _. array_vec_len bytes.new ≤ array_vec_len bytes.old + length tokens.now) }
+{
+    let mut rest = tokens;
+    loop {
+        match rest {
+            [Token::Quote] => return Some(()),
+            [Token::Letter(byte), tail @ ..] => {
+                bytes.push(Amount::Plus(*byte as u16));
+                rest = tail;
+            }
+            _ => return None,
+        }
+    }
+}
+
+/// Puts a number.
+fn put_number(bytes: &mut Bytes, tokens: &[Token]) -> Option<()>
+    requires { array_vec_len bytes.old + length tokens.now ≤ 255 }
+    ensures items { option_map (λ _. bytes.new.items) result ≡ joined_to bytes.old.items (one (amount_of tokens.now)) }
+    ensures len { IfSome result (λ _. array_vec_len bytes.new ≤ array_vec_len bytes.old + length tokens.now) }
+{
+    let number = amount(tokens)?;
+    bytes.push(number);
+    Some(())
+}
+
+/// Puts an item of a DB: a number, or a text between quotes.
+fn put_item(bytes: &mut Bytes, tokens: &[Token]) -> Option<()>
+    requires { array_vec_len bytes.old + length tokens.now ≤ 255 }
+    ensures items { option_map (λ _. bytes.new.items) result ≡ joined_to bytes.old.items (bytes_item tokens.now) }
+    ensures len { IfSome result (λ _. array_vec_len bytes.new ≤ array_vec_len bytes.old + length tokens.now) }
+{
+    match tokens {
+        [Token::Quote, text @ ..] => put_text(bytes, text),
+        _ => put_number(bytes, tokens),
+    }
+}
+
+/// The numbers of a DB.
+pub(crate) fn bytes(tokens: &[Token]) -> Option<Bytes>
+    requires { length tokens.now ≤ 255 }
+    ensures { option_map (λ b. b.items) result ≡ bytes_of (parts tokens.now) }
+{
+    let mut found = ArrayVec::new();
+    let mut rest = tokens;
+    loop {
+        let (item, behind) = front(rest);
+        put_item(&mut found, item)?;
+        match behind {
+            None => return Some(found),
+            Some(tail) => rest = tail,
+        }
+    }
+}
+
+/// The values of a DW.
+pub(crate) fn words(tokens: &[Token]) -> Option<Words>
+    requires { length tokens.now ≤ 255 }
+    ensures { option_map (λ w. w.items) result ≡ words_of (parts tokens.now) }
+{
+    let mut found = ArrayVec::new();
+    let mut rest = tokens;
+    loop {
+        let (item, behind) = front(rest);
+        found.push(value(item)?);
+        match behind {
+            None => return Some(found),
+            Some(tail) => rest = tail,
+        }
+    }
+}

@@ -1,0 +1,232 @@
+//! From an operand to what is written there, as the table of instructions is asked for it: with its label's place, and before
+//! any label has a place.
+
+ghost use Rattle.std.specs.Prelude.{◌≡◌};
+ghost use Rattle.dm_lines.specs.Placing.{moved, standing, low_byte_of, byte_of, distance_of, is_one_of, takes_labels, number_at, label_at, numeral_at, written_of, number_outline, label_outline, numeral_outline, word_outline, outline_of};
+
+use crate::operands::word;
+use crate::term::{Amount, Term, Value};
+use dm_ins::{Address, Base, Mnemonic};
+use dm_read::{Numeral, Written};
+
+/// A label's place and what is added to it; None outside 0 to FFFFh.
+fn moved_by(amount: Amount, place: u16) -> Option<u16>
+    ensures { result ≡ moved amount place }
+{
+    match amount {
+        Amount::Plus(n) => {
+            let sum = place as u32 + n as u32;
+            if sum < 65536 { Some(sum as u16) } else { None }
+        }
+        Amount::Minus(n) => { if n <= place { Some(place - n) } else { None } }
+    }
+}
+
+/// The word that a value is, where its label, if it has one, stands at `place`. A number alone is one, modulo 65,536; a label
+/// and what is added to it is none outside 0 to FFFFh.
+pub fn word_at(value: Value, place: u16) -> Option<u16>
+    ensures { result ≡ standing value place }
+{
+    match value.label {
+        None => Some(word(value.amount)),
+        Some(_) => moved_by(value.amount, place),
+    }
+}
+
+/// A number as a byte, where it is below 100h.
+fn low_byte(n: u16) -> Option<u8>
+    ensures { result ≡ low_byte_of n }
+{
+    if n < 256 { Some(n as u8) } else { None }
+}
+
+/// The byte that a number is, from -80h to FFh.
+pub fn byte(amount: Amount) -> Option<u8>
+    ensures { result ≡ byte_of amount }
+{
+    match amount {
+        Amount::Plus(n) => low_byte(n),
+        Amount::Minus(n) => {
+            if n <= 128 {
+                Some(((256 - n) % 256) as u8)
+            } else {
+                None
+            }
+        }
+    }
+}
+
+/// The displacement of a target from the next instruction, modulo 65,536.
+fn distance(target: u16, next: u16) -> u16
+    ensures { result ≡ distance_of target next }
+{
+    ((target as u32 + 65536 - next as u32) % 65536) as u16
+}
+
+/// Whether a number is 1.
+fn is_one(amount: Amount) -> bool
+    ensures { result ≡ is_one_of amount }
+{
+    match amount {
+        Amount::Plus(n) => n == 1,
+        Amount::Minus(_) => false,
+    }
+}
+
+/// Whether this mnemonic takes labels as immediate values.
+fn takes(mnemonic: Mnemonic) -> bool
+    ensures { result ≡ takes_labels mnemonic }
+{
+    matches!(mnemonic, Mnemonic::Mov)
+}
+
+/// A number as each kind of operand.
+fn number(amount: Amount, next: u16) -> Numeral
+    ensures { result ≡ number_at amount next }
+{
+    let target = word(amount);
+    Numeral {
+        byte: byte(amount),
+        word: Some(target),
+        distance: distance(target, next),
+        is_one: is_one(amount),
+    }
+}
+
+/// A label's value as each kind of operand: a target, and an immediate value of MOV.
+fn label(mnemonic: Mnemonic, target: u16, next: u16) -> Numeral
+    ensures { result ≡ label_at mnemonic target next }
+{
+    let distance = distance(target, next);
+    if takes(mnemonic) {
+        Numeral {
+            byte: low_byte(target),
+            word: Some(target),
+            distance,
+            is_one: false,
+        }
+    } else {
+        Numeral {
+            byte: None,
+            word: None,
+            distance,
+            is_one: false,
+        }
+    }
+}
+
+/// A value as each kind of operand.
+fn numeral(mnemonic: Mnemonic, value: Value, place: u16, next: u16) -> Option<Numeral>
+    ensures { result ≡ numeral_at mnemonic value place next }
+{
+    match value.label {
+        None => Some(number(value.amount, next)),
+        Some(_) => {
+            let target = moved_by(value.amount, place)?;
+            Some(label(mnemonic, target, next))
+        }
+    }
+}
+
+/// The address at these registers and a displacement.
+fn at(base: Base, displacement: u16) -> Address
+    ensures { result ≡ record { base = base; displacement = displacement } }
+{
+    Address { base, displacement }
+}
+
+/// What is written where an operand stands whose label, if it has one, stands at `place`, in an instruction before `next`; None
+/// where a label and what is added to it lie outside 0 to FFFFh.
+pub fn written(mnemonic: Mnemonic, term: &Term, place: u16, next: u16) -> Option<Written>
+    ensures { result ≡ written_of mnemonic term.now place next }
+{
+    match term {
+        Term::Nothing => Some(Written::Nothing),
+        Term::ByteRegister(register) => Some(Written::ByteRegister(*register)),
+        Term::WordRegister(register) => Some(Written::WordRegister(*register)),
+        Term::SegmentRegister(register) => Some(Written::SegmentRegister(*register)),
+        Term::Memory(size, base, amount) => {
+            Some(Written::Memory(*size, at(*base, word(*amount))))
+        }
+        Term::Address(size, value) => {
+            let displacement = word_at(*value, place)?;
+            Some(Written::Memory(*size, at(Base::Direct, displacement)))
+        }
+        Term::Number(value) => {
+            let numeral = numeral(mnemonic, *value, place, next)?;
+            Some(Written::Number(numeral))
+        }
+        Term::Far(segment, offset) => Some(Written::Far(*segment, *offset)),
+    }
+}
+
+/// A number, where bytes and targets count only that they are some.
+fn number_alone(amount: Amount) -> Numeral
+    ensures { result ≡ number_outline amount }
+{
+    let value = word(amount);
+    Numeral {
+        byte: Some((value % 64) as u8),
+        word: Some(value),
+        distance: 0,
+        is_one: is_one(amount),
+    }
+}
+
+/// A label, where its place counts only that it is some.
+fn label_alone(mnemonic: Mnemonic) -> Numeral
+    ensures { result ≡ label_outline mnemonic }
+{
+    if takes(mnemonic) {
+        Numeral {
+            byte: Some(0),
+            word: Some(0),
+            distance: 0,
+            is_one: false,
+        }
+    } else {
+        Numeral {
+            byte: None,
+            word: None,
+            distance: 0,
+            is_one: false,
+        }
+    }
+}
+
+/// A value before any label has a place.
+fn numeral_alone(mnemonic: Mnemonic, value: Value) -> Numeral
+    ensures { result ≡ numeral_outline mnemonic value }
+{
+    match value.label {
+        None => number_alone(value.amount),
+        Some(_) => label_alone(mnemonic),
+    }
+}
+
+/// The word of a value before any label has a place.
+fn word_alone(value: Value) -> u16
+    ensures { result ≡ word_outline value }
+{
+    match value.label {
+        None => word(value.amount),
+        Some(_) => 0,
+    }
+}
+
+/// What is written where an operand stands, before any label has a place: labels are 0, targets are the next instruction, and a
+/// number that stands for a byte is taken modulo 64, so that each byte is in range.
+pub fn outline(mnemonic: Mnemonic, term: &Term) -> Written
+    ensures { result ≡ outline_of mnemonic term.now }
+{
+    match term {
+        Term::Nothing => Written::Nothing,
+        Term::ByteRegister(register) => Written::ByteRegister(*register),
+        Term::WordRegister(register) => Written::WordRegister(*register),
+        Term::SegmentRegister(register) => Written::SegmentRegister(*register),
+        Term::Memory(size, base, amount) => Written::Memory(*size, at(*base, word(*amount))),
+        Term::Address(size, value) => Written::Memory(*size, at(Base::Direct, word_alone(*value))),
+        Term::Number(value) => Written::Number(numeral_alone(mnemonic, *value)),
+        Term::Far(segment, offset) => Written::Far(*segment, *offset),
+    }
+}

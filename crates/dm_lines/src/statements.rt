@@ -1,0 +1,196 @@
+//! From a line to its statement (Intel 8086 Family User's Manual, section 2.9, statements of ASM-86).
+
+ghost use Rattle.std.specs.Prelude.{◌≡◌, ◌<◌, ◌≤◌, length, option_map, IfSome};
+ghost use Rattle.dm_ins.specs.Spelling.{no_prefix};
+ghost use Rattle.dm_lines.specs.Operands.{seen};
+ghost use Rattle.dm_lines.specs.Statements.{seen_item, seen_statement, short_of, far_of, mnemonic_at, prefixed, is_memory, exchanges, with_terms, operated, action_of, instruction_of, item_of, statement_of, line_of};
+
+use crate::lexing::line_tokens;
+use crate::lists::{bytes, words};
+use crate::operands::terms;
+use crate::statement::{Instruction, Item, Statement};
+use crate::term::Term;
+use crate::token::Token;
+use dm_ins::{Mnemonic, Prefixes, WordRegister};
+
+/// The mnemonic with SHORT behind it: a jump's alone.
+fn short(mnemonic: Mnemonic) -> Option<Mnemonic>
+    ensures { result ≡ short_of mnemonic }
+{
+    match mnemonic {
+        Mnemonic::Jmp => Some(Mnemonic::JmpShort),
+        _ => None,
+    }
+}
+
+/// The mnemonic with FAR behind it: a jump's or a call's.
+fn far(mnemonic: Mnemonic) -> Option<Mnemonic>
+    ensures { result ≡ far_of mnemonic }
+{
+    match mnemonic {
+        Mnemonic::Jmp => Some(Mnemonic::JmpFar),
+        Mnemonic::Call => Some(Mnemonic::CallFar),
+        _ => None,
+    }
+}
+
+/// The mnemonic of one or two words in front, and what follows it.
+fn two_words(tokens: &[Token]) -> Option<(Mnemonic, &[Token])>
+    ensures { seen result ≡ mnemonic_at tokens.now }
+{
+    match tokens {
+        [Token::Mnemonic(first), Token::Short, rest @ ..] => {
+            let mnemonic = short(*first)?;
+            Some((mnemonic, rest))
+        }
+        [Token::Mnemonic(first), Token::Far, rest @ ..] => {
+            let mnemonic = far(*first)?;
+            Some((mnemonic, rest))
+        }
+        [Token::Mnemonic(mnemonic), rest @ ..] => Some((*mnemonic, rest)),
+        _ => None,
+    }
+}
+
+/// The prefixes in front, and what follows them.
+fn read_prefixes(tokens: &[Token]) -> Option<(Prefixes, &[Token])>
+    ensures { seen result ≡ prefixed no_prefix tokens.now }
+{
+    let mut found = Prefixes::NONE;
+    let mut rest = tokens;
+    loop {
+        match rest {
+            [Token::Segment(register), tail @ ..] => {
+                if found.segment.is_some() {
+                    return None;
+                }
+                found.segment = Some(*register);
+                rest = tail;
+            }
+            [Token::Lock, tail @ ..] => {
+                if found.lock {
+                    return None;
+                }
+                found.lock = true;
+                rest = tail;
+            }
+            [Token::Repeat(kind), tail @ ..] => {
+                if found.repeat.is_some() {
+                    return None;
+                }
+                found.repeat = Some(*kind);
+                rest = tail;
+            }
+            _ => return Some((found, rest)),
+        }
+    }
+}
+
+/// Whether this is an operand in memory.
+fn lies_in_memory(term: &Term) -> bool
+    ensures { result ≡ is_memory term.now }
+{
+    matches!(term, Term::Memory(..) | Term::Address(..))
+}
+
+/// Whether the operands of this mnemonic can be exchanged, and memory stands first then.
+fn may_exchange(mnemonic: Mnemonic) -> bool
+    ensures { result ≡ exchanges mnemonic }
+{
+    matches!(mnemonic, Mnemonic::Xchg | Mnemonic::Test)
+}
+
+/// An instruction with these operands as they are written.
+fn with_operands(prefixes: Prefixes, mnemonic: Mnemonic, first: Term, second: Term) -> Instruction
+    ensures { result ≡ with_terms prefixes mnemonic first second }
+{
+    if may_exchange(mnemonic) && lies_in_memory(&second) {
+        Instruction {
+            prefixes,
+            mnemonic,
+            first: second,
+            second: first,
+        }
+    } else {
+        Instruction {
+            prefixes,
+            mnemonic,
+            first,
+            second,
+        }
+    }
+}
+
+/// An instruction whose mnemonic is not NOP.
+fn operated_by(prefixes: Prefixes, tokens: &[Token]) -> Option<Instruction>
+    ensures { result ≡ operated prefixes tokens.now }
+{
+    let (mnemonic, rest) = two_words(tokens)?;
+    let (first, second) = terms(rest)?;
+    Some(with_operands(prefixes, mnemonic, first, second))
+}
+
+/// An instruction behind its prefixes.
+fn action(prefixes: Prefixes, tokens: &[Token]) -> Option<Instruction>
+    ensures { result ≡ action_of prefixes tokens.now }
+{
+    match tokens {
+        [Token::Nop] => Some(Instruction {
+            prefixes,
+            mnemonic: Mnemonic::Xchg,
+            first: Term::WordRegister(WordRegister::Ax),
+            second: Term::WordRegister(WordRegister::Ax),
+        }),
+        _ => operated_by(prefixes, tokens),
+    }
+}
+
+/// An instruction with its prefixes.
+fn read_instruction(tokens: &[Token]) -> Option<Instruction>
+    ensures { result ≡ instruction_of tokens.now }
+{
+    let (found, rest) = read_prefixes(tokens)?;
+    action(found, rest)
+}
+
+/// What stands behind a label.
+fn read_item(tokens: &[Token]) -> Option<Item>
+    requires { length tokens.now ≤ 255 }
+    ensures { option_map seen_item result ≡ item_of tokens.now }
+{
+    match tokens {
+        [] => Some(Item::Nothing),
+        [Token::DataBytes, rest @ ..] => Some(Item::Bytes(bytes(rest)?)),
+        [Token::DataWords, rest @ ..] => Some(Item::Words(words(rest)?)),
+        _ => Some(Item::Instruction(read_instruction(tokens)?)),
+    }
+}
+
+/// The statement of a line's tokens.
+fn read_statement(tokens: &[Token]) -> Option<Statement>
+    requires { length tokens.now ≤ 255 }
+    ensures { option_map seen_statement result ≡ statement_of tokens.now }
+{
+    match tokens {
+        [Token::Name(label), Token::Colon, rest @ ..] => Some(Statement {
+            label: Some(*label),
+            item: read_item(rest)?,
+        }),
+        _ => Some(Statement {
+            label: None,
+            item: read_item(tokens)?,
+        }),
+    }
+}
+
+/// The statement that a line stands for, without its line end; None where it stands for none.
+#[tactic(auto, unfolding(crate::specs::Statements::line_of))]
+pub fn read_line(line: &[u8]) -> Option<Statement>
+    ensures { option_map seen_statement result ≡ line_of line.now }
+{
+    if 255 < line.len() {
+        return None;
+    }
+    let tokens = line_tokens(line)?;
+    read_statement(tokens.as_slice())
+}

@@ -1,0 +1,51 @@
+-- What holds of every row of the table, by a test that is computed.
+use Rattle.std.proofs.Common.{◌≡◌, ℕ, ◌<◌, Bool, true, false, List, [], Option, Some, None, get_or, ◌&&◌, refl, sym, subst, arith}
+use Rattle.std.specs.List.{list_all}
+use Rattle.dm_ins.specs.declared.fields.Fields.{Fields}
+use Rattle.dm_ins.specs.declared.table.Row.{Row}
+use Rattle.dm_ins.specs.declared.table.Entry.{Entry}
+use Rattle.dm_ins.specs.declared.table.Entry.TheVariants.{Unlisted, Plain, Group, Second}
+use Rattle.dm_ins.specs.Table.{entries, groups, entry_of, member_of}
+use Rattle.dm_ins.specs.Spelling.{HasRow, MaySpellFields, has_fields}
+use Rattle.dm_ins.proofs.TableRules.{both_true, passes}
+
+unfoldable pub if_row : (Row → Bool) → Option Row → Bool
+if_row p None = true
+if_row p (Some r) = p r
+
+unfoldable pub entry_all : (Row → Bool) → Entry → Bool
+entry_all p Unlisted = true
+entry_all p (Plain r) = p r
+entry_all p (Group g) = true
+entry_all p (Second c r) = p r
+
+unfoldable pub rows_all : (Row → Bool) → Bool
+rows_all p = list_all (entry_all p) entries && list_all (list_all (if_row p)) groups
+
+of_member : (p : Row → Bool) (g k : ℕ) (r : Row) → list_all (list_all (if_row p)) groups ≡ true → member_of g k ≡ Some r → p r ≡ true
+unfolding member_of if_row
+of_member p g k r h e = subst (λ (o : Option Row). if_row p o ≡ true) e (passes (if_row p) None refl (get_or groups g []) k (passes (list_all (if_row p)) [] refl groups g h))
+
+of_entry : (p : Row → Bool) (en : Entry) (m : Fields) (d : List ℕ) (r : Row) → entry_all p en ≡ true → list_all (list_all (if_row p)) groups ≡ true → HasRow en m d r → p r ≡ true
+unfolding entry_all
+of_entry p Unlisted m d r h g x = absurd x
+of_entry p (Plain q) m d r h g x = subst (λ (r : Row). p r ≡ true) (sym x.0) h
+of_entry p (Group k) m d r h g x = of_member p k m.register r g x.0
+of_entry p (Second c q) m d r h g x = subst (λ (r : Row). p r ≡ true) (sym x.0) h
+
+-- a test that every row passes is passed by the row of an instruction
+pub of_row : (p : Row → Bool) (b : ℕ) (m : Fields) (d : List ℕ) (r : Row) → rows_all p ≡ true → HasRow (entry_of b) m d r → p r ≡ true
+unfolding rows_all entry_of entry_all
+of_row p b m d r h x =
+    let both = both_true _ _ h in
+    of_entry p (entry_of b) m d r (passes (entry_all p) Unlisted refl entries b both.0) both.1 x
+
+may_fit : (b : Bool) (m : Fields) (d : List ℕ) → MaySpellFields b m d → m.register < 8
+may_fit true m d h = h.register_fits
+may_fit false m d h = rw h.0 (omega arith)
+
+pub register_fits : (en : Entry) (m : Fields) (d : List ℕ) (r : Row) → HasRow en m d r → m.register < 8
+register_fits Unlisted m d r h = absurd h
+register_fits (Plain p) m d r h = may_fit (has_fields p) m d h.1
+register_fits (Group g) m d r h = h.1.register_fits
+register_fits (Second c p) m d r h = rw h.1 (omega arith)
