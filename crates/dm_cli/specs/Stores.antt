@@ -1,5 +1,5 @@
 -- What a run starts with: the store of the files, standard input, and the machine with its first program loaded.
-use Rattle.std.specs.Prelude.{ℕ, ◌≡◌, ◌<◌, ◌≤◌, ◌++◌, List, [], ◌∷◌, Option, IfSome, length, true}
+use Rattle.std.specs.Prelude.{ℕ, ◌≡◌, ◌<◌, ◌≤◌, ◌++◌, List, [], ◌∷◌, Option, IfSome, length, true, false}
 use Rattle.dm_cli.specs.declared.fault.Fault.{Fault}
 use Rattle.dm_cli.specs.declared.fault.Fault.TheVariants.{InputTooLong, NameTooLong, NameTwice, OutOfMemory}
 use Rattle.dm_cli.specs.Names.{last_part}
@@ -13,10 +13,12 @@ pub record IsRead (known : Option (List ℕ)) (bytes : List ℕ) : Type 0 where
   pub all : IfSome known (λ xs. bytes ≡ xs)
   pub short : length bytes ≤ 16777216
 
--- a file is added to a store, under the last part of its path
+-- a file is added to a store, under the last part of its path: a name that no file of the store has, ASCII case ignored
 pub record AddsFile (known : Option (List ℕ)) (store : List (List ℕ × List ℕ)) (path : List ℕ) (t : List (List ℕ × List ℕ)) : Type 0 where
   pub bytes : List ℕ
   pub read : IsRead known bytes
+  pub name : IsName (last_part path)
+  pub once : has_name store (last_part path) ≡ false
   pub added : t ≡ store ++ (last_part path, bytes) ∷ []
 
 -- a store of the files at these paths, in their order
@@ -24,8 +26,8 @@ pub data Stores (known : List ℕ → Option (List ℕ)) : List (List ℕ) → L
   none : Stores known [] []
   more : (paths : List (List ℕ)) (path : List ℕ) (s t : List (List ℕ × List ℕ)) → Stores known paths s → AddsFile (known path) s path t → Stores known (paths ++ path ∷ []) t
 
--- the faults of one file, in the order in which they are found: that its path names no file or that it was not opened
--- or not read; that it is too long; that its name is; and, once it was read, that its name stands in the store
+-- the faults that one file may have: its path names no file, or it was not opened or not read; it is too long; its name is; its
+-- name stands in the store already; or memory was refused. The last but one comes only once it was read
 pub data IsFaultOf (unread : Fault) (known : Option (List ℕ)) (store : List (List ℕ × List ℕ)) (path : List ℕ) : Fault → Type 0 where
   not_read : IsFaultOf unread known store path unread
   too_long : IfSome known (λ xs. 16777216 < length xs) → IsFaultOf unread known store path InputTooLong
@@ -33,7 +35,8 @@ pub data IsFaultOf (unread : Fault) (known : Option (List ℕ)) (store : List (L
   twice : (bytes : List ℕ) → IsRead known bytes → IsName (last_part path) → has_name store (last_part path) ≡ true → IsFaultOf unread known store path NameTwice
   no_memory : IsFaultOf unread known store path OutOfMemory
 
--- the machine that a run begins with: a new one of these sizes, with no variables, and its first program loaded
+-- the machine that a run begins with: a new one of these sizes, with no variables, and its first program loaded with a tail of
+-- at most 126 bytes
 pub record IsStarted (known : List ℕ → Option (List ℕ)) (typed : Option (List ℕ)) (sizes : Sizes) (paths : List (List ℕ)) (tail : List ℕ) (m : State) : Type 0 where
   pub store : List (List ℕ × List ℕ)
   pub stores : Stores known paths store
@@ -44,4 +47,5 @@ pub record IsStarted (known : List ℕ → Option (List ℕ)) (typed : Option (L
   pub first : List ℕ
   pub others : List (List ℕ)
   pub is_first : paths ≡ first ∷ others
+  pub short : length tail ≤ 126
   pub loaded : IsLoaded fresh (last_part first) tail m

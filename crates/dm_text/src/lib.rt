@@ -7,6 +7,6 @@ mod names;
 mod texts;
 
 pub use laws::{names_are_read, texts_are_parted};
-pub use line::Line;
+pub use line::{Line, byte_number};
 pub use names::{byte_register_name, mnemonic_name, segment_register_name, word_register_name};
 pub use texts::{size_is_given, text};

@@ -55,14 +55,12 @@ impl Line {
     }
 
     /// Puts a byte's number at the end: 0, two digits, h.
-    #[tactic(auto, unfolding(crate::specs::Pieces::byte_digits))]
     pub(crate) fn put_byte(&mut self, n: u8)
         requires { length self.old + 4 ≤ 64 }
         ensures items { self.new ≡ self.old ++ byte_digits n }
         ensures len { length self.new ≡ length self.old + 4 }
     {
-        let n = n as u16;
-        self.put(&[b'0', digit_of(n / 16), digit_of(n % 16), b'h']);
+        self.put(&byte_number(n));
     }
 
     /// Puts a word's number at the end: 0, four digits, h.
@@ -81,6 +79,15 @@ impl Line {
             b'h',
         ]);
     }
+}
+
+/// How a byte's number is written: 0, two digits, h.
+#[tactic(auto, unfolding(crate::specs::Pieces::byte_digits))]
+pub fn byte_number(n: u8) -> [u8; 4]
+    ensures { result ≡ byte_digits n }
+{
+    let n = n as u16;
+    [b'0', digit_of(n / 16), digit_of(n % 16), b'h']
 }
 
 /// A hexadecimal digit, in upper case.

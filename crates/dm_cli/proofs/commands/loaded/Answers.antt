@@ -1,3 +1,4 @@
+use Rattle.std.proofs.Common.{arith}
 use Rattle.dm_cli.proofs.Starts.{first_of}
 use Rattle.dm_cli.proofs.commands.loaded.Goals as goal
 
@@ -15,5 +16,6 @@ returns-clause-started g c =
       first = c.in_ok-first.first.now.now;
       others = head.0;
       is_first = head.1;
+      short = search (arith, c.if-tail-gt-MOST_TAIL_BYTES.false, c.as_bytes-tail.ensures.value);
       loaded = rw (c.in_ok-program_name.ensures.name.0, c.as_bytes-tail.ensures.value) at c.in_ok-load.ensures.ok;
     }

@@ -1,0 +1,3 @@
+pub mod Preferred
+pub mod Standing
+pub mod Lines
