@@ -7,3 +7,4 @@ pub mod Again
 pub mod Stated
 pub mod InTable
 pub mod TextRead
+pub mod Data

@@ -1,6 +1,7 @@
 -- The text of each instruction of the table is read as that instruction.
-use Rattle.std.proofs.Common.{◌≡◌, ℕ, ◌+◌, ◌<◌, ◌≤◌, ◌^◌, Bool, true, false, List, [], ◌∷◌, ◌++◌, length, Option, Some, None, sym, ap, subst, ◌∙◌, arith, length-append}
+use Rattle.std.proofs.Common.{◌≡◌, ℕ, ◌+◌, ◌/◌, ◌%◌, ◌<◌, ◌≤◌, ◌^◌, Bool, true, false, List, [], ◌∷◌, ◌++◌, length, Option, Some, None, sym, ap, subst, ◌∙◌, arith, length-append, append-nil}
 use Rattle.std.specs.Prelude.{◌==◌, if◌then◌else◌, nat_lt, codes}
+use Rattle.std.specs.List.{list_all, AllByRecursion}
 use Rattle.std.proofs.lemmas.Bool.Decides.{nat_tests}
 use Rattle.dm_ins.specs.declared.operand.Width.{Width}
 use Rattle.dm_ins.specs.declared.operand.WordRegister.{WordRegister}
@@ -23,9 +24,10 @@ use Rattle.dm_ins.specs.declared.prefix.Prefixes.{Prefixes}
 use Rattle.dm_ins.specs.declared.ins.Ins.{Ins}
 use Rattle.dm_ins.specs.Search.{OperandFits}
 use Rattle.dm_ins.specs.Walks.{◌>>=◌}
+use Rattle.dm_ins.proofs.TableRules.{both_true}
 use Rattle.dm_ins.proofs.Shortest.{action_fits}
 use Rattle.dm_text.specs.Names.{byte_name, word_name, segment_name, name_of}
-use Rattle.dm_text.specs.Pieces.{Piece, name, word, sign, space, plus, comma, left_bracket, right_bracket, byte_digits, word_digits, bytes_of}
+use Rattle.dm_text.specs.Pieces.{byte, digit, is_in_names, is_mark, parted, Piece, name, word, sign, space, plus, comma, left_bracket, right_bracket, byte_digits, word_digits, bytes_of}
 use Rattle.dm_text.specs.Texts.{base_pieces, displacement_pieces, address_pieces, size_pieces, memory_pieces, operand_pieces, behind, second_pieces, operands_pieces, mnemonic_pieces, is_nop, action_pieces, segment_pieces, lock_pieces, repeat_pieces, prefix_pieces, pieces, text_of}
 use Rattle.dm_text.proofs.Pieces.{bytes-append}
 use Rattle.dm_text.proofs.Parted.{texts_are_parted}
@@ -34,8 +36,9 @@ use Rattle.dm_read.specs.declared.written.Size.TheVariants.{Absent, Byte, Word, 
 use Rattle.dm_read.specs.Words.{size_word}
 use Rattle.dm_read.specs.Laws.{word_pieces}
 use Rattle.dm_read.proofs.Sizes.{sizes_are_shown}
+use Rattle.dm_lines.specs.Tokens.{tokens_of}
 use Rattle.dm_lines.specs.Statements.{statement_of, line_of}
-use Rattle.dm_lines.specs.Laws.{AllFit, TextsAreRead}
+use Rattle.dm_lines.specs.Laws.{AllFit, TextsArePlain, TextsAreRead}
 use Rattle.dm_lines.proofs.Printed.{pieces_are_read}
 use Rattle.dm_lines.proofs.Again.{pieces_again}
 use Rattle.dm_lines.proofs.Stated.{tokens_read}
@@ -280,6 +283,61 @@ pieces_long : (i : Ins) (next : ℕ) → Long 63 (pieces i next)
 unfolding pieces
 pieces_long i next = long-append 14 49 (prefix_pieces i.prefixes) (action_pieces i.action next) (prefix_long i.prefixes) (action_long i.action next)
 
+-- ---- its bytes are printed ones
+
+Printed : List ℕ → Type 0
+Printed bs = AllByRecursion (λ b. 32 ≤ b) bs
+
+printed-append : (xs ys : List ℕ) → Printed xs → Printed ys → Printed (xs ++ ys)
+unfolding Printed
+printed-append [] ys h k = k
+printed-append (x ∷ xs) ys h k = (h.0, printed-append xs ys h.1 k)
+
+digit_printed : (d : ℕ) → 32 ≤ digit d
+digit_printed d = by (nat_lt d 10)
+  where
+    by : (z : Bool) → 32 ≤ (if z then 48 + d else 55 + d)
+    by true = omega arith
+    by false = omega arith
+
+in_name_printed : (b : ℕ) → is_in_names b ≡ true → 32 ≤ b
+in_name_printed b h = grind (arith, nat_tests)
+
+mark_printed : (b : ℕ) → is_mark b ≡ true → 32 ≤ b
+mark_printed b h = grind (arith, nat_tests)
+
+name_printed : (w : List ℕ) → list_all is_in_names w ≡ true → Printed w
+unfolding Printed
+name_printed [] h = tt
+name_printed (b ∷ w) h = let x = both_true (is_in_names b) (list_all is_in_names w) h in (in_name_printed b x.0, name_printed w x.1)
+
+byte_printed : (n : ℕ) → Printed (byte_digits n)
+unfolding Printed byte_digits
+byte_printed n = (omega arith, (digit_printed (n / 16), (digit_printed (n % 16), (omega arith, tt))))
+
+word_printed : (n : ℕ) → Printed (word_digits n)
+unfolding Printed word_digits
+word_printed n = (omega arith, (digit_printed (n / 4096), (digit_printed (n / 256 % 16), (digit_printed (n / 16 % 16), (digit_printed (n % 16), (omega arith, tt))))))
+
+pieces_printed : (b : Bool) (ps : List Piece) → parted b ps ≡ true → Printed (bytes_of ps)
+unfolding Printed
+pieces_printed b [] h = tt
+pieces_printed true (name w ∷ ps) h = absurd cc
+pieces_printed true (byte n ∷ ps) h = absurd cc
+pieces_printed true (word n ∷ ps) h = absurd cc
+pieces_printed false (name [] ∷ ps) h = absurd cc
+pieces_printed false (name (c ∷ w) ∷ ps) h =
+    let x = both_true (list_all is_in_names (c ∷ w)) (parted true ps) h in
+    printed-append (c ∷ w) (bytes_of ps) (name_printed (c ∷ w) x.0) (pieces_printed true ps x.1)
+pieces_printed false (byte n ∷ ps) h = printed-append (byte_digits n) (bytes_of ps) (byte_printed n) (pieces_printed true ps h)
+pieces_printed false (word n ∷ ps) h = printed-append (word_digits n) (bytes_of ps) (word_printed n) (pieces_printed true ps h)
+pieces_printed true (sign c ∷ ps) h = let x = both_true (is_mark c) (parted false ps) h in (mark_printed c x.0, pieces_printed false ps x.1)
+pieces_printed false (sign c ∷ ps) h = let x = both_true (is_mark c) (parted false ps) h in (mark_printed c x.0, pieces_printed false ps x.1)
+
+pub texts_are_plain : TextsArePlain
+unfolding text_of Long Printed
+texts_are_plain i next = record { short = pieces_long i next; printed = pieces_printed false (pieces i next) (texts_are_parted i next) }
+
 within : (n : ℕ) → n ≤ 63 → nat_lt 255 n ≡ false
 within n h = grind (arith, nat_tests)
 
@@ -290,4 +348,4 @@ unfolding line_of text_of Long
 texts_are_read i x next s =
     let f = action_fits i.action x s in
     rw (within (length (bytes_of (pieces i next))) (pieces_long i next))
-    (ap (λ o. o >>= statement_of) (pieces_are_read (pieces i next) (texts_are_parted i next) (pieces_fit i next f.0 f.1) ∙ pieces_again i next) ∙ tokens_read i next (can_be_written i.action x next s))
+    (ap (λ o. o >>= statement_of) (ap tokens_of (sym (append-nil (bytes_of (pieces i next)))) ∙ pieces_are_read (pieces i next) [] (texts_are_parted i next) (pieces_fit i next f.0 f.1) tt ∙ pieces_again i next) ∙ tokens_read i next (can_be_written i.action x next s))
