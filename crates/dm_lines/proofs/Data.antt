@@ -1,6 +1,6 @@
 -- DB and some bytes are read as these bytes.
-use Rattle.std.proofs.Common.{◌≡◌, ℕ, ◌+◌, ◌<◌, ◌≤◌, ◌^◌, true, false, List, [], ◌∷◌, ◌++◌, length, map, Option, Some, None, refl, sym, ap, ◌∙◌, append_assoc, arith}
-use Rattle.std.specs.Prelude.{codes, flat_map, nat_lt, if◌then◌else◌}
+use Rattle.std.proofs.Common.{◌≡◌, ℕ, ◌<◌, ◌≤◌, ◌^◌, true, false, List, [], ◌∷◌, ◌++◌, length, map, Option, Some, refl, sym, ap, ◌∙◌, arith}
+use Rattle.std.specs.Prelude.{codes, flat_map, nat_lt}
 use Rattle.std.specs.List.{AllByRecursion}
 use Rattle.std.proofs.lemmas.Bool.Decides.{nat_tests}
 use Rattle.dm_ins.specs.Walks.{◌>>=◌}
@@ -8,14 +8,13 @@ use Rattle.dm_text.specs.Names.{name_of}
 use Rattle.dm_text.specs.Pieces.{Piece, name, byte, space, comma, byte_digits, bytes_of, parted}
 use Rattle.dm_lines.specs.declared.token.Token.{Token}
 use Rattle.dm_lines.specs.declared.token.Token.TheVariants as t
-use Rattle.dm_lines.specs.declared.term.Amount.{Amount}
 use Rattle.dm_lines.specs.declared.term.Amount.TheVariants.{Plus}
 use Rattle.dm_lines.specs.Words.{reserved}
-use Rattle.dm_lines.specs.Tokens.{closed, word_token, with_front, then_tokens, tokens_of}
-use Rattle.dm_lines.specs.Operands.{begin, parts}
+use Rattle.dm_lines.specs.Tokens.{closed, word_token, tokens_of}
+use Rattle.dm_lines.specs.Operands.{parts}
 use Rattle.dm_lines.specs.Statements as line
 use Rattle.dm_lines.specs.Statements.{statement_of, line_of, joined_to}
-use Rattle.dm_lines.specs.Laws.{all_tokens, AllFit, IsComment, data_text, data_statement, DataIsRead}
+use Rattle.dm_lines.specs.Laws.{all_tokens, AllFit, data_text, data_statement, DataIsRead}
 use Rattle.dm_lines.proofs.Printed.{pieces_are_read}
 
 -- ---- pieces and tokens

@@ -1,7 +1,7 @@
 //! Lines and their statements: forms from the manual (Intel 8086 Family User's Manual, section 2.7 to section 2.9), written by hand.
 //! How a row is read stands in `rows`.
 
-use crate::rows::{check, check_line};
+use crate::rows::{Reader, check};
 use std::test::Fail;
 
 /// A program, a line each, and lines with labels and comments.
@@ -411,19 +411,21 @@ fn data_are_numbers_texts_and_labels(rt: HostRuntime) -> Result<(), Fail> {
 /// 255 bytes and one more, of which some are a comment.
 #[test]
 fn lines_have_255_bytes(rt: HostRuntime) -> Result<(), Fail> {
+    let mut reader = Reader::new();
     let mut line = Vec::new(rt.alloc());
     line.extend_from_slice(b"RET;")?;
     line.resize(255, b'x')?;
-    check_line(&rt, rt.alloc(), "255 bytes", line.as_slice(), "RET")?;
+    reader.check_line(&rt, rt.alloc(), "255 bytes", line.as_slice(), "RET")?;
     line.push(b'x')?;
-    check_line(&rt, rt.alloc(), "256 bytes", line.as_slice(), "none")
+    reader.check_line(&rt, rt.alloc(), "256 bytes", line.as_slice(), "none")
 }
 
 /// A comment and a quoted text hold any byte; outside them only some can stand.
 #[test]
 fn comments_and_texts_hold_any_byte(rt: HostRuntime) -> Result<(), Fail> {
-    check_line(&rt, rt.alloc(), "a comment", b"RET;\x00\x0D\xFF'", "RET")?;
-    check_line(
+    let mut reader = Reader::new();
+    reader.check_line(&rt, rt.alloc(), "a comment", b"RET;\x00\x0D\xFF'", "RET")?;
+    reader.check_line(
         &rt,
         rt.alloc(),
         "a text",
@@ -433,7 +435,7 @@ fn comments_and_texts_hold_any_byte(rt: HostRuntime) -> Result<(), Fail> {
     for bad in [
         b"RET\x00", b"RET\x0D", b"RET\xFF", b"RET(", b"RET\"", b"RET.", b"RET!",
     ] {
-        check_line(&rt, rt.alloc(), "a byte that is no sign", bad, "none")?;
+        reader.check_line(&rt, rt.alloc(), "a byte that is no sign", bad, "none")?;
     }
     Ok(())
 }

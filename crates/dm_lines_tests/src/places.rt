@@ -5,8 +5,8 @@
 //! operand's outline, before any label has a place.
 
 use crate::checks::same;
-use crate::rows::{part, put_written};
-use dm_lines::{Instruction, Item, outline, read_line, written};
+use crate::rows::{Reader, part, put_written};
+use dm_lines::{Instruction, Item, outline, written};
 use std::alloc::Global;
 use std::process::Abort;
 use std::test::Fail;
@@ -49,7 +49,11 @@ fn number(part: &str, place: usize) -> Result<u16, Fail> {
 
 /// The instruction of a line.
 fn instruction(line: &str) -> Result<Instruction, Fail> {
-    match read_line(line.as_bytes()).ok_or("no statement")?.item {
+    match Reader::new()
+        .read(line.as_bytes())
+        .ok_or("no statement")?
+        .item
+    {
         Item::Instruction(instruction) => Ok(instruction),
         _ => Err(Fail::from("no instruction")),
     }

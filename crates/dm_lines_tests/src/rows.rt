@@ -8,8 +8,9 @@
 //! decimal; a label has behind it what is added to it. An operand in memory is the word before it, its registers and its value.
 
 use crate::checks::same;
+use arrayvec::ArrayVec;
 use dm_ins::{Prefixes, Repeat};
-use dm_lines::{Amount, Instruction, Item, Name, Statement, Term, Value, read_line};
+use dm_lines::{Amount, Instruction, Item, Items, Name, Statement, Term, Tokens, Value, read_line};
 use dm_read::{Numeral, Written};
 use dm_text::mnemonic_name;
 use std::alloc::Global;
@@ -95,20 +96,20 @@ fn put_instruction(text: &mut String, instruction: &Instruction) -> Result<(), F
     put_term(text, &instruction.second)
 }
 
-fn put_item(text: &mut String, item: &Item) -> Result<(), Fail> {
+fn put_item(text: &mut String, item: &Item, items: &Items) -> Result<(), Fail> {
     match item {
         Item::Nothing => text.push_str("nothing")?,
         Item::Instruction(instruction) => put_instruction(text, instruction)?,
-        Item::Bytes(bytes) => {
+        Item::Bytes => {
             text.push_str("DB")?;
-            for amount in bytes.as_slice() {
+            for amount in items.bytes.as_slice() {
                 text.push(' ')?;
                 put_amount(text, *amount)?;
             }
         }
-        Item::Words(words) => {
+        Item::Words => {
             text.push_str("DW")?;
-            for value in words.as_slice() {
+            for value in items.words.as_slice() {
                 text.push(' ')?;
                 put_value(text, value)?;
             }
@@ -118,7 +119,7 @@ fn put_item(text: &mut String, item: &Item) -> Result<(), Fail> {
 }
 
 /// The text of a statement, as rows have it.
-pub(crate) fn shown(alloc: Global, statement: &Option<Statement>) -> Result<String, Fail> {
+fn shown(alloc: Global, statement: &Option<Statement>, items: &Items) -> Result<String, Fail> {
     let mut text = String::new(alloc);
     match statement {
         None => text.push_str("none")?,
@@ -127,29 +128,53 @@ pub(crate) fn shown(alloc: Global, statement: &Option<Statement>) -> Result<Stri
                 put_name(&mut text, label)?;
                 text.push_str(": ")?;
             }
-            put_item(&mut text, &statement.item)?;
+            put_item(&mut text, &statement.item, items)?;
         }
     }
     Ok(text)
 }
 
-/// Tries a line.
-pub(crate) fn check_line(
-    rt: &impl Abort,
-    alloc: Global,
-    what: &str,
-    line: &[u8],
-    wanted: &str,
-) -> Result<(), Fail> {
-    let found = shown(alloc, &read_line(line))?;
-    same(rt, what, found.as_str(), wanted);
-    Ok(())
+/// What lines are read into: each row meets what the rows before it left.
+#[derive(Drop)]
+pub(crate) struct Reader {
+    tokens: Tokens,
+    items: Items,
+}
+
+impl Reader {
+    pub(crate) fn new() -> Reader {
+        Reader {
+            tokens: ArrayVec::new(),
+            items: Items::new(),
+        }
+    }
+
+    /// The statement of a line.
+    pub(crate) fn read(&mut self, line: &[u8]) -> Option<Statement> {
+        read_line(line, &mut self.tokens, &mut self.items)
+    }
+
+    /// Tries a line.
+    pub(crate) fn check_line(
+        &mut self,
+        rt: &impl Abort,
+        alloc: Global,
+        what: &str,
+        line: &[u8],
+        wanted: &str,
+    ) -> Result<(), Fail> {
+        let statement = self.read(line);
+        let found = shown(alloc, &statement, &self.items)?;
+        same(rt, what, found.as_str(), wanted);
+        Ok(())
+    }
 }
 
 /// Tries each row of a text.
 pub(crate) fn check(rt: &impl Abort, alloc: Global, rows: &str) -> Result<(), Fail> {
+    let mut reader = Reader::new();
     for row in rows.lines() {
-        check_line(
+        reader.check_line(
             rt,
             alloc,
             row,
