@@ -8,3 +8,4 @@ pub mod Stated
 pub mod InTable
 pub mod TextRead
 pub mod Data
+pub mod Fitting

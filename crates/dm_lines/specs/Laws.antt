@@ -14,7 +14,7 @@ use Rattle.dm_lines.specs.declared.term.Amount.{Amount}
 use Rattle.dm_lines.specs.declared.term.Amount.TheVariants.{Plus, Minus}
 use Rattle.dm_lines.specs.declared.term.Term.{Term}
 use Rattle.dm_lines.specs.declared.term.Term.TheVariants as term
-use Rattle.dm_lines.specs.Statements.{Statement, bytes, line_of}
+use Rattle.dm_lines.specs.Statements.{Item, Statement, nothing, instruction, bytes, words, line_of}
 use Rattle.dm_lines.specs.Placing.{written_of, outline_of}
 use Rattle.dm_lines.specs.Own.{own_term, own_statement}
 use Rattle.dm_text.specs.Pieces.{Piece, name, byte, word, sign, byte_digits, bytes_of, parted}
@@ -67,6 +67,7 @@ abbrev pub TermFits : Term → Type 0
 TermFits (term.Memory s b n) = AmountFits n
 TermFits (term.Address s v) = AmountFits v.amount
 TermFits (term.Number v) = AmountFits v.amount
+TermFits (term.Far segment offset) = (segment < 2 ^ 16) × (offset < 2 ^ 16)
 TermFits _ = Unit {0}
 
 -- an outline stands for what is written once its label has a place
@@ -97,3 +98,15 @@ data_statement bs = record { label = None; item = bytes (map Plus bs) }
 -- such a line is read as these bytes, with a comment behind it too
 abbrev pub DataIsRead : Type 0
 DataIsRead = (b : ℕ) (bs comment : List ℕ) → AllByRecursion (λ c. c < 2 ^ 8) (b ∷ bs) → IsComment comment → length (data_text b bs ++ comment) ≤ 255 → line_of (data_text b bs ++ comment) ≡ Some (data_statement (b ∷ bs))
+
+-- ---- numbers
+
+abbrev pub ItemFits : Item → Type 0
+ItemFits nothing = Unit {0}
+ItemFits (instruction i) = TermFits i.first × TermFits i.second
+ItemFits (bytes ns) = AllByRecursion AmountFits ns
+ItemFits (words vs) = AllByRecursion (λ v. AmountFits v.amount) vs
+
+-- the numbers in a statement fit their types
+abbrev pub NumbersFit : Type 0
+NumbersFit = (line : List ℕ) (s : Statement) → AllByRecursion (λ b. b < 2 ^ 8) line → line_of line ≡ Some s → ItemFits s.item

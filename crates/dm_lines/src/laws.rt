@@ -1,6 +1,6 @@
 //! What holds of the text of every instruction.
 
-ghost use Rattle.dm_lines.specs.Laws.{PiecesAreRead, OwnTermsAreWritten, OutlinesStand, TextsAreRead, TextsArePlain, DataIsRead};
+ghost use Rattle.dm_lines.specs.Laws.{PiecesAreRead, OwnTermsAreWritten, OutlinesStand, TextsAreRead, TextsArePlain, DataIsRead, NumbersFit};
 
 /// The law that a text whose pieces stand apart is read piece by piece, before a comment too: a name is a word, a number that number. It does nothing when
 /// called.
@@ -38,4 +38,10 @@ pub fn texts_are_plain()
 #[tactic(auto, using(crate::proofs::Data::data_is_read))]
 pub fn data_is_read()
     ensures { DataIsRead }
+{}
+
+/// The law that the numbers in the statement of a line of bytes fit their types, as `outlines_stand` asks for. It does nothing when
+/// called.
+pub fn numbers_fit()
+    ensures { NumbersFit }
 {}

@@ -13,8 +13,8 @@ mod token;
 mod words;
 
 pub use laws::{
-    data_is_read, outlines_stand, own_terms_are_written, pieces_are_read, texts_are_plain,
-    texts_are_read,
+    data_is_read, numbers_fit, outlines_stand, own_terms_are_written, pieces_are_read,
+    texts_are_plain, texts_are_read,
 };
 pub use lexing::Tokens;
 pub use placing::{byte, outline, word_at, written};
