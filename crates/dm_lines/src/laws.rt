@@ -2,8 +2,8 @@
 
 ghost use Rattle.dm_lines.specs.Laws.{PiecesAreRead, OwnTermsAreWritten, OutlinesStand, TextsAreRead, TextsArePlain, DataIsRead, NumbersFit};
 
-/// The law that a text whose pieces stand apart is read piece by piece, before a comment too: a name is a word, a number that number. It does nothing when
-/// called.
+/// The law that a text whose pieces stand apart is read piece by piece, before a comment too: a name is a word, a number that
+/// number. It does nothing when called.
 #[tactic(auto, using(crate::proofs::Printed::pieces_are_read))]
 pub fn pieces_are_read()
     ensures { PiecesAreRead }
@@ -23,8 +23,8 @@ pub fn outlines_stand()
     ensures { OutlinesStand }
 {}
 
-/// The law that the text of each instruction of the table is read as that instruction, whatever stands behind it. It does nothing
-/// when called.
+/// The law that the text of each instruction of the table is read as that instruction, wherever it stands. It does nothing when
+/// called.
 pub fn texts_are_read()
     ensures { TextsAreRead }
 {}
