@@ -1,5 +1,5 @@
 -- The pieces of an instruction's text are these tokens.
-use Rattle.std.proofs.Common.{◌≡◌, ℕ, ◌+◌, ◌%◌, ◌<◌, ◌^◌, Bool, true, false, List, [], ◌∷◌, ◌++◌, Option, Some, None, refl, sym, ap, ◌∙◌, append_assoc, append-nil}
+use Rattle.std.proofs.Common.{◌≡◌, ℕ, ◌+◌, ◌%◌, Bool, true, false, List, [], ◌∷◌, ◌++◌, Option, Some, None, refl, sym, ap, ◌∙◌, append_assoc}
 use Rattle.std.specs.Prelude.{◌==◌, if◌then◌else◌, codes}
 use Rattle.dm_ins.specs.declared.operand.Width.{Width}
 use Rattle.dm_ins.specs.declared.operand.WordRegister.TheVariants.{Bx, Bp, Si, Di}
@@ -14,7 +14,6 @@ use Rattle.dm_ins.specs.declared.prefix.Repeat.{Repeat}
 use Rattle.dm_ins.specs.declared.prefix.Repeat.TheVariants.{NotEqual, Equal}
 use Rattle.dm_ins.specs.declared.prefix.Prefixes.{Prefixes}
 use Rattle.dm_ins.specs.declared.ins.Ins.{Ins}
-use Rattle.dm_text.specs.Names.{word_name}
 use Rattle.dm_text.specs.Pieces.{Piece, name, word, space, plus, comma, left_bracket, right_bracket}
 use Rattle.dm_text.specs.Texts.{base_pieces, displacement_pieces, address_pieces, size_pieces, memory_pieces, operand_pieces, behind, second_pieces, operands_pieces, mnemonic_pieces, is_nop, action_pieces, segment_pieces, lock_pieces, repeat_pieces, prefix_pieces, pieces}
 use Rattle.dm_read.specs.Words.{size_word}
@@ -23,7 +22,6 @@ use Rattle.dm_lines.specs.declared.token.Token.{Token}
 use Rattle.dm_lines.specs.declared.token.Token.TheVariants as t
 use Rattle.dm_lines.specs.Tokens.{closed, with_front, then_tokens}
 use Rattle.dm_lines.specs.Laws.{piece_tokens, all_tokens}
-use Rattle.dm_lines.proofs.Lexed.{front-front}
 use Rattle.dm_lines.proofs.Named.{byte_again, word_again, segment_again, nop_again, lock_again, equal_again, not_equal_again, one_again, size_tokens, size_again, mnemonic_tokens, mnemonic_again}
 
 -- ---- pieces one behind another

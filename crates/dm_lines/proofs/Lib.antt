@@ -5,3 +5,6 @@ pub mod OwnTerms
 pub mod Named
 pub mod Again
 pub mod Stated
+pub mod InTable
+pub mod TextRead
+pub mod Data

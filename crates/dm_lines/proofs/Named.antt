@@ -1,5 +1,5 @@
 -- Each name of a text is its word again.
-use Rattle.std.proofs.Common.{◌≡◌, List, [], ◌∷◌, Option, Some, refl}
+use Rattle.std.proofs.Common.{◌≡◌, List, [], ◌∷◌, Some, refl}
 use Rattle.std.specs.Prelude.{codes}
 use Rattle.dm_ins.specs.declared.operand.WordRegister.{WordRegister}
 use Rattle.dm_ins.specs.declared.operand.WordRegister.TheVariants.{Ax}
@@ -9,7 +9,6 @@ use Rattle.dm_ins.specs.declared.operand.SegmentRegister.{SegmentRegister}
 use Rattle.dm_ins.specs.declared.operand.SegmentRegister.TheVariants.{Es}
 use Rattle.dm_ins.specs.declared.action.Mnemonic.{Mnemonic}
 use Rattle.dm_ins.specs.declared.action.Mnemonic.TheVariants as op
-use Rattle.dm_ins.specs.declared.prefix.Repeat.{Repeat}
 use Rattle.dm_ins.specs.declared.prefix.Repeat.TheVariants.{NotEqual, Equal}
 use Rattle.dm_read.specs.declared.written.Size.{Size}
 use Rattle.dm_read.specs.declared.written.Size.TheVariants.{Absent, Byte, Word, Near}

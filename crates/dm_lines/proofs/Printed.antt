@@ -1,15 +1,15 @@
 -- Pieces of text are read as their tokens.
-use Rattle.std.proofs.Common.{◌≡◌, ℕ, zero, suc, ◌<◌, ◌≤◌, ◌+◌, ◌-◌, ◌*◌, ◌/◌, ◌%◌, ◌^◌, Bool, true, false, ◌&&◌, ◌||◌, List, [], ◌∷◌, ◌++◌, map, Option, Some, None, nat_eq, leb, eqb, refl, sym, ap, subst, ◌∙◌, append_assoc, append-nil, arith}
+use Rattle.std.proofs.Common.{◌≡◌, ℕ, ◌<◌, ◌+◌, ◌-◌, ◌*◌, ◌/◌, ◌%◌, Bool, true, false, ◌&&◌, ◌||◌, List, [], ◌∷◌, ◌++◌, map, Option, Some, None, inl, inr, leb, eqb, refl, sym, ap, subst, ◌∙◌, append_assoc, append-nil, arith}
 use Rattle.std.specs.Prelude.{◌==◌, if◌then◌else◌, nat_le}
 use Rattle.std.specs.List.{list_all}
 use Rattle.std.proofs.lemmas.Bool.{eqb-true}
 use Rattle.std.proofs.lemmas.Bool.Decides.{nat_tests}
 use borrow.Author.Count.{below_none, below_more}
-use Rattle.dm_text.specs.Pieces.{Piece, name, byte, word, sign, digit, byte_digits, word_digits, bytes_of, is_in_names, is_name, is_mark, parted}
+use Rattle.dm_text.specs.Pieces.{Piece, name, byte, word, sign, digit, byte_digits, word_digits, bytes_of, is_in_names, is_mark, parted}
 use Rattle.dm_lines.specs.declared.token.Token.{Token}
 use Rattle.dm_lines.specs.declared.token.Token.TheVariants as t
 use Rattle.dm_lines.specs.Tokens.{upper, is_word_byte, digit_of, magnitude_of, word_token, closed, with_front, then_tokens, marked, lexed, tokens_of}
-use Rattle.dm_lines.specs.Laws.{piece_tokens, all_tokens, AllFit, PiecesAreRead}
+use Rattle.dm_lines.specs.Laws.{all_tokens, AllFit, IsComment, PiecesAreRead}
 
 both_true : (a b : Bool) → (a && b) ≡ true → (a ≡ true) × (b ≡ true)
 both_true true true e = (refl, refl)
@@ -151,38 +151,44 @@ nothing_behind : (r : Option (List Token)) → then_tokens r (Some []) ≡ r
 nothing_behind None = refl
 nothing_behind (Some ts) = ap Some (append-nil ts)
 
-Reads : List ℕ → List Piece → Type 0
-Reads v ps = lexed false v (bytes_of ps) ≡ then_tokens (closed v) (all_tokens ps)
+comment_ends : (v comment : List ℕ) → IsComment comment → lexed false v comment ≡ closed v
+comment_ends v [] h = refl
+comment_ends v (b ∷ bs) (inl e) = rw e refl
+comment_ends v (b ∷ bs) (inr e) = rw (e.0, comment_ends [] bs e.1) (nothing_behind (closed v))
 
-number_read : (u : List ℕ) (n : ℕ) (ps : List Piece) → IsNumber u n → Reads (map upper u) ps → lexed false [] (u ++ bytes_of ps) ≡ then_tokens (closed []) (with_front (t.Number n ∷ []) (all_tokens ps))
-unfolding Reads
-number_read u n ps i r =
-    run_read [] u (bytes_of ps) i.words ∙ r ∙ ap (λ (z : Option (List Token)). then_tokens z (all_tokens ps)) i.token ∙ sym (none_before (with_front (t.Number n ∷ []) (all_tokens ps)))
+module _ (comment : List ℕ) (is_comment : IsComment comment) where
+  Reads : List ℕ → List Piece → Type 0
+  Reads v ps = lexed false v (bytes_of ps ++ comment) ≡ then_tokens (closed v) (all_tokens ps)
 
-reads : (v : List ℕ) (ps : List Piece) → parted (is_begun v) ps ≡ true → AllFit ps → Reads v ps
-unfolding Reads is_begun
-reads v [] h f = sym (nothing_behind (closed v))
-reads (x ∷ v) (name w ∷ ps) h f = absurd cc
-reads (x ∷ v) (byte n ∷ ps) h f = absurd cc
-reads (x ∷ v) (word n ∷ ps) h f = absurd cc
-reads [] (name [] ∷ ps) h f = absurd cc
-reads [] (name (c ∷ u) ∷ ps) h f =
-    let x = both_true (list_all is_in_names (c ∷ u)) (parted true ps) h in
-    let n = name_words (c ∷ u) x.0 in
-    run_read [] (c ∷ u) (bytes_of ps) n.0 ∙ ap (λ (z : List ℕ). lexed false z (bytes_of ps)) n.1 ∙ reads (c ∷ u) ps x.1 f.1 ∙ sym (none_before (then_tokens (closed (c ∷ u)) (all_tokens ps)))
-reads [] (byte n ∷ ps) h f =
-    let i = byte_number n f.0 in
-    number_read (byte_digits n) n ps i (reads (map upper (byte_digits n)) ps (subst (λ (z : Bool). parted z ps ≡ true) (sym i.begun) h) f.1)
-reads [] (word n ∷ ps) h f =
-    let i = word_number n f.0 in
-    number_read (word_digits n) n ps i (reads (map upper (word_digits n)) ps (subst (λ (z : Bool). parted z ps ≡ true) (sym i.begun) h) f.1)
-reads [] (sign b ∷ ps) h f =
-    let x = both_true (is_mark b) (parted false ps) h in
-    sign_read [] b (bytes_of ps) (is_sign b x.0) ∙ ap (λ (z : Option (List Token)). then_tokens (Some []) (then_tokens (marked b) z)) (reads [] ps x.1 f.1 ∙ none_before (all_tokens ps))
-reads (c ∷ v) (sign b ∷ ps) h f =
-    let x = both_true (is_mark b) (parted false ps) h in
-    sign_read (c ∷ v) b (bytes_of ps) (is_sign b x.0) ∙ ap (λ (z : Option (List Token)). then_tokens (closed (c ∷ v)) (then_tokens (marked b) z)) (reads [] ps x.1 f.1 ∙ none_before (all_tokens ps))
+  number_read : (u : List ℕ) (n : ℕ) (ps : List Piece) → IsNumber u n → Reads (map upper u) ps → lexed false [] ((u ++ bytes_of ps) ++ comment) ≡ then_tokens (closed []) (with_front (t.Number n ∷ []) (all_tokens ps))
+  unfolding Reads
+  number_read u n ps i r =
+      ap (lexed false []) (append_assoc u (bytes_of ps) comment) ∙ run_read [] u (bytes_of ps ++ comment) i.words ∙ r ∙ ap (λ (z : Option (List Token)). then_tokens z (all_tokens ps)) i.token ∙ sym (none_before (with_front (t.Number n ∷ []) (all_tokens ps)))
+
+  reads : (v : List ℕ) (ps : List Piece) → parted (is_begun v) ps ≡ true → AllFit ps → Reads v ps
+  unfolding Reads is_begun
+  reads v [] h f = comment_ends v comment is_comment ∙ sym (nothing_behind (closed v))
+  reads (x ∷ v) (name w ∷ ps) h f = absurd cc
+  reads (x ∷ v) (byte n ∷ ps) h f = absurd cc
+  reads (x ∷ v) (word n ∷ ps) h f = absurd cc
+  reads [] (name [] ∷ ps) h f = absurd cc
+  reads [] (name (c ∷ u) ∷ ps) h f =
+      let x = both_true (list_all is_in_names (c ∷ u)) (parted true ps) h in
+      let n = name_words (c ∷ u) x.0 in
+      ap (lexed false []) (append_assoc (c ∷ u) (bytes_of ps) comment) ∙ run_read [] (c ∷ u) (bytes_of ps ++ comment) n.0 ∙ ap (λ (z : List ℕ). lexed false z (bytes_of ps ++ comment)) n.1 ∙ reads (c ∷ u) ps x.1 f.1 ∙ sym (none_before (then_tokens (closed (c ∷ u)) (all_tokens ps)))
+  reads [] (byte n ∷ ps) h f =
+      let i = byte_number n f.0 in
+      number_read (byte_digits n) n ps i (reads (map upper (byte_digits n)) ps (subst (λ (z : Bool). parted z ps ≡ true) (sym i.begun) h) f.1)
+  reads [] (word n ∷ ps) h f =
+      let i = word_number n f.0 in
+      number_read (word_digits n) n ps i (reads (map upper (word_digits n)) ps (subst (λ (z : Bool). parted z ps ≡ true) (sym i.begun) h) f.1)
+  reads [] (sign b ∷ ps) h f =
+      let x = both_true (is_mark b) (parted false ps) h in
+      sign_read [] b (bytes_of ps ++ comment) (is_sign b x.0) ∙ ap (λ (z : Option (List Token)). then_tokens (Some []) (then_tokens (marked b) z)) (reads [] ps x.1 f.1 ∙ none_before (all_tokens ps))
+  reads (c ∷ v) (sign b ∷ ps) h f =
+      let x = both_true (is_mark b) (parted false ps) h in
+      sign_read (c ∷ v) b (bytes_of ps ++ comment) (is_sign b x.0) ∙ ap (λ (z : Option (List Token)). then_tokens (closed (c ∷ v)) (then_tokens (marked b) z)) (reads [] ps x.1 f.1 ∙ none_before (all_tokens ps))
 
 pub pieces_are_read : PiecesAreRead
 unfolding tokens_of Reads is_begun
-pieces_are_read ps h f = reads [] ps h f ∙ none_before (all_tokens ps)
+pieces_are_read ps comment h f c = reads comment c [] ps h f ∙ none_before (all_tokens ps)

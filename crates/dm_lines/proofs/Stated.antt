@@ -1,12 +1,11 @@
 -- The tokens of an instruction's text are read as the instruction.
-use Rattle.std.proofs.Common.{◌≡◌, ℕ, zero, suc, ◌+◌, ◌%◌, Bool, true, false, List, [], ◌∷◌, ◌++◌, Option, Some, None, refl, sym, ap, ◌∙◌, append-nil}
+use Rattle.std.proofs.Common.{◌≡◌, ℕ, Bool, true, false, List, [], ◌∷◌, ◌++◌, Option, Some, None, refl, sym, ap, ◌∙◌, append-nil}
 use Rattle.std.specs.Prelude.{◌==◌, if◌then◌else◌}
 use Rattle.std.proofs.lemmas.Bool.{eqb-true}
 use Rattle.dm_ins.specs.declared.operand.SegmentRegister.{SegmentRegister}
 use Rattle.dm_ins.specs.declared.operand.WordRegister.TheVariants.{Ax}
 use Rattle.dm_ins.specs.declared.operand.Base.{Base}
 use Rattle.dm_ins.specs.declared.operand.Base.TheVariants.{Direct, BxSi, BxDi, BpSi, BpDi, OnSi, OnDi, OnBp, OnBx}
-use Rattle.dm_ins.specs.declared.operand.Address.{Address}
 use Rattle.dm_ins.specs.declared.operand.Operand.{Operand}
 use Rattle.dm_ins.specs.declared.operand.Operand.TheVariants as operand
 use Rattle.dm_ins.specs.declared.action.Mnemonic.{Mnemonic}
@@ -27,7 +26,7 @@ use Rattle.dm_lines.specs.declared.term.Term.{Term}
 use Rattle.dm_lines.specs.declared.term.Term.TheVariants as term
 use Rattle.dm_lines.specs.declared.statement.Instruction.{Instruction}
 use Rattle.dm_lines.specs.Operands.{onto, inside, base_at, place_of, memory_of, term_of, is_comma, begin, parts, term_pair, terms_of}
-use Rattle.dm_lines.specs.Statements.{Statement, instruction, mnemonic_at, is_memory, exchanges, with_terms, action_of, statement_of}
+use Rattle.dm_lines.specs.Statements.{instruction, mnemonic_at, is_memory, exchanges, with_terms, action_of, statement_of}
 use Rattle.dm_lines.specs.Own.{memory_term, own_term, own_statement}
 use Rattle.dm_lines.proofs.Named.{size_tokens, mnemonic_tokens}
 use Rattle.dm_lines.proofs.Again.{base_tokens, displacement_tokens, address_tokens, operand_tokens, second_tokens, operands_tokens, action_tokens, segment_tokens, lock_tokens, repeat_tokens, prefix_tokens}

@@ -1,5 +1,6 @@
 -- What holds of the text of every instruction: it is read again as that instruction.
-use Rattle.std.specs.Prelude.{◌≡◌, ℕ, ◌^◌, ◌<◌, true, false, List, [], ◌∷◌, Option, Some}
+use Rattle.std.specs.Prelude.{◌≡◌, ℕ, ◌^◌, ◌<◌, ◌≤◌, ◌⊎◌, true, false, List, [], ◌∷◌, ◌++◌, length, map, Option, Some, None, codes, flat_map}
+use Rattle.std.specs.List.{AllByRecursion}
 use Rattle.dm_ins.specs.declared.operand.Operand.{Operand}
 use Rattle.dm_ins.specs.declared.action.Mnemonic.{Mnemonic}
 use Rattle.dm_ins.specs.declared.action.Action.{Action}
@@ -7,13 +8,16 @@ use Rattle.dm_ins.specs.declared.ins.Ins.{Ins}
 use Rattle.dm_ins.specs.Spelling.{SpellsAction}
 use Rattle.dm_text.specs.Texts.{text_of}
 use Rattle.dm_read.specs.declared.written.Written.{Written}
-use Rattle.dm_read.specs.Shapes.{OperandStands}
+use Rattle.dm_read.specs.StandIns.{OperandStands}
 use Rattle.dm_read.specs.Own as read
+use Rattle.dm_lines.specs.declared.term.Amount.{Amount}
+use Rattle.dm_lines.specs.declared.term.Amount.TheVariants.{Plus, Minus}
 use Rattle.dm_lines.specs.declared.term.Term.{Term}
-use Rattle.dm_lines.specs.Statements.{line_of}
+use Rattle.dm_lines.specs.declared.term.Term.TheVariants as term
+use Rattle.dm_lines.specs.Statements.{Statement, bytes, line_of}
 use Rattle.dm_lines.specs.Placing.{written_of, outline_of}
 use Rattle.dm_lines.specs.Own.{own_term, own_statement}
-use Rattle.dm_text.specs.Pieces.{Piece, name, byte, word, sign, bytes_of, parted}
+use Rattle.dm_text.specs.Pieces.{Piece, name, byte, word, sign, byte_digits, bytes_of, parted}
 use Rattle.dm_lines.specs.declared.token.Token.{Token}
 use Rattle.dm_lines.specs.declared.token.Token.TheVariants as t
 use Rattle.dm_lines.specs.Tokens.{closed, then_tokens, marked, tokens_of}
@@ -39,9 +43,14 @@ abbrev pub AllFit : List Piece → Type 0
 AllFit [] = Unit {0}
 AllFit (p ∷ ps) = PieceFits p × AllFit ps
 
--- a text whose pieces stand apart is read piece by piece: a name is a word, a number is that number
+-- spaces, then nothing, or a semicolon and any bytes
+abbrev pub IsComment : List ℕ → Type 0
+IsComment [] = Unit {0}
+IsComment (b ∷ bs) = (b ≡ 59) ⊎ ((b ≡ 32) × IsComment bs)
+
+-- a text whose pieces stand apart is read piece by piece, before a comment too: a name is a word, a number is that number
 abbrev pub PiecesAreRead : Type 0
-PiecesAreRead = (ps : List Piece) → parted false ps ≡ true → AllFit ps → tokens_of (bytes_of ps) ≡ all_tokens ps
+PiecesAreRead = (ps : List Piece) (comment : List ℕ) → parted false ps ≡ true → AllFit ps → IsComment comment → tokens_of (bytes_of ps ++ comment) ≡ all_tokens ps
 
 -- ---- instructions
 
@@ -49,10 +58,42 @@ PiecesAreRead = (ps : List Piece) → parted false ps ≡ true → AllFit ps →
 abbrev pub OwnTermsAreWritten : Type 0
 OwnTermsAreWritten = (a : Action) (next place : ℕ) (o : Operand) → written_of a.mnemonic (own_term a next o) place next ≡ Some (read.written_of a next o)
 
+-- the numbers in an operand fit their types
+abbrev pub AmountFits : Amount → Type 0
+AmountFits (Plus n) = n < 2 ^ 16
+AmountFits (Minus n) = n < 2 ^ 16
+
+abbrev pub TermFits : Term → Type 0
+TermFits (term.Memory s b n) = AmountFits n
+TermFits (term.Address s v) = AmountFits v.amount
+TermFits (term.Number v) = AmountFits v.amount
+TermFits _ = Unit {0}
+
 -- an outline stands for what is written once its label has a place
 abbrev pub OutlinesStand : Type 0
-OutlinesStand = (m : Mnemonic) (t : Term) (place next : ℕ) (x : Written) → written_of m t place next ≡ Some x → OperandStands m (outline_of m t) x
+OutlinesStand = (m : Mnemonic) (t : Term) (place next : ℕ) (x : Written) → TermFits t → written_of m t place next ≡ Some x → OperandStands m (outline_of m t) x
 
 -- the text of each instruction of the table is read as that instruction
 abbrev pub TextsAreRead : Type 0
 TextsAreRead = (i : Ins) (bytes : List ℕ) (next : ℕ) → SpellsAction i.action bytes → line_of (text_of i next) ≡ Some (own_statement i next)
+
+-- each byte of an instruction's text is a letter, a digit or a sign; it is at most 63 bytes long
+pub record IsPlain (text : List ℕ) : Type 0 where
+  pub short : length text ≤ 63
+  pub printed : AllByRecursion (λ b. 32 ≤ b) text
+
+abbrev pub TextsArePlain : Type 0
+TextsArePlain = (i : Ins) (next : ℕ) → IsPlain (text_of i next)
+
+-- ---- data
+
+-- DB, and bytes with commas between them
+abbrev pub data_text : ℕ → List ℕ → List ℕ
+data_text b bs = codes "DB " ++ byte_digits b ++ flat_map (λ c. codes "," ++ byte_digits c) bs
+
+abbrev pub data_statement : List ℕ → Statement
+data_statement bs = record { label = None; item = bytes (map Plus bs) }
+
+-- such a line is read as these bytes, with a comment behind it too
+abbrev pub DataIsRead : Type 0
+DataIsRead = (b : ℕ) (bs comment : List ℕ) → AllByRecursion (λ c. c < 2 ^ 8) (b ∷ bs) → IsComment comment → length (data_text b bs ++ comment) ≤ 255 → line_of (data_text b bs ++ comment) ≡ Some (data_statement (b ∷ bs))

@@ -5,7 +5,7 @@ use Rattle.std.specs.Prelude.{ℕ, ◌-◌, ◌%◌, Bool, true, false, List, []
 use Rattle.std.specs.Borrow.{Bor}
 use Rattle.dm_ins.specs.declared.operand.WordRegister.TheVariants.{Bx, Bp, Si, Di}
 use Rattle.dm_ins.specs.declared.operand.Base.{Base}
-use Rattle.dm_ins.specs.declared.operand.Base.TheVariants.{Direct, BxSi, BxDi, BpSi, BpDi, OnSi, OnDi, OnBp, OnBx}
+use Rattle.dm_ins.specs.declared.operand.Base.TheVariants.{BxSi, BxDi, BpSi, BpDi, OnSi, OnDi, OnBp, OnBx}
 use Rattle.dm_ins.specs.Walks.{◌>>=◌}
 use Rattle.dm_read.specs.declared.written.Size.{Size}
 use Rattle.dm_read.specs.declared.written.Size.TheVariants.{Absent}

@@ -1,8 +1,8 @@
 //! What holds of the text of every instruction.
 
-ghost use Rattle.dm_lines.specs.Laws.{PiecesAreRead, OwnTermsAreWritten};
+ghost use Rattle.dm_lines.specs.Laws.{PiecesAreRead, OwnTermsAreWritten, OutlinesStand, TextsAreRead, TextsArePlain, DataIsRead};
 
-/// The law that a text whose pieces stand apart is read piece by piece: a name is a word, a number that number. It does nothing when
+/// The law that a text whose pieces stand apart is read piece by piece, before a comment too: a name is a word, a number that number. It does nothing when
 /// called.
 #[tactic(auto, using(crate::proofs::Printed::pieces_are_read))]
 pub fn pieces_are_read()
@@ -14,4 +14,28 @@ pub fn pieces_are_read()
 #[tactic(auto, using(crate::proofs::OwnTerms::own_terms_are_written))]
 pub fn own_terms_are_written()
     ensures { OwnTermsAreWritten }
+{}
+
+/// The law that an outline stands for what is written once its label has a place: an instruction whose operands are outlines has as
+/// many bytes. It does nothing when called.
+#[tactic(auto, using(crate::proofs::OwnTerms::outlines_stand))]
+pub fn outlines_stand()
+    ensures { OutlinesStand }
+{}
+
+/// The law that the text of each instruction of the table is read as that instruction, whatever stands behind it. It does nothing
+/// when called.
+pub fn texts_are_read()
+    ensures { TextsAreRead }
+{}
+
+/// The law that the text of an instruction is at most 63 bytes, none of which ends a line. It does nothing when called.
+pub fn texts_are_plain()
+    ensures { TextsArePlain }
+{}
+
+/// The law that DB and some bytes are read as these bytes, with a comment behind them too. It does nothing when called.
+#[tactic(auto, using(crate::proofs::Data::data_is_read))]
+pub fn data_is_read()
+    ensures { DataIsRead }
 {}

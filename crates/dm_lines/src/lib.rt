@@ -12,7 +12,7 @@ mod term;
 mod token;
 mod words;
 
-pub use laws::{own_terms_are_written, pieces_are_read};
+pub use laws::{data_is_read, outlines_stand, own_terms_are_written, pieces_are_read, texts_are_plain, texts_are_read};
 pub use placing::{byte, outline, word_at, written};
 pub use statement::{Bytes, Instruction, Item, Statement, Words};
 pub use statements::read_line;

@@ -1,5 +1,8 @@
 //! Operands as they are written, where labels have no place yet.
 
+ghost use Rattle.std.specs.Prelude.{◌≡◌};
+ghost use Rattle.dm_lines.specs.declared.term.Amount.TheVariants.{Plus};
+
 use crate::token::Name;
 use dm_ins::{Base, ByteRegister, SegmentRegister, WordRegister};
 use dm_read::Size;
@@ -13,6 +16,8 @@ pub enum Amount {
 }
 
 impl Default for Amount {
+    ghost is_default = { λ amount. amount ≡ Plus 0 };
+
     /// Zero.
     fn default() -> Self {
         Amount::Plus(0)

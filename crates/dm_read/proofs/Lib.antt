@@ -1,5 +1,5 @@
 mod Readings
-mod Rows
+pub mod Rows
 pub mod One
 mod Known
 pub mod Own
