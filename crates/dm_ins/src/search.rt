@@ -128,8 +128,18 @@ fn has_members(opcode: u8) -> bool
     matches!(entry_at(opcode), Entry::Group(_))
 }
 
-/// Makes `best` the least of the best bytes so far and those of one more row. Few rows have the
-/// mnemonic, so that is asked first.
+/// Makes `best` the least of the best bytes so far and those of one more row. (Not inlined: what it
+/// needs of the stack would be paid for each row.)
+#[inline(never)]
+fn improve_by(opcode: u8, register: u8, action: &Action, best: &mut Option<RowBytes>)
+    requires register { register < 8 }
+    requires best { Best (8 * opcode + register) action.now (seen_bytes best.old) }
+    ensures { Best (8 * opcode + register + 1) action.now (seen_bytes best.new) }
+{
+    *best = better(best.take(), candidate(opcode, register, action));
+}
+
+/// The same, where few rows have the mnemonic, so that this is asked first.
 #[inline(always)]
 fn improve_at(opcode: u8, register: u8, action: &Action, best: &mut Option<RowBytes>)
     requires register { register < 8 }
@@ -137,7 +147,7 @@ fn improve_at(opcode: u8, register: u8, action: &Action, best: &mut Option<RowBy
     ensures { Best (8 * opcode + register + 1) action.now (seen_bytes best.new) }
 {
     if has_mnemonic(opcode, register, action.mnemonic) {
-        *best = better(best.take(), candidate(opcode, register, action));
+        improve_by(opcode, register, action, best);
     }
 }
 

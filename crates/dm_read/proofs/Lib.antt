@@ -1,10 +1,10 @@
 mod Readings
 pub mod Rows
-mod One
+pub mod One
 mod Known
-mod Own
+pub mod Own
 pub mod Sizes
 mod Alike
 mod Places
 mod Lengths
-mod StandIns
+pub mod StandIns

@@ -1,8 +1,5 @@
-use Rattle.dm_ins.proofs.Order.{best_more, best_without}
+use Rattle.dm_ins.proofs.Order.{best_without}
 use Rattle.dm_ins.proofs.search.improve_at.Goals as goal
-
-pub returns-then-has_mnemonic : goal.returns-then-has_mnemonic
-returns-then-has_mnemonic c = rw (c.better.ensures, c.take.ensures.value) (best_more c.args.action.now c.args.opcode c.args.register c.requires.register _ _ c.requires.best c.candidate.ensures.found c.candidate.ensures.none)
 
 pub returns-else-has_mnemonic : goal.returns-else-has_mnemonic
 returns-else-has_mnemonic c = best_without c.args.action.now c.args.opcode c.args.register c.requires.register _ c.requires.best (c.has_mnemonic.ensures c.if-has_mnemonic.false)
