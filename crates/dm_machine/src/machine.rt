@@ -1,7 +1,8 @@
 //! The machine and what it shows.
 ghost use Rattle.std.specs.Prelude.{◌≡◌, ◌≤◌, ◌↔◌, IsTrue, IfOk, IsOk, IsErrOf, OnOk, OnErr, length, max};
 ghost use Rattle.dm_space.specs.Memory.{linear, peek, poke};
-ghost use Rattle.dm_machine.specs.Start.{IsNew, IsTooLarge};
+ghost use Rattle.dm_pool.specs.Stored.{IsTooLarge};
+ghost use Rattle.dm_machine.specs.Start.{IsNew};
 ghost use Rattle.dm_services.specs.State.{HasProgram};
 
 use crate::memo::Memo;
@@ -9,6 +10,7 @@ use dm_alu::Flags;
 use dm_arena::Strategy;
 use dm_console::Console;
 use dm_exec::Cpu;
+use dm_pool::Store;
 use dm_proc::{Procs, Programs};
 use dm_services::{Config, Parts};
 use dm_space::Space;
@@ -89,14 +91,15 @@ impl Machine {
         ensures too_large { IsErrOf result NewError.TooLarge ↔ IsTooLarge config.sizes }
     {
         let Config { sizes, variables } = config;
-        if sizes.ems_pages > 512 || sizes.xms_kib > 15_360 {
-            return Err(NewError::TooLarge);
-        }
-        let space = Space::new(alloc).map_err(|_| NewError::Memory)?;
+        let store = match Store::new(alloc, sizes) {
+            Ok(store) => store,
+            Err(dm_pool::NewError::TooLarge) => return Err(NewError::TooLarge),
+            Err(dm_pool::NewError::Memory) => return Err(NewError::Memory),
+        };
         let memo = Memo::new(alloc).map_err(|_| NewError::Memory)?;
         let parts = Parts {
             cpu: clear_registers(),
-            space,
+            space: Space::new(store),
             console: Console::new(alloc, input),
             procs: Procs::new(),
             strategy: Strategy::First,
