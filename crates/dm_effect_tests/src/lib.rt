@@ -10,4 +10,6 @@ mod edges;
 #[cfg(test)]
 mod effects;
 #[cfg(test)]
+mod memory;
+#[cfg(test)]
 mod rows;
