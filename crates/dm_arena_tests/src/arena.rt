@@ -242,6 +242,15 @@ fn ended_program_leaves_free_blocks(rt: HostRuntime) -> Result<(), Fail> {
     Ok(())
 }
 
+/// Plans two blocks that take all that is left, and writes them.
+fn write_two(rt: &impl Abort, space: &mut Space) {
+    let pair = plan_pair(space, Strategy::First, 1, 0x20, 0xFFFF).expect(rt, "there is room");
+    same(rt, "environment", pair.environment(), 0x1104);
+    same(rt, "program", pair.program(), 0x1106);
+    same(rt, "size", pair.size(), 0x8EFA);
+    write_pair(space, pair);
+}
+
 #[test]
 fn two_blocks_share_what_is_left(rt: HostRuntime) -> Result<(), Fail> {
     let mut space = new_space(rt.alloc())?;
@@ -260,11 +269,7 @@ fn two_blocks_share_what_is_left(rt: HostRuntime) -> Result<(), Fail> {
             Some(Refusal::Short { largest: 0x8EFC }),
         );
     }
-    let pair = plan_pair(&space, Strategy::First, 1, 0x20, 0xFFFF).expect(&rt, "there is room");
-    same(&rt, "environment", pair.environment(), 0x1104);
-    same(&rt, "program", pair.program(), 0x1106);
-    same(&rt, "size", pair.size(), 0x8EFA);
-    write_pair(&mut space, pair);
+    write_two(&rt, &mut space);
     stands(&rt, &space, entry(false, 0x1103, 0x1106, 1));
     stands(&rt, &space, entry(true, 0x1105, 0x1106, 0x8EFA));
     Ok(())

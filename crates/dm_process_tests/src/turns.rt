@@ -196,12 +196,10 @@ fn resident_program_may_have_no_block(rt: HostRuntime) -> Result<(), Fail> {
     let ending = end(&mut procs, &mut cpu, &mut space, Some(0x10));
     same(&rt, "ending", ending, Some(Ending::Returned));
     holds(&rt, "vectors", &space, (0, 0x88), b"0123456789AB");
-    for (segment, bytes) in [
-        (0x1103, [b'Z', 0x06, 0x11, 0xFC, 0x8E]),
-        (0x1105, [b'M', 0x06, 0x11, 0x12, 0x00]),
-    ] {
-        holds(&rt, "header", &space, (segment, 0), &bytes);
-    }
+    let environment = [b'Z', 0x06, 0x11, 0xFC, 0x8E];
+    holds(&rt, "header", &space, (0x1103, 0), &environment);
+    let program = [b'M', 0x06, 0x11, 0x12, 0x00];
+    holds(&rt, "header", &space, (0x1105, 0), &program);
     let back = (procs.psp(), cpu.cs, cpu.ip, procs.take_code());
     same(
         &rt,
