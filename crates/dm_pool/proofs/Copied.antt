@@ -1,6 +1,5 @@
 -- Bytes copied between parts of a store
-use Rattle.std.proofs.Common.{◌≡◌, ℕ, ◌+◌, ◌*◌, ◌≤◌, List, [], length, get_or, Some, None, refl, sym, ap, ◌∙◌, subst, inl, inr, arith}
-use Rattle.std.specs.List.{refill}
+use Rattle.std.proofs.Common.{◌≡◌, ℕ, ◌+◌, ◌*◌, ◌≤◌, List, [], length, get_or, None, sym, ap, ◌∙◌, subst, inl, inr, arith}
 use Rattle.dm_region.specs.Parts.{part, with_part}
 use Rattle.dm_region.proofs.Bytes.{length-with_part}
 use Rattle.dm_pool.specs.declared.part.Part.{Part}
@@ -8,7 +7,7 @@ use Rattle.dm_pool.specs.declared.part.Part.TheVariants.{Low, Scratch, Block}
 use Rattle.dm_pool.specs.Blocks.{Blocks, contents_of, with_content}
 use Rattle.dm_pool.specs.Order.{Layout, IsLaid, IsToldIn, blocks_in}
 use Rattle.dm_pool.specs.Parts.{HasPart, IsLaidOut, IsSpan, part_bytes, with_part_bytes, copied}
-use Rattle.dm_pool.specs.Stored.{Stored, IsStore, stored, low_part, scratch_part, pool_part, refit}
+use Rattle.dm_pool.specs.Stored.{Stored, IsStore, stored, low_part, scratch_part, pool_part}
 use Rattle.dm_pool.proofs.Blocks.{part_length, refilled, content_of}
 use Rattle.dm_pool.proofs.Parts.{part_in, part_rewritten}
 use Rattle.dm_pool.proofs.Stored.{lent, lent_length, lent_elsewhere, lent_whole, block_left, block_store, block_stored, same_stored}
@@ -39,8 +38,7 @@ module _ (xs : List ℕ) (l : Layout) (s : IsStore xs l) (laid : IsLaid l.units 
       let fits : 0 + 0x110000 ≤ length xs = omega (arith, s.whole) in
       let same : lent xs w 0 0x110000 fits ≡ with_part xs 0 0x110000 w = ap (with_part xs 0 0x110000) (refilled 0x110000 (part xs 0 0x110000) w e) in
       let pool = lent_elsewhere xs w 0 0x110000 fits 0x310000 (l.units * 1024) (inr (omega arith)) in
-      subst (λ (ys : List ℕ). IsStore ys l × (stored ys l ≡ with_part_bytes (stored xs l) Low w)) same
-      (
+      subst (λ (ys : List ℕ). IsStore ys l × (stored ys l ≡ with_part_bytes (stored xs l) Low w)) same (
         record { whole = lent_length xs w 0 0x110000 fits ∙ s.whole; told = subst (IsToldIn l) (sym pool) s.told },
         same_stored _ _ _ _ _ _ (lent_whole xs w 0 0x110000 fits e) (lent_elsewhere xs w 0 0x110000 fits 0x110000 0x200000 (inr (omega arith))) (ap (blocks_in l) pool),
       )
@@ -50,8 +48,7 @@ module _ (xs : List ℕ) (l : Layout) (s : IsStore xs l) (laid : IsLaid l.units 
       let fits : 0x110000 + 0x200000 ≤ length xs = omega (arith, s.whole) in
       let same : lent xs w 0x110000 0x200000 fits ≡ with_part xs 0x110000 0x200000 w = ap (with_part xs 0x110000 0x200000) (refilled 0x200000 (part xs 0x110000 0x200000) w e) in
       let pool = lent_elsewhere xs w 0x110000 0x200000 fits 0x310000 (l.units * 1024) (inr (omega arith)) in
-      subst (λ (ys : List ℕ). IsStore ys l × (stored ys l ≡ with_part_bytes (stored xs l) Scratch w)) same
-      (
+      subst (λ (ys : List ℕ). IsStore ys l × (stored ys l ≡ with_part_bytes (stored xs l) Scratch w)) same (
         record { whole = lent_length xs w 0x110000 0x200000 fits ∙ s.whole; told = subst (IsToldIn l) (sym pool) s.told },
         same_stored _ _ _ _ _ _ (lent_elsewhere xs w 0x110000 0x200000 fits 0 0x110000 (inl (omega arith))) (lent_whole xs w 0x110000 0x200000 fits e) (ap (blocks_in l) pool),
       )

@@ -1,5 +1,5 @@
 -- Runs of places: what is read from one, and what is written to one
-use Rattle.std.proofs.Common.{◌≡◌, ℕ, suc, zero, ◌+◌, ◌-◌, ◌*◌, ◌/◌, ◌%◌, ◌<◌, ◌≤◌, Bool, true, false, nat_lt, List, [], ◌∷◌, ◌++◌, Option, Some, None, length, get_or, set, take, drop, replicate, refl, sym, ◌∙◌, ap, subst, arith, inl, inr, get_or-set_same}
+use Rattle.std.proofs.Common.{◌≡◌, ℕ, suc, zero, ◌+◌, ◌-◌, ◌*◌, ◌/◌, ◌%◌, ◌<◌, ◌≤◌, Bool, true, false, nat_lt, List, [], ◌∷◌, ◌++◌, Option, None, length, get_or, set, take, drop, replicate, refl, sym, ◌∙◌, ap, subst, arith, inl, inr, get_or-set_same}
 use Rattle.std.proofs.Math.Seq.{take-add}
 use Rattle.std.proofs.lemmas.Bool.{cases_lt}
 use Rattle.std.proofs.lemmas.Bool.Decides.{nat_tests}
@@ -80,9 +80,9 @@ by-tests m a i h top false false true e f eb ec ed ee ef = rw (cell-same a i 0x3
 by-tests m a i h top false false false true f eb ec ed ee ef = rw (cell-same a i 0x30 h, cell-same a i 0x34 h, cell-same a i 0x38 h, cell-same a i 0x3C h, eb, ec, ed, ee) (window-run m.windows a i h (grind (arith, nat_tests)))
 by-tests m a i h top false false false false true eb ec ed ee ef = (let low : 0xF0000 ≤ a = grind (arith, nat_tests) in rw (cell-same a i 0x30 h, cell-same a i 0x34 h, cell-same a i 0x38 h, cell-same a i 0x3C h, cell-same a i 0x40 h, eb, ec, ed, ee, ef) (ap Rom (omega arith)))
 by-tests m a i h top false false false false false eb ec ed ee ef = (
-  let one : nat_lt (a + i) 0x10FFF0 ≡ true = grind (arith, nat_tests) in let two : nat_lt a 0x10FFF0 ≡ true = grind (arith, nat_tests) in
-  rw (cell-same a i 0x30 h, cell-same a i 0x34 h, cell-same a i 0x38 h, cell-same a i 0x3C h, cell-same a i 0x40 h, eb, ec, ed, ee, ef, one, two) refl
-)
+    let one : nat_lt (a + i) 0x10FFF0 ≡ true = grind (arith, nat_tests) in let two : nat_lt a 0x10FFF0 ≡ true = grind (arith, nat_tests) in
+    rw (cell-same a i 0x30 h, cell-same a i 0x34 h, cell-same a i 0x38 h, cell-same a i 0x3C h, cell-same a i 0x40 h, eb, ec, ed, ee, ef, one, two) refl
+    )
 
 pub place-run : (m : Memory) (a i : ℕ) → a % 0x4000 + i < 0x4000 → a + i < 0x10FFF0 → place m (a + i) ≡ shift (place m a) i
 place-run m a i h top = by-tests m a i h top _ _ _ _ _ refl refl refl refl refl

@@ -1,7 +1,7 @@
 -- Pages that windows show stay as large as they are while other blocks come, go and change, and while bytes are written
 use Rattle.std.specs.Prelude.{IfSome, MatchOption}
 use Rattle.std.specs.Bool.{MatchBool}
-use Rattle.std.proofs.Common.{◌≡◌, ◌≢◌, ℕ, suc, zero, ◌+◌, ◌<◌, ◌≤◌, Bool, true, false, List, [], ◌∷◌, Option, Some, None, length, get_or, set, refl, sym, ◌∙◌, ap, subst, arith}
+use Rattle.std.proofs.Common.{◌≡◌, ◌≢◌, ℕ, suc, zero, ◌+◌, ◌≤◌, Bool, true, false, List, [], ◌∷◌, Option, Some, None, length, get_or, set, refl, sym, ◌∙◌, ap, subst}
 use Rattle.std.proofs.Math.Bool.{true≢false}
 use Rattle.std.proofs.lemmas.Option.{none-some, same_Some}
 use Rattle.std.proofs.lemmas.List.{get_or-set_other}
@@ -10,10 +10,10 @@ use Rattle.dm_region.specs.Parts.{part, with_part}
 use Rattle.dm_region.proofs.Bytes.{length-with_part}
 use Rattle.dm_pool.specs.declared.places.Place.{Place as Span}
 use Rattle.dm_pool.specs.Gaps.{first_empty, lowest}
-use Rattle.dm_pool.specs.Blocks.{Blocks, placed, taken, without, with_block, with_content, moved, moved_bytes, at_place, new_base, resized, fitted, zeros, IsLive}
+use Rattle.dm_pool.specs.Blocks.{Blocks, placed, taken, without, with_block, with_content, moved, moved_bytes, at_place, new_base, resized, fitted, zeros}
 use Rattle.dm_pool.specs.Stored.{Stored, refit}
 use Rattle.dm_pool.proofs.Blocks.{vacant, part_length}
-use Rattle.dm_space.specs.Memory.{Memory, Held, IsHeld, Fits, IsPage, held, page_bytes, with_blocks}
+use Rattle.dm_space.specs.Memory.{Memory, IsHeld, Fits, IsPage, held, page_bytes, with_blocks}
 use Rattle.dm_space.specs.Unseen.{shows}
 use Rattle.dm_space.proofs.Unseen.{shows-at}
 
@@ -52,7 +52,7 @@ placed_fits m u (Some k) (Some p) i t e h f =
     subst (λ (x : Blocks). Fits (with_blocks m x)) (ap (λ (x : ℕ × Blocks). x.1) same)
     (same_pages m new
     (λ j page _ q. other_page m k (Some (record { base = p; units = u })) (zeros u) m.blocks.units page
-        (λ s. none-some q.0.1.0 (sym (ap (λ n. get_or m.blocks.places n None) s ∙ free.1) ∙ q.0.1.1)) q) f)
+    (λ s. none-some q.0.1.0 (sym (ap (λ n. get_or m.blocks.places n None) s ∙ free.1) ∙ q.0.1.1)) q) f)
 
 pub taken_fits : (m : Memory) (u i : ℕ) (t : Blocks) → taken m.blocks u ≡ Some (i, t) → Fits m → Fits (with_blocks m t)
 taken_fits m u i t h f = placed_fits m u (first_empty m.blocks.places) (lowest m.blocks.places m.blocks.units u) i t refl h f

@@ -1,16 +1,14 @@
-use Rattle.std.proofs.Common.{List, ℕ, ◌+◌, ◌≤◌, ◌≡◌, length, get_or, replicate, ap, ◌∙◌, sym, subst, refl, arith}
-use Rattle.std.proofs.lemmas.List.{length-replicate}
+use Rattle.std.proofs.Common.{List, ℕ, ◌≡◌, length, replicate, ap, ◌∙◌, sym, arith}
 use Rattle.dm_region.specs.Parts.{part, with_part}
 use Rattle.dm_region.proofs.Bytes.{length-with_part}
 use Rattle.dm_pool.specs.Stored.{Stored, refit}
 use Rattle.dm_pool.proofs.Blocks.{part_length, refilled}
-use Rattle.dm_space.specs.declared.place.Place.{Place}
 use Rattle.dm_space.specs.declared.place.Place.TheVariants.{Low, Page, Rom, Nothing}
-use Rattle.dm_space.specs.Copies.{values, copied_in, copied_out}
+use Rattle.dm_space.specs.Copies.{values, copied_in}
 use Rattle.dm_space.specs.Memory.{Held, held, place, page_bytes}
 use Rattle.dm_space.specs.Rom.{rom}
-use Rattle.dm_space.proofs.Copies.{length-values, low-fits, page-fits, rom-fits, all-there, in-run, out-run}
-use Rattle.dm_space.proofs.Keeping.{held_scratch, held_low, held_content}
+use Rattle.dm_space.proofs.Copies.{low-fits, page-fits, rom-fits, all-there, in-run}
+use Rattle.dm_space.proofs.Keeping.{held_scratch}
 use Rattle.dm_space.proofs.space.Space.copy_run_in.Goals as goal
 
 -- the scratch bytes after the loan of them
