@@ -13,3 +13,5 @@ mod effects;
 mod memory;
 #[cfg(test)]
 mod rows;
+#[cfg(test)]
+mod windows;

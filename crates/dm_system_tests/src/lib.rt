@@ -21,4 +21,6 @@ mod services;
 #[cfg(test)]
 mod space;
 #[cfg(test)]
+mod windows;
+#[cfg(test)]
 mod writers;
