@@ -13,11 +13,18 @@ pub(crate) fn new_space(alloc: Global) -> Result<Space, NewError> {
     Ok(Space::new(Store::new(alloc, sizes)?))
 }
 
-/// Two new blocks of the size of a page.
-pub(crate) fn two_pages(space: &mut Space) -> Option<(Block, Block)> {
+/// Two blocks of the size of a page.
+#[derive(Clone, Copy)]
+pub(crate) struct Pages {
+    pub(crate) first: Block,
+    pub(crate) second: Block,
+}
+
+/// Takes two pages.
+pub(crate) fn two_pages(space: &mut Space) -> Option<Pages> {
     let first = space.take(16)?;
     let second = space.take(16)?;
-    Some((first, second))
+    Some(Pages { first, second })
 }
 
 /// Lets a window show a page.

@@ -4,7 +4,7 @@
 ghost use Rattle.std.specs.Prelude.{IsTrue, ◌+◌, ◌≤◌};
 
 use crate::checks::same;
-use crate::memory::{new_space, show, two_pages};
+use crate::memory::{Pages, new_space, show, two_pages};
 use dm_pool::Block;
 use dm_space::{Place, Space};
 use std::alloc::Global;
@@ -53,12 +53,16 @@ fn set_byte(space: &mut Space, block: Block, at: usize, value: u8) {
 }
 
 /// The page of a number.
-fn page(pages: (Block, Block), number: usize) -> Block {
-    if number == 0 { pages.0 } else { pages.1 }
+fn page(pages: &Pages, number: usize) -> Block {
+    if number == 0 {
+        pages.first
+    } else {
+        pages.second
+    }
 }
 
 /// Makes a step, or compares what it finds.
-fn play(rt: &impl Abort, space: &mut Space, pages: (Block, Block), index: usize, step: Step) {
+fn play(rt: &impl Abort, space: &mut Space, pages: &Pages, index: usize, step: Step) {
     match step {
         Show(window, number) => show(space, window, page(pages, number)),
         Hide(window) => space.set_window(window % 4, None),
@@ -131,17 +135,17 @@ fn windows_show_pages(rt: HostRuntime) -> Result<(), Fail> {
     let mut space = new_space(rt.alloc())?;
     let pages = two_pages(&mut space).ok_or("no room")?;
     for (index, step) in STEPS.iter().enumerate() {
-        play(&rt, &mut space, pages, index, *step);
+        play(&rt, &mut space, &pages, index, *step);
     }
     Ok(())
 }
 
 /// The number of a page, if it is one of two.
-fn number(pages: (Block, Block), block: Option<Block>) -> Option<usize> {
+fn number(pages: &Pages, block: Option<Block>) -> Option<usize> {
     let block = block?;
-    if block == pages.0 {
+    if block == pages.first {
         Some(0)
-    } else if block == pages.1 {
+    } else if block == pages.second {
         Some(1)
     } else {
         None
@@ -149,7 +153,7 @@ fn number(pages: (Block, Block), block: Option<Block>) -> Option<usize> {
 }
 
 /// The numbers of the pages in the four windows.
-fn shown(space: &Space, pages: (Block, Block)) -> [Option<usize>; 4] {
+fn shown(space: &Space, pages: &Pages) -> [Option<usize>; 4] {
     let [first, second, third, fourth] = space.windows();
     [
         number(pages, first),
@@ -160,7 +164,7 @@ fn shown(space: &Space, pages: (Block, Block)) -> [Option<usize>; 4] {
 }
 
 /// A place by its kind, the number of its page, and its linear address or its offset.
-fn told(place: Place, pages: (Block, Block)) -> (&'static str, Option<usize>, usize) {
+fn told(place: Place, pages: &Pages) -> (&'static str, Option<usize>, usize) {
     match place {
         Place::Low(linear) => ("low", None, linear),
         Place::Page(block, offset) => ("page", number(pages, Some(block)), offset),
@@ -173,9 +177,9 @@ fn told(place: Place, pages: (Block, Block)) -> (&'static str, Option<usize>, us
 fn segments_have_places(rt: HostRuntime) -> Result<(), Fail> {
     let mut space = new_space(rt.alloc())?;
     let pages = two_pages(&mut space).ok_or("no room")?;
-    show(&mut space, 0, pages.1);
-    show(&mut space, 3, pages.0);
-    same(&rt, "windows", shown(&space, pages), [Some(1), None, None, Some(0)]);
+    show(&mut space, 0, pages.second);
+    show(&mut space, 3, pages.first);
+    same(&rt, "windows", shown(&space, &pages), [Some(1), None, None, Some(0)]);
     // segment, kind, page, linear address or offset
     let rows = [
         (0x0000, "low", None, 0x00000),
@@ -196,7 +200,7 @@ fn segments_have_places(rt: HostRuntime) -> Result<(), Fail> {
     for on in [false, true] {
         space.set_a20(on);
         for (segment, kind, block, at) in rows {
-            let found = (segment, told(space.back(segment), pages));
+            let found = (segment, told(space.back(segment), &pages));
             same(&rt, "place", found, (segment, (kind, block, at)));
         }
     }
@@ -245,7 +249,7 @@ fn blocks_come_and_go(rt: HostRuntime) -> Result<(), Fail> {
     let mut space = new_space(rt.alloc())?;
     same(&rt, "free units", (space.free(), space.largest()), (48, 48));
     same(&rt, "pages that fit", space.count_fitting(16), 3);
-    let (first, second) = two_pages(&mut space).ok_or("no room")?;
+    let Pages { first, second } = two_pages(&mut space).ok_or("no room")?;
     show(&mut space, 2, second);
     set_byte(&mut space, second, 5, 0x77);
     same(&rt, "free units", space.free(), 16);
@@ -285,7 +289,7 @@ const BORDERS: [(u16, u16, u8); 9] = [
 /// A memory with two pages in its windows, and those bytes; the first page. A20 is off.
 fn bordered(alloc: Global) -> Result<(Space, Block), Fail> {
     let mut space = new_space(alloc)?;
-    let (first, second) = two_pages(&mut space).ok_or("no room")?;
+    let Pages { first, second } = two_pages(&mut space).ok_or("no room")?;
     show(&mut space, 0, first);
     show(&mut space, 1, second);
     show(&mut space, 3, first);
