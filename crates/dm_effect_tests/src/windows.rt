@@ -37,7 +37,12 @@ fn runs(rt: &impl Abort, space: &mut Space, offset: u16, wanted: (u8, u16)) -> R
     };
     let (ins, length) = decode(&fetched(space, offset)).ok_or("no such instruction")?;
     exec(&mut cpu, space, &ins, length);
-    same(rt, "AL, IP", (offset, cpu.byte(ByteRegister::Al), cpu.ip), (offset, wanted.0, wanted.1));
+    same(
+        rt,
+        "AL, IP",
+        (offset, cpu.byte(ByteRegister::Al), cpu.ip),
+        (offset, wanted.0, wanted.1),
+    );
     Ok(())
 }
 
@@ -51,7 +56,11 @@ fn code_runs_in_windows(rt: HostRuntime) -> Result<(), Fail> {
     show(&mut space, 1, second);
     show(&mut space, 2, first);
     // MOV BYTE [8006h],40h, which is byte 6 of the first page again: what MOV AL,0 loads from then on
-    put(&mut space, 0x0000, &[0xC6, 0x06, 0x06, 0x80, 0x40, 0xB0, 0x00]);
+    put(
+        &mut space,
+        0x0000,
+        &[0xC6, 0x06, 0x06, 0x80, 0x40, 0xB0, 0x00],
+    );
     // MOV AL,.. at the first page's end: what it loads is the next window's first byte
     put(&mut space, 0x3FFF, &[0xB0, 0x77]);
     runs(&rt, &mut space, 0x0005, (0x00, 0x0007))?;

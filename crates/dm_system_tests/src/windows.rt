@@ -68,11 +68,21 @@ fn play(rt: &impl Abort, space: &mut Space, pages: &Pages, index: usize, step: S
         Hide(window) => space.set_window(window % 4, None),
         Poke(segment, offset, value) => space.poke(segment, offset, value),
         Peek(segment, offset, wanted) => {
-            same(rt, "byte", (index, space.peek(segment, offset)), (index, wanted));
+            same(
+                rt,
+                "byte",
+                (index, space.peek(segment, offset)),
+                (index, wanted),
+            );
         }
         PokeWord(segment, offset, value) => space.poke16(segment, offset, value),
         PeekWord(segment, offset, wanted) => {
-            same(rt, "word", (index, space.peek16(segment, offset)), (index, wanted));
+            same(
+                rt,
+                "word",
+                (index, space.peek16(segment, offset)),
+                (index, wanted),
+            );
         }
         Byte(number, at, wanted) => {
             let found = byte_of(space, page(pages, number), at);
@@ -179,7 +189,12 @@ fn segments_have_places(rt: HostRuntime) -> Result<(), Fail> {
     let pages = two_pages(&mut space).ok_or("no room")?;
     show(&mut space, 0, pages.second);
     show(&mut space, 3, pages.first);
-    same(&rt, "windows", shown(&space, &pages), [Some(1), None, None, Some(0)]);
+    same(
+        &rt,
+        "windows",
+        shown(&space, &pages),
+        [Some(1), None, None, Some(0)],
+    );
     // segment, kind, page, linear address or offset
     let rows = [
         (0x0000, "low", None, 0x00000),
@@ -267,7 +282,12 @@ fn blocks_come_and_go(rt: HostRuntime) -> Result<(), Fail> {
     same(&rt, "bytes", byte_of(&space, third, 0x3FFF), Some(0));
     same(&rt, "no more bytes", byte_of(&space, third, 0x4000), None);
     same(&rt, "seen all the while", space.peek(0xE800, 5), 0x77);
-    same(&rt, "moved", move_byte(&mut space, (second, 5), (third, 9)), true);
+    same(
+        &rt,
+        "moved",
+        move_byte(&mut space, (second, 5), (third, 9)),
+        true,
+    );
     same(&rt, "moved byte", byte_of(&space, third, 9), Some(0x77));
     Ok(())
 }
@@ -344,8 +364,16 @@ fn bytes_are_copied_in_across_borders(rt: HostRuntime) -> Result<(), Fail> {
     ];
     for (linear, at, first, second) in rows {
         copy_in(&mut space, linear, at, 2);
-        let found = (scratch_byte(&space, at), scratch_byte(&space, at.wrapping_add(1)));
-        same(&rt, "bytes", (linear, found), (linear, (Some(first), Some(second))));
+        let found = (
+            scratch_byte(&space, at),
+            scratch_byte(&space, at.wrapping_add(1)),
+        );
+        same(
+            &rt,
+            "bytes",
+            (linear, found),
+            (linear, (Some(first), Some(second))),
+        );
     }
     // all windows at once, and what lies beside them: place in the scratch, byte
     copy_in(&mut space, 0xDFFFF, 0x20, 0x1_0002);
@@ -363,7 +391,12 @@ fn bytes_are_copied_in_across_borders(rt: HostRuntime) -> Result<(), Fail> {
         (0x10022, 0x00),
     ];
     for (at, byte) in bytes {
-        same(&rt, "byte", (at, scratch_byte(&space, at)), (at, Some(byte)));
+        same(
+            &rt,
+            "byte",
+            (at, scratch_byte(&space, at)),
+            (at, Some(byte)),
+        );
     }
     copy_in(&mut space, 0x00000, 0x20, 0);
     same(&rt, "no byte", scratch_byte(&space, 0x20), Some(0xB3));
@@ -410,8 +443,23 @@ fn later_bytes_are_copied_over_earlier_ones(rt: HostRuntime) -> Result<(), Fail>
     space.scratch_mut()[0x0001] = 0x62;
     space.scratch_mut()[0x4000] = 0x63;
     copy_out(&mut space, 0x0000, 0xE0000, 0x4001);
-    same(&rt, "written twice", byte_of(&space, page, 0x0000), Some(0x63));
-    same(&rt, "written once", byte_of(&space, page, 0x0001), Some(0x62));
-    same(&rt, "written once", byte_of(&space, page, 0x3FFF), Some(0x00));
+    same(
+        &rt,
+        "written twice",
+        byte_of(&space, page, 0x0000),
+        Some(0x63),
+    );
+    same(
+        &rt,
+        "written once",
+        byte_of(&space, page, 0x0001),
+        Some(0x62),
+    );
+    same(
+        &rt,
+        "written once",
+        byte_of(&space, page, 0x3FFF),
+        Some(0x00),
+    );
     Ok(())
 }
