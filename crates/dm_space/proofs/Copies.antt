@@ -4,7 +4,7 @@ use Rattle.std.proofs.Math.Seq.{take-add}
 use Rattle.std.proofs.lemmas.Bool.{cases_lt}
 use Rattle.std.proofs.lemmas.Bool.Decides.{nat_tests}
 use Rattle.std.proofs.lemmas.List.{length-set, length-replicate, get_or-replicate, get_or-take, get_or-drop, ext_get_or, take-append-drop, drop-drop}
-use Rattle.std.specs.Prelude.{slice_index_or}
+use Rattle.std.specs.Prelude.{slice_index_or, min}
 use Rattle.dm_region.specs.Parts.{part, with_part}
 use Rattle.dm_region.proofs.Bytes.{length-with_part}
 use Rattle.dm_pool.specs.Blocks.{with_content}
@@ -261,3 +261,19 @@ one-value f xs at a n fits =
     sym (none-written (set ys (at + n) (f (a + n))) (suc (at + n))) ∙ one-more ys [] (at + n) (f (a + n)) (omega (arith, long, fits))
     ∙ twice xs (values f a n) (f (a + n) ∷ []) at n 1 (length-values f a n) refl (omega (arith, fits))
     ∙ ap (with_part xs at (n + 1)) (sym (values-more f a n 1))
+
+rom-past : (k : ℕ) → 0x1021 ≤ k → rom k ≡ 0xFF
+unfolding rom
+rom-past k h = grind (arith, nat_tests)
+
+-- the ROM's bytes up to the last that is not empty, and empty ones behind
+pub rom-split : (xs : List ℕ) (at o len n : ℕ) → n ≡ min (0x1021 - o) len → at + len ≤ length xs
+    → with_part (with_part xs at n (values rom o n)) (at + n) (len - n) (replicate (len - n) 0xFF) ≡ with_part xs at len (values rom o len)
+rom-split xs at o len n e fits =
+    let k = len - n in
+    let whole : n + k ≡ len = omega (arith, e) in
+    let long : length {A = ℕ} (replicate k 0xFF) ≡ k = length-replicate k 0xFF in
+    let rest = values-one rom (o + n) k 0xFF (λ i h. rom-past (o + n + i) (omega (arith, e, h))) in
+    twice xs (values rom o n) (replicate k 0xFF) at n k (length-values rom o n) long (omega (arith, whole, fits))
+    ∙ ap (with_part xs at (n + k)) (sym (values-more rom o n k ∙ ap (λ l. values rom o n ++ l) rest))
+    ∙ ap (λ j. with_part xs at j (values rom o j)) whole

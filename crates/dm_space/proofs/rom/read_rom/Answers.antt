@@ -1,21 +1,12 @@
-use Rattle.std.proofs.Common.{List, ℕ, ◌+◌, set, ap, ◌∙◌, sym, ◌≡◌, arith}
+use Rattle.std.proofs.Common.{List, ℕ, ◌+◌, ◌-◌, replicate, ap, ◌∙◌}
+use Rattle.std.specs.Prelude.{min}
 use Rattle.dm_region.specs.Parts.{with_part}
-use Rattle.dm_space.specs.Copies.{values}
-use Rattle.dm_space.specs.Rom.{rom}
-use Rattle.dm_space.proofs.Copies.{none-written, one-value}
+use Rattle.dm_space.proofs.Copies.{rom-split}
 use Rattle.dm_space.proofs.rom.read_rom.Goals as goal
-
-pub loop-i-init : goal.loop-i-init
-loop-i-init c = sym (none-written c.args.bytes.now c.args.at)
-
-pub loop-i-preserved : goal.loop-i-preserved
-loop-i-preserved c =
-    let at = c.args.at in let i = c.loop-i.i in let o = c.args.offset in
-    ap (λ (xs : List ℕ). set xs (at + i) c.rom_byte.result) c.loop-i.invariant
-    ∙ ap (set (with_part c.args.bytes.now at i (values rom o i)) (at + i)) c.rom_byte.ensures
-    ∙ one-value rom c.args.bytes.now at o i (omega (arith, c.requires.within, c.loop-i-test.true))
 
 pub returns : goal.returns
 returns c =
-    let end : c.loop-i.i ≡ c.args.len = omega (arith, c.loop-i-test.false, c.loop-i.auto.i-end) in
-    c.loop-i.invariant ∙ ap (λ n. with_part c.args.bytes.now c.args.at n (values rom c.args.offset n)) end
+    let a = c.args in let n = c.min-first.result in
+    c.read_nothing.ensures
+    ∙ ap (λ (xs : List ℕ). with_part xs (a.at + n) (a.len - n) (replicate (a.len - n) 0xFF)) c.read_each.ensures
+    ∙ rom-split a.bytes.now a.at a.offset a.len n (c.min-first.ensures ∙ ap (λ k. min k a.len) c.saturating_sub.ensures) c.requires.within
