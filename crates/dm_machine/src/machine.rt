@@ -86,7 +86,8 @@ fn start_space(alloc: Global, sizes: Sizes) -> Result<Space, NewError>
 
 impl Machine {
     /// A machine as it starts: memory of zeros but for the interrupt vectors and the first arena
-    /// header, A20 off, no output, no program loaded.
+    /// header, A20 off, a pool of the configuration's sizes with no block, no output, no program
+    /// loaded.
     ///
     /// The variables of the configuration have at most 32,767 bytes with their zeros.
     ///
