@@ -5,7 +5,7 @@ use Rattle.dm_cli.specs.declared.fault.Fault.TheVariants.{InputTooLong, NameTooL
 use Rattle.dm_cli.specs.Names.{last_part}
 use Rattle.dm_machine.specs.Start.{IsNew, IsLoaded}
 use Rattle.dm_proc.specs.Programs.{IsName, has_name}
-use Rattle.dm_services.specs.declared.config.Sizes.{Sizes}
+use Rattle.dm_pool.specs.declared.sizes.Sizes.{Sizes}
 use Rattle.dm_services.specs.State.{State}
 
 -- all bytes of a file or of standard input, at most 16 MiB, where it is known which it has

@@ -1,5 +1,8 @@
 -- The machine as it starts, and as it is once the first program is loaded.
-use Rattle.std.specs.Prelude.{◌≡◌, ℕ, ◌<◌, ◌⊎◌, false, List, [], length, replicate, Some, None}
+use Rattle.std.specs.Prelude.{◌≡◌, ℕ, false, List, [], length, replicate, Some, None}
+use Rattle.dm_pool.specs.declared.sizes.Sizes.{Sizes}
+use Rattle.dm_pool.specs.Blocks.{no_blocks}
+use Rattle.dm_pool.specs.Stored.{units_of}
 use Rattle.dm_space.specs.Start.{IsStart}
 use Rattle.dm_alu.specs.declared.flags.Flags.{Flags}
 use Rattle.dm_exec.specs.declared.cpu.Cpu.{Cpu}
@@ -10,12 +13,7 @@ use Rattle.dm_proc.specs.Programs.{program_of}
 use Rattle.dm_proc.specs.Request.{Passed}
 use Rattle.dm_proc.specs.Environment.{environment}
 use Rattle.dm_proc.specs.Processes.{Begins, PlanRefused}
-use Rattle.dm_services.specs.declared.config.Sizes.{Sizes}
 use Rattle.dm_services.specs.State.{State}
-
--- more than 512 pages of expanded memory, or more than 15,360 KiB of extended memory
-abbrev pub IsTooLarge : Sizes → Type 0
-IsTooLarge sizes = (512 < sizes.ems_pages) ⊎ (15360 < sizes.xms_kib)
 
 abbrev pub clear_flags : Flags
 clear_flags = record { carry = false; parity = false; adjust = false; zero = false; sign = false; trap = false; interrupt = false; direction = false; overflow = false }
@@ -23,9 +21,9 @@ clear_flags = record { carry = false; parity = false; adjust = false; zero = fal
 abbrev pub clear_registers : Cpu
 clear_registers = record { ax = 0; cx = 0; dx = 0; bx = 0; sp = 0; bp = 0; si = 0; di = 0; es = 0; cs = 0; ss = 0; ds = 0; ip = 0; flags = clear_flags }
 
--- memory as it starts, no output, no process
+-- memory as it starts over a pool with no block, no output, no process
 pub record IsNew (sizes : Sizes) (variables : List ℕ) (programs : List (List ℕ × List ℕ)) (input : List ℕ) (s : State) : Type 0 where
-  pub memory : IsStart s.memory
+  pub memory : IsStart (no_blocks (units_of sizes)) s.memory
   pub others : s ≡ record {
     cpu = clear_registers;
     memory = s.memory;

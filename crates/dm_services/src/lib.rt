@@ -19,7 +19,7 @@ mod system;
 mod text;
 mod vectors;
 
-pub use config::{Config, Sizes};
+pub use config::Config;
 pub use laws::{services_have_one_answer, services_ignore_unseen, services_keep_room};
 pub use parts::Parts;
 pub use services::{Service, service_at};

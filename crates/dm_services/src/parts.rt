@@ -1,9 +1,9 @@
 //! What services act on.
 
-use crate::config::Sizes;
 use dm_arena::Strategy;
 use dm_console::Console;
 use dm_exec::Cpu;
+use dm_pool::Sizes;
 use dm_proc::{Procs, Programs};
 use dm_space::Space;
 use std::marker::Model;

@@ -1,10 +1,10 @@
 -- Laws of memory for the layers above, which see peek and poke as opaque
 use Rattle.std.specs.Prelude.{IfSome}
-use Rattle.std.proofs.Common.{Some, ◌≡◌, ℕ, suc, zero, ◌<◌, Bool, List, Option, None, length, get_or, refl, arith}
-use Rattle.std.proofs.lemmas.List.{length-replicate}
+use Rattle.std.proofs.Common.{Some, ◌≡◌, ℕ, suc, zero, List, Option, None, length, get_or, refl}
 use Rattle.dm_space.specs.declared.place.Place.{Place}
 use Rattle.dm_space.specs.declared.place.Place.TheVariants.{Low, Page, Rom, Nothing}
-use Rattle.dm_space.specs.Memory.{Memory, place, poke, with_byte, zeros, no_windows, of_ram, Fits}
+use Rattle.dm_pool.specs.Blocks.{Blocks}
+use Rattle.dm_space.specs.Memory.{Memory, place, poke, with_byte, no_windows, of_ram, IsPage, Fits}
 
 with_byte-a20 : (m : Memory) (p : Place) (v : ℕ) → (with_byte m p v).a20 ≡ m.a20
 with_byte-a20 m (Low a) v = refl
@@ -27,10 +27,6 @@ pub poke-windows : (m : Memory) (a v : ℕ) → (poke m a v).windows ≡ m.windo
 unfolding poke
 poke-windows m a v = with_byte-windows m (place m a) v
 
-pub length-zeros : (n : ℕ) → length (zeros n) ≡ n
-unfolding zeros
-length-zeros n = length-replicate n 0
-
 -- a frame that shows no page shows none in any window
 pub no_windows-get : (k : ℕ) → get_or no_windows k None ≡ None
 no_windows-get zero = refl
@@ -39,17 +35,16 @@ no_windows-get (suc (suc zero)) = refl
 no_windows-get (suc (suc (suc zero))) = refl
 no_windows-get (suc (suc (suc (suc k)))) = refl
 
-fits-windows : (k : ℕ) (o : Option ℕ) → o ≡ None → IfSome o (λ page. page < 0)
-fits-windows k None e = tt
-fits-windows k (Some page) e = cc
+fits-windows : (m : Memory) (o : Option ℕ) → o ≡ None → IfSome o (λ page. IsPage m page)
+fits-windows m None e = tt
+fits-windows m (Some page) e = cc
 
--- a memory with no page has the machine's sizes where its RAM has
-pub fits-ram : (ram : List ℕ) (on : Bool) → length ram ≡ 0x110000 → Fits (of_ram ram on)
-fits-ram ram on h = record {
+-- a memory whose frame is empty has the machine's sizes where its RAM has
+pub fits-ram : (ram : List ℕ) (blocks : Blocks) → length ram ≡ 0x110000 → Fits (of_ram ram blocks)
+fits-ram ram blocks h = record {
   low_length = h;
   windows_are_four = refl;
-  pages_there = λ k. fits-windows k _ (no_windows-get k);
-  page_lengths = λ k j. absurd (omega arith);
+  pages_there = λ k. fits-windows (of_ram ram blocks) _ (no_windows-get k);
 }
 
-pub ruleset steps = (poke-a20, poke-windows, length-zeros)
+pub ruleset steps = (poke-a20, poke-windows)

@@ -6,8 +6,9 @@ use Rattle.std.proofs.lemmas.List.{length-set, ext_get_or}
 use Rattle.std.specs.Prelude.{IfSome, if◌then◌else◌, slice_index_or}
 use Rattle.dm_space.specs.declared.place.Place.{Place}
 use Rattle.dm_space.specs.declared.place.Place.TheVariants.{Low, Page, Rom, Nothing}
-use Rattle.dm_space.specs.Memory.{Memory, Fits, IsThere, linear, place, peek, poke, shown, byte_at, with_byte, page_bytes}
+use Rattle.dm_space.specs.Memory.{Memory, IsPage, Fits, IsThere, linear, place, peek, poke, shown, byte_at, with_byte, page_bytes}
 use Rattle.dm_space.specs.Places.{IsWritable, IsShaped, IsPoked}
+use Rattle.dm_space.specs.Runs.{shift}
 
 -- the byte that a read gives is the one at the place
 pub peek-place : (m : Memory) (a : ℕ) → peek m a ≡ byte_at m (place m a)
@@ -23,13 +24,15 @@ pub place-shaped : (S T : Memory) → IsShaped S T → (a : ℕ) → place T a �
 place-shaped S T s a = place-windows S T a s.windows
 
 pub shaped-same : (S : Memory) → IsShaped S S
-shaped-same S = record { a20 = refl; windows = refl; ram_size = refl; page_count = refl; page_sizes = λ page. refl }
+shaped-same S = record { a20 = refl; windows = refl; ram_size = refl; units = refl; places = refl; page_count = refl; page_sizes = λ page. refl }
 
 pub shaped-then : (S T U : Memory) → IsShaped S T → IsShaped T U → IsShaped S U
 shaped-then S T U s t = record {
   a20 = t.a20 ∙ s.a20;
   windows = t.windows ∙ s.windows;
   ram_size = t.ram_size ∙ s.ram_size;
+  units = t.units ∙ s.units;
+  places = t.places ∙ s.places;
   page_count = t.page_count ∙ s.page_count;
   page_sizes = λ page. t.page_sizes page ∙ s.page_sizes page;
 }
@@ -57,15 +60,21 @@ page_set-other (xs ∷ pages) zero i v (suc q) k ne = refl
 page_set-other (xs ∷ pages) (suc p) i v zero k ne = refl
 page_set-other (xs ∷ pages) (suc p) i v (suc q) k ne = page_set-other pages p i v q k (λ e. ne (ap suc e))
 
-shaped-with : (S : Memory) (p : Place) (v : ℕ) → IsShaped S (with_byte S p v)
-shaped-with S (Low a) v = record { a20 = refl; windows = refl; ram_size = length-set S.low a v; page_count = refl; page_sizes = λ page. refl }
-shaped-with S (Page p k) v = record { a20 = refl; windows = refl; ram_size = refl; page_count = length-set S.pages p (set (page_bytes S p) k v); page_sizes = λ page. page_set-length S.pages p k v page }
+-- a page that has a byte is one of the list
+pub page-there : (pages : List (List ℕ)) (p k : ℕ) → k < length (get_or pages p []) → p < length pages
+page-there [] p k h = absurd (omega arith)
+page-there (xs ∷ pages) zero k h = omega arith
+page-there (xs ∷ pages) (suc p) k h = let more = page-there pages p k h in omega arith
+
+pub shaped-with : (S : Memory) (p : Place) (v : ℕ) → IsShaped S (with_byte S p v)
+shaped-with S (Low a) v = record { a20 = refl; windows = refl; ram_size = length-set S.low a v; units = refl; places = refl; page_count = refl; page_sizes = λ page. refl }
+shaped-with S (Page p k) v = record { a20 = refl; windows = refl; ram_size = refl; units = refl; places = refl; page_count = length-set S.blocks.contents p (set (page_bytes S p) k v); page_sizes = λ page. page_set-length S.blocks.contents p k v page }
 shaped-with S (Rom k) v = shaped-same S
 shaped-with S Nothing v = shaped-same S
 
 written-with : (S : Memory) (p : Place) (v : ℕ) → IsThere S p → IsWritable p → byte_at (with_byte S p v) p ≡ v
 written-with S (Low a) v h w = rw get_or-set_same refl
-written-with S (Page p k) v h w = page_set-same S.pages p k v h.0 h.1
+written-with S (Page p k) v h w = page_set-same S.blocks.contents p k v (page-there S.blocks.contents p k h.1) h.1
 written-with S (Rom k) v h w = absurd w
 written-with S Nothing v h w = absurd w
 
@@ -74,7 +83,7 @@ page-of p k q i e f = cc
 
 kept-with : (S : Memory) (p q : Place) (v : ℕ) → q ≢ p → byte_at (with_byte S p v) q ≡ byte_at S q
 kept-with S (Low a) (Low b) v ne = set-other S.low a b v (λ e. ne (ap Low e))
-kept-with S (Page p i) (Page q k) v ne = page_set-other S.pages p i v q k (λ e f. ne (page-of q k p i e f))
+kept-with S (Page p i) (Page q k) v ne = page_set-other S.blocks.contents p i v q k (λ e f. ne (page-of q k p i e f))
 kept-with S (Low a) (Page q k) v ne = refl
 kept-with S (Low a) (Rom k) v ne = refl
 kept-with S (Low a) Nothing v ne = refl
@@ -84,9 +93,9 @@ kept-with S (Page p i) Nothing v ne = refl
 kept-with S (Rom i) q v ne = refl
 kept-with S Nothing q v ne = refl
 
-there-window : (m : Memory) (w : Option ℕ) (k : ℕ) → IfSome w (λ page. page < length m.pages) → ((page : ℕ) → page < length m.pages → length (page_bytes m page) ≡ 0x4000) → k < 0x4000 → IsThere m (shown w k)
-there-window m None k e f h = tt
-there-window m (Some page) k e f h = (let n = f page e in (e, omega arith))
+there-window : (m : Memory) (w : Option ℕ) (k : ℕ) → IfSome w (λ page. IsPage m page) → k < 0x4000 → IsThere m (shown w k)
+there-window m None k e h = tt
+there-window m (Some page) k e h = (e.0, omega (arith, e.1, h))
 
 there-either : (m : Memory) (b : Bool) (p q : Place) → (b ≡ true → IsThere m p) → (b ≡ false → IsThere m q) → IsThere m (if b then p else q)
 there-either m true p q h k = h refl
@@ -100,9 +109,14 @@ there-place m a f =
     there-either m (nat_lt a 0xC0000) (Low a) _ (λ h. grind (arith, nat_tests)) (λ _.
     there-either m (nat_lt a 0xD0000) Nothing _ (λ _. tt) (λ _.
     there-either m (nat_lt a 0xE0000) (Low a) _ (λ h. grind (arith, nat_tests)) (λ _.
-    there-either m (nat_lt a 0xF0000) _ _ (λ _. there-window m _ _ (f.pages_there ((a - 0xE0000) / 0x4000)) f.page_lengths (omega arith)) (λ _.
+    there-either m (nat_lt a 0xF0000) _ _ (λ _. there-window m _ _ (f.pages_there ((a - 0xE0000) / 0x4000)) (omega arith)) (λ _.
     there-either m (nat_lt a 0x100000) (Rom (a - 0xF0000)) _ (λ h. grind (arith, nat_tests)) (λ _.
     there-either m (nat_lt a 0x10FFF0) (Low a) Nothing (λ h. grind (arith, nat_tests)) (λ _. tt))))))
+
+-- a write keeps the map
+pub poke-shaped : (m : Memory) (a v : ℕ) → IsShaped m (poke m a v)
+unfolding poke
+poke-shaped m a v = shaped-with m (place m a) v
 
 -- a write told by places
 pub poke-poked : (m : Memory) (a v : ℕ) → Fits m → IsPoked m a v (poke m a v)
@@ -132,13 +146,6 @@ low-injective a b e = cc
 pub place-low-injective : (m : Memory) (a b : ℕ) → a < 0xC0000 → b < 0xC0000 → place m a ≡ place m b → a ≡ b
 place-low-injective m a b h k e = low-injective a b (sym (place-low m a h) ∙ e ∙ place-low m b k)
 
--- byte i after a place
-abbrev shift : Place → ℕ → Place
-shift (Low a) i = Low (a + i)
-shift (Page p k) i = Page p (k + i)
-shift (Rom a) i = Rom (a + i)
-shift Nothing i = Nothing
-
 -- a place is one where a paragraph can begin
 abbrev IsAligned : Place → Type 0
 IsAligned (Low a) = a % 16 ≡ 0
@@ -155,7 +162,7 @@ rest-more m i small = omega arith
 test-same : (h i k : ℕ) → i < 16 → nat_lt (16 * h + i) (16 * k) ≡ nat_lt (16 * h) (16 * k)
 test-same h i k small = elim (cases_lt h k) [ inl a ↦ grind (arith, nat_tests) | inr a ↦ grind (arith, nat_tests) ]
 
-shown-shift : (o : Option ℕ) (k i : ℕ) → shown o (k + i) ≡ shift (shown o k) i
+pub shown-shift : (o : Option ℕ) (k i : ℕ) → shown o (k + i) ≡ shift (shown o k) i
 shown-shift None k i = refl
 shown-shift (Some p) k i = refl
 
@@ -269,7 +276,9 @@ place-decide Nothing (Rom b) = inr (λ e. absurd (cc))
 pub memory-same : (S T U : Memory) → IsShaped S T → IsShaped S U → ((p : Place) → byte_at T p ≡ byte_at U p) → T ≡ U
 memory-same S T U s t e =
     let low : T.low ≡ U.low = ext_get_or 0 T.low U.low (s.ram_size ∙ sym t.ram_size) (λ k h. e (Low k)) in
-    let pages : T.pages ≡ U.pages = ext_get_or [] T.pages U.pages (s.page_count ∙ sym t.page_count) (λ p h. ext_get_or 0 (page_bytes T p) (page_bytes U p) (s.page_sizes p ∙ sym (t.page_sizes p)) (λ k j. e (Page p k))) in
+    let pages : T.blocks.contents ≡ U.blocks.contents = ext_get_or [] T.blocks.contents U.blocks.contents (s.page_count ∙ sym t.page_count) (λ p h. ext_get_or 0 (page_bytes T p) (page_bytes U p) (s.page_sizes p ∙ sym (t.page_sizes p)) (λ k j. e (Page p k))) in
+    let units : T.blocks.units ≡ U.blocks.units = s.units ∙ sym t.units in
+    let places : T.blocks.places ≡ U.blocks.places = s.places ∙ sym t.places in
     let windows : T.windows ≡ U.windows = s.windows ∙ sym t.windows in
     let a20 : T.a20 ≡ U.a20 = s.a20 ∙ sym t.a20 in
-    λ i. record { low = low i; pages = pages i; windows = windows i; a20 = a20 i }
+    λ i. record { low = low i; blocks = record { units = units i; places = places i; contents = pages i }; windows = windows i; a20 = a20 i }

@@ -3,7 +3,7 @@ use Rattle.std.proofs.Common.{◌≡◌, ℕ, suc, zero, ◌+◌, ◌-◌, ◌/�
 use Rattle.std.proofs.lemmas.Bool.Decides.{nat_tests}
 use Rattle.dm_space.specs.declared.place.Place.{Place}
 use Rattle.dm_space.specs.declared.place.Place.TheVariants.{Low, Page, Rom, Nothing}
-use Rattle.dm_space.specs.Memory.{Memory, place, shown, peek, poke, byte_at, with_byte, page_bytes}
+use Rattle.dm_space.specs.Memory.{Memory, place, shown, peek, poke, byte_at, with_blocks, with_byte, page_bytes}
 use Rattle.dm_space.specs.Places.{IsShaped}
 use Rattle.dm_space.specs.Unseen.{shows, mixed, unseen_as, ReadsIgnoreUnseen, WritesKeepUnseen, UnseenPagesAreUnseen}
 
@@ -17,7 +17,7 @@ mixed-set seen other i [] k v h = refl
 mixed-set seen other i (x ∷ xs) zero v h = let e : seen i ≡ true = subst (λ n. seen n ≡ true) (omega arith) h in rw e refl
 mixed-set seen other i (x ∷ xs) (suc k) v h = ap (λ ys. cond (seen i) x (other i) ∷ ys) (mixed-set seen other (suc i) xs k v (subst (λ n. seen n ≡ true) (omega arith) h))
 
-shows-at : (windows : List (Option ℕ)) (k page : ℕ) → get_or windows k None ≡ Some page → shows windows page ≡ true
+pub shows-at : (windows : List (Option ℕ)) (k page : ℕ) → get_or windows k None ≡ Some page → shows windows page ≡ true
 shows-at [] k page h = cc
 shows-at (None ∷ windows) zero page h = cc
 shows-at (None ∷ windows) (suc k) page h = shows-at windows k page h
@@ -51,7 +51,7 @@ seen-place m a =
 
 page_bytes-unseen : (m : Memory) (other : ℕ → List ℕ) (page : ℕ) → shows m.windows page ≡ true → page_bytes (unseen_as m other) page ≡ page_bytes m page
 unfolding unseen_as
-page_bytes-unseen m other page h = mixed-get (shows m.windows) other 0 m.pages page (rw zero-add h)
+page_bytes-unseen m other page h = mixed-get (shows m.windows) other 0 m.blocks.contents page (rw zero-add h)
 
 byte_at-unseen : (m : Memory) (other : ℕ → List ℕ) (p : Place) → Seen m p → byte_at (unseen_as m other) p ≡ byte_at m p
 unfolding unseen_as
@@ -65,9 +65,9 @@ unfolding unseen_as
 with_byte-unseen m other (Low a) v h = refl
 with_byte-unseen m other (Page page k) v h =
     let bytes = set (page_bytes m page) k v in
-    ap (λ (ps : List (List ℕ)). record m { pages = ps })
-    (ap (λ (old : List ℕ). set (mixed (shows m.windows) other 0 m.pages) page (set old k v)) (page_bytes-unseen m other page h)
-    ∙ sym (mixed-set (shows m.windows) other 0 m.pages page bytes (rw zero-add h)))
+    ap (λ (ps : List (List ℕ)). with_blocks m (record m.blocks { contents = ps }))
+    (ap (λ (old : List ℕ). set (mixed (shows m.windows) other 0 m.blocks.contents) page (set old k v)) (page_bytes-unseen m other page h)
+    ∙ sym (mixed-set (shows m.windows) other 0 m.blocks.contents page bytes (rw zero-add h)))
 with_byte-unseen m other (Rom k) v h = refl
 with_byte-unseen m other Nothing v h = refl
 
@@ -111,13 +111,13 @@ pages-same : (g : List ℕ → ℕ) (S T : Memory) (other : ℕ → List ℕ) (p
     g (page_bytes (unseen_as T other) page) ≡ g (page_bytes (unseen_as S other) page)
 unfolding unseen_as
 pages-same g S T other page shape e =
-    ap (λ windows. g (get_or (mixed (shows windows) other 0 T.pages) page [])) shape.windows
-    ∙ mixed-same g (shows S.windows) other 0 S.pages T.pages page shape.page_count e
+    ap (λ windows. g (get_or (mixed (shows windows) other 0 T.blocks.contents) page [])) shape.windows
+    ∙ mixed-same g (shows S.windows) other 0 S.blocks.contents T.blocks.contents page shape.page_count e
 
-count-same : (S T : Memory) (other : ℕ → List ℕ) → IsShaped S T → length (unseen_as T other).pages ≡ length (unseen_as S other).pages
+count-same : (S T : Memory) (other : ℕ → List ℕ) → IsShaped S T → length (unseen_as T other).blocks.contents ≡ length (unseen_as S other).blocks.contents
 unfolding unseen_as
 count-same S T other shape =
-    length-mixed (shows T.windows) other 0 T.pages ∙ shape.page_count ∙ sym (length-mixed (shows S.windows) other 0 S.pages)
+    length-mixed (shows T.windows) other 0 T.blocks.contents ∙ shape.page_count ∙ sym (length-mixed (shows S.windows) other 0 S.blocks.contents)
 
 shape-unseen : (S T : Memory) (other : ℕ → List ℕ) → IsShaped S T → IsShaped (unseen_as S other) (unseen_as T other)
 unfolding unseen_as
@@ -125,6 +125,8 @@ shape-unseen S T other shape = record {
   a20 = shape.a20;
   windows = shape.windows;
   ram_size = shape.ram_size;
+  units = shape.units;
+  places = shape.places;
   page_count = count-same S T other shape;
   page_sizes = λ page. pages-same length S T other page shape (shape.page_sizes page);
 }

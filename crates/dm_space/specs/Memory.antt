@@ -1,7 +1,9 @@
 -- The memory of a real-mode machine: what stands at each linear address.
 -- Intel 8086 Family User's Manual, "Memory": segments, linear addresses, words with the low byte first.
--- The map from A0000h up is this machine's own.
-use Rattle.std.specs.Prelude.{◌≡◌, ℕ, ◌+◌, ◌-◌, ◌*◌, ◌/◌, ◌%◌, ◌<◌, Bool, nat_lt, if◌then◌else◌, List, [], ◌∷◌, length, slice_index, slice_index_or, slice_set, Option, Some, None, IfSome, replicate}
+-- The map from A0000h up is this machine's own. Pages of expanded memory (LIM EMS 4.0) are blocks of a pool.
+use Rattle.std.specs.Prelude.{◌≡◌, ℕ, ◌+◌, ◌-◌, ◌*◌, ◌/◌, ◌%◌, ◌<◌, Bool, false, nat_lt, if◌then◌else◌, List, [], ◌∷◌, length, slice_index, slice_index_or, slice_set, Option, Some, None, IfSome}
+use Rattle.dm_pool.specs.Blocks.{Blocks, IsLive, with_content}
+use Rattle.dm_pool.specs.Stored.{Stored}
 use Rattle.dm_space.specs.declared.place.Place.{Place}
 use Rattle.dm_space.specs.declared.place.Place.TheVariants.{Low, Page, Rom, Nothing}
 use Rattle.dm_space.specs.Rom.{rom}
@@ -9,9 +11,9 @@ use Rattle.dm_space.specs.Rom.{rom}
 pub record Memory : Type 0 where
   -- the bytes of RAM, by linear address
   pub low : List ℕ
-  -- the bytes of each page of expanded memory, by the page's number
-  pub pages : List (List ℕ)
-  -- the page that each of the four windows of the frame shows
+  -- the pool, of which some blocks are pages of expanded memory
+  pub blocks : Blocks
+  -- the block that each of the four windows of the frame shows
   pub windows : List (Option ℕ)
   pub a20 : Bool
 
@@ -36,7 +38,7 @@ place m a =
     if nat_lt a 0x10FFF0 then Low a else Nothing
 
 abbrev pub page_bytes : Memory → ℕ → List ℕ
-page_bytes m page = slice_index_or m.pages page []
+page_bytes m page = slice_index_or m.blocks.contents page []
 
 -- the byte that is kept at a place
 abbrev pub byte_at : Memory → Place → ℕ
@@ -45,9 +47,12 @@ byte_at m (Page page k) = slice_index (page_bytes m page) k
 byte_at m (Rom k) = rom k
 byte_at m Nothing = 0xFF
 
+abbrev pub with_blocks : Memory → Blocks → Memory
+with_blocks m blocks = record m { blocks = blocks }
+
 abbrev pub with_byte : Memory → Place → ℕ → Memory
 with_byte m (Low a) v = record m { low = slice_set m.low a v }
-with_byte m (Page page k) v = record m { pages = slice_set m.pages page (slice_set (page_bytes m page) k v) }
+with_byte m (Page page k) v = with_blocks m (with_content m.blocks page (slice_set (page_bytes m page) k v))
 with_byte m (Rom k) v = m
 with_byte m Nothing v = m
 
@@ -71,17 +76,24 @@ poke16 m segment offset v =
 abbrev pub with_a20 : Memory → Bool → Memory
 with_a20 m on = record m { a20 = on }
 
+-- the frame's window k shows that block from now on, or none
+abbrev pub with_window : Memory → ℕ → Option ℕ → Memory
+with_window m k block = record m { windows = slice_set m.windows k block }
+
+-- there is such a block, and it is as large as a page
+abbrev pub IsPage : Memory → ℕ → Type 0
+IsPage m block = IsLive m.blocks block × (length (page_bytes m block) ≡ 0x4000)
+
 -- the sizes are those of the machine, and each window shows a page that is there
 pub record Fits (m : Memory) : Type 0 where
   pub low_length : length m.low ≡ 0x110000
   pub windows_are_four : length m.windows ≡ 4
-  pub pages_there : (k : ℕ) → IfSome (slice_index_or m.windows k None) (λ page. page < length m.pages)
-  pub page_lengths : (k : ℕ) → k < length m.pages → length (page_bytes m k) ≡ 0x4000
+  pub pages_there : (k : ℕ) → IfSome (slice_index_or m.windows k None) (λ page. IsPage m page)
 
 -- a place is one of the memory's
 abbrev pub IsThere : Memory → Place → Type 0
 IsThere m (Low a) = a < length m.low
-IsThere m (Page page k) = (page < length m.pages) × (k < length (page_bytes m page))
+IsThere m (Page page k) = IsLive m.blocks page × (k < length (page_bytes m page))
 IsThere m (Rom k) = k < 0x10000
 IsThere m Nothing = Unit {0}
 
@@ -94,13 +106,14 @@ pub record IsHeld (h : Held) : Type 0 where
   pub fits : Fits h.memory
   pub scratch_length : length h.scratch ≡ 0x200000
 
-unfoldable pub zeros : ℕ → List ℕ
-zeros n = replicate n 0
+-- the low bytes, blocks and scratch bytes of a store, seen through those windows
+abbrev pub held : Stored → List (Option ℕ) → Bool → Held
+held s windows a20 = record { memory = record { low = s.low; blocks = s.blocks; windows = windows; a20 = a20 }; scratch = s.scratch }
 
 -- the four windows of a frame that shows no page
 abbrev pub no_windows : List (Option ℕ)
 no_windows = None ∷ None ∷ None ∷ None ∷ []
 
--- a memory with no page
-abbrev pub of_ram : List ℕ → Bool → Memory
-of_ram ram on = record { low = ram; pages = []; windows = no_windows; a20 = on }
+-- a memory whose frame shows none of the blocks, A20 off
+abbrev pub of_ram : List ℕ → Blocks → Memory
+of_ram ram blocks = record { low = ram; blocks = blocks; windows = no_windows; a20 = false }

@@ -12,12 +12,14 @@ IsWritable (Page page k) = Unit {0}
 IsWritable (Rom k) = ⊥
 IsWritable Nothing = ⊥
 
--- T has the map of S and as many bytes
+-- T has the map of S, blocks of the same numbers and places, and as many bytes
 pub record IsShaped (S T : Memory) : Type 0 where
   pub a20 : T.a20 ≡ S.a20
   pub windows : T.windows ≡ S.windows
   pub ram_size : length T.low ≡ length S.low
-  pub page_count : length T.pages ≡ length S.pages
+  pub units : T.blocks.units ≡ S.blocks.units
+  pub places : T.blocks.places ≡ S.blocks.places
+  pub page_count : length T.blocks.contents ≡ length S.blocks.contents
   pub page_sizes : (page : ℕ) → length (page_bytes T page) ≡ length (page_bytes S page)
 
 -- T is S after a write of v at the linear address a

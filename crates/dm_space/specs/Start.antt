@@ -1,8 +1,10 @@
 -- The memory of a machine as it starts (this machine's own): zeros, but for the 256 interrupt vectors (Intel 8086
 -- Family User's Manual, "Interrupt pointer table") and the one arena header (MS-DOS Programmer's Reference, "Arena
 -- header"); A20 is off, and no window shows a page.
-use Rattle.std.specs.Prelude.{◌≡◌, ℕ, ◌*◌, ◌/◌, ◌%◌, ◌<◌, false, nat_lt, ◌==◌, if◌then◌else◌, List, length, slice_index}
-use Rattle.dm_space.specs.Memory.{Memory, of_ram}
+use Rattle.std.specs.Prelude.{◌≡◌, ℕ, ◌*◌, ◌/◌, ◌%◌, ◌<◌, ◌≤◌, nat_lt, ◌==◌, if◌then◌else◌, List, length, slice_index}
+use Rattle.dm_pool.specs.Blocks.{Blocks}
+use Rattle.dm_pool.specs.Stored.{Stored}
+use Rattle.dm_space.specs.Memory.{Memory, Held, of_ram}
 
 -- interrupt n leads to F000:4n, but that of the expanded memory driver to F100:0020
 abbrev pub vector_offset : ℕ → ℕ
@@ -26,10 +28,22 @@ start_byte a =
     if a == 0x1003 then 0xFF else
     if a == 0x1004 then 0x9E else 0
 
+-- the bytes of the start up to the end of the first header, laid over others, which stay from there on
+pub record IsLaidOver (low ram : List ℕ) : Type 0 where
+  pub size : length ram ≡ length low
+  pub laid : (a : ℕ) → a < 0x1005 → slice_index ram a ≡ start_byte a
+  pub rest : (a : ℕ) → 0x1005 ≤ a → slice_index ram a ≡ slice_index low a
+
+-- what a store holds, as a machine finds it: the bytes of the start laid over its low bytes, A20 off, an empty frame
+pub record IsStartOver (s : Stored) (h : Held) : Type 0 where
+  pub ram : IsLaidOver s.low h.memory.low
+  pub others : h ≡ record { memory = of_ram h.memory.low s.blocks; scratch = s.scratch }
+
 pub record IsStartOfRam (ram : List ℕ) : Type 0 where
   pub size : length ram ≡ 0x110000
   pub bytes : (a : ℕ) → a < 0x110000 → slice_index ram a ≡ start_byte a
 
-pub record IsStart (m : Memory) : Type 0 where
+-- the memory of a machine as it starts, over those blocks
+pub record IsStart (blocks : Blocks) (m : Memory) : Type 0 where
   pub ram : IsStartOfRam m.low
-  pub others : m ≡ of_ram m.low false
+  pub others : m ≡ of_ram m.low blocks

@@ -1,24 +1,24 @@
--- Memory with other bytes in the pages of expanded memory that no window shows. A program sees a page only through a
--- window of the frame (LIM EMS 4.0, section 2).
+-- Memory with other bytes in the blocks that no window shows: pages of expanded memory, which a program sees only through a
+-- window of the frame (LIM EMS 4.0, section 2), and extended memory.
 use Rattle.std.specs.Prelude.{◌≡◌, ℕ, suc, ◌==◌, ◌||◌, Bool, false, if◌then◌else◌, List, [], ◌∷◌, Option, Some, None}
 use Rattle.dm_space.specs.declared.place.Place.{Place}
-use Rattle.dm_space.specs.Memory.{Memory, place, peek, poke, byte_at}
+use Rattle.dm_space.specs.Memory.{Memory, place, peek, poke, byte_at, with_blocks}
 use Rattle.dm_space.specs.Places.{IsShaped}
 
--- one of the windows shows the page
+-- one of the windows shows the block
 abbrev pub shows : List (Option ℕ) → ℕ → Bool
 shows [] page = false
 shows (None ∷ windows) page = shows windows page
 shows (Some shown ∷ windows) page = (shown == page) || shows windows page
 
--- pages, the first of which has the number `first`: those that are seen stay, the others are taken from `other`
+-- contents of blocks, the first of which has the number `first`: those that are seen stay, the others are taken from `other`
 abbrev pub mixed : (ℕ → Bool) → (ℕ → List ℕ) → ℕ → List (List ℕ) → List (List ℕ)
 mixed seen other first [] = []
 mixed seen other first (page ∷ pages) = (if seen first then page else other first) ∷ mixed seen other (suc first) pages
 
--- the memory, its unseen pages taken from `other`
+-- the memory, the contents of its unseen blocks taken from `other`
 unfoldable pub unseen_as : Memory → (ℕ → List ℕ) → Memory
-unseen_as m other = record m { pages = mixed (shows m.windows) other 0 m.pages }
+unseen_as m other = with_blocks m (record m.blocks { contents = mixed (shows m.windows) other 0 m.blocks.contents })
 
 -- a read doesn't depend on unseen pages
 abbrev pub ReadsIgnoreUnseen : Type 0
@@ -42,3 +42,7 @@ pub record IsUnseen (change : Memory → Memory) : Type 0 where
 -- other bytes in pages that no window shows are such a change
 abbrev pub UnseenPagesAreUnseen : Type 0
 UnseenPagesAreUnseen = (other : ℕ → List ℕ) → IsUnseen (λ m. unseen_as m other)
+
+-- a write keeps the map: A20, the windows, which blocks there are, where they lie and how large they are
+abbrev pub WritesKeepTheMap : Type 0
+WritesKeepTheMap = (m : Memory) (a v : ℕ) → IsShaped m (poke m a v)

@@ -1,22 +1,9 @@
 //! The bytes of RAM as a machine starts.
-ghost use Rattle.std.specs.Prelude.{◌≡◌, IfOk, length};
-ghost use Rattle.dm_space.specs.Start.{start_byte, vector_offset, vector_segment, IsStartOfRam};
-ghost use Rattle.dm_space.specs.Memory.{zeros};
+ghost use Rattle.std.specs.Prelude.{◌≡◌, ◌≤◌, length};
+ghost use Rattle.dm_space.specs.Start.{start_byte, vector_offset, vector_segment, IsLaidOver};
 
-use std::alloc::{AllocError, Global};
-
-/// The linear addresses up to the end of the high memory area, and the last paragraph above it.
-pub const RAM: usize = 0x11_0000;
-/// From here on the RAM starts as zeros.
-const ZEROS: usize = 0x1005;
-
-/// As many zeros as asked for.
-#[tactic(auto, unfolding(crate::specs::Memory::zeros))]
-pub fn zeroed(alloc: Global, len: usize) -> Result<Vec<u8>, AllocError>
-    ensures { IfOk result (λ v. v.items ≡ zeros len) }
-{
-    vec![in alloc; 0; len]
-}
+/// Where the first arena header's size ends: the bytes from here on stay as they are.
+const END: usize = 0x1005;
 
 /// Where the vector of an interrupt leads: its offset.
 fn vector_offset(interrupt: u8) -> u16
@@ -61,13 +48,12 @@ fn start_byte(linear: usize) -> u8
     }
 }
 
-/// The bytes of RAM as the machine starts, by linear address.
-pub fn start_of_ram(alloc: Global) -> Result<Vec<u8>, AllocError>
-    ensures { IfOk result (λ v. IsStartOfRam v.items) }
+/// Writes the bytes of the start over the first bytes of RAM.
+pub fn lay_start(ram: &mut [u8])
+    requires { 0x1005 ≤ length ram.old }
+    ensures { IsLaidOver ram.old ram.new }
 {
-    let mut ram = zeroed(alloc, RAM)?;
-    for linear in 0..ZEROS {
+    for linear in 0..END {
         ram[linear] = start_byte(linear);
     }
-    Ok(ram)
 }
