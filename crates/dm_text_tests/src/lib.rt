@@ -6,6 +6,8 @@
 #[cfg(test)]
 mod checks;
 #[cfg(test)]
+mod listings;
+#[cfg(test)]
 mod readings;
 #[cfg(test)]
 mod rows;
