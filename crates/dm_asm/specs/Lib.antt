@@ -1,0 +1,4 @@
+pub mod Lines
+pub mod Labels
+pub mod Codes
+pub mod Programs
