@@ -11,6 +11,11 @@ status_of (Ok (Exited code)) = code
 status_of (Ok _) = 125
 status_of (Err _) = 126
 
+-- 0, or 126 at a fault
+abbrev pub told_status : {A E : Type 0} → Result A E → ℕ
+told_status (Ok _) = 0
+told_status (Err _) = 126
+
 -- the status for the words of a command line: a wrong one is told with 2, or with 126 where memory was refused
 abbrev pub TellsWrongLine : List Text → ℕ → Type 0
 TellsWrongLine words status = fault_of dm_app words ≢ [] → (status ≡ 2) ⊎ (status ≡ 126)

@@ -1,9 +1,10 @@
 //! The commands of `dm`, with their fault texts and statuses.
 ghost use Rattle.std.specs.Prelude.{◌≡◌, IfErr, IfOk, OnOk, map};
 ghost use Rattle.dm_cli.specs.Stores.{AddsFile, IsFaultOf, IsStarted, Stores};
-ghost use Rattle.dm_cli.specs.Statuses.{status_of, TellsWrongLine};
+ghost use Rattle.dm_cli.specs.Statuses.{status_of, told_status, TellsWrongLine};
 ghost use Rattle.dm_services.specs.State.{HasProgram};
 
+use crate::assembling::{asm, disasm};
 use crate::fault::Fault;
 use crate::files::{Storage, read_file, read_whole};
 use crate::names::{names_file, program_name};
@@ -141,6 +142,19 @@ pub(crate) fn report<E: Write>(outcome: Result<Stop, Fault<'_>>, error: &mut E) 
     }
 }
 
+/// Tells the fault of a command that has one, and answers the status. That the telling fails changes nothing.
+fn told<E: Write>(outcome: Result<(), Fault<'_>>, error: &mut E) -> u8
+    ensures { result ≡ told_status outcome.entry }
+{
+    match outcome {
+        Ok(()) => 0,
+        Err(fault) => {
+            let _ = writeln!(error, "dm: {fault}");
+            FAULT
+        }
+    }
+}
+
 /// The program `dm` over what it is given: the words of its command line, of which the first is the program's name,
 /// where files are opened, standard input, standard output and standard error. It answers the status.
 ///
@@ -148,8 +162,13 @@ pub(crate) fn report<E: Write>(outcome: Result<Stop, Fault<'_>>, error: &mut E) 
 /// a fault `dm: ` and the fault, with status 126. It finds them in this order: of each file in turn `cannot read NAME`,
 /// `input too long` (over 16 MiB), `name too long` (over 64 bytes) and `name twice`; of standard input the first two;
 /// `too large` (over 512 pages or 15360 KiB), `tail too long` (over 126 bytes), `not found`, `bad format`, `short`;
-/// `cannot write standard output`. `out of memory` stands where memory was refused. A wrong command line or a call for
-/// help is told by `clap`'s text, with status 2.
+/// `cannot write standard output`.
+///
+/// `dm asm` and `dm disasm` exit with status 0, or tell a fault with status 126: `cannot read NAME` or `input too long` of the file that
+/// they read, then `too long` (over 65,278 bytes of program) or `line N: ` and `syntax`, `unknown`, `range` or `twice`, then `cannot write
+/// NAME`. A text that is refused leaves the file of its bytes as it was.
+///
+/// `out of memory` stands where memory was refused. A wrong command line or a call for help is told by `clap`'s text, with status 2.
 pub fn dm_main<S: AsStr, F: Storage, I: Read + Drop, O: Write, E: Write>(
     alloc: Global,
     storage: &F,
@@ -162,6 +181,8 @@ pub fn dm_main<S: AsStr, F: Storage, I: Read + Drop, O: Write, E: Write>(
 {
     match options(alloc, words) {
         Ok(Options::Run(options)) => report(run(alloc, storage, &options, input, output), error),
+        Ok(Options::Asm(options)) => told(asm(alloc, storage, &options), error),
+        Ok(Options::Disasm(path)) => told(disasm(alloc, storage, path, output), error),
         Err(OptionsError::Usage(text)) => {
             let _ = write!(error, "{text}");
             USAGE

@@ -1,6 +1,7 @@
 //! The program `dm`, over the files, readers and writers that it is given.
 #![tactic(auto)]
 
+mod assembling;
 mod commands;
 mod fault;
 mod files;
