@@ -38,7 +38,19 @@ fn reads_options_and_files(rt: HostRuntime) -> Result<(), Fail> {
                 same(&rt, line, got.tail, tail);
                 same(&rt, line, got.files.len(), files);
             }
-            Err(error) => assert!(rt; false, "{line}: {error:?}"),
+            other => assert!(rt; false, "{line}: {other:?}"),
+        }
+    }
+    Ok(())
+}
+
+#[test]
+fn reads_paths(rt: HostRuntime) -> Result<(), Fail> {
+    for (line, wanted) in [("dm disasm a/b.com", "a/b.com"), ("dm disasm -- -x", "-x")] {
+        let words: Vec<&str> = line.split(' ').collect(rt.alloc())?;
+        match options(rt.alloc(), words.as_slice()) {
+            Ok(Options::Disasm(path)) => same(&rt, line, path, wanted),
+            other => assert!(rt; false, "{line}: {other:?}"),
         }
     }
     Ok(())
@@ -62,6 +74,9 @@ fn refuses_wrong_lines_and_calls_for_help(rt: HostRuntime) -> Result<(), Fail> {
         ("dm run --ems=1 --ems=2 hi.com", ErrorKind::ArgumentConflict),
         ("dm run --speed=1 hi.com", ErrorKind::UnknownArgument),
         ("dm run hi.com --ems", ErrorKind::InvalidValue),
+        ("dm disasm", ErrorKind::MissingRequiredArgument),
+        ("dm disasm a.com b.com", ErrorKind::UnknownArgument),
+        ("dm disasm --ems=1 a.com", ErrorKind::UnknownArgument),
     ];
     for (line, kind) in cases {
         let words: Vec<&str> = line.split(' ').collect(rt.alloc())?;
