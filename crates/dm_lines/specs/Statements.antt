@@ -17,6 +17,7 @@ use Rattle.dm_lines.specs.declared.term.Value.{Value}
 use Rattle.dm_lines.specs.declared.term.Term.{Term}
 use Rattle.dm_lines.specs.declared.term.Term.TheVariants as term
 use Rattle.dm_lines.specs.declared.statement.Instruction.{Instruction}
+use Rattle.dm_lines.specs.declared.statement.Items.{Items}
 use Rattle.dm_lines.specs.declared.statement.Item as Item'
 use Rattle.dm_lines.specs.declared.statement.Item.TheVariants as code
 use Rattle.dm_lines.specs.declared.statement.Statement as Statement'
@@ -34,14 +35,15 @@ pub record Statement : Type 0 where
   pub label : Option Name'.Name
   pub item : Item
 
-abbrev pub seen_item : Item'.Item → Item
-seen_item code.Nothing = nothing
-seen_item (code.Instruction i) = instruction i
-seen_item (code.Bytes b) = bytes b.items
-seen_item (code.Words w) = words w.items
+-- a statement whose items of data are beside it
+abbrev pub seen_item : Items → Item'.Item → Item
+seen_item d code.Nothing = nothing
+seen_item d (code.Instruction i) = instruction i
+seen_item d code.Bytes = bytes d.bytes.items
+seen_item d code.Words = words d.words.items
 
-abbrev pub seen_statement : Statement'.Statement → Statement
-seen_statement s = record { label = s.label; item = seen_item s.item }
+abbrev pub seen_statement : Items → Statement'.Statement → Statement
+seen_statement d s = record { label = s.label; item = seen_item d s.item }
 
 -- ---- data
 

@@ -154,13 +154,13 @@ fn quoted_token(byte: u8) -> Token
     }
 }
 
-/// The tokens of a line.
+/// Puts the tokens of a line in the place of what was there.
 #[tactic(auto, unfolding(crate::specs::Tokens::tokens_of))]
-pub(crate) fn line_tokens(line: &[u8]) -> Option<Tokens>
+pub(crate) fn put_tokens(tokens: &mut Tokens, line: &[u8]) -> Option<()>
     requires { length line.now ≤ 255 }
-    ensures { option_map (λ t. t.items) result ≡ tokens_of line.now }
+    ensures { option_map (λ _. tokens.new.items) result ≡ tokens_of line.now }
 {
-    let mut tokens = ArrayVec::new();
+    tokens.clear();
     let mut word = ArrayVec::new();
     let mut quoted = false;
     for byte in line {
@@ -176,13 +176,12 @@ pub(crate) fn line_tokens(line: &[u8]) -> Option<Tokens>
         if *byte == b';' {
             break;
         }
-        close(&mut tokens, &mut word)?;
-        mark(&mut tokens, *byte)?;
+        close(tokens, &mut word)?;
+        mark(tokens, *byte)?;
         quoted = *byte == b'\'';
     }
     if quoted {
         return None;
     }
-    close(&mut tokens, &mut word)?;
-    Some(tokens)
+    close(tokens, &mut word)
 }

@@ -9,7 +9,6 @@ use crate::operands::{amount, front, value};
 use crate::statement::{Bytes, Words};
 use crate::term::Amount;
 use crate::token::Token;
-use arrayvec::ArrayVec;
 
 /// Puts the bytes of a text, up to the quote that ends it.
 fn put_text(bytes: &mut Bytes, tokens: &[Token]) -> Option<()>
@@ -53,35 +52,35 @@ fn put_item(bytes: &mut Bytes, tokens: &[Token]) -> Option<()>
     }
 }
 
-/// The numbers of a DB.
-pub(crate) fn bytes(tokens: &[Token]) -> Option<Bytes>
+/// Puts the numbers of a DB in the place of what was there.
+pub(crate) fn put_bytes(found: &mut Bytes, tokens: &[Token]) -> Option<()>
     requires { length tokens.now ≤ 255 }
-    ensures { option_map (λ b. b.items) result ≡ bytes_of (parts tokens.now) }
+    ensures { option_map (λ _. found.new.items) result ≡ bytes_of (parts tokens.now) }
 {
-    let mut found = ArrayVec::new();
+    found.clear();
     let mut rest = tokens;
     loop {
         let (item, behind) = front(rest);
-        put_item(&mut found, item)?;
+        put_item(found, item)?;
         match behind {
-            None => return Some(found),
+            None => return Some(()),
             Some(tail) => rest = tail,
         }
     }
 }
 
-/// The values of a DW.
-pub(crate) fn words(tokens: &[Token]) -> Option<Words>
+/// Puts the values of a DW in the place of what was there.
+pub(crate) fn put_words(found: &mut Words, tokens: &[Token]) -> Option<()>
     requires { length tokens.now ≤ 255 }
-    ensures { option_map (λ w. w.items) result ≡ words_of (parts tokens.now) }
+    ensures { option_map (λ _. found.new.items) result ≡ words_of (parts tokens.now) }
 {
-    let mut found = ArrayVec::new();
+    found.clear();
     let mut rest = tokens;
     loop {
         let (item, behind) = front(rest);
         found.push(value(item)?);
         match behind {
-            None => return Some(found),
+            None => return Some(()),
             Some(tail) => rest = tail,
         }
     }

@@ -5,10 +5,10 @@ ghost use Rattle.dm_ins.specs.Spelling.{no_prefix};
 ghost use Rattle.dm_lines.specs.Operands.{seen};
 ghost use Rattle.dm_lines.specs.Statements.{seen_item, seen_statement, short_of, far_of, mnemonic_at, prefixed, is_memory, exchanges, with_terms, operated, action_of, instruction_of, item_of, statement_of, line_of};
 
-use crate::lexing::line_tokens;
-use crate::lists::{bytes, words};
+use crate::lexing::{Tokens, put_tokens};
+use crate::lists::{put_bytes, put_words};
 use crate::operands::terms;
-use crate::statement::{Instruction, Item, Statement};
+use crate::statement::{Instruction, Item, Items, Statement};
 use crate::term::Term;
 use crate::token::Token;
 use dm_ins::{Mnemonic, Prefixes, WordRegister};
@@ -154,43 +154,53 @@ fn read_instruction(tokens: &[Token]) -> Option<Instruction>
 }
 
 /// What stands behind a label.
-fn read_item(tokens: &[Token]) -> Option<Item>
+fn read_item(tokens: &[Token], items: &mut Items) -> Option<Item>
     requires { length tokens.now ≤ 255 }
-    ensures { option_map seen_item result ≡ item_of tokens.now }
+    ensures { option_map (seen_item items.new) result ≡ item_of tokens.now }
 {
     match tokens {
         [] => Some(Item::Nothing),
-        [Token::DataBytes, rest @ ..] => Some(Item::Bytes(bytes(rest)?)),
-        [Token::DataWords, rest @ ..] => Some(Item::Words(words(rest)?)),
+        [Token::DataBytes, rest @ ..] => {
+            put_bytes(&mut items.bytes, rest)?;
+            Some(Item::Bytes)
+        }
+        [Token::DataWords, rest @ ..] => {
+            put_words(&mut items.words, rest)?;
+            Some(Item::Words)
+        }
         _ => Some(Item::Instruction(read_instruction(tokens)?)),
     }
 }
 
 /// The statement of a line's tokens.
-fn read_statement(tokens: &[Token]) -> Option<Statement>
+fn read_statement(tokens: &[Token], items: &mut Items) -> Option<Statement>
     requires { length tokens.now ≤ 255 }
-    ensures { option_map seen_statement result ≡ statement_of tokens.now }
+    ensures { option_map (seen_statement items.new) result ≡ statement_of tokens.now }
 {
     match tokens {
-        [Token::Name(label), Token::Colon, rest @ ..] => Some(Statement {
-            label: Some(*label),
-            item: read_item(rest)?,
-        }),
-        _ => Some(Statement {
-            label: None,
-            item: read_item(tokens)?,
-        }),
+        [Token::Name(label), Token::Colon, rest @ ..] => {
+            let item = read_item(rest, items)?;
+            Some(Statement {
+                label: Some(*label),
+                item,
+            })
+        }
+        _ => {
+            let item = read_item(tokens, items)?;
+            Some(Statement { label: None, item })
+        }
     }
 }
 
-/// The statement that a line stands for, without its line end; None where it stands for none.
+/// The statement that a line stands for, without its line end; None where it stands for none. What `tokens` and `items` hold before
+/// does not matter: they are there so that not each line has to make them anew.
 #[tactic(auto, unfolding(crate::specs::Statements::line_of))]
-pub fn read_line(line: &[u8]) -> Option<Statement>
-    ensures { option_map seen_statement result ≡ line_of line.now }
+pub fn read_line(line: &[u8], tokens: &mut Tokens, items: &mut Items) -> Option<Statement>
+    ensures { option_map (seen_statement items.new) result ≡ line_of line.now }
 {
     if 255 < line.len() {
         return None;
     }
-    let tokens = line_tokens(line)?;
-    read_statement(tokens.as_slice())
+    put_tokens(tokens, line)?;
+    read_statement(tokens.as_slice(), items)
 }

@@ -1,7 +1,7 @@
 use Rattle.std.proofs.Common.{◌≡◌, ◌≤◌, ◌+◌, drop, false, []}
 use Rattle.arrayvec.specs.ArrayVec.{array_vec_len}
 use Rattle.dm_lines.specs.Tokens.{lexed, with_front}
-use Rattle.dm_lines.proofs.lexing.line_tokens.Given as goal
+use Rattle.dm_lines.proofs.lexing.put_tokens.Given as goal
 
 abbrev pub invariant-loop-byte : goal.invariant-loop-byte
 invariant-loop-byte l = record {

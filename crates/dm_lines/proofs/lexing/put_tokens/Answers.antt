@@ -1,6 +1,6 @@
 use Rattle.std.proofs.Common.{rules, arith}
 use Rattle.dm_lines.proofs.Lexed.{quoted_byte, marked_byte}
-use Rattle.dm_lines.proofs.lexing.line_tokens.Goals as goal
+use Rattle.dm_lines.proofs.lexing.put_tokens.Goals as goal
 
 pub loop-byte-preserved-then-quoted : goal.loop-byte-preserved-then-quoted
 loop-byte-preserved-then-quoted c = record {
