@@ -1,6 +1,7 @@
 -- The bytes that a statement stands for.
 -- Source: Intel 8086 Family User's Manual, section 2.9 (ASM-86).
 use Rattle.std.specs.Prelude.{◌≡◌, ℕ, ◌+◌, ◌*◌, ◌/◌, ◌%◌, List, [], ◌∷◌, length, map, flat_map, Option, Some, None, IsSome, All}
+use Rattle.dm_ins.specs.Walks.{◌>>=◌}
 use Rattle.dm_ins.specs.declared.ins.Ins.{Ins}
 use Rattle.dm_ins.specs.declared.action.Mnemonic.{Mnemonic}
 use Rattle.dm_read.specs.declared.written.Written.{Written}
@@ -18,30 +19,40 @@ use Rattle.dm_asm.specs.Labels.{Label, place_of, term_place}
 -- ---- with the places of labels
 
 -- what is written where an operand stands, before an instruction at an offset
-pub record IsPlaced (labels : List Label) (m : Mnemonic) (next : ℕ) (term : Term) (w : Written) : Type 0 where
-  pub place : ℕ
-  pub stands : term_place labels term ≡ Some place
-  pub is : written_of m term place next ≡ Some w
+abbrev pub placed : List Label → Mnemonic → ℕ → Term → Option Written
+placed labels m next term = do
+  place ← term_place labels term
+  written_of m term place next
+
+-- what is written in an instruction
+abbrev pub placed_words : List Label → ℕ → Instruction → Option Words
+placed_words labels next i = do
+  first ← placed labels i.mnemonic next i.first
+  second ← placed labels i.mnemonic next i.second
+  Some (record { mnemonic = i.mnemonic; first = first; second = second })
 
 -- the word that a value is
-pub record IsWord (labels : List Label) (v : Value) (w : ℕ) : Type 0 where
-  pub place : ℕ
-  pub stands : place_of labels v ≡ Some place
-  pub is : standing v place ≡ Some w
+abbrev pub word_of : List Label → Value → Option ℕ
+word_of labels v = do
+  place ← place_of labels v
+  standing v place
 
--- values and their words
-pub data AreValues (labels : List Label) : List Value → List ℕ → Type 0 where
-  none : AreValues labels [] []
-  more : (v : Value) (vs : List Value) (w : ℕ) (ws : List ℕ) → IsWord labels v w → AreValues labels vs ws → AreValues labels (v ∷ vs) (w % 256 ∷ w / 256 ∷ ws)
+-- the low byte of a word stands first
+abbrev pub low_high : ℕ → List ℕ
+low_high w = w % 256 ∷ w / 256 ∷ []
 
 -- ---- before labels have places
+
+-- what is written in an instruction
+abbrev pub outlined : Instruction → Words
+outlined i = record { mnemonic = i.mnemonic; first = outline_of i.mnemonic i.first; second = outline_of i.mnemonic i.second }
 
 -- the length of an instruction: as if each label stood at 0, each byte were in range and each target near. Where the table has no such
 -- instruction, the line is wrong whatever its labels are
 pub record HasShape (i : Instruction) (n : ℕ) : Type 0 where
   pub ins : Ins
   pub prefixes : ins.prefixes ≡ i.prefixes
-  pub words : AreWords (record { mnemonic = i.mnemonic; first = outline_of i.mnemonic i.first; second = outline_of i.mnemonic i.second }) ins.action
+  pub words : AreWords (outlined i) ins.action
   pub code : List ℕ
   pub encoded : Encodes ins code
   pub long : n ≡ length code
@@ -59,21 +70,25 @@ HasLength (words vs) n = n ≡ 2 * length vs
 -- written, in its preferred bytes. It has its length before labels have places, so that the offset of the next one is known
 pub record IsCoded (labels : List Label) (at : ℕ) (i : Instruction) (code : List ℕ) : Type 0 where
   pub shape : HasShape i (length code)
-  pub first : Written
-  pub second : Written
-  pub first_placed : IsPlaced labels i.mnemonic (at + length code) i.first first
-  pub second_placed : IsPlaced labels i.mnemonic (at + length code) i.second second
+  pub written : Words
+  pub placed : placed_words labels (at + length code) i ≡ Some written
   pub ins : Ins
   pub prefixes : ins.prefixes ≡ i.prefixes
-  pub words : AreWords (record { mnemonic = i.mnemonic; first = first; second = second }) ins.action
+  pub words : AreWords written ins.action
   pub encoded : Encodes ins code
+
+-- the bytes of words, each of a value
+pub record AreWordsOf (labels : List Label) (vs : List Value) (code : List ℕ) : Type 0 where
+  pub values : List ℕ
+  pub are : map (word_of labels) vs ≡ map Some values
+  pub bytes : code ≡ flat_map low_high values
 
 -- the bytes of what stands at an offset
 abbrev pub Codes : List Label → ℕ → Item → List ℕ → Type 0
 Codes labels at nothing code = code ≡ []
 Codes labels at (instruction i) code = IsCoded labels at i code
 Codes labels at (bytes ns) code = map byte_of ns ≡ map Some code
-Codes labels at (words vs) code = AreValues labels vs code
+Codes labels at (words vs) code = AreWordsOf labels vs code
 
 -- ---- labels that are named
 

@@ -1,11 +1,18 @@
 //! The bytes of a statement, where all labels have their places.
 
+ghost use Rattle.std.specs.Prelude.{◌≡◌, ◌+◌, ◌<◌, ◌^◌, ℕ, List, Option, Some, IfSome, IfNone, MatchResult, length, map};
+ghost use Rattle.dm_lines.specs.Statements.{seen_item};
+ghost use Rattle.dm_lines.specs.Placing.{byte_of};
+ghost use Rattle.dm_lines.specs.Laws.{AmountFits, TermFits};
+ghost use Rattle.dm_asm.specs.Labels.{Label};
+ghost use Rattle.dm_asm.specs.Kept.{AreKept, AreNear};
+ghost use Rattle.dm_asm.specs.Codes.{placed as placed_of, placed_words as words_of, word_of as value_of, IsCoded, AreWordsOf, HasShape, HasLength, Codes, Knows};
+
 use crate::labels::Labels;
-use crate::shapes::instruction_length;
 use arrayvec::ArrayVec;
 use dm_ins::encode;
-use dm_lines::{Amount, Instruction, Item, Term, Value, byte, word_at, written};
-use dm_read::{Words, Written, read_words};
+use dm_lines::{Amount, Instruction, Item, Items, Term, Value, byte, outlines_stand, word_at, written};
+use dm_read::{Words, Written, read_words, stand_ins_have_the_length};
 
 /// The bytes of one line.
 pub(crate) type Code = ArrayVec<u8, 256>;
@@ -20,71 +27,66 @@ pub(crate) enum Problem {
 }
 
 /// What is written where an operand stands.
-fn placed(labels: &Labels, instruction: &Instruction, next: u16, term: &Term) -> Option<Written> {
+fn placed(labels: &Labels, instruction: &Instruction, next: u16, term: &Term) -> Option<Written>
+    requires { AreNear labels.now }
+    ensures { (list : List Label) → AreKept labels.now list → result ≡ placed_of list instruction.now.mnemonic next term.now }
+{
     let place = labels.term_place(term)?;
     written(instruction.mnemonic, term, place as u16, next)
 }
 
-fn instruction_code(labels: &Labels, at: u16, instruction: &Instruction) -> Option<Code> {
-    let length = instruction_length(instruction)?;
-    let next = at + length as u16;
-    let words = Words {
+/// What is written in an instruction.
+fn placed_words(labels: &Labels, instruction: &Instruction, next: u16) -> Option<Words>
+    requires { AreNear labels.now }
+    ensures { (list : List Label) → AreKept labels.now list → result ≡ words_of list next instruction.now }
+{
+    let first = placed(labels, instruction, next, &instruction.first)?;
+    let second = placed(labels, instruction, next, &instruction.second)?;
+    Some(Words {
         mnemonic: instruction.mnemonic,
-        first: placed(labels, instruction, next, &instruction.first)?,
-        second: placed(labels, instruction, next, &instruction.second)?,
-    };
+        first,
+        second,
+    })
+}
+
+/// The numbers in an operand fit their types. It does nothing when called.
+fn amount_fits(amount: Amount)
+    ensures { AmountFits amount }
+{
+    match amount {
+        Amount::Plus(_number) => {}
+        Amount::Minus(_number) => {}
+    }
+}
+
+/// The numbers in an operand fit their types. It does nothing when called.
+fn term_fits(term: &Term)
+    ensures { TermFits term.now }
+{
+    match term {
+        Term::Memory(_, _, amount) => amount_fits(*amount),
+        Term::Address(_, value) => amount_fits(value.amount),
+        Term::Number(value) => amount_fits(value.amount),
+        _ => {}
+    }
+}
+
+fn instruction_code(labels: &Labels, at: u16, length: usize, instruction: &Instruction) -> Option<Code>
+    requires near { AreNear labels.now }
+    requires shape { HasShape instruction.now length }
+    requires fits { at + length < 2 ^ 16 }
+    ensures found { IfSome result (λ code. (list : List Label) → AreKept labels.now list → IsCoded list at instruction.now code.items) }
+    ensures none { IfNone result ((list : List Label) (code : List ℕ) → AreKept labels.now list → IsCoded list at instruction.now code → ⊥) }
+{
+    outlines_stand();
+    stand_ins_have_the_length();
+    term_fits(&instruction.first);
+    term_fits(&instruction.second);
+    let next = at + length as u16;
+    let words = placed_words(labels, instruction, next)?;
     let ins = read_words(instruction.prefixes, &words)?;
     let mut code = ArrayVec::new();
     // There is room for it.
     let _ = code.try_extend_from_slice(encode(&ins).as_slice());
     Some(code)
-}
-
-fn bytes_code(amounts: &[Amount]) -> Option<Code> {
-    let mut code = ArrayVec::new();
-    for amount in amounts {
-        code.push(byte(*amount)?);
-    }
-    Some(code)
-}
-
-fn word_of(labels: &Labels, value: &Value) -> Option<u16> {
-    let place = labels.place_of(value)?;
-    word_at(*value, place as u16)
-}
-
-fn words_code(labels: &Labels, values: &[Value]) -> Option<Code> {
-    let mut code = ArrayVec::new();
-    for value in values {
-        let [low, high] = word_of(labels, value)?.to_le_bytes();
-        code.push(low);
-        code.push(high);
-    }
-    Some(code)
-}
-
-/// Whether each label that a statement names is there.
-fn knows(labels: &Labels, item: &Item) -> bool {
-    match item {
-        Item::Nothing | Item::Bytes(_) => true,
-        Item::Instruction(instruction) => {
-            labels.term_place(&instruction.first).is_some()
-                && labels.term_place(&instruction.second).is_some()
-        }
-        Item::Words(values) => values.iter().all(|value| labels.place_of(value).is_some()),
-    }
-}
-
-/// The bytes of a statement that stands at an offset.
-pub(crate) fn code_of(labels: &Labels, at: u16, item: &Item) -> Result<Code, Problem> {
-    if !knows(labels, item) {
-        return Err(Problem::Unknown);
-    }
-    let code = match item {
-        Item::Nothing => Some(ArrayVec::new()),
-        Item::Instruction(instruction) => instruction_code(labels, at, instruction),
-        Item::Bytes(amounts) => bytes_code(amounts.as_slice()),
-        Item::Words(values) => words_code(labels, values.as_slice()),
-    };
-    code.ok_or(Problem::Range)
 }

@@ -1,14 +1,21 @@
 //! The lines of a text.
 
 ghost use Rattle.std.specs.Prelude.{◌≡◌, ◌<◌, ◌∷◌, [], MatchOption, IfSome, length};
-ghost use Rattle.dm_asm.specs.Lines.{lines_of};
+ghost use Rattle.dm_asm.specs.Lines.{lines_of, trim};
 
 /// A line without the 0Dh at its end.
+#[tactic(auto, using(crate::proofs::Ends::trimmed_end, crate::proofs::Ends::trimmed_other))]
 fn trimmed(line: &[u8]) -> &[u8]
+    ensures { result.now ≡ trim line.now }
 {
-    match line {
-        [front @ .., b'\r'] => front,
-        _ => line,
+    let length = line.len();
+    if length == 0 {
+        return line;
+    }
+    if line[length - 1] == b'\r' {
+        &line[..length - 1]
+    } else {
+        line
     }
 }
 
