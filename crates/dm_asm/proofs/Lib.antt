@@ -1,3 +1,7 @@
 pub mod Ends
 pub mod Chosen
 pub mod Found
+pub mod Placed
+pub mod Each
+pub mod Stated
+pub mod Passes

@@ -1,6 +1,7 @@
 -- The bytes that a statement stands for.
 -- Source: Intel 8086 Family User's Manual, section 2.9 (ASM-86).
-use Rattle.std.specs.Prelude.{◌≡◌, ℕ, ◌+◌, ◌*◌, ◌/◌, ◌%◌, List, [], ◌∷◌, length, map, flat_map, Option, Some, None, IsSome, All}
+use Rattle.std.specs.Prelude.{◌≡◌, ℕ, ◌+◌, ◌*◌, ◌/◌, ◌%◌, List, [], ◌∷◌, length, map, flat_map, Option, Some, None, IsSome}
+use Rattle.std.specs.List.{AllByRecursion}
 use Rattle.dm_ins.specs.Walks.{◌>>=◌}
 use Rattle.dm_ins.specs.declared.ins.Ins.{Ins}
 use Rattle.dm_ins.specs.declared.action.Mnemonic.{Mnemonic}
@@ -100,4 +101,4 @@ abbrev pub Knows : List Label → Item → Type 0
 Knows labels nothing = Unit {0}
 Knows labels (instruction i) = KnowsTerm labels i.first × KnowsTerm labels i.second
 Knows labels (bytes ns) = Unit {0}
-Knows labels (words vs) = All (λ v. IsSome (place_of labels v)) vs
+Knows labels (words vs) = AllByRecursion (λ v. IsSome (place_of labels v)) vs

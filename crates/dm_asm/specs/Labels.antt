@@ -1,5 +1,5 @@
 -- Labels and where they stand.
-use Rattle.std.specs.Prelude.{ℕ, Option, Some, None, List, [], ◌∷◌, if◌then◌else◌}
+use Rattle.std.specs.Prelude.{◌≡◌, ℕ, Option, Some, None, List, [], ◌∷◌, if◌then◌else◌}
 use Rattle.std.specs.Str.{bytes_eq}
 use Rattle.dm_lines.specs.declared.token.Name as Name'
 use Rattle.dm_lines.specs.declared.term.Value.{Value}
@@ -29,3 +29,8 @@ abbrev pub term_place : List Label → Term → Option ℕ
 term_place labels (term.Address s v) = place_of labels v
 term_place labels (term.Number v) = place_of labels v
 term_place labels _ = Some 0
+
+-- no label of the list has that name
+abbrev pub IsFree : Option Name'.Name → List Label → Type 0
+IsFree None labels = Unit {0}
+IsFree (Some name) labels = find name labels ≡ None

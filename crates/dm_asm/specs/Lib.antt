@@ -1,5 +1,5 @@
 pub mod Lines
 pub mod Labels
-pub mod Kept
 pub mod Codes
 pub mod Programs
+pub mod Kept

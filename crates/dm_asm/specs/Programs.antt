@@ -8,7 +8,7 @@ use Rattle.dm_lines.specs.Statements.{Item, Statement, line_of}
 use Rattle.dm_asm.specs.declared.refusal.Refusal.{Refusal}
 use Rattle.dm_asm.specs.declared.refusal.Refusal.TheVariants as refusal
 use Rattle.dm_asm.specs.Lines.{lines_of}
-use Rattle.dm_asm.specs.Labels.{Label, find}
+use Rattle.dm_asm.specs.Labels.{Label, IsFree, find}
 use Rattle.dm_asm.specs.Codes.{Codes, HasLength, Knows}
 
 -- ---- statements and labels
@@ -110,7 +110,7 @@ pub record IsBehindCoded (text : List ℕ) (n : ℕ) (labels : List Label) (at :
 -- a label that no line has, or else has no bytes
 pub data Refuses (text : List ℕ) : Refusal → Type 0 where
   syntax : (n : ℕ) (line : List ℕ) (xs : List Sized) → IsBehindGood text n line xs → ((x : Sized) → Reads line x → ⊥) → Refuses text (refusal.Syntax n)
-  twice : (n : ℕ) (line : List ℕ) (xs : List Sized) (x : Sized) (name : Name'.Name) → IsBehindGood text n line xs → Reads line x → x.statement.label ≡ Some name → (find name (labels_of xs) ≡ None → ⊥) → Refuses text (refusal.Twice n)
+  twice : (n : ℕ) (line : List ℕ) (xs : List Sized) (x : Sized) → IsBehindGood text n line xs → Reads line x → (IsFree x.statement.label (labels_of xs) → ⊥) → Refuses text (refusal.Twice n)
   too_long : (xs : List Sized) → Laid (lines_of text) xs → most < total xs → Refuses text refusal.TooLong
   unknown : (n : ℕ) (labels : List Label) (at : ℕ) (x : Sized) → IsBehindCoded text n labels at x → (Knows labels x.statement.item → ⊥) → Refuses text (refusal.Unknown n)
   range : (n : ℕ) (labels : List Label) (at : ℕ) (x : Sized) → IsBehindCoded text n labels at x → Knows labels x.statement.item → ((code : List ℕ) → Codes labels at x.statement.item code → ⊥) → Refuses text (refusal.Range n)

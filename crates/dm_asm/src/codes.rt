@@ -1,6 +1,9 @@
 //! The bytes of a statement, where all labels have their places.
 
-ghost use Rattle.std.specs.Prelude.{◌≡◌, ◌+◌, ◌<◌, ◌^◌, ℕ, List, Option, Some, IfSome, IfNone, MatchResult, length, map};
+ghost use Rattle.std.specs.Prelude.{◌≡◌, ◌+◌, ◌<◌, ◌≤◌, ◌^◌, ◌↔◌, ℕ, List, Some, IfSome, IfNone, IfOk, IfErr, IsTrue, IsSome, length, map};
+ghost use Rattle.std.specs.List.{AllByRecursion};
+ghost use Rattle.dm_asm.specs.Kept.{IsProblem};
+ghost use Rattle.dm_asm.specs.Labels.{place_of};
 ghost use Rattle.dm_lines.specs.Statements.{seen_item};
 ghost use Rattle.dm_lines.specs.Placing.{byte_of};
 ghost use Rattle.dm_lines.specs.Laws.{AmountFits, TermFits};
@@ -12,7 +15,7 @@ use crate::labels::Labels;
 use arrayvec::ArrayVec;
 use dm_ins::encode;
 use dm_lines::{Amount, Instruction, Item, Items, Term, Value, byte, outlines_stand, word_at, written};
-use dm_read::{Words, Written, read_words, stand_ins_have_the_length};
+use dm_read::{Words, Written, read_words, stand_ins_have_the_length, words_are_one_instruction};
 
 /// The bytes of one line.
 pub(crate) type Code = ArrayVec<u8, 256>;
@@ -71,13 +74,14 @@ fn term_fits(term: &Term)
     }
 }
 
-fn instruction_code(labels: &Labels, at: u16, length: usize, instruction: &Instruction) -> Option<Code>
+fn instruction_code(labels: &Labels, at: u16, length: usize, instruction: &Instruction) -> Option<ArrayVec<u8, 16>>
     requires near { AreNear labels.now }
     requires shape { HasShape instruction.now length }
     requires fits { at + length < 2 ^ 16 }
     ensures found { IfSome result (λ code. (list : List Label) → AreKept labels.now list → IsCoded list at instruction.now code.items) }
     ensures none { IfNone result ((list : List Label) (code : List ℕ) → AreKept labels.now list → IsCoded list at instruction.now code → ⊥) }
 {
+    words_are_one_instruction();
     outlines_stand();
     stand_ins_have_the_length();
     term_fits(&instruction.first);
@@ -85,8 +89,117 @@ fn instruction_code(labels: &Labels, at: u16, length: usize, instruction: &Instr
     let next = at + length as u16;
     let words = placed_words(labels, instruction, next)?;
     let ins = read_words(instruction.prefixes, &words)?;
+    Some(encode(&ins))
+}
+
+/// The bytes of a DB.
+fn bytes_code(amounts: &[Amount]) -> Option<Code>
+    requires { length amounts.now ≤ 255 }
+    ensures found { IfSome result (λ code. map byte_of amounts.now ≡ map Some code.items) }
+    ensures none { IfNone result ((code : List ℕ) → map byte_of amounts.now ≡ map Some code → ⊥) }
+{
     let mut code = ArrayVec::new();
-    // There is room for it.
-    let _ = code.try_extend_from_slice(encode(&ins).as_slice());
+    for amount in amounts {
+        code.push(byte(*amount)?);
+    }
     Some(code)
+}
+
+/// The word that a value is.
+fn word_of(labels: &Labels, value: &Value) -> Option<u16>
+    requires { AreNear labels.now }
+    ensures { (list : List Label) → AreKept labels.now list → result ≡ value_of list value.now }
+{
+    let place = labels.place_of(value)?;
+    word_at(*value, place as u16)
+}
+
+/// The bytes of a DW.
+fn words_code(labels: &Labels, values: &[Value]) -> Option<Code>
+    requires near { AreNear labels.now }
+    requires few { length values.now ≤ 128 }
+    ensures found { IfSome result (λ code. (list : List Label) → AreKept labels.now list → AreWordsOf list values.now code.items) }
+    ensures none { IfNone result ((list : List Label) (code : List ℕ) → AreKept labels.now list → AreWordsOf list values.now code → ⊥) }
+{
+    let mut code = ArrayVec::new();
+    for value in values {
+        let word = word_of(labels, value)?;
+        code.push((word % 256) as u8);
+        code.push((word / 256) as u8);
+    }
+    Some(code)
+}
+
+/// Whether each label of a DW is there.
+fn knows_all(labels: &Labels, values: &[Value]) -> bool
+    ensures { (list : List Label) → AreKept labels.now list → IsTrue result ↔ AllByRecursion (λ v. IsSome (place_of list v)) values.now }
+{
+    for value in values {
+        match labels.place_of(value) {
+            Some(_) => {}
+            None => return false,
+        }
+    }
+    true
+}
+
+/// Whether each label that a statement names is there.
+fn knows(labels: &Labels, item: Item, items: &Items) -> bool
+    ensures { (list : List Label) → AreKept labels.now list → IsTrue result ↔ Knows list (seen_item items.now item) }
+{
+    match item {
+        Item::Nothing | Item::Bytes => true,
+        Item::Instruction(instruction) => {
+            labels.term_place(&instruction.first).is_some()
+                && labels.term_place(&instruction.second).is_some()
+        }
+        Item::Words => knows_all(labels, items.words.as_slice()),
+    }
+}
+
+/// Bytes in a line's.
+fn widened(bytes: &[u8]) -> Code
+    requires { length bytes.now ≤ 16 }
+    ensures { result.items ≡ bytes.now }
+{
+    let mut code = ArrayVec::new();
+    // There is room for them.
+    let _ = code.try_extend_from_slice(bytes);
+    code
+}
+
+/// The bytes of a statement whose labels are there.
+fn item_code(labels: &Labels, at: u16, length: usize, item: Item, items: &Items) -> Option<Code>
+    requires near { AreNear labels.now }
+    requires long { HasLength (seen_item items.now item) length }
+    requires fits { at + length < 2 ^ 16 }
+    ensures found { IfSome result (λ code. (list : List Label) → AreKept labels.now list → Codes list at (seen_item items.now item) code.items) }
+    ensures none { IfNone result ((list : List Label) (code : List ℕ) → AreKept labels.now list → Codes list at (seen_item items.now item) code → ⊥) }
+{
+    match item {
+        Item::Nothing => Some(ArrayVec::new()),
+        Item::Instruction(instruction) => {
+            let code = instruction_code(labels, at, length, &instruction)?;
+            Some(widened(code.as_slice()))
+        }
+        Item::Bytes => bytes_code(items.bytes.as_slice()),
+        Item::Words => words_code(labels, items.words.as_slice()),
+    }
+}
+
+/// The bytes of a statement of this length, which stands at an offset.
+pub(crate) fn code_of(labels: &Labels, at: u16, length: usize, item: Item, items: &Items) -> Result<Code, Problem>
+    requires near { AreNear labels.now }
+    requires long { HasLength (seen_item items.now item) length }
+    requires fits { at + length < 2 ^ 16 }
+    ensures code { IfOk result (λ code. (list : List Label) → AreKept labels.now list → Codes list at (seen_item items.now item) code.items) }
+    ensures problem { IfErr result (λ problem. (list : List Label) → AreKept labels.now list → IsProblem list at (seen_item items.now item) problem) }
+{
+    if !knows(labels, item, items) {
+        return Err(Problem::Unknown);
+    }
+    match item_code(labels, at, length, item, items) {
+        Some(code) => Ok(code),
+        None => Err(Problem::Range),
+    }
 }

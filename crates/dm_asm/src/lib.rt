@@ -1,11 +1,13 @@
 //! The assembler and the disassembler: text to bytes and back.
 #![tactic(auto)]
 
+mod assembly;
 mod codes;
 mod labels;
 mod lines;
 mod refusal;
 mod shapes;
 
+pub use assembly::assemble;
 pub use refusal::Refusal;
 pub use dm_listing::disassemble;
