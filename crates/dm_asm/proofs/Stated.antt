@@ -1,12 +1,13 @@
 -- Statements of lines, one after the other.
-use Rattle.std.proofs.Common.{◌≡◌, ℕ, ◌+◌, ◌*◌, ◌<◌, ◌≤◌, ◌^◌, List, [], ◌∷◌, ◌++◌, length, Option, Some, None, IfSome, refl, sym, ap, subst, ◌∙◌, arith, if◌then◌else◌, Bool, true, false}
+use Rattle.std.proofs.Common.{◌≡◌, ℕ, ◌+◌, ◌*◌, ◌<◌, ◌≤◌, ◌^◌, List, [], ◌∷◌, ◌++◌, length, Option, Some, None, IfSome, map, flat_map, refl, sym, ap, subst, ◌∙◌, arith, if◌then◌else◌, Bool, true, false}
 use Rattle.std.proofs.lemmas.List.{append_assoc, append-nil, length-append}
 use Rattle.std.specs.Str.{bytes_eq}
 use Rattle.dm_lines.specs.declared.token.Name as Name'
 use Rattle.dm_lines.specs.Statements.{Item, Statement, line_of, nothing, instruction, bytes, words}
 use Rattle.dm_read.specs.Laws.{WordsAreOne}
 use Rattle.dm_asm.specs.Labels.{Label, IsFree, find}
-use Rattle.dm_asm.specs.Codes.{Codes, HasLength}
+use Rattle.dm_lines.specs.Placing.{byte_of}
+use Rattle.dm_asm.specs.Codes.{Codes, HasLength, low_high, word_of}
 use Rattle.dm_asm.specs.Programs.{Sized, Reads, AreRead, total, labelled, labels_from, labels_of, AreOnce, Laid, AreCoded, joined}
 use Rattle.dm_asm.proofs.Chosen.{shape_once}
 use Rattle.dm_asm.proofs.Placed.{some_same}
@@ -89,10 +90,53 @@ first_read line lines (x ∷ xs) a = record { first = x; others = xs; parts = re
 
 -- ---- places
 
-label_fits : (label : Option Name'.Name) (at : ℕ) (name : Name'.Name) (rest : List Label) (p : ℕ) → find name (labelled label at ++ rest) ≡ Some p → (p ≡ at → ⊥) → find name rest ≡ Some p
-label_fits None at name rest p h n = h
-label_fits (Some l) at name rest p h n = by (bytes_eq l.bytes name.bytes) h
-  where
-    by : (t : Bool) → (if t then Some at else find name rest) ≡ Some p → find name rest ≡ Some p
-    by true g = absurd (n (sym (some_same at p g)))
-    by false g = g
+later_fits : (at n m : ℕ) (r : Option ℕ) → IfSome r (λ p. p ≤ at + n + m) → IfSome r (λ p. p ≤ at + (n + m))
+later_fits at n m None h = tt
+later_fits at n m (Some p) h = omega (arith, h)
+
+first_fits : (t : Bool) (at n : ℕ) (r : Option ℕ) → IfSome r (λ p. p ≤ at + n) → IfSome (if t then Some at else r) (λ p. p ≤ at + n)
+first_fits true at n r h = omega arith
+first_fits false at n r h = h
+
+label_fits : (label : Option Name'.Name) (at n : ℕ) (rest : List Label) (name : Name'.Name) → IfSome (find name rest) (λ p. p ≤ at + n) → IfSome (find name (labelled label at ++ rest)) (λ p. p ≤ at + n)
+label_fits None at n rest name h = h
+label_fits (Some l) at n rest name h = first_fits (bytes_eq l.bytes name.bytes) at n (find name rest) h
+
+pub place_fits : (at : ℕ) (xs : List Sized) (name : Name'.Name) → IfSome (find name (labels_from at xs)) (λ p. p ≤ at + total xs)
+place_fits at [] name = tt
+place_fits at (x ∷ xs) name =
+    label_fits x.statement.label at (x.long + total xs) (labels_from (at + x.long) xs) name
+      (later_fits at x.long (total xs) (find name (labels_from (at + x.long) xs)) (place_fits (at + x.long) xs name))
+
+-- ---- bytes
+
+pub coded_more : (labels : List Label) (at : ℕ) (xs : List Sized) (ps : List (List ℕ)) (x : Sized) (p : List ℕ) → AreCoded labels at xs ps → Codes labels (at + length (joined ps)) x.statement.item p → AreCoded labels at (xs ++ x ∷ []) (ps ++ p ∷ [])
+coded_more labels at [] [] x p a c = (subst (λ (k : ℕ). Codes labels k x.statement.item p) (let e : at + 0 ≡ at = omega arith in e) c, tt)
+coded_more labels at [] (q ∷ ps) x p a c = absurd a
+coded_more labels at (y ∷ xs) [] x p a c = absurd a
+coded_more labels at (y ∷ xs) (q ∷ ps) x p a c =
+    let e : at + length (q ++ joined ps) ≡ at + length q + length (joined ps) = omega (arith, length-append q (joined ps)) in
+    (a.0, coded_more labels (at + length q) xs ps x p a.1 (subst (λ (k : ℕ). Codes labels k x.statement.item p) e c))
+
+pub joined_more : (ps : List (List ℕ)) (p : List ℕ) → joined (ps ++ p ∷ []) ≡ joined ps ++ p
+joined_more [] p = append-nil p
+joined_more (q ∷ ps) p = ap (λ r. q ++ r) (joined_more ps p) ∙ sym (append_assoc q (joined ps) p)
+
+same_length : {A : Type 0} (f : A → Option ℕ) (xs : List A) (ys : List ℕ) → map f xs ≡ map Some ys → length xs ≡ length ys
+same_length f [] [] h = refl
+same_length f [] (y ∷ ys) h = absurd cc
+same_length f (x ∷ xs) [] h = absurd cc
+same_length f (x ∷ xs) (y ∷ ys) h = let t : length xs ≡ length ys = same_length f xs ys cc in cc
+
+flat_length : (ws : List ℕ) → length (flat_map low_high ws) ≡ 2 * length ws
+flat_length [] = refl
+flat_length (w ∷ ws) = let h : length (flat_map low_high ws) ≡ 2 * length ws = flat_length ws in omega (arith, h)
+
+pub code_long : WordsAreOne → (labels : List Label) (at : ℕ) (i : Item) (code : List ℕ) (n : ℕ) → Codes labels at i code → HasLength i n → length code ≡ n
+code_long one labels at nothing code n c h = ap length c ∙ sym h
+code_long one labels at (instruction i) code n c h = shape_once one i (length code) n c.shape h
+code_long one labels at (bytes b) code n c h = sym (same_length byte_of b code c) ∙ sym h
+code_long one labels at (words w) code n c h =
+    let a : length code ≡ length (flat_map low_high c.values) = ap length c.bytes in
+    let b : length w ≡ length c.values = same_length (word_of labels) w c.values c.are in
+    omega (arith, a, b, h, flat_length c.values)

@@ -13,6 +13,7 @@ use crate::lines::next_line;
 use crate::refusal::Refusal;
 use crate::shapes::length_of;
 use dm_lines::{Items, Name, Statement, Tokens, read_line};
+use dm_read::words_are_one_instruction;
 use std::alloc::Global;
 
 /// The offset of a program's first byte in its segment.
@@ -64,7 +65,10 @@ fn lay(alloc: Global, text: &[u8]) -> Result<Labels, Refusal>
         let Some((statement, length)) = read(line, &mut tokens, &mut items) else {
             return Err(Refusal::Syntax(number));
         };
-        add_label(&mut labels, statement.label, at, number)?;
+        match add_label(&mut labels, statement.label, at, number) {
+            Ok(()) => {}
+            Err(refusal) => return Err(refusal),
+        }
         at += length as u128;
         rest = behind;
     }
@@ -80,6 +84,7 @@ fn emit(alloc: Global, text: &[u8], labels: &Labels) -> Result<Vec<u8>, Refusal>
     ensures assembled { IfOk result (λ v. Assembles text.now v.items) }
     ensures refused { IfErr result (λ e. (e ≡ OutOfMemory) ⊎ Refuses text.now e) }
 {
+    words_are_one_instruction();
     let mut tokens = Tokens::new();
     let mut items = Items::new();
     let mut bytes = Vec::new(alloc);
