@@ -5,3 +5,4 @@ pub mod Placed
 pub mod Each
 pub mod Stated
 pub mod Passes
+pub mod OneAnswer

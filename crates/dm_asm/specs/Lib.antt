@@ -3,3 +3,4 @@ pub mod Labels
 pub mod Codes
 pub mod Programs
 pub mod Kept
+pub mod Laws

@@ -4,10 +4,12 @@
 mod assembly;
 mod codes;
 mod labels;
+mod laws;
 mod lines;
 mod refusal;
 mod shapes;
 
 pub use assembly::assemble;
+pub use laws::texts_have_one_answer;
 pub use refusal::Refusal;
 pub use dm_listing::disassemble;
