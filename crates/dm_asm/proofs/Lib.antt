@@ -1,0 +1,8 @@
+pub mod Ends
+pub mod Chosen
+pub mod Found
+pub mod Placed
+pub mod Each
+pub mod Stated
+pub mod Passes
+pub mod OneAnswer

@@ -1,0 +1,34 @@
+-- The labels that a map keeps.
+use Rattle.std.specs.Prelude.{◌≡◌, ◌<◌, ◌≤◌, ◌^◌, ℕ, List, IfSome}
+use Rattle.std.specs.Ordering.{nat_cmp}
+use Rattle.std.specs.Cmp.Lexicographic.{slice_cmp}
+use Rattle.std.specs.BTreeMap as tree
+use Rattle.dm_lines.specs.declared.token.Name as Name'
+use Rattle.dm_asm.specs.declared.labels.Labels.{Labels}
+use Rattle.dm_asm.specs.declared.codes.Problem.{Problem}
+use Rattle.dm_asm.specs.declared.codes.Problem.TheVariants as problem
+use Rattle.dm_lines.specs.Statements.{Item}
+use Rattle.dm_asm.specs.Lines.{lines_of}
+use Rattle.dm_asm.specs.Programs.{Sized, Laid, total, most, labels_of}
+use Rattle.dm_asm.specs.Labels.{Label, find}
+use Rattle.dm_asm.specs.Codes.{Codes, Knows}
+
+-- the map has each name's first place in the list
+abbrev pub AreKept : Labels → List Label → Type 0
+AreKept kept labels = (name : Name'.Name) → tree.get (slice_cmp nat_cmp) kept.places name.bytes ≡ find name labels
+
+-- each place is an offset
+abbrev pub AreNear : Labels → Type 0
+AreNear kept = (name : Name'.Name) → IfSome (tree.get (slice_cmp nat_cmp) kept.places name.bytes) (λ place. place < 2 ^ 16)
+
+-- what is wrong with a statement at an offset
+abbrev pub IsProblem : List Label → ℕ → Item → Problem → Type 0
+IsProblem labels at item problem.Unknown = Knows labels item → ⊥
+IsProblem labels at item problem.Range = Knows labels item × ((code : List ℕ) → Codes labels at item code → ⊥)
+
+-- all lines read, with no label twice, and have room together; the map keeps their labels
+pub record AreLaid (text : List ℕ) (kept : Labels) : Type 0 where
+  pub statements : List Sized
+  pub laid : Laid (lines_of text) statements
+  pub room : total statements ≤ most
+  pub keeps : AreKept kept (labels_of statements)

@@ -1,0 +1,6 @@
+pub mod Lines
+pub mod Labels
+pub mod Codes
+pub mod Programs
+pub mod Kept
+pub mod Laws

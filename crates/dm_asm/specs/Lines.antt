@@ -1,0 +1,26 @@
+-- The lines of a text.
+use Rattle.std.specs.Prelude.{ℕ, Bool, false, ◌==◌, ◌&&◌, List, [], ◌∷◌, if◌then◌else◌}
+
+-- a byte in front of the first line
+abbrev pub onto : ℕ → List (List ℕ) → List (List ℕ)
+onto b [] = (b ∷ []) ∷ []
+onto b (l ∷ ls) = (b ∷ l) ∷ ls
+
+-- a line end (0Ah) stands in front
+abbrev pub ends_line : List ℕ → Bool
+ends_line [] = false
+ends_line (b ∷ bs) = b == 10
+
+-- a line ends with 0Ah, before which one 0Dh is dropped, or with the text
+abbrev pub lines_of : List ℕ → List (List ℕ)
+lines_of [] = []
+lines_of (b ∷ bs) =
+    if b == 10 then [] ∷ lines_of bs
+    else if (b == 13) && ends_line bs then lines_of bs
+    else onto b (lines_of bs)
+
+-- a line without the 0Dh at its end: how its last byte is dropped
+abbrev pub trim : List ℕ → List ℕ
+trim [] = []
+trim (b ∷ []) = if b == 13 then [] else b ∷ []
+trim (b ∷ c ∷ bs) = b ∷ trim (c ∷ bs)

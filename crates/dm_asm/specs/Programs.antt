@@ -1,0 +1,121 @@
+-- The program that a text is: a statement a line, each label at the offset of its statement, the bytes of each statement behind
+-- those of the ones before it, from offset 0100h on; and what is first wrong with a text that is none. Nothing here goes over a text
+-- in passes.
+-- Source: Intel 8086 Family User's Manual, section 2.9 (ASM-86); the order of refusals is this machine's own (docs/DECISIONS.md).
+use Rattle.std.specs.Prelude.{◌≡◌, ℕ, ◌+◌, ◌<◌, ◌≤◌, List, [], ◌∷◌, ◌++◌, length, Option, Some, None, Result, Ok, Err}
+use Rattle.dm_lines.specs.declared.token.Name as Name'
+use Rattle.dm_lines.specs.Statements.{Item, Statement, line_of}
+use Rattle.dm_asm.specs.declared.refusal.Refusal.{Refusal}
+use Rattle.dm_asm.specs.declared.refusal.Refusal.TheVariants as refusal
+use Rattle.dm_asm.specs.Lines.{lines_of}
+use Rattle.dm_asm.specs.Labels.{Label, IsFree, find}
+use Rattle.dm_asm.specs.Codes.{Codes, HasLength, Knows}
+
+-- ---- statements and labels
+
+-- a statement, and how many bytes it has
+pub record Sized : Type 0 where
+  pub statement : Statement
+  pub long : ℕ
+
+-- a line reads as a statement that has a length
+pub record Reads (line : List ℕ) (x : Sized) : Type 0 where
+  pub is : line_of line ≡ Some x.statement
+  pub long : HasLength x.statement.item x.long
+
+-- each line reads as a statement
+abbrev pub AreRead : List (List ℕ) → List Sized → Type 0
+AreRead [] [] = Unit {0}
+AreRead [] (x ∷ xs) = ⊥
+AreRead (line ∷ lines) [] = ⊥
+AreRead (line ∷ lines) (x ∷ xs) = Reads line x × AreRead lines xs
+
+-- how many bytes statements have together
+abbrev pub total : List Sized → ℕ
+total [] = 0
+total (x ∷ xs) = x.long + total xs
+
+abbrev pub labelled : Option Name'.Name → ℕ → List Label
+labelled None at = []
+labelled (Some name) at = record { name = name; place = at } ∷ []
+
+-- the labels of statements that begin at an offset: each stands where its statement begins
+abbrev pub labels_from : ℕ → List Sized → List Label
+labels_from at [] = []
+labels_from at (x ∷ xs) = labelled x.statement.label at ++ labels_from (at + x.long) xs
+
+-- a program begins at offset 0100h
+abbrev pub labels_of : List Sized → List Label
+labels_of xs = labels_from 0x100 xs
+
+-- no label is there twice
+abbrev pub AreOnce : List Label → Type 0
+AreOnce [] = Unit {0}
+AreOnce (l ∷ ls) = (find l.name ls ≡ None) × AreOnce ls
+
+-- all lines read, with no label twice
+pub record Laid (lines : List (List ℕ)) (xs : List Sized) : Type 0 where
+  pub read : AreRead lines xs
+  pub once : AreOnce (labels_of xs)
+
+-- ---- the program
+
+-- a program has at most 65,278 bytes: the segment's 10000h without the 0100h before it and the two of the stack behind it
+abbrev pub most : ℕ
+most = 65278
+
+-- each statement has its piece of the bytes, at the offset behind the pieces before it
+abbrev pub AreCoded : List Label → ℕ → List Sized → List (List ℕ) → Type 0
+AreCoded labels at [] [] = Unit {0}
+AreCoded labels at [] (p ∷ ps) = ⊥
+AreCoded labels at (x ∷ xs) [] = ⊥
+AreCoded labels at (x ∷ xs) (p ∷ ps) = Codes labels at x.statement.item p × AreCoded labels (at + length p) xs ps
+
+abbrev pub joined : List (List ℕ) → List ℕ
+joined [] = []
+joined (p ∷ ps) = p ++ joined ps
+
+-- the bytes that a text has
+pub record Assembles (text bytes : List ℕ) : Type 0 where
+  pub statements : List Sized
+  pub laid : Laid (lines_of text) statements
+  pub room : total statements ≤ most
+  pub pieces : List (List ℕ)
+  pub coded : AreCoded (labels_of statements) 0x100 statements pieces
+  pub whole : bytes ≡ joined pieces
+
+-- ---- refusals
+
+-- line n, counted from 1, behind lines that all read, with no label twice
+pub record IsBehindGood (text : List ℕ) (n : ℕ) (line : List ℕ) (xs : List Sized) : Type 0 where
+  pub before : List (List ℕ)
+  pub after : List (List ℕ)
+  pub parts : lines_of text ≡ before ++ line ∷ after
+  pub number : n ≡ length before + 1
+  pub laid : Laid before xs
+
+-- statement n of a text whose lines all read, with no label twice, and have room together; all statements before it have bytes
+pub record IsBehindCoded (text : List ℕ) (n : ℕ) (labels : List Label) (at : ℕ) (x : Sized) : Type 0 where
+  pub before : List Sized
+  pub after : List Sized
+  pub laid : Laid (lines_of text) (before ++ x ∷ after)
+  pub room : total (before ++ x ∷ after) ≤ most
+  pub number : n ≡ length before + 1
+  pub labels_are : labels ≡ labels_of (before ++ x ∷ after)
+  pub at_is : at ≡ 0x100 + total before
+  pub pieces : List (List ℕ)
+  pub coded : AreCoded labels 0x100 before pieces
+
+-- what is first wrong: a line that doesn't read, or else has the label of one before it; else too many bytes; else a line that names
+-- a label that no line has, or else has no bytes
+pub data Refuses (text : List ℕ) : Refusal → Type 0 where
+  syntax : (n : ℕ) (line : List ℕ) (xs : List Sized) → IsBehindGood text n line xs → ((x : Sized) → Reads line x → ⊥) → Refuses text (refusal.Syntax n)
+  twice : (n : ℕ) (line : List ℕ) (xs : List Sized) (x : Sized) → IsBehindGood text n line xs → Reads line x → (IsFree x.statement.label (labels_of xs) → ⊥) → Refuses text (refusal.Twice n)
+  too_long : (xs : List Sized) → Laid (lines_of text) xs → most < total xs → Refuses text refusal.TooLong
+  unknown : (n : ℕ) (labels : List Label) (at : ℕ) (x : Sized) → IsBehindCoded text n labels at x → (Knows labels x.statement.item → ⊥) → Refuses text (refusal.Unknown n)
+  range : (n : ℕ) (labels : List Label) (at : ℕ) (x : Sized) → IsBehindCoded text n labels at x → Knows labels x.statement.item → ((code : List ℕ) → Codes labels at x.statement.item code → ⊥) → Refuses text (refusal.Range n)
+
+-- the bytes of a text, or what is first wrong with it
+abbrev pub IsAnswer : List ℕ → Result (List ℕ) Refusal → Type 0
+IsAnswer text (Ok bytes) = Assembles text bytes
+IsAnswer text (Err e) = Refuses text e

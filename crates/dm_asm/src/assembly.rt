@@ -1,0 +1,128 @@
+//! From a text to its bytes, in two passes over its lines (Intel 8086 Family User's Manual, section 2.9).
+
+ghost use Rattle.std.specs.Prelude.{◌≡◌, ◌≤◌, ◌++◌, ◌⊎◌, List, IfSome, IfNone, IfOk, IfErr, OnOk, MatchResult};
+ghost use Rattle.dm_lines.specs.Statements.{seen_statement};
+ghost use Rattle.dm_asm.specs.declared.refusal.Refusal.TheVariants.{Memory as OutOfMemory, Twice as IsTwice};
+ghost use Rattle.dm_asm.specs.Labels.{Label, IsFree};
+ghost use Rattle.dm_asm.specs.Kept.{AreKept, AreLaid};
+ghost use Rattle.dm_asm.specs.Programs.{Sized, Reads, labelled, Assembles, Refuses};
+
+use crate::codes::{Problem, code_of};
+use crate::labels::Labels;
+use crate::lines::next_line;
+use crate::refusal::Refusal;
+use crate::shapes::length_of;
+use dm_lines::{Items, Name, Statement, Tokens, read_line};
+use dm_read::words_are_one_instruction;
+use std::alloc::Global;
+
+/// The offset of a program's first byte in its segment.
+const START: usize = 0x100;
+
+/// The most bytes of a program.
+const MOST: u128 = 65_278;
+
+/// The statement of a line, and how many bytes it has.
+fn read(line: &[u8], tokens: &mut Tokens, items: &mut Items) -> Option<(Statement, usize)>
+    ensures found { IfSome result (λ r. Reads line.now (record { statement = seen_statement items.new r.0; long = r.1 })) }
+    ensures none { IfNone result ((x : Sized) → Reads line.now x → ⊥) }
+    ensures short { IfSome result (λ r. r.1 ≤ 256) }
+{
+    let statement = read_line(line, tokens, items)?;
+    let length = length_of(statement.item, items)?;
+    Some((statement, length))
+}
+
+/// Adds the label of a statement, if it has one and no line before it has.
+fn add_label(labels: &mut Labels, label: Option<Name>, place: u128, number: usize) -> Result<(), Refusal>
+    ensures added { OnOk result ((list : List Label) → AreKept labels.old list → IsFree label list × AreKept labels.new (list ++ labelled label place)) }
+    ensures refused { IfErr result (λ e. (e ≡ OutOfMemory) ⊎ ((e ≡ IsTwice number) × ((list : List Label) → AreKept labels.old list → IsFree label list → ⊥))) }
+{
+    if let Some(name) = label {
+        if labels.find(&name).is_some() {
+            return Err(Refusal::Twice(number));
+        }
+        if labels.add(&name, place).is_err() {
+            return Err(Refusal::Memory);
+        }
+    }
+    Ok(())
+}
+
+/// The labels of a text, where all lines read and have room.
+fn lay(alloc: Global, text: &[u8]) -> Result<Labels, Refusal>
+    ensures laid { IfOk result (λ labels. AreLaid text.now labels) }
+    ensures refused { IfErr result (λ e. (e ≡ OutOfMemory) ⊎ Refuses text.now e) }
+{
+    let mut tokens = Tokens::new();
+    let mut items = Items::new();
+    let mut labels = Labels::new(alloc);
+    let mut number = 0;
+    let mut at = START as u128;
+    let mut rest = text;
+    while let Some((line, behind)) = next_line(rest) {
+        number += 1;
+        let Some((statement, length)) = read(line, &mut tokens, &mut items) else {
+            return Err(Refusal::Syntax(number));
+        };
+        match add_label(&mut labels, statement.label, at, number) {
+            Ok(()) => {}
+            Err(refusal) => return Err(refusal),
+        }
+        at += length as u128;
+        rest = behind;
+    }
+    if at > START as u128 + MOST {
+        return Err(Refusal::TooLong);
+    }
+    Ok(labels)
+}
+
+/// The bytes of a text whose labels have these places.
+fn emit(alloc: Global, text: &[u8], labels: &Labels) -> Result<Vec<u8>, Refusal>
+    requires { AreLaid text.now labels.now }
+    ensures assembled { IfOk result (λ v. Assembles text.now v.items) }
+    ensures refused { IfErr result (λ e. (e ≡ OutOfMemory) ⊎ Refuses text.now e) }
+{
+    words_are_one_instruction();
+    let mut tokens = Tokens::new();
+    let mut items = Items::new();
+    let mut bytes = Vec::new(alloc);
+    let mut number = 0;
+    let mut rest = text;
+    while let Some((line, behind)) = next_line(rest) {
+        number += 1;
+        // The first pass has read it.
+        let Some((statement, length)) = read(line, &mut tokens, &mut items) else {
+            return Err(Refusal::Syntax(number));
+        };
+        let at = START + bytes.len();
+        match code_of(labels, at as u16, length, statement.item, &items) {
+            Ok(code) => {
+                if bytes.extend_from_slice(code.as_slice()).is_err() {
+                    return Err(Refusal::Memory);
+                }
+            }
+            Err(Problem::Unknown) => return Err(Refusal::Unknown(number)),
+            Err(Problem::Range) => return Err(Refusal::Range(number)),
+        }
+        rest = behind;
+    }
+    Ok(bytes)
+}
+
+/// The bytes of a program for offset 0100h that a text is: instructions, data and labels, a statement a line.
+///
+/// # Errors
+///
+/// In this order: the first line with `Syntax` or `Twice` (`Syntax` where it has both); `TooLong` over 65,278 bytes; the first line with
+/// `Unknown` or `Range` (`Unknown` where it has both). `Memory` may stand in the place of any answer, where memory was refused.
+pub fn assemble(alloc: Global, text: &[u8]) -> Result<Vec<u8>, Refusal>
+    // The text has these bytes.
+    ensures assembled { IfOk result (λ v. Assembles text.now v.items) }
+    // This is first wrong with the text, unless memory was refused.
+    ensures refused { IfErr result (λ e. (e ≡ OutOfMemory) ⊎ Refuses text.now e) }
+{
+    let labels = lay(alloc, text)?;
+    emit(alloc, text, &labels)
+}

@@ -1,0 +1,205 @@
+//! The bytes of a statement, where all labels have their places.
+
+ghost use Rattle.std.specs.Prelude.{◌≡◌, ◌+◌, ◌<◌, ◌≤◌, ◌^◌, ◌↔◌, ℕ, List, Some, IfSome, IfNone, IfOk, IfErr, IsTrue, IsSome, length, map};
+ghost use Rattle.std.specs.List.{AllByRecursion};
+ghost use Rattle.dm_asm.specs.Kept.{IsProblem};
+ghost use Rattle.dm_asm.specs.Labels.{place_of};
+ghost use Rattle.dm_lines.specs.Statements.{seen_item};
+ghost use Rattle.dm_lines.specs.Placing.{byte_of};
+ghost use Rattle.dm_lines.specs.Laws.{AmountFits, TermFits};
+ghost use Rattle.dm_asm.specs.Labels.{Label};
+ghost use Rattle.dm_asm.specs.Kept.{AreKept, AreNear};
+ghost use Rattle.dm_asm.specs.Codes.{placed as placed_of, placed_words as words_of, word_of as value_of, IsCoded, AreWordsOf, HasShape, HasLength, Codes, Knows};
+
+use crate::labels::Labels;
+use arrayvec::ArrayVec;
+use dm_ins::encode;
+use dm_lines::{Amount, Instruction, Item, Items, Term, Value, byte, outlines_stand, word_at, written};
+use dm_read::{Words, Written, read_words, stand_ins_have_the_length, words_are_one_instruction};
+
+/// The bytes of one line.
+pub(crate) type Code = ArrayVec<u8, 256>;
+
+/// What is wrong with a line whose statement reads.
+#[derive(Clone, Copy, Debug, PartialEq, Eq)]
+pub(crate) enum Problem {
+    /// It names a label that no line has.
+    Unknown,
+    /// A number or a target is out of range.
+    Range,
+}
+
+/// What is written where an operand stands.
+fn placed(labels: &Labels, instruction: &Instruction, next: u16, term: &Term) -> Option<Written>
+    requires { AreNear labels.now }
+    ensures { (list : List Label) → AreKept labels.now list → result ≡ placed_of list instruction.now.mnemonic next term.now }
+{
+    let place = labels.term_place(term)?;
+    written(instruction.mnemonic, term, place as u16, next)
+}
+
+/// What is written in an instruction.
+fn placed_words(labels: &Labels, instruction: &Instruction, next: u16) -> Option<Words>
+    requires { AreNear labels.now }
+    ensures { (list : List Label) → AreKept labels.now list → result ≡ words_of list next instruction.now }
+{
+    let first = placed(labels, instruction, next, &instruction.first)?;
+    let second = placed(labels, instruction, next, &instruction.second)?;
+    Some(Words {
+        mnemonic: instruction.mnemonic,
+        first,
+        second,
+    })
+}
+
+/// The numbers in an operand fit their types. It does nothing when called.
+fn amount_fits(amount: Amount)
+    ensures { AmountFits amount }
+{
+    match amount {
+        Amount::Plus(_number) => {}
+        Amount::Minus(_number) => {}
+    }
+}
+
+/// The numbers in an operand fit their types. It does nothing when called.
+fn term_fits(term: &Term)
+    ensures { TermFits term.now }
+{
+    match term {
+        Term::Memory(_, _, amount) => amount_fits(*amount),
+        Term::Address(_, value) => amount_fits(value.amount),
+        Term::Number(value) => amount_fits(value.amount),
+        _ => {}
+    }
+}
+
+fn instruction_code(labels: &Labels, at: u16, length: usize, instruction: &Instruction) -> Option<ArrayVec<u8, 16>>
+    requires near { AreNear labels.now }
+    requires shape { HasShape instruction.now length }
+    requires fits { at + length < 2 ^ 16 }
+    ensures found { IfSome result (λ code. (list : List Label) → AreKept labels.now list → IsCoded list at instruction.now code.items) }
+    ensures none { IfNone result ((list : List Label) (code : List ℕ) → AreKept labels.now list → IsCoded list at instruction.now code → ⊥) }
+{
+    words_are_one_instruction();
+    outlines_stand();
+    stand_ins_have_the_length();
+    term_fits(&instruction.first);
+    term_fits(&instruction.second);
+    let next = at + length as u16;
+    let words = placed_words(labels, instruction, next)?;
+    let ins = read_words(instruction.prefixes, &words)?;
+    Some(encode(&ins))
+}
+
+/// The bytes of a DB.
+fn bytes_code(amounts: &[Amount]) -> Option<Code>
+    requires { length amounts.now ≤ 255 }
+    ensures found { IfSome result (λ code. map byte_of amounts.now ≡ map Some code.items) }
+    ensures none { IfNone result ((code : List ℕ) → map byte_of amounts.now ≡ map Some code → ⊥) }
+{
+    let mut code = ArrayVec::new();
+    for amount in amounts {
+        code.push(byte(*amount)?);
+    }
+    Some(code)
+}
+
+/// The word that a value is.
+fn word_of(labels: &Labels, value: &Value) -> Option<u16>
+    requires { AreNear labels.now }
+    ensures { (list : List Label) → AreKept labels.now list → result ≡ value_of list value.now }
+{
+    let place = labels.place_of(value)?;
+    word_at(*value, place as u16)
+}
+
+/// The bytes of a DW.
+fn words_code(labels: &Labels, values: &[Value]) -> Option<Code>
+    requires near { AreNear labels.now }
+    requires few { length values.now ≤ 128 }
+    ensures found { IfSome result (λ code. (list : List Label) → AreKept labels.now list → AreWordsOf list values.now code.items) }
+    ensures none { IfNone result ((list : List Label) (code : List ℕ) → AreKept labels.now list → AreWordsOf list values.now code → ⊥) }
+{
+    let mut code = ArrayVec::new();
+    for value in values {
+        let word = word_of(labels, value)?;
+        code.push((word % 256) as u8);
+        code.push((word / 256) as u8);
+    }
+    Some(code)
+}
+
+/// Whether each label of a DW is there.
+fn knows_all(labels: &Labels, values: &[Value]) -> bool
+    ensures { (list : List Label) → AreKept labels.now list → IsTrue result ↔ AllByRecursion (λ v. IsSome (place_of list v)) values.now }
+{
+    for value in values {
+        match labels.place_of(value) {
+            Some(_) => {}
+            None => return false,
+        }
+    }
+    true
+}
+
+/// Whether each label that a statement names is there.
+fn knows(labels: &Labels, item: Item, items: &Items) -> bool
+    ensures { (list : List Label) → AreKept labels.now list → IsTrue result ↔ Knows list (seen_item items.now item) }
+{
+    match item {
+        Item::Nothing | Item::Bytes => true,
+        Item::Instruction(instruction) => {
+            labels.term_place(&instruction.first).is_some()
+                && labels.term_place(&instruction.second).is_some()
+        }
+        Item::Words => knows_all(labels, items.words.as_slice()),
+    }
+}
+
+/// Bytes in a line's.
+fn widened(bytes: &[u8]) -> Code
+    requires { length bytes.now ≤ 16 }
+    ensures { result.items ≡ bytes.now }
+{
+    let mut code = ArrayVec::new();
+    // There is room for them.
+    let _ = code.try_extend_from_slice(bytes);
+    code
+}
+
+/// The bytes of a statement whose labels are there.
+fn item_code(labels: &Labels, at: u16, length: usize, item: Item, items: &Items) -> Option<Code>
+    requires near { AreNear labels.now }
+    requires long { HasLength (seen_item items.now item) length }
+    requires fits { at + length < 2 ^ 16 }
+    ensures found { IfSome result (λ code. (list : List Label) → AreKept labels.now list → Codes list at (seen_item items.now item) code.items) }
+    ensures none { IfNone result ((list : List Label) (code : List ℕ) → AreKept labels.now list → Codes list at (seen_item items.now item) code → ⊥) }
+{
+    match item {
+        Item::Nothing => Some(ArrayVec::new()),
+        Item::Instruction(instruction) => {
+            let code = instruction_code(labels, at, length, &instruction)?;
+            Some(widened(code.as_slice()))
+        }
+        Item::Bytes => bytes_code(items.bytes.as_slice()),
+        Item::Words => words_code(labels, items.words.as_slice()),
+    }
+}
+
+/// The bytes of a statement of this length, which stands at an offset.
+pub(crate) fn code_of(labels: &Labels, at: u16, length: usize, item: Item, items: &Items) -> Result<Code, Problem>
+    requires near { AreNear labels.now }
+    requires long { HasLength (seen_item items.now item) length }
+    requires fits { at + length < 2 ^ 16 }
+    ensures code { IfOk result (λ code. (list : List Label) → AreKept labels.now list → Codes list at (seen_item items.now item) code.items) }
+    ensures problem { IfErr result (λ problem. (list : List Label) → AreKept labels.now list → IsProblem list at (seen_item items.now item) problem) }
+{
+    if !knows(labels, item, items) {
+        return Err(Problem::Unknown);
+    }
+    match item_code(labels, at, length, item, items) {
+        Some(code) => Ok(code),
+        None => Err(Problem::Range),
+    }
+}

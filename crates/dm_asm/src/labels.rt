@@ -1,0 +1,69 @@
+//! Labels and their places.
+
+ghost use Rattle.std.specs.Prelude.{◌≡◌, ◌++◌, ◌∷◌, [], None, IfSome, OnOk, ◌<◌, ◌^◌};
+ghost use Rattle.dm_asm.specs.Labels.{find as find_of, place_of as place_at, term_place as term_at};
+ghost use Rattle.dm_asm.specs.Kept.{AreKept, AreNear};
+ghost use Rattle.dm_asm.specs.Labels.{Label};
+ghost use Rattle.std.specs.Prelude.{ℕ, List};
+
+use dm_lines::{Name, Term, Value};
+use std::alloc::{AllocError, Global};
+use std::collections::BTreeMap;
+
+/// The labels of a text by their names, and the offsets at which they stand.
+#[derive(Drop)]
+pub(crate) struct Labels {
+    places: BTreeMap<[u8; 31], u128>,
+}
+
+impl Labels {
+    /// No labels.
+    pub(crate) fn new(alloc: Global) -> Labels
+        ensures { AreKept result [] }
+    {
+        Labels {
+            places: BTreeMap::new(alloc),
+        }
+    }
+
+    /// Where a label stands; None where no line has it.
+    pub(crate) fn find(&self, name: &Name) -> Option<u128>
+        ensures place { (labels : List Label) → AreKept self.now labels → result ≡ find_of name.now labels }
+        ensures near { AreNear self.now → IfSome result (λ place. place < 2 ^ 16) }
+    {
+        self.places.get(&name.bytes).copied()
+    }
+
+    /// Adds a label that no line had.
+    pub(crate) fn add(&mut self, name: &Name, place: u128) -> Result<(), AllocError>
+        ensures { OnOk result ((labels : List Label) → AreKept self.old labels → find_of name.now labels ≡ None → AreKept self.new (labels ++ record { name = name.now; place = place } ∷ [])) }
+    {
+        match self.places.insert(name.bytes, place) {
+            Ok(_) => Ok(()),
+            Err(_) => Err(AllocError),
+        }
+    }
+
+    /// Where the label of a value stands; a number alone needs none.
+    pub(crate) fn place_of(&self, value: &Value) -> Option<u128>
+        ensures place { (labels : List Label) → AreKept self.now labels → result ≡ place_at labels value.now }
+        ensures near { AreNear self.now → IfSome result (λ place. place < 2 ^ 16) }
+    {
+        match &value.label {
+            Some(name) => self.find(name),
+            None => Some(0),
+        }
+    }
+
+    /// Where the label of an operand stands.
+    pub(crate) fn term_place(&self, term: &Term) -> Option<u128>
+        ensures place { (labels : List Label) → AreKept self.now labels → result ≡ term_at labels term.now }
+        ensures near { AreNear self.now → IfSome result (λ place. place < 2 ^ 16) }
+    {
+        match term {
+            Term::Address(_, value) => self.place_of(value),
+            Term::Number(value) => self.place_of(value),
+            _ => Some(0),
+        }
+    }
+}

@@ -1,0 +1,15 @@
+//! The assembler and the disassembler: text to bytes and back.
+#![tactic(auto)]
+
+mod assembly;
+mod codes;
+mod labels;
+mod laws;
+mod lines;
+mod refusal;
+mod shapes;
+
+pub use assembly::assemble;
+pub use laws::texts_have_one_answer;
+pub use refusal::Refusal;
+pub use dm_listing::disassemble;

@@ -1,0 +1,47 @@
+//! How many bytes a statement has, before labels have places.
+
+ghost use Rattle.std.specs.Prelude.{◌≡◌, ◌≤◌, ℕ, Some, IfSome, length};
+ghost use Rattle.dm_lines.specs.Statements.{seen_item};
+ghost use Rattle.dm_asm.specs.Codes.{outlined, HasShape, HasLength};
+
+use dm_ins::encode;
+use dm_lines::{Instruction, Item, Items, outline};
+use dm_read::{Words, read_words, words_are_one_instruction};
+
+/// What is written in an instruction, before labels have places.
+fn outlines(instruction: &Instruction) -> Words
+    ensures { result ≡ outlined instruction.now }
+{
+    let mnemonic = instruction.mnemonic;
+    Words {
+        mnemonic,
+        first: outline(mnemonic, &instruction.first),
+        second: outline(mnemonic, &instruction.second),
+    }
+}
+
+/// How many bytes an instruction has; None where the table has none, whatever its labels are.
+pub(crate) fn instruction_length(instruction: &Instruction) -> Option<usize>
+    ensures found { IfSome result (λ n. HasShape instruction.now n) }
+    ensures only { (n : ℕ) → HasShape instruction.now n → result ≡ Some n }
+    ensures short { IfSome result (λ n. n ≤ 16) }
+{
+    words_are_one_instruction();
+    let words = outlines(instruction);
+    let ins = read_words(instruction.prefixes, &words)?;
+    Some(encode(&ins).len())
+}
+
+/// How many bytes an item has, whose data lies in `items`.
+pub(crate) fn length_of(item: Item, items: &Items) -> Option<usize>
+    ensures found { IfSome result (λ n. HasLength (seen_item items.now item) n) }
+    ensures only { (n : ℕ) → HasLength (seen_item items.now item) n → result ≡ Some n }
+    ensures short { IfSome result (λ n. n ≤ 256) }
+{
+    match item {
+        Item::Nothing => Some(0),
+        Item::Instruction(instruction) => instruction_length(&instruction),
+        Item::Bytes => Some(items.bytes.len()),
+        Item::Words => Some(2 * items.words.len()),
+    }
+}
