@@ -62,6 +62,13 @@ fn amount_fits(amount: Amount)
     }
 }
 
+/// Both numbers of a far address fit their type. It does nothing when called.
+fn address_fits(segment: u16, offset: u16)
+    ensures { (segment < 2 ^ 16) × (offset < 2 ^ 16) }
+{
+    let _ = (segment, offset);
+}
+
 /// The numbers in an operand fit their types. It does nothing when called.
 fn term_fits(term: &Term)
     ensures { TermFits term.now }
@@ -70,6 +77,7 @@ fn term_fits(term: &Term)
         Term::Memory(_, _, amount) => amount_fits(*amount),
         Term::Address(_, value) => amount_fits(value.amount),
         Term::Number(value) => amount_fits(value.amount),
+        Term::Far(segment, offset) => address_fits(*segment, *offset),
         _ => {}
     }
 }

@@ -1,10 +1,12 @@
--- The fault that tells a refusal of the machine.
+-- The fault that tells a refusal of the machine or of the assembler.
 use Rattle.dm_proc.specs.declared.programs.AddError.{AddError}
 use Rattle.dm_proc.specs.declared.programs.AddError.TheVariants as add
 use Rattle.dm_machine.specs.declared.machine.NewError.{NewError}
 use Rattle.dm_machine.specs.declared.machine.NewError.TheVariants as new
 use Rattle.dm_machine.specs.declared.loading.LoadError.{LoadError}
 use Rattle.dm_machine.specs.declared.loading.LoadError.TheVariants as load
+use Rattle.dm_asm.specs.declared.refusal.Refusal.{Refusal}
+use Rattle.dm_asm.specs.declared.refusal.Refusal.TheVariants as refusal
 use Rattle.dm_cli.specs.declared.fault.Fault.{Fault}
 use Rattle.dm_cli.specs.declared.fault.Fault.TheVariants as fault
 
@@ -20,3 +22,11 @@ abbrev pub load_fault : LoadError → Fault
 load_fault load.NotFound = fault.NotFound
 load_fault load.BadFormat = fault.BadFormat
 load_fault load.Short = fault.Short
+
+abbrev pub refusal_fault : Refusal → Fault
+refusal_fault (refusal.Syntax line) = fault.Syntax line
+refusal_fault (refusal.Unknown line) = fault.Unknown line
+refusal_fault (refusal.Range line) = fault.Range line
+refusal_fault (refusal.Twice line) = fault.Twice line
+refusal_fault refusal.TooLong = fault.TooLong
+refusal_fault refusal.Memory = fault.OutOfMemory

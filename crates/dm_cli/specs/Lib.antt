@@ -2,4 +2,4 @@ pub mod Faults
 pub mod Names
 pub mod Statuses
 pub mod Stores
-pub mod Disassembling
+pub mod Assembling

@@ -4,7 +4,7 @@ ghost use Rattle.dm_cli.specs.Stores.{AddsFile, IsFaultOf, IsStarted, Stores};
 ghost use Rattle.dm_cli.specs.Statuses.{status_of, told_status, TellsWrongLine};
 ghost use Rattle.dm_services.specs.State.{HasProgram};
 
-use crate::disassembling::disasm;
+use crate::assembling::{asm, disasm};
 use crate::fault::Fault;
 use crate::files::{Storage, read_file, read_whole};
 use crate::names::{names_file, program_name};
@@ -164,8 +164,9 @@ fn told<E: Write>(outcome: Result<(), Fault<'_>>, error: &mut E) -> u8
 /// `too large` (over 512 pages or 15360 KiB), `tail too long` (over 126 bytes), `not found`, `bad format`, `short`;
 /// `cannot write standard output`.
 ///
-/// `dm disasm` exits with status 0, or tells a fault with status 126: `cannot read NAME` or `input too long` of the file that it reads,
-/// then `too long` (over 65,278 bytes), then `cannot write standard output`.
+/// `dm asm` and `dm disasm` exit with status 0, or tell a fault with status 126: `cannot read NAME` or `input too long` of the file that
+/// they read, then `too long` (over 65,278 bytes of program) or `line N: ` and `syntax`, `unknown`, `range` or `twice`, then `cannot write
+/// NAME`. A text that is refused leaves the file of its bytes as it was.
 ///
 /// `out of memory` stands where memory was refused. A wrong command line or a call for help is told by `clap`'s text, with status 2.
 pub fn dm_main<S: AsStr, F: Storage, I: Read + Drop, O: Write, E: Write>(
@@ -180,6 +181,7 @@ pub fn dm_main<S: AsStr, F: Storage, I: Read + Drop, O: Write, E: Write>(
 {
     match options(alloc, words) {
         Ok(Options::Run(options)) => report(run(alloc, storage, &options, input, output), error),
+        Ok(Options::Asm(options)) => told(asm(alloc, storage, &options), error),
         Ok(Options::Disasm(path)) => told(disasm(alloc, storage, path, output), error),
         Err(OptionsError::Usage(text)) => {
             let _ = write!(error, "{text}");

@@ -1,6 +1,7 @@
 //! What can go wrong, as it is told on standard error.
 ghost use Rattle.std.specs.Prelude.{◌≡◌};
 
+use dm_asm::Refusal;
 use dm_machine::{AddError, LoadError, NewError};
 use thiserror::Error;
 
@@ -29,8 +30,33 @@ pub(crate) enum Fault<'a> {
     InputTooLong,
     #[error("too long")]
     TooLong,
+    #[error("line {0}: syntax")]
+    Syntax(usize),
+    #[error("line {0}: unknown")]
+    Unknown(usize),
+    #[error("line {0}: range")]
+    Range(usize),
+    #[error("line {0}: twice")]
+    Twice(usize),
     #[error("out of memory")]
     OutOfMemory,
+}
+
+impl From<Refusal> for Fault<'_> {
+    ghost use Rattle.dm_cli.specs.Faults.{refusal_fault};
+
+    ghost from_gives = { λ error fault. fault ≡ refusal_fault error };
+
+    fn from(error: Refusal) -> Self {
+        match error {
+            Refusal::Syntax(line) => Fault::Syntax(line),
+            Refusal::Unknown(line) => Fault::Unknown(line),
+            Refusal::Range(line) => Fault::Range(line),
+            Refusal::Twice(line) => Fault::Twice(line),
+            Refusal::TooLong => Fault::TooLong,
+            Refusal::Memory => Fault::OutOfMemory,
+        }
+    }
 }
 
 impl From<AddError> for Fault<'_> {

@@ -11,13 +11,16 @@ use std::{fs, io};
 /// The most bytes that a file or standard input may have: 16 MiB.
 pub(crate) const MOST_BYTES: usize = 16 * 1024 * 1024;
 
-/// Where files are opened by their paths.
+/// Where files are opened and written by their paths.
 pub trait Storage {
     /// An open file.
     type File: Read + Drop;
 
     // The bytes of the file at a path, where the storage can tell them.
     ghost contents: { Self → List ℕ → Option (List ℕ) } = { λ _ _. None };
+
+    /// Writes a file whole, in the place of what it held.
+    fn save(&self, path: &str, bytes: &[u8]) -> io::Result<()>;
 
     /// Opens a file for reading.
     fn open(&self, path: &str) -> io::Result<Self::File>
@@ -30,6 +33,10 @@ pub struct System<'a, R>(pub &'a R);
 
 impl<R: Files> Storage for System<'_, R> {
     type File = R::File;
+
+    fn save(&self, path: &str, bytes: &[u8]) -> io::Result<()> {
+        fs::write(self.0, path, bytes)
+    }
 
     fn open(&self, path: &str) -> io::Result<R::File> {
         fs::open(self.0, path)

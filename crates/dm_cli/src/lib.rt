@@ -1,8 +1,8 @@
 //! The program `dm`, over the files, readers and writers that it is given.
 #![tactic(auto)]
 
+mod assembling;
 mod commands;
-mod disassembling;
 mod fault;
 mod files;
 mod names;

@@ -47,6 +47,9 @@ run_app = with_machine_rules (new_app (codes "run"))
 abbrev pub path_rule : Text → Rule
 path_rule name = record (new_rule name) { value_names = 1; required = true }
 
+abbrev pub asm_app : App
+asm_app = with_rule (with_rule (new_app (codes "asm")) (path_rule (codes "in"))) (path_rule (codes "out"))
+
 abbrev pub disasm_app : App
 disasm_app = with_rule (new_app (codes "disasm")) (path_rule (codes "in"))
 
@@ -55,4 +58,4 @@ named_app = let empty = new_app (codes "dm") in record empty { top = record empt
 
 -- `dm` with its subcommands
 abbrev pub dm_app : App
-dm_app = with_subcommand (with_subcommand named_app run_app.top) disasm_app.top
+dm_app = with_subcommand (with_subcommand (with_subcommand named_app run_app.top) asm_app.top) disasm_app.top

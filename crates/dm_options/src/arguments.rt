@@ -1,7 +1,7 @@
 //! The commands and arguments of `dm`, as `clap` is given them.
 ghost use Rattle.std.specs.Prelude.{◌≡◌, IfOk, false};
 ghost use Rattle.clap.specs.Words.{app_of, rule_of};
-ghost use Rattle.dm_options.specs.Arguments.{disasm_app, dm_app, ems_rule, files_rule, path_rule, run_app, steps_rule, tail_rule, with_machine_rules, xms_rule};
+ghost use Rattle.dm_options.specs.Arguments.{asm_app, disasm_app, dm_app, ems_rule, files_rule, path_rule, run_app, steps_rule, tail_rule, with_machine_rules, xms_rule};
 ghost use Rattle.clap.specs.declared.Command.TheViews.{out-Command as fields_of};
 
 use clap::builder::ValueParser;
@@ -103,6 +103,16 @@ fn path_arg<'a>(
         .help(help)
 }
 
+fn asm_command<'a>(alloc: Global) -> Result<Command<'a>, AllocError>
+    ensures app { IfOk result (λ c. app_of c ≡ asm_app) }
+    ensures local { IfOk result (λ c. (fields_of c).has_globals ≡ false) }
+{
+    Command::new(alloc, "asm")
+        .about("assemble a program")
+        .arg(path_arg(alloc, "in", "IN", "the text of the program"))?
+        .arg(path_arg(alloc, "out", "OUT", "the file of its bytes"))
+}
+
 fn disasm_command<'a>(alloc: Global) -> Result<Command<'a>, AllocError>
     ensures app { IfOk result (λ c. app_of c ≡ disasm_app) }
     ensures local { IfOk result (λ c. (fields_of c).has_globals ≡ false) }
@@ -120,5 +130,6 @@ pub(crate) fn dm_command<'a>(alloc: Global) -> Result<Command<'a>, AllocError>
         .about("a DOS real-mode machine")
         .subcommand_required(true)
         .subcommand(run_command(alloc)?)?
+        .subcommand(asm_command(alloc)?)?
         .subcommand(disasm_command(alloc)?)
 }

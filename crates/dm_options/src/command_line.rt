@@ -17,11 +17,22 @@ pub struct MachineOptions<'a> {
     pub files: Vec<&'a str>,
 }
 
+/// What is assembled, and where its bytes go.
+#[derive(Clone, Copy, Debug)]
+pub struct AsmOptions<'a> {
+    /// The path of the text.
+    pub input: &'a str,
+    /// The path of the file of its bytes.
+    pub output: &'a str,
+}
+
 /// The command of a command line, with its options and files.
 #[derive(Debug, Drop)]
 pub enum Options<'a> {
     /// `dm run`: runs the first file.
     Run(MachineOptions<'a>),
+    /// `dm asm`: assembles a text to a file.
+    Asm(AsmOptions<'a>),
     /// `dm disasm`: tells the lines of the file at this path.
     Disasm(&'a str),
 }

@@ -2,10 +2,10 @@
 ghost use Rattle.std.specs.Prelude.{◌≡◌, [], Some, IfOk, IfErr, IsSomeAnd, OnOk, codes, map};
 ghost use Rattle.clap.specs.Words.{all_of, fault_of, first_of, found_of, one_of, rows_of, subcommand_of};
 ghost use Rattle.dm_options.specs.Arguments.{dm_app};
-ghost use Rattle.dm_options.specs.Options.{Explains, HasMachineOptions, HasNumber, HasOptions};
+ghost use Rattle.dm_options.specs.Options.{Explains, HasAsmOptions, HasMachineOptions, HasNumber, HasOptions};
 
 use crate::arguments::dm_command;
-use crate::command_line::{MachineOptions, Options, OptionsError};
+use crate::command_line::{AsmOptions, MachineOptions, Options, OptionsError};
 use clap::ArgMatches;
 use clap::error::ErrorKind;
 use std::alloc::{AllocError, Global};
@@ -60,6 +60,14 @@ fn machine_options<'a>(
     })
 }
 
+fn asm_options<'a>(matches: &ArgMatches<'a>) -> Result<AsmOptions<'a>, AllocError>
+    ensures { IfOk result (HasAsmOptions (rows_of (found_of matches.now))) }
+{
+    let input = text_of(matches, "in")?;
+    let output = text_of(matches, "out")?;
+    Ok(AsmOptions { input, output })
+}
+
 fn read_subcommand<'a>(
     alloc: Global,
     name: &str,
@@ -69,6 +77,7 @@ fn read_subcommand<'a>(
 {
     match name {
         "run" => Ok(Options::Run(machine_options(alloc, matches)?)),
+        "asm" => Ok(Options::Asm(asm_options(matches)?)),
         "disasm" => Ok(Options::Disasm(text_of(matches, "in")?)),
         _ => Err(AllocError),
     }
@@ -80,7 +89,7 @@ fn read_subcommand<'a>(
 /// KIB are decimal numbers below 2^32, and there is at least one file. A number may begin with `+`. The defaults are
 /// 100000000, 64, 1024 and the empty text. An option that comes twice, or one that is unknown, is wrong.
 ///
-/// `dm disasm IN` takes a path alone.
+/// `dm asm IN OUT` and `dm disasm IN` take paths alone.
 ///
 /// # Errors
 ///

@@ -1,6 +1,6 @@
 //! The program `dm` over files, readers and writers in memory: what each line tells, and its status.
 use crate::checks::same;
-use crate::files::{Files, Slow, Source, failing, filled, just};
+use crate::files::{Slow, Source, failing, filled, just, new_files};
 use dm_cli::dm_main;
 use std::alloc::Global;
 use std::io::ErrorKind;
@@ -267,10 +267,7 @@ fn tells(
     let mut output = Vec::new(alloc);
     let mut error = Vec::new(alloc);
     let known = known_files();
-    let files = Files {
-        known: &known,
-        refused: &REFUSED,
-    };
+    let files = new_files(alloc, &known, &REFUSED);
     let words = words.as_slice();
     let got = dm_main(alloc, &files, words, input, &mut output, &mut error);
     same(rt, line, "told", error.as_slice(), told.as_bytes());
@@ -342,10 +339,7 @@ fn tells_by_clap(rt: &impl Abort, alloc: Global, line: &str, told: &str) -> Resu
     let words: Vec<&str> = line.split(' ').collect(alloc)?;
     let mut output = Vec::new(alloc);
     let mut error = Vec::new(alloc);
-    let files = Files {
-        known: &[],
-        refused: &[],
-    };
+    let files = new_files(alloc, &[], &[]);
     let words = words.as_slice();
     let got = dm_main(alloc, &files, words, just(b""), &mut output, &mut error);
     same(rt, line, "status", got, 2);
@@ -368,6 +362,10 @@ fn tells_usage_and_help(rt: HostRuntime) -> Result<(), Fail> {
             "dm run --ems=-1 hi.com",
             "error: invalid value '-1' for '--ems <PAGES>'",
         ),
+        (
+            "dm asm hi.asm",
+            "error: the following required arguments were not provided",
+        ),
         ("dm disasm hi.com x", "error: unexpected argument 'x' found"),
         ("dm disasm --help", "disassemble a program"),
         ("dm help", "a DOS real-mode machine"),
@@ -387,10 +385,8 @@ fn tells_writes(rt: &impl Abort, alloc: Global, left: usize, refuses: bool) -> R
         refuses,
     };
     let mut error = Vec::new(alloc);
-    let files = Files {
-        known: &[("hi.com", just(&HELLO))],
-        refused: &[],
-    };
+    let known = [("hi.com", just(&HELLO))];
+    let files = new_files(alloc, &known, &[]);
     let words = ["dm", "run", "hi.com"];
     let got = dm_main(alloc, &files, &words, just(b""), &mut output, &mut error);
     let (status, told, wanted) = match left {

@@ -1,5 +1,7 @@
 //! Files, readers and writers in memory.
 use dm_cli::Storage;
+use std::alloc::Global;
+use std::cell::RefCell;
 use std::io;
 use std::io::{ErrorKind, Read, Write};
 
@@ -61,15 +63,54 @@ impl Read for Source<'_> {
     }
 }
 
-/// Files by their paths, and paths that are not opened, each for its reason.
+/// Files by their paths, and paths that are neither opened nor written, each for its reason.
 #[derive(Drop)]
 pub(crate) struct Files<'a> {
     pub(crate) known: &'a [(&'a str, Source<'a>)],
     pub(crate) refused: &'a [(&'a str, ErrorKind)],
+    /// The path of the file that was written, a space, and its bytes.
+    pub(crate) saved: RefCell<Vec<u8>>,
+}
+
+/// Files of which none was written yet.
+pub(crate) fn new_files<'a>(
+    alloc: Global,
+    known: &'a [(&'a str, Source<'a>)],
+    refused: &'a [(&'a str, ErrorKind)],
+) -> Files<'a> {
+    let saved = RefCell::new(Vec::new(alloc));
+    Files {
+        known,
+        refused,
+        saved,
+    }
+}
+
+/// Why a path is neither opened nor written.
+fn refusal(refused: &[(&str, ErrorKind)], path: &str) -> Option<ErrorKind> {
+    for (known, kind) in refused {
+        if *known == path {
+            return Some(*kind);
+        }
+    }
+    None
 }
 
 impl<'a> Storage for Files<'a> {
     type File = Source<'a>;
+
+    fn save(&self, path: &str, bytes: &[u8]) -> io::Result<()> {
+        if let Some(kind) = refusal(self.refused, path) {
+            return Err(io::Error::from(kind));
+        }
+        let Ok(mut saved) = self.saved.try_borrow_mut() else {
+            return Err(io::Error::from(ErrorKind::Other));
+        };
+        saved.extend_from_slice(path.as_bytes())?;
+        saved.push(b' ')?;
+        saved.extend_from_slice(bytes)?;
+        Ok(())
+    }
 
     fn open(&self, path: &str) -> io::Result<Source<'a>> {
         for (known, source) in self.known {
@@ -77,12 +118,8 @@ impl<'a> Storage for Files<'a> {
                 return Ok(*source);
             }
         }
-        for (known, kind) in self.refused {
-            if *known == path {
-                return Err(io::Error::from(*kind));
-            }
-        }
-        Err(io::Error::from(ErrorKind::NotFound))
+        let kind = refusal(self.refused, path).unwrap_or(ErrorKind::NotFound);
+        Err(io::Error::from(kind))
     }
 }
 

@@ -4,11 +4,11 @@
 #![tactic(auto)]
 
 #[cfg(test)]
+mod assembling;
+#[cfg(test)]
 mod checks;
 #[cfg(test)]
 mod commands;
-#[cfg(test)]
-mod disassembling;
 #[cfg(test)]
 mod files;
 #[cfg(test)]

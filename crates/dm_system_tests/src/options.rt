@@ -53,6 +53,17 @@ fn reads_paths(rt: HostRuntime) -> Result<(), Fail> {
             other => assert!(rt; false, "{line}: {other:?}"),
         }
     }
+    let both = [
+        ("dm asm a/b.asm b.com", "a/b.asm", "b.com"),
+        ("dm asm -- -x -y", "-x", "-y"),
+    ];
+    for (line, input, output) in both {
+        let words: Vec<&str> = line.split(' ').collect(rt.alloc())?;
+        match options(rt.alloc(), words.as_slice()) {
+            Ok(Options::Asm(got)) => same(&rt, line, (got.input, got.output), (input, output)),
+            other => assert!(rt; false, "{line}: {other:?}"),
+        }
+    }
     Ok(())
 }
 
@@ -74,6 +85,9 @@ fn refuses_wrong_lines_and_calls_for_help(rt: HostRuntime) -> Result<(), Fail> {
         ("dm run --ems=1 --ems=2 hi.com", ErrorKind::ArgumentConflict),
         ("dm run --speed=1 hi.com", ErrorKind::UnknownArgument),
         ("dm run hi.com --ems", ErrorKind::InvalidValue),
+        ("dm asm", ErrorKind::MissingRequiredArgument),
+        ("dm asm a.asm", ErrorKind::MissingRequiredArgument),
+        ("dm asm a.asm b.com c", ErrorKind::UnknownArgument),
         ("dm disasm", ErrorKind::MissingRequiredArgument),
         ("dm disasm a.com b.com", ErrorKind::UnknownArgument),
         ("dm disasm --ems=1 a.com", ErrorKind::UnknownArgument),

@@ -1,15 +1,29 @@
-//! `dm disasm`: a file's bytes to text.
+//! `dm asm` and `dm disasm`: a file's text to bytes, and a file's bytes to text.
 ghost use Rattle.std.specs.Prelude.{IfOk};
-ghost use Rattle.dm_cli.specs.Disassembling.{IsDisassembled};
+ghost use Rattle.dm_cli.specs.Assembling.{IsAssembled, IsDisassembled};
 
 use crate::fault::Fault;
 use crate::files::{Storage, read_file, write_fault};
-use dm_listing::disassemble;
+use dm_asm::{assemble, disassemble};
+use dm_options::command_line::AsmOptions;
 use std::alloc::Global;
 use std::io::Write;
 
 /// The most bytes of a program that is disassembled.
 const MOST_PROGRAM_BYTES: usize = 65_278;
+
+/// The bytes of the program whose text the file at `path` is.
+fn assembled<'a, F: Storage>(
+    alloc: Global,
+    storage: &F,
+    path: &'a str,
+) -> Result<Vec<u8>, Fault<'a>>
+    ensures { IfOk result (λ bytes. IsAssembled (F.contents storage.now path.now) bytes.items) }
+{
+    let text = read_file(alloc, storage, path)?;
+    let bytes = assemble(alloc, text.as_slice())?;
+    Ok(bytes)
+}
 
 /// The lines of the program that the file at `path` is.
 fn disassembled<'a, F: Storage>(
@@ -26,6 +40,19 @@ fn disassembled<'a, F: Storage>(
     match disassemble(alloc, bytes.as_slice()) {
         Ok(text) => Ok(text),
         Err(_) => Err(Fault::OutOfMemory),
+    }
+}
+
+/// `dm asm`: assembles one file to another, which is written only where the whole text was assembled.
+pub(crate) fn asm<'a, F: Storage>(
+    alloc: Global,
+    storage: &F,
+    options: &AsmOptions<'a>,
+) -> Result<(), Fault<'a>> {
+    let bytes = assembled(alloc, storage, options.input)?;
+    match storage.save(options.output, bytes.as_slice()) {
+        Ok(()) => Ok(()),
+        Err(error) => Err(write_fault(&error, options.output)),
     }
 }
 
