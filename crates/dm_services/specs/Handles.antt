@@ -4,7 +4,7 @@ use Rattle.std.specs.Prelude.{ℕ, nat_lt, true, false, if◌then◌else◌, Lis
 use Rattle.dm_proc.specs.Writes.{bytes_from}
 use Rattle.dm_services.specs.State.{State, Answer, go, returned, with_carry}
 use Rattle.dm_services.specs.Characters.{with_input, with_written}
-use Rattle.dm_services.specs.Buffers.{with_bytes}
+use Rattle.dm_space.specs.Buffers.{with_bytes}
 
 abbrev pub with_ax : State → ℕ → State
 with_ax s ax = record s { cpu = record s.cpu { ax = ax } }

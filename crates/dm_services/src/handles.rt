@@ -4,7 +4,7 @@ ghost use Rattle.std.specs.Prelude.{◌≡◌, None};
 ghost use Rattle.dm_services.specs.Wanting.{OrMemory};
 ghost use Rattle.dm_services.specs.Handles.{bad_handle, read_handle, write_handle};
 
-use crate::buffers::{send, store};
+use crate::buffers::send;
 use crate::parts::Parts;
 use crate::stop::Stop;
 
@@ -32,8 +32,7 @@ impl Parts {
             return None;
         }
         let count = self.console.left().min(self.cpu.cx as usize);
-        store(
-            &mut self.space,
+        self.space.write_bytes(
             self.cpu.ds,
             self.cpu.dx,
             &self.console.input()[..count],

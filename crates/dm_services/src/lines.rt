@@ -4,7 +4,6 @@ ghost use Rattle.std.specs.Prelude.{◌≡◌, ◌<◌, ◌≤◌, IfSome, lengt
 ghost use Rattle.dm_services.specs.Wanting.{OrMemory};
 ghost use Rattle.dm_services.specs.Lines.{line_length, kept, read_line};
 
-use crate::buffers::store;
 use crate::parts::Parts;
 use crate::stop::Stop;
 use arrayvec::ArrayVec;
@@ -52,13 +51,10 @@ impl Parts {
             let mut bytes = kept(size, &self.console.input()[..length]);
             let count = bytes.len() as u8;
             bytes.push(b'\r');
-            store(
-                &mut self.space,
-                segment,
-                offset.wrapping_add(2),
-                bytes.as_slice(),
-            );
-            store(&mut self.space, segment, offset.wrapping_add(1), &[count]);
+            self.space
+                .write_bytes(segment, offset.wrapping_add(2), bytes.as_slice());
+            self.space
+                .write_bytes(segment, offset.wrapping_add(1), &[count]);
             self.console.consume(length + 1);
         }
         self.give_back();

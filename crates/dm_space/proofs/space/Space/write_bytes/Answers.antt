@@ -1,6 +1,6 @@
 use Rattle.std.proofs.Common.{refl, arith}
-use Rattle.dm_services.proofs.Stores.{stored-none, stored-more, stored-all}
-use Rattle.dm_services.proofs.buffers.store.Goals as goal
+use Rattle.dm_space.proofs.Written.{stored-none, stored-more, stored-all}
+use Rattle.dm_space.proofs.space.Space.write_bytes.Goals as goal
 
 pub loop-index-init : goal.loop-index-init
 loop-index-init c = stored-none _ _ _ _
