@@ -1,6 +1,7 @@
 //! Arena calls of a program with its prefix at 0103h, whose environment stands at 0101h.
 
 use crate::checks::same;
+use crate::memory::new_space;
 use dm_arena::{
     Entry, Header, Refusal, Step, Strategy, allocate, free, free_all, plan_pair, resize, walk,
     write_pair,
@@ -54,14 +55,14 @@ fn shrunk(space: &mut Space) -> Result<(), Refusal> {
 
 #[test]
 fn first_header_holds_all_of_memory(rt: HostRuntime) -> Result<(), Fail> {
-    let space = Space::new(rt.alloc())?;
+    let space = new_space(rt.alloc())?;
     stands(&rt, &space, entry(true, 0x100, 0, 0x9EFF));
     Ok(())
 }
 
 #[test]
 fn resized_block_leaves_the_rest_free(rt: HostRuntime) -> Result<(), Fail> {
-    let mut space = Space::new(rt.alloc())?;
+    let mut space = new_space(rt.alloc())?;
     loaded(&mut space);
     same(
         &rt,
@@ -82,7 +83,7 @@ fn resized_block_leaves_the_rest_free(rt: HostRuntime) -> Result<(), Fail> {
 
 #[test]
 fn block_grows_back_over_the_rest(rt: HostRuntime) -> Result<(), Fail> {
-    let mut space = Space::new(rt.alloc())?;
+    let mut space = new_space(rt.alloc())?;
     same(&rt, "shrunk", shrunk(&mut space), Ok(()));
     same(
         &rt,
@@ -105,7 +106,7 @@ fn rest_of_a_block_may_be_empty(rt: HostRuntime) -> Result<(), Fail> {
         (0, entry(true, 0x1104, 0, 0x8EFB)),
     ];
     for (n, last) in rows {
-        let mut space = Space::new(rt.alloc())?;
+        let mut space = new_space(rt.alloc())?;
         same(&rt, "shrunk", shrunk(&mut space), Ok(()));
         same(
             &rt,
@@ -126,7 +127,7 @@ fn strategies_take_other_blocks(rt: HostRuntime) -> Result<(), Fail> {
         (Strategy::Last, 0x111A),
     ];
     for (strategy, segment) in rows {
-        let mut space = Space::new(rt.alloc())?;
+        let mut space = new_space(rt.alloc())?;
         same(&rt, "shrunk", shrunk(&mut space), Ok(()));
         for (n, block) in [
             (0x10, 0x1104),
@@ -156,7 +157,7 @@ fn strategies_take_other_blocks(rt: HostRuntime) -> Result<(), Fail> {
 
 #[test]
 fn nothing_is_freed_inside_a_block(rt: HostRuntime) -> Result<(), Fail> {
-    let mut space = Space::new(rt.alloc())?;
+    let mut space = new_space(rt.alloc())?;
     same(&rt, "shrunk", shrunk(&mut space), Ok(()));
     same(
         &rt,
@@ -172,7 +173,7 @@ fn nothing_is_freed_inside_a_block(rt: HostRuntime) -> Result<(), Fail> {
 
 #[test]
 fn broken_signature_destroys_the_arena(rt: HostRuntime) -> Result<(), Fail> {
-    let mut space = Space::new(rt.alloc())?;
+    let mut space = new_space(rt.alloc())?;
     loaded(&mut space);
     space.poke(0x102, 0, 0);
     same(
@@ -214,7 +215,7 @@ fn broken_signature_destroys_the_arena(rt: HostRuntime) -> Result<(), Fail> {
 
 #[test]
 fn ended_program_leaves_free_blocks(rt: HostRuntime) -> Result<(), Fail> {
-    let mut space = Space::new(rt.alloc())?;
+    let mut space = new_space(rt.alloc())?;
     loaded(&mut space);
     same(&rt, "free_all", free_all(&mut space, OWNER), Ok(()));
     let mut headers = walk(&space);
@@ -241,9 +242,18 @@ fn ended_program_leaves_free_blocks(rt: HostRuntime) -> Result<(), Fail> {
     Ok(())
 }
 
+/// Plans two blocks that take all that is left, and writes them.
+fn write_two(rt: &impl Abort, space: &mut Space) {
+    let pair = plan_pair(space, Strategy::First, 1, 0x20, 0xFFFF).expect(rt, "there is room");
+    same(rt, "environment", pair.environment(), 0x1104);
+    same(rt, "program", pair.program(), 0x1106);
+    same(rt, "size", pair.size(), 0x8EFA);
+    write_pair(space, pair);
+}
+
 #[test]
 fn two_blocks_share_what_is_left(rt: HostRuntime) -> Result<(), Fail> {
-    let mut space = Space::new(rt.alloc())?;
+    let mut space = new_space(rt.alloc())?;
     same(&rt, "shrunk", shrunk(&mut space), Ok(()));
     // environment, least, most
     for (environment, least, most) in [
@@ -259,11 +269,7 @@ fn two_blocks_share_what_is_left(rt: HostRuntime) -> Result<(), Fail> {
             Some(Refusal::Short { largest: 0x8EFC }),
         );
     }
-    let pair = plan_pair(&space, Strategy::First, 1, 0x20, 0xFFFF).expect(&rt, "there is room");
-    same(&rt, "environment", pair.environment(), 0x1104);
-    same(&rt, "program", pair.program(), 0x1106);
-    same(&rt, "size", pair.size(), 0x8EFA);
-    write_pair(&mut space, pair);
+    write_two(&rt, &mut space);
     stands(&rt, &space, entry(false, 0x1103, 0x1106, 1));
     stands(&rt, &space, entry(true, 0x1105, 0x1106, 0x8EFA));
     Ok(())

@@ -5,9 +5,11 @@
 
 use self::Call::{Allocate, Free, FreeAll, Pair, Resize};
 use crate::checks::same;
+use crate::memory::new_space;
 use dm_arena::{Refusal, Strategy, allocate, free, free_all, plan_pair, resize, write_pair};
+use dm_pool::NewError;
 use dm_space::Space;
-use std::alloc::{AllocError, Global};
+use std::alloc::Global;
 use std::process::Abort;
 use std::test::Fail;
 
@@ -24,8 +26,8 @@ fn spell(space: &mut Space, blocks: &[(u16, u16)]) {
 }
 
 /// A memory that spells a list, with EEh around its headers.
-fn spelled(alloc: Global, blocks: &[(u16, u16)]) -> Result<Space, AllocError> {
-    let mut space = Space::new(alloc)?;
+fn spelled(alloc: Global, blocks: &[(u16, u16)]) -> Result<Space, NewError> {
+    let mut space = new_space(alloc)?;
     for offset in 0..0x800 {
         space.poke(0x100, offset, 0xEE);
     }
@@ -111,7 +113,7 @@ fn leaves(
     call: Call,
     wanted: Result<(u16, u16, u16), Refusal>,
     after: &[(u16, u16)],
-) -> Result<(), AllocError> {
+) -> Result<(), NewError> {
     let mut space = spelled(alloc, before)?;
     let found = answer(&mut space, call);
     same(rt, "answer", (call, found), (call, wanted));

@@ -9,3 +9,5 @@ mod arena;
 mod blocks;
 #[cfg(test)]
 mod checks;
+#[cfg(test)]
+mod memory;

@@ -5,12 +5,12 @@
 //! 0100h, interrupt 0200h, direction 0400h and overflow 0800h; F002h is none and FFD7h all of them.
 
 use crate::checks::same;
+use crate::memory::new_space;
 use crate::rows::{START, check, note};
 use dm_exec::{Cpu, exec, interrupt_return};
 use dm_ins::{
     Action, ByteRegister, Ins, Mnemonic, Operand, Prefixes, SegmentRegister, WordRegister,
 };
-use dm_space::Space;
 use std::test::Fail;
 
 /// MOV, with each register and each kind of operand.
@@ -756,7 +756,7 @@ fn each_mnemonic_has_a_row(rt: HostRuntime) -> Result<(), Fail> {
 
 #[test]
 fn interrupt_0_returns_behind_the_division(rt: HostRuntime) -> Result<(), Fail> {
-    let mut space = Space::new(rt.alloc())?;
+    let mut space = new_space(rt.alloc())?;
     let action = Action {
         mnemonic: Mnemonic::Idiv,
         first: Operand::ByteRegister(ByteRegister::Bl),

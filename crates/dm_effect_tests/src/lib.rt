@@ -10,4 +10,8 @@ mod edges;
 #[cfg(test)]
 mod effects;
 #[cfg(test)]
+mod memory;
+#[cfg(test)]
 mod rows;
+#[cfg(test)]
+mod windows;

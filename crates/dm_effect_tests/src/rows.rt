@@ -10,6 +10,7 @@
 //! name are 0 before. A line with `#` is a comment.
 
 use crate::checks::same;
+use crate::memory::new_space;
 use dm_decode::decode;
 use dm_exec::{Cpu, Flags, Next, exec};
 use dm_ins::{Ins, Mnemonic};
@@ -237,8 +238,8 @@ fn check_row(
 /// Tries each row of a text. Bytes that a row names are compared behind each row, all others at the
 /// end.
 pub(crate) fn check(rt: &impl Abort, alloc: Global, rows: &str) -> Result<(), Fail> {
-    let mut space = Space::new(alloc)?;
-    let mut wanted = Space::new(alloc)?;
+    let mut space = new_space(alloc)?;
+    let mut wanted = new_space(alloc)?;
     for row in rows.lines() {
         if is_row(row) {
             check_row(rt, row, rows, &mut space, &mut wanted)?;

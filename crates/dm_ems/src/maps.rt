@@ -7,7 +7,7 @@ ghost use Rattle.dm_ems.specs.Linked.{IsLinked};
 ghost use Rattle.dm_ems.specs.Calls.{answer, left};
 ghost use Rattle.dm_ems.specs.Maps.{map_page, save_map, restore_map};
 
-use crate::pages::{set_windows, shown_by};
+use crate::pages::set_windows;
 use crate::status::Status;
 use crate::tables::{Ems, Handle};
 use dm_space::Space;
@@ -73,7 +73,7 @@ impl Ems {
             return Err(Status::SavedAlready);
         }
         let name = slot.name;
-        let windows = shown_by(space);
+        let windows = space.windows();
         self.set_slot(
             handle,
             Some(Handle {

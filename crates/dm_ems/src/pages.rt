@@ -12,21 +12,12 @@ use dm_space::Space;
 /// How many units of 1 KiB a page has.
 const PAGE_UNITS: usize = 16;
 
-/// What the four windows show.
-pub(crate) fn shown_by(space: &Space) -> [Option<Block>; 4]
-    ensures value { result ≡ space.now.memory.windows }
-    ensures pages { (k : ℕ) → IfSome (slice_index_or result k None) (IsPage space.now.memory) }
-{
-    let windows = space.windows();
-    [windows[0], windows[1], windows[2], windows[3]]
-}
-
 /// Makes the four windows show these blocks.
 pub(crate) fn set_windows(space: &mut Space, windows: [Option<Block>; 4])
     requires { (k : ℕ) → IfSome (slice_index_or windows k None) (IsPage space.old.memory) }
     ensures { space.new ≡ record space.old { memory = with_windows space.old.memory windows } }
 {
-    let before = shown_by(space);
+    let before = space.windows();
     for window in 0..before.len() {
         space.set_window(window, windows[window]);
     }
@@ -36,7 +27,7 @@ pub(crate) fn set_windows(space: &mut Space, windows: [Option<Block>; 4])
 fn hide(space: &mut Space, block: Block)
     ensures { space.new ≡ record space.old { memory = with_windows space.old.memory (map (hidden block) space.old.memory.windows) } }
 {
-    let windows = hidden_all(shown_by(space), block);
+    let windows = hidden_all(space.windows(), block);
     set_windows(space, windows);
 }
 

@@ -1,7 +1,9 @@
 //! The machine and what it shows.
 ghost use Rattle.std.specs.Prelude.{◌≡◌, ◌≤◌, ◌↔◌, IsTrue, IfOk, IsOk, IsErrOf, OnOk, OnErr, length, max};
 ghost use Rattle.dm_space.specs.Memory.{linear, peek, poke};
-ghost use Rattle.dm_pool.specs.Stored.{IsTooLarge};
+ghost use Rattle.dm_space.specs.Start.{IsStart};
+ghost use Rattle.dm_pool.specs.Blocks.{no_blocks};
+ghost use Rattle.dm_pool.specs.Stored.{units_of, IsTooLarge};
 ghost use Rattle.dm_machine.specs.Start.{IsNew};
 ghost use Rattle.dm_services.specs.State.{HasProgram};
 
@@ -10,7 +12,7 @@ use dm_alu::Flags;
 use dm_arena::Strategy;
 use dm_console::Console;
 use dm_exec::Cpu;
-use dm_pool::Store;
+use dm_pool::{Sizes, Store};
 use dm_proc::{Procs, Programs};
 use dm_services::{Config, Parts};
 use dm_space::Space;
@@ -70,6 +72,18 @@ fn clear_registers() -> Cpu
     }
 }
 
+/// The memory of a machine of those sizes as it starts.
+fn start_space(alloc: Global, sizes: Sizes) -> Result<Space, NewError>
+    ensures start { IfOk result (λ space. IsStart (no_blocks (units_of sizes)) space.memory) }
+    ensures too_large { IsErrOf result NewError.TooLarge ↔ IsTooLarge sizes }
+{
+    match Store::new(alloc, sizes) {
+        Ok(store) => Ok(Space::new(store)),
+        Err(dm_pool::NewError::TooLarge) => Err(NewError::TooLarge),
+        Err(dm_pool::NewError::Memory) => Err(NewError::Memory),
+    }
+}
+
 impl Machine {
     /// A machine as it starts: memory of zeros but for the interrupt vectors and the first arena
     /// header, A20 off, no output, no program loaded.
@@ -91,15 +105,13 @@ impl Machine {
         ensures too_large { IsErrOf result NewError.TooLarge ↔ IsTooLarge config.sizes }
     {
         let Config { sizes, variables } = config;
-        let store = match Store::new(alloc, sizes) {
-            Ok(store) => store,
-            Err(dm_pool::NewError::TooLarge) => return Err(NewError::TooLarge),
-            Err(dm_pool::NewError::Memory) => return Err(NewError::Memory),
+        let space = start_space(alloc, sizes)?;
+        let Ok(memo) = Memo::new(alloc) else {
+            return Err(NewError::Memory);
         };
-        let memo = Memo::new(alloc).map_err(|_| NewError::Memory)?;
         let parts = Parts {
             cpu: clear_registers(),
-            space: Space::new(store),
+            space,
             console: Console::new(alloc, input),
             procs: Procs::new(),
             strategy: Strategy::First,

@@ -216,8 +216,8 @@ fn grows(rt: &impl Abort, machine: &mut Machine, held: usize)
 fn refused_growth(rt: HostRuntime) -> Result<(), Fail> {
     for room in [0, 2] {
         let mut machine = loaded(rt.alloc(), &HELLO, b"")?;
-        let made = machine.reserve_output(room);
-        let held = if made.is_ok() { room } else { 0 };
+        let made = reserve(&mut machine, room);
+        let held = if made { room } else { 0 };
         same(&rt, "room", machine.room(), held);
         grows(&rt, &mut machine, held);
     }

@@ -124,7 +124,7 @@ same_or_not (suc a) (suc b) = elim (same_or_not a b) [ inl e ↦ inl (ap suc e) 
 pub part_length : (xs : List ℕ) (P N : ℕ) → P + N ≤ length xs → length (part xs P N) ≡ N
 part_length xs P N in' = omega (arith, length-take N (drop P xs), length-drop P xs)
 
-set_twice : (l : List (List ℕ)) (k : ℕ) (x y : List ℕ) → set (set l k x) k y ≡ set l k y
+pub set_twice : (l : List (List ℕ)) (k : ℕ) (x y : List ℕ) → set (set l k x) k y ≡ set l k y
 set_twice [] k x y = refl
 set_twice (z ∷ l) zero x y = refl
 set_twice (z ∷ l) (suc k) x y = ap (λ m. z ∷ m) (set_twice l k x y)

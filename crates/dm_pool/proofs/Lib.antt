@@ -1,4 +1,5 @@
 pub mod Blocks
+pub mod Copied
 pub mod Takes
 pub mod Told
 pub mod Fits

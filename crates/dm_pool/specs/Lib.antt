@@ -4,3 +4,4 @@ pub mod Gaps
 pub mod Order
 pub mod Stored
 pub mod Lending
+pub mod Parts

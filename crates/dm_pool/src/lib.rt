@@ -2,6 +2,7 @@
 #![tactic(auto)]
 
 mod block;
+mod part;
 mod places;
 mod pool;
 mod runs;
@@ -10,6 +11,7 @@ mod store;
 mod table;
 
 pub use block::Block;
+pub use part::Part;
 pub use places::{Place, UNIT};
 pub use sizes::Sizes;
 pub use store::{NewError, Store};

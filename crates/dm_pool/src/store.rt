@@ -6,8 +6,10 @@ ghost use Rattle.dm_pool.specs.Blocks.{no_blocks, taken, resized, without, moved
 ghost use Rattle.dm_pool.specs.Gaps.{gaps, free_units, largest, count_fitting};
 ghost use Rattle.dm_pool.specs.Stored.{zeros_of, units_of, IsTooLarge};
 ghost use Rattle.dm_pool.specs.Lending.{LendsLow, LendsScratch, LendsBlock};
+ghost use Rattle.dm_pool.specs.Parts.{HasPart, IsLaidOut, IsSpan, part_bytes, copied};
 
 use crate::block::Block;
+use crate::part::Part;
 use crate::places::{Place, UNIT};
 use crate::sizes::Sizes;
 use crate::table::Table;
@@ -96,6 +98,19 @@ fn place_of(table: &Table, block: Block) -> Place
 {
     table.recall();
     table.place(block.slot())
+}
+
+/// Where a part begins in the region.
+fn start_of(table: &Table, part: Part) -> usize
+    requires { IsLaidOut table.now part }
+    ensures span { (n : _) × IsSpan table.now part result n }
+    ensures small { result < 2 ^ 42 }
+{
+    match part {
+        Part::Low => 0,
+        Part::Scratch => LOW,
+        Part::Block(block) => POOL + place_of(table, block).base * UNIT,
+    }
 }
 
 impl Store {
@@ -262,6 +277,19 @@ impl Store {
         let destination = place_of(&self.table, destination);
         let (from, to) = (source.base * UNIT + from, destination.base * UNIT + to);
         self.region.copy(POOL + from, POOL + to, len);
+    }
+
+    /// Copies `len` bytes of a part, from its byte `from` on, to the place from byte `to` on of another part or the same one. The
+    /// bytes copied are those that stood there before.
+    pub fn copy(&mut self, source: Part, from: usize, destination: Part, to: usize, len: usize)
+        requires source { HasPart self.old source × (from + len ≤ length (part_bytes self.old source)) }
+        requires destination { HasPart self.old destination × (to + len ≤ length (part_bytes self.old destination)) }
+        ensures { self.new ≡ copied self.old source from destination to len }
+    {
+        self.table.recall();
+        let from = start_of(&self.table, source) + from;
+        let to = start_of(&self.table, destination) + to;
+        self.region.copy(from, to, len);
     }
 
     /// The units of the largest gap, 0 if there is none.

@@ -9,6 +9,8 @@ mod checks;
 #[cfg(test)]
 mod guest;
 #[cfg(test)]
+mod memory;
+#[cfg(test)]
 mod passed;
 #[cfg(test)]
 mod processes;

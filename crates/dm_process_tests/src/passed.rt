@@ -3,12 +3,14 @@
 
 use crate::checks::same;
 use crate::guest::{fill, holds, put};
+use crate::memory::new_space;
 use crate::processes::{HI, started};
 use dm_arena::Strategy;
 use dm_exec::Cpu;
+use dm_pool::NewError;
 use dm_proc::{Procs, Programs, Refusal};
 use dm_space::Space;
-use std::alloc::{AllocError, Global};
+use std::alloc::Global;
 use std::process::Abort;
 use std::test::Fail;
 
@@ -49,7 +51,7 @@ fn named(
     length: u16,
     wanted: Result<u16, Refusal>,
 ) -> Result<(), Fail> {
-    let mut space = Space::new(alloc)?;
+    let mut space = new_space(alloc)?;
     let (mut procs, mut cpu) = started(&mut space).ok_or("there is room")?;
     fill(&mut space, ENVIRONMENT, 0, 0x80, 0xEE);
     fill(&mut space, 0x103, 0x200, 0x80, 0);
@@ -133,8 +135,8 @@ fn request(space: &mut Space, cpu: &mut Cpu, places: Places) {
 }
 
 /// Compares all 256 bytes of the child's prefix.
-fn is_prefix(rt: &impl Abort, alloc: Global, space: &Space, taken: u8) -> Result<(), AllocError> {
-    let mut wanted = Space::new(alloc)?;
+fn is_prefix(rt: &impl Abort, alloc: Global, space: &Space, taken: u8) -> Result<(), NewError> {
+    let mut wanted = new_space(alloc)?;
     // INT 20h, the segment behind the block
     put(&mut wanted, PREFIX, 0x00, &[0xCD, 0x20, 0x00, 0xA0]);
     // the vectors 22h to 24h, the parent, the environment
@@ -186,7 +188,7 @@ fn requests_wrap_in_their_segment(rt: HostRuntime) -> Result<(), Fail> {
         (0x200, 0x300, 0x80, 0xFFF8, 0xFFE8, 5, 5),
     ];
     for places in rows {
-        let mut space = Space::new(rt.alloc())?;
+        let mut space = new_space(rt.alloc())?;
         let (mut procs, mut cpu) = started(&mut space).expect(&rt, "there is room");
         fill(&mut space, PREFIX, 0, 0x100, 0xEE);
         request(&mut space, &mut cpu, places);
@@ -210,7 +212,7 @@ fn variables_come_from_the_segment_asked_for(rt: HostRuntime) -> Result<(), Fail
         (0x6000, 0x4000, b"\0\0\x01\0hi.com\0"),
     ];
     for (asked, own, environment) in rows {
-        let mut space = Space::new(rt.alloc())?;
+        let mut space = new_space(rt.alloc())?;
         let (mut procs, mut cpu) = started(&mut space).expect(&rt, "there is room");
         put(&mut space, 0x4000, 0, b"A=1\0B=2\0\0");
         put(&mut space, 0x5000, 0, b"C=3\0\0");
@@ -235,7 +237,7 @@ fn variables_have_at_most_7fffh_bytes(rt: HostRuntime) -> Result<(), Fail> {
         (0xFFFF, Err(Refusal::Environment)),
     ];
     for (letters, wanted) in rows {
-        let mut space = Space::new(rt.alloc())?;
+        let mut space = new_space(rt.alloc())?;
         let (mut procs, mut cpu) = started(&mut space).expect(&rt, "there is room");
         fill(&mut space, 0x4000, 0, letters, b'A');
         space.poke16(0x103, 0x300, 0x4000);

@@ -2,6 +2,7 @@
 
 use crate::checks::same;
 use crate::guest::put;
+use crate::memory::new_space;
 use arrayvec::ArrayVec;
 use dm_arena::{Strategy, resize};
 use dm_exec::{Cpu, Flags};
@@ -84,7 +85,7 @@ pub(crate) fn has_no_values(rt: &impl Abort, cpu: &Cpu) {
 
 #[test]
 fn first_program_has_all_of_memory(rt: HostRuntime) -> Result<(), Fail> {
-    let mut space = Space::new(rt.alloc())?;
+    let mut space = new_space(rt.alloc())?;
     let (procs, cpu) = loaded(&mut space).expect(&rt, "there is room");
     same(&rt, "process", procs.psp(), 0x103);
     same(
@@ -110,7 +111,7 @@ fn first_program_has_all_of_memory(rt: HostRuntime) -> Result<(), Fail> {
 #[test]
 fn child_runs_and_returns(rt: HostRuntime) -> Result<(), Fail> {
     let programs = store(rt.alloc())?;
-    let mut space = Space::new(rt.alloc())?;
+    let mut space = new_space(rt.alloc())?;
     let (mut procs, mut cpu) = started(&mut space).expect(&rt, "there is room");
     [cpu.si, cpu.di, cpu.bp] = [0x1111, 0x2222, 0x3333];
     let answer = procs.exec(&mut cpu, &mut space, &programs, Strategy::First);
@@ -165,7 +166,7 @@ fn child_runs_and_returns(rt: HostRuntime) -> Result<(), Fail> {
 #[test]
 fn resident_program_keeps_its_block(rt: HostRuntime) -> Result<(), Fail> {
     let programs = store(rt.alloc())?;
-    let mut space = Space::new(rt.alloc())?;
+    let mut space = new_space(rt.alloc())?;
     let (mut procs, mut cpu) = started(&mut space).expect(&rt, "there is room");
     let answer = procs.exec(&mut cpu, &mut space, &programs, Strategy::First);
     same(&rt, "answer", answer, Ok(()));
@@ -201,7 +202,7 @@ fn refusals_come_in_their_order(rt: HostRuntime) -> Result<(), Fail> {
         (0x4B00, b"hi.exe", 0, b'M', Refusal::Short),
     ];
     for (ax, name, environment, signature, refusal) in rows {
-        let mut space = Space::new(rt.alloc())?;
+        let mut space = new_space(rt.alloc())?;
         let (mut procs, mut cpu) = started(&mut space).expect(&rt, "there is room");
         same(&rt, "resize", resize(&mut space, 0x103, 0x9E00), Ok(()));
         cpu.ax = ax;
@@ -224,7 +225,7 @@ fn refusals_come_in_their_order(rt: HostRuntime) -> Result<(), Fail> {
 #[test]
 fn overlay_is_relocated_by_the_factor(rt: HostRuntime) -> Result<(), Fail> {
     let programs = store(rt.alloc())?;
-    let mut space = Space::new(rt.alloc())?;
+    let mut space = new_space(rt.alloc())?;
     let (_procs, mut cpu) = started(&mut space).expect(&rt, "there is room");
     cpu.ax = 0x4B03;
     put(&mut space, 0x103, 0x200, b"HI.EXE");

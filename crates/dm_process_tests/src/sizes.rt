@@ -2,6 +2,7 @@
 
 use crate::checks::same;
 use crate::guest::{fill, holds};
+use crate::memory::new_space;
 use crate::processes::{has_no_values, none};
 use dm_arena::Strategy;
 use dm_exec::Cpu;
@@ -33,7 +34,7 @@ fn com(
     room: u16,
     wanted: Result<(u16, u16), Refusal>,
 ) -> Result<(), Fail> {
-    let mut space = Space::new(alloc)?;
+    let mut space = new_space(alloc)?;
     fill(&mut space, PREFIX, 0, 0xFFFF, 0xEE);
     let file = [0x90; 16];
     let loaded = load(&mut space, file.get(..length).unwrap_or(&[]), room);
@@ -147,7 +148,7 @@ fn asks_for(
     asked: (u16, u16),
     wanted: Result<u16, Refusal>,
 ) -> Result<(), Fail> {
-    let mut space = Space::new(alloc)?;
+    let mut space = new_space(alloc)?;
     let loaded = load(&mut space, &mz(asked.0, asked.1), 0x102).ok_or("the file is good")?;
     let size = loaded.map(|_| space.peek16(PREFIX - 1, 3));
     same(rt, "size", (asked, size), (asked, wanted));
@@ -188,7 +189,7 @@ fn mz_programs_take_what_they_ask_for(rt: HostRuntime) -> Result<(), Fail> {
 
 #[test]
 fn segments_of_mz_programs_wrap(rt: HostRuntime) -> Result<(), Fail> {
-    let mut space = Space::new(rt.alloc())?;
+    let mut space = new_space(rt.alloc())?;
     let mut file = mz(0, 0);
     // Counted from 0113h, the code is in the prefix, and the stack one paragraph before the image.
     [file[0x16], file[0x17]] = [0xF0, 0xFF];

@@ -3,6 +3,7 @@
 
 use crate::checks::same;
 use crate::guest::{holds, put};
+use crate::memory::new_space;
 use crate::processes::started;
 use dm_arena::Strategy;
 use dm_exec::Cpu;
@@ -47,7 +48,7 @@ fn asking(space: &mut Space) -> Option<(Procs, Cpu)> {
 #[test]
 fn all_is_read_before_anything_is_written(rt: HostRuntime) -> Result<(), Fail> {
     let programs = store(rt.alloc())?;
-    let mut space = Space::new(rt.alloc())?;
+    let mut space = new_space(rt.alloc())?;
     let (mut procs, mut cpu) = asking(&mut space).expect(&rt, "there is room");
     // The variables begin at the free header, `Z` with owner 0, which becomes `M`; the return address
     // stands where the program's header goes, the parameter block and all else in its prefix.
@@ -122,7 +123,7 @@ fn ends(
     kept: Option<u16>,
     wanted: (u16, u16, u16),
 ) -> Result<(), Fail> {
-    let mut space = Space::new(alloc)?;
+    let mut space = new_space(alloc)?;
     let (mut procs, mut cpu) = asking(&mut space).ok_or("there is room")?;
     put(&mut space, 0, 0x88, b"0123456789AB");
     let answer = procs.exec(&mut cpu, &mut space, programs, Strategy::First);
@@ -166,7 +167,7 @@ fn child(rt: &impl Abort, alloc: Global, space: &mut Space) -> Result<(Procs, Cp
 
 #[test]
 fn blocks_are_freed_before_vectors_come_back(rt: HostRuntime) -> Result<(), Fail> {
-    let mut space = Space::new(rt.alloc())?;
+    let mut space = new_space(rt.alloc())?;
     let (mut procs, mut cpu) = child(&rt, rt.alloc(), &mut space)?;
     // The child's block is told to end behind one paragraph: the next header, its own too, stands in
     // its prefix, over the vectors 23h and 24h that are kept there.
@@ -187,7 +188,7 @@ fn blocks_are_freed_before_vectors_come_back(rt: HostRuntime) -> Result<(), Fail
 
 #[test]
 fn resident_program_may_have_no_block(rt: HostRuntime) -> Result<(), Fail> {
-    let mut space = Space::new(rt.alloc())?;
+    let mut space = new_space(rt.alloc())?;
     let (mut procs, mut cpu) = child(&rt, rt.alloc(), &mut space)?;
     put(&mut space, 0, 0x88, b"abcdefghijkl");
     // The list ends with the environment's block, which is told to have all the rest.
@@ -195,12 +196,10 @@ fn resident_program_may_have_no_block(rt: HostRuntime) -> Result<(), Fail> {
     let ending = end(&mut procs, &mut cpu, &mut space, Some(0x10));
     same(&rt, "ending", ending, Some(Ending::Returned));
     holds(&rt, "vectors", &space, (0, 0x88), b"0123456789AB");
-    for (segment, bytes) in [
-        (0x1103, [b'Z', 0x06, 0x11, 0xFC, 0x8E]),
-        (0x1105, [b'M', 0x06, 0x11, 0x12, 0x00]),
-    ] {
-        holds(&rt, "header", &space, (segment, 0), &bytes);
-    }
+    let environment = [b'Z', 0x06, 0x11, 0xFC, 0x8E];
+    holds(&rt, "header", &space, (0x1103, 0), &environment);
+    let program = [b'M', 0x06, 0x11, 0x12, 0x00];
+    holds(&rt, "header", &space, (0x1105, 0), &program);
     let back = (procs.psp(), cpu.cs, cpu.ip, procs.take_code());
     same(
         &rt,
@@ -213,7 +212,7 @@ fn resident_program_may_have_no_block(rt: HostRuntime) -> Result<(), Fail> {
 
 #[test]
 fn resident_program_leaves_no_header_at_a000h(rt: HostRuntime) -> Result<(), Fail> {
-    let mut space = Space::new(rt.alloc())?;
+    let mut space = new_space(rt.alloc())?;
     let (mut procs, mut cpu) = child(&rt, rt.alloc(), &mut space)?;
     put(&mut space, 0, 0x88, b"abcdefghijkl");
     let before = cpu;
@@ -253,7 +252,7 @@ fn resident_program_leaves_no_header_at_a000h(rt: HostRuntime) -> Result<(), Fai
 #[test]
 fn word_of_an_ending_is_kept_through_a_start(rt: HostRuntime) -> Result<(), Fail> {
     let programs = store(rt.alloc())?;
-    let mut space = Space::new(rt.alloc())?;
+    let mut space = new_space(rt.alloc())?;
     let (mut procs, mut cpu) = asking(&mut space).expect(&rt, "there is room");
     let asked = cpu;
     let answer = procs.exec(&mut cpu, &mut space, &programs, Strategy::First);
@@ -291,7 +290,7 @@ fn starts(
 #[test]
 fn sixteen_processes_are_alive_at_most(rt: HostRuntime) -> Result<(), Fail> {
     let programs = store(rt.alloc())?;
-    let mut space = Space::new(rt.alloc())?;
+    let mut space = new_space(rt.alloc())?;
     let (mut procs, cpu) = asking(&mut space).expect(&rt, "there is room");
     let children = starts(&mut procs, &mut space, &programs, cpu);
     same(&rt, "children", children, (15, Some(Refusal::Short)));
@@ -309,7 +308,7 @@ fn sixteen_processes_are_alive_at_most(rt: HostRuntime) -> Result<(), Fail> {
 #[test]
 fn header_at_a000h_is_told_before_too_many_processes(rt: HostRuntime) -> Result<(), Fail> {
     let programs = store(rt.alloc())?;
-    let mut space = Space::new(rt.alloc())?;
+    let mut space = new_space(rt.alloc())?;
     let (mut procs, cpu) = asking(&mut space).expect(&rt, "there is room");
     let children = starts(&mut procs, &mut space, &programs, cpu);
     same(&rt, "children", children, (15, Some(Refusal::Short)));
@@ -333,7 +332,7 @@ fn header_at_a000h_is_told_before_too_many_processes(rt: HostRuntime) -> Result<
 #[test]
 fn overlay_goes_on_at_segment_0(rt: HostRuntime) -> Result<(), Fail> {
     let programs = store(rt.alloc())?;
-    let mut space = Space::new(rt.alloc())?;
+    let mut space = new_space(rt.alloc())?;
     let (_procs, mut cpu) = asking(&mut space).expect(&rt, "there is room");
     cpu.ax = 0x4B03;
     put(&mut space, 0x103, 0x200, b"l\0");

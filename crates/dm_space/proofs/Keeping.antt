@@ -1,18 +1,19 @@
 -- Pages that windows show stay as large as they are while other blocks come, go and change, and while bytes are written
 use Rattle.std.specs.Prelude.{IfSome, MatchOption}
 use Rattle.std.specs.Bool.{MatchBool}
-use Rattle.std.proofs.Common.{◌≡◌, ◌≢◌, ℕ, suc, zero, ◌+◌, ◌<◌, ◌≤◌, Bool, true, false, List, [], ◌∷◌, Option, Some, None, length, get_or, set, refl, sym, ◌∙◌, ap, subst, arith, length-append, length-take, length-drop}
+use Rattle.std.proofs.Common.{◌≡◌, ◌≢◌, ℕ, suc, zero, ◌+◌, ◌≤◌, Bool, true, false, List, [], ◌∷◌, Option, Some, None, length, get_or, set, refl, sym, ◌∙◌, ap, subst}
 use Rattle.std.proofs.Math.Bool.{true≢false}
 use Rattle.std.proofs.lemmas.Option.{none-some, same_Some}
 use Rattle.std.proofs.lemmas.List.{get_or-set_other}
 use Rattle.std.specs.List.{length_refill}
 use Rattle.dm_region.specs.Parts.{part, with_part}
+use Rattle.dm_region.proofs.Bytes.{length-with_part}
 use Rattle.dm_pool.specs.declared.places.Place.{Place as Span}
 use Rattle.dm_pool.specs.Gaps.{first_empty, lowest}
-use Rattle.dm_pool.specs.Blocks.{Blocks, placed, taken, without, with_block, with_content, moved, moved_bytes, at_place, new_base, resized, fitted, zeros, IsLive}
+use Rattle.dm_pool.specs.Blocks.{Blocks, placed, taken, without, with_block, with_content, moved, moved_bytes, at_place, new_base, resized, fitted, zeros}
 use Rattle.dm_pool.specs.Stored.{Stored, refit}
 use Rattle.dm_pool.proofs.Blocks.{vacant, part_length}
-use Rattle.dm_space.specs.Memory.{Memory, Held, IsHeld, Fits, IsPage, held, page_bytes, with_blocks}
+use Rattle.dm_space.specs.Memory.{Memory, IsHeld, Fits, IsPage, held, page_bytes, with_blocks}
 use Rattle.dm_space.specs.Unseen.{shows}
 use Rattle.dm_space.proofs.Unseen.{shows-at}
 
@@ -51,7 +52,7 @@ placed_fits m u (Some k) (Some p) i t e h f =
     subst (λ (x : Blocks). Fits (with_blocks m x)) (ap (λ (x : ℕ × Blocks). x.1) same)
     (same_pages m new
     (λ j page _ q. other_page m k (Some (record { base = p; units = u })) (zeros u) m.blocks.units page
-        (λ s. none-some q.0.1.0 (sym (ap (λ n. get_or m.blocks.places n None) s ∙ free.1) ∙ q.0.1.1)) q) f)
+    (λ s. none-some q.0.1.0 (sym (ap (λ n. get_or m.blocks.places n None) s ∙ free.1) ∙ q.0.1.1)) q) f)
 
 pub taken_fits : (m : Memory) (u i : ℕ) (t : Blocks) → taken m.blocks u ≡ Some (i, t) → Fits m → Fits (with_blocks m t)
 taken_fits m u i t h f = placed_fits m u (first_empty m.blocks.places) (lowest m.blocks.places m.blocks.units u) i t refl h f
@@ -83,9 +84,6 @@ content_fits m i xs e f = same_pages m _ (λ k page _ p. (p.0, content_length m.
 pub refit_length : (old new : List ℕ) → length (refit old new) ≡ length old
 refit_length old new = sym (length_refill (length old) old new refl)
 
-with_part_length : (xs ws : List ℕ) (to len : ℕ) → length ws ≡ len → to + len ≤ length xs → length (with_part xs to len ws) ≡ length xs
-with_part_length xs ws to len e h = simp (length-append, length-take, length-drop) (omega (arith, e, h))
-
 -- what holds of the memory over what a store holds
 module _ (s : Stored) (windows : List (Option ℕ)) (a20 : Bool) where
   abbrev m : Memory
@@ -115,9 +113,20 @@ module _ (s : Stored) (windows : List (Option ℕ)) (a20 : Bool) where
   pub held_lent : (i : ℕ) (w : List ℕ) → IsHeld (held s windows a20) → IsHeld (held (record s { blocks = with_content s.blocks i (refit (get_or s.blocks.contents i []) w) }) windows a20)
   held_lent i w h = record { fits = content_fits m i (refit (get_or s.blocks.contents i []) w) (refit_length (get_or s.blocks.contents i []) w) h.fits; scratch_length = h.scratch_length }
 
+  pub held_scratch : (t : Stored) (xs : List ℕ) → t ≡ record s { scratch = xs } → length xs ≡ length s.scratch → IsHeld (held s windows a20) → IsHeld (held t windows a20)
+  held_scratch t xs e same h = subst (λ (x : Stored). IsHeld (held x windows a20)) (sym e) (record { fits = h.fits; scratch_length = same ∙ h.scratch_length })
+
+  pub held_low : (t : Stored) (xs : List ℕ) → t ≡ record s { low = xs } → length xs ≡ length s.low → IsHeld (held s windows a20) → IsHeld (held t windows a20)
+  held_low t xs e same h =
+      let fits : Fits (held (record s { low = xs }) windows a20).memory = record { low_length = same ∙ h.fits.low_length; windows_are_four = h.fits.windows_are_four; pages_there = h.fits.pages_there } in
+      subst (λ (x : Stored). IsHeld (held x windows a20)) (sym e) (record { fits = fits; scratch_length = h.scratch_length })
+
+  pub held_content : (t : Stored) (i : ℕ) (xs : List ℕ) → t ≡ record s { blocks = with_content s.blocks i xs } → length xs ≡ length (get_or s.blocks.contents i []) → IsHeld (held s windows a20) → IsHeld (held t windows a20)
+  held_content t i xs e same h = with_store t (with_content s.blocks i xs) e (content_fits m i xs same h.fits) h
+
   pub held_moved : (t : Stored) (i from j to len : ℕ) → t ≡ record s { blocks = moved_bytes s.blocks i from j to len } → from + len ≤ length (get_or s.blocks.contents i []) → to + len ≤ length (get_or s.blocks.contents j [])
       → IsHeld (held s windows a20) → IsHeld (held t windows a20)
   held_moved t i from j to len e a b h =
       let copied = part (get_or s.blocks.contents i []) from len in
       with_store t (moved_bytes s.blocks i from j to len) e
-      (content_fits m j (with_part (get_or s.blocks.contents j []) to len copied) (with_part_length (get_or s.blocks.contents j []) copied to len (part_length (get_or s.blocks.contents i []) from len a) b) h.fits) h
+      (content_fits m j (with_part (get_or s.blocks.contents j []) to len copied) (length-with_part (get_or s.blocks.contents j []) copied to len b (part_length (get_or s.blocks.contents i []) from len a)) h.fits) h

@@ -1,6 +1,6 @@
 -- Laws of memory for the layers above, which see peek and poke as opaque
 use Rattle.std.specs.Prelude.{IfSome}
-use Rattle.std.proofs.Common.{Some, ◌≡◌, ℕ, suc, zero, ◌<◌, Bool, List, Option, None, length, get_or, refl, arith}
+use Rattle.std.proofs.Common.{Some, ◌≡◌, ℕ, suc, zero, List, Option, None, length, get_or, refl}
 use Rattle.dm_space.specs.declared.place.Place.{Place}
 use Rattle.dm_space.specs.declared.place.Place.TheVariants.{Low, Page, Rom, Nothing}
 use Rattle.dm_pool.specs.Blocks.{Blocks}

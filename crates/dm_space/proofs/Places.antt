@@ -8,6 +8,7 @@ use Rattle.dm_space.specs.declared.place.Place.{Place}
 use Rattle.dm_space.specs.declared.place.Place.TheVariants.{Low, Page, Rom, Nothing}
 use Rattle.dm_space.specs.Memory.{Memory, IsPage, Fits, IsThere, linear, place, peek, poke, shown, byte_at, with_byte, page_bytes}
 use Rattle.dm_space.specs.Places.{IsWritable, IsShaped, IsPoked}
+use Rattle.dm_space.specs.Runs.{shift}
 
 -- the byte that a read gives is the one at the place
 pub peek-place : (m : Memory) (a : ℕ) → peek m a ≡ byte_at m (place m a)
@@ -60,7 +61,7 @@ page_set-other (xs ∷ pages) (suc p) i v zero k ne = refl
 page_set-other (xs ∷ pages) (suc p) i v (suc q) k ne = page_set-other pages p i v q k (λ e. ne (ap suc e))
 
 -- a page that has a byte is one of the list
-page-there : (pages : List (List ℕ)) (p k : ℕ) → k < length (get_or pages p []) → p < length pages
+pub page-there : (pages : List (List ℕ)) (p k : ℕ) → k < length (get_or pages p []) → p < length pages
 page-there [] p k h = absurd (omega arith)
 page-there (xs ∷ pages) zero k h = omega arith
 page-there (xs ∷ pages) (suc p) k h = let more = page-there pages p k h in omega arith
@@ -145,13 +146,6 @@ low-injective a b e = cc
 pub place-low-injective : (m : Memory) (a b : ℕ) → a < 0xC0000 → b < 0xC0000 → place m a ≡ place m b → a ≡ b
 place-low-injective m a b h k e = low-injective a b (sym (place-low m a h) ∙ e ∙ place-low m b k)
 
--- byte i after a place
-abbrev shift : Place → ℕ → Place
-shift (Low a) i = Low (a + i)
-shift (Page p k) i = Page p (k + i)
-shift (Rom a) i = Rom (a + i)
-shift Nothing i = Nothing
-
 -- a place is one where a paragraph can begin
 abbrev IsAligned : Place → Type 0
 IsAligned (Low a) = a % 16 ≡ 0
@@ -168,7 +162,7 @@ rest-more m i small = omega arith
 test-same : (h i k : ℕ) → i < 16 → nat_lt (16 * h + i) (16 * k) ≡ nat_lt (16 * h) (16 * k)
 test-same h i k small = elim (cases_lt h k) [ inl a ↦ grind (arith, nat_tests) | inr a ↦ grind (arith, nat_tests) ]
 
-shown-shift : (o : Option ℕ) (k i : ℕ) → shown o (k + i) ≡ shift (shown o k) i
+pub shown-shift : (o : Option ℕ) (k i : ℕ) → shown o (k + i) ≡ shift (shown o k) i
 shown-shift None k i = refl
 shown-shift (Some p) k i = refl
 

@@ -11,6 +11,8 @@ mod console;
 #[cfg(test)]
 mod files;
 #[cfg(test)]
+mod memory;
+#[cfg(test)]
 mod options;
 #[cfg(test)]
 mod programs;
@@ -18,5 +20,7 @@ mod programs;
 mod services;
 #[cfg(test)]
 mod space;
+#[cfg(test)]
+mod windows;
 #[cfg(test)]
 mod writers;

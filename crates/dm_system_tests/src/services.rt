@@ -3,13 +3,15 @@ ghost use Rattle.std.specs.Prelude.{IfOk};
 ghost use Rattle.dm_services.specs.State.{HasProgram};
 
 use crate::checks::same;
+use crate::memory::new_space;
 use arrayvec::ArrayVec;
 use dm_arena::Strategy;
 use dm_console::Console;
 use dm_exec::{Cpu, Flags};
 use dm_load::Image;
+use dm_pool::Sizes;
 use dm_proc::{Arguments, Procs, Programs};
-use dm_services::{Parts, Service, Sizes};
+use dm_services::{Parts, Service};
 use dm_space::Space;
 use std::alloc::Global;
 use std::process::Abort;
@@ -25,7 +27,14 @@ const CALL: [u8; 2] = [0xCD, 0x21];
 fn started(alloc: Global) -> Result<Parts, Fail>
     ensures { IfOk result (λ p. HasProgram p) }
 {
-    let mut space = Space::new(alloc)?;
+    started_in(alloc, new_space(alloc)?)
+}
+
+/// A program that has started in a memory.
+fn started_in(alloc: Global, space: Space) -> Result<Parts, Fail>
+    ensures { IfOk result (λ p. HasProgram p) }
+{
+    let mut space = space;
     let image = Image::of(CALL.as_slice())?;
     let arguments = Arguments {
         tail: ArrayVec::new(),

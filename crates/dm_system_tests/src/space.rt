@@ -1,12 +1,12 @@
 //! The map of memory as a program meets it.
 
 use crate::checks::same;
-use dm_space::Space;
+use crate::memory::new_space;
 use std::test::Fail;
 
 #[test]
 fn each_part_of_the_map_reads_as_it_starts(rt: HostRuntime) -> Result<(), Fail> {
-    let mut space = Space::new(rt.alloc())?;
+    let mut space = new_space(rt.alloc())?;
     // segment, offset, byte: vectors 0, 21h and 67h, the arena header, the hole, upper RAM, the
     // frame, ROM, and the start of memory as it shows behind FFFF:000F while A20 is off
     let bytes = [
@@ -42,7 +42,7 @@ fn each_part_of_the_map_reads_as_it_starts(rt: HostRuntime) -> Result<(), Fail> 
 
 #[test]
 fn each_part_of_the_map_keeps_or_loses_a_write(rt: HostRuntime) -> Result<(), Fail> {
-    let mut space = Space::new(rt.alloc())?;
+    let mut space = new_space(rt.alloc())?;
     // segment, offset, what is read there once 5Ah was written: at both ends of conventional and plain
     // RAM, of the hole, of upper RAM, of the frame, where no window shows a page, and of ROM
     let bytes = [
@@ -73,7 +73,7 @@ fn each_part_of_the_map_keeps_or_loses_a_write(rt: HostRuntime) -> Result<(), Fa
 
 #[test]
 fn the_high_area_goes_round_while_a20_is_off(rt: HostRuntime) -> Result<(), Fail> {
-    let mut space = Space::new(rt.alloc())?;
+    let mut space = new_space(rt.alloc())?;
     // A20, an offset in segment FFFFh, the byte that is written there
     let written = [
         (false, 0x0010, 0x51),
@@ -106,7 +106,7 @@ fn the_high_area_goes_round_while_a20_is_off(rt: HostRuntime) -> Result<(), Fail
 
 #[test]
 fn word_wraps_at_segment_end(rt: HostRuntime) -> Result<(), Fail> {
-    let mut space = Space::new(rt.alloc())?;
+    let mut space = new_space(rt.alloc())?;
     space.poke16(0x2000, 0xFFFF, 0x1234);
     same(&rt, "byte", space.peek(0x2000, 0xFFFF), 0x34);
     same(&rt, "byte", space.peek(0x2000, 0x0000), 0x12);

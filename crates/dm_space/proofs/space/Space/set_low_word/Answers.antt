@@ -1,4 +1,4 @@
-use Rattle.std.proofs.Common.{◌≡◌, ◌+◌, ◌*◌, ◌/◌, ◌%◌, List, ℕ, length, slice_set, ◌∙◌, ap, refl, sym}
+use Rattle.std.proofs.Common.{◌≡◌, ◌+◌, ◌*◌, ◌/◌, ◌%◌, List, ℕ, length, slice_set, ◌∙◌, ap, refl}
 use Rattle.std.proofs.lemmas.List.{length-set}
 use Rattle.dm_pool.specs.Stored.{refit}
 use Rattle.dm_pool.proofs.Blocks.{refilled}

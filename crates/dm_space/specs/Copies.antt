@@ -1,0 +1,26 @@
+-- Bytes copied between linear addresses and the scratch bytes, one by one upwards.
+use Rattle.std.specs.Prelude.{ℕ, zero, suc, List, [], ◌∷◌}
+use Rattle.dm_region.specs.Parts.{part, with_part}
+use Rattle.dm_space.specs.Memory.{Memory, Held, peek, poke}
+
+-- what a function gives for the n numbers from a on
+abbrev pub values : (ℕ → ℕ) → ℕ → ℕ → List ℕ
+values f a zero = []
+values f a (suc n) = f a ∷ values f (suc a) n
+
+-- what reads of the n linear addresses from a on give
+abbrev pub reads : Memory → ℕ → ℕ → List ℕ
+reads m a n = values (peek m) a n
+
+-- what writes of those bytes to the linear addresses from a on leave, one after the other
+abbrev pub writes : Memory → ℕ → List ℕ → Memory
+writes m a [] = m
+writes m a (v ∷ vs) = writes (poke m a v) (suc a) vs
+
+-- n bytes read from the linear address a on, now the scratch bytes from `at` on
+abbrev pub copied_in : Held → ℕ → ℕ → ℕ → Held
+copied_in h a at n = record h { scratch = with_part h.scratch at n (reads h.memory a n) }
+
+-- the n scratch bytes from `at` on, written from the linear address a on
+abbrev pub copied_out : Held → ℕ → ℕ → ℕ → Held
+copied_out h at a n = record h { memory = writes h.memory a (part h.scratch at n) }
