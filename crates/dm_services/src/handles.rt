@@ -32,11 +32,8 @@ impl Parts {
             return None;
         }
         let count = self.console.left().min(self.cpu.cx as usize);
-        self.space.write_bytes(
-            self.cpu.ds,
-            self.cpu.dx,
-            &self.console.input()[..count],
-        );
+        self.space
+            .write_bytes(self.cpu.ds, self.cpu.dx, &self.console.input()[..count]);
         self.console.consume(count);
         self.cpu.ax = count as u16;
         self.give_back();

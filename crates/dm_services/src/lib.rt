@@ -20,7 +20,9 @@ mod text;
 mod vectors;
 
 pub use config::Config;
-pub use laws::{services_have_one_answer, services_ignore_unseen, services_keep_room};
+pub use laws::{
+    services_have_one_answer, services_ignore_unseen, services_keep_room, services_keep_the_map,
+};
 pub use parts::Parts;
 pub use services::{Service, service_at};
 pub use stop::Stop;
