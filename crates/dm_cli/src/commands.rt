@@ -2,7 +2,7 @@
 ghost use Rattle.std.specs.Prelude.{◌≡◌, IfErr, IfOk, OnOk, map};
 ghost use Rattle.dm_cli.specs.Stores.{AddsFile, IsFaultOf, IsStarted, Stores};
 ghost use Rattle.dm_cli.specs.Statuses.{status_of, TellsWrongLine};
-ghost use Rattle.dm_services.specs.State.{HasProgram};
+ghost use Rattle.dm_state.specs.State.{HasProgram};
 
 use crate::fault::Fault;
 use crate::files::{Storage, read_file, read_whole};

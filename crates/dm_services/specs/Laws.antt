@@ -6,7 +6,7 @@ use Rattle.dm_space.specs.Places.{IsShaped}
 use Rattle.dm_space.specs.Unseen.{IsUnseen}
 use Rattle.dm_console.specs.Streams.{Streams}
 use Rattle.dm_services.specs.declared.services.Service.{Service}
-use Rattle.dm_services.specs.State.{State, Answer}
+use Rattle.dm_state.specs.State.{State, Answer}
 use Rattle.dm_services.specs.Services.{Serves}
 
 -- what a service answers, and all that it leaves, are functions of the state

@@ -1,4 +1,3 @@
-pub mod State
 pub mod Wanting
 pub mod Text
 pub mod Characters

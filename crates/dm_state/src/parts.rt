@@ -1,8 +1,10 @@
 //! What services act on.
+ghost use Rattle.std.specs.Prelude.{◌≡◌};
+ghost use Rattle.dm_state.specs.State.{go, returned};
 
 use dm_arena::Strategy;
 use dm_console::Console;
-use dm_exec::Cpu;
+use dm_exec::{Cpu, interrupt_return};
 use dm_pool::Sizes;
 use dm_proc::{Procs, Programs};
 use dm_space::Space;
@@ -39,7 +41,7 @@ pub struct Parts {
 
 impl Model for Parts {
     ghost use Rattle.std.specs.Prelude.{◌≤◌, length};
-    ghost use Rattle.dm_services.specs.State.{State, HaveSegments};
+    ghost use Rattle.dm_state.specs.State.{State, HaveSegments};
 
     ghost Value = { State };
 
@@ -57,4 +59,20 @@ impl Model for Parts {
     } };
 
     ghost invariant = { λ p. (length p.variables.items ≤ 0x7FFF) × HaveSegments p.procs.parents };
+}
+
+impl Parts {
+    /// Counts a step.
+    pub fn count(&mut self)
+        ensures { self.new ≡ (go self.old).state }
+    {
+        self.steps = self.steps.saturating_add(1);
+    }
+
+    /// Goes back to where the program called.
+    pub fn give_back(&mut self)
+        ensures { self.new ≡ returned self.old }
+    {
+        interrupt_return(&mut self.cpu, &self.space);
+    }
 }

@@ -8,7 +8,7 @@ use Rattle.dm_console.specs.Streams.{Streams}
 use Rattle.dm_arena.specs.declared.fit.Strategy.{Strategy}
 use Rattle.dm_proc.specs.declared.parent.Parent.{Parent}
 use Rattle.dm_proc.specs.Processes.{Processes}
-use Rattle.dm_services.specs.declared.stop.Stop.{Stop}
+use Rattle.dm_state.specs.declared.stop.Stop.{Stop}
 use Rattle.dm_pool.specs.declared.sizes.Sizes.{Sizes}
 
 pub record State : Type 0 where
