@@ -2,8 +2,8 @@
 use Rattle.std.specs.Prelude.{ℕ, Result, Ok, Err, ◌≡◌, ◌≢◌, ◌⊎◌, List, []}
 use Rattle.clap.specs.Words.{Text, fault_of}
 use Rattle.dm_options.specs.Arguments.{dm_app}
-use Rattle.dm_services.specs.declared.stop.Stop.{Stop}
-use Rattle.dm_services.specs.declared.stop.Stop.TheVariants.{Exited}
+use Rattle.dm_state.specs.declared.stop.Stop.{Stop}
+use Rattle.dm_state.specs.declared.stop.Stop.TheVariants.{Exited}
 
 -- the program's exit code, 125 at another stop, 126 at a fault
 abbrev pub status_of : {E : Type 0} → Result Stop E → ℕ

@@ -6,7 +6,7 @@ use Rattle.dm_cli.specs.Names.{last_part}
 use Rattle.dm_machine.specs.Start.{IsNew, IsLoaded}
 use Rattle.dm_proc.specs.Programs.{IsName, has_name}
 use Rattle.dm_pool.specs.declared.sizes.Sizes.{Sizes}
-use Rattle.dm_services.specs.State.{State}
+use Rattle.dm_state.specs.State.{State}
 
 -- all bytes of a file or of standard input, at most 16 MiB, where it is known which it has
 pub record IsRead (known : Option (List ℕ)) (bytes : List ℕ) : Type 0 where

@@ -3,8 +3,8 @@ ghost use Rattle.std.specs.Prelude.{◌≡◌, IfOk, OnErr, OnOk};
 ghost use Rattle.std.specs.Io.KnownBytes.{Appends};
 ghost use Rattle.dm_out.specs.Out.{AppendsPart, HasFailed};
 ghost use Rattle.dm_machine.specs.Run.{IsRun};
-ghost use Rattle.dm_services.specs.State.{HasProgram};
-ghost use Rattle.dm_services.specs.declared.stop.Stop.{Stop};
+ghost use Rattle.dm_state.specs.State.{HasProgram};
+ghost use Rattle.dm_state.specs.declared.stop.Stop.{Stop};
 
 use dm_machine::{Machine, Out, Stop};
 use dm_out::write_all;

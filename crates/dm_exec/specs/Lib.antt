@@ -14,3 +14,4 @@ pub mod Strings
 pub mod Control
 pub mod Effect
 pub mod Unseen
+pub mod Map

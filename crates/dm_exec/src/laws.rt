@@ -1,10 +1,17 @@
 //! Laws of the effects.
 ghost use Rattle.dm_exec.specs.Effect.{HaltKeeps};
+ghost use Rattle.dm_exec.specs.Map.{KeepsTheMap};
 ghost use Rattle.dm_exec.specs.Unseen.{IgnoresUnseen};
 
 /// Where the processor stops, nothing changes.
 pub fn halt_changes_nothing()
     ensures { HaltKeeps }
+{}
+
+/// No instruction changes A20, what the windows show, or which blocks there are, where they lie and how large they are: all that it
+/// writes are bytes.
+pub fn keeps_the_map()
+    ensures { KeepsTheMap }
 {}
 
 /// No instruction depends on memory that no address shows, or changes it: with such a change made

@@ -21,5 +21,5 @@ mod widths;
 pub use cpu::Cpu;
 pub use dm_alu::Flags;
 pub use effect::{Next, exec};
-pub use laws::{halt_changes_nothing, ignores_unseen};
+pub use laws::{halt_changes_nothing, ignores_unseen, keeps_the_map};
 pub use stack::interrupt_return;

@@ -11,10 +11,10 @@ use Rattle.dm_exec.specs.Effect.{effect, next_of}
 use Rattle.dm_exec.specs.Unseen.{changed}
 use Rattle.dm_exec.proofs.Unseen.{effect-unseen}
 use Rattle.dm_space.proofs.Unseen.{pages-unseen}
-use Rattle.dm_services.specs.declared.stop.Stop.{Stop}
-use Rattle.dm_services.specs.declared.stop.Stop.TheVariants.{Memory as NoMemory}
+use Rattle.dm_state.specs.declared.stop.Stop.{Stop}
+use Rattle.dm_state.specs.declared.stop.Stop.TheVariants.{Memory as NoMemory}
 use Rattle.dm_services.specs.declared.services.Service.{Service}
-use Rattle.dm_services.specs.State.{State, Answer}
+use Rattle.dm_state.specs.State.{State, Answer}
 use Rattle.dm_services.specs.Services.{service_at}
 use Rattle.dm_services.specs.Wanting.{MayWant}
 use Rattle.dm_machine.specs.Step.{Steps, Runs, Acts, Instructs, listed, unlisted, Begins, fetched, after, instructed}

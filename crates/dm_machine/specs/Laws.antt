@@ -2,9 +2,9 @@
 use Rattle.std.specs.Prelude.{◌≡◌, ◌≢◌, ℕ, ◌+◌, ◌≤◌, ◌<◌, max, List, length, Option, Some}
 use Rattle.dm_space.specs.Memory.{Memory}
 use Rattle.dm_space.specs.Unseen.{unseen_as, IsUnseen}
-use Rattle.dm_services.specs.declared.stop.Stop.{Stop}
-use Rattle.dm_services.specs.declared.stop.Stop.TheVariants.{Memory as NoMemory}
-use Rattle.dm_services.specs.State.{State, Answer}
+use Rattle.dm_state.specs.declared.stop.Stop.{Stop}
+use Rattle.dm_state.specs.declared.stop.Stop.TheVariants.{Memory as NoMemory}
+use Rattle.dm_state.specs.State.{State, Answer}
 use Rattle.dm_services.specs.Laws.{with_change}
 use Rattle.dm_machine.specs.Step.{Steps}
 use Rattle.dm_machine.specs.Run.{Answers, Goes, IsRun}

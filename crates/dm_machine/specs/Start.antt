@@ -13,7 +13,7 @@ use Rattle.dm_proc.specs.Programs.{program_of}
 use Rattle.dm_proc.specs.Request.{Passed}
 use Rattle.dm_proc.specs.Environment.{environment}
 use Rattle.dm_proc.specs.Processes.{Begins, PlanRefused}
-use Rattle.dm_services.specs.State.{State}
+use Rattle.dm_state.specs.State.{State}
 
 abbrev pub clear_flags : Flags
 clear_flags = record { carry = false; parity = false; adjust = false; zero = false; sign = false; trap = false; interrupt = false; direction = false; overflow = false }

@@ -11,8 +11,8 @@ pub use dm_exec::{Cpu, Flags};
 pub use dm_out::{Failed, Out};
 pub use dm_pool::Sizes;
 pub use dm_proc::{AddError, Programs};
-pub use dm_services::{Config, Stop};
 pub use dm_space::Space;
+pub use dm_state::{Config, Stop};
 pub use laws::{
     a_step_has_one_answer, room_is_enough, there_is_one_run, unseen_bytes_change_nothing,
 };

@@ -5,7 +5,7 @@ ghost use Rattle.dm_space.specs.Start.{IsStart};
 ghost use Rattle.dm_pool.specs.Blocks.{no_blocks};
 ghost use Rattle.dm_pool.specs.Stored.{units_of, IsTooLarge};
 ghost use Rattle.dm_machine.specs.Start.{IsNew};
-ghost use Rattle.dm_services.specs.State.{HasProgram};
+ghost use Rattle.dm_state.specs.State.{HasProgram};
 
 use crate::memo::Memo;
 use dm_alu::Flags;
@@ -14,8 +14,8 @@ use dm_console::Console;
 use dm_exec::Cpu;
 use dm_pool::{Sizes, Store};
 use dm_proc::{Procs, Programs};
-use dm_services::{Config, Parts};
 use dm_space::Space;
+use dm_state::{Config, Parts};
 use std::alloc::{AllocError, Global};
 use std::marker::Model;
 use thiserror::Error;
@@ -42,7 +42,7 @@ pub struct Machine {
 }
 
 impl Model for Machine {
-    ghost use Rattle.dm_services.specs.State.{State};
+    ghost use Rattle.dm_state.specs.State.{State};
 
     ghost Value = { State };
 

@@ -1,7 +1,7 @@
 //! What a test does with a machine and what it then finds, as data; one reader plays it.
 ghost use Rattle.std.specs.Prelude.{◌≤◌, IfOk, length};
 ghost use Rattle.dm_proc.specs.Programs.{IsName};
-ghost use Rattle.dm_services.specs.State.{HasProgram};
+ghost use Rattle.dm_state.specs.State.{HasProgram};
 
 use crate::checks::{Place, holds, same_at};
 use crate::machines::{SEGMENT, loaded, machine_with, store, sum_of_memory};

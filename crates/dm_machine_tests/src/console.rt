@@ -1,6 +1,6 @@
 //! The console in whole runs: calls that want input, what calls leave in memory, and room for output,
 //! worked by hand from the manual.
-ghost use Rattle.dm_services.specs.State.{HasProgram};
+ghost use Rattle.dm_state.specs.State.{HasProgram};
 
 use crate::acts::Register::{Ax, Bx, Cs, Es, Ip};
 use crate::acts::{Act, caller, play};

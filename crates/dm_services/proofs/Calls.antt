@@ -5,7 +5,7 @@ use Rattle.dm_exec.specs.declared.cpu.Cpu.{Cpu}
 use Rattle.dm_arena.specs.declared.refusal.Refusal.{Refusal}
 use Rattle.dm_arena.specs.Allocation.{Allocates}
 use Rattle.dm_arena.specs.Owned.{Frees, Resizes}
-use Rattle.dm_services.specs.State.{State, Answer}
+use Rattle.dm_state.specs.State.{State, Answer}
 use Rattle.dm_services.specs.Allocation.{answered, refused, Allocation, Freeing, Resizing}
 
 -- a step after which the machine goes on

@@ -13,7 +13,7 @@ use Rattle.dm_services.specs.declared.functions.Function.TheVariants.{EchoCharac
 use Rattle.dm_arena.specs.declared.fit.Strategy.{Strategy}
 use Rattle.dm_arena.specs.declared.refusal.Refusal.{Refusal}
 use Rattle.dm_arena.proofs.Unseen.{allocation-unseen, freeing-unseen, resizing-unseen}
-use Rattle.dm_services.specs.State.{State, Answer}
+use Rattle.dm_state.specs.State.{State, Answer}
 use Rattle.dm_services.specs.Text.{text_within, print}
 use Rattle.dm_services.specs.Allocation.{answered, allocated, settled, strategy_of, strategy_set, strategy_call}
 use Rattle.dm_proc.specs.declared.refusal.Refusal.{Refusal as ProgramRefusal}

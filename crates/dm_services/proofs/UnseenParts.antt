@@ -7,8 +7,8 @@ use Rattle.dm_exec.specs.Guest.{guest}
 use Rattle.dm_exec.specs.Stack.{interrupt_return}
 use Rattle.dm_exec.proofs.Unseen.{interrupt_return-unseen}
 use Rattle.dm_proc.specs.Writes.{bytes_from}
-use Rattle.dm_services.specs.State.{Answer}
-use Rattle.dm_services.specs.Buffers.{with_bytes}
+use Rattle.dm_state.specs.State.{Answer}
+use Rattle.dm_space.specs.Buffers.{with_bytes}
 use Rattle.dm_services.specs.Laws.{answer_with}
 
 pub byte-unseen : (f : Memory → Memory) (u : IsUnseen f) (m : Memory) (s o : ℕ) → peek (f m) (linear (f m).a20 s o) ≡ peek m (linear m.a20 s o)

@@ -12,7 +12,7 @@ use Rattle.dm_arena.specs.declared.fit.Strategy.{Strategy}
 use Rattle.dm_arena.specs.declared.fit.Strategy.TheVariants.{First, Best, Last}
 use Rattle.dm_arena.specs.Allocation.{Allocates}
 use Rattle.dm_arena.specs.Owned.{Frees, Resizes}
-use Rattle.dm_services.specs.State.{State, Answer, go, returned, with_carry}
+use Rattle.dm_state.specs.State.{State, Answer, go, returned, with_carry}
 
 -- back in the program with these registers, this memory and CF
 abbrev pub answered : State → Cpu → Memory → Bool → Answer

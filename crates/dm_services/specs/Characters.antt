@@ -5,8 +5,8 @@
 use Rattle.std.specs.Prelude.{ℕ, ◌==◌, Bool, true, false, if◌then◌else◌, List, [], ◌∷◌}
 use Rattle.dm_exec.specs.Cpu.{byte_of, with_byte}
 use Rattle.dm_ins.specs.declared.operand.ByteRegister.TheVariants.{Al, Dl}
-use Rattle.dm_services.specs.declared.stop.Stop.TheVariants.{InputEnded}
-use Rattle.dm_services.specs.State.{State, Answer, go, stop_at, returned}
+use Rattle.dm_state.specs.declared.stop.Stop.TheVariants.{InputEnded}
+use Rattle.dm_state.specs.State.{State, Answer, go, stop_at, returned}
 use Rattle.dm_services.specs.Text.{written}
 
 abbrev pub with_al : State → ℕ → State

@@ -2,9 +2,9 @@
 -- (40h). Handles 0 to 2 are the console, each in both directions; that 3 and 4 are bad is this machine's own.
 use Rattle.std.specs.Prelude.{ℕ, nat_lt, true, false, if◌then◌else◌, List, take, drop, length}
 use Rattle.dm_proc.specs.Writes.{bytes_from}
-use Rattle.dm_services.specs.State.{State, Answer, go, returned, with_carry}
+use Rattle.dm_state.specs.State.{State, Answer, go, returned, with_carry}
 use Rattle.dm_services.specs.Characters.{with_input, with_written}
-use Rattle.dm_services.specs.Buffers.{with_bytes}
+use Rattle.dm_space.specs.Buffers.{with_bytes}
 
 abbrev pub with_ax : State → ℕ → State
 with_ax s ax = record s { cpu = record s.cpu { ax = ax } }

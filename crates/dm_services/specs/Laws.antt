@@ -1,15 +1,21 @@
--- Laws of the services: each has one answer, none depends on what no program sees, and none gives back room.
+-- Laws of the services: each has one answer, none changes the map of memory, none depends on what no program sees, and
+-- none gives back room.
 use Rattle.std.specs.Prelude.{◌≡◌, ℕ, ◌+◌, ◌≤◌, length}
 use Rattle.dm_space.specs.Memory.{Memory}
+use Rattle.dm_space.specs.Places.{IsShaped}
 use Rattle.dm_space.specs.Unseen.{IsUnseen}
 use Rattle.dm_console.specs.Streams.{Streams}
 use Rattle.dm_services.specs.declared.services.Service.{Service}
-use Rattle.dm_services.specs.State.{State, Answer}
+use Rattle.dm_state.specs.State.{State, Answer}
 use Rattle.dm_services.specs.Services.{Serves}
 
 -- what a service answers, and all that it leaves, are functions of the state
 abbrev pub ServicesHaveOneAnswer : Type 0
 ServicesHaveOneAnswer = (s : State) (service : Service) (x y : Answer) → Serves s service x → Serves s service y → x ≡ y
+
+-- A20, the windows, and which blocks there are, where they lie and how large they are: each service keeps them
+abbrev pub ServicesKeepTheMap : Type 0
+ServicesKeepTheMap = (s : State) (service : Service) (x : Answer) → Serves s service x → IsShaped s.memory x.state.memory
 
 -- the state, or the answer, with its memory changed
 abbrev pub with_change : (Memory → Memory) → State → State

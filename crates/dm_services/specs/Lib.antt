@@ -1,7 +1,5 @@
-pub mod State
 pub mod Wanting
 pub mod Text
-pub mod Buffers
 pub mod Characters
 pub mod Lines
 pub mod Flush

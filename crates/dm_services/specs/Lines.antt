@@ -4,9 +4,9 @@ use Rattle.std.specs.Prelude.{ℕ, ◌+◌, ◌-◌, ◌==◌, not, if◌then◌
 use Rattle.std.specs.List.{filter, position}
 use Rattle.dm_space.specs.Memory.{Memory, linear, peek}
 use Rattle.dm_exec.specs.Guest.{up}
-use Rattle.dm_services.specs.declared.stop.Stop.TheVariants.{InputEnded}
-use Rattle.dm_services.specs.State.{State, Answer, go, stop_at, returned}
-use Rattle.dm_services.specs.Buffers.{with_bytes}
+use Rattle.dm_state.specs.declared.stop.Stop.TheVariants.{InputEnded}
+use Rattle.dm_state.specs.State.{State, Answer, go, stop_at, returned}
+use Rattle.dm_space.specs.Buffers.{with_bytes}
 
 -- how many bytes stand before the first 0Dh, if there is one
 unfoldable pub line_length : List ℕ → Option ℕ

@@ -6,7 +6,7 @@ use Rattle.dm_exec.specs.Cpu.{byte_of}
 use Rattle.dm_ins.specs.declared.operand.ByteRegister.TheVariants.{Ah}
 use Rattle.dm_services.specs.declared.services.Service.{Service}
 use Rattle.dm_services.specs.declared.services.Service.TheVariants.{DivideError, Terminate, Dos}
-use Rattle.dm_services.specs.State.{State, Answer}
+use Rattle.dm_state.specs.State.{State, Answer}
 use Rattle.dm_services.specs.Processes.{Terminating}
 use Rattle.dm_services.specs.Functions.{function_of, Calls}
 

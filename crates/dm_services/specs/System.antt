@@ -1,6 +1,6 @@
 -- INT 21h, what the system tells of itself: MS-DOS Programmer's Reference, "Get MS-DOS Version Number" (30h), "Get PSP
 -- Address" (51h, 62h).
-use Rattle.dm_services.specs.State.{State, Answer, go, returned}
+use Rattle.dm_state.specs.State.{State, Answer, go, returned}
 
 -- 30h: version 5.0, so AL = 5 and AH = 0; no serial number, BX = CX = 0
 unfoldable pub tell_version : State → Answer

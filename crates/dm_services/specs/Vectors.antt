@@ -4,7 +4,7 @@ use Rattle.std.specs.Prelude.{ℕ, ◌+◌, ◌*◌}
 use Rattle.dm_space.specs.Memory.{Memory, peek16, poke16}
 use Rattle.dm_exec.specs.Cpu.{byte_of}
 use Rattle.dm_ins.specs.declared.operand.ByteRegister.TheVariants.{Al}
-use Rattle.dm_services.specs.State.{State, Answer, go, returned}
+use Rattle.dm_state.specs.State.{State, Answer, go, returned}
 
 abbrev pub with_vector : Memory → ℕ → ℕ → ℕ → Memory
 with_vector m number segment offset = poke16 (poke16 m 0 (4 * number) offset) 0 (4 * number + 2) segment

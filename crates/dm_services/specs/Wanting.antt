@@ -1,8 +1,8 @@
 -- Where memory may be wanting: a step that writes more bytes than the room.
 use Rattle.std.specs.Prelude.{◌≡◌, ◌+◌, ◌<◌, length, Option, Some}
-use Rattle.dm_services.specs.declared.stop.Stop.{Stop}
-use Rattle.dm_services.specs.declared.stop.Stop.TheVariants.{Memory as NoMemory}
-use Rattle.dm_services.specs.State.{State, Answer}
+use Rattle.dm_state.specs.declared.stop.Stop.{Stop}
+use Rattle.dm_state.specs.declared.stop.Stop.TheVariants.{Memory as NoMemory}
+use Rattle.dm_state.specs.State.{State, Answer}
 
 -- the output of the answer is longer than the room has place for; a stop changes nothing, and so never is
 abbrev pub Overflows : State → Answer → Type 0

@@ -3,10 +3,10 @@
 ghost use Rattle.std.specs.Prelude.{◌≡◌};
 ghost use Rattle.dm_services.specs.Allocation.{answered, refused, Allocation, Freeing, Resizing, strategy_call};
 
-use crate::parts::Parts;
-use dm_arena::{Refusal, Strategy, allocate, free, resize};
+use dm_arena::{Refusal, Strategy};
 use dm_exec::Cpu;
 use dm_ins::ByteRegister;
+use dm_state::Parts;
 
 /// Puts the error into AX and, where there is not enough memory, how many paragraphs there are into
 /// BX.
@@ -46,83 +46,81 @@ fn strategy_of(number: u16) -> Option<Strategy>
     }
 }
 
-impl Parts {
-    /// Goes back to where the program called, with CF, and counts the step.
-    pub(crate) fn answer(&mut self, carry: bool)
-        ensures { self.new ≡ (answered self.old self.old.cpu self.old.memory carry).state }
-    {
-        self.give_back();
-        self.cpu.flags.carry = carry;
-        self.count();
-    }
+/// Goes back to where the program called, with CF, and counts the step.
+pub(crate) fn answer(parts: &mut Parts, carry: bool)
+    ensures { parts.new ≡ (answered parts.old parts.old.cpu parts.old.memory carry).state }
+{
+    parts.give_back();
+    parts.cpu.flags.carry = carry;
+    parts.count();
+}
 
-    /// 48h: allocates BX paragraphs; AX tells the segment of the block.
-    pub(crate) fn allocate(&mut self)
-        ensures { Allocation self.old (record { stop = None; state = self.new }) }
-    {
-        let owner = self.procs.psp();
-        match allocate(&mut self.space, self.strategy, self.cpu.bx, owner) {
-            Ok(segment) => {
-                self.cpu.ax = segment;
-                self.answer(false);
-            }
-            Err(refusal) => {
-                refuse(&mut self.cpu, refusal);
-                self.answer(true);
-            }
+/// 48h: allocates BX paragraphs; AX tells the segment of the block.
+pub(crate) fn allocate(parts: &mut Parts)
+    ensures { Allocation parts.old (record { stop = None; state = parts.new }) }
+{
+    let owner = parts.procs.psp();
+    match dm_arena::allocate(&mut parts.space, parts.strategy, parts.cpu.bx, owner) {
+        Ok(segment) => {
+            parts.cpu.ax = segment;
+            answer(parts, false);
+        }
+        Err(refusal) => {
+            refuse(&mut parts.cpu, refusal);
+            answer(parts, true);
         }
     }
+}
 
-    /// 49h: frees the block at segment ES.
-    pub(crate) fn free(&mut self)
-        ensures { Freeing self.old (record { stop = None; state = self.new }) }
-    {
-        match free(&mut self.space, self.cpu.es) {
-            Ok(()) => self.answer(false),
-            Err(refusal) => {
-                refuse(&mut self.cpu, refusal);
-                self.answer(true);
-            }
+/// 49h: frees the block at segment ES.
+pub(crate) fn free(parts: &mut Parts)
+    ensures { Freeing parts.old (record { stop = None; state = parts.new }) }
+{
+    match dm_arena::free(&mut parts.space, parts.cpu.es) {
+        Ok(()) => answer(parts, false),
+        Err(refusal) => {
+            refuse(&mut parts.cpu, refusal);
+            answer(parts, true);
         }
     }
+}
 
-    /// 4Ah: gives the block at segment ES a size of BX paragraphs.
-    pub(crate) fn resize(&mut self)
-        ensures { Resizing self.old (record { stop = None; state = self.new }) }
-    {
-        match resize(&mut self.space, self.cpu.es, self.cpu.bx) {
-            Ok(()) => self.answer(false),
-            Err(refusal) => {
-                refuse(&mut self.cpu, refusal);
-                self.answer(true);
-            }
+/// 4Ah: gives the block at segment ES a size of BX paragraphs.
+pub(crate) fn resize(parts: &mut Parts)
+    ensures { Resizing parts.old (record { stop = None; state = parts.new }) }
+{
+    match dm_arena::resize(&mut parts.space, parts.cpu.es, parts.cpu.bx) {
+        Ok(()) => answer(parts, false),
+        Err(refusal) => {
+            refuse(&mut parts.cpu, refusal);
+            answer(parts, true);
         }
     }
+}
 
-    /// 58h: tells the allocation strategy, or sets it.
-    #[tactic(auto, unfolding(crate::specs::Allocation::strategy_call))]
-    pub(crate) fn allocation_strategy(&mut self)
-        ensures { self.new ≡ (strategy_call self.old).state }
-    {
-        match self.cpu.byte(ByteRegister::Al) {
-            0 => {
-                self.cpu.ax = number_of(self.strategy);
-                self.answer(false);
+/// 58h: tells the allocation strategy, or sets it.
+#[tactic(auto, unfolding(crate::specs::Allocation::strategy_call))]
+pub(crate) fn allocation_strategy(parts: &mut Parts)
+    ensures { parts.new ≡ (strategy_call parts.old).state }
+{
+    match parts.cpu.byte(ByteRegister::Al) {
+        0 => {
+            parts.cpu.ax = number_of(parts.strategy);
+            answer(parts, false);
+        }
+        1 => match strategy_of(parts.cpu.bx) {
+            Some(strategy) => {
+                parts.strategy = strategy;
+                answer(parts, false);
             }
-            1 => match strategy_of(self.cpu.bx) {
-                Some(strategy) => {
-                    self.strategy = strategy;
-                    self.answer(false);
-                }
-                None => {
-                    self.cpu.ax = 1;
-                    self.answer(true);
-                }
-            },
-            _ => {
-                self.cpu.ax = 1;
-                self.answer(true);
+            None => {
+                parts.cpu.ax = 1;
+                answer(parts, true);
             }
+        },
+        _ => {
+            parts.cpu.ax = 1;
+            answer(parts, true);
         }
     }
 }

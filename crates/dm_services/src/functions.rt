@@ -2,13 +2,23 @@
 ghost use Rattle.std.specs.Prelude.{◌≡◌};
 ghost use Rattle.dm_exec.specs.Cpu.{byte_of};
 ghost use Rattle.dm_ins.specs.declared.operand.ByteRegister.TheVariants.{Ah};
-ghost use Rattle.dm_services.specs.State.{HasProgram};
+ghost use Rattle.dm_state.specs.State.{HasProgram};
 ghost use Rattle.dm_services.specs.Functions.{function_of, no_function, Calls};
 ghost use Rattle.dm_services.specs.Wanting.{OrWants};
 
-use crate::parts::Parts;
-use crate::stop::Stop;
+use crate::allocation::{allocate, allocation_strategy, free, resize};
+use crate::characters::{
+    check_input, direct_character, echo_character, read_character, write_character,
+};
+use crate::flush::flush_and_read;
+use crate::handles::{read_handle, write_handle};
+use crate::lines::read_line;
+use crate::processes::{keep, load_program, tell_code, terminate};
+use crate::system::{tell_process, tell_version};
+use crate::text::print;
+use crate::vectors::{get_vector, set_vector};
 use dm_ins::ByteRegister;
+use dm_state::{Parts, Stop};
 
 /// What a call of INT 21h asks for.
 #[derive(Clone, Copy, Debug, PartialEq, Eq)]
@@ -95,64 +105,62 @@ fn function_of(number: u8) -> Function
     }
 }
 
-impl Parts {
-    /// Answers that there is no such function.
-    #[tactic(auto, unfolding(crate::specs::Functions::no_function))]
-    fn refuse(&mut self)
-        ensures { self.new ≡ (no_function self.old).state }
-    {
-        self.cpu.ax = 1;
-        self.give_back();
-        self.cpu.flags.carry = true;
-        self.count();
-    }
+/// Answers that there is no such function.
+#[tactic(auto, unfolding(crate::specs::Functions::no_function))]
+fn refuse(parts: &mut Parts)
+    ensures { parts.new ≡ (no_function parts.old).state }
+{
+    parts.cpu.ax = 1;
+    parts.give_back();
+    parts.cpu.flags.carry = true;
+    parts.count();
+}
 
-    /// Does what a call asks for.
-    #[tactic(auto, unfolding(crate::specs::Functions::no_function, crate::specs::Allocation::strategy_call, crate::specs::Processes::tell_code))]
-    fn call(&mut self, function: Function) -> Option<Stop>
-        requires { HasProgram self.old }
-        ensures answer { OrWants self.old (Calls self.old function) result self.new }
-        ensures program { HasProgram self.new }
-    {
-        match function {
-            Function::EchoCharacter => return self.echo_character(),
-            Function::WriteCharacter => return self.write_character(),
-            Function::DirectCharacter => return self.direct_character(),
-            Function::ReadCharacter => return self.read_character(),
-            Function::WriteText => return self.print(),
-            Function::ReadLine => return self.read_line(),
-            Function::CheckInput => return self.check_input(),
-            Function::FlushAndRead => return self.flush_and_read(),
-            Function::SetVector => return self.set_vector(),
-            Function::Version => return self.tell_version(),
-            Function::GetVector => return self.get_vector(),
-            Function::ReadHandle => return self.read_handle(),
-            Function::WriteHandle => return self.write_handle(),
-            Function::Process => return self.tell_process(),
-            Function::Allocate => self.allocate(),
-            Function::Free => self.free(),
-            Function::Resize => self.resize(),
-            Function::AllocationStrategy => self.allocation_strategy(),
-            Function::Exit => {
-                let code = self.cpu.byte(ByteRegister::Al);
-                return self.terminate(code);
-            }
-            Function::Terminate => return self.terminate(0),
-            Function::Keep => return self.keep(),
-            Function::LoadProgram => self.load_program(),
-            Function::ExitCode => self.tell_code(),
-            Function::Unknown => self.refuse(),
+/// Does what a call asks for.
+#[tactic(auto, unfolding(crate::specs::Functions::no_function, crate::specs::Allocation::strategy_call, crate::specs::Processes::tell_code))]
+fn call(parts: &mut Parts, function: Function) -> Option<Stop>
+    requires { HasProgram parts.old }
+    ensures answer { OrWants parts.old (Calls parts.old function) result parts.new }
+    ensures program { HasProgram parts.new }
+{
+    match function {
+        Function::EchoCharacter => return echo_character(parts),
+        Function::WriteCharacter => return write_character(parts),
+        Function::DirectCharacter => return direct_character(parts),
+        Function::ReadCharacter => return read_character(parts),
+        Function::WriteText => return print(parts),
+        Function::ReadLine => return read_line(parts),
+        Function::CheckInput => return check_input(parts),
+        Function::FlushAndRead => return flush_and_read(parts),
+        Function::SetVector => return set_vector(parts),
+        Function::Version => return tell_version(parts),
+        Function::GetVector => return get_vector(parts),
+        Function::ReadHandle => return read_handle(parts),
+        Function::WriteHandle => return write_handle(parts),
+        Function::Process => return tell_process(parts),
+        Function::Allocate => allocate(parts),
+        Function::Free => free(parts),
+        Function::Resize => resize(parts),
+        Function::AllocationStrategy => allocation_strategy(parts),
+        Function::Exit => {
+            let code = parts.cpu.byte(ByteRegister::Al);
+            return terminate(parts, code);
         }
-        None
+        Function::Terminate => return terminate(parts, 0),
+        Function::Keep => return keep(parts),
+        Function::LoadProgram => load_program(parts),
+        Function::ExitCode => tell_code(parts),
+        Function::Unknown => refuse(parts),
     }
+    None
+}
 
-    /// INT 21h: does the function that AH names.
-    pub(crate) fn dos_call(&mut self) -> Option<Stop>
-        requires { HasProgram self.old }
-        ensures answer { OrWants self.old (Calls self.old (function_of (byte_of self.old.cpu Ah))) result self.new }
-        ensures program { HasProgram self.new }
-    {
-        let function = function_of(self.cpu.byte(ByteRegister::Ah));
-        self.call(function)
-    }
+/// INT 21h: does the function that AH names.
+pub(crate) fn dos_call(parts: &mut Parts) -> Option<Stop>
+    requires { HasProgram parts.old }
+    ensures answer { OrWants parts.old (Calls parts.old (function_of (byte_of parts.old.cpu Ah))) result parts.new }
+    ensures program { HasProgram parts.new }
+{
+    let function = function_of(parts.cpu.byte(ByteRegister::Ah));
+    call(parts, function)
 }

@@ -5,22 +5,18 @@
 mod allocation;
 mod buffers;
 mod characters;
-mod config;
 mod flush;
 mod functions;
 mod handles;
 mod laws;
 mod lines;
-mod parts;
 mod processes;
 mod services;
-mod stop;
 mod system;
 mod text;
 mod vectors;
 
-pub use config::Config;
-pub use laws::{services_have_one_answer, services_ignore_unseen, services_keep_room};
-pub use parts::Parts;
-pub use services::{Service, service_at};
-pub use stop::Stop;
+pub use laws::{
+    services_have_one_answer, services_ignore_unseen, services_keep_room, services_keep_the_map,
+};
+pub use services::{Service, serve, service_at};

@@ -4,10 +4,8 @@ ghost use Rattle.std.specs.Prelude.{◌≡◌, ◌<◌, ◌≤◌, IfSome, lengt
 ghost use Rattle.dm_services.specs.Wanting.{OrMemory};
 ghost use Rattle.dm_services.specs.Lines.{line_length, kept, read_line};
 
-use crate::buffers::store;
-use crate::parts::Parts;
-use crate::stop::Stop;
 use arrayvec::ArrayVec;
+use dm_state::{Parts, Stop};
 
 /// How many bytes stand before the first 0Dh, if there is one.
 #[tactic(auto, unfolding(crate::specs::Lines::line_length))]
@@ -34,35 +32,32 @@ fn kept(size: u8, line: &[u8]) -> ArrayVec<u8, 255>
     bytes
 }
 
-impl Parts {
-    /// 0Ah: a line of the input goes into the buffer at DS:DX. `InputEnded` where the buffer is for at
-    /// least one byte and no 0Dh is left.
-    #[tactic(auto, unfolding(crate::specs::Lines::read_line))]
-    pub(crate) fn read_line(&mut self) -> Option<Stop>
-        ensures answer { OrMemory self.old (read_line self.old) result self.new }
-        ensures program { self.new.processes ≡ self.old.processes }
-    {
-        let segment = self.cpu.ds;
-        let offset = self.cpu.dx;
-        let size = self.space.peek(segment, offset);
-        if size > 0 {
-            let Some(length) = line_length(self.console.input()) else {
-                return Some(Stop::InputEnded);
-            };
-            let mut bytes = kept(size, &self.console.input()[..length]);
-            let count = bytes.len() as u8;
-            bytes.push(b'\r');
-            store(
-                &mut self.space,
-                segment,
-                offset.wrapping_add(2),
-                bytes.as_slice(),
-            );
-            store(&mut self.space, segment, offset.wrapping_add(1), &[count]);
-            self.console.consume(length + 1);
-        }
-        self.give_back();
-        self.count();
-        None
+/// 0Ah: a line of the input goes into the buffer at DS:DX. `InputEnded` where the buffer is for at
+/// least one byte and no 0Dh is left.
+#[tactic(auto, unfolding(crate::specs::Lines::read_line))]
+pub(crate) fn read_line(parts: &mut Parts) -> Option<Stop>
+    ensures answer { OrMemory parts.old (read_line parts.old) result parts.new }
+    ensures program { parts.new.processes ≡ parts.old.processes }
+{
+    let segment = parts.cpu.ds;
+    let offset = parts.cpu.dx;
+    let size = parts.space.peek(segment, offset);
+    if size > 0 {
+        let Some(length) = line_length(parts.console.input()) else {
+            return Some(Stop::InputEnded);
+        };
+        let mut bytes = kept(size, &parts.console.input()[..length]);
+        let count = bytes.len() as u8;
+        bytes.push(b'\r');
+        parts
+            .space
+            .write_bytes(segment, offset.wrapping_add(2), bytes.as_slice());
+        parts
+            .space
+            .write_bytes(segment, offset.wrapping_add(1), &[count]);
+        parts.console.consume(length + 1);
     }
+    parts.give_back();
+    parts.count();
+    None
 }

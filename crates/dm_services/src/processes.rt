@@ -3,13 +3,13 @@
 ghost use Rattle.std.specs.Prelude.{◌≡◌, ◌<◌};
 ghost use Rattle.dm_exec.specs.Cpu.{byte_of};
 ghost use Rattle.dm_ins.specs.declared.operand.ByteRegister.TheVariants.{Al};
-ghost use Rattle.dm_services.specs.State.{HasProgram};
+ghost use Rattle.dm_state.specs.State.{HasProgram};
 ghost use Rattle.dm_services.specs.Processes.{concluded, not_loaded, Executing, Overlaying, Loading, Terminating, Keeping, tell_code};
 
-use crate::parts::Parts;
-use crate::stop::Stop;
+use crate::allocation::answer;
 use dm_ins::ByteRegister;
-use dm_proc::{ArenaDestroyed, Ending, Refusal, overlay};
+use dm_proc::{ArenaDestroyed, Ending, Refusal};
+use dm_state::{Parts, Stop};
 
 /// The error code of a refusal.
 fn code_of(refusal: Refusal) -> u16
@@ -25,107 +25,107 @@ fn code_of(refusal: Refusal) -> u16
     }
 }
 
-impl Parts {
-    /// Answers that no program was loaded.
-    fn refuse_program(&mut self, refusal: Refusal)
-        ensures { self.new ≡ (not_loaded self.old refusal).state }
-    {
-        self.cpu.ax = code_of(refusal);
-        self.answer(true);
-    }
+/// Answers that no program was loaded.
+fn refuse_program(parts: &mut Parts, refusal: Refusal)
+    ensures { parts.new ≡ (not_loaded parts.old refusal).state }
+{
+    parts.cpu.ax = code_of(refusal);
+    answer(parts, true);
+}
 
-    /// 4Bh with AL = 0: starts a child.
-    fn execute(&mut self)
-        requires { HasProgram self.old }
-        ensures executing { Executing self.old (record { stop = None; state = self.new }) }
-        ensures program { HasProgram self.new }
-    {
-        match self.procs.exec(
-            &mut self.cpu,
-            &mut self.space,
-            &self.programs,
-            self.strategy,
-        ) {
-            Ok(()) => self.count(),
-            Err(refusal) => self.refuse_program(refusal),
+/// 4Bh with AL = 0: starts a child.
+fn execute(parts: &mut Parts)
+    requires { HasProgram parts.old }
+    ensures executing { Executing parts.old (record { stop = None; state = parts.new }) }
+    ensures program { HasProgram parts.new }
+{
+    match parts.procs.exec(
+        &mut parts.cpu,
+        &mut parts.space,
+        &parts.programs,
+        parts.strategy,
+    ) {
+        Ok(()) => parts.count(),
+        Err(refusal) => refuse_program(parts, refusal),
+    }
+}
+
+/// 4Bh with AL = 3: loads an overlay.
+fn overlay(parts: &mut Parts)
+    ensures overlaying { Overlaying parts.old (record { stop = None; state = parts.new }) }
+    ensures program { parts.new.processes ≡ parts.old.processes }
+{
+    match dm_proc::overlay(&parts.cpu, &mut parts.space, &parts.programs) {
+        Ok(()) => answer(parts, false),
+        Err(refusal) => refuse_program(parts, refusal),
+    }
+}
+
+/// 4Bh: starts a child, or loads an overlay.
+pub(crate) fn load_program(parts: &mut Parts)
+    requires { HasProgram parts.old }
+    ensures loading { Loading parts.old (record { stop = None; state = parts.new }) }
+    ensures program { HasProgram parts.new }
+{
+    if parts.cpu.byte(ByteRegister::Al) == 3 {
+        overlay(parts);
+    } else {
+        execute(parts);
+    }
+}
+
+/// Counts the step that ended a process with a code, or tells that it could not end.
+fn conclude(parts: &mut Parts, ended: Result<Ending, ArenaDestroyed>, code: u8) -> Option<Stop>
+    ensures answer { record { stop = result; state = parts.new } ≡ concluded parts.old code ended parts.old.processes parts.old.cpu parts.old.memory }
+    ensures program { parts.new.processes ≡ parts.old.processes }
+{
+    match ended {
+        Err(ArenaDestroyed) => Some(Stop::Destroyed),
+        Ok(Ending::Returned) => {
+            parts.count();
+            None
+        }
+        Ok(Ending::Exited) => {
+            parts.exited = Some(code);
+            parts.count();
+            Some(Stop::Exited(code))
         }
     }
+}
 
-    /// 4Bh with AL = 3: loads an overlay.
-    fn overlay(&mut self)
-        ensures overlaying { Overlaying self.old (record { stop = None; state = self.new }) }
-        ensures program { self.new.processes ≡ self.old.processes }
-    {
-        match overlay(&self.cpu, &mut self.space, &self.programs) {
-            Ok(()) => self.answer(false),
-            Err(refusal) => self.refuse_program(refusal),
-        }
-    }
+/// Ends the present process with a code; what it owned is freed.
+pub(crate) fn terminate(parts: &mut Parts, code: u8) -> Option<Stop>
+    requires { HasProgram parts.old }
+    ensures terminating { Terminating parts.old code (record { stop = result; state = parts.new }) }
+    ensures program { HasProgram parts.new }
+{
+    let ended = parts
+        .procs
+        .terminate(&mut parts.cpu, &mut parts.space, code);
+    conclude(parts, ended, code)
+}
 
-    /// 4Bh: starts a child, or loads an overlay.
-    pub(crate) fn load_program(&mut self)
-        requires { HasProgram self.old }
-        ensures loading { Loading self.old (record { stop = None; state = self.new }) }
-        ensures program { HasProgram self.new }
-    {
-        if self.cpu.byte(ByteRegister::Al) == 3 {
-            self.overlay();
-        } else {
-            self.execute();
-        }
-    }
+/// 31h: ends the present process, which keeps DX paragraphs.
+pub(crate) fn keep(parts: &mut Parts) -> Option<Stop>
+    requires { HasProgram parts.old }
+    ensures keeping { Keeping parts.old (record { stop = result; state = parts.new }) }
+    ensures program { HasProgram parts.new }
+{
+    let code = parts.cpu.byte(ByteRegister::Al);
+    let paragraphs = parts.cpu.dx;
+    let ended = parts
+        .procs
+        .keep(&mut parts.cpu, &mut parts.space, code, paragraphs);
+    conclude(parts, ended, code)
+}
 
-    /// Counts the step that ended a process with a code, or tells that it could not end.
-    fn conclude(&mut self, ended: Result<Ending, ArenaDestroyed>, code: u8) -> Option<Stop>
-        ensures answer { record { stop = result; state = self.new } ≡ concluded self.old code ended self.old.processes self.old.cpu self.old.memory }
-        ensures program { self.new.processes ≡ self.old.processes }
-    {
-        match ended {
-            Err(ArenaDestroyed) => Some(Stop::Destroyed),
-            Ok(Ending::Returned) => {
-                self.count();
-                None
-            }
-            Ok(Ending::Exited) => {
-                self.exited = Some(code);
-                self.count();
-                Some(Stop::Exited(code))
-            }
-        }
-    }
-
-    /// Ends the present process with a code; what it owned is freed.
-    pub(crate) fn terminate(&mut self, code: u8) -> Option<Stop>
-        requires { HasProgram self.old }
-        ensures terminating { Terminating self.old code (record { stop = result; state = self.new }) }
-        ensures program { HasProgram self.new }
-    {
-        let ended = self.procs.terminate(&mut self.cpu, &mut self.space, code);
-        self.conclude(ended, code)
-    }
-
-    /// 31h: ends the present process, which keeps DX paragraphs.
-    pub(crate) fn keep(&mut self) -> Option<Stop>
-        requires { HasProgram self.old }
-        ensures keeping { Keeping self.old (record { stop = result; state = self.new }) }
-        ensures program { HasProgram self.new }
-    {
-        let code = self.cpu.byte(ByteRegister::Al);
-        let paragraphs = self.cpu.dx;
-        let ended = self
-            .procs
-            .keep(&mut self.cpu, &mut self.space, code, paragraphs);
-        self.conclude(ended, code)
-    }
-
-    /// 4Dh: tells the word of the last ending, once.
-    #[tactic(auto, unfolding(crate::specs::Processes::tell_code))]
-    pub(crate) fn tell_code(&mut self)
-        ensures told { self.new ≡ (tell_code self.old).state }
-        ensures program { self.new.processes.present ≡ self.old.processes.present }
-    {
-        self.cpu.ax = self.procs.take_code();
-        self.give_back();
-        self.count();
-    }
+/// 4Dh: tells the word of the last ending, once.
+#[tactic(auto, unfolding(crate::specs::Processes::tell_code))]
+pub(crate) fn tell_code(parts: &mut Parts)
+    ensures told { parts.new ≡ (tell_code parts.old).state }
+    ensures program { parts.new.processes.present ≡ parts.old.processes.present }
+{
+    parts.cpu.ax = parts.procs.take_code();
+    parts.give_back();
+    parts.count();
 }

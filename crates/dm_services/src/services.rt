@@ -1,12 +1,13 @@
 //! The services that the machine has in place of interrupt handlers.
 ghost use Rattle.std.specs.Prelude.{◌≡◌};
-ghost use Rattle.dm_services.specs.State.{go, returned, HasProgram};
+ghost use Rattle.dm_state.specs.State.{HasProgram};
 ghost use Rattle.dm_services.specs.Services.{service_at, Serves};
 ghost use Rattle.dm_services.specs.Wanting.{OrWants};
 
-use crate::parts::Parts;
-use crate::stop::Stop;
-use dm_exec::{Cpu, interrupt_return};
+use crate::functions::dos_call;
+use crate::processes::terminate;
+use dm_exec::Cpu;
+use dm_state::{Parts, Stop};
 
 /// What acts in place of the code at a CS:IP pair.
 #[derive(Clone, Copy, Debug, PartialEq, Eq)]
@@ -32,31 +33,15 @@ pub fn service_at(cpu: &Cpu) -> Option<Service>
     }
 }
 
-impl Parts {
-    /// Counts a step.
-    pub fn count(&mut self)
-        ensures { self.new ≡ (go self.old).state }
-    {
-        self.steps = self.steps.saturating_add(1);
-    }
-
-    /// Goes back to where the program called.
-    pub(crate) fn give_back(&mut self)
-        ensures { self.new ≡ returned self.old }
-    {
-        interrupt_return(&mut self.cpu, &self.space);
-    }
-
-    /// Acts as the service. A program is loaded.
-    pub fn serve(&mut self, service: Service) -> Option<Stop>
-        requires { HasProgram self.old }
-        ensures answer { OrWants self.old (Serves self.old service) result self.new }
-        ensures program { HasProgram self.new }
-    {
-        match service {
-            Service::DivideError => self.terminate(0xFF),
-            Service::Terminate => self.terminate(0),
-            Service::Dos => self.dos_call(),
-        }
+/// Acts as the service. A program is loaded.
+pub fn serve(parts: &mut Parts, service: Service) -> Option<Stop>
+    requires { HasProgram parts.old }
+    ensures answer { OrWants parts.old (Serves parts.old service) result parts.new }
+    ensures program { HasProgram parts.new }
+{
+    match service {
+        Service::DivideError => terminate(parts, 0xFF),
+        Service::Terminate => terminate(parts, 0),
+        Service::Dos => dos_call(parts),
     }
 }

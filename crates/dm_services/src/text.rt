@@ -3,10 +3,9 @@ ghost use Rattle.std.specs.Prelude.{◌≡◌, ◌≤◌, ◌-◌, ◌++◌, len
 ghost use Rattle.dm_services.specs.Text.{print, text_at};
 ghost use Rattle.dm_services.specs.Wanting.{OrMemory};
 
-use crate::parts::Parts;
-use crate::stop::Stop;
 use dm_console::Console;
 use dm_space::Space;
+use dm_state::{Parts, Stop};
 
 /// How many bytes stand before the first `$` from segment:offset on; 65,536 where there is none.
 pub(crate) fn text_length(space: &Space, segment: u16, offset: u16) -> usize
@@ -40,22 +39,20 @@ pub(crate) fn write_text(
     }
 }
 
-impl Parts {
-    /// 09h: writes the text at DS:DX, or stops with `Memory`.
-    #[tactic(auto, using(crate::proofs::Stores::lengths), unfolding(crate::specs::Text::print))]
-    pub(crate) fn print(&mut self) -> Option<Stop>
-        ensures answer { OrMemory self.old (print self.old) result self.new }
-        ensures program { self.new.processes ≡ self.old.processes }
-    {
-        let segment = self.cpu.ds;
-        let offset = self.cpu.dx;
-        let length = text_length(&self.space, segment, offset);
-        if self.console.reserve(length).is_err() {
-            return Some(Stop::Memory);
-        }
-        write_text(&mut self.console, &self.space, segment, offset, length);
-        self.give_back();
-        self.count();
-        None
+/// 09h: writes the text at DS:DX, or stops with `Memory`.
+#[tactic(auto, using(crate::proofs::Stores::lengths), unfolding(crate::specs::Text::print))]
+pub(crate) fn print(parts: &mut Parts) -> Option<Stop>
+    ensures answer { OrMemory parts.old (print parts.old) result parts.new }
+    ensures program { parts.new.processes ≡ parts.old.processes }
+{
+    let segment = parts.cpu.ds;
+    let offset = parts.cpu.dx;
+    let length = text_length(&parts.space, segment, offset);
+    if parts.console.reserve(length).is_err() {
+        return Some(Stop::Memory);
     }
+    write_text(&mut parts.console, &parts.space, segment, offset, length);
+    parts.give_back();
+    parts.count();
+    None
 }

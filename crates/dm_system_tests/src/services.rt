@@ -1,6 +1,6 @@
 //! What calls of INT 21h answer, worked by hand from the manual.
 ghost use Rattle.std.specs.Prelude.{IfOk};
-ghost use Rattle.dm_services.specs.State.{HasProgram};
+ghost use Rattle.dm_state.specs.State.{HasProgram};
 
 use crate::checks::same;
 use crate::memory::new_space;
@@ -11,8 +11,9 @@ use dm_exec::{Cpu, Flags};
 use dm_load::Image;
 use dm_pool::Sizes;
 use dm_proc::{Arguments, Procs, Programs};
-use dm_services::{Parts, Service};
+use dm_services::{Service, serve};
 use dm_space::Space;
+use dm_state::Parts;
 use std::alloc::Global;
 use std::process::Abort;
 use std::test::Fail;
@@ -118,7 +119,7 @@ fn leaves_with(
     let Row { name, .. } = *row;
     ask(parts, alloc, row.input, row.asked, flag)?;
     let steps = parts.steps;
-    let stop = parts.serve(Service::Dos);
+    let stop = serve(parts, Service::Dos);
     same(
         rt,
         name,
@@ -499,7 +500,7 @@ fn leaves_the_others(
     let cpu = &mut parts.cpu;
     [cpu.si, cpu.di, cpu.bp, cpu.es] = [0x3333, 0x4444, 0x5555, es];
     let before = parts.cpu;
-    let stop = parts.serve(Service::Dos);
+    let stop = serve(parts, Service::Dos);
     same(rt, "stop", (asked, stop), (asked, None));
     let [ax, bx] = left;
     let wanted = Cpu {

@@ -1,4 +1,4 @@
-use Rattle.dm_services.specs.State.{HasProgram}
+use Rattle.dm_state.specs.State.{HasProgram}
 use Rattle.dm_machine_tests.proofs.acts.play.Given as goal
 
 abbrev pub invariant-loop-act : goal.invariant-loop-act

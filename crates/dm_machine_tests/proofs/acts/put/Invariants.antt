@@ -1,4 +1,4 @@
-use Rattle.dm_services.specs.State.{HasProgram}
+use Rattle.dm_state.specs.State.{HasProgram}
 use Rattle.dm_machine_tests.proofs.acts.put.Given as goal
 
 abbrev pub invariant-loop-index : goal.invariant-loop-index

@@ -1,0 +1,6 @@
+pub mod Owned
+pub mod NewBlock
+pub mod Linked
+pub mod Keeping
+pub mod Turns
+pub mod Others

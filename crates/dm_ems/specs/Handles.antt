@@ -1,0 +1,30 @@
+-- Handles and their pages (LIM EMS 4.0, functions 3 to 6, 12 and 13): each row's refusals in the order in which they are tried.
+use Rattle.std.specs.Prelude.{ℕ, nat_lt, ◌==◌, is_some, count_by, if◌then◌else◌, Some, None, Result, Ok, Err}
+use Rattle.dm_ems.specs.declared.status.Status.{Status}
+use Rattle.dm_ems.specs.declared.status.Status.TheVariants.{NoPages, NoHandleLeft, OverTotal, OverFree, UnknownHandle, ContextSaved}
+use Rattle.dm_ems.specs.Tables.{Expanded, free_handle, unallocated, appended, blank, cut, page_count}
+use Rattle.dm_ems.specs.Calls.{need, slot, with_slot}
+
+-- a new handle, the lowest that is not in use, with n pages of zeros
+unfoldable pub allocate : Expanded → ℕ → Result (ℕ × Expanded) Status
+allocate x n =
+    if n == 0 then Err NoPages else
+    need (free_handle x.ems) NoHandleLeft (λ handle.
+    if nat_lt x.ems.total n then Err OverTotal else
+    if nat_lt (unallocated x) n then Err OverFree else
+    Ok (handle, appended (with_slot x handle (Some blank)) handle n))
+
+-- a handle and its pages are freed; handle 0 stays in use, with no page and no name
+unfoldable pub deallocate : Expanded → ℕ → Result (Unit {0} × Expanded) Status
+deallocate x handle =
+    need (slot x handle) UnknownHandle (λ s.
+    if is_some s.saved then Err ContextSaved else
+    Ok (tt, with_slot (cut x handle 0) handle (if handle == 0 then Some blank else None)))
+
+-- the handles in use
+abbrev pub in_use : Expanded → ℕ
+in_use x = count_by is_some x.ems.handles
+
+-- the pages of a handle
+unfoldable pub count_pages : Expanded → ℕ → Result ℕ Status
+count_pages x handle = need (slot x handle) UnknownHandle (λ s. Ok (page_count x.ems handle))

@@ -1,0 +1,29 @@
+-- That tables and memory stay together: at the start, through each call, and while a program writes.
+use Rattle.std.specs.Prelude.{ℕ, List}
+use Rattle.dm_pool.specs.Blocks.{no_blocks}
+use Rattle.dm_space.specs.Memory.{Memory, of_ram}
+use Rattle.dm_space.specs.Places.{IsShaped}
+use Rattle.dm_ems.specs.Tables.{Expanded, expanded, new_tables, appended_page, cut}
+use Rattle.dm_ems.specs.Linked.{IsLinked}
+use Rattle.dm_ems.specs.Calls.{left, with_memory}
+use Rattle.dm_ems.specs.Handles.{allocate, deallocate}
+use Rattle.dm_ems.specs.Maps.{map_page, save_map, restore_map}
+use Rattle.dm_ems.specs.Names.{set_name}
+
+-- with a pool of no block, and no window
+abbrev pub StartIsLinked : Type 0
+StartIsLinked = (total units : ℕ) (low : List ℕ) → IsLinked (expanded (new_tables total) (of_ram low (no_blocks units)))
+
+pub record CallsKeepTheLink : Type 0 where
+  pub allocating : (x : Expanded) (n : ℕ) → IsLinked x → IsLinked (left x (allocate x n))
+  pub deallocating : (x : Expanded) (handle : ℕ) → IsLinked x → IsLinked (left x (deallocate x handle))
+  pub mapping : (x : Expanded) (window page handle : ℕ) → IsLinked x → IsLinked (left x (map_page x window page handle))
+  pub saving : (x : Expanded) (handle : ℕ) → IsLinked x → IsLinked (left x (save_map x handle))
+  pub restoring : (x : Expanded) (handle : ℕ) → IsLinked x → IsLinked (left x (restore_map x handle))
+  pub naming : (x : Expanded) (handle segment offset : ℕ) → IsLinked x → IsLinked (left x (set_name x handle segment offset))
+  pub appending : (x : Expanded) (handle : ℕ) → IsLinked x → IsLinked (appended_page x handle)
+  pub cutting : (x : Expanded) (handle count : ℕ) → IsLinked x → IsLinked (cut x handle count)
+
+-- a memory of the same map, as a write leaves it
+abbrev pub WritesKeepTheLink : Type 0
+WritesKeepTheLink = (x : Expanded) (m : Memory) → IsShaped x.memory m → IsLinked x → IsLinked (with_memory x m)

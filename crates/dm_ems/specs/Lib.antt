@@ -1,0 +1,9 @@
+pub mod Status
+pub mod Tables
+pub mod Linked
+pub mod Calls
+pub mod Handles
+pub mod Maps
+pub mod Names
+pub mod Frame
+pub mod Laws

@@ -1,0 +1,33 @@
+-- The windows of the frame (LIM EMS 4.0, functions 5, 8 and 9): each row's refusals in the order in which they are tried.
+use Rattle.std.specs.Prelude.{ℕ, nat_le, ◌==◌, is_some, if◌then◌else◌, slice_get, Option, Some, None, Result, Ok, Err}
+use Rattle.dm_space.specs.Memory.{with_window}
+use Rattle.dm_ems.specs.declared.status.Status.{Status}
+use Rattle.dm_ems.specs.declared.status.Status.TheVariants.{UnknownHandle, NoSuchWindow, NoSuchPage, SavedAlready, NoneSaved}
+use Rattle.dm_ems.specs.Tables.{Expanded, blocks_of, with_windows}
+use Rattle.dm_ems.specs.Calls.{need, slot, with_slot, with_memory}
+
+abbrev pub showing : Expanded → ℕ → Option ℕ → Expanded
+showing x window block = with_memory x (with_window x.memory window block)
+
+-- a window shows a logical page of a handle from now on, or with FFFFh none
+unfoldable pub map_page : Expanded → ℕ → ℕ → ℕ → Result (Unit {0} × Expanded) Status
+map_page x window page handle =
+    need (slot x handle) UnknownHandle (λ s.
+    if nat_le 4 window then Err NoSuchWindow else
+    if page == 0xFFFF then Ok (tt, showing x window None) else
+    need (slice_get (blocks_of x.ems handle) page) NoSuchPage (λ block.
+    Ok (tt, showing x window (Some block))))
+
+-- a handle keeps what the four windows show
+unfoldable pub save_map : Expanded → ℕ → Result (Unit {0} × Expanded) Status
+save_map x handle =
+    need (slot x handle) UnknownHandle (λ s.
+    if is_some s.saved then Err SavedAlready else
+    Ok (tt, with_slot x handle (Some (record s { saved = Some x.memory.windows }))))
+
+-- the windows show again what a handle kept, which it forgets
+unfoldable pub restore_map : Expanded → ℕ → Result (Unit {0} × Expanded) Status
+restore_map x handle =
+    need (slot x handle) UnknownHandle (λ s.
+    need s.saved NoneSaved (λ windows.
+    Ok (tt, with_slot (with_memory x (with_windows x.memory windows)) handle (Some (record s { saved = None })))))

@@ -1,0 +1,78 @@
+-- Lists of handles, and their names (LIM EMS 4.0, functions 14, 20 and 21): each row's refusals in the order in which they are tried.
+use Rattle.std.specs.Prelude.{suc, zero, ℕ, ◌/◌, ◌%◌, Bool, false, nat_eq, is_some, position, if◌then◌else◌, List, [], ◌∷◌, ◌++◌, slice_set, Option, Some, None, Result, Ok, Err}
+use Rattle.std.specs.Cmp.Lexicographic.{pointwise}
+use Rattle.std.specs.List.{list_any}
+use Rattle.dm_space.specs.Buffers.{with_bytes}
+use Rattle.dm_space.specs.EightBytes.{eight_after}
+use Rattle.dm_ems.specs.declared.status.Status.{Status}
+use Rattle.dm_ems.specs.declared.status.Status.TheVariants.{UnknownHandle, NameTaken, NameNotFound}
+use Rattle.dm_ems.specs.declared.tables.Handle.{Handle}
+use Rattle.dm_ems.specs.Tables.{Tables, Expanded, page_count, no_name}
+use Rattle.dm_ems.specs.Calls.{need, slot, with_slot, with_memory}
+use Rattle.dm_ems.specs.Handles.{in_use}
+
+abbrev pub word : ℕ → List ℕ
+word w = w % 256 ∷ w / 256 ∷ []
+
+-- f 0, f 1 and so on, n of them
+abbrev pub in_turn : (ℕ → List ℕ) → ℕ → List ℕ
+in_turn f zero = []
+in_turn f (suc n) = in_turn f n ++ f n
+
+-- bytes written from segment:offset on
+abbrev pub writing : Expanded → ℕ → ℕ → List ℕ → Expanded
+writing x segment offset bytes = with_memory x (with_bytes x.memory segment offset bytes)
+
+-- a handle in use and the number of its pages, two words
+abbrev pub page_entry : Tables → ℕ → Option Handle → List ℕ
+page_entry ems handle None = []
+page_entry ems handle (Some s) = word handle ++ word (page_count ems handle)
+
+abbrev pub page_entries : Expanded → List ℕ
+page_entries x = in_turn (λ handle. page_entry x.ems handle (slot x handle)) 64
+
+-- all handles in use, rising, with the numbers of their pages
+unfoldable pub list_pages : Expanded → ℕ → ℕ → (ℕ × Expanded)
+list_pages x segment offset = (in_use x, writing x segment offset (page_entries x))
+
+-- a handle in use and its name, a word and eight bytes
+abbrev pub name_entry : ℕ → Option Handle → List ℕ
+name_entry handle None = []
+name_entry handle (Some s) = word handle ++ s.name
+
+abbrev pub name_entries : Expanded → List ℕ
+name_entries x = in_turn (λ handle. name_entry handle (slot x handle)) 64
+
+-- all handles in use, rising, with their names
+unfoldable pub list_names : Expanded → ℕ → ℕ → (ℕ × Expanded)
+list_names x segment offset = (in_use x, writing x segment offset (name_entries x))
+
+-- eight zeros are no name
+abbrev pub is_no_name : List ℕ → Bool
+is_no_name name = pointwise nat_eq name no_name
+
+abbrev pub has_name : List ℕ → Option Handle → Bool
+has_name name None = false
+has_name name (Some s) = pointwise nat_eq s.name name
+
+-- the name is that of another handle
+unfoldable pub is_name_of_other : Tables → ℕ → List ℕ → Bool
+is_name_of_other ems handle name = if is_no_name name then false else list_any (has_name name) (slice_set ems.handles handle None)
+
+-- the name of a handle is written
+unfoldable pub get_name : Expanded → ℕ → ℕ → ℕ → Result (Unit {0} × Expanded) Status
+get_name x handle segment offset =
+    need (slot x handle) UnknownHandle (λ s. Ok (tt, writing x segment offset s.name))
+
+-- a handle gets the name that stands at segment:offset
+unfoldable pub set_name : Expanded → ℕ → ℕ → ℕ → Result (Unit {0} × Expanded) Status
+set_name x handle segment offset =
+    need (slot x handle) UnknownHandle (λ s.
+    if is_name_of_other x.ems handle (eight_after x.memory segment offset) then Err NameTaken else
+    Ok (tt, with_slot x handle (Some (record s { name = eight_after x.memory segment offset }))))
+
+-- the handle with the name that stands at segment:offset
+unfoldable pub find_name : Expanded → ℕ → ℕ → Result ℕ Status
+find_name x segment offset =
+    if is_no_name (eight_after x.memory segment offset) then Err NameTaken else
+    need (position (has_name (eight_after x.memory segment offset)) x.ems.handles) NameNotFound (λ handle. Ok handle)

@@ -1,0 +1,117 @@
+-- The tables of expanded memory, and how a page comes and goes (LIM EMS 4.0, section 2: handles, logical pages, mapping registers).
+use Rattle.std.specs.Prelude.{ℕ, zero, suc, ◌+◌, ◌-◌, ◌≤◌, ◌≡◌, Bool, ◌==◌, if◌then◌else◌, List, [], ◌∷◌, ◌++◌, length, map, filter, count_by, position, is_none, remove, drop, min, replicate, Option, Some, None}
+use Rattle.dm_pool.specs.Blocks.{Blocks, taken, without}
+use Rattle.dm_pool.specs.Gaps.{gaps, count_fitting}
+use Rattle.dm_space.specs.Memory.{Memory, with_blocks}
+use Rattle.dm_ems.specs.declared.tables.Handle.{Handle}
+use Rattle.dm_ems.specs.declared.tables.Page.{Page}
+
+pub record Tables : Type 0 where
+  -- how many pages there are in all
+  pub total : ℕ
+  -- by number, the handles in use
+  pub handles : List (Option Handle)
+  -- the pages of all handles; those of one handle stand in their order
+  pub pages : List Page
+
+-- what calls of the driver act on
+pub record Expanded : Type 0 where
+  pub ems : Tables
+  pub memory : Memory
+
+abbrev pub expanded : Tables → Memory → Expanded
+expanded ems memory = record { ems = ems; memory = memory }
+
+-- the table has 64 handles, and no more pages than there are, 512 at most
+pub record IsTables (ems : Tables) : Type 0 where
+  pub handles : length ems.handles ≡ 64
+  pub few : length ems.pages ≤ ems.total
+  pub total : ems.total ≤ 512
+
+abbrev pub no_name : List ℕ
+no_name = 0 ∷ 0 ∷ 0 ∷ 0 ∷ 0 ∷ 0 ∷ 0 ∷ 0 ∷ []
+
+-- a handle with no name, that keeps no saved windows
+abbrev pub blank : Handle
+blank = record { name = no_name; saved = None }
+
+-- at the start handle 0 is in use, with no page
+abbrev pub new_tables : ℕ → Tables
+new_tables total = record { total = total; handles = Some blank ∷ replicate 63 None; pages = [] }
+
+-- ---- pages
+
+abbrev pub is_of : ℕ → Page → Bool
+is_of handle page = page.handle == handle
+
+-- the blocks of a handle's pages, in the order of its logical pages
+abbrev pub blocks_of : Tables → ℕ → List ℕ
+blocks_of ems handle = map (λ (page : Page). page.block) (filter (is_of handle) ems.pages)
+
+abbrev pub page_count : Tables → ℕ → ℕ
+page_count ems handle = count_by (is_of handle) ems.pages
+
+-- the lowest handle that is not in use
+abbrev pub free_handle : Tables → Option ℕ
+free_handle ems = position is_none ems.handles
+
+-- the pages that no handle has: as many as fit the gaps of the pool, and as are left of the total
+abbrev pub unallocated : Expanded → ℕ
+unallocated x = min (count_fitting 16 (gaps x.memory.blocks.places x.memory.blocks.units)) (x.ems.total - length x.ems.pages)
+
+-- ---- a page comes
+
+abbrev pub with_page : Expanded → ℕ → Option (ℕ × Blocks) → Expanded
+with_page x handle None = x
+with_page x handle (Some p) = record { ems = record x.ems { pages = x.ems.pages ++ record { handle = handle; block = p.0 } ∷ [] }; memory = with_blocks x.memory p.1 }
+
+-- a page more behind those of a handle: zeros, in the lowest gap that holds 16 units
+unfoldable pub appended_page : Expanded → ℕ → Expanded
+appended_page x handle = with_page x handle (taken x.memory.blocks 16)
+
+-- n pages more
+abbrev pub appended : Expanded → ℕ → ℕ → Expanded
+appended x handle zero = x
+appended x handle (suc n) = appended_page (appended x handle n) handle
+
+-- ---- a page goes
+
+abbrev pub with_windows : Memory → List (Option ℕ) → Memory
+with_windows m windows = record m { windows = windows }
+
+-- what a window shows once a block is gone
+abbrev pub hidden : ℕ → Option ℕ → Option ℕ
+hidden block None = None
+hidden block (Some shown) = if shown == block then None else Some shown
+
+abbrev pub hidden_saved : ℕ → Option (List (Option ℕ)) → Option (List (Option ℕ))
+hidden_saved block None = None
+hidden_saved block (Some windows) = Some (map (hidden block) windows)
+
+-- a handle whose saved windows no longer show the block
+abbrev pub hiding : ℕ → Option Handle → Option Handle
+hiding block None = None
+hiding block (Some handle) = Some (record handle { saved = hidden_saved block handle.saved })
+
+abbrev pub is_block : ℕ → Page → Bool
+is_block block page = page.block == block
+
+-- the page leaves its handle, the windows and all saved windows, and its block is free
+abbrev pub without_page : Expanded → ℕ → Option ℕ → Expanded
+without_page x block None = x
+without_page x block (Some i) = record {
+  ems = record x.ems { handles = map (hiding block) x.ems.handles; pages = remove x.ems.pages i };
+  memory = with_blocks (with_windows x.memory (map (hidden block) x.memory.windows)) (without x.memory.blocks block);
+}
+
+unfoldable pub forgotten : Expanded → ℕ → Expanded
+forgotten x block = without_page x block (position (is_block block) x.ems.pages)
+
+-- each of the pages in turn
+abbrev pub forgotten_all : Expanded → List ℕ → Expanded
+forgotten_all x [] = x
+forgotten_all x (block ∷ blocks) = forgotten_all (forgotten x block) blocks
+
+-- a handle keeps its first pages, and the others go
+unfoldable pub cut : Expanded → ℕ → ℕ → Expanded
+cut x handle count = forgotten_all x (drop count (blocks_of x.ems handle))

@@ -1,0 +1,98 @@
+//! How pages come and go (LIM EMS 4.0, sections 2 and 3).
+
+ghost use Rattle.std.specs.Prelude.{◌≡◌, ◌<◌, ◌+◌, length, map, drop, slice_index_or, IfSome, None, ℕ};
+ghost use Rattle.dm_space.specs.Memory.{IsPage};
+ghost use Rattle.dm_ems.specs.Tables.{expanded, appended_page, forgotten, forgotten_all, cut, hidden, unallocated, with_windows};
+ghost use Rattle.dm_ems.specs.Linked.{IsLinked};
+
+use crate::tables::{Ems, Page, hidden_all};
+use dm_pool::Block;
+use dm_space::Space;
+
+/// How many units of 1 KiB a page has.
+const PAGE_UNITS: usize = 16;
+
+/// Makes the four windows show these blocks.
+pub(crate) fn set_windows(space: &mut Space, windows: [Option<Block>; 4])
+    requires { (k : ℕ) → IfSome (slice_index_or windows k None) (IsPage space.old.memory) }
+    ensures { space.new ≡ record space.old { memory = with_windows space.old.memory windows } }
+{
+    let before = space.windows();
+    for window in 0..before.len() {
+        space.set_window(window, windows[window]);
+    }
+}
+
+/// Makes no window show a block.
+fn hide(space: &mut Space, block: Block)
+    ensures { space.new ≡ record space.old { memory = with_windows space.old.memory (map (hidden block) space.old.memory.windows) } }
+{
+    let windows = hidden_all(space.windows(), block);
+    set_windows(space, windows);
+}
+
+/// The blocks behind the first `count` ones.
+fn behind(blocks: &[Block], count: usize) -> &[Block]
+    ensures { result.now ≡ drop count blocks.now }
+{
+    if count < blocks.len() {
+        &blocks[count..]
+    } else {
+        &blocks[..0]
+    }
+}
+
+impl Ems {
+    /// How many pages no handle has: as many as fit the gaps of the pool, and as are left of the total.
+    pub fn unallocated(&self, space: &Space) -> u16
+        ensures { result ≡ unallocated (expanded self.now space.now.memory) }
+    {
+        let fitting = space.count_fitting(PAGE_UNITS);
+        let left = self.total() - self.pages_in_use();
+        if fitting < left as usize {
+            fitting as u16
+        } else {
+            left
+        }
+    }
+
+    /// Adds a page of zeros behind those of a handle, where a gap of the pool holds one.
+    #[tactic(auto, unfolding(crate::specs::Tables::appended_page))]
+    pub fn append(&mut self, space: &mut Space, handle: u16)
+        requires { length self.old.pages < self.old.total }
+        ensures left { expanded self.new space.new.memory ≡ appended_page (expanded self.old space.old.memory) handle }
+        ensures kept { space.new ≡ record space.old { memory = space.new.memory } }
+    {
+        if let Some(block) = space.take(PAGE_UNITS) {
+            self.push(Page { handle, block });
+        }
+    }
+
+    /// Takes a page from its handle, all windows and all saved windows, and gives its block back.
+    #[tactic(auto, unfolding(crate::specs::Tables::forgotten))]
+    pub(crate) fn forget(&mut self, space: &mut Space, block: Block)
+        requires { IsLinked (expanded self.old space.old.memory) }
+        ensures left { expanded self.new space.new.memory ≡ forgotten (expanded self.old space.old.memory) block }
+        ensures kept { space.new ≡ record space.old { memory = space.new.memory } }
+    {
+        if let Some(at) = self.place(block) {
+            hide(space, block);
+            self.hide_saved(block);
+            self.remove(at);
+            space.give(block);
+        }
+    }
+
+    /// Takes its pages from a handle but the first `count` ones.
+    #[tactic(auto, unfolding(crate::specs::Tables::cut))]
+    pub fn cut(&mut self, space: &mut Space, handle: u16, count: usize)
+        requires { IsLinked (expanded self.old space.old.memory) }
+        ensures left { expanded self.new space.new.memory ≡ cut (expanded self.old space.old.memory) handle count }
+        ensures kept { space.new ≡ record space.old { memory = space.new.memory } }
+    {
+        let blocks = self.blocks(handle);
+        for block in behind(blocks.as_slice(), count) {
+            self.forget(space, *block);
+        }
+    }
+}

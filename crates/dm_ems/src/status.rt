@@ -1,0 +1,59 @@
+//! What calls of the expanded memory driver refuse (LIM EMS 4.0, appendix C).
+
+ghost use Rattle.std.specs.Prelude.{◌≡◌};
+ghost use Rattle.dm_ems.specs.Status.{code_of};
+
+/// Why a call was refused.
+#[derive(Clone, Copy, Debug, PartialEq, Eq)]
+pub enum Status {
+    /// The handle is not in use.
+    UnknownHandle,
+    /// All 64 handles are in use.
+    NoHandleLeft,
+    /// The handle keeps saved windows.
+    ContextSaved,
+    /// More pages were asked for than there are in all.
+    OverTotal,
+    /// More pages were asked for than are free.
+    OverFree,
+    /// No page was asked for.
+    NoPages,
+    /// The handle has no such page.
+    NoSuchPage,
+    /// The frame has no such window.
+    NoSuchWindow,
+    /// The handle keeps saved windows already.
+    SavedAlready,
+    /// The handle keeps no saved windows.
+    NoneSaved,
+    /// The function has no such part.
+    NoSubfunction,
+    /// No handle has the name.
+    NameNotFound,
+    /// Another handle has the name, or it is no name.
+    NameTaken,
+}
+
+impl Status {
+    /// The status byte that a program finds in AH.
+    #[tactic(auto, unfolding(crate::specs::Status::code_of))]
+    pub fn code(self) -> u8
+        ensures { result ≡ code_of self }
+    {
+        match self {
+            Status::UnknownHandle => 0x83,
+            Status::NoHandleLeft => 0x85,
+            Status::ContextSaved => 0x86,
+            Status::OverTotal => 0x87,
+            Status::OverFree => 0x88,
+            Status::NoPages => 0x89,
+            Status::NoSuchPage => 0x8A,
+            Status::NoSuchWindow => 0x8B,
+            Status::SavedAlready => 0x8D,
+            Status::NoneSaved => 0x8E,
+            Status::NoSubfunction => 0x8F,
+            Status::NameNotFound => 0xA0,
+            Status::NameTaken => 0xA1,
+        }
+    }
+}

@@ -1,0 +1,252 @@
+//! The tables of expanded memory: handles in use, and pages (LIM EMS 4.0, section 2).
+
+ghost use Rattle.std.specs.Prelude.{◌≡◌, ◌<◌, ◌≤◌, ◌+◌, ◌^◌, map, slice_index_or, slice_set, slice_get, is_some, count_by, position, is_none, remove, length, IfSome, None, ◌++◌, ◌∷◌, []};
+ghost use Rattle.dm_ems.specs.Tables.{new_tables, blocks_of, page_count, free_handle, hiding, hidden, hidden_saved, is_block};
+
+use arrayvec::ArrayVec;
+use dm_pool::Block;
+use std::marker::Model;
+
+/// How many handles there are, handle 0 among them.
+pub(crate) const HANDLES: usize = 64;
+
+/// The name of a handle that has none.
+pub(crate) const NO_NAME: [u8; 8] = [0; 8];
+
+/// A handle in use.
+#[derive(Clone, Copy, Debug)]
+pub struct Handle {
+    /// Its name; eight zeros are none.
+    pub name: [u8; 8],
+    /// The blocks that the four windows showed when they were saved under the handle.
+    pub saved: Option<[Option<Block>; 4]>,
+}
+
+/// A page.
+#[derive(Clone, Copy, Debug, Default)]
+pub struct Page {
+    /// The handle that has it.
+    pub handle: u16,
+    /// The block of 16 KiB with its bytes.
+    pub block: Block,
+}
+
+/// The handles, and the pages of all of them; the pages of one handle stand in their order.
+#[derive(Drop)]
+pub struct Ems {
+    total: u16,
+    handles: [Option<Handle>; 64],
+    pages: ArrayVec<Page, 512>,
+}
+
+impl Model for Ems {
+    ghost use Rattle.dm_ems.specs.Tables.{Tables, IsTables};
+
+    ghost Value = { Tables };
+
+    ghost view = { λ e. record { total = e.total; handles = e.handles; pages = e.pages.items } };
+
+    ghost invariant = { λ e. IsTables (record { total = e.total; handles = e.handles; pages = e.pages.items }) };
+}
+
+/// What a window shows once a block is gone.
+fn hidden(shown: Option<Block>, block: Block) -> Option<Block>
+    ensures { result ≡ hidden block shown }
+{
+    match shown {
+        Some(page) => { if page == block { None } else { Some(page) } }
+        None => None,
+    }
+}
+
+/// What four windows show once a block is gone.
+pub(crate) fn hidden_all(shown: [Option<Block>; 4], block: Block) -> [Option<Block>; 4]
+    ensures { result ≡ map (hidden block) shown }
+{
+    shown.map(|page| hidden(page, block))
+}
+
+fn hidden_saved(saved: Option<[Option<Block>; 4]>, block: Block) -> Option<[Option<Block>; 4]>
+    ensures { result ≡ hidden_saved block saved }
+{
+    match saved {
+        Some(windows) => Some(hidden_all(windows, block)),
+        None => None,
+    }
+}
+
+fn hiding(slot: Option<Handle>, block: Block) -> Option<Handle>
+    ensures { result ≡ hiding block slot }
+{
+    match slot {
+        Some(handle) => {
+            let name = handle.name;
+            let saved = hidden_saved(handle.saved, block);
+            Some(Handle { name, saved })
+        }
+        None => None,
+    }
+}
+
+fn hide_in(slots: &mut [Option<Handle>], block: Block)
+    ensures { slots.new ≡ map (hiding block) slots.old }
+{
+    for at in 0..slots.len() {
+        slots[at] = hiding(slots[at], block);
+    }
+}
+
+fn first_free(slots: &[Option<Handle>]) -> Option<usize>
+    ensures first { result ≡ position is_none slots.now }
+    ensures there { IfSome result (λ k. k < length slots.now) }
+{
+    slots.iter().position(|slot| slot.is_none())
+}
+
+fn first_of(pages: &[Page], block: Block) -> Option<usize>
+    ensures first { result ≡ position (is_block block) pages.now }
+    ensures there { IfSome result (λ k. k < length pages.now) }
+{
+    pages.iter().position(|page| page.block == block)
+}
+
+impl Ems {
+    /// The tables as a machine starts: handle 0 is in use, with no page and no name. There are `total` pages, of 16 KiB each, for all handles
+    /// together.
+    pub fn new(total: u16) -> Ems
+        requires { total ≤ 512 }
+        ensures { result ≡ new_tables total }
+    {
+        let mut handles = [None; HANDLES];
+        handles[0] = Some(Handle {
+            name: NO_NAME,
+            saved: None,
+        });
+        Ems {
+            total,
+            handles,
+            pages: ArrayVec::new(),
+        }
+    }
+
+    /// How many pages there are in all, at most 512.
+    pub fn total(&self) -> u16
+        ensures total { result ≡ self.now.total }
+        ensures few { result ≤ 512 }
+        ensures pages { length self.now.pages ≤ result }
+    {
+        self.total
+    }
+
+    /// A handle's name and saved windows; None where it is not in use.
+    pub fn slot(&self, handle: u16) -> Option<Handle>
+        ensures slot { result ≡ slice_index_or self.now.handles handle None }
+        ensures inside { IfSome result (λ s. handle < 64) }
+    {
+        if (handle as usize) < HANDLES {
+            self.handles[handle as usize]
+        } else {
+            None
+        }
+    }
+
+    /// All handles.
+    pub(crate) fn slots(&self) -> &[Option<Handle>; 64]
+        ensures { result.now ≡ self.now.handles }
+    {
+        &self.handles
+    }
+
+    pub(crate) fn set_slot(&mut self, handle: u16, slot: Option<Handle>)
+        requires { handle < 64 }
+        ensures { self.new ≡ record self.old { handles = slice_set self.old.handles handle slot } }
+    {
+        self.handles[handle as usize] = slot;
+    }
+
+    /// How many handles are in use, with handle 0.
+    pub fn in_use(&self) -> u16
+        ensures { result ≡ count_by is_some self.now.handles }
+    {
+        self.handles.iter().filter(|slot| slot.is_some()).count() as u16
+    }
+
+    /// The lowest handle that is not in use.
+    pub(crate) fn free_handle(&self) -> Option<u16>
+        ensures first { result ≡ free_handle self.now }
+        ensures low { IfSome result (λ handle. handle < 64) }
+    {
+        match first_free(&self.handles) {
+            Some(handle) => Some(handle as u16),
+            None => None,
+        }
+    }
+
+    /// The blocks of a handle's pages, in the order of its logical pages.
+    pub fn blocks(&self, handle: u16) -> ArrayVec<Block, 512>
+        ensures { result.items ≡ blocks_of self.now handle }
+    {
+        let mut blocks = ArrayVec::new();
+        for page in self.pages.as_slice() {
+            if page.handle == handle {
+                blocks.push(page.block);
+            }
+        }
+        blocks
+    }
+
+    /// The block of a logical page of a handle; None where the handle has no such page.
+    pub fn page(&self, handle: u16, page: u16) -> Option<Block>
+        ensures { result ≡ slice_get (blocks_of self.now handle) page }
+    {
+        let blocks = self.blocks(handle);
+        blocks.as_slice().get(page as usize).copied()
+    }
+
+    /// How many pages a handle has.
+    pub fn page_count(&self, handle: u16) -> u16
+        ensures count { result ≡ page_count self.now handle }
+        ensures few { result ≤ 512 }
+    {
+        self.pages
+            .iter()
+            .filter(|page| page.handle == handle)
+            .count() as u16
+    }
+
+    /// How many pages all handles have together.
+    pub fn pages_in_use(&self) -> u16
+        ensures { result ≡ length self.now.pages }
+    {
+        self.pages.len() as u16
+    }
+
+    pub(crate) fn push(&mut self, page: Page)
+        requires { length self.old.pages < self.old.total }
+        ensures { self.new ≡ record self.old { pages = self.old.pages ++ page ∷ [] } }
+    {
+        self.pages.push(page);
+    }
+
+    /// Where the page with a block stands among all pages.
+    pub(crate) fn place(&self, block: Block) -> Option<usize>
+        ensures first { result ≡ position (is_block block) self.now.pages }
+        ensures there { IfSome result (λ k. k < length self.now.pages) }
+    {
+        first_of(self.pages.as_slice(), block)
+    }
+
+    pub(crate) fn remove(&mut self, at: usize)
+        requires { at < length self.old.pages }
+        ensures { self.new ≡ record self.old { pages = remove self.old.pages at } }
+    {
+        self.pages.remove(at);
+    }
+
+    /// Makes no saved window show a block.
+    pub(crate) fn hide_saved(&mut self, block: Block)
+        ensures { self.new ≡ record self.old { handles = map (hiding block) self.old.handles } }
+    {
+        hide_in(&mut self.handles, block);
+    }
+}

@@ -1,0 +1,231 @@
+-- A service keeps the map of memory
+use Rattle.std.proofs.Common.{◌≡◌, ℕ, ◌+◌, ◌*◌, ◌==◌, Bool, true, false, cond, nat_lt, List, [], ◌∷◌, Option, Some, None, Result, Ok, Err, sym, subst}
+use Rattle.dm_space.specs.Memory.{Memory, linear, peek}
+use Rattle.dm_space.specs.Places.{IsShaped}
+use Rattle.dm_space.proofs.Places.{shaped-same}
+use Rattle.dm_ins.specs.declared.operand.ByteRegister.TheVariants.{Al, Dl, Ah}
+use Rattle.dm_arena.specs.declared.refusal.Refusal.{Refusal}
+use Rattle.dm_arena.specs.declared.fit.Strategy.{Strategy}
+use Rattle.dm_exec.specs.declared.cpu.Cpu.{Cpu}
+use Rattle.dm_exec.specs.Cpu.{byte_of}
+use Rattle.dm_services.specs.declared.services.Service.TheVariants as service
+use Rattle.dm_services.specs.declared.services.Service.TheVariants.{DivideError, Dos}
+use Rattle.dm_services.specs.declared.functions.Function.{Function}
+use Rattle.dm_services.specs.declared.functions.Function.TheVariants.{EchoCharacter, WriteCharacter, DirectCharacter, ReadCharacter, WriteText, ReadLine, CheckInput, FlushAndRead, SetVector, Version, Keep, GetVector, ReadHandle, WriteHandle, Allocate, Free, Resize, LoadProgram, Exit, ExitCode, Process, AllocationStrategy, Terminate, Unknown}
+use Rattle.dm_state.specs.State.{State, Answer, returned}
+use Rattle.dm_services.specs.Text.{print}
+use Rattle.dm_services.specs.Characters.{character_of, read_character, echo_of, echo_character, write_character, poll_of, poll_character, direct_character, check_input}
+use Rattle.dm_services.specs.Lines.{line_length, line_read, line_into, read_line}
+use Rattle.dm_services.specs.Flush.{flush_and_read}
+use Rattle.dm_services.specs.Handles.{bad_handle, read_handle, write_handle}
+use Rattle.dm_services.specs.Vectors.{set_vector, get_vector}
+use Rattle.dm_services.specs.System.{tell_version, tell_process}
+use Rattle.dm_services.specs.Allocation.{allocated, settled, strategy_of, strategy_set, strategy_call}
+use Rattle.dm_proc.specs.declared.refusal.Refusal.{Refusal as ProgramRefusal}
+use Rattle.dm_proc.specs.declared.refusal.ArenaDestroyed.{ArenaDestroyed}
+use Rattle.dm_proc.specs.declared.parent.Ending.{Ending}
+use Rattle.dm_proc.specs.declared.parent.Ending.TheVariants as ending
+use Rattle.dm_proc.specs.Processes.{Processes}
+use Rattle.dm_services.specs.Processes.{executed, overlaid, LoadingAs, concluded, Terminating, Keeping, tell_code}
+use Rattle.dm_services.specs.Functions.{function_of, no_function, Calls}
+use Rattle.dm_services.specs.Laws.{ServicesKeepTheMap}
+use Rattle.dm_services.proofs.MapParts.{word-kept, bytes-kept, return-kept, allocates-kept, frees-kept, resizes-kept, executes-kept, overlays-kept, terminates-kept, keeps-kept}
+
+-- the answer's memory has the map of the state's
+abbrev Kept : State → Answer → Type 0
+Kept s x = IsShaped s.memory x.state.memory
+
+-- back in the program, with memory as it was
+still : (s : State) (c : Cpu) → IsShaped s.memory (returned (record s { cpu = c })).memory
+still s c = return-kept s.memory c s.memory (shaped-same s.memory)
+
+choice-kept : (s : State) (b : Bool) (x y : Answer) → Kept s x → Kept s y → Kept s (cond b x y)
+choice-kept s true x y h g = h
+choice-kept s false x y h g = g
+
+character-kept : (s : State) (xs : List ℕ) → Kept s (character_of s xs)
+character-kept s [] = shaped-same s.memory
+character-kept s (x ∷ xs) = still s _
+
+read_character-kept : (s : State) → Kept s (read_character s)
+unfolding read_character
+read_character-kept s = character-kept s s.console.input
+
+echo-kept : (s : State) (xs : List ℕ) → Kept s (echo_of s xs)
+echo-kept s [] = shaped-same s.memory
+echo-kept s (x ∷ xs) = still s _
+
+echo_character-kept : (s : State) → Kept s (echo_character s)
+unfolding echo_character
+echo_character-kept s = echo-kept s s.console.input
+
+write_character-kept : (s : State) → Kept s (write_character s)
+unfolding write_character
+write_character-kept s = still s _
+
+poll-kept : (s : State) (xs : List ℕ) → Kept s (poll_of s xs)
+poll-kept s [] = still s _
+poll-kept s (x ∷ xs) = still s _
+
+poll_character-kept : (s : State) → Kept s (poll_character s)
+unfolding poll_character
+poll_character-kept s = poll-kept s s.console.input
+
+direct_character-kept : (s : State) → Kept s (direct_character s)
+unfolding direct_character
+direct_character-kept s = choice-kept s (byte_of s.cpu Dl == 0xFF) _ _ (poll_character-kept s) (write_character-kept s)
+
+check_input-kept : (s : State) → Kept s (check_input s)
+unfolding check_input
+check_input-kept s = still s _
+
+line-kept : (s : State) (m : ℕ) (o : Option ℕ) → Kept s (line_read s m o)
+line-kept s m None = shaped-same s.memory
+line-kept s m (Some n) = return-kept s.memory _ _ (bytes-kept s.memory _ _ _ _ (bytes-kept s.memory s.memory _ _ _ (shaped-same s.memory)))
+
+line_into-kept : (s : State) (m : ℕ) → Kept s (line_into s m)
+line_into-kept s m = choice-kept s (m == 0) _ _ (still s _) (line-kept s m (line_length s.console.input))
+
+read_line-kept : (s : State) → Kept s (read_line s)
+unfolding read_line
+read_line-kept s = line_into-kept s (peek s.memory (linear s.memory.a20 s.cpu.ds s.cpu.dx))
+
+flush_and_read-kept : (s : State) → Kept s (flush_and_read s)
+unfolding flush_and_read
+flush_and_read-kept s =
+    choice-kept s (byte_of s.cpu Al == 0x01) _ _ (echo_character-kept s)
+    (choice-kept s (byte_of s.cpu Al == 0x06) _ _ (direct_character-kept s)
+    (choice-kept s (byte_of s.cpu Al == 0x07) _ _ (read_character-kept s)
+    (choice-kept s (byte_of s.cpu Al == 0x08) _ _ (read_character-kept s)
+    (choice-kept s (byte_of s.cpu Al == 0x0A) _ _ (read_line-kept s) (still s _)))))
+
+bad_handle-kept : (s : State) → Kept s (bad_handle s)
+unfolding bad_handle
+bad_handle-kept s = still s _
+
+read_handle-kept : (s : State) → Kept s (read_handle s)
+unfolding read_handle
+read_handle-kept s =
+    choice-kept s (nat_lt s.cpu.bx 3) _ _ (return-kept s.memory _ _ (bytes-kept s.memory s.memory _ _ _ (shaped-same s.memory))) (bad_handle-kept s)
+
+write_handle-kept : (s : State) → Kept s (write_handle s)
+unfolding write_handle
+write_handle-kept s = choice-kept s (nat_lt s.cpu.bx 3) _ _ (still s _) (bad_handle-kept s)
+
+set_vector-kept : (s : State) → Kept s (set_vector s)
+unfolding set_vector
+set_vector-kept s =
+    let n = 4 * byte_of s.cpu Al in
+    return-kept s.memory _ _ (word-kept s.memory _ 0 (n + 2) s.cpu.ds (word-kept s.memory s.memory 0 n s.cpu.dx (shaped-same s.memory)))
+
+get_vector-kept : (s : State) → Kept s (get_vector s)
+unfolding get_vector
+get_vector-kept s = still s _
+
+tell_version-kept : (s : State) → Kept s (tell_version s)
+unfolding tell_version
+tell_version-kept s = still s _
+
+tell_process-kept : (s : State) → Kept s (tell_process s)
+unfolding tell_process
+tell_process-kept s = still s _
+
+print-kept : (s : State) → Kept s (print s)
+unfolding print
+print-kept s = still s _
+
+no_function-kept : (s : State) → Kept s (no_function s)
+unfolding no_function
+no_function-kept s = still s _
+
+tell_code-kept : (s : State) → Kept s (tell_code s)
+unfolding tell_code
+tell_code-kept s = still s _
+
+-- ---- blocks
+
+allocated-kept : (s : State) (r : Result ℕ Refusal) (m : Memory) → IsShaped s.memory m → Kept s (allocated s r m)
+allocated-kept s (Ok segment) m h = return-kept s.memory _ m h
+allocated-kept s (Err e) m h = return-kept s.memory _ m h
+
+settled-kept : (s : State) (r : Result (Unit {0}) Refusal) (m : Memory) → IsShaped s.memory m → Kept s (settled s r m)
+settled-kept s (Ok u) m h = return-kept s.memory _ m h
+settled-kept s (Err e) m h = return-kept s.memory _ m h
+
+strategy_set-kept : (s : State) (o : Option Strategy) → Kept s (strategy_set s o)
+strategy_set-kept s None = still s _
+strategy_set-kept s (Some strategy) = still s _
+
+strategy-kept : (s : State) → Kept s (strategy_call s)
+unfolding strategy_call
+strategy-kept s = choice-kept s (byte_of s.cpu Al == 0) _ _ (still s _) (choice-kept s (byte_of s.cpu Al == 1) _ _ (strategy_set-kept s (strategy_of s.cpu.bx)) (still s _))
+
+-- ---- programs
+
+executed-kept : (s : State) (r : Result (Unit {0}) ProgramRefusal) (qs : Processes) (d : Cpu) (n : Memory) → IsShaped s.memory n → Kept s (executed s r qs d n)
+executed-kept s (Ok x) qs d n h = h
+executed-kept s (Err e) qs d n h = still s _
+
+overlaid-kept : (s : State) (r : Result (Unit {0}) ProgramRefusal) (n : Memory) → IsShaped s.memory n → Kept s (overlaid s r n)
+overlaid-kept s (Ok x) n h = return-kept s.memory _ n h
+overlaid-kept s (Err e) n h = still s _
+
+concluded-kept : (s : State) (code : ℕ) (r : Result Ending ArenaDestroyed) (qs : Processes) (d : Cpu) (n : Memory) → IsShaped s.memory n → Kept s (concluded s code r qs d n)
+concluded-kept s code (Ok ending.Returned) qs d n h = h
+concluded-kept s code (Ok ending.Exited) qs d n h = h
+concluded-kept s code (Err e) qs d n h = shaped-same s.memory
+
+by : (s : State) (x y : Answer) → x ≡ y → Kept s y → Kept s x
+by s x y e h = subst (λ z. Kept s z) (sym e) h
+
+loading-kept : (s : State) (action : Bool) (x : Answer) → LoadingAs action s x → Kept s x
+loading-kept s true x a = by s x _ a.answer (overlaid-kept s a.result a.memory (overlays-kept s.cpu s.memory s.programs a.result a.memory a.overlays))
+loading-kept s false x a =
+    by s x _ a.answer
+    (executed-kept s a.result a.processes a.cpu a.memory
+    (executes-kept s.processes s.cpu s.memory s.programs s.strategy a.result a.processes a.cpu a.memory a.executes))
+
+terminating-kept : (s : State) (code : ℕ) (x : Answer) → Terminating s code x → Kept s x
+terminating-kept s code x a =
+    by s x _ a.answer
+    (concluded-kept s code a.result a.processes a.cpu a.memory
+    (terminates-kept s.processes s.cpu s.memory code a.result a.processes a.cpu a.memory a.terminates))
+
+keeping-kept : (s : State) (x : Answer) → Keeping s x → Kept s x
+keeping-kept s x a =
+    by s x _ a.answer
+    (concluded-kept s (byte_of s.cpu Al) a.result a.processes a.cpu a.memory
+    (keeps-kept s.processes s.cpu s.memory (byte_of s.cpu Al) s.cpu.dx a.result a.processes a.cpu a.memory a.keeps))
+
+-- ---- all calls
+
+calls-kept : (s : State) (g : Function) (x : Answer) → Calls s g x → Kept s x
+calls-kept s EchoCharacter x e = by s x _ e (echo_character-kept s)
+calls-kept s WriteCharacter x e = by s x _ e (write_character-kept s)
+calls-kept s DirectCharacter x e = by s x _ e (direct_character-kept s)
+calls-kept s ReadCharacter x e = by s x _ e (read_character-kept s)
+calls-kept s WriteText x e = by s x _ e (print-kept s)
+calls-kept s ReadLine x e = by s x _ e (read_line-kept s)
+calls-kept s CheckInput x e = by s x _ e (check_input-kept s)
+calls-kept s FlushAndRead x e = by s x _ e (flush_and_read-kept s)
+calls-kept s SetVector x e = by s x _ e (set_vector-kept s)
+calls-kept s Version x e = by s x _ e (tell_version-kept s)
+calls-kept s GetVector x e = by s x _ e (get_vector-kept s)
+calls-kept s ReadHandle x e = by s x _ e (read_handle-kept s)
+calls-kept s WriteHandle x e = by s x _ e (write_handle-kept s)
+calls-kept s Allocate x a = by s x _ a.answer (allocated-kept s a.result a.memory (allocates-kept s.memory s.strategy s.cpu.bx s.processes.present a.result a.memory a.allocates))
+calls-kept s Free x a = by s x _ a.answer (settled-kept s a.result a.memory (frees-kept s.memory s.cpu.es a.result a.memory a.frees))
+calls-kept s Resize x a = by s x _ a.answer (settled-kept s a.result a.memory (resizes-kept s.memory s.cpu.es s.cpu.bx a.result a.memory a.resizes))
+calls-kept s LoadProgram x a = loading-kept s _ x a
+calls-kept s Exit x a = terminating-kept s _ x a
+calls-kept s Keep x a = keeping-kept s x a
+calls-kept s Terminate x a = terminating-kept s 0 x a
+calls-kept s ExitCode x e = by s x _ e (tell_code-kept s)
+calls-kept s Process x e = by s x _ e (tell_process-kept s)
+calls-kept s AllocationStrategy x e = by s x _ e (strategy-kept s)
+calls-kept s Unknown x e = by s x _ e (no_function-kept s)
+
+pub serves-kept : ServicesKeepTheMap
+serves-kept s DivideError x a = terminating-kept s 0xFF x a
+serves-kept s service.Terminate x a = terminating-kept s 0 x a
+serves-kept s Dos x h = calls-kept s (function_of (byte_of s.cpu Ah)) x h

@@ -1,0 +1,17 @@
+//! Bytes written to the buffers of programs.
+ghost use Rattle.std.specs.Prelude.{◌≡◌, ◌<◌, length};
+ghost use Rattle.dm_space.specs.Buffers.{with_bytes};
+
+use crate::space::Space;
+
+impl Space {
+    /// Writes the bytes upwards from segment:offset on; offsets wrap.
+    pub fn write_bytes(&mut self, segment: u16, offset: u16, bytes: &[u8])
+        requires { length bytes.now < 65536 }
+        ensures { self.new ≡ record self.old { memory = with_bytes self.old.memory segment offset bytes.now } }
+    {
+        for (index, byte) in bytes.iter().enumerate() {
+            self.poke(segment, offset.wrapping_add(index as u16), *byte);
+        }
+    }
+}

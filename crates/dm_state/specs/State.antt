@@ -1,0 +1,59 @@
+-- The state of the machine, and what a step answers.
+use Rattle.std.specs.Prelude.{ℕ, ◌+◌, ◌-◌, ◌^◌, ◌<◌, min, Bool, All, List, Option, Some, None}
+use Rattle.dm_space.specs.Memory.{Memory}
+use Rattle.dm_exec.specs.declared.cpu.Cpu.{Cpu}
+use Rattle.dm_exec.specs.Guest.{Guest, guest}
+use Rattle.dm_exec.specs.Stack.{interrupt_return}
+use Rattle.dm_console.specs.Streams.{Streams}
+use Rattle.dm_arena.specs.declared.fit.Strategy.{Strategy}
+use Rattle.dm_proc.specs.declared.parent.Parent.{Parent}
+use Rattle.dm_proc.specs.Processes.{Processes}
+use Rattle.dm_state.specs.declared.stop.Stop.{Stop}
+use Rattle.dm_pool.specs.declared.sizes.Sizes.{Sizes}
+
+pub record State : Type 0 where
+  pub cpu : Cpu
+  pub memory : Memory
+  pub console : Streams
+  pub processes : Processes
+  -- which free block an allocation takes
+  pub strategy : Strategy
+  -- the code with which the first program ended
+  pub exited : Option ℕ
+  -- how many steps were made; at 2^64 - 1 the count stays
+  pub steps : ℕ
+  -- what no step changes: the store of programs (names and files), the variables of the first program's environment,
+  -- each closed by a zero, and the sizes
+  pub programs : List (List ℕ × List ℕ)
+  pub variables : List ℕ
+  pub sizes : Sizes
+
+-- each process that waits for a child has a program segment prefix
+abbrev pub HaveSegments : List Parent → Type 0
+HaveSegments parents = All (λ p. 0 < p.segment) parents
+
+-- a program is loaded
+abbrev pub HasProgram : State → Type 0
+HasProgram s = 0 < s.processes.present
+
+pub record Answer : Type 0 where
+  pub stop : Option Stop
+  pub state : State
+
+-- a step is made, and the machine goes on
+abbrev pub go : State → Answer
+go s = record { stop = None; state = record s { steps = min (s.steps + 1) (2 ^ 64 - 1) } }
+
+-- no step is made
+abbrev pub stop_at : Stop → State → Answer
+stop_at stop s = record { stop = Some stop; state = s }
+
+abbrev pub with_guest : State → Guest → State
+with_guest s g = record s { cpu = g.cpu; memory = g.memory }
+
+-- IP, CS and FLAGS are popped
+abbrev pub returned : State → State
+returned s = with_guest s (interrupt_return (guest s.cpu s.memory))
+
+abbrev pub with_carry : State → Bool → State
+with_carry s b = record s { cpu = record s.cpu { flags = record s.cpu.flags { carry = b } } }

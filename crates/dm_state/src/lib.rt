@@ -1,0 +1,11 @@
+//! What instructions and services act on: the parts of a machine, what a step answers, and what a
+//! machine is made with.
+#![tactic(auto)]
+
+mod config;
+mod parts;
+mod stop;
+
+pub use config::Config;
+pub use parts::Parts;
+pub use stop::Stop;

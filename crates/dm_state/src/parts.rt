@@ -1,0 +1,78 @@
+//! What services act on.
+ghost use Rattle.std.specs.Prelude.{◌≡◌};
+ghost use Rattle.dm_state.specs.State.{go, returned};
+
+use dm_arena::Strategy;
+use dm_console::Console;
+use dm_exec::{Cpu, interrupt_return};
+use dm_pool::Sizes;
+use dm_proc::{Procs, Programs};
+use dm_space::Space;
+use std::marker::Model;
+
+/// The parts of a machine, on which instructions and services act.
+///
+/// Contracts see its state: registers, memory, console, processes, the allocation strategy, the code
+/// with which the first program ended, the count of steps, and what no step changes.
+#[derive(Drop)]
+pub struct Parts {
+    /// The registers and flags.
+    pub cpu: Cpu,
+    /// The memory.
+    pub space: Space,
+    /// The input and the output.
+    pub console: Console,
+    /// The processes that are alive.
+    pub procs: Procs,
+    /// Which free block an allocation takes.
+    pub strategy: Strategy,
+    /// The code with which the first program ended.
+    pub exited: Option<u8>,
+    /// How many steps were made; at 2^64 - 1 the count stays.
+    pub steps: u64,
+    /// The programs that can be started.
+    pub programs: Programs,
+    /// The variables of the first program's environment, each closed by a zero byte: at most 32,767
+    /// bytes.
+    pub variables: Vec<u8>,
+    /// How much expanded and extended memory there is.
+    pub sizes: Sizes,
+}
+
+impl Model for Parts {
+    ghost use Rattle.std.specs.Prelude.{◌≤◌, length};
+    ghost use Rattle.dm_state.specs.State.{State, HaveSegments};
+
+    ghost Value = { State };
+
+    ghost view = { λ p. record {
+      cpu = p.cpu;
+      memory = p.space.memory;
+      console = p.console;
+      processes = p.procs;
+      strategy = p.strategy;
+      exited = p.exited;
+      steps = p.steps;
+      programs = p.programs;
+      variables = p.variables.items;
+      sizes = p.sizes;
+    } };
+
+    ghost invariant = { λ p. (length p.variables.items ≤ 0x7FFF) × HaveSegments p.procs.parents };
+}
+
+impl Parts {
+    /// Counts a step.
+    pub fn count(&mut self)
+        ensures { self.new ≡ (go self.old).state }
+    {
+        self.steps = self.steps.saturating_add(1);
+    }
+
+    /// Goes back to where the program called.
+    pub fn give_back(&mut self)
+        ensures { self.new ≡ returned self.old }
+    {
+        interrupt_return(&mut self.cpu, &self.space);
+    }
+}
