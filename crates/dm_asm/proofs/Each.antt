@@ -1,10 +1,10 @@
 -- Lists whose elements each give something.
-use Rattle.std.proofs.Common.{◌≡◌, ℕ, suc, ◌<◌, ◌+◌, ◌*◌, List, [], ◌∷◌, ◌++◌, take, drop, map, length, get_or, Option, Some, None, IsSome, refl, sym, ap, subst, ◌∙◌, add-one, length-append, arith, flat_map}
+use Rattle.std.proofs.Common.{◌≡◌, ℕ, suc, ◌<◌, ◌+◌, List, [], ◌∷◌, ◌++◌, take, drop, map, length, get_or, Option, Some, None, IsSome, refl, sym, ap, subst, ◌∙◌, add-one, flat_map}
 use Rattle.std.specs.List.{AllByRecursion}
-use Rattle.std.proofs.Math.Seq.{drop-cons, take-suc, take-length, drop-length}
+use Rattle.std.proofs.Math.Seq.{drop-cons, take-suc, take-length}
 use Rattle.std.proofs.lemmas.List.{take-append-drop, append_assoc}
 use Rattle.dm_lines.specs.declared.term.Value.{Value}
-use Rattle.dm_asm.specs.Labels.{Label, place_of}
+use Rattle.dm_asm.specs.Labels.{Label}
 use Rattle.dm_asm.specs.Codes.{word_of, low_high, AreWordsOf}
 
 -- a list about one of its places
@@ -44,10 +44,10 @@ flat_snoc (v ∷ ws) w = ap (λ r. low_high v ++ r) (flat_snoc ws w) ∙ sym (ap
 
 pub words_more : (list : List Label) (vs : List Value) (i : ℕ) (v d : Value) (code : List ℕ) (w : ℕ) (more : List ℕ) → i < length vs → v ≡ get_or vs i d → word_of list v ≡ Some w → more ≡ code ++ low_high w → AreWordsOf list (take i vs) code → AreWordsOf list (take (i + 1) vs) more
 words_more list vs i v d code w more h e g b a = record {
-    values = a.values ++ w ∷ [];
-    are = map_more (word_of list) vs i v d a.values w h e g a.are;
-    bytes = b ∙ ap (λ r. r ++ low_high w) a.bytes ∙ sym (flat_snoc a.values w)
-  }
+  values = a.values ++ w ∷ [];
+  are = map_more (word_of list) vs i v d a.values w h e g a.are;
+  bytes = b ∙ ap (λ r. r ++ low_high w) a.bytes ∙ sym (flat_snoc a.values w);
+}
 
 pub words_none : (list : List Label) (vs : List Value) (i : ℕ) (v d : Value) (code : List ℕ) → i < length vs → v ≡ get_or vs i d → word_of list v ≡ None → AreWordsOf list vs code → ⊥
 words_none list vs i v d code h e g a = map_none (word_of list) vs i v d a.values h e g a.are

@@ -1,7 +1,6 @@
 -- Labels in lists.
 use Rattle.std.proofs.Common.{◌≡◌, ℕ, Bool, true, false, List, [], ◌∷◌, ◌++◌, Option, Some, None, refl, sym, ap, ◌∙◌, if◌then◌else◌}
 use Rattle.std.specs.Str.{bytes_eq}
-use Rattle.std.specs.Prelude.{cond}
 use Rattle.std.proofs.lemmas.Slice.Eq.{bytes_eq-Decides}
 use Rattle.std.proofs.lemmas.Bool.{false_from_ne_true}
 use Rattle.dm_lines.specs.declared.token.Name as Name'
@@ -34,7 +33,7 @@ find_more q name place (l ∷ ls) h =
     let s = split_none (bytes_eq l.name.bytes name.bytes) l.place (find name ls) h in
     ap (λ r. if bytes_eq l.name.bytes q.bytes then Some l.place else r) (find_more q name place ls s.1)
     ∙ apart_from (bytes_eq l.name.bytes q.bytes) (bytes_eq name.bytes q.bytes) l.place place (find q ls)
-        (λ e f. wrong (bytes_eq l.name.bytes name.bytes) (joined_names l.name.bytes name.bytes q.bytes e f) s.0)
+    (λ e f. wrong (bytes_eq l.name.bytes name.bytes) (joined_names l.name.bytes name.bytes q.bytes e f) s.0)
 
 pub none_front : (name : Name'.Name) (xs ys : List Label) → find name (xs ++ ys) ≡ None → find name xs ≡ None
 none_front name [] ys h = refl

@@ -1,5 +1,5 @@
 -- A text has one answer.
-use Rattle.std.proofs.Common.{◌≡◌, ℕ, ◌+◌, ◌<◌, ◌≤◌, List, [], ◌∷◌, ◌++◌, length, map, Option, Some, None, IsSome, Result, Ok, Err, ◌⊎◌, inl, inr, refl, sym, ap, subst, ◌∙◌, arith}
+use Rattle.std.proofs.Common.{◌≡◌, ℕ, ◌+◌, ◌<◌, ◌≤◌, List, [], ◌∷◌, ◌++◌, length, map, Option, Some, None, IsSome, Result, Ok, Err, refl, sym, ap, subst, ◌∙◌, arith}
 use Rattle.std.specs.List.{AllByRecursion}
 use Rattle.dm_lines.specs.declared.token.Name as Name'
 use Rattle.dm_lines.specs.declared.term.Value.{Value}
@@ -77,7 +77,7 @@ good_at one lines front line back ys xs e laid read =
     record {
       x = r.x;
       reads = r.reads;
-      free = subst (λ zs. IsFree r.x.statement.label (labels_of zs)) (are_read_once one front r.first xs r.read read) (free_in r.x.statement.label (0x100 + total r.first) (labels_of r.first) _ o)
+      free = subst (λ zs. IsFree r.x.statement.label (labels_of zs)) (are_read_once one front r.first xs r.read read) (free_in r.x.statement.label (0x100 + total r.first) (labels_of r.first) _ o);
     }
 
 -- what is wrong with a line in the first pass
@@ -203,7 +203,7 @@ stuck_same one text n m ls ms at to x y e f g s h t =
         let c : n ≡ m = g.number ∙ ap (λ xs. length xs + 1) p ∙ sym h.number in
         let a : at ≡ to = g.at_is ∙ ap (λ xs. 0x100 + total xs) p ∙ sym h.at_is in
         stuck_once ms to y.statement.item m e f
-          (subst (λ (i : ℕ). Stuck ms to y.statement.item i e) c (subst (λ (z : Sized). Stuck ms to z.statement.item n e) q (subst (λ (i : ℕ). Stuck ms i x.statement.item n e) a (subst (λ (r : List Label). Stuck r at x.statement.item n e) l s)))) t
+        (subst (λ (i : ℕ). Stuck ms to y.statement.item i e) c (subst (λ (z : Sized). Stuck ms to z.statement.item n e) q (subst (λ (i : ℕ). Stuck ms i x.statement.item n e) a (subst (λ (r : List Label). Stuck r at x.statement.item n e) l s)))) t
     by l (before zs p) =
         let r = front_read h.before (y ∷ h.after) (lines_of text) h.laid.read in
         absurd (stuck_coded one text n ls at x e g s r.0 h.before zs h.pieces p r.1 (subst (λ (k : List Label). AreCoded k 0x100 h.before h.pieces) (sym l) h.coded))
@@ -215,7 +215,7 @@ stuck_done : WordsAreOne → (text : List ℕ) (n : ℕ) (ls : List Label) (at :
 stuck_done one text n ls at x e code g s a =
     let whole : a.statements ≡ g.before ++ x ∷ g.after = laid_once one text _ _ a.laid g.laid in
     stuck_coded one text n ls at x e g s (lines_of text) a.statements g.after a.pieces whole a.laid.read
-      (subst (λ (k : List Label). AreCoded k 0x100 a.statements a.pieces) (ap labels_of whole ∙ sym g.labels_are) a.coded)
+    (subst (λ (k : List Label). AreCoded k 0x100 a.statements a.pieces) (ap labels_of whole ∙ sym g.labels_are) a.coded)
 
 done_same : WordsAreOne → (text a b : List ℕ) → Assembles text a → Assembles text b → a ≡ b
 done_same one text a b p q =

@@ -1,5 +1,5 @@
 -- What the passes keep.
-use Rattle.std.proofs.Common.{◌≡◌, ℕ, ◌+◌, ◌*◌, ◌<◌, ◌≤◌, List, [], ◌∷◌, ◌++◌, length, Option, Some, None, IfSome, refl, sym, ap, subst, ◌∙◌, arith}
+use Rattle.std.proofs.Common.{◌≡◌, ℕ, ◌+◌, ◌<◌, ◌≤◌, List, [], ◌∷◌, ◌++◌, length, Option, Some, None, IfSome, refl, sym, ap, subst, ◌∙◌, arith}
 use Rattle.std.proofs.lemmas.List.{append_assoc, append-nil, length-append}
 use Rattle.dm_asm.specs.declared.labels.Labels.{Labels}
 use Rattle.dm_asm.specs.declared.refusal.Refusal.TheVariants as refusal
@@ -28,23 +28,23 @@ laying_none text kept k = record { before = []; statements = []; parts = refl; n
 
 pub laying_more : (text rest behind line : List ℕ) (number at : ℕ) (old new : Labels) (x : Sized) → (l : Laying text rest number at old) → lines_of rest ≡ line ∷ lines_of behind → Reads line x → IsFree x.statement.label (labels_of l.statements) → AreKept new (labels_of l.statements ++ labelled x.statement.label at) → Laying text behind (number + 1) (at + x.long) new
 laying_more text rest behind line number at old new x l e r f k = record {
-    before = l.before ++ line ∷ [];
-    statements = l.statements ++ x ∷ [];
-    parts = l.parts ∙ ap (λ ls. l.before ++ ls) e ∙ sym (append_assoc l.before (line ∷ []) (lines_of behind));
-    number_is = let h = l.number_is in omega (arith, length-append l.before (line ∷ []));
-    at_is = let h = l.at_is in omega (arith, total_append l.statements (x ∷ []));
-    laid = laid_more l.before l.statements line x l.laid r f;
-    keeps = subst (AreKept new) (ap (λ a. labels_of l.statements ++ labelled x.statement.label a) l.at_is ∙ sym (labels_more 0x100 l.statements x)) k
-  }
+  before = l.before ++ line ∷ [];
+  statements = l.statements ++ x ∷ [];
+  parts = l.parts ∙ ap (λ ls. l.before ++ ls) e ∙ sym (append_assoc l.before (line ∷ []) (lines_of behind));
+  number_is = let h = l.number_is in omega (arith, length-append l.before (line ∷ []));
+  at_is = let h = l.at_is in omega (arith, total_append l.statements (x ∷ []));
+  laid = laid_more l.before l.statements line x l.laid r f;
+  keeps = subst (AreKept new) (ap (λ a. labels_of l.statements ++ labelled x.statement.label a) l.at_is ∙ sym (labels_more 0x100 l.statements x)) k;
+}
 
 behind_good : (text rest behind line : List ℕ) (number at : ℕ) (kept : Labels) → (l : Laying text rest number at kept) → lines_of rest ≡ line ∷ lines_of behind → IsBehindGood text (number + 1) line l.statements
 behind_good text rest behind line number at kept l e = record {
-    before = l.before;
-    after = lines_of behind;
-    parts = l.parts ∙ ap (λ ls. l.before ++ ls) e;
-    number = ap (λ n. n + 1) l.number_is;
-    laid = l.laid
-  }
+  before = l.before;
+  after = lines_of behind;
+  parts = l.parts ∙ ap (λ ls. l.before ++ ls) e;
+  number = ap (λ n. n + 1) l.number_is;
+  laid = l.laid;
+}
 
 pub is_syntax : (text rest behind line : List ℕ) (number at : ℕ) (kept : Labels) → Laying text rest number at kept → lines_of rest ≡ line ∷ lines_of behind → ((x : Sized) → Reads line x → ⊥) → Refuses text (refusal.Syntax (number + 1))
 is_syntax text rest behind line number at kept l e none = syntax (number + 1) line l.statements (behind_good text rest behind line number at kept l e) none
@@ -123,7 +123,7 @@ is_open one text rest behind line number kept out x l e r =
       labels_are = ap labels_of n.parts;
       at_is = ap (λ k. 0x100 + k) l.long;
       pieces = l.pieces;
-      coded = l.coded
+      coded = l.coded;
     }
 
 pub is_unknown : WordsAreOne → (text rest behind line : List ℕ) (number : ℕ) (kept : Labels) (out : List ℕ) (x : Sized) → (l : Emitting text rest number kept out) → lines_of rest ≡ line ∷ lines_of behind → Reads line x → (Knows (labels_of l.are.statements) x.statement.item → ⊥) → Refuses text (refusal.Unknown (number + 1))
@@ -148,7 +148,7 @@ emitting_more one text rest behind line number kept out code new x l e r c is =
       pieces = l.pieces ++ code ∷ [];
       coded = coded_more (labels_of l.are.statements) 0x100 l.front l.pieces x code l.coded (subst (λ (o : List ℕ). Codes (labels_of l.are.statements) (0x100 + length o) x.statement.item code) l.out_is c);
       out_is = is ∙ ap (λ o. o ++ code) l.out_is ∙ sym (joined_more l.pieces code);
-      long = let h = l.long in let m : length new ≡ length out + length code = ap length is ∙ length-append out code in omega (arith, m, h, k, total_append l.front (x ∷ []))
+      long = let h = l.long in let m : length new ≡ length out + length code = ap length is ∙ length-append out code in omega (arith, m, h, k, total_append l.front (x ∷ []));
     }
 
 pub assembled : (text rest : List ℕ) (number : ℕ) (kept : Labels) (out : List ℕ) → Emitting text rest number kept out → rest ≡ [] → Assembles text out

@@ -1,16 +1,14 @@
 -- Instructions and their bytes.
-use Rattle.std.proofs.Common.{◌≡◌, ℕ, ◌+◌, List, length, Option, Some, None, IfNone, refl, sym, ap, subst, ◌∙◌}
+use Rattle.std.proofs.Common.{◌≡◌, ℕ, ◌+◌, List, length, Option, Some, None, IfNone, refl, sym, subst, ◌∙◌}
 use Rattle.dm_ins.specs.Walks.{◌>>=◌}
 use Rattle.dm_ins.specs.declared.ins.Ins.{Ins}
 use Rattle.dm_ins.specs.declared.action.Action.{Action}
 use Rattle.dm_ins.specs.Spelling.{SpellsAction}
-use Rattle.dm_read.specs.declared.written.Written.{Written}
 use Rattle.dm_read.specs.declared.written.Words.{Words}
 use Rattle.dm_read.specs.Words.{AreWords}
 use Rattle.dm_read.specs.StandIns.{StandsFor}
 use Rattle.dm_read.specs.Laws.{Encodes, WordsAreOne, LengthsAreKnown}
 use Rattle.dm_lines.specs.declared.statement.Instruction.{Instruction}
-use Rattle.dm_lines.specs.Placing.{written_of}
 use Rattle.dm_lines.specs.Laws.{TermFits, OutlinesStand}
 use Rattle.dm_asm.specs.Labels.{Label, term_place}
 use Rattle.dm_asm.specs.Codes.{placed, placed_words, outlined, HasShape, IsCoded}
@@ -33,7 +31,7 @@ stands law labels next i w ff fs h =
     let p = bind_some (term_place labels i.first) _ a.0 a.1 in
     let q = bind_some (term_place labels i.second) _ b.0 b.1 in
     subst (StandsFor (outlined i)) (some_same _ w b.2)
-      (record { mnemonic = refl; first = law i.mnemonic i.first p.0 next a.0 ff p.2; second = law i.mnemonic i.second q.0 next b.0 fs q.2 })
+    (record { mnemonic = refl; first = law i.mnemonic i.first p.0 next a.0 ff p.2; second = law i.mnemonic i.second q.0 next b.0 fs q.2 })
 
 pub coded : OutlinesStand → LengthsAreKnown → (labels : List Label) (at n : ℕ) (i : Instruction) (w : Words) (ins : Ins) (code : List ℕ) → HasShape i n → TermFits i.first → TermFits i.second → placed_words labels (at + n) i ≡ Some w → ins.prefixes ≡ i.prefixes → AreWords w ins.action → Encodes ins code → IsCoded labels at i code
 coded law lengths labels at n i w ins code shape ff fs h prefixes words encoded =
@@ -45,7 +43,7 @@ coded law lengths labels at n i w ins code shape ff fs h prefixes words encoded 
       ins = ins;
       prefixes = prefixes;
       words = words;
-      encoded = encoded
+      encoded = encoded;
     }
 
 -- the words of an instruction that has bytes, where its length is known

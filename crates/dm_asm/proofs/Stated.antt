@@ -1,9 +1,9 @@
 -- Statements of lines, one after the other.
-use Rattle.std.proofs.Common.{◌≡◌, ℕ, ◌+◌, ◌*◌, ◌<◌, ◌≤◌, ◌^◌, List, [], ◌∷◌, ◌++◌, length, Option, Some, None, IfSome, map, flat_map, refl, sym, ap, subst, ◌∙◌, arith, if◌then◌else◌, Bool, true, false}
+use Rattle.std.proofs.Common.{◌≡◌, ℕ, ◌+◌, ◌*◌, ◌≤◌, List, [], ◌∷◌, ◌++◌, length, Option, Some, None, IfSome, map, flat_map, refl, sym, ap, subst, ◌∙◌, arith, if◌then◌else◌, Bool, true, false}
 use Rattle.std.proofs.lemmas.List.{append_assoc, append-nil, length-append}
 use Rattle.std.specs.Str.{bytes_eq}
 use Rattle.dm_lines.specs.declared.token.Name as Name'
-use Rattle.dm_lines.specs.Statements.{Item, Statement, line_of, nothing, instruction, bytes, words}
+use Rattle.dm_lines.specs.Statements.{Item, Statement, nothing, instruction, bytes, words}
 use Rattle.dm_read.specs.Laws.{WordsAreOne}
 use Rattle.dm_asm.specs.Labels.{Label, IsFree, find}
 use Rattle.dm_lines.specs.Placing.{byte_of}
@@ -11,7 +11,7 @@ use Rattle.dm_asm.specs.Codes.{Codes, HasLength, low_high, word_of}
 use Rattle.dm_asm.specs.Programs.{Sized, Reads, AreRead, total, labelled, labels_from, labels_of, AreOnce, Laid, AreCoded, joined}
 use Rattle.dm_asm.proofs.Chosen.{shape_once}
 use Rattle.dm_asm.proofs.Placed.{some_same}
-use Rattle.dm_asm.proofs.Found.{once_more, once_front, once_free}
+use Rattle.dm_asm.proofs.Found.{once_more}
 
 pub total_append : (xs ys : List Sized) → total (xs ++ ys) ≡ total xs + total ys
 total_append [] ys = omega arith
@@ -45,9 +45,9 @@ once_with (Some name) at ls o f = once_more ls (record { name = name; place = at
 
 pub laid_more : (lines : List (List ℕ)) (xs : List Sized) (line : List ℕ) (x : Sized) → Laid lines xs → Reads line x → IsFree x.statement.label (labels_of xs) → Laid (lines ++ line ∷ []) (xs ++ x ∷ [])
 laid_more lines xs line x laid r f = record {
-    read = read_more lines xs line x laid.read r;
-    once = subst AreOnce (sym (labels_more 0x100 xs x)) (once_with x.statement.label (0x100 + total xs) (labels_of xs) laid.once f)
-  }
+  read = read_more lines xs line x laid.read r;
+  once = subst AreOnce (sym (labels_more 0x100 xs x)) (once_with x.statement.label (0x100 + total xs) (labels_of xs) laid.once f);
+}
 
 -- ---- a line is one statement
 
@@ -106,7 +106,7 @@ pub place_fits : (at : ℕ) (xs : List Sized) (name : Name'.Name) → IfSome (fi
 place_fits at [] name = tt
 place_fits at (x ∷ xs) name =
     label_fits x.statement.label at (x.long + total xs) (labels_from (at + x.long) xs) name
-      (later_fits at x.long (total xs) (find name (labels_from (at + x.long) xs)) (place_fits (at + x.long) xs name))
+    (later_fits at x.long (total xs) (find name (labels_from (at + x.long) xs)) (place_fits (at + x.long) xs name))
 
 -- ---- bytes
 

@@ -1,6 +1,6 @@
 -- The bytes that a statement stands for.
 -- Source: Intel 8086 Family User's Manual, section 2.9 (ASM-86).
-use Rattle.std.specs.Prelude.{◌≡◌, ℕ, ◌+◌, ◌*◌, ◌/◌, ◌%◌, List, [], ◌∷◌, length, map, flat_map, Option, Some, None, IsSome}
+use Rattle.std.specs.Prelude.{◌≡◌, ℕ, ◌+◌, ◌*◌, ◌/◌, ◌%◌, List, [], ◌∷◌, length, map, flat_map, Option, Some, IsSome}
 use Rattle.std.specs.List.{AllByRecursion}
 use Rattle.dm_ins.specs.Walks.{◌>>=◌}
 use Rattle.dm_ins.specs.declared.ins.Ins.{Ins}
@@ -9,7 +9,6 @@ use Rattle.dm_read.specs.declared.written.Written.{Written}
 use Rattle.dm_read.specs.declared.written.Words.{Words}
 use Rattle.dm_read.specs.Words.{AreWords}
 use Rattle.dm_read.specs.Laws.{Encodes}
-use Rattle.dm_lines.specs.declared.term.Amount.{Amount}
 use Rattle.dm_lines.specs.declared.term.Value.{Value}
 use Rattle.dm_lines.specs.declared.term.Term.{Term}
 use Rattle.dm_lines.specs.declared.statement.Instruction.{Instruction}

@@ -19,7 +19,7 @@ lines_of (b ∷ bs) =
     else if (b == 13) && ends_line bs then lines_of bs
     else onto b (lines_of bs)
 
--- a line without the 0Dh at its end: how its last byte is dropped
+-- some bytes without the 0Dh at their end
 abbrev pub trim : List ℕ → List ℕ
 trim [] = []
 trim (b ∷ []) = if b == 13 then [] else b ∷ []

@@ -4,7 +4,7 @@
 -- Source: Intel 8086 Family User's Manual, section 2.9 (ASM-86); the order of refusals is this machine's own (docs/DECISIONS.md).
 use Rattle.std.specs.Prelude.{◌≡◌, ℕ, ◌+◌, ◌<◌, ◌≤◌, List, [], ◌∷◌, ◌++◌, length, Option, Some, None, Result, Ok, Err}
 use Rattle.dm_lines.specs.declared.token.Name as Name'
-use Rattle.dm_lines.specs.Statements.{Item, Statement, line_of}
+use Rattle.dm_lines.specs.Statements.{Statement, line_of}
 use Rattle.dm_asm.specs.declared.refusal.Refusal.{Refusal}
 use Rattle.dm_asm.specs.declared.refusal.Refusal.TheVariants as refusal
 use Rattle.dm_asm.specs.Lines.{lines_of}

@@ -34,7 +34,12 @@ fn read(line: &[u8], tokens: &mut Tokens, items: &mut Items) -> Option<(Statemen
 }
 
 /// Adds the label of a statement, if it has one and no line before it has.
-fn add_label(labels: &mut Labels, label: Option<Name>, place: u128, number: usize) -> Result<(), Refusal>
+fn add_label(
+    labels: &mut Labels,
+    label: Option<Name>,
+    place: u128,
+    number: usize,
+) -> Result<(), Refusal>
     ensures added { OnOk result ((list : List Label) → AreKept labels.old list → IsFree label list × AreKept labels.new (list ++ labelled label place)) }
     ensures refused { IfErr result (λ e. (e ≡ OutOfMemory) ⊎ ((e ≡ IsTwice number) × ((list : List Label) → AreKept labels.old list → IsFree label list → ⊥))) }
 {

@@ -14,7 +14,9 @@ ghost use Rattle.dm_asm.specs.Codes.{placed as placed_of, placed_words as words_
 use crate::labels::Labels;
 use arrayvec::ArrayVec;
 use dm_ins::encode;
-use dm_lines::{Amount, Instruction, Item, Items, Term, Value, byte, outlines_stand, word_at, written};
+use dm_lines::{
+    Amount, Instruction, Item, Items, Term, Value, byte, outlines_stand, word_at, written,
+};
 use dm_read::{Words, Written, read_words, stand_ins_have_the_length, words_are_one_instruction};
 
 /// The bytes of one line.
@@ -82,7 +84,12 @@ fn term_fits(term: &Term)
     }
 }
 
-fn instruction_code(labels: &Labels, at: u16, length: usize, instruction: &Instruction) -> Option<ArrayVec<u8, 16>>
+fn instruction_code(
+    labels: &Labels,
+    at: u16,
+    length: usize,
+    instruction: &Instruction,
+) -> Option<ArrayVec<u8, 16>>
     requires near { AreNear labels.now }
     requires shape { HasShape instruction.now length }
     requires fits { at + length < 2 ^ 16 }
@@ -196,7 +203,13 @@ fn item_code(labels: &Labels, at: u16, length: usize, item: Item, items: &Items)
 }
 
 /// The bytes of a statement of this length, which stands at an offset.
-pub(crate) fn code_of(labels: &Labels, at: u16, length: usize, item: Item, items: &Items) -> Result<Code, Problem>
+pub(crate) fn code_of(
+    labels: &Labels,
+    at: u16,
+    length: usize,
+    item: Item,
+    items: &Items,
+) -> Result<Code, Problem>
     requires near { AreNear labels.now }
     requires long { HasLength (seen_item items.now item) length }
     requires fits { at + length < 2 ^ 16 }

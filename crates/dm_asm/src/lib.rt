@@ -10,6 +10,6 @@ mod refusal;
 mod shapes;
 
 pub use assembly::assemble;
+pub use dm_listing::disassemble;
 pub use laws::texts_have_one_answer;
 pub use refusal::Refusal;
-pub use dm_listing::disassemble;

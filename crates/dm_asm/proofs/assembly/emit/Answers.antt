@@ -1,9 +1,9 @@
-use Rattle.std.proofs.Common.{arith, inl, inr, sym, subst, ◌≡◌, ◌∙◌, ap, ◌++◌, ◌+◌, ℕ, length}
+use Rattle.std.proofs.Common.{arith, inr, sym, subst, ◌≡◌, ◌+◌, ℕ, length}
 use Rattle.dm_lines.specs.Statements.{seen_item}
 use Rattle.dm_asm.specs.Kept.{IsProblem}
 use Rattle.dm_asm.specs.Codes.{Codes}
 use Rattle.dm_asm.specs.Programs.{labels_of}
-use Rattle.dm_asm.proofs.Passes.{emitting_none, emitting_more, near, next_fits, is_unknown, is_range, no_next, assembled}
+use Rattle.dm_asm.proofs.Passes.{emitting_none, emitting_more, near, next_fits, is_unknown, is_range}
 use Rattle.dm_asm.proofs.assembly.emit.Goals as goal
 
 pub loop-line-init : goal.loop-line-init
@@ -30,7 +30,7 @@ returns-in-Err-Range-clause-refused c =
     let e : 256 + c.len-at.result ≡ 256 + length c.loop-line.bytes.items = omega (arith, c.len-at.ensures) in
     let p = subst (IsProblem ls _ (seen_item c.read.new.items c.in-Some-read.statement.item)) c.in-Err-Range.field-0-is (c.in-Err-Range.ensures.problem ls c.loop-line.invariant.emitting.are.keeps) in
     inr (is_range c.words_are_one_instruction.ensures c.args.text.now c.loop-line.rest.now c.in-Some.behind.now c.in-Some.line.now c.loop-line.number c.args.labels.now c.loop-line.bytes.items _ c.loop-line.invariant.emitting c.in-Some.ensures.line c.in-Some-read.ensures.found p.0
-      (λ code k. p.1 code (subst (λ (a : ℕ). Codes ls a (seen_item c.read.new.items c.in-Some-read.statement.item) code) (sym e) k)))
+    (λ code k. p.1 code (subst (λ (a : ℕ). Codes ls a (seen_item c.read.new.items c.in-Some-read.statement.item) code) (sym e) k)))
 
 pub loop-line-preserved : goal.loop-line-preserved
 loop-line-preserved c =
@@ -39,5 +39,5 @@ loop-line-preserved c =
     let k = subst (λ (a : ℕ). Codes ls a (seen_item c.read.new.items c.in-Some-read.statement.item) c.in-Ok.code.items) e (c.in-Ok.ensures.code ls c.loop-line.invariant.emitting.are.keeps) in
     record {
       few = omega (arith, c.loop-line.invariant.few, c.in-Some.ensures.shorter);
-      emitting = emitting_more c.words_are_one_instruction.ensures c.args.text.now c.loop-line.rest.now c.in-Some.behind.now c.in-Some.line.now c.loop-line.number c.args.labels.now c.loop-line.bytes.items c.in-Ok.code.items c.extend_from_slice.new.self.items _ c.loop-line.invariant.emitting c.in-Some.ensures.line c.in-Some-read.ensures.found k (grind (arith, c.extend_from_slice.ensures.items, c.if-is_err.false, c.is_err.ensures.negation, c.is_err.ensures.value, c.as_slice.ensures.value))
+      emitting = emitting_more c.words_are_one_instruction.ensures c.args.text.now c.loop-line.rest.now c.in-Some.behind.now c.in-Some.line.now c.loop-line.number c.args.labels.now c.loop-line.bytes.items c.in-Ok.code.items c.extend_from_slice.new.self.items _ c.loop-line.invariant.emitting c.in-Some.ensures.line c.in-Some-read.ensures.found k (grind (arith, c.extend_from_slice.ensures.items, c.if-is_err.false, c.is_err.ensures.negation, c.is_err.ensures.value, c.as_slice.ensures.value));
     }

@@ -1,4 +1,4 @@
-use Rattle.std.proofs.Common.{arith, sym, refl, ◌∙◌, ap, subst, IsSome}
+use Rattle.std.proofs.Common.{arith, refl, IsSome}
 use Rattle.dm_asm.specs.Labels.{place_of}
 use Rattle.dm_asm.proofs.Each.{all_at, all_more, some_not_none, is_some_at}
 use Rattle.dm_asm.proofs.codes.knows_all.Goals as goal

@@ -1,4 +1,4 @@
-use Rattle.std.proofs.Common.{◌≡◌, ap, sym, subst}
+use Rattle.std.proofs.Common.{ap, sym, subst}
 use Rattle.dm_read.specs.declared.written.Words.{Words}
 use Rattle.dm_read.specs.Words.{AreWords}
 use Rattle.std.specs.Prelude.{Some}
@@ -11,13 +11,13 @@ returns-in_err-ins-clause-only c = λ n s. absurd (c.in_err-ins.ensures.none s.i
 
 shape : (c : goal.After-len) → HasShape c.args.instruction.now c.len.result
 shape c = record {
-    ins = c.in_ok-ins.ins;
-    prefixes = c.in_ok-ins.ensures.found.0;
-    words = subst (λ (w : Words). AreWords w c.in_ok-ins.ins.action) c.outlines-words.ensures c.in_ok-ins.ensures.found.1;
-    code = c.encode.result.items;
-    encoded = record { spells = c.encode.ensures.spells; least = c.encode.ensures.least };
-    long = c.len.ensures.value
-  }
+  ins = c.in_ok-ins.ins;
+  prefixes = c.in_ok-ins.ensures.found.0;
+  words = subst (λ (w : Words). AreWords w c.in_ok-ins.ins.action) c.outlines-words.ensures c.in_ok-ins.ensures.found.1;
+  code = c.encode.result.items;
+  encoded = record { spells = c.encode.ensures.spells; least = c.encode.ensures.least };
+  long = c.len.ensures.value;
+}
 
 pub returns-clause-found : goal.returns-clause-found
 returns-clause-found c = shape c

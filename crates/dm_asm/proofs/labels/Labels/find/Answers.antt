@@ -1,4 +1,4 @@
-use Rattle.std.proofs.Common.{◌≡◌, ◌∙◌, ◌<◌, sym, subst, Option, IfSome, ℕ}
+use Rattle.std.proofs.Common.{◌∙◌, ◌<◌, sym, subst, Option, IfSome, ℕ}
 use Rattle.dm_asm.proofs.labels.Labels.find.Goals as goal
 
 pub returns-clause-near : goal.returns-clause-near
