@@ -1,4 +1,4 @@
-use Rattle.dm_services.specs.State.{HasProgram}
+use Rattle.dm_state.specs.State.{HasProgram}
 use Rattle.dm_machine_tests.proofs.console.output_goes_into_room_made_beforehand.Given as goal
 
 abbrev pub invariant-loop-bytes : goal.invariant-loop-bytes
