@@ -3,11 +3,12 @@ use Rattle.std.proofs.Common.{◌≡◌, ℕ, ◌+◌, List, length, Option, Som
 use Rattle.dm_ins.specs.Walks.{◌>>=◌}
 use Rattle.dm_ins.specs.declared.ins.Ins.{Ins}
 use Rattle.dm_ins.specs.declared.action.Action.{Action}
+use Rattle.dm_ins.specs.Preferred.{IsPreferred}
 use Rattle.dm_ins.specs.Spelling.{SpellsAction}
 use Rattle.dm_read.specs.declared.written.Words.{Words}
 use Rattle.dm_read.specs.Words.{AreWords}
 use Rattle.dm_read.specs.StandIns.{StandsFor}
-use Rattle.dm_read.specs.Laws.{Encodes, WordsAreOne, LengthsAreKnown}
+use Rattle.dm_read.specs.Laws.{WordsAreOne, LengthsAreKnown}
 use Rattle.dm_lines.specs.declared.statement.Instruction.{Instruction}
 use Rattle.dm_lines.specs.Laws.{TermFits, OutlinesStand}
 use Rattle.dm_asm.specs.Labels.{Label, term_place}
@@ -33,9 +34,9 @@ stands law labels next i w ff fs h =
     subst (StandsFor (outlined i)) (some_same _ w b.2)
     (record { mnemonic = refl; first = law i.mnemonic i.first p.0 next a.0 ff p.2; second = law i.mnemonic i.second q.0 next b.0 fs q.2 })
 
-pub coded : OutlinesStand → LengthsAreKnown → (labels : List Label) (at n : ℕ) (i : Instruction) (w : Words) (ins : Ins) (code : List ℕ) → HasShape i n → TermFits i.first → TermFits i.second → placed_words labels (at + n) i ≡ Some w → ins.prefixes ≡ i.prefixes → AreWords w ins.action → Encodes ins code → IsCoded labels at i code
-coded law lengths labels at n i w ins code shape ff fs h prefixes words encoded =
-    let len : length code ≡ n = sym (shape.long ∙ lengths (outlined i) w shape.ins ins shape.code code (stands law labels (at + n) i w ff fs h) shape.words words (shape.prefixes ∙ sym prefixes) shape.encoded encoded) in
+pub coded : OutlinesStand → LengthsAreKnown → (labels : List Label) (at n : ℕ) (i : Instruction) (w : Words) (ins : Ins) (code : List ℕ) → HasShape i n → TermFits i.first → TermFits i.second → placed_words labels (at + n) i ≡ Some w → ins.prefixes ≡ i.prefixes → AreWords w ins.action → IsPreferred ins code → IsCoded labels at i code
+coded law lengths labels at n i w ins code shape ff fs h prefixes words chosen =
+    let len : length code ≡ n = sym (shape.long ∙ lengths (outlined i) w shape.ins ins shape.code code (stands law labels (at + n) i w ff fs h) shape.words words (shape.prefixes ∙ sym prefixes) shape.preferred chosen) in
     record {
       shape = subst (HasShape i) (sym len) shape;
       written = w;
@@ -43,7 +44,7 @@ coded law lengths labels at n i w ins code shape ff fs h prefixes words encoded 
       ins = ins;
       prefixes = prefixes;
       words = words;
-      encoded = encoded;
+      preferred = chosen;
     }
 
 -- the words of an instruction that has bytes, where its length is known
@@ -57,12 +58,12 @@ not_placed one labels at n i code shape h c = not_none _ c.written h (same_place
 pub not_read : WordsAreOne → (labels : List Label) (at n : ℕ) (i : Instruction) (w : Words) (code : List ℕ) → HasShape i n → placed_words labels (at + n) i ≡ Some w → ((a : Action) (b : List ℕ) → AreWords w a → SpellsAction a b → ⊥) → IsCoded labels at i code → ⊥
 not_read one labels at n i w code shape h none c =
     let e : c.written ≡ w = some_same _ _ (sym (same_place one labels at n i code shape c) ∙ h) in
-    none c.ins.action c.encoded.spells.rest (subst (λ (v : Words). AreWords v c.ins.action) e c.words) c.encoded.spells.action
+    none c.ins.action c.preferred.spells.rest (subst (λ (v : Words). AreWords v c.ins.action) e c.words) c.preferred.spells.action
 
 pub coded_once : WordsAreOne → (labels : List Label) (at : ℕ) (i : Instruction) (a b : List ℕ) → IsCoded labels at i a → IsCoded labels at i b → a ≡ b
 coded_once one labels at i a b c d =
     let e : c.written ≡ d.written = some_same _ _ (sym c.placed ∙ same_place one labels at (length a) i b c.shape d) in
-    words_encode_once one d.written c.ins d.ins a b (c.prefixes ∙ sym d.prefixes) (subst (λ (v : Words). AreWords v c.ins.action) e c.words) d.words c.encoded d.encoded
+    words_encode_once one d.written c.ins d.ins a b (c.prefixes ∙ sym d.prefixes) (subst (λ (v : Words). AreWords v c.ins.action) e c.words) d.words c.preferred d.preferred
 
 pub if_none : {A : Type 0} (r : Option A) (P : Type 0) → P → IfNone r P
 if_none None P p = p

@@ -2,13 +2,13 @@
 -- Source: Intel 8086 Family User's Manual, section 2.9 (ASM-86).
 use Rattle.std.specs.Prelude.{◌≡◌, ℕ, ◌+◌, ◌*◌, ◌/◌, ◌%◌, List, [], ◌∷◌, length, map, flat_map, Option, Some, IsSome}
 use Rattle.std.specs.List.{AllByRecursion}
+use Rattle.dm_ins.specs.Preferred.{IsPreferred}
 use Rattle.dm_ins.specs.Walks.{◌>>=◌}
 use Rattle.dm_ins.specs.declared.ins.Ins.{Ins}
 use Rattle.dm_ins.specs.declared.action.Mnemonic.{Mnemonic}
 use Rattle.dm_read.specs.declared.written.Written.{Written}
 use Rattle.dm_read.specs.declared.written.Words.{Words}
 use Rattle.dm_read.specs.Words.{AreWords}
-use Rattle.dm_read.specs.Laws.{Encodes}
 use Rattle.dm_lines.specs.declared.term.Value.{Value}
 use Rattle.dm_lines.specs.declared.term.Term.{Term}
 use Rattle.dm_lines.specs.declared.statement.Instruction.{Instruction}
@@ -54,7 +54,7 @@ pub record HasShape (i : Instruction) (n : ℕ) : Type 0 where
   pub prefixes : ins.prefixes ≡ i.prefixes
   pub words : AreWords (outlined i) ins.action
   pub code : List ℕ
-  pub encoded : Encodes ins code
+  pub preferred : IsPreferred ins code
   pub long : n ≡ length code
 
 -- how many bytes an item has
@@ -75,7 +75,7 @@ pub record IsCoded (labels : List Label) (at : ℕ) (i : Instruction) (code : Li
   pub ins : Ins
   pub prefixes : ins.prefixes ≡ i.prefixes
   pub words : AreWords written ins.action
-  pub encoded : Encodes ins code
+  pub preferred : IsPreferred ins code
 
 -- the bytes of words, each of a value
 pub record AreWordsOf (labels : List Label) (vs : List Value) (code : List ℕ) : Type 0 where

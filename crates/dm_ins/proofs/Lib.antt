@@ -7,3 +7,4 @@ mod KeptPrefixes
 mod Sound
 mod Rows
 pub mod Shortest
+pub mod Preferred

@@ -5,3 +5,4 @@ pub mod Ins
 pub mod Order
 pub mod Walks
 pub mod Search
+pub mod Preferred

@@ -1,10 +1,9 @@
 //! The bytes that an instruction is written as.
 
-ghost use Rattle.std.specs.Prelude.{◌≡◌, ◌+◌, ◌≤◌, ◌++◌, List, ℕ, false, map};
+ghost use Rattle.std.specs.Prelude.{◌≡◌, ◌+◌, ◌≤◌, ◌++◌, map};
 ghost use Rattle.arrayvec.specs.ArrayVec.{array_vec_len};
 ghost use Rattle.dm_ins.specs.Spelling.{prefix_byte};
-ghost use Rattle.dm_ins.specs.Ins.{Spells};
-ghost use Rattle.dm_ins.specs.Order.{before};
+ghost use Rattle.dm_ins.specs.Preferred.{IsPreferred};
 ghost use Rattle.dm_ins.specs.Search.{prefix_list};
 
 use crate::fill::RowBytes;
@@ -49,8 +48,7 @@ fn append(out: &mut ArrayVec<u8, 16>, bytes: &RowBytes)
 /// The bytes of the instruction: of its spellings the shortest, and of those the one that is least
 /// byte by byte from the left.
 pub fn encode(ins: &Ins) -> ArrayVec<u8, 16>
-    ensures spells { Spells ins.now result.items }
-    ensures least { (other : List ℕ) → Spells ins.now other → before other result.items ≡ false }
+    ensures { IsPreferred ins.now result.items }
 {
     let mut out = ArrayVec::new();
     put_prefixes(&mut out, ins.prefixes);

@@ -1,3 +1,2 @@
-pub mod Preferred
 pub mod Standing
 pub mod Lines

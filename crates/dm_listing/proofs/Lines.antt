@@ -1,16 +1,17 @@
 -- What a line shows, from what is compared to find it.
-use Rattle.std.proofs.Common.{◌≡◌, ◌≢◌, ℕ, ◌+◌, ◌<◌, ◌≤◌, ◌++◌, List, [], ◌∷◌, length, take, drop, ◌-◌, ap, append_assoc, lit<, sym, subst, ◌∙◌, arith, length-drop, length-take-le}
+use Rattle.std.proofs.Common.{◌≡◌, ◌≢◌, ℕ, ◌+◌, ◌<◌, ◌≤◌, ◌++◌, List, [], ◌∷◌, length, take, drop, ◌-◌, ap, refl, append_assoc, lit<, sym, subst, ◌∙◌, arith, length-drop, length-take-le}
 use Rattle.std.specs.Prelude.{codes}
 use Rattle.dm_ins.specs.declared.ins.Ins.{Ins}
-use Rattle.dm_listing.specs.Listing.{bytes_at, data_text, instruction_text, IsPreferred, Stands, Shows, Lists, preferred, other, single, more}
-use Rattle.dm_listing.proofs.Preferred.{preferred_once}
+use Rattle.dm_ins.specs.Preferred.{IsPreferred}
+use Rattle.dm_ins.proofs.Preferred.{preferred_same}
+use Rattle.dm_listing.specs.Listing.{bytes_at, data_text, instruction_text, Stands, Shows, Lists, preferred, other, single, more}
 use Rattle.dm_listing.proofs.Standing.{has_bytes}
 
 pub shows_preferred : (bytes own e : List ℕ) (at k : ℕ) (i : Ins) → Stands bytes at i k → own ≡ bytes_at bytes at k → IsPreferred i e → e ≡ own → Shows bytes at k (instruction_text i at k)
 shows_preferred bytes own e at k i s is p same = preferred i k s (subst (IsPreferred i) (same ∙ is) p)
 
 pub shows_other : (bytes own e : List ℕ) (at k : ℕ) (i : Ins) → Stands bytes at i k → own ≡ bytes_at bytes at k → IsPreferred i e → e ≢ own → Shows bytes at k (data_text own ++ codes " ; " ++ instruction_text i at k)
-shows_other bytes own e at k i s is p differs = rw is (other i k s (λ q. differs (preferred_once i e (bytes_at bytes at k) p q ∙ sym is)))
+shows_other bytes own e at k i s is p differs = rw is (other i k s (λ q. differs (preferred_same i i e (bytes_at bytes at k) refl refl p q ∙ sym is)))
 
 pub shows_single : (bytes own : List ℕ) (at : ℕ) → at < length bytes → own ≡ bytes_at bytes at 1 → ((i : Ins) (k : ℕ) → Stands bytes at i k → ⊥) → Shows bytes at 1 (data_text own)
 shows_single bytes own at h is n = rw is (single h n)

@@ -1,10 +1,10 @@
 -- The lines of some bytes, with which a program for offset 0100h is written down: at each place the instruction that stands there,
 -- as text where its bytes are its preferred ones, else as data with the text in a comment; a byte that begins no instruction alone.
 -- Source: Intel 8086 Family User's Manual, section 2.9 (statements of ASM-86); how data is told is this machine's own.
-use Rattle.std.specs.Prelude.{◌≡◌, ℕ, ◌+◌, ◌<◌, ◌≤◌, false, List, [], ◌∷◌, ◌++◌, length, take, drop, flat_map, codes}
+use Rattle.std.specs.Prelude.{◌≡◌, ℕ, ◌+◌, ◌<◌, ◌≤◌, List, [], ◌∷◌, ◌++◌, length, take, drop, flat_map, codes}
 use Rattle.dm_ins.specs.declared.ins.Ins.{Ins}
 use Rattle.dm_ins.specs.Ins.{Spells}
-use Rattle.dm_ins.specs.Order.{before}
+use Rattle.dm_ins.specs.Preferred.{IsPreferred}
 use Rattle.dm_text.specs.Pieces.{byte_digits}
 use Rattle.dm_text.specs.Texts.{text_of}
 
@@ -17,11 +17,6 @@ pub record Stands (bytes : List ℕ) (at : ℕ) (i : Ins) (k : ℕ) : Type 0 whe
   pub within : at + k ≤ length bytes
   pub short : k ≤ 16
   pub spells : Spells i (bytes_at bytes at k)
-
--- the preferred bytes of an instruction: no other spelling comes before them
-pub record IsPreferred (i : Ins) (bytes : List ℕ) : Type 0 where
-  pub spells : Spells i bytes
-  pub least : (other : List ℕ) → Spells i other → before other bytes ≡ false
 
 -- numbers with commas between them, behind DB
 abbrev pub data_text : List ℕ → List ℕ

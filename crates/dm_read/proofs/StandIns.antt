@@ -22,7 +22,8 @@ use Rattle.dm_read.specs.declared.written.Written.TheVariants as w
 use Rattle.dm_read.specs.declared.written.Words.{Words}
 use Rattle.dm_read.specs.Words.{IsNumber, IsWritten, AreWords, word_before, word_written}
 use Rattle.dm_read.specs.StandIns.{is_move, NumberStands, AddressStands, OperandStands, StandsFor}
-use Rattle.dm_read.specs.Laws.{StandInsAreRead, LengthsAreKnown, Encodes}
+use Rattle.dm_read.specs.Laws.{StandInsAreRead, LengthsAreKnown}
+use Rattle.dm_ins.specs.Preferred.{IsPreferred}
 use Rattle.dm_read.proofs.One.{words_are_one}
 use Rattle.dm_read.proofs.Known.{Known, KnownAction, known_action}
 use Rattle.dm_read.proofs.Alike.{Alike, alike_self, alike_back, escape_is_no_move}
@@ -202,7 +203,7 @@ not_shorter a b e = elim (cases_lt (length a) (length b)) [ inl lt ↦ absurd (w
     wrong e = cc
 
 -- the least bytes of an instruction are no longer than what spells one that is alike
-no_longer : (i j : Ins) (x y : List ℕ) → AlikeActions j.action i.action → i.prefixes ≡ j.prefixes → Encodes i x → Spells j y → length x ≤ length y
+no_longer : (i j : Ins) (x y : List ℕ) → AlikeActions j.action i.action → i.prefixes ≡ j.prefixes → IsPreferred i x → Spells j y → length x ≤ length y
 no_longer i j x y al e en s =
     let kn = known_action i.action en.spells.rest en.spells.action in
     let l = as_long j.action i.action s.rest s.action kn al in

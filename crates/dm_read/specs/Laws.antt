@@ -4,8 +4,7 @@ use Rattle.dm_ins.specs.declared.operand.Width.{Width}
 use Rattle.dm_ins.specs.declared.action.Action.{Action}
 use Rattle.dm_ins.specs.declared.ins.Ins.{Ins}
 use Rattle.dm_ins.specs.Spelling.{SpellsAction}
-use Rattle.dm_ins.specs.Ins.{Spells}
-use Rattle.dm_ins.specs.Order.{before}
+use Rattle.dm_ins.specs.Preferred.{IsPreferred}
 use Rattle.dm_text.specs.Pieces.{Piece, name, space}
 use Rattle.dm_text.specs.Texts.{size_pieces}
 use Rattle.dm_read.specs.declared.written.Size.{Size}
@@ -42,11 +41,6 @@ SizesAreShown = (a : Action) (v : Width) → size_pieces a v ≡ word_pieces (si
 abbrev pub StandInsAreRead : Type 0
 StandInsAreRead = (stand words : Words) (a : Action) (x : List ℕ) → StandsFor stand words → AreWords words a → SpellsAction a x → (b : Action) × (y : List ℕ) × AreWords stand b × SpellsAction b y
 
--- the bytes are the instruction's, as `encode` chooses them
-pub record Encodes (i : Ins) (bytes : List ℕ) : Type 0 where
-  pub spells : Spells i bytes
-  pub least : (other : List ℕ) → Spells i other → before other bytes ≡ false
-
--- and both have as many bytes
+-- and both have as many bytes, as `encode` chooses them
 abbrev pub LengthsAreKnown : Type 0
-LengthsAreKnown = (stand words : Words) (i j : Ins) (x y : List ℕ) → StandsFor stand words → AreWords stand i.action → AreWords words j.action → i.prefixes ≡ j.prefixes → Encodes i x → Encodes j y → length x ≡ length y
+LengthsAreKnown = (stand words : Words) (i j : Ins) (x y : List ℕ) → StandsFor stand words → AreWords stand i.action → AreWords words j.action → i.prefixes ≡ j.prefixes → IsPreferred i x → IsPreferred j y → length x ≡ length y

@@ -11,5 +11,4 @@ returns-in_err-ins-clause-none c = if_none c.from_residual-in_err-ins.result _ (
 pub returns-clause-found : goal.returns-clause-found
 returns-clause-found c = λ list kept.
     coded c.outlines_stand.ensures c.stand_ins_have_the_length.ensures.lengths list c.args.at c.args.length c.args.instruction.now c.in_ok-words.words c.in_ok-ins.ins c.encode.result.items
-    c.requires.shape c.term_fits.ensures c.term_fits-2.ensures (sym (c.in_ok-words.ensures list kept)) c.in_ok-ins.ensures.found.0 c.in_ok-ins.ensures.found.1
-    (record { spells = c.encode.ensures.spells; least = c.encode.ensures.least })
+    c.requires.shape c.term_fits.ensures c.term_fits-2.ensures (sym (c.in_ok-words.ensures list kept)) c.in_ok-ins.ensures.found.0 c.in_ok-ins.ensures.found.1 c.encode.ensures

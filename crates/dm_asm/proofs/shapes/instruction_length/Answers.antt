@@ -7,7 +7,7 @@ use Rattle.dm_asm.proofs.Chosen.{shape_once}
 use Rattle.dm_asm.proofs.shapes.instruction_length.Goals as goal
 
 pub returns-in_err-ins-clause-only : goal.returns-in_err-ins-clause-only
-returns-in_err-ins-clause-only c = λ n s. absurd (c.in_err-ins.ensures.none s.ins.action s.encoded.spells.rest (subst (λ (w : Words). AreWords w s.ins.action) (sym c.outlines-words.ensures) s.words) s.encoded.spells.action)
+returns-in_err-ins-clause-only c = λ n s. absurd (c.in_err-ins.ensures.none s.ins.action s.preferred.spells.rest (subst (λ (w : Words). AreWords w s.ins.action) (sym c.outlines-words.ensures) s.words) s.preferred.spells.action)
 
 shape : (c : goal.After-len) → HasShape c.args.instruction.now c.len.result
 shape c = record {
@@ -15,7 +15,7 @@ shape c = record {
   prefixes = c.in_ok-ins.ensures.found.0;
   words = subst (λ (w : Words). AreWords w c.in_ok-ins.ins.action) c.outlines-words.ensures c.in_ok-ins.ensures.found.1;
   code = c.encode.result.items;
-  encoded = record { spells = c.encode.ensures.spells; least = c.encode.ensures.least };
+  preferred = c.encode.ensures;
   long = c.len.ensures.value;
 }
 
