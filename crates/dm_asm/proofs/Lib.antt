@@ -6,3 +6,5 @@ pub mod Each
 pub mod Stated
 pub mod Passes
 pub mod OneAnswer
+pub mod Listed
+pub mod Spelled

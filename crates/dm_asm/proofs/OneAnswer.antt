@@ -178,7 +178,7 @@ stuck_once labels at i n e f (no_label h) (no_code k g) = absurd (h k)
 stuck_once labels at i n e f (no_code k h) (no_label g) = absurd (g k)
 stuck_once labels at i n e f (no_code k h) (no_code j g) = refl
 
-laid_once : WordsAreOne → (text : List ℕ) (xs ys : List Sized) → Laid (lines_of text) xs → Laid (lines_of text) ys → xs ≡ ys
+pub laid_once : WordsAreOne → (text : List ℕ) (xs ys : List Sized) → Laid (lines_of text) xs → Laid (lines_of text) ys → xs ≡ ys
 laid_once one text xs ys a b = are_read_once one (lines_of text) xs ys a.read b.read
 
 -- a statement among coded ones is not stuck

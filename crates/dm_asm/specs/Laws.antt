@@ -1,8 +1,38 @@
 -- What holds of all texts.
-use Rattle.std.specs.Prelude.{◌≡◌, ℕ, List, Result}
+use Rattle.std.specs.Prelude.{◌≡◌, ℕ, ◌+◌, ◌<◌, ◌≤◌, ◌^◌, List, ◌∷◌, ◌++◌, length, Some, Result}
+use Rattle.std.specs.List.{AllByRecursion}
+use Rattle.dm_ins.specs.declared.ins.Ins.{Ins}
+use Rattle.dm_ins.specs.Preferred.{IsPreferred}
+use Rattle.dm_read.specs.declared.written.Words.{Words}
+use Rattle.dm_read.specs.Words.{AreWords}
+use Rattle.dm_listing.specs.Listing.{bytes_at, Stands, IsListing}
+use Rattle.dm_lines.specs.declared.statement.Instruction.{Instruction}
+use Rattle.dm_lines.specs.Statements.{instruction}
 use Rattle.dm_asm.specs.declared.refusal.Refusal.{Refusal}
-use Rattle.dm_asm.specs.Programs.{IsAnswer}
+use Rattle.dm_asm.specs.Labels.{Label}
+use Rattle.dm_asm.specs.Codes.{placed_words}
+use Rattle.dm_asm.specs.Lines.{lines_of}
+use Rattle.dm_asm.specs.Programs.{Sized, Laid, labels_of, total, most, Assembles, IsAnswer}
 
 -- a text has one answer: the same bytes always, or no bytes and the same refusal
 abbrev pub TextsHaveOneAnswer : Type 0
 TextsHaveOneAnswer = (text : List ℕ) (a b : Result (List ℕ) Refusal) → IsAnswer text a → IsAnswer text b → a ≡ b
+
+-- the lines of some bytes have these bytes
+abbrev pub ListingsAssemble : Type 0
+ListingsAssemble = (bytes text : List ℕ) → AllByRecursion (λ b. b < 2 ^ 8) bytes → length bytes ≤ most → IsListing bytes text → Assembles text bytes
+
+-- the bytes at a place, so many, are an instruction of a text in its preferred bytes: one of the table with the prefixes and the
+-- operands that are written
+pub record IsSpelled (labels : List Label) (bytes : List ℕ) (at long : ℕ) (i : Instruction) : Type 0 where
+  pub written : Words
+  pub placed : placed_words labels (0x100 + at + long) i ≡ Some written
+  pub ins : Ins
+  pub prefixes : ins.prefixes ≡ i.prefixes
+  pub words : AreWords written ins.action
+  pub stands : Stands bytes at ins long
+  pub preferred : IsPreferred ins (bytes_at bytes at long)
+
+-- the bytes of a text spell each of its instructions at the instruction's place, which is behind the bytes of all statements before it
+abbrev pub TextsAreSpelled : Type 0
+TextsAreSpelled = (text bytes : List ℕ) (before after : List Sized) (x : Sized) (i : Instruction) → Assembles text bytes → Laid (lines_of text) (before ++ x ∷ after) → x.statement.item ≡ instruction i → IsSpelled (labels_of (before ++ x ∷ after)) bytes (total before) x.long i

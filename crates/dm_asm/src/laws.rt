@@ -1,13 +1,39 @@
 //! What holds of all texts.
 
-ghost use Rattle.dm_asm.specs.Laws.{TextsHaveOneAnswer};
+ghost use Rattle.dm_asm.specs.Laws.{TextsHaveOneAnswer, ListingsAssemble, TextsAreSpelled};
 
-use dm_read::words_are_one_instruction;
+use dm_lines::{
+    data_is_read, outlines_stand, own_terms_are_written, texts_are_plain, texts_are_read,
+};
+use dm_read::{own_words_are_read, stand_ins_have_the_length, words_are_one_instruction};
 
 /// The law that a text has one answer: the same bytes always, or no bytes and the same refusal. So `assemble` finds bytes exactly
 /// where the text has some, where it finds memory. It does nothing when called.
 pub fn texts_have_one_answer()
     ensures { TextsHaveOneAnswer }
+{
+    words_are_one_instruction();
+}
+
+/// The law that the lines of some bytes have these bytes, where there are at most 65,278 of them: so where both find memory,
+/// `assemble` makes of the lines that `disassemble` makes of some bytes these bytes again. It does nothing when called.
+pub fn listings_assemble()
+    ensures { ListingsAssemble }
+{
+    own_words_are_read();
+    stand_ins_have_the_length();
+    own_terms_are_written();
+    outlines_stand();
+    texts_are_read();
+    texts_are_plain();
+    data_is_read();
+}
+
+/// The law that the bytes of a text spell each of its instructions at the instruction's place, which is behind the bytes of all
+/// statements before it: `decode` finds there an instruction of the table with the prefixes and the operands that are written, as
+/// long as it counts in the text, and in the bytes that `encode` chooses. It does nothing when called.
+pub fn texts_are_spelled()
+    ensures { TextsAreSpelled }
 {
     words_are_one_instruction();
 }

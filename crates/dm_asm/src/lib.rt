@@ -11,5 +11,5 @@ mod shapes;
 
 pub use assembly::assemble;
 pub use dm_listing::disassemble;
-pub use laws::texts_have_one_answer;
+pub use laws::{listings_assemble, texts_are_spelled, texts_have_one_answer};
 pub use refusal::Refusal;
