@@ -11,3 +11,5 @@ mod listings;
 mod programs;
 #[cfg(test)]
 mod rows;
+#[cfg(test)]
+mod table;
