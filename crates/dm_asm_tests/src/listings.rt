@@ -3,7 +3,7 @@
 //! A row is bytes and their lines, as `8B C3| DB 08Bh,0C3h ; MOV AX,BX`; behind each line stands `/`.
 
 use crate::checks::same;
-use crate::rows::part;
+use crate::rows::{part, put_bytes};
 use dm_asm::{assemble, disassemble};
 use std::alloc::Global;
 use std::process::Abort;
@@ -21,14 +21,6 @@ F0 F0 F0 F0 F0 90| DB 0F0h/DB 0F0h,0F0h,0F0h,0F0h,090h ; LOCK NOP/
 EB FE| JMP SHORT 00100h/
 E9 FD FF| JMP 00100h/";
 
-fn bytes_of(alloc: Global, written: &str) -> Result<Vec<u8>, Fail> {
-    let mut bytes = Vec::new(alloc);
-    for byte in written.split_whitespace() {
-        bytes.push(u8::from_str_radix(byte, 16)?)?;
-    }
-    Ok(bytes)
-}
-
 /// The lines of bytes, with `/` for each line end.
 fn lines_of(alloc: Global, bytes: &[u8]) -> Result<String, Fail> {
     let mut text = String::new(alloc);
@@ -42,7 +34,8 @@ fn lines_of(alloc: Global, bytes: &[u8]) -> Result<String, Fail> {
 }
 
 fn check_row(rt: &impl Abort, alloc: Global, row: &str) -> Result<(), Fail> {
-    let bytes = bytes_of(alloc, part(row, 0)?)?;
+    let mut bytes = Vec::new(alloc);
+    put_bytes(&mut bytes, part(row, 0)?)?;
     let found = lines_of(alloc, bytes.as_slice())?;
     same(rt, row, found.as_str(), part(row, 1)?.trim());
     Ok(())

@@ -18,6 +18,14 @@ pub(crate) fn part(row: &str, number: usize) -> Result<&str, Fail> {
     Ok(row.split('|').nth(number).ok_or("a part is missing")?)
 }
 
+/// Puts the bytes that are written in hexadecimal.
+pub(crate) fn put_bytes(bytes: &mut Vec<u8>, written: &str) -> Result<(), Fail> {
+    for byte in written.split_whitespace() {
+        bytes.push(u8::from_str_radix(byte, 16)?)?;
+    }
+    Ok(())
+}
+
 /// Puts a line, with 0Dh for each `<`.
 fn put_line(text: &mut String, line: &str) -> Result<(), Fail> {
     for letter in line.chars() {

@@ -5,7 +5,7 @@
 //! A row is a text and its bytes, as `MOV AX,CX| 89 C8`.
 
 use crate::checks::same;
-use crate::rows::part;
+use crate::rows::{part, put_bytes};
 use dm_asm::{assemble, disassemble};
 use std::alloc::Global;
 use std::process::Abort;
@@ -350,20 +350,15 @@ const TABLE: [&str; 7] = [
 fn put_row(text: &mut String, bytes: &mut Vec<u8>, row: &str) -> Result<(), Fail> {
     text.push_str(part(row, 0)?)?;
     text.push('\n')?;
-    for byte in part(row, 1)?.split_whitespace() {
-        bytes.push(u8::from_str_radix(byte, 16)?)?;
-    }
-    Ok(())
+    put_bytes(bytes, part(row, 1)?)
 }
 
-/// Puts the texts and the bytes of rows, and tells how many rows they are.
-fn put_rows(text: &mut String, bytes: &mut Vec<u8>, rows: &str) -> Result<u32, Fail> {
-    let mut count: u32 = 0;
+/// Puts the texts and the bytes of rows.
+fn put_rows(text: &mut String, bytes: &mut Vec<u8>, rows: &str) -> Result<(), Fail> {
     for row in rows.split('\n') {
         put_row(text, bytes, row)?;
-        count += 1;
     }
-    Ok(count)
+    Ok(())
 }
 
 /// Assembles the text to the bytes, and lists these as the text.
@@ -384,11 +379,10 @@ fn check_program(rt: &impl Abort, alloc: Global, text: &str, bytes: &[u8]) -> Re
 fn each_row_of_the_table_is_assembled_and_listed(rt: HostRuntime) -> Result<(), Fail> {
     let mut text = String::new(rt.alloc());
     let mut bytes = Vec::new(rt.alloc());
-    let mut count: u32 = 0;
     for rows in TABLE {
-        count += put_rows(&mut text, &mut bytes, rows)?;
+        put_rows(&mut text, &mut bytes, rows)?;
     }
     // 302 rows, and each of the seven prefixes.
-    same(&rt, "rows", count, 309);
+    same(&rt, "rows", text.lines().count(), 309);
     check_program(&rt, rt.alloc(), text.as_str(), bytes.as_slice())
 }
