@@ -1,5 +1,5 @@
 -- What holds of all texts.
-use Rattle.std.specs.Prelude.{◌≡◌, ℕ, ◌+◌, ◌<◌, ◌≤◌, ◌^◌, List, ◌∷◌, ◌++◌, length, Some, Result}
+use Rattle.std.specs.Prelude.{◌≡◌, ℕ, ◌+◌, ◌<◌, ◌≤◌, ◌^◌, List, ◌∷◌, ◌++◌, length, Some, Result, Ok}
 use Rattle.std.specs.List.{AllByRecursion}
 use Rattle.dm_ins.specs.declared.ins.Ins.{Ins}
 use Rattle.dm_ins.specs.Preferred.{IsPreferred}
@@ -21,6 +21,10 @@ TextsHaveOneAnswer = (text : List ℕ) (a b : Result (List ℕ) Refusal) → IsA
 -- the lines of some bytes have these bytes
 abbrev pub ListingsAssemble : Type 0
 ListingsAssemble = (bytes text : List ℕ) → AllByRecursion (λ b. b < 2 ^ 8) bytes → length bytes ≤ most → IsListing bytes text → Assembles text bytes
+
+-- so what a text that is such lines is answered is these bytes, and no refusal
+abbrev pub ListingsAreAnswered : Type 0
+ListingsAreAnswered = (bytes text : List ℕ) (answer : Result (List ℕ) Refusal) → AllByRecursion (λ b. b < 2 ^ 8) bytes → length bytes ≤ most → IsListing bytes text → IsAnswer text answer → answer ≡ Ok bytes
 
 -- the bytes at a place, so many, are an instruction of a text in its preferred bytes: one of the table with the prefixes and the
 -- operands that are written

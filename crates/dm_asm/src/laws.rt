@@ -1,6 +1,6 @@
 //! What holds of all texts.
 
-ghost use Rattle.dm_asm.specs.Laws.{TextsHaveOneAnswer, ListingsAssemble, TextsAreSpelled};
+ghost use Rattle.dm_asm.specs.Laws.{TextsHaveOneAnswer, ListingsAssemble, ListingsAreAnswered, TextsAreSpelled};
 
 use dm_lines::{
     data_is_read, outlines_stand, own_terms_are_written, texts_are_plain, texts_are_read,
@@ -15,11 +15,14 @@ pub fn texts_have_one_answer()
     words_are_one_instruction();
 }
 
-/// The law that the lines of some bytes have these bytes, where there are at most 65,278 of them: so where both find memory,
-/// `assemble` makes of the lines that `disassemble` makes of some bytes these bytes again. It does nothing when called.
+/// The laws that the lines of some bytes have these bytes, where there are at most 65,278 of them, and so are answered with these bytes
+/// and with no refusal: where both find memory, `assemble` makes of the lines that `disassemble` makes of some bytes these bytes again.
+/// It does nothing when called.
 pub fn listings_assemble()
-    ensures { ListingsAssemble }
+    ensures bytes { ListingsAssemble }
+    ensures answer { ListingsAreAnswered }
 {
+    words_are_one_instruction();
     own_words_are_read();
     stand_ins_have_the_length();
     own_terms_are_written();
