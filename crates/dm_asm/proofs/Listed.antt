@@ -1,9 +1,9 @@
 -- The lines of some bytes have these bytes.
-use Rattle.std.proofs.Common.{◌≡◌, ℕ, suc, ◌+◌, ◌*◌, ◌/◌, ◌%◌, ◌^◌, ◌<◌, ◌≤◌, Bool, true, false, eqb, List, [], ◌∷◌, ◌++◌, length, map, take, drop, Option, Some, None, inl, inr, refl, sym, ap, subst, ◌∙◌, arith, length-append, length-drop, length-take-le, append_assoc, append-nil}
+use Rattle.std.proofs.Common.{◌≡◌, ℕ, suc, ◌+◌, ◌*◌, ◌/◌, ◌%◌, ◌^◌, ◌<◌, ◌≤◌, Bool, true, false, eqb, List, [], ◌∷◌, ◌++◌, length, map, take, drop, Option, Some, None, inl, inr, refl, sym, ap, subst, ◌∙◌, arith, length-append, length-take-le, append_assoc, append-nil}
 use Rattle.std.proofs.Math.Seq.{take-add, take-length}
 use Rattle.std.specs.Prelude.{codes, flat_map, nat_lt, if◌then◌else◌}
-use Rattle.std.specs.List.{AllByRecursion}
-use Rattle.std.proofs.ByRecursion.{All-take, All-drop}
+use Rattle.std.specs.List.{All, AllByRecursion}
+use Rattle.std.proofs.lemmas.List.Elements.{All-take, All-drop, All-from_recursion, recursion_from_All}
 use Rattle.std.proofs.lemmas.Bool.Decides.{nat_tests}
 use Rattle.dm_ins.specs.declared.operand.Base.{Base}
 use Rattle.dm_ins.specs.declared.operand.Base.TheVariants.{Direct}
@@ -34,6 +34,7 @@ use Rattle.dm_lines.specs.Laws as line
 use Rattle.dm_lines.specs.Laws.{TermFits, IsComment, data_statement, OwnTermsAreWritten, OutlinesStand, TextsAreRead, TextsArePlain, DataIsRead}
 use Rattle.dm_listing.specs.Listing.{bytes_at, data_text, instruction_text, Shows, preferred, other, single, Lists, none, more, IsListing}
 use Rattle.dm_listing.proofs.Lines.{IsPart, shows_part}
+use Rattle.dm_listing.proofs.Once.{bytes_long}
 use Rattle.dm_lines.specs.declared.token.Name as Name'
 use Rattle.dm_asm.specs.Labels.{Label, term_place}
 use Rattle.dm_asm.specs.Codes.{Codes, HasLength, HasShape, IsCoded, outlined, placed, placed_words}
@@ -225,11 +226,10 @@ own_line g i x at k next p l e lt =
 
 -- ---- each line
 
-bytes_long : (bytes : List ℕ) (at k : ℕ) → at + k ≤ length bytes → length (bytes_at bytes at k) ≡ k
-bytes_long bytes at k h = let rest : k ≤ length (drop at bytes) = omega (arith, h, length-drop at bytes) in length-take-le k (drop at bytes) rest
-
 bytes_fit : (bytes : List ℕ) (at k : ℕ) → AllByRecursion (λ b. b < 2 ^ 8) bytes → AllByRecursion (λ b. b < 2 ^ 8) (bytes_at bytes at k)
-bytes_fit bytes at k h = All-take (λ b. b < 2 ^ 8) k (drop at bytes) (All-drop (λ b. b < 2 ^ 8) at bytes h)
+bytes_fit bytes at k h =
+    let some : All (λ b. b < 2 ^ 8) (bytes_at bytes at k) = All-take (λ b. b < 2 ^ 8) k (drop at bytes) (All-drop (λ b. b < 2 ^ 8) at bytes (All-from_recursion (λ b. b < 2 ^ 8) bytes h)) in
+    recursion_from_All (λ b. b < 2 ^ 8) (bytes_at bytes at k) some
 
 data_at : Laws → (bytes : List ℕ) (at k : ℕ) (comment : List ℕ) → AllByRecursion (λ b. b < 2 ^ 8) bytes → 0 < k → k ≤ 16 → at + k ≤ length bytes → IsComment comment → Printed comment → length comment ≤ 66 → IsLine (bytes_at bytes at k) (0x100 + at) k (data_text (bytes_at bytes at k) ++ comment)
 data_at g bytes at k comment fit some few within is printed short =

@@ -11,7 +11,7 @@ use Rattle.dm_listing.proofs.Lines.{shows_part}
 
 -- ---- one instruction stands at a place
 
-bytes_long : (bytes : List ℕ) (at k : ℕ) → at + k ≤ length bytes → length (bytes_at bytes at k) ≡ k
+pub bytes_long : (bytes : List ℕ) (at k : ℕ) → at + k ≤ length bytes → length (bytes_at bytes at k) ≡ k
 bytes_long bytes at k h = let rest : k ≤ length (drop at bytes) = omega (arith, h, length-drop at bytes) in length-take-le k (drop at bytes) rest
 
 longer : (bytes : List ℕ) (at k m : ℕ) → k ≤ m → bytes_at bytes at m ≡ bytes_at bytes at k ++ take (m - k) (drop k (drop at bytes))
