@@ -43,11 +43,13 @@ pub struct Machine {
 }
 
 impl Model for Machine {
-    ghost use Rattle.dm_state.specs.State.{State};
+    ghost use Rattle.dm_state.specs.State.{State, AreLinked};
 
     ghost Value = { State };
 
     ghost view = { λ m. m.parts };
+
+    ghost invariant = { λ m. AreLinked m.parts };
 }
 
 /// Registers before a program is loaded.

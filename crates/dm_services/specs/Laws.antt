@@ -17,6 +17,10 @@ ServicesHaveOneAnswer = (s : State) (service : Service) (x y : Answer) → Serve
 abbrev pub ServicesKeepTheMap : Type 0
 ServicesKeepTheMap = (s : State) (service : Service) (x : Answer) → Serves s service x → IsShaped s.memory x.state.memory
 
+-- and so it does the tables of expanded memory
+abbrev pub ServicesKeepTheTables : Type 0
+ServicesKeepTheTables = (s : State) (service : Service) (x : Answer) → Serves s service x → x.state.ems ≡ s.ems
+
 -- the state, or the answer, with its memory changed
 abbrev pub with_change : (Memory → Memory) → State → State
 with_change change s = record s { memory = change s.memory }
