@@ -166,7 +166,8 @@ impl Ems {
 
     /// How many handles are in use, with handle 0.
     pub fn in_use(&self) -> u16
-        ensures { result ≡ count_by is_some self.now.handles }
+        ensures count { result ≡ count_by is_some self.now.handles }
+        ensures few { result ≤ 64 }
     {
         self.handles.iter().filter(|slot| slot.is_some()).count() as u16
     }
