@@ -1,0 +1,5 @@
+pub mod Steps
+pub mod Reallocation
+pub mod Many
+pub mod Maps
+pub mod Laws
