@@ -2,16 +2,23 @@
 use Rattle.std.proofs.Common.{◌≡◌, ℕ, ◌-◌, Bool, true, false, cond, List, Option, Some, None, refl}
 use Rattle.std.specs.Prelude.{Result, Ok, Err, ◌==◌, nat_lt}
 use Rattle.dm_ems.specs.declared.status.Status.{Status}
-use Rattle.dm_ems.specs.declared.status.Status.TheVariants.{OverTotal, OverFree, UnknownHandle, NoSubfunction, BadMap}
+use Rattle.dm_ems.specs.declared.status.Status.TheVariants.{OverTotal, OverFree, UnknownHandle, NoSubfunction, BadMap, KindsOverlap, TooLong, ExchangeOverlaps}
 use Rattle.dm_ems.specs.Tables.{Expanded, page_count, unallocated, blocks_of, cut, appended}
 use Rattle.dm_ems.specs.Linked.{IsLinked}
-use Rattle.dm_ems.specs.Calls.{slot, need}
+use Rattle.dm_ems.specs.Calls.{slot, need, with_memory}
+use Rattle.dm_space.specs.Memory.{Memory}
+use Rattle.dm_space.specs.Places.{IsShaped}
+use Rattle.dm_moves.specs.Regions.{Region}
+use Rattle.dm_moves.specs.Overlaps.{overlap}
+use Rattle.dm_moves.proofs.Shapes.{moves_keep as moves_keep_map}
 use Rattle.dm_ems.proofs.Linked.{linked_cut, linked_appended}
-use Rattle.dm_ems.proofs.Keeping.{Keeps, if_keeps, need_keeps, refused, with_shown}
+use Rattle.dm_ems.proofs.Keeping.{Keeps, if_keeps, need_keeps, refused, with_shown, writes_keep}
 use Rattle.dm_ems_move.specs.Steps.{and_then}
 use Rattle.dm_ems_move.specs.Reallocation.{reallocate, reallocated, with_count}
 use Rattle.dm_ems_move.specs.Many.{map_many, after_pairs}
 use Rattle.dm_ems_move.specs.Maps.{whole_map, map_at, entries, with_map, showing_all}
+use Rattle.dm_ems_move.specs.declared.region_moves.Moved.TheVariants.{Apart, Overlapping}
+use Rattle.dm_ems_move.specs.RegionMoves.{length_at, regions_of, are_mixed, move_between, exchange_between, move_region, exchange_region}
 use Rattle.dm_ems_move.specs.Laws.{MovesKeepTheLink}
 use Rattle.dm_ems_move.proofs.Shown.{after_shown, map_shown, written_linked}
 
@@ -58,6 +65,42 @@ map_keeps x mode ts to fs fo l =
     (need_keeps x (map_at x.ems x.memory fs fo) BadMap _ l (λ ws is. record { kept = with_shown (with_map x ts to) ws written (map_shown x.ems x.memory fs fo ws is) }))
     (if_keeps x (mode == 3) (Ok (Some 16, x)) (Err NoSubfunction) (record { kept = l }) (refused x NoSubfunction l))))
 
+-- ---- regions
+
+-- a memory of the same map
+shaped_keeps : {A : Type 0} (x : Expanded) (v : A) (m : Memory) → IsShaped x.memory m → IsLinked x → Keeps x (Ok (v, with_memory x m))
+shaped_keeps x v m s l = record { kept = writes_keep x m s l }
+
+move_keeps : (x : Expanded) (n : ℕ) (from to : Region) → IsLinked x → Keeps x (move_between x n from to)
+unfolding move_between
+move_keeps x n from to l =
+    if_keeps x (overlap x.memory from to n) _ _
+    (if_keeps x (are_mixed from to) (Err KindsOverlap) _ (refused x KindsOverlap l) (shaped_keeps x Overlapping _ (moves_keep_map.moving x.memory from to n) l))
+    (shaped_keeps x Apart _ (moves_keep_map.moving x.memory from to n) l)
+
+exchange_keeps : (x : Expanded) (n : ℕ) (from to : Region) → IsLinked x → Keeps x (exchange_between x n from to)
+unfolding exchange_between
+exchange_keeps x n from to l =
+    if_keeps x (overlap x.memory from to n) _ _
+    (if_keeps x (are_mixed from to) (Err KindsOverlap) (Err ExchangeOverlaps) (refused x KindsOverlap l) (refused x ExchangeOverlaps l))
+    (shaped_keeps x tt _ (moves_keep_map.exchanging x.memory from to n) l)
+
+move_region_keeps : (x : Expanded) (s o : ℕ) → IsLinked x → Keeps x (move_region x s o)
+unfolding move_region
+move_region_keeps x s o l =
+    let n = length_at x.memory s o in
+    if_keeps x (n == 0) (Ok (Apart, x)) _ (record { kept = l })
+    (if_keeps x (nat_lt 0x100000 n) (Err TooLong) _ (refused x TooLong l)
+    (then_keeps x (regions_of x s o n) _ l (λ r _. move_keeps x n r.0 r.1 l)))
+
+exchange_region_keeps : (x : Expanded) (s o : ℕ) → IsLinked x → Keeps x (exchange_region x s o)
+unfolding exchange_region
+exchange_region_keeps x s o l =
+    let n = length_at x.memory s o in
+    if_keeps x (n == 0) (Ok (tt, x)) _ (record { kept = l })
+    (if_keeps x (nat_lt 0x100000 n) (Err TooLong) _ (refused x TooLong l)
+    (then_keeps x (regions_of x s o n) _ l (λ r _. exchange_keeps x n r.0 r.1 l)))
+
 -- ---- all calls
 
 pub moves_keep : MovesKeepTheLink
@@ -65,4 +108,6 @@ moves_keep = record {
   reallocating = λ x h n l. (reallocate_keeps x h n l).kept;
   mapping = λ x mode h count s o l. (many_keeps x mode h count s o l).kept;
   setting = λ x mode ts to fs fo l. (map_keeps x mode ts to fs fo l).kept;
+  moving = λ x s o l. (move_region_keeps x s o l).kept;
+  exchanging = λ x s o l. (exchange_region_keeps x s o l).kept;
 }

@@ -3,3 +3,4 @@ pub mod Reallocation
 pub mod Many
 pub mod Maps
 pub mod Laws
+pub mod RegionMoves

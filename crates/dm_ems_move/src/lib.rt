@@ -3,12 +3,15 @@
 #![tactic(auto)]
 
 mod buffer;
+mod description;
 mod laws;
 mod many;
 mod maps;
 mod reallocation;
+mod region_moves;
 
 pub use laws::moves_keep_the_link;
 pub use many::map_many;
 pub use maps::whole_map;
 pub use reallocation::{Reallocated, reallocate};
+pub use region_moves::{Moved, exchange_region, move_region};
