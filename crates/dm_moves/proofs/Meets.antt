@@ -1,5 +1,5 @@
 -- Regions met run by run.
-use Rattle.std.proofs.Common.{◌≡◌, ℕ, ◌+◌, ◌-◌, ◌%◌, ◌<◌, ◌≤◌, Bool, true, false, refl, sym, ◌∙◌, ap, subst, arith, inl, inr}
+use Rattle.std.proofs.Common.{◌≡◌, ℕ, ◌+◌, ◌-◌, ◌%◌, ◌<◌, ◌≤◌, true, false, sym, ◌∙◌, ap, arith, inl, inr}
 use Rattle.std.proofs.lemmas.Bool.{cases_lt}
 use Rattle.dm_space.specs.declared.place.Place.{Place}
 use Rattle.std.specs.Prelude.{◌==◌, ◌&&◌}
@@ -8,7 +8,7 @@ use Rattle.dm_space.specs.Memory.{Memory}
 use Rattle.dm_space.specs.Runs.{shift}
 use Rattle.dm_moves.specs.Regions.{Region, place_in, IsInside}
 use Rattle.dm_moves.specs.Overlaps.{is_shared, any_two, overlap}
-use Rattle.dm_moves.proofs.Some.{two-true, two-none, none-two, two-found, two-never}
+use Rattle.dm_moves.proofs.Some.{two-true, two-none, none-two, two-found}
 use Rattle.dm_moves.proofs.Inside.{place-in-run}
 
 -- places of two kinds

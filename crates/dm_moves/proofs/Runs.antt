@@ -1,23 +1,21 @@
 -- Runs of a region's bytes, and one run after another.
-use Rattle.std.proofs.Common.{◌≡◌, ℕ, zero, suc, ◌+◌, ◌*◌, ◌/◌, ◌%◌, ◌<◌, ◌≤◌, List, [], ◌∷◌, ◌++◌, length, get_or, set, refl, sym, ◌∙◌, ap, subst, arith, inl, get_or-set_same}
+use Rattle.std.proofs.Common.{◌≡◌, ℕ, zero, suc, ◌+◌, ◌/◌, ◌%◌, ◌<◌, ◌≤◌, List, [], ◌∷◌, ◌++◌, length, get_or, set, refl, sym, ◌∙◌, ap, subst, arith, inl, get_or-set_same}
 use Rattle.std.specs.Prelude.{slice_index}
 use Rattle.std.proofs.lemmas.List.{length-set, get_or_default}
 use Rattle.dm_region.specs.Parts.{part, with_part}
 use Rattle.dm_pool.specs.Blocks.{with_content}
 use Rattle.dm_pool.proofs.Blocks.{part_length, set_twice, twice, written, elsewhere}
 use Rattle.dm_region.proofs.Bytes.{length-with_part}
-use Rattle.dm_space.specs.declared.place.Place.{Place}
 use Rattle.dm_space.specs.declared.place.Place.TheVariants.{Page}
-use Rattle.dm_space.specs.Copies.{values, reads, writes, copied_in, copied_out, block_copied_in, block_copied_out}
+use Rattle.dm_space.specs.Copies.{values, writes, copied_in, copied_out, block_copied_in, block_copied_out}
 use Rattle.dm_space.specs.Memory.{Memory, Held, place, peek, poke, byte_at, page_bytes, with_blocks, with_byte}
-use Rattle.dm_space.specs.Runs.{shift, with_run}
+use Rattle.dm_space.specs.Runs.{with_run}
 use Rattle.dm_space.proofs.Copies.{length-values, values-more, values-part, part-more, none-written, one-more, same-content}
 use Rattle.dm_space.proofs.Places.{peek-place, page-there}
-use Rattle.dm_moves.specs.declared.regions.Kind.{Kind}
 use Rattle.dm_moves.specs.declared.regions.Kind.TheVariants.{Linear, Pages, Single}
 use Rattle.dm_moves.specs.Regions.{Region, spot, place_in, byte_in, bytes_in, stored, moved, exchanged, IsInside}
 use Rattle.dm_moves.specs.Copying.{read_in, written_out}
-use Rattle.dm_moves.proofs.Inside.{place-in-run, page-of, single-of, inside-shaped}
+use Rattle.dm_moves.proofs.Inside.{page-of, single-of, inside-shaped}
 use Rattle.dm_moves.proofs.Shapes.{stored-shaped}
 
 -- ---- linear addresses
@@ -73,8 +71,8 @@ block-stored (v ∷ vs) m r k p o run live fits =
     let page : page_bytes t p ≡ set xs o v = get_or-set_same cs p (set xs o v) [] live in
     let first : with_byte m (place_in m r k) v ≡ t = ap (λ q. with_byte m q v) (ap (λ j. place_in m r j) here ∙ run m 0 (omega arith) ∙ ap (Page p) there) in
     let rest : IsBlockRun r (suc k) p (suc o) (length vs) = λ u i h.
-        let e : suc k + i ≡ k + suc i = omega arith in let f : o + suc i ≡ suc o + i = omega arith in
-        ap (λ j. place_in u r j) e ∙ run u (suc i) (omega arith) ∙ ap (Page p) f in
+    let e : suc k + i ≡ k + suc i = omega arith in let f : o + suc i ≡ suc o + i = omega arith in
+    ap (λ j. place_in u r j) e ∙ run u (suc i) (omega arith) ∙ ap (Page p) f in
     ap (λ (x : Memory). stored x r (suc k) vs) first
     ∙ block-stored vs t r (suc k) p (suc o) rest (omega (arith, length-set cs p (set xs o v), live)) (omega (arith, ap length page, length-set xs o v, fits))
     ∙ ap (λ (ys : List ℕ). with_contents m (set (set cs p (set xs o v)) p (with_part ys (suc o) (length vs) vs))) page

@@ -1,5 +1,5 @@
 -- Bytes of regions and scratch bytes, for private steps alone.
-use Rattle.std.specs.Prelude.{ℕ, ◌+◌, List}
+use Rattle.std.specs.Prelude.{ℕ}
 use Rattle.dm_region.specs.Parts.{part, with_part}
 use Rattle.dm_space.specs.Memory.{Held}
 use Rattle.dm_space.specs.Copies.{values}

@@ -36,7 +36,13 @@ fn runs_meet(p: Place, n: usize, q: Place, l: usize) -> bool
         Place::Page(page, a) => {
             match q {
                 Place::Low(_) => false,
-                Place::Page(other, b) => { if page == other { meet(a, n, b, l) } else { false } }
+                Place::Page(other, b) => {
+                    if page == other {
+                        meet(a, n, b, l)
+                    } else {
+                        false
+                    }
+                }
                 Place::Rom(_) => false,
                 Place::Nothing => false,
             }

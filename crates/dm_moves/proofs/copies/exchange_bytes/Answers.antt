@@ -1,10 +1,5 @@
-use Rattle.std.proofs.Common.{ap, ◌∙◌, sym, subst, arith}
-use Rattle.dm_region.specs.Parts.{part}
+use Rattle.std.proofs.Common.{ap, ◌∙◌, arith}
 use Rattle.dm_space.specs.Memory.{Held}
-use Rattle.dm_moves.specs.Copying.{read_in, written_out}
-use Rattle.dm_moves.specs.Regions.{IsInside}
-use Rattle.dm_moves.proofs.Inside.{inside-shaped}
-use Rattle.dm_moves.proofs.Shapes.{stored-shaped}
 use Rattle.dm_moves.proofs.Runs.{still-inside, exchange-done}
 use Rattle.dm_moves.proofs.copies.exchange_bytes.Goals as goal
 

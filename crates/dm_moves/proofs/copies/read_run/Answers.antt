@@ -1,4 +1,4 @@
-use Rattle.std.proofs.Common.{◌≡◌, ◌+◌, ◌/◌, ◌%◌, ◌∙◌, ap, sym, refl, arith}
+use Rattle.std.proofs.Common.{◌+◌, ◌/◌, ◌%◌, ◌∙◌, ap, sym, refl, arith}
 use Rattle.std.specs.Prelude.{slice_index}
 use Rattle.dm_space.specs.Copies.{copied_in, block_copied_in}
 use Rattle.dm_moves.proofs.Inside.{page-below, single-of}

@@ -1,4 +1,4 @@
-use Rattle.std.proofs.Common.{◌≡◌, ◌+◌, ◌/◌, ◌%◌, ◌≤◌, length, ◌∙◌, ap, sym, refl, arith}
+use Rattle.std.proofs.Common.{◌+◌, ◌/◌, ◌%◌, ◌≤◌, length, ◌∙◌, ap, sym, refl, arith}
 use Rattle.std.specs.Prelude.{slice_index}
 use Rattle.dm_space.specs.Copies.{copied_out, block_copied_out}
 use Rattle.dm_moves.proofs.Inside.{page-below, single-of}

@@ -1,4 +1,4 @@
-use Rattle.std.proofs.Common.{◌≡◌, ◌≤◌, ◌-◌}
+use Rattle.std.proofs.Common.{◌≤◌, ◌-◌}
 use Rattle.dm_moves.proofs.Meets.{AreApart}
 use Rattle.dm_moves.proofs.overlaps.overlap.Given as goal
 

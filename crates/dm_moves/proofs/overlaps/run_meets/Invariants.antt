@@ -1,4 +1,4 @@
-use Rattle.std.proofs.Common.{◌≡◌, ◌≤◌, ◌-◌}
+use Rattle.std.proofs.Common.{◌≤◌, ◌-◌}
 use Rattle.dm_moves.proofs.Meets.{IsRunApart}
 use Rattle.dm_moves.proofs.overlaps.run_meets.Given as goal
 

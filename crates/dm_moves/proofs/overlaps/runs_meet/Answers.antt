@@ -1,5 +1,4 @@
-use Rattle.std.proofs.Common.{◌≡◌, ◌+◌, false, sym, refl, ◌∙◌, ap}
-use Rattle.std.specs.Prelude.{◌==◌}
+use Rattle.std.proofs.Common.{sym, refl}
 use Rattle.dm_moves.proofs.Meets.{never, other_page}
 use Rattle.dm_moves.proofs.overlaps.runs_meet.Goals as goal
 
