@@ -1,11 +1,11 @@
 -- Each call keeps the tables and the memory together.
-use Rattle.std.proofs.Common.{◌≡◌, ℕ, ◌-◌, Bool, true, false, cond, List, Option, Some, None, refl}
+use Rattle.std.proofs.Common.{◌≡◌, ℕ, ◌-◌, Bool, true, false, cond, Some, None, refl}
 use Rattle.std.specs.Prelude.{Result, Ok, Err, ◌==◌, nat_lt}
 use Rattle.dm_ems.specs.declared.status.Status.{Status}
 use Rattle.dm_ems.specs.declared.status.Status.TheVariants.{OverTotal, OverFree, UnknownHandle, NoSubfunction, BadMap, KindsOverlap, TooLong, ExchangeOverlaps}
 use Rattle.dm_ems.specs.Tables.{Expanded, page_count, unallocated, blocks_of, cut, appended}
 use Rattle.dm_ems.specs.Linked.{IsLinked}
-use Rattle.dm_ems.specs.Calls.{slot, need, with_memory}
+use Rattle.dm_ems.specs.Calls.{slot, with_memory}
 use Rattle.dm_space.specs.Memory.{Memory}
 use Rattle.dm_space.specs.Places.{IsShaped}
 use Rattle.dm_moves.specs.Regions.{Region}
@@ -16,7 +16,7 @@ use Rattle.dm_ems.proofs.Keeping.{Keeps, if_keeps, need_keeps, refused, with_sho
 use Rattle.dm_ems_move.specs.Steps.{and_then}
 use Rattle.dm_ems_move.specs.Reallocation.{reallocate, reallocated, with_count}
 use Rattle.dm_ems_move.specs.Many.{map_many, after_pairs}
-use Rattle.dm_ems_move.specs.Maps.{whole_map, map_at, entries, with_map, showing_all}
+use Rattle.dm_ems_move.specs.Maps.{whole_map, map_at, entries, with_map}
 use Rattle.dm_ems_move.specs.declared.region_moves.Moved.TheVariants.{Apart, Overlapping}
 use Rattle.dm_ems_move.specs.RegionMoves.{length_at, regions_of, are_mixed, move_between, exchange_between, move_region, exchange_region}
 use Rattle.dm_ems_move.specs.Laws.{MovesKeepTheLink}

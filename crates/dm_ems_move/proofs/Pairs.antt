@@ -1,7 +1,6 @@
 -- Pairs of pages and windows, one after another.
-use Rattle.std.proofs.Common.{◌≡◌, ℕ, zero, suc, ◌+◌, ◌*◌, ◌≤◌, Bool, List, Option, refl, arith, add-one, inl, inr, subst, sym}
-use Rattle.std.specs.Prelude.{Result, Ok, Err}
-use Rattle.std.proofs.lemmas.Bool.{cases_lt}
+use Rattle.std.proofs.Common.{◌≡◌, ℕ, zero, suc, ◌+◌, ◌*◌, Bool, List, refl, arith, add-one}
+use Rattle.std.specs.Prelude.{Err}
 use Rattle.dm_space.specs.Memory.{Memory}
 use Rattle.dm_ems.specs.declared.status.Status.{Status}
 use Rattle.dm_ems_move.specs.Steps.{and_then, word_after}

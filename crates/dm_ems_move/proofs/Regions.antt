@@ -1,13 +1,12 @@
 -- The regions that are described lie where there is memory for them.
-use Rattle.std.proofs.Common.{◌≡◌, ℕ, ◌+◌, ◌*◌, ◌<◌, ◌≤◌, Bool, true, false, cond, List, [], Option, Some, None, length, map, get_or, refl, subst, sym, ◌∙◌, ap, arith}
-use Rattle.std.specs.Prelude.{Result, Ok, Err, IfOk, ◌==◌, nat_lt, nat_le, slice_index, slice_index_or, filter, count_by}
+use Rattle.std.proofs.Common.{◌≡◌, ℕ, ◌+◌, ◌*◌, ◌<◌, ◌≤◌, Bool, true, false, cond, Option, Some, None, length, refl, subst, sym, ◌∙◌, arith}
+use Rattle.std.specs.Prelude.{Result, Ok, Err, IfOk, ◌==◌, nat_lt, nat_le, slice_index, slice_index_or, filter}
 use Rattle.std.proofs.lemmas.Bool.Decides.{nat_tests}
 use Rattle.std.proofs.lemmas.Option.{slice_get-get_or}
 use Rattle.std.proofs.lemmas.List.{length-map}
 use Rattle.std.proofs.lemmas.List.Sums.{length-filter, count_by-le-length}
 use Rattle.dm_space.specs.Memory.{Memory, IsPage}
-use Rattle.dm_moves.specs.declared.regions.Kind.TheVariants.{Linear, Pages}
-use Rattle.dm_moves.specs.Regions.{Region, region, IsInside}
+use Rattle.dm_moves.specs.Regions.{Region, IsInside}
 use Rattle.dm_ems.specs.declared.status.Status.{Status}
 use Rattle.dm_ems.specs.declared.status.Status.TheVariants.{UnknownHandle, NoSuchPage, PastPages, OffsetPastPage, UnknownKind, PastMemory}
 use Rattle.dm_ems.specs.declared.tables.Page.{Page}

@@ -1,5 +1,5 @@
 -- What windows show after many pages are mapped, or the whole map: pages.
-use Rattle.std.proofs.Common.{◌≡◌, ℕ, zero, suc, ◌+◌, ◌*◌, ◌%◌, Bool, true, false, cond, List, [], ◌∷◌, Option, Some, None, get_or, set, refl, subst, sym, ap, ◌∙◌}
+use Rattle.std.proofs.Common.{◌≡◌, ℕ, zero, suc, ◌+◌, ◌*◌, ◌%◌, Bool, true, false, cond, List, [], ◌∷◌, Option, Some, None, set, refl, subst}
 use Rattle.std.specs.Prelude.{Result, Ok, Err, IfOk, IfSome, slice_get, slice_index_or, ◌==◌, ◌&&◌}
 use Rattle.dm_space.specs.Memory.{Memory, poke, linear}
 use Rattle.dm_space.specs.Buffers.{with_bytes}
@@ -9,7 +9,7 @@ use Rattle.dm_ems.specs.declared.status.Status.{Status}
 use Rattle.dm_ems.specs.declared.status.Status.TheVariants.{NoSuchPage, NoSuchWindow}
 use Rattle.dm_ems.specs.declared.tables.Page.{Page}
 use Rattle.dm_ems.specs.Tables.{Tables, Expanded, blocks_of}
-use Rattle.dm_ems.specs.Linked.{block_at, IsOwned, ShowsPages, IsLinked}
+use Rattle.dm_ems.specs.Linked.{IsOwned, ShowsPages, IsLinked}
 use Rattle.dm_ems.specs.Calls.{need}
 use Rattle.dm_ems.specs.Names.{writing}
 use Rattle.dm_ems.proofs.Owned.{each_block}

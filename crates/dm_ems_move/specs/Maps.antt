@@ -6,7 +6,7 @@ use Rattle.dm_ems.specs.declared.status.Status.{Status}
 use Rattle.dm_ems.specs.declared.status.Status.TheVariants.{NoSubfunction, BadMap}
 use Rattle.dm_ems.specs.declared.tables.Page.{Page}
 use Rattle.dm_ems.specs.Tables.{Tables, Expanded, blocks_of, is_of, is_block, with_windows}
-use Rattle.dm_ems.specs.Calls.{need, slot, with_memory}
+use Rattle.dm_ems.specs.Calls.{need, with_memory}
 use Rattle.dm_ems.specs.Names.{word, writing}
 use Rattle.dm_ems_move.specs.Steps.{word_after}
 

@@ -1,5 +1,5 @@
 -- A handle gets another number of pages (LIM EMS 4.0, function 18): refusals in the order in which they are tried.
-use Rattle.std.specs.Prelude.{ℕ, ◌-◌, nat_lt, if◌then◌else◌, Option, Some, None, Result, Ok, Err}
+use Rattle.std.specs.Prelude.{ℕ, ◌-◌, nat_lt, if◌then◌else◌, Option, Some, None, Result, Ok}
 use Rattle.dm_ems.specs.declared.status.Status.{Status}
 use Rattle.dm_ems.specs.declared.status.Status.TheVariants.{UnknownHandle, OverTotal, OverFree}
 use Rattle.dm_ems.specs.Tables.{Expanded, page_count, unallocated, appended, cut}

@@ -9,8 +9,8 @@ ghost use Rattle.dm_ems.specs.Calls.{answer, left};
 ghost use Rattle.dm_ems_move.specs.Maps.{whole_map, numbers, entry, entries, meant, meant_at, map_at};
 
 use crate::buffer::word_after;
-use dm_ems::{Ems, Page, Status, set_windows};
 use arrayvec::ArrayVec;
+use dm_ems::{Ems, Page, Status, set_windows};
 use dm_pool::Block;
 use dm_space::Space;
 
@@ -101,13 +101,7 @@ fn meant(ems: &Ems, handle: u16, page: u16) -> Option<Option<Block>>
 }
 
 /// What window `k` is to show by a map at segment:offset.
-fn meant_at(
-    ems: &Ems,
-    space: &Space,
-    segment: u16,
-    offset: u16,
-    k: usize,
-) -> Option<Option<Block>>
+fn meant_at(ems: &Ems, space: &Space, segment: u16, offset: u16, k: usize) -> Option<Option<Block>>
     requires { k < 4 }
     ensures { result ≡ meant_at ems.now space.now.memory segment offset k }
 {

@@ -129,7 +129,11 @@ fn is_linear(region: &Region) -> bool
 fn are_mixed(from: &Region, to: &Region) -> bool
     ensures { result ≡ are_mixed from.now to.now }
 {
-    if is_linear(from) { !is_linear(to) } else { is_linear(to) }
+    if is_linear(from) {
+        !is_linear(to)
+    } else {
+        is_linear(to)
+    }
 }
 
 #[tactic(auto, unfolding(crate::specs::RegionMoves::move_between))]
@@ -195,12 +199,7 @@ fn exchange_between(
 /// conventional memory is left, `UnknownHandle`, `OffsetPastPage`, `NoSuchPage`, `PastPages` where the handle's pages are left;
 /// `KindsOverlap` where a region of conventional memory shares a byte with one of pages. Then memory has not changed.
 #[tactic(auto, unfolding(crate::specs::RegionMoves::move_region))]
-pub fn move_region(
-    ems: &Ems,
-    space: &mut Space,
-    segment: u16,
-    offset: u16,
-) -> Result<Moved, Status>
+pub fn move_region(ems: &Ems, space: &mut Space, segment: u16, offset: u16) -> Result<Moved, Status>
     requires { IsLinked (expanded ems.now space.old.memory) }
     ensures answer { result ≡ answer (move_region (expanded ems.now space.old.memory) segment offset) }
     ensures left { expanded ems.now space.new.memory ≡ left (expanded ems.now space.old.memory) (move_region (expanded ems.now space.old.memory) segment offset) }

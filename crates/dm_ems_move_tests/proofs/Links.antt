@@ -1,5 +1,5 @@
 -- Tables and memory go together after each call that a test makes.
-use Rattle.std.proofs.Common.{◌≡◌, ℕ, List, sym, subst}
+use Rattle.std.proofs.Common.{◌≡◌, ℕ, sym, subst}
 use Rattle.dm_pool.specs.Blocks.{Blocks, no_blocks}
 use Rattle.dm_space.specs.Memory.{Memory, of_ram, poke}
 use Rattle.dm_space.proofs.Places.{poke-shaped}

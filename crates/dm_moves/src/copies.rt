@@ -102,8 +102,9 @@ pub fn exchange_bytes(space: &mut Space, from: &Region, to: &Region, len: usize)
     ensures { space.new.memory ≡ exchanged space.old.memory from.now to.now len }
 {
     let _sizes = space.a20();
-    read(space, from, 0, len);
-    read(space, to, len, len);
-    write(space, 0, to, len);
-    write(space, len, from, len);
+    let (first, second) = (0, len);
+    read(space, from, first, len);
+    read(space, to, second, len);
+    write(space, first, to, len);
+    write(space, second, from, len);
 }

@@ -1,4 +1,4 @@
-use Rattle.std.proofs.Common.{◌≡◌, ℕ, None, sym, subst, get_or}
+use Rattle.std.proofs.Common.{ℕ, None, sym, subst, get_or}
 use Rattle.std.specs.Prelude.{IfSome}
 use Rattle.dm_space.specs.Memory.{Held, IsPage}
 use Rattle.dm_ems.specs.Tables.{expanded}

@@ -1,4 +1,4 @@
-use Rattle.std.proofs.Common.{◌≡◌, ◌≤◌, length, subst, sym, ap}
+use Rattle.std.proofs.Common.{◌≤◌, length, subst}
 use Rattle.dm_ems.specs.declared.tables.Page.{Page}
 use Rattle.std.proofs.Common.{List}
 use Rattle.dm_ems.specs.Tables.{expanded}
