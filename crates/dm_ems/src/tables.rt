@@ -222,6 +222,14 @@ impl Ems {
         self.pages.len() as u16
     }
 
+    /// The pages of all handles; those of one handle stand in the order of their logical numbers.
+    pub fn pages(&self) -> &[Page]
+        ensures pages { result.now ≡ self.now.pages }
+        ensures few { length result.now ≤ 512 }
+    {
+        self.pages.as_slice()
+    }
+
     pub(crate) fn push(&mut self, page: Page)
         requires { length self.old.pages < self.old.total }
         ensures { self.new ≡ record self.old { pages = self.old.pages ++ page ∷ [] } }
