@@ -15,15 +15,17 @@ use Rattle.dm_ems.specs.Calls.{slot, left, need}
 use Rattle.dm_ems.specs.Names as rows
 use Rattle.dm_ems.specs.Names.{writing}
 use Rattle.dm_ems.proofs.Keeping.{calls_keep, writes_keep}
+use Rattle.dm_ems_move.proofs.Keeping.{moves_keep}
 use Rattle.dm_state.specs.State.{State, AreLinked, go, returned}
 use Rattle.dm_drivers.specs.declared.functions.Function.{Function}
 use Rattle.dm_drivers.specs.declared.functions.Function.TheVariants as function
 use Rattle.dm_drivers.specs.declared.drivers.Driver.{Driver}
 use Rattle.dm_drivers.specs.declared.drivers.Driver.TheVariants.{ExpandedMemory}
 use Rattle.dm_drivers.specs.Client.{Client}
-use Rattle.dm_drivers.specs.Handles.{tell_pages, allocate, deallocate, count_handles, count_pages, list_pages}
-use Rattle.dm_drivers.specs.Windows.{map_page, save_map, restore_map}
+use Rattle.dm_drivers.specs.Handles.{tell_pages, allocate, deallocate, count_handles, count_pages, list_pages, reallocate}
+use Rattle.dm_drivers.specs.Windows.{map_page, save_map, restore_map, whole_map, map_many}
 use Rattle.dm_drivers.specs.Names.{get_name, set_name, handle_name, list_names, find_name, directory}
+use Rattle.dm_drivers.specs.Regions.{move_region, exchange_region, regions}
 use Rattle.dm_drivers.specs.Frame.{list_frame, mappable}
 use Rattle.dm_drivers.specs.Functions.{function_of, call}
 use Rattle.dm_drivers.specs.Drivers.{client_of, with_client, acted, driven}
@@ -73,6 +75,10 @@ list_pages_links : (c : Client) → Links c (list_pages c)
 unfolding list_pages rows.list_pages
 list_pages_links c l = writing_linked c.x c.cpu.es c.cpu.di _ l
 
+reallocate_links : (c : Client) → Links c (reallocate c)
+unfolding reallocate
+reallocate_links c l = moves_keep.reallocating c.x c.cpu.dx c.cpu.bx l
+
 -- ---- windows
 
 map_page_links : (c : Client) → Links c (map_page c)
@@ -86,6 +92,14 @@ save_map_links c l = calls_keep.saving c.x c.cpu.dx l
 restore_map_links : (c : Client) → Links c (restore_map c)
 unfolding restore_map
 restore_map_links c l = calls_keep.restoring c.x c.cpu.dx l
+
+whole_map_links : (c : Client) → Links c (whole_map c)
+unfolding whole_map
+whole_map_links c l = moves_keep.setting c.x (byte_of c.cpu Al) c.cpu.es c.cpu.di c.cpu.ds c.cpu.si l
+
+map_many_links : (c : Client) → Links c (map_many c)
+unfolding map_many
+map_many_links c l = moves_keep.mapping c.x (byte_of c.cpu Al) c.cpu.dx c.cpu.cx c.cpu.ds c.cpu.si l
 
 -- ---- names
 
@@ -122,6 +136,22 @@ directory_links c =
     (choice c (byte_of c.cpu Al == 1) _ _ (find_name_links c)
     (choice c (byte_of c.cpu Al == 2) _ _ (λ l. l) (λ l. l)))
 
+-- ---- regions
+
+move_region_links : (c : Client) → Links c (move_region c)
+unfolding move_region
+move_region_links c l = moves_keep.moving c.x c.cpu.ds c.cpu.si l
+
+exchange_region_links : (c : Client) → Links c (exchange_region c)
+unfolding exchange_region
+exchange_region_links c l = moves_keep.exchanging c.x c.cpu.ds c.cpu.si l
+
+regions_links : (c : Client) → Links c (regions c)
+unfolding regions
+regions_links c =
+    choice c (byte_of c.cpu Al == 0) _ _ (move_region_links c)
+    (choice c (byte_of c.cpu Al == 1) _ _ (exchange_region_links c) (λ l. l))
+
 -- ---- the frame
 
 list_frame_links : (c : Client) → Links c (list_frame c)
@@ -149,8 +179,12 @@ call_links c function.RestoreMap l = restore_map_links c l
 call_links c function.HandleCount l = count_handles_links c l
 call_links c function.PageCount l = count_pages_links c l
 call_links c function.PageList l = list_pages_links c l
+call_links c function.WholeMap l = whole_map_links c l
+call_links c function.MapMany l = map_many_links c l
+call_links c function.Reallocate l = reallocate_links c l
 call_links c function.HandleName l = handle_name_links c l
 call_links c function.Directory l = directory_links c l
+call_links c function.Regions l = regions_links c l
 call_links c function.Mappable l = mappable_links c l
 call_links c function.Unknown l = l
 

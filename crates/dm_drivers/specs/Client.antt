@@ -38,6 +38,11 @@ abbrev pub settled : {A : Type 0} → Cpu → Result A Status → (A → Cpu) �
 settled cpu (Ok v) set = succeeded (set v)
 settled cpu (Err e) set = refused cpu e
 
+-- the same where success sets AH too
+abbrev pub concluded : {A : Type 0} → Cpu → Result A Status → (A → Cpu) → Cpu
+concluded cpu (Ok v) set = set v
+concluded cpu (Err e) set = refused cpu e
+
 -- after a call that may change the tables or memory
 abbrev pub after : {A : Type 0} → Client → Result (A × Expanded) Status → (A → Cpu) → Client
 after c r set = record { cpu = settled c.cpu (answer r) set; x = left c.x r }

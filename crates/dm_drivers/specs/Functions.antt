@@ -4,11 +4,12 @@ use Rattle.dm_ins.specs.declared.operand.ByteRegister.TheVariants.{Ah}
 use Rattle.dm_exec.specs.declared.cpu.Cpu.{Cpu}
 use Rattle.dm_exec.specs.Cpu.{byte_of}
 use Rattle.dm_drivers.specs.declared.functions.Function.{Function}
-use Rattle.dm_drivers.specs.declared.functions.Function.TheVariants.{Status, Frame, Pages, Allocate, MapPage, Deallocate, Version, SaveMap, RestoreMap, HandleCount, PageCount, PageList, HandleName, Directory, Mappable, Unknown}
+use Rattle.dm_drivers.specs.declared.functions.Function.TheVariants.{Status, Frame, Pages, Allocate, MapPage, Deallocate, Version, SaveMap, RestoreMap, HandleCount, PageCount, PageList, WholeMap, MapMany, Reallocate, HandleName, Directory, Regions, Mappable, Unknown}
 use Rattle.dm_drivers.specs.Client.{Client, with_status, on_cpu, succeeded}
-use Rattle.dm_drivers.specs.Handles.{tell_pages, allocate, deallocate, count_handles, count_pages, list_pages}
-use Rattle.dm_drivers.specs.Windows.{map_page, save_map, restore_map}
+use Rattle.dm_drivers.specs.Handles.{tell_pages, allocate, deallocate, count_handles, count_pages, list_pages, reallocate}
+use Rattle.dm_drivers.specs.Windows.{map_page, save_map, restore_map, whole_map, map_many}
 use Rattle.dm_drivers.specs.Names.{handle_name, directory}
+use Rattle.dm_drivers.specs.Regions.{regions}
 use Rattle.dm_drivers.specs.Frame.{tell_frame, tell_version, mappable}
 
 -- the function with a number, which calls have in AH
@@ -26,8 +27,12 @@ function_of number =
     if number == 0x4B then HandleCount else
     if number == 0x4C then PageCount else
     if number == 0x4D then PageList else
+    if number == 0x4E then WholeMap else
+    if number == 0x50 then MapMany else
+    if number == 0x51 then Reallocate else
     if number == 0x53 then HandleName else
     if number == 0x54 then Directory else
+    if number == 0x57 then Regions else
     if number == 0x58 then Mappable else Unknown
 
 -- there is no such function: status 84h
@@ -48,8 +53,12 @@ call c RestoreMap = restore_map c
 call c HandleCount = count_handles c
 call c PageCount = count_pages c
 call c PageList = list_pages c
+call c WholeMap = whole_map c
+call c MapMany = map_many c
+call c Reallocate = reallocate c
 call c HandleName = handle_name c
 call c Directory = directory c
+call c Regions = regions c
 call c Mappable = mappable c
 call c Unknown = on_cpu c (no_function c.cpu)
 

@@ -1,8 +1,16 @@
--- Handles and their pages (LIM EMS 4.0, functions 3, 4, 6, 12, 13 and 14; INT 67h, 42h, 43h, 45h, 4Bh, 4Ch and 4Dh).
+-- Handles and their pages (LIM EMS 4.0, functions 3, 4, 6, 12, 13, 14 and 18; INT 67h, 42h, 43h,
+-- 45h, 4Bh to 4Dh and 51h).
+use Rattle.std.specs.Prelude.{ℕ, Option, Some, None}
+use Rattle.dm_exec.specs.declared.cpu.Cpu.{Cpu}
+use Rattle.dm_ems.specs.declared.status.Status.{Status}
+use Rattle.dm_ems.specs.Status.{code_of}
 use Rattle.dm_ems.specs.Tables.{unallocated}
 use Rattle.dm_ems.specs.Handles as rows
 use Rattle.dm_ems.specs.Names as lists
-use Rattle.dm_drivers.specs.Client.{Client, on_cpu, succeeded, settled, after}
+use Rattle.dm_ems.specs.Calls.{answer, left}
+use Rattle.dm_ems_move.specs.declared.reallocation.Reallocated.{Reallocated}
+use Rattle.dm_ems_move.specs.Reallocation as moves
+use Rattle.dm_drivers.specs.Client.{Client, with_status, on_cpu, succeeded, settled, concluded, after}
 
 -- 42h: BX is the pages that no handle has, DX all pages
 unfoldable pub tell_pages : Client → Client
@@ -29,3 +37,17 @@ unfoldable pub list_pages : Client → Client
 list_pages c =
     let told = lists.list_pages c.x c.cpu.es c.cpu.di in
     record { cpu = succeeded (record c.cpu { bx = told.0 }); x = told.1 }
+
+abbrev pub status_of : Option Status → ℕ
+status_of None = 0
+status_of (Some e) = code_of e
+
+-- BX is the handle's pages, also where it can't have more
+abbrev pub recounted : Cpu → Reallocated → Cpu
+recounted cpu r = with_status (record cpu { bx = r.pages }) (status_of r.refused)
+
+-- 51h: the handle in DX has BX pages
+unfoldable pub reallocate : Client → Client
+reallocate c =
+    let r = moves.reallocate c.x c.cpu.dx c.cpu.bx in
+    record { cpu = concluded c.cpu (answer r) (recounted c.cpu); x = left c.x r }

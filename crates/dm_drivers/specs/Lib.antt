@@ -3,6 +3,7 @@ pub mod Handles
 pub mod Windows
 pub mod Names
 pub mod Frame
+pub mod Regions
 pub mod Functions
 pub mod Drivers
 pub mod Laws

@@ -1,8 +1,12 @@
 //! How a call of the expanded memory driver answers (LIM EMS 4.0, section 3): AH is the status.
 ghost use Rattle.std.specs.Prelude.{◌≡◌};
-ghost use Rattle.dm_drivers.specs.Client.{succeeded, refused, settled};
+ghost use Rattle.dm_ems_move.specs.RegionMoves.{moved_code};
+ghost use Rattle.dm_drivers.specs.Client.{with_status, succeeded, refused, settled, concluded};
+ghost use Rattle.dm_drivers.specs.Handles.{recounted};
+ghost use Rattle.dm_drivers.specs.Windows.{numbered};
 
 use dm_ems::Status;
+use dm_ems_move::{Moved, Reallocated};
 use dm_exec::Cpu;
 use dm_ins::ByteRegister;
 
@@ -52,6 +56,47 @@ pub(crate) fn settle_dx(cpu: &mut Cpu, res: Result<u16, Status>)
             cpu.dx = handle;
             succeed(cpu);
         }
+        Err(status) => refuse(cpu, status),
+    }
+}
+
+/// The status of a call that may tell a number in AL.
+pub(crate) fn settle_al(cpu: &mut Cpu, res: Result<Option<u8>, Status>)
+    ensures { cpu.new ≡ settled cpu.old res (numbered cpu.old) }
+{
+    match res {
+        Ok(number) => {
+            if let Some(number) = number {
+                cpu.set_byte(ByteRegister::Al, number);
+            }
+            succeed(cpu);
+        }
+        Err(status) => refuse(cpu, status),
+    }
+}
+
+/// The status of a call that was to give a handle another number of pages; BX tells how many it has.
+pub(crate) fn settle_pages(cpu: &mut Cpu, res: Result<Reallocated, Status>)
+    ensures { cpu.new ≡ concluded cpu.old res (recounted cpu.old) }
+{
+    match res {
+        Ok(reallocated) => {
+            cpu.bx = reallocated.pages;
+            match reallocated.refused {
+                Some(status) => refuse(cpu, status),
+                None => succeed(cpu),
+            }
+        }
+        Err(status) => refuse(cpu, status),
+    }
+}
+
+/// The status of a move, which tells whether the regions overlapped.
+pub(crate) fn settle_move(cpu: &mut Cpu, res: Result<Moved, Status>)
+    ensures { cpu.new ≡ concluded cpu.old res (λ how. with_status cpu.old (moved_code how)) }
+{
+    match res {
+        Ok(moved) => cpu.set_byte(ByteRegister::Ah, moved.code()),
         Err(status) => refuse(cpu, status),
     }
 }

@@ -7,9 +7,12 @@ ghost use Rattle.dm_drivers.specs.Functions.{no_function, call, called};
 
 use crate::answers::succeed;
 use crate::frame::{mappable, tell_frame, tell_version};
-use crate::handles::{allocate, count_handles, count_pages, deallocate, list_pages, tell_pages};
+use crate::handles::{
+    allocate, count_handles, count_pages, deallocate, list_pages, reallocate, tell_pages,
+};
 use crate::names::{directory, handle_name};
-use crate::windows::{map_page, restore_map, save_map};
+use crate::regions::move_or_exchange;
+use crate::windows::{map_many, map_page, restore_map, save_map, whole_map};
 use dm_ems::Ems;
 use dm_exec::Cpu;
 use dm_ins::ByteRegister;
@@ -45,10 +48,18 @@ pub(crate) enum Function {
     PageCount,
     /// 4Dh: writes the handles and their pages at ES:DI.
     PageList,
+    /// 4Eh: tells or sets what all windows show.
+    WholeMap,
+    /// 50h: makes windows show pages of handle DX.
+    MapMany,
+    /// 51h: gives handle DX another number of pages.
+    Reallocate,
     /// 53h: tells or sets the name of handle DX.
     HandleName,
     /// 54h: tells all names, searches one, or tells how many handles there are.
     Directory,
+    /// 57h: moves or exchanges regions of memory.
+    Regions,
     /// 58h: tells the windows' segments and numbers.
     Mappable,
     /// Any other number.
@@ -72,8 +83,12 @@ fn function_of(number: u8) -> Function
         0x4B => Function::HandleCount,
         0x4C => Function::PageCount,
         0x4D => Function::PageList,
+        0x4E => Function::WholeMap,
+        0x50 => Function::MapMany,
+        0x51 => Function::Reallocate,
         0x53 => Function::HandleName,
         0x54 => Function::Directory,
+        0x57 => Function::Regions,
         0x58 => Function::Mappable,
         _ => Function::Unknown,
     }
@@ -98,8 +113,12 @@ fn call(cpu: &mut Cpu, ems: &mut Ems, space: &mut Space, function: Function)
         Function::HandleCount => count_handles(cpu, ems, space),
         Function::PageCount => count_pages(cpu, ems, space),
         Function::PageList => list_pages(cpu, ems, space),
+        Function::WholeMap => whole_map(cpu, ems, space),
+        Function::MapMany => map_many(cpu, ems, space),
+        Function::Reallocate => reallocate(cpu, ems, space),
         Function::HandleName => handle_name(cpu, ems, space),
         Function::Directory => directory(cpu, ems, space),
+        Function::Regions => move_or_exchange(cpu, ems, space),
         Function::Mappable => mappable(cpu, ems, space),
         Function::Unknown => cpu.set_byte(ByteRegister::Ah, NO_FUNCTION),
     }

@@ -1,11 +1,11 @@
-//! Handles and their pages (LIM EMS 4.0, functions 3, 4, 6, 12, 13 and 14; INT 67h, 42h, 43h, 45h, 4Bh, 4Ch and 4Dh).
+//! Handles and their pages (LIM EMS 4.0, functions 3, 4, 6, 12, 13, 14 and 18; INT 67h, 42h, 43h, 45h, 4Bh to 4Dh and 51h).
 ghost use Rattle.std.specs.Prelude.{◌≡◌};
 ghost use Rattle.dm_ems.specs.Tables.{expanded};
 ghost use Rattle.dm_ems.specs.Linked.{IsLinked};
 ghost use Rattle.dm_drivers.specs.Client.{client};
-ghost use Rattle.dm_drivers.specs.Handles.{tell_pages, allocate, deallocate, count_handles, count_pages, list_pages};
+ghost use Rattle.dm_drivers.specs.Handles.{tell_pages, allocate, deallocate, count_handles, count_pages, list_pages, reallocate};
 
-use crate::answers::{settle, settle_bx, settle_dx, succeed};
+use crate::answers::{settle, settle_bx, settle_dx, settle_pages, succeed};
 use dm_ems::Ems;
 use dm_exec::Cpu;
 use dm_space::Space;
@@ -64,4 +64,14 @@ pub(crate) fn list_pages(cpu: &mut Cpu, ems: &Ems, space: &mut Space)
 {
     cpu.bx = ems.list_pages(space, cpu.es, cpu.di);
     succeed(cpu);
+}
+
+/// 51h: the handle in DX has BX pages; BX becomes how many it has.
+#[tactic(auto, unfolding(crate::specs::Handles::reallocate))]
+pub(crate) fn reallocate(cpu: &mut Cpu, ems: &mut Ems, space: &mut Space)
+    requires { IsLinked (expanded ems.old space.old.memory) }
+    ensures { client cpu.new ems.new space.new.memory ≡ reallocate (client cpu.old ems.old space.old.memory) }
+{
+    let res = dm_ems_move::reallocate(ems, space, cpu.dx, cpu.bx);
+    settle_pages(cpu, res);
 }

@@ -8,6 +8,7 @@ mod functions;
 mod handles;
 mod laws;
 mod names;
+mod regions;
 mod windows;
 
 pub use drivers::{Driver, drive, driver_at};
