@@ -27,8 +27,20 @@ const STEPS_TO_DRIVER: u64 = 12;
 /// Where it is after a call.
 const BEHIND_CALL: u16 = 0x011F;
 
-/// Where calls find and leave their bytes.
+/// The segment in which calls find and leave their bytes.
 pub(crate) const BUFFER: u16 = 0x5000;
+
+/// Where calls read: DS:SI.
+pub(crate) const FROM: u16 = 0x0051;
+
+/// Where calls write: ES:DI.
+pub(crate) const TO: u16 = 0x00D1;
+
+/// 64 pages, and 1,024 KiB of extended memory.
+pub(crate) const USUAL: Sizes = Sizes {
+    ems_pages: 64,
+    xms_kib: 1024,
+};
 
 /// A register that a call takes or leaves.
 #[derive(Clone, Copy)]
@@ -96,8 +108,8 @@ fn at_call(machine: &Machine, ax: u16) -> Cpu {
     cpu.bx = 0x1B1B;
     cpu.cx = 0x1C1C;
     cpu.dx = 0x1D1D;
-    cpu.si = 0x0051;
-    cpu.di = 0x00D1;
+    cpu.si = FROM;
+    cpu.di = TO;
     cpu.ds = BUFFER;
     cpu.es = BUFFER;
     cpu.flags.carry = true;

@@ -2,24 +2,12 @@
 //! follows by hand from the calls before.
 use crate::acts::Act::{Call, Holds, Put};
 use crate::acts::Register::{Al, Bx, Cx, Di, Dx};
-use crate::acts::{Act, BUFFER, act_on, caller, play, play_on};
+use crate::acts::{Act, BUFFER, FROM, TO, USUAL, act_on, caller, play, play_on};
 use dm_machine::Sizes;
 use std::test::Fail;
 
-/// 64 pages, and 1,024 KiB of extended memory.
-const USUAL: Sizes = Sizes {
-    ems_pages: 64,
-    xms_kib: 1024,
-};
-
-/// Where calls read names: DS:SI.
-const FROM: u16 = 0x0051;
-
-/// Where calls write: ES:DI.
-const TO: u16 = 0x00D1;
-
 /// 43h: two pages for handle 1.
-const TWO_PAGES: Act = Call(0x4300, &[(Bx, 2)], 0, &[(Dx, 1)]);
+pub(crate) const TWO_PAGES: Act = Call(0x4300, &[(Bx, 2)], 0, &[(Dx, 1)]);
 
 #[test]
 fn the_driver_tells_of_itself(rt: HostRuntime) -> Result<(), Fail> {

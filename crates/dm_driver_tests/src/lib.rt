@@ -8,4 +8,6 @@ mod calls;
 #[cfg(test)]
 mod checks;
 #[cfg(test)]
+mod moves;
+#[cfg(test)]
 mod programs;
