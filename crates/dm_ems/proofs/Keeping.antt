@@ -23,18 +23,18 @@ use Rattle.dm_ems.proofs.Linked.{linked_append, linked_appended, linked_cut, lin
 
 -- ---- rows
 
-record Keeps {A : Type 0} (x : Expanded) (r : Result (A × Expanded) Status) : Type 0 where
+pub record Keeps {A : Type 0} (x : Expanded) (r : Result (A × Expanded) Status) : Type 0 where
   pub kept : IsLinked (left x r)
 
-if_keeps : {A : Type 0} (x : Expanded) (b : Bool) (r s : Result (A × Expanded) Status) → Keeps x r → Keeps x s → Keeps x (cond b r s)
+pub if_keeps : {A : Type 0} (x : Expanded) (b : Bool) (r s : Result (A × Expanded) Status) → Keeps x r → Keeps x s → Keeps x (cond b r s)
 if_keeps x true r s p q = p
 if_keeps x false r s p q = q
 
-need_keeps : {A B : Type 0} (x : Expanded) (o : Option A) (e : Status) (f : A → Result (B × Expanded) Status) → IsLinked x → ((v : A) → o ≡ Some v → Keeps x (f v)) → Keeps x (need o e f)
+pub need_keeps : {A B : Type 0} (x : Expanded) (o : Option A) (e : Status) (f : A → Result (B × Expanded) Status) → IsLinked x → ((v : A) → o ≡ Some v → Keeps x (f v)) → Keeps x (need o e f)
 need_keeps x None e f l h = record { kept = l }
 need_keeps x (Some v) e f l h = h v refl
 
-refused : {A : Type 0} (x : Expanded) (e : Status) → IsLinked x → Keeps {A = A} x (Err e)
+pub refused : {A : Type 0} (x : Expanded) (e : Status) → IsLinked x → Keeps {A = A} x (Err e)
 refused x e l = record { kept = l }
 
 -- ---- handles
@@ -62,14 +62,14 @@ deallocate_keeps x h l =
 
 -- ---- windows
 
-window_set : (ps : List Page) (ws : List (Option ℕ)) (k : ℕ) (w : Option ℕ) → ShowsPages ps ws → IfSome w (IsOwned ps) → ShowsPages ps (set ws k w)
+pub window_set : (ps : List Page) (ws : List (Option ℕ)) (k : ℕ) (w : Option ℕ) → ShowsPages ps ws → IfSome w (IsOwned ps) → ShowsPages ps (set ws k w)
 window_set ps [] k w h p j = tt
 window_set ps (x ∷ ws) zero w h p zero = p
 window_set ps (x ∷ ws) zero w h p (suc j) = h (suc j)
 window_set ps (x ∷ ws) (suc k) w h p zero = h 0
 window_set ps (x ∷ ws) (suc k) w h p (suc j) = window_set ps ws k w (λ i. h (suc i)) p j
 
-with_shown : (x : Expanded) (windows : List (Option ℕ)) → IsLinked x → ShowsPages x.ems.pages windows → IsLinked (with_memory x (with_windows x.memory windows))
+pub with_shown : (x : Expanded) (windows : List (Option ℕ)) → IsLinked x → ShowsPages x.ems.pages windows → IsLinked (with_memory x (with_windows x.memory windows))
 with_shown x windows l h = record { places = l.places; contents = l.contents; owned = l.owned; apart = l.apart; shown = h; saved = l.saved }
 
 map_keeps : (x : Expanded) (window page h : ℕ) → IsLinked x → Keeps x (map_page x window page h)

@@ -14,5 +14,6 @@ mod status;
 mod tables;
 
 pub use laws::{calls_keep_the_link, writes_keep_the_link};
+pub use pages::set_windows;
 pub use status::Status;
 pub use tables::{Ems, Handle, Page};

@@ -143,6 +143,7 @@ impl Ems {
     #[tactic(auto, unfolding(crate::specs::Names::list_names))]
     pub fn list_names(&self, space: &mut Space, segment: u16, offset: u16) -> u16
         ensures answer { result ≡ (list_names (expanded self.now space.old.memory) segment offset).0 }
+        ensures few { result ≤ 64 }
         ensures left { expanded self.now space.new.memory ≡ (list_names (expanded self.now space.old.memory) segment offset).1 }
         ensures kept { space.new ≡ record space.old { memory = space.new.memory } }
     {

@@ -12,8 +12,8 @@ use dm_space::Space;
 /// How many units of 1 KiB a page has.
 const PAGE_UNITS: usize = 16;
 
-/// Makes the four windows show these blocks.
-pub(crate) fn set_windows(space: &mut Space, windows: [Option<Block>; 4])
+/// Makes the four windows show these blocks, each the size of a page.
+pub fn set_windows(space: &mut Space, windows: [Option<Block>; 4])
     requires { (k : ℕ) → IfSome (slice_index_or windows k None) (IsPage space.old.memory) }
     ensures { space.new ≡ record space.old { memory = with_windows space.old.memory windows } }
 {

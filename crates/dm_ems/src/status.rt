@@ -28,10 +28,26 @@ pub enum Status {
     NoneSaved,
     /// The function has no such part.
     NoSubfunction,
+    /// A region goes on behind the last page of its handle.
+    PastPages,
+    /// A region of conventional memory and one of pages overlap.
+    KindsOverlap,
+    /// The offset is not within a page.
+    OffsetPastPage,
+    /// More than 1 MiB was to be moved or exchanged.
+    TooLong,
+    /// The regions that were to be exchanged overlap.
+    ExchangeOverlaps,
+    /// Memory has no such type.
+    UnknownKind,
     /// No handle has the name.
     NameNotFound,
     /// Another handle has the name, or it is no name.
     NameTaken,
+    /// A region of conventional memory goes on behind address FFFFFh.
+    PastMemory,
+    /// The map names a page that is not there.
+    BadMap,
 }
 
 impl Status {
@@ -52,8 +68,16 @@ impl Status {
             Status::SavedAlready => 0x8D,
             Status::NoneSaved => 0x8E,
             Status::NoSubfunction => 0x8F,
+            Status::PastPages => 0x93,
+            Status::KindsOverlap => 0x94,
+            Status::OffsetPastPage => 0x95,
+            Status::TooLong => 0x96,
+            Status::ExchangeOverlaps => 0x97,
+            Status::UnknownKind => 0x98,
             Status::NameNotFound => 0xA0,
             Status::NameTaken => 0xA1,
+            Status::PastMemory => 0xA2,
+            Status::BadMap => 0xA3,
         }
     }
 }

@@ -166,7 +166,8 @@ impl Ems {
 
     /// How many handles are in use, with handle 0.
     pub fn in_use(&self) -> u16
-        ensures { result ≡ count_by is_some self.now.handles }
+        ensures count { result ≡ count_by is_some self.now.handles }
+        ensures few { result ≤ 64 }
     {
         self.handles.iter().filter(|slot| slot.is_some()).count() as u16
     }
@@ -219,6 +220,14 @@ impl Ems {
         ensures { result ≡ length self.now.pages }
     {
         self.pages.len() as u16
+    }
+
+    /// The pages of all handles; those of one handle stand in the order of their logical numbers.
+    pub fn pages(&self) -> &[Page]
+        ensures pages { result.now ≡ self.now.pages }
+        ensures few { length result.now ≤ 512 }
+    {
+        self.pages.as_slice()
     }
 
     pub(crate) fn push(&mut self, page: Page)

@@ -1,5 +1,5 @@
 -- A run neither depends on what no program sees, nor changes it
-use Rattle.std.proofs.Common.{◌≡◌, ℕ, Option, Some, None, refl, sym, ◌∙◌, ap, subst}
+use Rattle.std.proofs.Common.{◌≡◌, ℕ, ◌+◌, ◌<◌, ◌≤◌, arith, Option, Some, None, refl, sym, ◌∙◌, ap, subst}
 use Rattle.dm_space.specs.Memory.{Memory}
 use Rattle.dm_space.specs.Unseen.{unseen_as, IsUnseen}
 use Rattle.dm_ins.specs.declared.ins.Ins.{Ins}
@@ -14,13 +14,15 @@ use Rattle.dm_space.proofs.Unseen.{pages-unseen}
 use Rattle.dm_state.specs.declared.stop.Stop.{Stop}
 use Rattle.dm_state.specs.declared.stop.Stop.TheVariants.{Memory as NoMemory}
 use Rattle.dm_services.specs.declared.services.Service.{Service}
+use Rattle.dm_drivers.specs.declared.drivers.Driver.{Driver}
+use Rattle.dm_drivers.specs.Drivers.{driver_at}
 use Rattle.dm_state.specs.State.{State, Answer}
 use Rattle.dm_services.specs.Services.{service_at}
 use Rattle.dm_services.specs.Wanting.{MayWant}
-use Rattle.dm_machine.specs.Step.{Steps, Runs, Acts, Instructs, listed, unlisted, Begins, fetched, after, instructed}
+use Rattle.dm_machine.specs.Step.{Steps, Runs, Acts, Drives, Instructs, listed, unlisted, Begins, fetched, after, instructed}
 use Rattle.dm_machine.specs.Run.{Answers, here, further, StopsWithin, over, whole, cut}
 use Rattle.dm_services.specs.Laws.{with_change, answer_with}
-use Rattle.dm_machine.specs.Laws.{UnseenBytesChangeNoStep, UnseenBytesChangeNoRun, UnseenPagesChangeNoRun}
+use Rattle.dm_machine.specs.Laws.{StaysQuiet, UnseenBytesChangeNoStep, UnseenBytesChangeNoRun, UnseenPagesChangeNoRun}
 use Rattle.dm_services.proofs.Unseen.{serves-unseen}
 
 fetched-unseen : (f : Memory → Memory) (u : IsUnseen f) (m : Memory) (c : Cpu) → fetched (f m) c ≡ fetched m c
@@ -42,44 +44,58 @@ instructs-unseen f u s x (listed i k b e) =
 instructs-unseen f u s x (unlisted h e) =
     unlisted (λ i k b. h i k (subst (λ xs. Begins xs i k) (fetched-unseen f u s.memory s.cpu) b)) (ap (answer_with f) e)
 
-acts-unseen : (f : Memory → Memory) (u : IsUnseen f) (s : State) (o : Option Service) (x : Answer) → Acts s o x → Acts (with_change f s) o (answer_with f x)
-acts-unseen f u s (Some service) x h = serves-unseen f u s service x h
-acts-unseen f u s None x h = instructs-unseen f u s x h
+-- no driver acts at the state
+abbrev IsQuiet : State → Type 0
+IsQuiet s = driver_at s.cpu ≡ None
 
-runs-unseen : (f : Memory → Memory) (u : IsUnseen f) (s : State) (o : Option ℕ) (x : Answer) → Runs s o x → Runs (with_change f s) o (answer_with f x)
-runs-unseen f u s (Some code) x e = ap (answer_with f) e
-runs-unseen f u s None x h = acts-unseen f u s (service_at s.cpu) x h
+drives-unseen : (f : Memory → Memory) (u : IsUnseen f) (s : State) (o : Option Driver) (x : Answer) → o ≡ None → Drives s o x → Drives (with_change f s) o (answer_with f x)
+drives-unseen f u s (Some driver) x q e = cc
+drives-unseen f u s None x q h = instructs-unseen f u s x h
 
-steps-unseen : (f : Memory → Memory) (u : IsUnseen f) (s : State) (x : Answer) → Steps s x → Steps (with_change f s) (answer_with f x)
+acts-unseen : (f : Memory → Memory) (u : IsUnseen f) (s : State) (o : Option Service) (x : Answer) → IsQuiet s → Acts s o x → Acts (with_change f s) o (answer_with f x)
+acts-unseen f u s (Some service) x q h = serves-unseen f u s service x h
+acts-unseen f u s None x q h = drives-unseen f u s (driver_at s.cpu) x q h
+
+runs-unseen : (f : Memory → Memory) (u : IsUnseen f) (s : State) (o : Option ℕ) (x : Answer) → IsQuiet s → Runs s o x → Runs (with_change f s) o (answer_with f x)
+runs-unseen f u s (Some code) x q e = ap (answer_with f) e
+runs-unseen f u s None x q h = acts-unseen f u s (service_at s.cpu) x q h
+
+steps-unseen : (f : Memory → Memory) (u : IsUnseen f) (s : State) (x : Answer) → IsQuiet s → Steps s x → Steps (with_change f s) (answer_with f x)
 unfolding Steps
-steps-unseen f u s x h = runs-unseen f u s s.exited x h
+steps-unseen f u s x q h = runs-unseen f u s s.exited x q h
 
-wants-unseen : (f : Memory → Memory) (u : IsUnseen f) (s : State) → MayWant s (Steps s) → MayWant (with_change f s) (Steps (with_change f s))
-wants-unseen f u s w = record { answer = answer_with f w.answer; gives = steps-unseen f u s w.answer w.gives; overflows = w.overflows }
+wants-unseen : (f : Memory → Memory) (u : IsUnseen f) (s : State) → IsQuiet s → MayWant s (Steps s) → MayWant (with_change f s) (Steps (with_change f s))
+wants-unseen f u s q w = record { answer = answer_with f w.answer; gives = steps-unseen f u s w.answer q w.gives; overflows = w.overflows }
 
-answers-unseen : (f : Memory → Memory) (u : IsUnseen f) (s : State) (stop : Option Stop) (t : State) → Answers s stop t → Answers (with_change f s) stop (with_change f t)
-answers-unseen f u s (Some NoMemory) t h = (wants-unseen f u s h.0, ap (with_change f) h.1)
-answers-unseen f u s (Some stop) t h = steps-unseen f u s _ h
-answers-unseen f u s None t h = steps-unseen f u s _ h
+answers-unseen : (f : Memory → Memory) (u : IsUnseen f) (s : State) (stop : Option Stop) (t : State) → IsQuiet s → Answers s stop t → Answers (with_change f s) stop (with_change f t)
+answers-unseen f u s (Some NoMemory) t q h = (wants-unseen f u s q h.0, ap (with_change f) h.1)
+answers-unseen f u s (Some stop) t q h = steps-unseen f u s _ q h
+answers-unseen f u s None t q h = steps-unseen f u s _ q h
+
+-- fewer steps are quiet too
+fewer-quiet : (s : State) (m n : ℕ) → m ≤ n → StaysQuiet s n → StaysQuiet s m
+fewer-quiet s m n h q k r less goes = q k r (omega (arith, h, less)) goes
 
 pub goes-unseen : UnseenBytesChangeNoStep
-goes-unseen f u s t n here = here
-goes-unseen f u s t n (further m r v goes h) =
-    further m (with_change f r) (with_change f v) (goes-unseen f u s r m goes) (steps-unseen f u r _ h)
+goes-unseen f u s t n q here = here
+goes-unseen f u s t n q (further m r v goes h) =
+    further m (with_change f r) (with_change f v) (goes-unseen f u s r m (fewer-quiet s m (m + 1) (omega arith) q) goes) (steps-unseen f u r _ (q m r (omega arith) goes) h)
 
-within-unseen : (f : Memory → Memory) (u : IsUnseen f) (s t : State) (n : ℕ) (stop : Stop) → StopsWithin s n stop t → StopsWithin (with_change f s) n stop (with_change f t)
-within-unseen f u s t n stop w = record {
-  made = w.made;
-  before = with_change f w.before;
-  fewer = w.fewer;
-  goes = goes-unseen f u s w.before w.made w.goes;
-  answers = answers-unseen f u w.before (Some stop) t w.answers;
-}
+within-unseen : (f : Memory → Memory) (u : IsUnseen f) (s t : State) (n : ℕ) (stop : Stop) → StaysQuiet s n → StopsWithin s n stop t → StopsWithin (with_change f s) n stop (with_change f t)
+within-unseen f u s t n stop q w =
+    let fewer = w.fewer in
+    record {
+      made = w.made;
+      before = with_change f w.before;
+      fewer = fewer;
+      goes = goes-unseen f u s w.before w.made (fewer-quiet s w.made n (omega (arith, fewer)) q) w.goes;
+      answers = answers-unseen f u w.before (Some stop) t (q w.made w.before fewer w.goes) w.answers;
+    }
 
 pub run-unseen : UnseenBytesChangeNoRun
-run-unseen f u s t n stop (over code e g h) = over code e g (ap (with_change f) h)
-run-unseen f u s t n stop (whole e g goes) = whole e g (goes-unseen f u s t n goes)
-run-unseen f u s t n stop (cut e w) = cut e (within-unseen f u s t n stop w)
+run-unseen f u s t n stop q (over code e g h) = over code e g (ap (with_change f) h)
+run-unseen f u s t n stop q (whole e g goes) = whole e g (goes-unseen f u s t n q goes)
+run-unseen f u s t n stop q (cut e w) = cut e (within-unseen f u s t n stop q w)
 
 pub pages_run-unseen : UnseenPagesChangeNoRun
 pages_run-unseen other = run-unseen (λ m. unseen_as m other) (pages-unseen other)

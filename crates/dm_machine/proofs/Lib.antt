@@ -5,3 +5,4 @@ mod Memos
 mod Confined
 mod NoRoom
 mod Rooms
+mod Links

@@ -1,11 +1,12 @@
 -- Laws of steps and runs.
-use Rattle.std.specs.Prelude.{◌≡◌, ◌≢◌, ℕ, ◌+◌, ◌≤◌, ◌<◌, max, List, length, Option, Some}
+use Rattle.std.specs.Prelude.{◌≡◌, ◌≢◌, ℕ, ◌+◌, ◌≤◌, ◌<◌, max, List, length, Option, Some, None}
 use Rattle.dm_space.specs.Memory.{Memory}
 use Rattle.dm_space.specs.Unseen.{unseen_as, IsUnseen}
 use Rattle.dm_state.specs.declared.stop.Stop.{Stop}
 use Rattle.dm_state.specs.declared.stop.Stop.TheVariants.{Memory as NoMemory}
 use Rattle.dm_state.specs.State.{State, Answer}
 use Rattle.dm_services.specs.Laws.{with_change}
+use Rattle.dm_drivers.specs.Drivers.{driver_at}
 use Rattle.dm_machine.specs.Step.{Steps}
 use Rattle.dm_machine.specs.Run.{Answers, Goes, IsRun}
 
@@ -19,17 +20,21 @@ ThereIsOneRun = (s t u : State) (n : ℕ) → Goes s n t → Goes s n u → t �
 abbrev pub RunHasOneStop : Type 0
 RunHasOneStop = (s t u : State) (n : ℕ) (a b : Stop) → IsRun s n a t → IsRun s n b u → a ≢ NoMemory → b ≢ NoMemory → (a ≡ b) × (t ≡ u)
 
--- n steps that end nothing lead to the same state where memory is changed out of every program's sight, and the change
--- stays; no service gives a program another view of memory yet
+-- no driver acts in n steps from s: none gives the program another view of memory
+abbrev pub StaysQuiet : State → ℕ → Type 0
+StaysQuiet s n = (k : ℕ) (r : State) → k < n → Goes s k r → driver_at r.cpu ≡ None
+
+-- n steps that end nothing, and in which no driver acts, lead to the same state where memory is changed out of every program's
+-- sight, and the change stays
 abbrev pub UnseenBytesChangeNoStep : Type 0
 UnseenBytesChangeNoStep =
-    (change : Memory → Memory) → IsUnseen change → (s t : State) (n : ℕ) →
+    (change : Memory → Memory) → IsUnseen change → (s t : State) (n : ℕ) → StaysQuiet s n →
     Goes s n t → Goes (with_change change s) n (with_change change t)
 
 -- so does a whole run, and it stops for the same reason
 abbrev pub UnseenBytesChangeNoRun : Type 0
 UnseenBytesChangeNoRun =
-    (change : Memory → Memory) → IsUnseen change → (s t : State) (n : ℕ) (stop : Stop) →
+    (change : Memory → Memory) → IsUnseen change → (s t : State) (n : ℕ) (stop : Stop) → StaysQuiet s n →
     IsRun s n stop t → IsRun (with_change change s) n stop (with_change change t)
 
 -- the state with other bytes in the pages of expanded memory that no window shows
@@ -39,7 +44,7 @@ with_unseen_pages other s = record s { memory = unseen_as s.memory other }
 -- in particular, a run neither depends on such pages nor changes them
 abbrev pub UnseenPagesChangeNoRun : Type 0
 UnseenPagesChangeNoRun =
-    (other : ℕ → List ℕ) (s t : State) (n : ℕ) (stop : Stop) →
+    (other : ℕ → List ℕ) (s t : State) (n : ℕ) (stop : Stop) → StaysQuiet s n →
     IsRun s n stop t → IsRun (with_unseen_pages other s) n stop (with_unseen_pages other t)
 
 -- steps and runs one after another, and between them changes of memory from outside, and more room

@@ -13,12 +13,12 @@ pub fn there_is_one_run()
     ensures stops { RunHasOneStop }
 {}
 
-/// Bytes that no address shows neither matter nor change: with others of them, each run makes the
-/// same steps, stops for the same reason, and leaves the same state, with those other bytes kept.
+/// Bytes that no address shows neither matter nor change in a run in which no driver acts: with
+/// others of them, the run makes the same steps, stops for the same reason, and leaves the same
+/// state, with those other bytes kept.
 ///
 /// In particular this holds for the pages of expanded memory that no window shows (LIM EMS 4.0,
-/// section 2). It is a law of runs in which no service maps or moves such bytes; there is no such
-/// service yet.
+/// section 2). A driver may map or move such bytes.
 pub fn unseen_bytes_change_nothing()
     ensures steps { UnseenBytesChangeNoStep }
     ensures runs { UnseenBytesChangeNoRun }

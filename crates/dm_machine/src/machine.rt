@@ -11,6 +11,7 @@ use crate::memo::Memo;
 use dm_alu::Flags;
 use dm_arena::Strategy;
 use dm_console::Console;
+use dm_ems::Ems;
 use dm_exec::Cpu;
 use dm_pool::{Sizes, Store};
 use dm_proc::{Procs, Programs};
@@ -33,7 +34,7 @@ pub enum NewError {
 
 /// A machine that runs one program, and those that it starts.
 ///
-/// Contracts see its state: registers, memory, console, processes, the allocation strategy, the code
+/// Contracts see its state: registers, memory, the tables of expanded memory, console, processes, the allocation strategy, the code
 /// with which the first program ended, the count of steps, and what no step changes.
 #[derive(Drop)]
 pub struct Machine {
@@ -42,11 +43,13 @@ pub struct Machine {
 }
 
 impl Model for Machine {
-    ghost use Rattle.dm_state.specs.State.{State};
+    ghost use Rattle.dm_state.specs.State.{State, AreLinked};
 
     ghost Value = { State };
 
     ghost view = { λ m. m.parts };
+
+    ghost invariant = { λ m. AreLinked m.parts };
 }
 
 /// Registers before a program is loaded.
@@ -75,6 +78,7 @@ fn clear_registers() -> Cpu
 /// The memory of a machine of those sizes as it starts.
 fn start_space(alloc: Global, sizes: Sizes) -> Result<Space, NewError>
     ensures start { IfOk result (λ space. IsStart (no_blocks (units_of sizes)) space.memory) }
+    ensures few { IfOk result (λ space. sizes.ems_pages ≤ 512) }
     ensures too_large { IsErrOf result NewError.TooLarge ↔ IsTooLarge sizes }
 {
     match Store::new(alloc, sizes) {
@@ -86,8 +90,8 @@ fn start_space(alloc: Global, sizes: Sizes) -> Result<Space, NewError>
 
 impl Machine {
     /// A machine as it starts: memory of zeros but for the interrupt vectors and the first arena
-    /// header, A20 off, a pool of the configuration's sizes with no block, no output, no program
-    /// loaded.
+    /// header, A20 off, a pool of the configuration's sizes with no block, no handle of expanded
+    /// memory but handle 0, no output, no program loaded.
     ///
     /// The variables of the configuration have at most 32,767 bytes with their zeros.
     ///
@@ -113,6 +117,7 @@ impl Machine {
         let parts = Parts {
             cpu: clear_registers(),
             space,
+            ems: Ems::new(sizes.ems_pages as u16),
             console: Console::new(alloc, input),
             procs: Procs::new(),
             strategy: Strategy::First,
@@ -151,6 +156,13 @@ impl Machine {
         ensures { result.now.memory ≡ self.now.memory }
     {
         &self.parts.space
+    }
+
+    /// The handles and pages of expanded memory.
+    pub fn ems(&self) -> &Ems
+        ensures { result.now ≡ self.now.ems }
+    {
+        &self.parts.ems
     }
 
     /// The byte at segment:offset; FFh where there is no memory.

@@ -8,5 +8,5 @@ mod UnseenParts
 mod ConsoleUnseen
 pub mod Unseen
 pub mod Rooms
-mod MapParts
+pub mod MapParts
 pub mod Map

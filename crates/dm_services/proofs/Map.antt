@@ -1,5 +1,5 @@
--- A service keeps the map of memory
-use Rattle.std.proofs.Common.{◌≡◌, ℕ, ◌+◌, ◌*◌, ◌==◌, Bool, true, false, cond, nat_lt, List, [], ◌∷◌, Option, Some, None, Result, Ok, Err, sym, subst}
+-- A service keeps the map of memory, and the tables of expanded memory
+use Rattle.std.proofs.Common.{◌≡◌, ℕ, ◌+◌, ◌*◌, ◌==◌, Bool, true, false, cond, nat_lt, List, [], ◌∷◌, Option, Some, None, Result, Ok, Err, refl, sym, subst}
 use Rattle.dm_space.specs.Memory.{Memory, linear, peek}
 use Rattle.dm_space.specs.Places.{IsShaped}
 use Rattle.dm_space.proofs.Places.{shaped-same}
@@ -8,6 +8,7 @@ use Rattle.dm_arena.specs.declared.refusal.Refusal.{Refusal}
 use Rattle.dm_arena.specs.declared.fit.Strategy.{Strategy}
 use Rattle.dm_exec.specs.declared.cpu.Cpu.{Cpu}
 use Rattle.dm_exec.specs.Cpu.{byte_of}
+use Rattle.dm_services.specs.declared.services.Service.{Service}
 use Rattle.dm_services.specs.declared.services.Service.TheVariants as service
 use Rattle.dm_services.specs.declared.services.Service.TheVariants.{DivideError, Dos}
 use Rattle.dm_services.specs.declared.functions.Function.{Function}
@@ -28,23 +29,28 @@ use Rattle.dm_proc.specs.declared.parent.Ending.TheVariants as ending
 use Rattle.dm_proc.specs.Processes.{Processes}
 use Rattle.dm_services.specs.Processes.{executed, overlaid, LoadingAs, concluded, Terminating, Keeping, tell_code}
 use Rattle.dm_services.specs.Functions.{function_of, no_function, Calls}
-use Rattle.dm_services.specs.Laws.{ServicesKeepTheMap}
+use Rattle.dm_services.specs.Services.{Serves}
+use Rattle.dm_services.specs.Laws.{ServicesKeepTheMap, ServicesKeepTheTables}
 use Rattle.dm_services.proofs.MapParts.{word-kept, bytes-kept, return-kept, allocates-kept, frees-kept, resizes-kept, executes-kept, overlays-kept, terminates-kept, keeps-kept}
 
--- the answer's memory has the map of the state's
+-- the answer's memory has the map of the state's, and its tables are the state's
 abbrev Kept : State → Answer → Type 0
-Kept s x = IsShaped s.memory x.state.memory
+Kept s x = IsShaped s.memory x.state.memory × (x.state.ems ≡ s.ems)
+
+-- memory as it was
+fixed : (s : State) → IsShaped s.memory s.memory × (s.ems ≡ s.ems)
+fixed s = (shaped-same s.memory, refl)
 
 -- back in the program, with memory as it was
-still : (s : State) (c : Cpu) → IsShaped s.memory (returned (record s { cpu = c })).memory
-still s c = return-kept s.memory c s.memory (shaped-same s.memory)
+still : (s : State) (c : Cpu) → IsShaped s.memory (returned (record s { cpu = c })).memory × (s.ems ≡ s.ems)
+still s c = (return-kept s.memory c s.memory (shaped-same s.memory), refl)
 
 choice-kept : (s : State) (b : Bool) (x y : Answer) → Kept s x → Kept s y → Kept s (cond b x y)
 choice-kept s true x y h g = h
 choice-kept s false x y h g = g
 
 character-kept : (s : State) (xs : List ℕ) → Kept s (character_of s xs)
-character-kept s [] = shaped-same s.memory
+character-kept s [] = fixed s
 character-kept s (x ∷ xs) = still s _
 
 read_character-kept : (s : State) → Kept s (read_character s)
@@ -52,7 +58,7 @@ unfolding read_character
 read_character-kept s = character-kept s s.console.input
 
 echo-kept : (s : State) (xs : List ℕ) → Kept s (echo_of s xs)
-echo-kept s [] = shaped-same s.memory
+echo-kept s [] = fixed s
 echo-kept s (x ∷ xs) = still s _
 
 echo_character-kept : (s : State) → Kept s (echo_character s)
@@ -80,8 +86,8 @@ unfolding check_input
 check_input-kept s = still s _
 
 line-kept : (s : State) (m : ℕ) (o : Option ℕ) → Kept s (line_read s m o)
-line-kept s m None = shaped-same s.memory
-line-kept s m (Some n) = return-kept s.memory _ _ (bytes-kept s.memory _ _ _ _ (bytes-kept s.memory s.memory _ _ _ (shaped-same s.memory)))
+line-kept s m None = fixed s
+line-kept s m (Some n) = (return-kept s.memory _ _ (bytes-kept s.memory _ _ _ _ (bytes-kept s.memory s.memory _ _ _ (shaped-same s.memory))), refl)
 
 line_into-kept : (s : State) (m : ℕ) → Kept s (line_into s m)
 line_into-kept s m = choice-kept s (m == 0) _ _ (still s _) (line-kept s m (line_length s.console.input))
@@ -106,7 +112,7 @@ bad_handle-kept s = still s _
 read_handle-kept : (s : State) → Kept s (read_handle s)
 unfolding read_handle
 read_handle-kept s =
-    choice-kept s (nat_lt s.cpu.bx 3) _ _ (return-kept s.memory _ _ (bytes-kept s.memory s.memory _ _ _ (shaped-same s.memory))) (bad_handle-kept s)
+    choice-kept s (nat_lt s.cpu.bx 3) _ _ (return-kept s.memory _ _ (bytes-kept s.memory s.memory _ _ _ (shaped-same s.memory)), refl) (bad_handle-kept s)
 
 write_handle-kept : (s : State) → Kept s (write_handle s)
 unfolding write_handle
@@ -116,7 +122,7 @@ set_vector-kept : (s : State) → Kept s (set_vector s)
 unfolding set_vector
 set_vector-kept s =
     let n = 4 * byte_of s.cpu Al in
-    return-kept s.memory _ _ (word-kept s.memory _ 0 (n + 2) s.cpu.ds (word-kept s.memory s.memory 0 n s.cpu.dx (shaped-same s.memory)))
+    (return-kept s.memory _ _ (word-kept s.memory _ 0 (n + 2) s.cpu.ds (word-kept s.memory s.memory 0 n s.cpu.dx (shaped-same s.memory))), refl)
 
 get_vector-kept : (s : State) → Kept s (get_vector s)
 unfolding get_vector
@@ -145,12 +151,12 @@ tell_code-kept s = still s _
 -- ---- blocks
 
 allocated-kept : (s : State) (r : Result ℕ Refusal) (m : Memory) → IsShaped s.memory m → Kept s (allocated s r m)
-allocated-kept s (Ok segment) m h = return-kept s.memory _ m h
-allocated-kept s (Err e) m h = return-kept s.memory _ m h
+allocated-kept s (Ok segment) m h = (return-kept s.memory _ m h, refl)
+allocated-kept s (Err e) m h = (return-kept s.memory _ m h, refl)
 
 settled-kept : (s : State) (r : Result (Unit {0}) Refusal) (m : Memory) → IsShaped s.memory m → Kept s (settled s r m)
-settled-kept s (Ok u) m h = return-kept s.memory _ m h
-settled-kept s (Err e) m h = return-kept s.memory _ m h
+settled-kept s (Ok u) m h = (return-kept s.memory _ m h, refl)
+settled-kept s (Err e) m h = (return-kept s.memory _ m h, refl)
 
 strategy_set-kept : (s : State) (o : Option Strategy) → Kept s (strategy_set s o)
 strategy_set-kept s None = still s _
@@ -163,17 +169,17 @@ strategy-kept s = choice-kept s (byte_of s.cpu Al == 0) _ _ (still s _) (choice-
 -- ---- programs
 
 executed-kept : (s : State) (r : Result (Unit {0}) ProgramRefusal) (qs : Processes) (d : Cpu) (n : Memory) → IsShaped s.memory n → Kept s (executed s r qs d n)
-executed-kept s (Ok x) qs d n h = h
+executed-kept s (Ok x) qs d n h = (h, refl)
 executed-kept s (Err e) qs d n h = still s _
 
 overlaid-kept : (s : State) (r : Result (Unit {0}) ProgramRefusal) (n : Memory) → IsShaped s.memory n → Kept s (overlaid s r n)
-overlaid-kept s (Ok x) n h = return-kept s.memory _ n h
+overlaid-kept s (Ok x) n h = (return-kept s.memory _ n h, refl)
 overlaid-kept s (Err e) n h = still s _
 
 concluded-kept : (s : State) (code : ℕ) (r : Result Ending ArenaDestroyed) (qs : Processes) (d : Cpu) (n : Memory) → IsShaped s.memory n → Kept s (concluded s code r qs d n)
-concluded-kept s code (Ok ending.Returned) qs d n h = h
-concluded-kept s code (Ok ending.Exited) qs d n h = h
-concluded-kept s code (Err e) qs d n h = shaped-same s.memory
+concluded-kept s code (Ok ending.Returned) qs d n h = (h, refl)
+concluded-kept s code (Ok ending.Exited) qs d n h = (h, refl)
+concluded-kept s code (Err e) qs d n h = fixed s
 
 by : (s : State) (x y : Answer) → x ≡ y → Kept s y → Kept s x
 by s x y e h = subst (λ z. Kept s z) (sym e) h
@@ -225,7 +231,13 @@ calls-kept s Process x e = by s x _ e (tell_process-kept s)
 calls-kept s AllocationStrategy x e = by s x _ e (strategy-kept s)
 calls-kept s Unknown x e = by s x _ e (no_function-kept s)
 
+served-kept : (s : State) (service : Service) (x : Answer) → Serves s service x → Kept s x
+served-kept s DivideError x a = terminating-kept s 0xFF x a
+served-kept s service.Terminate x a = terminating-kept s 0 x a
+served-kept s Dos x h = calls-kept s (function_of (byte_of s.cpu Ah)) x h
+
 pub serves-kept : ServicesKeepTheMap
-serves-kept s DivideError x a = terminating-kept s 0xFF x a
-serves-kept s service.Terminate x a = terminating-kept s 0 x a
-serves-kept s Dos x h = calls-kept s (function_of (byte_of s.cpu Ah)) x h
+serves-kept s service x h = (served-kept s service x h).0
+
+pub tables-kept : ServicesKeepTheTables
+tables-kept s service x h = (served-kept s service x h).1

@@ -72,7 +72,7 @@ pairs-kept S strategy environment least most (Err e) T a = unchanged S T a.0
 
 -- ---- programs
 
-starts-kept : (S : Memory) (strategy : Strategy) (environment file : List ℕ) (parent : ℕ) (a : Passed) (placed : Placed) (T : Memory) →
+pub starts-kept : (S : Memory) (strategy : Strategy) (environment file : List ℕ) (parent : ℕ) (a : Passed) (placed : Placed) (T : Memory) →
     Starts S strategy environment file parent a placed T → IsShaped S T
 starts-kept S strategy environment file parent a placed T s =
     another S _ T s.memory (writes-kept S s.middle (start_writes s.middle.a20 placed environment (prefix S placed parent a) file) (pairs-kept S strategy _ _ _ (Ok placed) s.middle s.plans))

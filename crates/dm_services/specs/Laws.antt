@@ -17,6 +17,10 @@ ServicesHaveOneAnswer = (s : State) (service : Service) (x y : Answer) → Serve
 abbrev pub ServicesKeepTheMap : Type 0
 ServicesKeepTheMap = (s : State) (service : Service) (x : Answer) → Serves s service x → IsShaped s.memory x.state.memory
 
+-- and so it does the tables of expanded memory
+abbrev pub ServicesKeepTheTables : Type 0
+ServicesKeepTheTables = (s : State) (service : Service) (x : Answer) → Serves s service x → x.state.ems ≡ s.ems
+
 -- the state, or the answer, with its memory changed
 abbrev pub with_change : (Memory → Memory) → State → State
 with_change change s = record s { memory = change s.memory }
@@ -24,8 +28,8 @@ with_change change s = record s { memory = change s.memory }
 abbrev pub answer_with : (Memory → Memory) → Answer → Answer
 answer_with change x = record { stop = x.stop; state = with_change change x.state }
 
--- where memory is changed out of every program's sight the answer is the same, and the change stays; no service gives a
--- program another view of memory yet
+-- where memory is changed out of every program's sight the answer is the same, and the change stays: no service of DOS gives a
+-- program another view of memory, as drivers do
 abbrev pub ServicesIgnoreUnseen : Type 0
 ServicesIgnoreUnseen =
     (change : Memory → Memory) → IsUnseen change → (s : State) (service : Service) (x : Answer) →

@@ -1,5 +1,5 @@
 //! Laws of the services, each the contract of a function that does nothing.
-ghost use Rattle.dm_services.specs.Laws.{ServicesHaveOneAnswer, ServicesIgnoreUnseen, ServicesKeepRoom, ServicesKeepTheMap};
+ghost use Rattle.dm_services.specs.Laws.{ServicesHaveOneAnswer, ServicesIgnoreUnseen, ServicesKeepRoom, ServicesKeepTheMap, ServicesKeepTheTables};
 
 /// The state determines what a service answers, its stop included, and all that it leaves.
 pub fn services_have_one_answer()
@@ -12,9 +12,10 @@ pub fn services_ignore_unseen()
 {}
 
 /// No service changes A20, what the windows show, or which blocks there are, where they lie and how large they are: all that it
-/// writes are bytes.
+/// writes are bytes. Nor does one change the handles and pages of expanded memory.
 pub fn services_keep_the_map()
-    ensures { ServicesKeepTheMap }
+    ensures map { ServicesKeepTheMap }
+    ensures tables { ServicesKeepTheTables }
 {}
 
 /// No service gives back room: the output so far and the room for more together never get less.

@@ -28,7 +28,7 @@ get-values f a zero i h = absurd (omega arith)
 get-values f a (suc n) zero h = ap f (omega arith)
 get-values f a (suc n) (suc i) h = get-values f (suc a) n i (omega arith) ∙ ap f (omega arith)
 
-values-more : (f : ℕ → ℕ) (a n k : ℕ) → values f a (n + k) ≡ values f a n ++ values f (a + n) k
+pub values-more : (f : ℕ → ℕ) (a n k : ℕ) → values f a (n + k) ≡ values f a n ++ values f (a + n) k
 values-more f a zero k = let e : zero + k ≡ k = omega arith in let d : a ≡ a + zero = omega arith in ap (values f a) e ∙ ap (λ b. values f b k) d
 values-more f a (suc n) k =
     let e : suc n + k ≡ suc (n + k) = omega arith in let d : suc a + n ≡ a + suc n = omega arith in
@@ -37,7 +37,7 @@ values-more f a (suc n) k =
 get-part : (xs : List ℕ) (b n i : ℕ) → i < n → get_or (part xs b n) i 0 ≡ get_or xs (b + i) 0
 get-part xs b n i h = get_or-take n (drop b xs) i 0 h ∙ get_or-drop b xs i 0
 
-values-part : (f : ℕ → ℕ) (a n : ℕ) (xs : List ℕ) (b : ℕ) → b + n ≤ length xs → ((i : ℕ) → i < n → f (a + i) ≡ get_or xs (b + i) 0) → values f a n ≡ part xs b n
+pub values-part : (f : ℕ → ℕ) (a n : ℕ) (xs : List ℕ) (b : ℕ) → b + n ≤ length xs → ((i : ℕ) → i < n → f (a + i) ≡ get_or xs (b + i) 0) → values f a n ≡ part xs b n
 values-part f a n xs b fits same =
     ext_get_or 0 (values f a n) (part xs b n) (length-values f a n ∙ sym (part_length xs b n fits))
     (λ i h. let low : i < n = omega (arith, length-values f a n, h) in get-values f a n i low ∙ same i low ∙ sym (get-part xs b n i low))
@@ -53,7 +53,7 @@ values-one f a n v same =
     ext_get_or 0 (values f a n) (replicate n v) (length-values f a n ∙ sym long)
     (λ i h. let low : i < n = omega (arith, length-values f a n, h) in get-values f a n i low ∙ same i low ∙ sym (get_or-replicate n i v 0 low))
 
-part-more : (xs : List ℕ) (at n k : ℕ) → part xs at (n + k) ≡ part xs at n ++ part xs (at + n) k
+pub part-more : (xs : List ℕ) (at n k : ℕ) → part xs at (n + k) ≡ part xs at n ++ part xs (at + n) k
 part-more xs at n k = take-add n k (drop at xs) ∙ ap (λ l. part xs at n ++ take k l) (drop-drop n at xs)
 
 -- places side by side: 4000h linear addresses from a multiple of 4000h on lie in one part of the map
@@ -129,7 +129,7 @@ set-part (x ∷ xs) vs (suc b) v zero h le = absurd (omega arith)
 set-part (x ∷ xs) vs (suc b) v (suc k) h le = ap (λ l. x ∷ l) (set-part xs vs b v k (omega arith) (omega arith))
 
 -- a byte written, and the others behind it
-one-more : (xs vs : List ℕ) (b v : ℕ) → b < length xs → with_part (set xs b v) (suc b) (length vs) vs ≡ with_part xs b (suc (length vs)) (v ∷ vs)
+pub one-more : (xs vs : List ℕ) (b v : ℕ) → b < length xs → with_part (set xs b v) (suc b) (length vs) vs ≡ with_part xs b (suc (length vs)) (v ∷ vs)
 one-more xs vs b v h =
     let e : suc b + length vs ≡ b + suc (length vs) = omega arith in
     ap (λ k. take (suc b) (set xs b v) ++ (vs ++ drop k (set xs b v))) e ∙ set-part xs vs b v (b + suc (length vs)) h (omega arith)
@@ -161,7 +161,7 @@ low-run (v ∷ vs) m a b r fits =
     ∙ low-run vs t (suc a) (suc b) run (omega (arith, length-set m.low b v, fits))
     ∙ ap (λ (l : List ℕ). record m { low = l }) (one-more m.low vs b v (omega (arith, fits)))
 
-same-content : (cs : List (List ℕ)) (p : ℕ) → set cs p (get_or cs p []) ≡ cs
+pub same-content : (cs : List (List ℕ)) (p : ℕ) → set cs p (get_or cs p []) ≡ cs
 same-content [] p = refl
 same-content (c ∷ cs) zero = refl
 same-content (c ∷ cs) (suc p) = ap (λ l. c ∷ l) (same-content cs p)

@@ -1,7 +1,8 @@
 -- Bytes copied between linear addresses and the scratch bytes, one by one upwards.
 use Rattle.std.specs.Prelude.{ℕ, zero, suc, List, [], ◌∷◌}
 use Rattle.dm_region.specs.Parts.{part, with_part}
-use Rattle.dm_space.specs.Memory.{Memory, Held, peek, poke}
+use Rattle.dm_pool.specs.Blocks.{with_content}
+use Rattle.dm_space.specs.Memory.{Memory, Held, peek, poke, page_bytes, with_blocks}
 
 -- what a function gives for the n numbers from a on
 abbrev pub values : (ℕ → ℕ) → ℕ → ℕ → List ℕ
@@ -24,3 +25,12 @@ copied_in h a at n = record h { scratch = with_part h.scratch at n (reads h.memo
 -- the n scratch bytes from `at` on, written from the linear address a on
 abbrev pub copied_out : Held → ℕ → ℕ → ℕ → Held
 copied_out h at a n = record h { memory = writes h.memory a (part h.scratch at n) }
+
+-- n bytes of a block from its byte `from` on, now the scratch bytes from `at` on
+abbrev pub block_copied_in : Held → ℕ → ℕ → ℕ → ℕ → Held
+block_copied_in h block from at n = record h { scratch = with_part h.scratch at n (part (page_bytes h.memory block) from n) }
+
+-- the n scratch bytes from `at` on, now those of a block from its byte `to` on
+abbrev pub block_copied_out : Held → ℕ → ℕ → ℕ → ℕ → Held
+block_copied_out h at block to n =
+    record h { memory = with_blocks h.memory (with_content h.memory.blocks block (with_part (page_bytes h.memory block) to n (part h.scratch at n))) }

@@ -1,6 +1,8 @@
 -- The state of the machine, and what a step answers.
 use Rattle.std.specs.Prelude.{ℕ, ◌+◌, ◌-◌, ◌^◌, ◌<◌, min, Bool, All, List, Option, Some, None}
 use Rattle.dm_space.specs.Memory.{Memory}
+use Rattle.dm_ems.specs.Tables.{Tables, expanded}
+use Rattle.dm_ems.specs.Linked.{IsLinked}
 use Rattle.dm_exec.specs.declared.cpu.Cpu.{Cpu}
 use Rattle.dm_exec.specs.Guest.{Guest, guest}
 use Rattle.dm_exec.specs.Stack.{interrupt_return}
@@ -14,6 +16,8 @@ use Rattle.dm_pool.specs.declared.sizes.Sizes.{Sizes}
 pub record State : Type 0 where
   pub cpu : Cpu
   pub memory : Memory
+  -- the handles and pages of expanded memory
+  pub ems : Tables
   pub console : Streams
   pub processes : Processes
   -- which free block an allocation takes
@@ -35,6 +39,10 @@ HaveSegments parents = All (λ p. 0 < p.segment) parents
 -- a program is loaded
 abbrev pub HasProgram : State → Type 0
 HasProgram s = 0 < s.processes.present
+
+-- the tables of expanded memory and the memory go together
+abbrev pub AreLinked : State → Type 0
+AreLinked s = IsLinked (expanded s.ems s.memory)
 
 pub record Answer : Type 0 where
   pub stop : Option Stop

@@ -4,6 +4,7 @@ ghost use Rattle.dm_state.specs.State.{go, returned};
 
 use dm_arena::Strategy;
 use dm_console::Console;
+use dm_ems::Ems;
 use dm_exec::{Cpu, interrupt_return};
 use dm_pool::Sizes;
 use dm_proc::{Procs, Programs};
@@ -12,7 +13,7 @@ use std::marker::Model;
 
 /// The parts of a machine, on which instructions and services act.
 ///
-/// Contracts see its state: registers, memory, console, processes, the allocation strategy, the code
+/// Contracts see its state: registers, memory, the tables of expanded memory, console, processes, the allocation strategy, the code
 /// with which the first program ended, the count of steps, and what no step changes.
 #[derive(Drop)]
 pub struct Parts {
@@ -20,6 +21,8 @@ pub struct Parts {
     pub cpu: Cpu,
     /// The memory.
     pub space: Space,
+    /// Expanded memory: its handles and their pages.
+    pub ems: Ems,
     /// The input and the output.
     pub console: Console,
     /// The processes that are alive.
@@ -48,6 +51,7 @@ impl Model for Parts {
     ghost view = { λ p. record {
       cpu = p.cpu;
       memory = p.space.memory;
+      ems = p.ems;
       console = p.console;
       processes = p.procs;
       strategy = p.strategy;

@@ -7,6 +7,7 @@ use crate::memory::new_space;
 use arrayvec::ArrayVec;
 use dm_arena::Strategy;
 use dm_console::Console;
+use dm_ems::Ems;
 use dm_exec::{Cpu, Flags};
 use dm_load::Image;
 use dm_pool::Sizes;
@@ -47,6 +48,7 @@ fn started_in(alloc: Global, space: Space) -> Result<Parts, Fail>
     Ok(Parts {
         cpu,
         space,
+        ems: Ems::new(64),
         console: Console::new(alloc, Vec::new(alloc)),
         procs,
         strategy: first,

@@ -1,5 +1,6 @@
 use Rattle.std.proofs.Common.{◌∙◌, ap, refl, sym}
 use Rattle.dm_machine.specs.contracts.machine.Machine.{the_view}
+use Rattle.dm_machine.proofs.Links.{linked-loads}
 use Rattle.dm_machine.proofs.NoRoom.{no_room, had_room}
 use Rattle.dm_machine.proofs.machine.Machine.load.Goals as goal
 
@@ -17,3 +18,6 @@ returns-in-Ok-loaded-clause-short c = (
       absurd
       (had_room _ _ _ _ _ _ _ _ _ _ (ap the_view c.self-inside.view_is ∙ c.self.view_is) (sym c.in-Some.ensures) c.in-Ok.ensures.0 c.as_slice.ensures.value c.in-Ok-loaded.ensures.loads none),
 )
+
+pub invariant_of-self : goal.invariant_of-self
+invariant_of-self c = linked-loads _ _ _ _ _ _ _ _ _ (ap the_view c.self-inside.view_is) c.self.invariant c.load-loaded.ensures.loads

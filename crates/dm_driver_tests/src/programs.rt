@@ -1,0 +1,163 @@
+//! Programs that use expanded memory, as they are written for it.
+ghost use Rattle.std.specs.Prelude.{IfOk};
+ghost use Rattle.dm_state.specs.State.{HasProgram};
+
+use crate::checks::same;
+use dm_asm::assemble;
+use dm_machine::{Machine, Stop};
+use dm_machine_tests::machines::loaded;
+use std::alloc::Global;
+use std::test::Fail;
+
+/// Looks for the driver by its name, behind the segment of vector 67h, and for its version; takes four pages, maps them, writes a letter
+/// into each window and reads them; shows the last page in the first window too; and gives the pages back.
+const DETECTS: &str = "
+        MOV AX,3567h            ; the segment of vector 67h
+        INT 21h
+        MOV DI,0Ah              ; the driver's name
+        MOV SI,name
+        MOV CX,8
+        CLD
+        REPE CMPSB
+        JNE absent
+        MOV AH,40h
+        INT 67h
+        OR AH,AH
+        JNE absent
+        MOV AH,46h              ; version 4.0
+        INT 67h
+        CMP AX,40h
+        JNE absent
+        MOV AH,41h              ; the frame
+        INT 67h
+        OR AH,AH
+        JNE absent
+        MOV ES,BX
+        MOV AH,43h              ; four pages
+        MOV BX,4
+        INT 67h
+        OR AH,AH
+        JNE absent
+        XOR BX,BX               ; each in the window of its number
+map:    MOV AL,BL
+        MOV AH,44h
+        INT 67h
+        OR AH,AH
+        JNE absent
+        INC BX
+        CMP BX,4
+        JB map
+        XOR DI,DI               ; a letter into each window
+        MOV AL,41h
+fill:   ES MOV [DI],AL
+        INC AX
+        ADD DI,4000h
+        JNZ fill
+        CALL tell
+        MOV AX,4400h            ; the last page in window 0
+        MOV BX,3
+        INT 67h
+        CALL tell
+        MOV AH,45h              ; the pages are given back
+        INT 67h
+        OR AH,AH
+        JNE absent
+        CALL tell
+        MOV AX,4C00h
+        INT 21h
+absent: MOV AX,4C01h
+        INT 21h
+
+tell:   PUSH DX                 ; writes the letters
+next:   ES MOV DL,[DI]
+        MOV AH,2
+        INT 21h
+        ADD DI,4000h
+        JNZ next
+        POP DX
+        RET
+
+name:   DB 'EMMXXXX0'
+";
+
+/// Its stack lies in window 0 when it maps another page there: what comes back from the call is popped from the page that is seen then.
+const STACK_IN_FRAME: &str = "
+        MOV AH,43h              ; two pages
+        MOV BX,2
+        INT 67h
+        MOV AX,4401h            ; page 1 in window 1
+        MOV BX,1
+        INT 67h
+        MOV AX,0E400h           ; where that page has IP, CS and FLAGS
+        MOV ES,AX
+        ES MOV WORD [0FAh],there
+        ES MOV WORD [0FCh],CS
+        ES MOV WORD [0FEh],0F2D7h
+        MOV AX,4400h            ; page 0 in window 0, with the stack
+        MOV BX,0
+        INT 67h
+        MOV AX,0E000h
+        MOV SS,AX
+        MOV SP,100h
+        MOV AX,4400h            ; page 1 in window 0
+        MOV BX,1
+        INT 67h
+        HLT
+there:  NOP
+        HLT
+";
+
+/// The driver at its place, called as a far procedure behind the flags, and at another spelling of the place, where IRET stands.
+const FAR_CALLS: &str = "
+        MOV AH,41h
+        PUSHF
+        CALL FAR 0F100h:20h
+        MOV CX,BX
+        MOV BX,7
+        MOV AH,41h
+        PUSHF
+        CALL FAR 0F000h:1020h
+        HLT
+";
+
+/// A machine with a program of this text.
+fn written(alloc: Global, text: &str) -> Result<Machine, Fail>
+    ensures { IfOk result (λ m. HasProgram m) }
+{
+    let program = assemble(alloc, text.as_bytes())?;
+    loaded(alloc, program.as_slice(), b"")
+}
+
+#[test]
+fn a_program_finds_the_driver_and_uses_its_pages(rt: HostRuntime) -> Result<(), Fail> {
+    let mut machine = written(rt.alloc(), DETECTS)?;
+    same(&rt, "stop", machine.run(10_000), Stop::Exited(0));
+    let output: &[u8] = b"ABCDDBCD\xFF\xFF\xFF\xFF";
+    same(&rt, "output", machine.output(), output);
+    Ok(())
+}
+
+#[test]
+fn the_stack_lies_in_the_frame(rt: HostRuntime) -> Result<(), Fail> {
+    let mut machine = written(rt.alloc(), STACK_IN_FRAME)?;
+    same(&rt, "stop", machine.run(100), Stop::Halted);
+    let cpu = machine.cpu();
+    same(&rt, "SP", cpu.sp, 0x0100);
+    same(&rt, "FLAGS", cpu.flags.to_word(), 0xF2D7);
+    same(&rt, "AX", cpu.ax, 0);
+    // 20 instructions, four acts of the driver, and the NOP that only the IP in the page leads to.
+    same(&rt, "steps", machine.steps(), 25);
+    Ok(())
+}
+
+#[test]
+fn the_driver_acts_at_its_place_alone(rt: HostRuntime) -> Result<(), Fail> {
+    let mut machine = written(rt.alloc(), FAR_CALLS)?;
+    same(&rt, "stop", machine.run(100), Stop::Halted);
+    let cpu = machine.cpu();
+    same(&rt, "AX, BX", [cpu.ax, cpu.bx], [0x4100, 7]);
+    same(&rt, "CX", cpu.cx, 0xE000);
+    same(&rt, "SP", cpu.sp, 0xFFFE);
+    same(&rt, "steps", machine.steps(), 10);
+    Ok(())
+}

@@ -1,0 +1,48 @@
+-- What a call of a driver acts on, and how it answers (LIM EMS 4.0, section 3: AH is the status, 0 for success).
+use Rattle.std.specs.Prelude.{ℕ, Result, Ok, Err}
+use Rattle.dm_space.specs.Memory.{Memory}
+use Rattle.dm_ins.specs.declared.operand.ByteRegister.TheVariants.{Ah}
+use Rattle.dm_exec.specs.declared.cpu.Cpu.{Cpu}
+use Rattle.dm_exec.specs.Cpu.{with_byte}
+use Rattle.dm_ems.specs.declared.status.Status.{Status}
+use Rattle.dm_ems.specs.Status.{code_of}
+use Rattle.dm_ems.specs.Tables.{Tables, Expanded, expanded}
+use Rattle.dm_ems.specs.Calls.{answer, left}
+
+-- the registers of the program that calls, and expanded memory
+pub record Client : Type 0 where
+  pub cpu : Cpu
+  pub x : Expanded
+
+abbrev pub client : Cpu → Tables → Memory → Client
+client cpu ems memory = record { cpu = cpu; x = expanded ems memory }
+
+-- AH is the status
+abbrev pub with_status : Cpu → ℕ → Cpu
+with_status c status = with_byte c Ah status
+
+-- a call changes registers alone
+abbrev pub on_cpu : Client → Cpu → Client
+on_cpu c cpu = record c { cpu = cpu }
+
+-- success: AH is 0
+abbrev pub succeeded : Cpu → Cpu
+succeeded cpu = with_status cpu 0
+
+-- a refusal: AH tells why
+abbrev pub refused : Cpu → Status → Cpu
+refused cpu e = with_status cpu (code_of e)
+
+-- the registers after an answer: success sets those that `set` tells, a refusal none
+abbrev pub settled : {A : Type 0} → Cpu → Result A Status → (A → Cpu) → Cpu
+settled cpu (Ok v) set = succeeded (set v)
+settled cpu (Err e) set = refused cpu e
+
+-- the same where success sets AH too
+abbrev pub concluded : {A : Type 0} → Cpu → Result A Status → (A → Cpu) → Cpu
+concluded cpu (Ok v) set = set v
+concluded cpu (Err e) set = refused cpu e
+
+-- after a call that may change the tables or memory
+abbrev pub after : {A : Type 0} → Client → Result (A × Expanded) Status → (A → Cpu) → Client
+after c r set = record { cpu = settled c.cpu (answer r) set; x = left c.x r }

@@ -1,0 +1,9 @@
+pub mod Client
+pub mod Handles
+pub mod Windows
+pub mod Names
+pub mod Frame
+pub mod Regions
+pub mod Functions
+pub mod Drivers
+pub mod Laws

@@ -1,0 +1,43 @@
+-- The names of handles (LIM EMS 4.0, functions 20 and 21; INT 67h, 53h and 54h): AL says which part of a function is asked for.
+use Rattle.std.specs.Prelude.{◌==◌, if◌then◌else◌}
+use Rattle.dm_ins.specs.declared.operand.ByteRegister.TheVariants.{Al}
+use Rattle.dm_exec.specs.declared.cpu.Cpu.{Cpu}
+use Rattle.dm_exec.specs.Cpu.{byte_of, with_byte}
+use Rattle.dm_ems.specs.declared.status.Status.TheVariants.{NoSubfunction}
+use Rattle.dm_ems.specs.Names as rows
+use Rattle.dm_drivers.specs.Client.{Client, on_cpu, succeeded, refused, settled, after}
+
+-- 53h, 0: the name of the handle in DX is written at ES:DI
+unfoldable pub get_name : Client → Client
+get_name c = after c (rows.get_name c.x c.cpu.dx c.cpu.es c.cpu.di) (λ done. c.cpu)
+
+-- 53h, 1: the handle in DX gets the name at DS:SI
+unfoldable pub set_name : Client → Client
+set_name c = after c (rows.set_name c.x c.cpu.dx c.cpu.ds c.cpu.si) (λ done. c.cpu)
+
+-- 53h
+unfoldable pub handle_name : Client → Client
+handle_name c =
+    if byte_of c.cpu Al == 0 then get_name c else
+    if byte_of c.cpu Al == 1 then set_name c else on_cpu c (refused c.cpu NoSubfunction)
+
+-- 54h, 0: the handles in use and their names are written at ES:DI, AL is their number
+unfoldable pub list_names : Client → Client
+list_names c =
+    let told = rows.list_names c.x c.cpu.es c.cpu.di in
+    record { cpu = succeeded (with_byte c.cpu Al told.0); x = told.1 }
+
+-- 54h, 1: DX is the handle with the name at DS:SI
+unfoldable pub find_name : Client → Client
+find_name c = on_cpu c (settled c.cpu (rows.find_name c.x c.cpu.ds c.cpu.si) (λ handle. record c.cpu { dx = handle }))
+
+-- 54h, 2: BX is how many handles there are in all
+unfoldable pub tell_handles : Cpu → Cpu
+tell_handles cpu = succeeded (record cpu { bx = 64 })
+
+-- 54h
+unfoldable pub directory : Client → Client
+directory c =
+    if byte_of c.cpu Al == 0 then list_names c else
+    if byte_of c.cpu Al == 1 then find_name c else
+    if byte_of c.cpu Al == 2 then on_cpu c (tell_handles c.cpu) else on_cpu c (refused c.cpu NoSubfunction)

@@ -1,0 +1,34 @@
+-- The windows of the frame (LIM EMS 4.0, functions 5, 8, 9, 15 and 17; INT 67h, 44h, 47h, 48h, 4Eh and 50h).
+use Rattle.std.specs.Prelude.{ℕ, Option, Some, None}
+use Rattle.dm_ins.specs.declared.operand.ByteRegister.TheVariants.{Al}
+use Rattle.dm_exec.specs.declared.cpu.Cpu.{Cpu}
+use Rattle.dm_exec.specs.Cpu.{byte_of, with_byte}
+use Rattle.dm_ems.specs.Maps as rows
+use Rattle.dm_ems_move.specs.Maps as maps
+use Rattle.dm_ems_move.specs.Many as many
+use Rattle.dm_drivers.specs.Client.{Client, after}
+
+-- 44h: window AL shows logical page BX of the handle in DX
+unfoldable pub map_page : Client → Client
+map_page c = after c (rows.map_page c.x (byte_of c.cpu Al) c.cpu.bx c.cpu.dx) (λ done. c.cpu)
+
+-- 47h: what the windows show is kept under the handle in DX
+unfoldable pub save_map : Client → Client
+save_map c = after c (rows.save_map c.x c.cpu.dx) (λ done. c.cpu)
+
+-- 48h: the windows show again what was kept under the handle in DX
+unfoldable pub restore_map : Client → Client
+restore_map c = after c (rows.restore_map c.x c.cpu.dx) (λ done. c.cpu)
+
+-- AL is a number, where there is one
+abbrev pub numbered : Cpu → Option ℕ → Cpu
+numbered cpu None = cpu
+numbered cpu (Some n) = with_byte cpu Al n
+
+-- 4Eh: the map of the windows is written at ES:DI, set from DS:SI, or both, or AL is its size, as AL says
+unfoldable pub whole_map : Client → Client
+whole_map c = after c (maps.whole_map c.x (byte_of c.cpu Al) c.cpu.es c.cpu.di c.cpu.ds c.cpu.si) (numbered c.cpu)
+
+-- 50h: pages of the handle in DX come into windows, by CX pairs at DS:SI; AL says how a pair tells its window
+unfoldable pub map_many : Client → Client
+map_many c = after c (many.map_many c.x (byte_of c.cpu Al) c.cpu.dx c.cpu.cx c.cpu.ds c.cpu.si) (λ done. c.cpu)

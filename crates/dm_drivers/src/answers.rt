@@ -1,0 +1,102 @@
+//! How a call of the expanded memory driver answers (LIM EMS 4.0, section 3): AH is the status.
+ghost use Rattle.std.specs.Prelude.{◌≡◌};
+ghost use Rattle.dm_ems_move.specs.RegionMoves.{moved_code};
+ghost use Rattle.dm_drivers.specs.Client.{with_status, succeeded, refused, settled, concluded};
+ghost use Rattle.dm_drivers.specs.Handles.{recounted};
+ghost use Rattle.dm_drivers.specs.Windows.{numbered};
+
+use dm_ems::Status;
+use dm_ems_move::{Moved, Reallocated};
+use dm_exec::Cpu;
+use dm_ins::ByteRegister;
+
+/// Success: AH is 0.
+pub(crate) fn succeed(cpu: &mut Cpu)
+    ensures { cpu.new ≡ succeeded cpu.old }
+{
+    cpu.set_byte(ByteRegister::Ah, 0);
+}
+
+/// A refusal: AH tells why.
+pub(crate) fn refuse(cpu: &mut Cpu, status: Status)
+    ensures { cpu.new ≡ refused cpu.old status }
+{
+    cpu.set_byte(ByteRegister::Ah, status.code());
+}
+
+/// The status of a call that sets no other register.
+pub(crate) fn settle(cpu: &mut Cpu, res: Result<(), Status>)
+    ensures { cpu.new ≡ settled cpu.old res (λ done. cpu.old) }
+{
+    match res {
+        Ok(()) => succeed(cpu),
+        Err(status) => refuse(cpu, status),
+    }
+}
+
+/// The status of a call that tells a number in BX.
+pub(crate) fn settle_bx(cpu: &mut Cpu, res: Result<u16, Status>)
+    ensures { cpu.new ≡ settled cpu.old res (λ number. record cpu.old { bx = number }) }
+{
+    match res {
+        Ok(number) => {
+            cpu.bx = number;
+            succeed(cpu);
+        }
+        Err(status) => refuse(cpu, status),
+    }
+}
+
+/// The status of a call that tells a handle in DX.
+pub(crate) fn settle_dx(cpu: &mut Cpu, res: Result<u16, Status>)
+    ensures { cpu.new ≡ settled cpu.old res (λ handle. record cpu.old { dx = handle }) }
+{
+    match res {
+        Ok(handle) => {
+            cpu.dx = handle;
+            succeed(cpu);
+        }
+        Err(status) => refuse(cpu, status),
+    }
+}
+
+/// The status of a call that may tell a number in AL.
+pub(crate) fn settle_al(cpu: &mut Cpu, res: Result<Option<u8>, Status>)
+    ensures { cpu.new ≡ settled cpu.old res (numbered cpu.old) }
+{
+    match res {
+        Ok(number) => {
+            if let Some(number) = number {
+                cpu.set_byte(ByteRegister::Al, number);
+            }
+            succeed(cpu);
+        }
+        Err(status) => refuse(cpu, status),
+    }
+}
+
+/// The status of a call that was to give a handle another number of pages; BX tells how many it has.
+pub(crate) fn settle_pages(cpu: &mut Cpu, res: Result<Reallocated, Status>)
+    ensures { cpu.new ≡ concluded cpu.old res (recounted cpu.old) }
+{
+    match res {
+        Ok(reallocated) => {
+            cpu.bx = reallocated.pages;
+            match reallocated.refused {
+                Some(status) => refuse(cpu, status),
+                None => succeed(cpu),
+            }
+        }
+        Err(status) => refuse(cpu, status),
+    }
+}
+
+/// The status of a move, which tells whether the regions overlapped.
+pub(crate) fn settle_move(cpu: &mut Cpu, res: Result<Moved, Status>)
+    ensures { cpu.new ≡ concluded cpu.old res (λ how. with_status cpu.old (moved_code how)) }
+{
+    match res {
+        Ok(moved) => cpu.set_byte(ByteRegister::Ah, moved.code()),
+        Err(status) => refuse(cpu, status),
+    }
+}

@@ -1,0 +1,134 @@
+//! The functions of INT 67h (LIM EMS 4.0, section 3).
+ghost use Rattle.std.specs.Prelude.{◌≡◌};
+ghost use Rattle.dm_ems.specs.Tables.{expanded};
+ghost use Rattle.dm_ems.specs.Linked.{IsLinked};
+ghost use Rattle.dm_drivers.specs.Client.{client};
+ghost use Rattle.dm_drivers.specs.Functions.{no_function, call, called};
+
+use crate::answers::succeed;
+use crate::frame::{mappable, tell_frame, tell_version};
+use crate::handles::{
+    allocate, count_handles, count_pages, deallocate, list_pages, reallocate, tell_pages,
+};
+use crate::names::{directory, handle_name};
+use crate::regions::move_or_exchange;
+use crate::windows::{map_many, map_page, restore_map, save_map, whole_map};
+use dm_ems::Ems;
+use dm_exec::Cpu;
+use dm_ins::ByteRegister;
+use dm_space::Space;
+
+/// The status of a function that is not there.
+const NO_FUNCTION: u8 = 0x84;
+
+/// What a call of INT 67h asks for.
+#[derive(Clone, Copy, Debug, PartialEq, Eq)]
+pub(crate) enum Function {
+    /// 40h: whether the driver is there.
+    Status,
+    /// 41h: tells the frame's segment in BX.
+    Frame,
+    /// 42h: tells in BX the pages that no handle has, in DX all pages.
+    Pages,
+    /// 43h: gives a new handle BX pages, and tells it in DX.
+    Allocate,
+    /// 44h: makes window AL show logical page BX of handle DX.
+    MapPage,
+    /// 45h: gives up handle DX and its pages.
+    Deallocate,
+    /// 46h: tells the version in AL.
+    Version,
+    /// 47h: keeps under handle DX what the windows show.
+    SaveMap,
+    /// 48h: the windows show again what was kept under handle DX.
+    RestoreMap,
+    /// 4Bh: tells in BX how many handles are in use.
+    HandleCount,
+    /// 4Ch: tells in BX how many pages handle DX has.
+    PageCount,
+    /// 4Dh: writes the handles and their pages at ES:DI.
+    PageList,
+    /// 4Eh: tells or sets what all windows show.
+    WholeMap,
+    /// 50h: makes windows show pages of handle DX.
+    MapMany,
+    /// 51h: gives handle DX another number of pages.
+    Reallocate,
+    /// 53h: tells or sets the name of handle DX.
+    HandleName,
+    /// 54h: tells all names, searches one, or tells how many handles there are.
+    Directory,
+    /// 57h: moves or exchanges regions of memory.
+    Regions,
+    /// 58h: tells the windows' segments and numbers.
+    Mappable,
+    /// Any other number.
+    Unknown,
+}
+
+/// The function with this number, which calls have in AH.
+fn function_of(number: u8) -> Function
+    ensures { result ≡ Rattle.dm_drivers.specs.Functions.function_of number }
+{
+    match number {
+        0x40 => Function::Status,
+        0x41 => Function::Frame,
+        0x42 => Function::Pages,
+        0x43 => Function::Allocate,
+        0x44 => Function::MapPage,
+        0x45 => Function::Deallocate,
+        0x46 => Function::Version,
+        0x47 => Function::SaveMap,
+        0x48 => Function::RestoreMap,
+        0x4B => Function::HandleCount,
+        0x4C => Function::PageCount,
+        0x4D => Function::PageList,
+        0x4E => Function::WholeMap,
+        0x50 => Function::MapMany,
+        0x51 => Function::Reallocate,
+        0x53 => Function::HandleName,
+        0x54 => Function::Directory,
+        0x57 => Function::Regions,
+        0x58 => Function::Mappable,
+        _ => Function::Unknown,
+    }
+}
+
+/// Does what a call asks for.
+#[tactic(auto, unfolding(crate::specs::Functions::no_function))]
+fn call(cpu: &mut Cpu, ems: &mut Ems, space: &mut Space, function: Function)
+    requires { IsLinked (expanded ems.old space.old.memory) }
+    ensures { client cpu.new ems.new space.new.memory ≡ call (client cpu.old ems.old space.old.memory) function }
+{
+    match function {
+        Function::Status => succeed(cpu),
+        Function::Frame => tell_frame(cpu),
+        Function::Pages => tell_pages(cpu, ems, space),
+        Function::Allocate => allocate(cpu, ems, space),
+        Function::MapPage => map_page(cpu, ems, space),
+        Function::Deallocate => deallocate(cpu, ems, space),
+        Function::Version => tell_version(cpu),
+        Function::SaveMap => save_map(cpu, ems, space),
+        Function::RestoreMap => restore_map(cpu, ems, space),
+        Function::HandleCount => count_handles(cpu, ems, space),
+        Function::PageCount => count_pages(cpu, ems, space),
+        Function::PageList => list_pages(cpu, ems, space),
+        Function::WholeMap => whole_map(cpu, ems, space),
+        Function::MapMany => map_many(cpu, ems, space),
+        Function::Reallocate => reallocate(cpu, ems, space),
+        Function::HandleName => handle_name(cpu, ems, space),
+        Function::Directory => directory(cpu, ems, space),
+        Function::Regions => move_or_exchange(cpu, ems, space),
+        Function::Mappable => mappable(cpu, ems, space),
+        Function::Unknown => cpu.set_byte(ByteRegister::Ah, NO_FUNCTION),
+    }
+}
+
+/// INT 67h: does the function that AH names; AH is then the status.
+pub(crate) fn expanded_memory_call(cpu: &mut Cpu, ems: &mut Ems, space: &mut Space)
+    requires { IsLinked (expanded ems.old space.old.memory) }
+    ensures { client cpu.new ems.new space.new.memory ≡ called (client cpu.old ems.old space.old.memory) }
+{
+    let function = function_of(cpu.byte(ByteRegister::Ah));
+    call(cpu, ems, space, function);
+}

@@ -1,0 +1,77 @@
+//! Handles and their pages (LIM EMS 4.0, functions 3, 4, 6, 12, 13, 14 and 18; INT 67h, 42h, 43h, 45h, 4Bh to 4Dh and 51h).
+ghost use Rattle.std.specs.Prelude.{◌≡◌};
+ghost use Rattle.dm_ems.specs.Tables.{expanded};
+ghost use Rattle.dm_ems.specs.Linked.{IsLinked};
+ghost use Rattle.dm_drivers.specs.Client.{client};
+ghost use Rattle.dm_drivers.specs.Handles.{tell_pages, allocate, deallocate, count_handles, count_pages, list_pages, reallocate};
+
+use crate::answers::{settle, settle_bx, settle_dx, settle_pages, succeed};
+use dm_ems::Ems;
+use dm_exec::Cpu;
+use dm_space::Space;
+
+/// 42h: BX becomes the pages that no handle has, DX all pages.
+#[tactic(auto, unfolding(crate::specs::Handles::tell_pages))]
+pub(crate) fn tell_pages(cpu: &mut Cpu, ems: &Ems, space: &Space)
+    ensures { client cpu.new ems.now space.now.memory ≡ tell_pages (client cpu.old ems.now space.now.memory) }
+{
+    cpu.bx = ems.unallocated(space);
+    cpu.dx = ems.total();
+    succeed(cpu);
+}
+
+/// 43h: DX becomes a new handle with BX pages.
+#[tactic(auto, unfolding(crate::specs::Handles::allocate))]
+pub(crate) fn allocate(cpu: &mut Cpu, ems: &mut Ems, space: &mut Space)
+    ensures { client cpu.new ems.new space.new.memory ≡ allocate (client cpu.old ems.old space.old.memory) }
+{
+    let res = ems.allocate(space, cpu.bx);
+    settle_dx(cpu, res);
+}
+
+/// 45h: the handle in DX is given up.
+#[tactic(auto, unfolding(crate::specs::Handles::deallocate))]
+pub(crate) fn deallocate(cpu: &mut Cpu, ems: &mut Ems, space: &mut Space)
+    requires { IsLinked (expanded ems.old space.old.memory) }
+    ensures { client cpu.new ems.new space.new.memory ≡ deallocate (client cpu.old ems.old space.old.memory) }
+{
+    let res = ems.deallocate(space, cpu.dx);
+    settle(cpu, res);
+}
+
+/// 4Bh: BX becomes the handles in use.
+#[tactic(auto, unfolding(crate::specs::Handles::count_handles))]
+pub(crate) fn count_handles(cpu: &mut Cpu, ems: &Ems, space: &Space)
+    ensures { client cpu.new ems.now space.now.memory ≡ count_handles (client cpu.old ems.now space.now.memory) }
+{
+    cpu.bx = ems.in_use();
+    succeed(cpu);
+}
+
+/// 4Ch: BX becomes the pages of the handle in DX.
+#[tactic(auto, unfolding(crate::specs::Handles::count_pages))]
+pub(crate) fn count_pages(cpu: &mut Cpu, ems: &Ems, space: &Space)
+    ensures { client cpu.new ems.now space.now.memory ≡ count_pages (client cpu.old ems.now space.now.memory) }
+{
+    let res = ems.count_pages(space, cpu.dx);
+    settle_bx(cpu, res);
+}
+
+/// 4Dh: writes the handles in use and their pages at ES:DI; BX becomes their number.
+#[tactic(auto, unfolding(crate::specs::Handles::list_pages))]
+pub(crate) fn list_pages(cpu: &mut Cpu, ems: &Ems, space: &mut Space)
+    ensures { client cpu.new ems.now space.new.memory ≡ list_pages (client cpu.old ems.now space.old.memory) }
+{
+    cpu.bx = ems.list_pages(space, cpu.es, cpu.di);
+    succeed(cpu);
+}
+
+/// 51h: the handle in DX has BX pages; BX becomes how many it has.
+#[tactic(auto, unfolding(crate::specs::Handles::reallocate))]
+pub(crate) fn reallocate(cpu: &mut Cpu, ems: &mut Ems, space: &mut Space)
+    requires { IsLinked (expanded ems.old space.old.memory) }
+    ensures { client cpu.new ems.new space.new.memory ≡ reallocate (client cpu.old ems.old space.old.memory) }
+{
+    let res = dm_ems_move::reallocate(ems, space, cpu.dx, cpu.bx);
+    settle_pages(cpu, res);
+}

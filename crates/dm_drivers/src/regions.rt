@@ -1,0 +1,45 @@
+//! Regions of memory that are moved or exchanged (LIM EMS 4.0, function 24; INT 67h, 57h).
+ghost use Rattle.std.specs.Prelude.{◌≡◌};
+ghost use Rattle.dm_ems.specs.Tables.{expanded};
+ghost use Rattle.dm_ems.specs.Linked.{IsLinked};
+ghost use Rattle.dm_drivers.specs.Client.{client};
+ghost use Rattle.dm_drivers.specs.Regions.{move_region, exchange_region, regions};
+
+use crate::answers::{refuse, settle, settle_move};
+use dm_ems::{Ems, Status};
+use dm_exec::Cpu;
+use dm_ins::ByteRegister;
+use dm_space::Space;
+
+/// 57h, 0: moves the region that the structure at DS:SI describes.
+#[tactic(auto, unfolding(crate::specs::Regions::move_region))]
+fn move_region(cpu: &mut Cpu, ems: &Ems, space: &mut Space)
+    requires { IsLinked (expanded ems.now space.old.memory) }
+    ensures { client cpu.new ems.now space.new.memory ≡ move_region (client cpu.old ems.now space.old.memory) }
+{
+    let res = dm_ems_move::move_region(ems, space, cpu.ds, cpu.si);
+    settle_move(cpu, res);
+}
+
+/// 57h, 1: exchanges the two regions that the structure at DS:SI describes.
+#[tactic(auto, unfolding(crate::specs::Regions::exchange_region))]
+fn exchange_region(cpu: &mut Cpu, ems: &Ems, space: &mut Space)
+    requires { IsLinked (expanded ems.now space.old.memory) }
+    ensures { client cpu.new ems.now space.new.memory ≡ exchange_region (client cpu.old ems.now space.old.memory) }
+{
+    let res = dm_ems_move::exchange_region(ems, space, cpu.ds, cpu.si);
+    settle(cpu, res);
+}
+
+/// 57h: AL says whether regions are moved or exchanged.
+#[tactic(auto, unfolding(crate::specs::Regions::regions))]
+pub(crate) fn move_or_exchange(cpu: &mut Cpu, ems: &Ems, space: &mut Space)
+    requires { IsLinked (expanded ems.now space.old.memory) }
+    ensures { client cpu.new ems.now space.new.memory ≡ regions (client cpu.old ems.now space.old.memory) }
+{
+    match cpu.byte(ByteRegister::Al) {
+        0 => move_region(cpu, ems, space),
+        1 => exchange_region(cpu, ems, space),
+        _ => refuse(cpu, Status::NoSubfunction),
+    }
+}

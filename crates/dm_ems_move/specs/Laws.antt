@@ -1,0 +1,16 @@
+-- That tables and memory stay together through each call.
+use Rattle.std.specs.Prelude.{ℕ}
+use Rattle.dm_ems.specs.Tables.{Expanded}
+use Rattle.dm_ems.specs.Linked.{IsLinked}
+use Rattle.dm_ems.specs.Calls.{left}
+use Rattle.dm_ems_move.specs.Reallocation.{reallocate}
+use Rattle.dm_ems_move.specs.Many.{map_many}
+use Rattle.dm_ems_move.specs.Maps.{whole_map}
+use Rattle.dm_ems_move.specs.RegionMoves.{move_region, exchange_region}
+
+pub record MovesKeepTheLink : Type 0 where
+  pub reallocating : (x : Expanded) (handle n : ℕ) → IsLinked x → IsLinked (left x (reallocate x handle n))
+  pub mapping : (x : Expanded) (mode handle count segment offset : ℕ) → IsLinked x → IsLinked (left x (map_many x mode handle count segment offset))
+  pub setting : (x : Expanded) (mode to_segment to_offset from_segment from_offset : ℕ) → IsLinked x → IsLinked (left x (whole_map x mode to_segment to_offset from_segment from_offset))
+  pub moving : (x : Expanded) (segment offset : ℕ) → IsLinked x → IsLinked (left x (move_region x segment offset))
+  pub exchanging : (x : Expanded) (segment offset : ℕ) → IsLinked x → IsLinked (left x (exchange_region x segment offset))

@@ -1,0 +1,6 @@
+pub mod Steps
+pub mod Reallocation
+pub mod Many
+pub mod Maps
+pub mod Laws
+pub mod RegionMoves

@@ -1,0 +1,36 @@
+-- Many pages mapped at once (LIM EMS 4.0, function 17): refusals in the order in which they are tried.
+use Rattle.std.specs.Prelude.{suc, zero, ℕ, ◌+◌, ◌-◌, ◌*◌, ◌/◌, ◌%◌, Bool, true, false, nat_lt, nat_le, ◌==◌, ◌&&◌, if◌then◌else◌, List, slice_get, slice_set, Option, Some, None, Result, Ok, Err}
+use Rattle.dm_space.specs.Memory.{Memory}
+use Rattle.dm_ems.specs.declared.status.Status.{Status}
+use Rattle.dm_ems.specs.declared.status.Status.TheVariants.{UnknownHandle, NoSubfunction, NoSuchPage, NoSuchWindow}
+use Rattle.dm_ems.specs.Tables.{Expanded, blocks_of, with_windows}
+use Rattle.dm_ems.specs.Calls.{need, slot, with_memory}
+use Rattle.dm_ems_move.specs.Steps.{and_then, word_after}
+
+-- the window that a number, or a segment, names
+abbrev pub window_of : Bool → ℕ → Option ℕ
+window_of true value = if nat_le 0xE000 value && nat_lt value 0xF000 && (value % 0x400 == 0) then Some ((value - 0xE000) / 0x400) else None
+window_of false value = if nat_lt value 4 then Some value else None
+
+-- what the windows show after a pair of a logical page, or FFFFh for none, and a window
+unfoldable pub paired : List ℕ → Bool → ℕ → ℕ → List (Option ℕ) → Result (List (Option ℕ)) Status
+paired blocks by_segment page value windows =
+    need (window_of by_segment value) NoSuchWindow (λ window.
+    if page == 0xFFFF then Ok (slice_set windows window None) else
+    need (slice_get blocks page) NoSuchPage (λ block.
+    Ok (slice_set windows window (Some block))))
+
+-- what they show after the first n of the pairs that stand at segment:offset, or why one of these is bad
+abbrev pub after_pairs : Memory → List ℕ → Bool → ℕ → ℕ → ℕ → Result (List (Option ℕ)) Status
+after_pairs m blocks by_segment segment offset zero = Ok m.windows
+after_pairs m blocks by_segment segment offset (suc n) =
+    and_then (after_pairs m blocks by_segment segment offset n)
+    (paired blocks by_segment (word_after m segment offset (4 * n)) (word_after m segment offset (4 * n + 2)))
+
+-- pages of a handle come into windows, told by numbers (mode 0) or segments (mode 1)
+unfoldable pub map_many : Expanded → ℕ → ℕ → ℕ → ℕ → ℕ → Result (Unit {0} × Expanded) Status
+map_many x mode handle count segment offset =
+    if nat_lt 1 mode then Err NoSubfunction else
+    need (slot x handle) UnknownHandle (λ s.
+    and_then (after_pairs x.memory (blocks_of x.ems handle) (mode == 1) segment offset count) (λ windows.
+    Ok (tt, with_memory x (with_windows x.memory windows))))

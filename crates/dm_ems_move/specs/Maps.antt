@@ -1,0 +1,79 @@
+-- The map of the frame as bytes (LIM EMS 4.0, function 15): of each window the handle and the logical page that it shows, two words,
+-- or FFFFh twice where it shows none. (The standard leaves the form open.)
+use Rattle.std.specs.Prelude.{ℕ, ◌+◌, ◌*◌, ◌==◌, ◌&&◌, if◌then◌else◌, List, [], ◌∷◌, ◌++◌, take, count_by, position, slice_get, slice_index_or, Option, Some, None, Result, Ok, Err}
+use Rattle.dm_space.specs.Memory.{Memory}
+use Rattle.dm_ems.specs.declared.status.Status.{Status}
+use Rattle.dm_ems.specs.declared.status.Status.TheVariants.{NoSubfunction, BadMap}
+use Rattle.dm_ems.specs.declared.tables.Page.{Page}
+use Rattle.dm_ems.specs.Tables.{Tables, Expanded, blocks_of, is_of, is_block, with_windows}
+use Rattle.dm_ems.specs.Calls.{need, with_memory}
+use Rattle.dm_ems.specs.Names.{word, writing}
+use Rattle.dm_ems_move.specs.Steps.{word_after}
+
+-- ---- from windows to bytes
+
+abbrev pub page_at : List Page → ℕ → Page
+page_at pages i = slice_index_or pages i (record { handle = 0; block = 0 })
+
+abbrev pub no_numbers : ℕ × ℕ
+no_numbers = (0xFFFF, 0xFFFF)
+
+-- a page's handle, and its logical number there: how many pages of the handle stand before it
+abbrev pub numbers_at : List Page → Option ℕ → ℕ × ℕ
+numbers_at pages None = no_numbers
+numbers_at pages (Some i) = ((page_at pages i).handle, count_by (is_of (page_at pages i).handle) (take i pages))
+
+-- those of the page that a window shows
+abbrev pub numbers : List Page → Option ℕ → ℕ × ℕ
+numbers pages None = no_numbers
+numbers pages (Some block) = numbers_at pages (position (is_block block) pages)
+
+abbrev pub entry : ℕ × ℕ → List ℕ
+entry n = word n.0 ++ word n.1
+
+abbrev pub entries : List Page → List (Option ℕ) → List ℕ
+entries pages [] = []
+entries pages (window ∷ windows) = entry (numbers pages window) ++ entries pages windows
+
+-- ---- from bytes to windows
+
+-- what follows a value; where there is none, there is none
+abbrev pub when : {A B : Type 0} → Option A → (A → Option B) → Option B
+when None f = None
+when (Some v) f = f v
+
+-- what a window is to show, if there is such a page, or none is meant
+abbrev pub meant : Tables → ℕ → ℕ → Option (Option ℕ)
+meant ems handle page =
+    if (handle == 0xFFFF) && (page == 0xFFFF) then Some None else
+    when (slice_index_or ems.handles handle None) (λ s. when (slice_get (blocks_of ems handle) page) (λ block. Some (Some block)))
+
+-- that of the window k of a map at segment:offset
+abbrev pub meant_at : Tables → Memory → ℕ → ℕ → ℕ → Option (Option ℕ)
+meant_at ems m segment offset k = meant ems (word_after m segment offset (4 * k)) (word_after m segment offset (4 * k + 2))
+
+-- the four windows of a map
+unfoldable pub map_at : Tables → Memory → ℕ → ℕ → Option (List (Option ℕ))
+map_at ems m segment offset =
+    when (meant_at ems m segment offset 0) (λ first.
+    when (meant_at ems m segment offset 1) (λ second.
+    when (meant_at ems m segment offset 2) (λ third.
+    when (meant_at ems m segment offset 3) (λ fourth.
+    Some (first ∷ second ∷ third ∷ fourth ∷ [])))))
+
+-- ---- the call
+
+abbrev pub showing_all : Expanded → List (Option ℕ) → Expanded
+showing_all x windows = with_memory x (with_windows x.memory windows)
+
+-- the bytes of the map are written
+abbrev pub with_map : Expanded → ℕ → ℕ → Expanded
+with_map x segment offset = writing x segment offset (entries x.ems.pages x.memory.windows)
+
+-- mode 0 writes the map, 1 sets it, 2 writes it and then sets another, which was read before, and 3 asks how many bytes a map has
+unfoldable pub whole_map : Expanded → ℕ → ℕ → ℕ → ℕ → ℕ → Result (Option ℕ × Expanded) Status
+whole_map x mode to_segment to_offset from_segment from_offset =
+    if mode == 0 then Ok (None, with_map x to_segment to_offset) else
+    if mode == 1 then need (map_at x.ems x.memory from_segment from_offset) BadMap (λ windows. Ok (None, showing_all x windows)) else
+    if mode == 2 then need (map_at x.ems x.memory from_segment from_offset) BadMap (λ windows. Ok (None, showing_all (with_map x to_segment to_offset) windows)) else
+    if mode == 3 then Ok (Some 16, x) else Err NoSubfunction

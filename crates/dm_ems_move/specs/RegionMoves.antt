@@ -1,0 +1,98 @@
+-- Regions of memory that are moved or exchanged (LIM EMS 4.0, function 24): refusals in the order in which they are tried.
+use Rattle.std.specs.Prelude.{ℕ, ◌+◌, ◌*◌, Bool, true, false, nat_lt, nat_le, ◌==◌, if◌then◌else◌, [], slice_index_or, None, Result, Ok, Err}
+use Rattle.dm_space.specs.Memory.{Memory}
+use Rattle.dm_space.specs.EightBytes.{byte_after}
+use Rattle.dm_moves.specs.declared.regions.Kind.{Kind}
+use Rattle.dm_moves.specs.declared.regions.Kind.TheVariants.{Linear, Pages, Single}
+use Rattle.dm_moves.specs.Regions.{Region, region, moved, exchanged}
+use Rattle.dm_moves.specs.Overlaps.{overlap}
+use Rattle.dm_ems.specs.declared.status.Status.{Status}
+use Rattle.dm_ems.specs.declared.status.Status.TheVariants.{UnknownHandle, NoSuchPage, PastPages, KindsOverlap, OffsetPastPage, TooLong, ExchangeOverlaps, UnknownKind, PastMemory}
+use Rattle.dm_ems.specs.Tables.{Tables, Expanded, blocks_of, page_count}
+use Rattle.dm_ems.specs.Calls.{need, with_memory}
+use Rattle.dm_ems_move.specs.declared.description.Description.{Description}
+use Rattle.dm_ems_move.specs.declared.region_moves.Moved.{Moved}
+use Rattle.dm_ems_move.specs.declared.region_moves.Moved.TheVariants as moved_is
+use Rattle.dm_ems_move.specs.Steps.{and_then, word_after}
+
+-- ---- the structure at segment:offset: how many bytes, a double word; then the source and the destination, seven bytes each
+
+abbrev pub length_at : Memory → ℕ → ℕ → ℕ
+length_at m segment offset = word_after m segment offset 0 + 65536 * word_after m segment offset 2
+
+-- a region as it is described: its type, a handle, an offset, and a segment or a logical page
+abbrev pub described : Memory → ℕ → ℕ → ℕ → Description
+described m segment offset k = record {
+  kind = byte_after m segment offset k;
+  handle = word_after m segment offset (k + 1);
+  offset = word_after m segment offset (k + 3);
+  page = word_after m segment offset (k + 5);
+}
+
+-- ---- regions
+
+-- n bytes of conventional memory: none lies behind FFFFFh
+abbrev pub conventional : Description → ℕ → Result Region Status
+conventional d n = if nat_lt 0x100000 (d.page * 16 + d.offset + n) then Err PastMemory else Ok (region Linear (d.page * 16 + d.offset) [])
+
+-- n bytes of the pages of a handle
+abbrev pub expanded_region : Tables → Description → ℕ → Result Region Status
+expanded_region ems d n =
+    need (slice_index_or ems.handles d.handle None) UnknownHandle (λ s.
+    if nat_lt 0x3FFF d.offset then Err OffsetPastPage else
+    if nat_le (page_count ems d.handle) d.page then Err NoSuchPage else
+    if nat_lt (page_count ems d.handle * 0x4000) (d.page * 0x4000 + d.offset + n) then Err PastPages else
+    Ok (region Pages (d.page * 0x4000 + d.offset) (blocks_of ems d.handle)))
+
+unfoldable pub region_of : Tables → Description → ℕ → Result Region Status
+region_of ems d n =
+    if nat_lt 1 d.kind then Err UnknownKind else
+    if d.kind == 0 then conventional d n else expanded_region ems d n
+
+-- the source is tried whole, and then the destination
+unfoldable pub regions_of : Expanded → ℕ → ℕ → ℕ → Result (Region × Region) Status
+regions_of x segment offset n =
+    and_then (region_of x.ems (described x.memory segment offset 4) n) (λ from.
+    and_then (region_of x.ems (described x.memory segment offset 11) n) (λ to. Ok (from, to)))
+
+abbrev pub is_linear : Kind → Bool
+is_linear Linear = true
+is_linear Pages = false
+is_linear Single = false
+
+-- one is of conventional memory, and the other is not
+abbrev pub are_mixed : Region → Region → Bool
+are_mixed from to = if is_linear from.kind then (if is_linear to.kind then false else true) else is_linear to.kind
+
+-- ---- the calls
+
+unfoldable pub move_between : Expanded → ℕ → Region → Region → Result (Moved × Expanded) Status
+move_between x n from to =
+    if overlap x.memory from to n
+    then (if are_mixed from to then Err KindsOverlap else Ok (moved_is.Overlapping, with_memory x (moved x.memory from to n)))
+    else Ok (moved_is.Apart, with_memory x (moved x.memory from to n))
+
+unfoldable pub exchange_between : Expanded → ℕ → Region → Region → Result (Unit {0} × Expanded) Status
+exchange_between x n from to =
+    if overlap x.memory from to n
+    then (if are_mixed from to then Err KindsOverlap else Err ExchangeOverlaps)
+    else Ok (tt, with_memory x (exchanged x.memory from to n))
+
+-- the bytes of one region come to another; where the two overlap, that is told
+unfoldable pub move_region : Expanded → ℕ → ℕ → Result (Moved × Expanded) Status
+move_region x segment offset =
+    if length_at x.memory segment offset == 0 then Ok (moved_is.Apart, x) else
+    if nat_lt 0x100000 (length_at x.memory segment offset) then Err TooLong else
+    and_then (regions_of x segment offset (length_at x.memory segment offset)) (λ r. move_between x (length_at x.memory segment offset) r.0 r.1)
+
+-- two regions, which do not overlap, exchange their bytes
+unfoldable pub exchange_region : Expanded → ℕ → ℕ → Result (Unit {0} × Expanded) Status
+exchange_region x segment offset =
+    if length_at x.memory segment offset == 0 then Ok (tt, x) else
+    if nat_lt 0x100000 (length_at x.memory segment offset) then Err TooLong else
+    and_then (regions_of x segment offset (length_at x.memory segment offset)) (λ r. exchange_between x (length_at x.memory segment offset) r.0 r.1)
+
+-- the status byte of a move that was made
+abbrev pub moved_code : Moved → ℕ
+moved_code moved_is.Apart = 0
+moved_code moved_is.Overlapping = 0x92

@@ -1,0 +1,31 @@
+//! What stands in a program's buffer; offsets wrap in their segment.
+
+ghost use Rattle.std.specs.Prelude.{◌≡◌, ◌<◌, ◌+◌, ◌%◌};
+ghost use Rattle.dm_space.specs.EightBytes.{byte_after};
+ghost use Rattle.dm_ems_move.specs.Steps.{word_after};
+
+use dm_space::Space;
+
+/// The offset so many places after another.
+fn onward(offset: u16, places: usize) -> u16
+    requires { places < 0x100000 }
+    ensures { result ≡ (offset + places) % 65536 }
+{
+    ((offset as usize + places) % 0x1_0000) as u16
+}
+
+/// The byte so many places after segment:offset.
+pub(crate) fn byte_after(space: &Space, segment: u16, offset: u16, places: usize) -> u8
+    requires { places < 0x100000 }
+    ensures { result ≡ byte_after space.now.memory segment offset places }
+{
+    space.peek(segment, onward(offset, places))
+}
+
+/// The word so many places after segment:offset.
+pub(crate) fn word_after(space: &Space, segment: u16, offset: u16, places: usize) -> u16
+    requires { places < 0x100000 }
+    ensures { result ≡ word_after space.now.memory segment offset places }
+{
+    space.peek16(segment, onward(offset, places))
+}

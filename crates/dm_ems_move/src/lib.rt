@@ -1,0 +1,17 @@
+//! Moves and maps of expanded memory (LIM EMS 4.0): how a handle gets another number of pages, many pages mapped at once, the whole
+//! map of the frame, and regions of memory that are moved or exchanged.
+#![tactic(auto)]
+
+mod buffer;
+mod description;
+mod laws;
+mod many;
+mod maps;
+mod reallocation;
+mod region_moves;
+
+pub use laws::moves_keep_the_link;
+pub use many::map_many;
+pub use maps::whole_map;
+pub use reallocation::{Reallocated, reallocate};
+pub use region_moves::{Moved, exchange_region, move_region};

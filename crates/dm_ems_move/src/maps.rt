@@ -1,0 +1,176 @@
+//! The map of the frame as bytes (LIM EMS 4.0, function 15; INT 67h, 4Eh).
+
+ghost use Rattle.std.specs.Prelude.{◌≡◌, ◌<◌, ◌≤◌, ◌+◌, ◌++◌, IfSome, length, count_by, position};
+ghost use Rattle.arrayvec.specs.ArrayVec.{array_vec_len};
+ghost use Rattle.dm_space.specs.Buffers.{with_bytes};
+ghost use Rattle.dm_ems.specs.Tables.{expanded, is_block, is_of};
+ghost use Rattle.dm_ems.specs.Linked.{IsLinked};
+ghost use Rattle.dm_ems.specs.Calls.{answer, left};
+ghost use Rattle.dm_ems_move.specs.Maps.{whole_map, numbers, entry, entries, meant, meant_at, map_at};
+
+use crate::buffer::word_after;
+use arrayvec::ArrayVec;
+use dm_ems::{Ems, Page, Status, set_windows};
+use dm_pool::Block;
+use dm_space::Space;
+
+/// How many bytes a map has.
+const SIZE: u8 = 16;
+
+/// The handle and the logical page of a window that shows none.
+const NONE: (u16, u16) = (0xFFFF, 0xFFFF);
+
+/// The bytes of a map.
+type Bytes = ArrayVec<u8, 16>;
+
+/// Where the page with a block stands among all pages.
+fn place_of(pages: &[Page], block: Block) -> Option<usize>
+    ensures first { result ≡ position (is_block block) pages.now }
+    ensures there { IfSome result (λ k. k < length pages.now) }
+{
+    pages.iter().position(|page| page.block == block)
+}
+
+/// How many pages of a handle there are among these.
+fn count_of(pages: &[Page], handle: u16) -> usize
+    ensures count { result ≡ count_by (is_of handle) pages.now }
+    ensures few { result ≤ length pages.now }
+{
+    pages.iter().filter(|page| page.handle == handle).count()
+}
+
+/// The handle and the logical number of the page that a window shows.
+fn numbers(pages: &[Page], window: Option<Block>) -> (u16, u16)
+    requires { length pages.now ≤ 512 }
+    ensures { result ≡ numbers pages.now window }
+{
+    let Some(block) = window else {
+        return NONE;
+    };
+    match place_of(pages, block) {
+        Some(at) => {
+            let handle = pages[at].handle;
+            (handle, count_of(&pages[..at], handle) as u16)
+        }
+        None => NONE,
+    }
+}
+
+/// Adds the four bytes of a window.
+fn put_entry(bytes: &mut Bytes, numbers: (u16, u16))
+    requires { array_vec_len bytes.old + 4 ≤ 16 }
+    ensures items { bytes.new.items ≡ bytes.old.items ++ entry numbers }
+    ensures len { array_vec_len bytes.new ≡ array_vec_len bytes.old + 4 }
+{
+    let [low, high] = numbers.0.to_le_bytes();
+    bytes.push(low);
+    bytes.push(high);
+    let [low, high] = numbers.1.to_le_bytes();
+    bytes.push(low);
+    bytes.push(high);
+}
+
+/// The bytes of the map of what four windows show.
+fn entries(pages: &[Page], windows: [Option<Block>; 4]) -> Bytes
+    requires { length pages.now ≤ 512 }
+    ensures { result.items ≡ entries pages.now windows }
+{
+    let [first, second, third, fourth] = windows;
+    let mut bytes = ArrayVec::new();
+    put_entry(&mut bytes, numbers(pages, first));
+    put_entry(&mut bytes, numbers(pages, second));
+    put_entry(&mut bytes, numbers(pages, third));
+    put_entry(&mut bytes, numbers(pages, fourth));
+    bytes
+}
+
+/// What a window is to show by a handle and a logical page; None where there is no such page.
+fn meant(ems: &Ems, handle: u16, page: u16) -> Option<Option<Block>>
+    ensures { result ≡ meant ems.now handle page }
+{
+    if handle == 0xFFFF && page == 0xFFFF {
+        return Some(None);
+    }
+    if ems.slot(handle).is_none() {
+        return None;
+    }
+    match ems.page(handle, page) {
+        Some(block) => Some(Some(block)),
+        None => None,
+    }
+}
+
+/// What window `k` is to show by a map at segment:offset.
+fn meant_at(ems: &Ems, space: &Space, segment: u16, offset: u16, k: usize) -> Option<Option<Block>>
+    requires { k < 4 }
+    ensures { result ≡ meant_at ems.now space.now.memory segment offset k }
+{
+    let handle = word_after(space, segment, offset, 4 * k);
+    let page = word_after(space, segment, offset, 4 * k + 2);
+    meant(ems, handle, page)
+}
+
+/// What the four windows are to show by a map at segment:offset; None where one is bad.
+#[tactic(auto, unfolding(crate::specs::Maps::map_at))]
+fn map_at(ems: &Ems, space: &Space, segment: u16, offset: u16) -> Option<[Option<Block>; 4]>
+    ensures { result ≡ map_at ems.now space.now.memory segment offset }
+{
+    let first = meant_at(ems, space, segment, offset, 0)?;
+    let second = meant_at(ems, space, segment, offset, 1)?;
+    let third = meant_at(ems, space, segment, offset, 2)?;
+    let fourth = meant_at(ems, space, segment, offset, 3)?;
+    Some([first, second, third, fourth])
+}
+
+/// Writes the map of what the windows show at segment:offset.
+fn write_map(ems: &Ems, space: &mut Space, segment: u16, offset: u16)
+    ensures { space.new ≡ record space.old { memory = with_bytes space.old.memory segment offset (entries ems.now.pages space.old.memory.windows) } }
+{
+    let bytes = entries(ems.pages(), space.windows());
+    space.write_bytes(segment, offset, bytes.as_slice());
+}
+
+/// The map of the frame, sixteen bytes: of each window the handle and the logical page that it shows, two words, or FFFFh twice where it
+/// shows none. Mode 0 writes it at the first address, mode 1 makes the windows show what a map at the second address tells, mode 2
+/// does both, the second map read before the first is written, and mode 3 asks for its size alone, which is answered.
+///
+/// # Errors
+///
+/// `NoSubfunction` for another mode. `BadMap` where the map that is read names a handle that is not in use or a page that the handle
+/// has not. Then nothing has changed.
+#[tactic(auto, unfolding(crate::specs::Maps::whole_map))]
+pub fn whole_map(
+    ems: &Ems,
+    space: &mut Space,
+    mode: u8,
+    to_segment: u16,
+    to_offset: u16,
+    from_segment: u16,
+    from_offset: u16,
+) -> Result<Option<u8>, Status>
+    requires { IsLinked (expanded ems.now space.old.memory) }
+    ensures answer { result ≡ answer (whole_map (expanded ems.now space.old.memory) mode to_segment to_offset from_segment from_offset) }
+    ensures left { expanded ems.now space.new.memory ≡ left (expanded ems.now space.old.memory) (whole_map (expanded ems.now space.old.memory) mode to_segment to_offset from_segment from_offset) }
+    ensures kept { space.new ≡ record space.old { memory = space.new.memory } }
+{
+    if mode == 0 {
+        write_map(ems, space, to_segment, to_offset);
+        return Ok(None);
+    }
+    if mode == 3 {
+        return Ok(Some(SIZE));
+    }
+    if mode > 3 {
+        return Err(Status::NoSubfunction);
+    }
+    let Some(windows) = map_at(ems, space, from_segment, from_offset) else {
+        return Err(Status::BadMap);
+    };
+    if mode == 1 {
+        set_windows(space, windows);
+        return Ok(None);
+    }
+    write_map(ems, space, to_segment, to_offset);
+    set_windows(space, windows);
+    Ok(None)
+}

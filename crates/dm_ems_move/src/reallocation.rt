@@ -1,0 +1,79 @@
+//! Another number of pages for a handle (LIM EMS 4.0, function 18; INT 67h, 51h).
+
+ghost use Rattle.std.specs.Prelude.{◌≡◌, ◌+◌, ◌≤◌, length, Some};
+ghost use Rattle.dm_ems.specs.Tables.{expanded, appended};
+ghost use Rattle.dm_ems.specs.Linked.{IsLinked};
+ghost use Rattle.dm_ems.specs.Calls.{answer, left};
+ghost use Rattle.dm_ems_move.specs.Reallocation.{reallocate, reallocated};
+
+use dm_ems::{Ems, Status};
+use dm_space::Space;
+
+/// How many pages a handle has after a call that was to give it another number of them.
+#[derive(Clone, Copy, Debug, PartialEq, Eq)]
+pub struct Reallocated {
+    /// Its pages.
+    pub pages: u16,
+    /// Why it has as many as before.
+    pub refused: Option<Status>,
+}
+
+fn refused(pages: u16, status: Status) -> Reallocated
+    ensures { result ≡ reallocated pages (Some status) }
+{
+    Reallocated {
+        pages,
+        refused: Some(status),
+    }
+}
+
+/// Adds pages of zeros behind those of a handle.
+fn append_pages(ems: &mut Ems, space: &mut Space, handle: u16, count: u16)
+    requires { length ems.old.pages + count ≤ ems.old.total }
+    ensures left { expanded ems.new space.new.memory ≡ appended (expanded ems.old space.old.memory) handle count }
+    ensures kept { space.new ≡ record space.old { memory = space.new.memory } }
+{
+    for _ in 0..count {
+        ems.append(space, handle);
+    }
+}
+
+/// Gives a handle `count` pages in all. Its first ones stay; those behind `count` leave all windows and all saved windows; new ones, behind
+/// the others, are zeros. Where there are not enough (`OverTotal`, `OverFree`, in this order), nothing has changed, and the answer has the
+/// number of pages as it is.
+///
+/// # Errors
+///
+/// `UnknownHandle`. Then nothing has changed.
+#[tactic(auto, unfolding(crate::specs::Reallocation::reallocate))]
+pub fn reallocate(
+    ems: &mut Ems,
+    space: &mut Space,
+    handle: u16,
+    count: u16,
+) -> Result<Reallocated, Status>
+    requires { IsLinked (expanded ems.old space.old.memory) }
+    ensures answer { result ≡ answer (reallocate (expanded ems.old space.old.memory) handle count) }
+    ensures left { expanded ems.new space.new.memory ≡ left (expanded ems.old space.old.memory) (reallocate (expanded ems.old space.old.memory) handle count) }
+    ensures kept { space.new ≡ record space.old { memory = space.new.memory } }
+{
+    if ems.slot(handle).is_none() {
+        return Err(Status::UnknownHandle);
+    }
+    let pages = ems.page_count(handle);
+    if count > ems.total() {
+        return Ok(refused(pages, Status::OverTotal));
+    }
+    if count.saturating_sub(pages) > ems.unallocated(space) {
+        return Ok(refused(pages, Status::OverFree));
+    }
+    if count < pages {
+        ems.cut(space, handle, count as usize);
+    } else {
+        append_pages(ems, space, handle, count - pages);
+    }
+    Ok(Reallocated {
+        pages: count,
+        refused: None,
+    })
+}

@@ -1,0 +1,252 @@
+//! Regions of memory that are moved or exchanged (LIM EMS 4.0, function 24; INT 67h, 57h).
+
+ghost use Rattle.std.specs.Prelude.{◌≡◌, ◌≤◌, ◌+◌, IfOk};
+ghost use Rattle.dm_ems.specs.Tables.{expanded};
+ghost use Rattle.dm_ems.specs.Linked.{IsLinked};
+ghost use Rattle.dm_ems.specs.Calls.{answer, left};
+ghost use Rattle.dm_moves.specs.Regions.{IsInside};
+ghost use Rattle.dm_ems_move.specs.RegionMoves.{conventional, expanded_region, region_of, regions_of, is_linear, are_mixed, move_between, exchange_between, move_region, exchange_region, moved_code};
+
+use crate::description::{DESTINATION, Description, SOURCE, described, length_at};
+use dm_ems::{Ems, Status};
+use dm_moves::{Kind, Region, exchange_bytes, move_bytes, overlap};
+use dm_space::Space;
+
+/// The most bytes that a call moves or exchanges: 1 MiB.
+const MOST: usize = 0x10_0000;
+
+/// Where conventional memory ends.
+const END: usize = 0x10_0000;
+
+/// How many bytes a page has.
+const PAGE: usize = 0x4000;
+
+/// How a move went.
+#[derive(Clone, Copy, Debug, PartialEq, Eq)]
+pub enum Moved {
+    /// The two regions share no byte.
+    Apart,
+    /// They share bytes, so some of the source were overwritten.
+    Overlapping,
+}
+
+impl Moved {
+    /// The status byte that a program finds in AH.
+    pub fn code(self) -> u8
+        ensures { result ≡ moved_code self }
+    {
+        match self {
+            Moved::Apart => 0,
+            Moved::Overlapping => 0x92,
+        }
+    }
+}
+
+/// The region of conventional memory that is described.
+fn conventional(described: Description, len: usize) -> Result<Region, Status>
+    requires { len ≤ 0x100000 }
+    ensures { result ≡ conventional described len }
+{
+    let start = described.page as usize * 16 + described.offset as usize;
+    if start + len > END {
+        return Err(Status::PastMemory);
+    }
+    Ok(Region::linear(start))
+}
+
+/// The region of pages that is described.
+fn expanded_region(ems: &Ems, described: Description, len: usize) -> Result<Region, Status>
+    requires { len ≤ 0x100000 }
+    ensures { result ≡ expanded_region ems.now described len }
+{
+    if ems.slot(described.handle).is_none() {
+        return Err(Status::UnknownHandle);
+    }
+    if described.offset > 0x3FFF {
+        return Err(Status::OffsetPastPage);
+    }
+    let pages = ems.page_count(described.handle);
+    if described.page >= pages {
+        return Err(Status::NoSuchPage);
+    }
+    let start = described.page as usize * PAGE + described.offset as usize;
+    if start + len > pages as usize * PAGE {
+        return Err(Status::PastPages);
+    }
+    Ok(Region::pages(ems.blocks(described.handle), start))
+}
+
+/// The region that is described.
+#[tactic(auto, unfolding(crate::specs::RegionMoves::region_of))]
+fn region_of(ems: &Ems, described: Description, len: usize) -> Result<Region, Status>
+    requires { len ≤ 0x100000 }
+    ensures { result ≡ region_of ems.now described len }
+{
+    if described.kind > 1 {
+        return Err(Status::UnknownKind);
+    }
+    if described.kind == 0 {
+        conventional(described, len)
+    } else {
+        expanded_region(ems, described, len)
+    }
+}
+
+/// The source and the destination.
+#[tactic(auto, unfolding(crate::specs::RegionMoves::regions_of))]
+fn regions_of(
+    ems: &Ems,
+    space: &Space,
+    segment: u16,
+    offset: u16,
+    len: usize,
+) -> Result<(Region, Region), Status>
+    requires { len ≤ 0x100000 }
+    ensures { result ≡ regions_of (expanded ems.now space.now.memory) segment offset len }
+{
+    match region_of(ems, described(space, segment, offset, SOURCE), len) {
+        Ok(from) => {
+            match region_of(ems, described(space, segment, offset, DESTINATION), len) {
+                Ok(to) => Ok((from, to)),
+                Err(status) => Err(status),
+            }
+        }
+        Err(status) => Err(status),
+    }
+}
+
+fn is_linear(region: &Region) -> bool
+    ensures { result ≡ is_linear region.now.kind }
+{
+    match region.kind() {
+        Kind::Linear => true,
+        Kind::Pages => false,
+        Kind::Single => false,
+    }
+}
+
+/// Whether one region is of conventional memory and the other is not.
+fn are_mixed(from: &Region, to: &Region) -> bool
+    ensures { result ≡ are_mixed from.now to.now }
+{
+    if is_linear(from) {
+        !is_linear(to)
+    } else {
+        is_linear(to)
+    }
+}
+
+#[tactic(auto, unfolding(crate::specs::RegionMoves::move_between))]
+fn move_between(
+    ems: &Ems,
+    space: &mut Space,
+    len: usize,
+    from: &Region,
+    to: &Region,
+) -> Result<Moved, Status>
+    requires len { len ≤ 0x100000 }
+    requires from { IsInside space.old.memory from.now len }
+    requires to { IsInside space.old.memory to.now len }
+    ensures answer { result ≡ answer (move_between (expanded ems.now space.old.memory) len from.now to.now) }
+    ensures left { expanded ems.now space.new.memory ≡ left (expanded ems.now space.old.memory) (move_between (expanded ems.now space.old.memory) len from.now to.now) }
+{
+    if !overlap(space, from, to, len) {
+        move_bytes(space, from, to, len);
+        return Ok(Moved::Apart);
+    }
+    if are_mixed(from, to) {
+        return Err(Status::KindsOverlap);
+    }
+    move_bytes(space, from, to, len);
+    Ok(Moved::Overlapping)
+}
+
+#[tactic(auto, unfolding(crate::specs::RegionMoves::exchange_between))]
+fn exchange_between(
+    ems: &Ems,
+    space: &mut Space,
+    len: usize,
+    from: &Region,
+    to: &Region,
+) -> Result<(), Status>
+    requires len { len ≤ 0x100000 }
+    requires from { IsInside space.old.memory from.now len }
+    requires to { IsInside space.old.memory to.now len }
+    ensures answer { result ≡ answer (exchange_between (expanded ems.now space.old.memory) len from.now to.now) }
+    ensures left { expanded ems.now space.new.memory ≡ left (expanded ems.now space.old.memory) (exchange_between (expanded ems.now space.old.memory) len from.now to.now) }
+{
+    if !overlap(space, from, to, len) {
+        exchange_bytes(space, from, to, len);
+        return Ok(());
+    }
+    if are_mixed(from, to) {
+        Err(Status::KindsOverlap)
+    } else {
+        Err(Status::ExchangeOverlaps)
+    }
+}
+
+/// Moves bytes between regions of conventional memory and of pages of handles. The structure at segment:offset has eighteen bytes: how
+/// many bytes (a double word), and for the source and then the destination a type (0 conventional memory, 1 pages), a handle, an offset
+/// (in the segment or in the page), and a segment or a logical page (words). The source is read whole before anything is
+/// written; `Overlapping` tells that both regions share a byte. The scratch bytes of the space are overwritten.
+///
+/// No bytes to move is `Apart`, whatever else the structure says.
+///
+/// # Errors
+///
+/// In this order: `TooLong` over 1 MiB; for the source and then the destination `UnknownKind` for another type, `PastMemory` where
+/// conventional memory is left, `UnknownHandle`, `OffsetPastPage`, `NoSuchPage`, `PastPages` where the handle's pages are left;
+/// `KindsOverlap` where a region of conventional memory shares a byte with one of pages. Then memory has not changed.
+#[tactic(auto, unfolding(crate::specs::RegionMoves::move_region))]
+pub fn move_region(ems: &Ems, space: &mut Space, segment: u16, offset: u16) -> Result<Moved, Status>
+    requires { IsLinked (expanded ems.now space.old.memory) }
+    ensures answer { result ≡ answer (move_region (expanded ems.now space.old.memory) segment offset) }
+    ensures left { expanded ems.now space.new.memory ≡ left (expanded ems.now space.old.memory) (move_region (expanded ems.now space.old.memory) segment offset) }
+{
+    let len = length_at(space, segment, offset);
+    if len == 0 {
+        return Ok(Moved::Apart);
+    }
+    if len > MOST {
+        return Err(Status::TooLong);
+    }
+    // What the call promises of their number is wanted for the proof alone.
+    let _pages = ems.pages();
+    match regions_of(ems, space, segment, offset, len) {
+        Ok((from, to)) => move_between(ems, space, len, &from, &to),
+        Err(status) => Err(status),
+    }
+}
+
+/// Exchanges the bytes of two regions, which are described as for [`move_region`]. Both are read whole before anything is written. The
+/// scratch bytes of the space are overwritten.
+///
+/// # Errors
+///
+/// Those of [`move_region`] in their order; then `ExchangeOverlaps` where the regions share a byte. Then memory has not changed.
+#[tactic(auto, unfolding(crate::specs::RegionMoves::exchange_region))]
+pub fn exchange_region(
+    ems: &Ems,
+    space: &mut Space,
+    segment: u16,
+    offset: u16,
+) -> Result<(), Status>
+    requires { IsLinked (expanded ems.now space.old.memory) }
+    ensures answer { result ≡ answer (exchange_region (expanded ems.now space.old.memory) segment offset) }
+    ensures left { expanded ems.now space.new.memory ≡ left (expanded ems.now space.old.memory) (exchange_region (expanded ems.now space.old.memory) segment offset) }
+{
+    let len = length_at(space, segment, offset);
+    if len == 0 {
+        return Ok(());
+    }
+    if len > MOST {
+        return Err(Status::TooLong);
+    }
+    // What the call promises of their number is wanted for the proof alone.
+    let _pages = ems.pages();
+    match regions_of(ems, space, segment, offset, len) {
+        Ok((from, to)) => exchange_between(ems, space, len, &from, &to),
+        Err(status) => Err(status),
+    }
+}

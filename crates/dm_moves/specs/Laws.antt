@@ -1,0 +1,9 @@
+-- That moves and exchanges keep the map of memory.
+use Rattle.std.specs.Prelude.{ℕ}
+use Rattle.dm_space.specs.Memory.{Memory}
+use Rattle.dm_space.specs.Places.{IsShaped}
+use Rattle.dm_moves.specs.Regions.{Region, moved, exchanged}
+
+pub record MovesKeepTheMap : Type 0 where
+  pub moving : (m : Memory) (from to : Region) (n : ℕ) → IsShaped m (moved m from to n)
+  pub exchanging : (m : Memory) (from to : Region) (n : ℕ) → IsShaped m (exchanged m from to n)

@@ -1,0 +1,4 @@
+pub mod Regions
+pub mod Overlaps
+pub mod Copying
+pub mod Laws

@@ -1,0 +1,35 @@
+-- Regions that overlap: they share a place (LIM EMS 4.0, function 24).
+use Rattle.std.specs.Prelude.{ℕ, zero, suc, ◌==◌, ◌&&◌, ◌||◌, Bool, false}
+use Rattle.dm_space.specs.declared.place.Place.{Place}
+use Rattle.dm_space.specs.declared.place.Place.TheVariants.{Low, Page, Rom, Nothing}
+use Rattle.dm_space.specs.Memory.{Memory}
+use Rattle.dm_moves.specs.Regions.{Region, place_in}
+
+-- both are one place, and not nothing
+abbrev pub is_shared : Place → Place → Bool
+is_shared (Low a) (Low b) = a == b
+is_shared (Low a) (Page q l) = false
+is_shared (Low a) (Rom b) = false
+is_shared (Low a) Nothing = false
+is_shared (Page p k) (Low b) = false
+is_shared (Page p k) (Page q l) = (p == q) && (k == l)
+is_shared (Page p k) (Rom b) = false
+is_shared (Page p k) Nothing = false
+is_shared (Rom a) (Low b) = false
+is_shared (Rom a) (Page q l) = false
+is_shared (Rom a) (Rom b) = a == b
+is_shared (Rom a) Nothing = false
+is_shared Nothing q = false
+
+-- some number below n passes
+abbrev pub any_below : ℕ → (ℕ → Bool) → Bool
+any_below zero f = false
+any_below (suc n) f = any_below n f || f n
+
+-- some number below n passes with one below l
+abbrev pub any_two : ℕ → ℕ → (ℕ → ℕ → Bool) → Bool
+any_two n l f = any_below n (λ i. any_below l (f i))
+
+-- a byte of the one and a byte of the other, of n bytes each, have one place
+unfoldable pub overlap : Memory → Region → Region → ℕ → Bool
+overlap m from to n = any_two n n (λ i j. is_shared (place_in m from i) (place_in m to j))

@@ -1,0 +1,110 @@
+//! Bytes of regions, copied through the scratch bytes.
+
+ghost use Rattle.std.specs.Prelude.{◌≡◌, ◌+◌, ◌%◌, ◌<◌, ◌≤◌};
+ghost use Rattle.dm_moves.specs.Copying.{read_in, written_out};
+ghost use Rattle.dm_moves.specs.Regions.{moved, exchanged, IsInside};
+
+use crate::regions::{Kind, PAGE, Region};
+use dm_space::Space;
+
+/// How many of the next `left` bytes have places side by side for sure, from a byte on.
+pub(crate) fn run_len(at: usize, left: usize) -> usize
+    requires { 0 < left }
+    ensures some { 0 < result }
+    ensures left { result ≤ left }
+    ensures run { at % 0x4000 + result ≤ 0x4000 }
+{
+    (PAGE - at % PAGE).min(left)
+}
+
+/// Reads `len` bytes of a region from its byte `k` on, a run of them, into the scratch bytes from `at` on.
+fn read_run(space: &mut Space, region: &Region, k: usize, at: usize, len: usize)
+    requires inside { IsInside space.old.memory region.now (k + len) }
+    requires some { 0 < len }
+    requires run { (region.now.start + k) % 0x4000 + len ≤ 0x4000 }
+    requires scratch { at + len ≤ 0x200000 }
+    ensures { space.new ≡ read_in space.old region.now k at len }
+{
+    let _sizes = space.a20();
+    let from = region.at(k);
+    match region.kind() {
+        Kind::Linear => space.copy_in(from, at, len),
+        Kind::Pages => space.copy_block_in(region.blocks()[from / PAGE], from % PAGE, at, len),
+        Kind::Single => space.copy_block_in(region.blocks()[0], from, at, len),
+    }
+}
+
+/// Writes `len` scratch bytes from `at` on to a run of a region, from its byte `k` on.
+fn write_run(space: &mut Space, region: &Region, k: usize, at: usize, len: usize)
+    requires inside { IsInside space.old.memory region.now (k + len) }
+    requires some { 0 < len }
+    requires run { (region.now.start + k) % 0x4000 + len ≤ 0x4000 }
+    requires scratch { at + len ≤ 0x200000 }
+    ensures { space.new ≡ written_out space.old region.now k at len }
+{
+    let _sizes = space.a20();
+    let to = region.at(k);
+    match region.kind() {
+        Kind::Linear => space.copy_out(at, to, len),
+        Kind::Pages => space.copy_block_out(at, region.blocks()[to / PAGE], to % PAGE, len),
+        Kind::Single => space.copy_block_out(at, region.blocks()[0], to, len),
+    }
+}
+
+/// Reads the first `len` bytes of a region into the scratch bytes from `at` on.
+fn read(space: &mut Space, region: &Region, at: usize, len: usize)
+    requires inside { IsInside space.old.memory region.now len }
+    requires scratch { at + len ≤ 0x200000 }
+    ensures { space.new ≡ read_in space.old region.now 0 at len }
+{
+    let _sizes = space.a20();
+    let mut done = 0;
+    while done < len {
+        let run = run_len(region.at(done), len - done);
+        read_run(space, region, done, at + done, run);
+        done += run;
+    }
+}
+
+/// Writes `len` scratch bytes from `at` on to the first bytes of a region, upwards.
+fn write(space: &mut Space, at: usize, region: &Region, len: usize)
+    requires inside { IsInside space.old.memory region.now len }
+    requires scratch { at + len ≤ 0x200000 }
+    ensures { space.new ≡ written_out space.old region.now 0 at len }
+{
+    let _sizes = space.a20();
+    let mut done = 0;
+    while done < len {
+        let run = run_len(region.at(done), len - done);
+        write_run(space, region, done, at + done, run);
+        done += run;
+    }
+}
+
+/// Moves `len` bytes of a region to another: the source is read whole, and then written upwards. The scratch bytes are overwritten.
+pub fn move_bytes(space: &mut Space, from: &Region, to: &Region, len: usize)
+    requires from { IsInside space.old.memory from.now len }
+    requires to { IsInside space.old.memory to.now len }
+    requires scratch { len ≤ 0x200000 }
+    ensures { space.new.memory ≡ moved space.old.memory from.now to.now len }
+{
+    let _sizes = space.a20();
+    read(space, from, 0, len);
+    write(space, 0, to, len);
+}
+
+/// Exchanges `len` bytes of two regions: both are read whole, and then each is written upwards where the other was. The scratch bytes are
+/// overwritten.
+pub fn exchange_bytes(space: &mut Space, from: &Region, to: &Region, len: usize)
+    requires from { IsInside space.old.memory from.now len }
+    requires to { IsInside space.old.memory to.now len }
+    requires scratch { len ≤ 0x100000 }
+    ensures { space.new.memory ≡ exchanged space.old.memory from.now to.now len }
+{
+    let _sizes = space.a20();
+    let (first, second) = (0, len);
+    read(space, from, first, len);
+    read(space, to, second, len);
+    write(space, first, to, len);
+    write(space, second, from, len);
+}

@@ -1,0 +1,110 @@
+//! Regions of memory.
+
+ghost use Rattle.std.specs.Prelude.{◌≡◌, ◌+◌, ◌^◌, ◌<◌, ◌∷◌, []};
+ghost use Rattle.dm_moves.specs.Regions.{region, place_in, IsInside};
+
+use arrayvec::ArrayVec;
+use dm_pool::Block;
+use dm_space::{Place, Space};
+use std::marker::Model;
+
+/// How many bytes a page of expanded memory has.
+pub(crate) const PAGE: usize = 0x4000;
+
+/// What a region lies in.
+#[derive(Clone, Copy, Debug, PartialEq, Eq)]
+pub enum Kind {
+    /// Linear addresses, with A20 on.
+    Linear,
+    /// Pages, one behind the other.
+    Pages,
+    /// A block of the pool.
+    Single,
+}
+
+/// Where a region begins. Its bytes are counted from there; how many there are is told where it is used.
+#[derive(Drop)]
+pub struct Region {
+    kind: Kind,
+    start: usize,
+    blocks: ArrayVec<Block, 512>,
+}
+
+impl Model for Region {
+    ghost use Rattle.dm_moves.specs.Regions.{Region, region};
+
+    ghost Value = { Region };
+
+    ghost view = { λ r. region r.kind r.start r.blocks.items };
+}
+
+impl Region {
+    /// The region from a linear address on.
+    pub fn linear(address: usize) -> Region
+        ensures { result ≡ region Kind.Linear address [] }
+    {
+        Region {
+            kind: Kind::Linear,
+            start: address,
+            blocks: ArrayVec::new(),
+        }
+    }
+
+    /// The region from a byte of pages on, which are counted through.
+    pub fn pages(blocks: ArrayVec<Block, 512>, start: usize) -> Region
+        ensures { result ≡ region Kind.Pages start blocks.items }
+    {
+        Region {
+            kind: Kind::Pages,
+            start,
+            blocks,
+        }
+    }
+
+    /// The region from a byte of a block on.
+    pub fn block(block: Block, start: usize) -> Region
+        ensures { result ≡ region Kind.Single start (block ∷ []) }
+    {
+        let mut blocks = ArrayVec::new();
+        blocks.push(block);
+        Region {
+            kind: Kind::Single,
+            start,
+            blocks,
+        }
+    }
+
+    /// What it lies in.
+    pub fn kind(&self) -> Kind
+        ensures { result ≡ self.now.kind }
+    {
+        self.kind
+    }
+
+    /// Where its byte `k` stands, counted from linear address 0, or from the first byte of the pages or of the block.
+    pub(crate) fn at(&self, k: usize) -> usize
+        requires { self.now.start + k < 2 ^ 64 }
+        ensures { result ≡ self.now.start + k }
+    {
+        self.start + k
+    }
+
+    pub(crate) fn blocks(&self) -> &[Block]
+        ensures { result.now ≡ self.now.blocks }
+    {
+        self.blocks.as_slice()
+    }
+
+    /// The place of its byte `k`.
+    pub(crate) fn place(&self, space: &Space, k: usize) -> Place
+        requires { IsInside space.now.memory self.now (k + 1) }
+        ensures { result ≡ place_in space.now.memory self.now k }
+    {
+        let at = self.start + k;
+        match self.kind {
+            Kind::Linear => space.place(at),
+            Kind::Pages => Place::Page(self.blocks.as_slice()[at / PAGE], at % PAGE),
+            Kind::Single => Place::Page(self.blocks.as_slice()[0], at),
+        }
+    }
+}
