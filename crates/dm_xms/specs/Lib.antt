@@ -7,3 +7,4 @@ pub mod Blocks
 pub mod Uppers
 pub mod Walks
 pub mod Linked
+pub mod Laws

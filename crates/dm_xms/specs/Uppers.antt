@@ -1,5 +1,5 @@
 -- Upper memory blocks (XMS 3.0, functions 10h to 12h): paragraphs from segment D000h to DFFFh.
-use Rattle.std.specs.Prelude.{ℕ, ◌+◌, ◌-◌, max, Bool, nat_lt, ◌==◌, ◌||◌, if◌then◌else◌, List, [], ◌∷◌, length, map, position, remove, slice_get, slice_index_or, slice_set, Option, Some, None, Result, Ok, Err}
+use Rattle.std.specs.Prelude.{ℕ, ◌+◌, ◌-◌, max, Bool, nat_lt, ◌==◌, ◌||◌, if◌then◌else◌, List, [], ◌∷◌, length, map, position, count_by, insert, remove, slice_get, slice_index_or, slice_set, Option, Some, None, Result, Ok, Err}
 use Rattle.dm_pool.specs.declared.places.Place.{Place}
 use Rattle.dm_pool.specs.Gaps.{gaps, largest, lowest}
 use Rattle.dm_xms.specs.declared.tables.Upper.{Upper}
@@ -34,10 +34,12 @@ largest_upper us = largest (gaps (places_of us) all_paragraphs)
 abbrev pub lowest_upper : List Upper → ℕ → Option ℕ
 lowest_upper us n = lowest (places_of us) all_paragraphs n
 
--- a block at its place in the order
+abbrev pub is_below : ℕ → Upper → Bool
+is_below segment u = nat_lt u.segment segment
+
+-- a block at its place among rising ones
 abbrev pub inserted : Upper → List Upper → List Upper
-inserted u [] = u ∷ []
-inserted u (v ∷ vs) = if nat_lt u.segment v.segment then u ∷ v ∷ vs else v ∷ inserted u vs
+inserted u us = insert us (count_by (is_below u.segment) us) u
 
 abbrev pub with_uppers : Tables → List Upper → Tables
 with_uppers xms us = record xms { uppers = us }

@@ -6,12 +6,14 @@
 
 mod area;
 mod blocks;
+mod laws;
 mod line;
 mod status;
 mod tables;
 mod uppers;
 
 pub use blocks::{FreeMemory, HandleInformation};
+pub use laws::{calls_keep_the_link, writes_keep_the_link};
 pub use status::Status;
 pub use tables::{Handle, Upper, Xms};
 pub use uppers::UpperRefusal;
