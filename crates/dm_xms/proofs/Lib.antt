@@ -1,2 +1,3 @@
 pub mod Gaps
 pub mod Rising
+pub mod Linked

@@ -1,6 +1,6 @@
 -- That the tables of extended memory and the memory go together: each handle in use has a block of its own, as large as it says, that no
--- window shows, and A20 is as the tables say.
-use Rattle.std.specs.Prelude.{ℕ, ◌*◌, ◌≡◌, ◌≢◌, ◌<◌, false, List, length, slice_index_or, Option, Some, None, IfSome}
+-- window shows, and A20 is as the tables say. Windows show blocks that are there.
+use Rattle.std.specs.Prelude.{ℕ, ◌*◌, ◌≡◌, ◌≢◌, ◌<◌, true, false, List, length, slice_index_or, Option, Some, None, IfSome}
 use Rattle.dm_pool.specs.Blocks.{IsLive}
 use Rattle.dm_space.specs.Memory.{Memory, page_bytes}
 use Rattle.dm_space.specs.Unseen.{shows}
@@ -25,4 +25,5 @@ pub record IsLinked (x : Extended) : Type 0 where
   pub contents : length x.memory.blocks.contents ≡ 576
   pub blocks : (k : ℕ) → IfSome (handle_at x.xms.handles k) (IsExtended x.memory)
   pub apart : (j k : ℕ) → j ≢ k → IfSome (handle_at x.xms.handles j) (λ s. HasOther s (handle_at x.xms.handles k))
+  pub shown : (block : ℕ) → shows x.memory.windows block ≡ true → IsLive x.memory.blocks block
   pub line : x.memory.a20 ≡ is_on x.xms.global x.xms.local
