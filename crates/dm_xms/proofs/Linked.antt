@@ -1,6 +1,6 @@
 -- Each call keeps the tables and the memory together.
 use Rattle.std.proofs.Common.{◌≡◌, ◌≢◌, ℕ, zero, suc, ◌+◌, ◌-◌, ◌*◌, ◌<◌, ◌≤◌, ◌==◌, Bool, true, false, cond, List, [], ◌∷◌, ◌++◌, Option, Some, None, length, get_or, set, position, replicate, refl, sym, ◌∙◌, ap, subst, inl, inr, arith}
-use Rattle.std.specs.Prelude.{Result, Ok, Err, IfSome, is_none, is_some, nat_lt, if◌then◌else◌}
+use Rattle.std.specs.Prelude.{Result, Ok, Err, IfSome, is_none, nat_lt, remove, ◌||◌, if◌then◌else◌}
 use Rattle.std.proofs.Math.Bool.{true≢false}
 use Rattle.std.proofs.lemmas.Bool.{cases_eq}
 use Rattle.std.proofs.lemmas.List.{get_or-set_same, get_or-set_other, length-set, length-replicate, length-append, length-take-le}
@@ -17,7 +17,11 @@ use Rattle.dm_xms.specs.declared.status.Status.{Status}
 use Rattle.dm_xms.specs.declared.tables.Handle.{Handle}
 use Rattle.dm_xms.specs.Tables.{Tables, Extended, extended, new_tables}
 use Rattle.dm_xms.specs.Calls.{left, need, slot, with_slot}
-use Rattle.dm_xms.specs.declared.status.Status.TheVariants.{LineError, LineStillOn, NoMemory, NoHandleLeft, UnknownHandle, NotLocked, Locked, TooManyLocks}
+use Rattle.dm_xms.specs.declared.status.Status.TheVariants.{LineError, AreaTaken, AreaNotTaken, LineStillOn, NoMemory, NoHandleLeft, UnknownHandle, NotLocked, Locked, TooManyLocks}
+use Rattle.dm_xms.specs.Area.{take_area, release_area}
+use Rattle.dm_xms.specs.declared.tables.Upper.{Upper}
+use Rattle.dm_xms.specs.declared.uppers.UpperRefusal.TheVariants as refusal
+use Rattle.dm_xms.specs.Uppers.{first_segment, at_least_one, largest_upper, lowest_upper, inserted, with_uppers, new_upper, begins_at, room, request_upper, release_upper, resize_upper}
 use Rattle.dm_xms.specs.Line.{is_on, switched, enable_globally, disable_globally, enable_locally, disable_locally}
 use Rattle.dm_xms.specs.Blocks.{allocate, deallocate, lock, unlock, reallocate}
 use Rattle.dm_xms.specs.Laws.{StartIsLinked, CallsKeepTheLink, WritesKeepTheLink}
@@ -147,6 +151,62 @@ need_keeps x (Some v) e f l h = h v refl
 refused : {A : Type 0} (x : Extended) (e : Status) → IsLinked x → Keeps {A = A} x (Err e)
 refused x e l = record { kept = l }
 
+-- ---- rows of the tables alone
+
+pub record KeepsTables {A E : Type 0} (x : Extended) (r : Result (A × Tables) E) : Type 0 where
+  pub kept : IsLinked (extended (left x.xms r) x.memory)
+
+if_tables : {A E : Type 0} (x : Extended) (b : Bool) (r s : Result (A × Tables) E) → KeepsTables x r → KeepsTables x s → KeepsTables x (cond b r s)
+if_tables x true r s p q = p
+if_tables x false r s p q = q
+
+need_tables : {A B E : Type 0} (x : Extended) (o : Option A) (e : E) (f : A → Result (B × Tables) E) → IsLinked x → ((v : A) → o ≡ Some v → KeepsTables x (f v)) → KeepsTables x (need o e f)
+need_tables x None e f l h = record { kept = l }
+need_tables x (Some v) e f l h = h v refl
+
+refused_tables : {A E : Type 0} (x : Extended) (e : E) → IsLinked x → KeepsTables {A = A} x (Err e)
+refused_tables x e l = record { kept = l }
+
+-- ---- the high memory area and upper memory
+
+with_area : (x : Extended) (b : Bool) → IsLinked x → IsLinked (extended (record x.xms { area = b }) x.memory)
+with_area x b l = record { places = l.places; contents = l.contents; blocks = l.blocks; apart = l.apart; shown = l.shown; line = l.line }
+
+with_blocks_above : (x : Extended) (us : List Upper) → IsLinked x → IsLinked (extended (with_uppers x.xms us) x.memory)
+with_blocks_above x us l = record { places = l.places; contents = l.contents; blocks = l.blocks; apart = l.apart; shown = l.shown; line = l.line }
+
+take_keeps : (x : Extended) → IsLinked x → KeepsTables x (take_area x.xms)
+unfolding take_area
+take_keeps x l = if_tables x x.xms.area (Err AreaTaken) _ (refused_tables x AreaTaken l) (record { kept = with_area x true l })
+
+release_keeps : (x : Extended) → IsLinked x → KeepsTables x (release_area x.xms)
+unfolding release_area
+release_keeps x l = if_tables x x.xms.area _ (Err AreaNotTaken) (record { kept = with_area x false l }) (refused_tables x AreaNotTaken l)
+
+new_keeps : (x : Extended) (n : ℕ) (o : Option ℕ) → IsLinked x → KeepsTables x (new_upper x.xms n o)
+new_keeps x n None l = refused_tables x (refusal.Smaller (largest_upper x.xms.uppers)) l
+new_keeps x n (Some p) l = record { kept = with_blocks_above x (inserted (record { segment = first_segment + p; paragraphs = n }) x.xms.uppers) l }
+
+request_keeps : (x : Extended) (n : ℕ) → IsLinked x → KeepsTables x (request_upper x.xms n)
+unfolding request_upper
+request_keeps x n l =
+    if_tables x ((length x.xms.uppers == 64) || (largest_upper x.xms.uppers == 0)) (Err refusal.NoneFree) _ (refused_tables x refusal.NoneFree l)
+    (new_keeps x (at_least_one n) (lowest_upper x.xms.uppers (at_least_one n)) l)
+
+release_upper_keeps : (x : Extended) (segment : ℕ) → IsLinked x → KeepsTables x (release_upper x.xms segment)
+unfolding release_upper
+release_upper_keeps x segment l =
+    need_tables x (position (begins_at segment) x.xms.uppers) refusal.Unknown _ l (λ k e.
+    record { kept = with_blocks_above x (remove x.xms.uppers k) l })
+
+resize_upper_keeps : (x : Extended) (segment n : ℕ) → IsLinked x → KeepsTables x (resize_upper x.xms segment n)
+unfolding resize_upper
+resize_upper_keeps x segment n l =
+    need_tables x (position (begins_at segment) x.xms.uppers) refusal.Unknown _ l (λ k e.
+    if_tables x (nat_lt (room x.xms.uppers k segment) (at_least_one n)) (Err (refusal.Smaller (room x.xms.uppers k segment))) _
+    (refused_tables x (refusal.Smaller (room x.xms.uppers k segment)) l)
+    (record { kept = with_blocks_above x (set x.xms.uppers k (record { segment = segment; paragraphs = at_least_one n })) l }))
+
 -- ---- handles in use
 
 slot_cases : (hs : List (Option Handle)) (n : ℕ) (b : Bool) (s : Handle) → cond b None (handle_at hs (n - 1)) ≡ Some s → handle_at hs (n - 1) ≡ Some s
@@ -274,20 +334,12 @@ lock_keeps x n l =
     if_keeps x (s.locks == 255) (Err TooManyLocks) _ (refused x TooManyLocks l)
     (record { kept = locks_change x (n - 1) (s.locks + 1) s l (slot_at x.xms n s e) }))
 
-abbrev unlock_row : Tables → ℕ → Handle → Bool → Result (Unit {0} × Tables) Status
-unlock_row xms n s b = cond b (Err NotLocked) (Ok (tt, with_slot xms n (Some (record s { locks = s.locks - 1 }))))
-
-unlocked_if : (x : Extended) (n : ℕ) (s : Handle) (b : Bool) → slot x.xms n ≡ Some s → IsLinked x → IsLinked (extended (left x.xms (unlock_row x.xms n s b)) x.memory)
-unlocked_if x n s true e l = l
-unlocked_if x n s false e l = locks_change x (n - 1) (s.locks - 1) s l (slot_at x.xms n s e)
-
-unlocked : (x : Extended) (n : ℕ) (o : Option Handle) → slot x.xms n ≡ o → IsLinked x → IsLinked (extended (left x.xms (need o UnknownHandle (λ s. unlock_row x.xms n s (s.locks == 0)))) x.memory)
-unlocked x n None e l = l
-unlocked x n (Some s) e l = unlocked_if x n s (s.locks == 0) e l
-
-unlock_keeps : (x : Extended) (n : ℕ) → IsLinked x → IsLinked (extended (left x.xms (unlock x.xms n)) x.memory)
+unlock_keeps : (x : Extended) (n : ℕ) → IsLinked x → KeepsTables x (unlock x.xms n)
 unfolding unlock
-unlock_keeps x n l = unlocked x n (slot x.xms n) refl l
+unlock_keeps x n l =
+    need_tables x (slot x.xms n) UnknownHandle _ l (λ s e.
+    if_tables x (s.locks == 0) (Err NotLocked) _ (refused_tables x NotLocked l)
+    (record { kept = locks_change x (n - 1) (s.locks - 1) s l (slot_at x.xms n s e) }))
 
 -- ---- a block gets another size
 
@@ -386,6 +438,8 @@ disable_locally_keeps x l = disabled_if x (x.xms.local == 0) (is_on x.xms.global
 
 pub calls_keep : CallsKeepTheLink
 calls_keep = record {
+  taking_area = λ x l. (take_keeps x l).kept;
+  releasing_area = λ x l. (release_keeps x l).kept;
   enabling_globally = enable_keeps;
   disabling_globally = disable_keeps;
   enabling_locally = λ x l. (enable_locally_keeps x l).kept;
@@ -393,8 +447,11 @@ calls_keep = record {
   allocating = λ x kib l. (allocate_keeps x kib l).kept;
   deallocating = λ x n l. (deallocate_keeps x n l).kept;
   locking = λ x n l. (lock_keeps x n l).kept;
-  unlocking = unlock_keeps;
+  unlocking = λ x n l. (unlock_keeps x n l).kept;
   reallocating = λ x n kib l. (reallocate_keeps x n kib l).kept;
+  requesting = λ x n l. (request_keeps x n l).kept;
+  releasing = λ x s l. (release_upper_keeps x s l).kept;
+  resizing = λ x s n l. (resize_upper_keeps x s n l).kept;
 }
 
 -- ---- writes

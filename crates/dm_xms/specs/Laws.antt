@@ -6,6 +6,8 @@ use Rattle.dm_space.specs.Places.{IsShaped}
 use Rattle.dm_xms.specs.Tables.{Tables, Extended, extended, new_tables}
 use Rattle.dm_xms.specs.Linked.{IsLinked}
 use Rattle.dm_xms.specs.Calls.{left}
+use Rattle.dm_xms.specs.Area.{take_area, release_area}
+use Rattle.dm_xms.specs.Uppers.{request_upper, release_upper, resize_upper}
 use Rattle.dm_xms.specs.Line.{enable_globally, disable_globally, enable_locally, disable_locally}
 use Rattle.dm_xms.specs.Blocks.{allocate, deallocate, lock, unlock, reallocate}
 
@@ -14,6 +16,8 @@ abbrev pub StartIsLinked : Type 0
 StartIsLinked = (units : ℕ) (low : List ℕ) → IsLinked (extended new_tables (of_ram low (no_blocks units)))
 
 pub record CallsKeepTheLink : Type 0 where
+  pub taking_area : (x : Extended) → IsLinked x → IsLinked (extended (left x.xms (take_area x.xms)) x.memory)
+  pub releasing_area : (x : Extended) → IsLinked x → IsLinked (extended (left x.xms (release_area x.xms)) x.memory)
   pub enabling_globally : (x : Extended) → IsLinked x → IsLinked (enable_globally x)
   pub disabling_globally : (x : Extended) → IsLinked x → IsLinked (disable_globally x).1
   pub enabling_locally : (x : Extended) → IsLinked x → IsLinked (left x (enable_locally x))
@@ -23,6 +27,9 @@ pub record CallsKeepTheLink : Type 0 where
   pub locking : (x : Extended) (handle : ℕ) → IsLinked x → IsLinked (left x (lock x handle))
   pub unlocking : (x : Extended) (handle : ℕ) → IsLinked x → IsLinked (extended (left x.xms (unlock x.xms handle)) x.memory)
   pub reallocating : (x : Extended) (handle kib : ℕ) → IsLinked x → IsLinked (left x (reallocate x handle kib))
+  pub requesting : (x : Extended) (paragraphs : ℕ) → IsLinked x → IsLinked (extended (left x.xms (request_upper x.xms paragraphs)) x.memory)
+  pub releasing : (x : Extended) (segment : ℕ) → IsLinked x → IsLinked (extended (left x.xms (release_upper x.xms segment)) x.memory)
+  pub resizing : (x : Extended) (segment paragraphs : ℕ) → IsLinked x → IsLinked (extended (left x.xms (resize_upper x.xms segment paragraphs)) x.memory)
 
 -- a memory of the same map, as a write leaves it
 abbrev pub WritesKeepTheLink : Type 0

@@ -1,0 +1,45 @@
+-- Tables and memory go together after each call that a test makes.
+use Rattle.std.proofs.Common.{◌≡◌, ℕ, List, sym, subst}
+use Rattle.dm_pool.specs.Blocks.{Blocks, no_blocks}
+use Rattle.dm_space.specs.Memory.{Memory, of_ram}
+use Rattle.dm_xms.specs.Tables.{Tables, Extended, extended, new_tables}
+use Rattle.dm_xms.specs.Linked.{IsLinked}
+use Rattle.dm_xms.specs.Calls.{left}
+use Rattle.dm_xms.specs.Line.{enable_globally, disable_globally, enable_locally, disable_locally}
+use Rattle.dm_xms.specs.Blocks.{allocate, deallocate, lock, unlock, reallocate}
+use Rattle.dm_xms.proofs.Linked.{calls_keep, start_linked}
+
+same : (x y : Extended) → y ≡ x → IsLinked x → IsLinked y
+same x y e l = subst IsLinked (sym e) l
+
+pub starting : (units : ℕ) (xms : Tables) (blocks : Blocks) (m : Memory) → xms ≡ new_tables → blocks ≡ no_blocks units → m ≡ of_ram m.low blocks → IsLinked (extended xms m)
+starting units xms blocks m t e f =
+    subst (λ x. IsLinked (extended x m)) (sym t)
+    (subst (λ n. IsLinked (extended new_tables n)) (sym f) (subst (λ b. IsLinked (extended new_tables (of_ram m.low b))) (sym e) (start_linked units m.low)))
+
+pub enabling : (x y : Extended) → y ≡ enable_globally x → IsLinked x → IsLinked y
+enabling x y e l = same _ y e (calls_keep.enabling_globally x l)
+
+pub disabling : (x y : Extended) → y ≡ (disable_globally x).1 → IsLinked x → IsLinked y
+disabling x y e l = same _ y e (calls_keep.disabling_globally x l)
+
+pub enabling_locally : (x y : Extended) → y ≡ left x (enable_locally x) → IsLinked x → IsLinked y
+enabling_locally x y e l = same _ y e (calls_keep.enabling_locally x l)
+
+pub disabling_locally : (x y : Extended) → y ≡ (disable_locally x).1 → IsLinked x → IsLinked y
+disabling_locally x y e l = same _ y e (calls_keep.disabling_locally x l)
+
+pub allocating : (x y : Extended) (kib : ℕ) → y ≡ left x (allocate x kib) → IsLinked x → IsLinked y
+allocating x y kib e l = same _ y e (calls_keep.allocating x kib l)
+
+pub deallocating : (x y : Extended) (n : ℕ) → y ≡ left x (deallocate x n) → IsLinked x → IsLinked y
+deallocating x y n e l = same _ y e (calls_keep.deallocating x n l)
+
+pub locking : (x y : Extended) (n : ℕ) → y ≡ left x (lock x n) → IsLinked x → IsLinked y
+locking x y n e l = same _ y e (calls_keep.locking x n l)
+
+pub unlocking : (x : Extended) (xms : Tables) (n : ℕ) → xms ≡ left x.xms (unlock x.xms n) → IsLinked x → IsLinked (extended xms x.memory)
+unlocking x xms n e l = subst (λ t. IsLinked (extended t x.memory)) (sym e) (calls_keep.unlocking x n l)
+
+pub reallocating : (x y : Extended) (n kib : ℕ) → y ≡ left x (reallocate x n kib) → IsLinked x → IsLinked y
+reallocating x y n kib e l = same _ y e (calls_keep.reallocating x n kib l)
