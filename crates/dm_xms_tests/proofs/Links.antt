@@ -5,6 +5,8 @@ use Rattle.dm_space.specs.Memory.{Memory, of_ram}
 use Rattle.dm_xms.specs.Tables.{Tables, Extended, extended, new_tables}
 use Rattle.dm_xms.specs.Linked.{IsLinked}
 use Rattle.dm_xms.specs.Calls.{left}
+use Rattle.dm_xms.specs.Area.{take_area, release_area}
+use Rattle.dm_xms.specs.Uppers.{request_upper, release_upper, resize_upper}
 use Rattle.dm_xms.specs.Line.{enable_globally, disable_globally, enable_locally, disable_locally}
 use Rattle.dm_xms.specs.Blocks.{allocate, deallocate, lock, unlock, reallocate}
 use Rattle.dm_xms.proofs.Linked.{calls_keep, start_linked}
@@ -38,8 +40,28 @@ deallocating x y n e l = same _ y e (calls_keep.deallocating x n l)
 pub locking : (x y : Extended) (n : ℕ) → y ≡ left x (lock x n) → IsLinked x → IsLinked y
 locking x y n e l = same _ y e (calls_keep.locking x n l)
 
-pub unlocking : (x : Extended) (xms : Tables) (n : ℕ) → xms ≡ left x.xms (unlock x.xms n) → IsLinked x → IsLinked (extended xms x.memory)
-unlocking x xms n e l = subst (λ t. IsLinked (extended t x.memory)) (sym e) (calls_keep.unlocking x n l)
-
 pub reallocating : (x y : Extended) (n kib : ℕ) → y ≡ left x (reallocate x n kib) → IsLinked x → IsLinked y
 reallocating x y n kib e l = same _ y e (calls_keep.reallocating x n kib l)
+
+-- ---- calls on the tables alone
+
+of_tables : (x : Extended) (xms ys : Tables) → xms ≡ ys → IsLinked (extended ys x.memory) → IsLinked (extended xms x.memory)
+of_tables x xms ys e l = subst (λ t. IsLinked (extended t x.memory)) (sym e) l
+
+pub taking_area : (x : Extended) (xms : Tables) → xms ≡ left x.xms (take_area x.xms) → IsLinked x → IsLinked (extended xms x.memory)
+taking_area x xms e l = of_tables x xms _ e (calls_keep.taking_area x l)
+
+pub releasing_area : (x : Extended) (xms : Tables) → xms ≡ left x.xms (release_area x.xms) → IsLinked x → IsLinked (extended xms x.memory)
+releasing_area x xms e l = of_tables x xms _ e (calls_keep.releasing_area x l)
+
+pub requesting : (x : Extended) (xms : Tables) (n : ℕ) → xms ≡ left x.xms (request_upper x.xms n) → IsLinked x → IsLinked (extended xms x.memory)
+requesting x xms n e l = of_tables x xms _ e (calls_keep.requesting x n l)
+
+pub releasing : (x : Extended) (xms : Tables) (s : ℕ) → xms ≡ left x.xms (release_upper x.xms s) → IsLinked x → IsLinked (extended xms x.memory)
+releasing x xms s e l = of_tables x xms _ e (calls_keep.releasing x s l)
+
+pub resizing : (x : Extended) (xms : Tables) (s n : ℕ) → xms ≡ left x.xms (resize_upper x.xms s n) → IsLinked x → IsLinked (extended xms x.memory)
+resizing x xms s n e l = of_tables x xms _ e (calls_keep.resizing x s n l)
+
+pub unlocking : (x : Extended) (xms : Tables) (n : ℕ) → xms ≡ left x.xms (unlock x.xms n) → IsLinked x → IsLinked (extended xms x.memory)
+unlocking x xms n e l = of_tables x xms _ e (calls_keep.unlocking x n l)

@@ -46,7 +46,12 @@ fn blocks_are_locked_up_to_255_times(rt: HostRuntime) -> Result<(), Fail> {
     same(&rt, "once more", make(&mut e, Lock(1)), Err((0xAC, 0)));
     same(&rt, "locks", make(&mut e, Locks(1)), Ok(255));
     same(&rt, "locked", make(&mut e, Free(1)), Err((0xAB, 0)));
-    same(&rt, "the same size", make(&mut e, Resize(1, 1)), Err((0xAB, 0)));
+    same(
+        &rt,
+        "the same size",
+        make(&mut e, Resize(1, 1)),
+        Err((0xAB, 0)),
+    );
     for _ in 0..255 {
         same(&rt, "unlock", make(&mut e, Unlock(1)), Ok(0));
     }
@@ -63,7 +68,12 @@ fn there_are_sixty_four_handles(rt: HostRuntime) -> Result<(), Fail> {
         same(&rt, "handle", make(&mut e, Allocate(1)), Ok(k));
     }
     same(&rt, "none left", make(&mut e, Allocate(1)), Err((0xA1, 0)));
-    same(&rt, "nor for more", make(&mut e, Allocate(9)), Err((0xA1, 0)));
+    same(
+        &rt,
+        "nor for more",
+        make(&mut e, Allocate(9)),
+        Err((0xA1, 0)),
+    );
     same(&rt, "left", make(&mut e, Left(64)), Ok(0));
     same(&rt, "freed", make(&mut e, Free(9)), Ok(0));
     same(&rt, "left", make(&mut e, Left(64)), Ok(1));

@@ -47,8 +47,8 @@ pub(crate) enum Call {
 }
 
 use self::Call::{
-    Allocate, Free, Get, IsOn, Kib, Largest, Left, Lock, Locks, Off, OffLocally, On, OnLocally, Peek,
-    Put, Release, ReleaseArea, Request, Resize, ResizeUpper, TakeArea, Total, Unlock,
+    Allocate, Free, Get, IsOn, Kib, Largest, Left, Lock, Locks, Off, OffLocally, On, OnLocally,
+    Peek, Put, Release, ReleaseArea, Request, Resize, ResizeUpper, TakeArea, Total, Unlock,
 };
 
 /// What a call answers: a number, 0 where it has none, or an error code, with a number where it has one.
@@ -81,14 +81,22 @@ fn upper(res: Result<u16, UpperRefusal>) -> Answer {
 /// Calls that change nothing.
 fn ask(e: &Extended, call: Call) -> Answer {
     match call {
-        IsOn => Ok(e.space.a20() as usize),
-        Largest => number(e.xms.free_memory(&e.space).map(|free| free.largest as usize)),
-        Total => number(e.xms.free_memory(&e.space).map(|free| free.total as usize)),
-        Locks(handle) => number(e.xms.information(handle).map(|told| told.locks as usize)),
-        Left(handle) => number(e.xms.information(handle).map(|told| told.free as usize)),
-        Kib(handle) => number(e.xms.information(handle).map(|told| told.kib as usize)),
+        IsOn => Ok(e.space().a20() as usize),
+        Largest => number(
+            e.xms()
+                .free_memory(e.space())
+                .map(|free| free.largest as usize),
+        ),
+        Total => number(
+            e.xms()
+                .free_memory(e.space())
+                .map(|free| free.total as usize),
+        ),
+        Locks(handle) => number(e.xms().information(handle).map(|told| told.locks as usize)),
+        Left(handle) => number(e.xms().information(handle).map(|told| told.free as usize)),
+        Kib(handle) => number(e.xms().information(handle).map(|told| told.kib as usize)),
         Get(handle, at) => Ok(e.get(handle, at).unwrap_or(0xFF) as usize),
-        Peek(segment, offset) => Ok(e.space.peek(segment, offset) as usize),
+        Peek(segment, offset) => Ok(e.space().peek(segment, offset) as usize),
         _ => Ok(0),
     }
 }
@@ -96,8 +104,8 @@ fn ask(e: &Extended, call: Call) -> Answer {
 /// Calls of the high memory area, A20 and upper memory.
 fn switch(e: &mut Extended, call: Call) -> Answer {
     match call {
-        TakeArea => told(e.xms.take_area()),
-        ReleaseArea => told(e.xms.release_area()),
+        TakeArea => told(e.take_area()),
+        ReleaseArea => told(e.release_area()),
         On => {
             e.enable_globally();
             Ok(0)
@@ -105,10 +113,10 @@ fn switch(e: &mut Extended, call: Call) -> Answer {
         Off => told(e.disable_globally()),
         OnLocally => told(e.enable_locally()),
         OffLocally => told(e.disable_locally()),
-        Request(paragraphs) => upper(e.xms.request_upper(paragraphs).map(|block| block.segment)),
-        Release(segment) => upper(e.xms.release_upper(segment).map(|_| 0)),
+        Request(paragraphs) => upper(e.request_upper(paragraphs).map(|block| block.segment)),
+        Release(segment) => upper(e.release_upper(segment).map(|_| 0)),
         ResizeUpper(segment, paragraphs) => {
-            upper(e.xms.resize_upper(segment, paragraphs).map(|_| 0))
+            upper(e.resize_upper(segment, paragraphs).map(|_| 0))
         }
         _ => ask(e, call),
     }

@@ -2,15 +2,15 @@
 
 use dm_pool::{NewError, Sizes, Store};
 use dm_space::Space;
-use dm_xms::{Status, Xms};
+use dm_xms::{Status, Upper, UpperRefusal, Xms};
 use std::alloc::Global;
 use std::marker::Model;
 
 /// Tables and memory, which go together.
 #[derive(Drop)]
 pub(crate) struct Extended {
-    pub(crate) xms: Xms,
-    pub(crate) space: Space,
+    xms: Xms,
+    space: Space,
 }
 
 impl Model for Extended {
@@ -36,6 +36,38 @@ impl Extended {
             xms: Xms::new(),
             space,
         })
+    }
+
+    pub(crate) fn xms(&self) -> &Xms {
+        &self.xms
+    }
+
+    pub(crate) fn space(&self) -> &Space {
+        &self.space
+    }
+
+    pub(crate) fn take_area(&mut self) -> Result<(), Status> {
+        self.xms.take_area()
+    }
+
+    pub(crate) fn release_area(&mut self) -> Result<(), Status> {
+        self.xms.release_area()
+    }
+
+    pub(crate) fn request_upper(&mut self, paragraphs: u16) -> Result<Upper, UpperRefusal> {
+        self.xms.request_upper(paragraphs)
+    }
+
+    pub(crate) fn release_upper(&mut self, segment: u16) -> Result<(), UpperRefusal> {
+        self.xms.release_upper(segment)
+    }
+
+    pub(crate) fn resize_upper(
+        &mut self,
+        segment: u16,
+        paragraphs: u16,
+    ) -> Result<(), UpperRefusal> {
+        self.xms.resize_upper(segment, paragraphs)
     }
 
     pub(crate) fn enable_globally(&mut self) {

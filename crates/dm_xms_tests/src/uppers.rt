@@ -88,9 +88,19 @@ fn there_are_sixty_four_blocks(rt: HostRuntime) -> Result<(), Fail> {
         same(&rt, "segment", make(&mut e, Request(1)), Ok(0xD000 + k));
     }
     same(&rt, "no more", make(&mut e, Request(1)), Err((0xB1, 0)));
-    same(&rt, "nor larger", make(&mut e, Request(0xFFFF)), Err((0xB1, 0)));
+    same(
+        &rt,
+        "nor larger",
+        make(&mut e, Request(0xFFFF)),
+        Err((0xB1, 0)),
+    );
     same(&rt, "one goes", make(&mut e, Release(0xD020)), Ok(0));
-    same(&rt, "too large", make(&mut e, Request(0xFFFF)), Err((0xB0, 0xFC0)));
+    same(
+        &rt,
+        "too large",
+        make(&mut e, Request(0xFFFF)),
+        Err((0xB0, 0xFC0)),
+    );
     same(&rt, "one comes", make(&mut e, Request(2)), Ok(0xD040));
     Ok(())
 }
