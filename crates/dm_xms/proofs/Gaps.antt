@@ -66,6 +66,7 @@ free_up_to bs k l h each = clear bs k (l - k) by
     away : (b : Place) → (b.base + b.units ≤ k) ⊎ (l ≤ b.base) → overlaps b k (l - k) ≡ false
     away b (inl p) = after b k (l - k) p
     away b (inr p) = before b k (l - k) (omega (arith, h, p))
+
     by : (i : ℕ) (b : Place) → i < length bs → get_or bs i None ≡ Some b → overlaps b k (l - k) ≡ false
     by i b lt at = away b (each i b at)
 

@@ -273,11 +273,14 @@ comes x k kib i t l within n =
       within = within;
       changed = n.changed;
       others = λ j ne. if_handle (handle_at x.xms.handles j) (IsExtended x.memory) (λ h. h.block ≢ i) (λ h p f. not_live x.memory.blocks i n.free (subst (IsLive x.memory.blocks) f p.live)) (l.blocks j);
-      new_block = (refl, record {
-        live = (omega (arith, n.within, l.places), (n.place, n.at));
-        size = n.size (omega (arith, n.within, l.places, l.contents)) ∙ omega arith;
-        hidden = hidden;
-      });
+      new_block = (
+        refl,
+        record {
+          live = (omega (arith, n.within, l.places), (n.place, n.at));
+          size = n.size (omega (arith, n.within, l.places, l.contents)) ∙ omega arith;
+          hidden = hidden;
+        },
+      );
       hidden = hidden;
     }
 
@@ -379,11 +382,14 @@ grows x k kib s t l e r =
       within = there_at x.xms.handles k s e;
       changed = z.changed;
       others = others_at x k s l e;
-      new_block = (refl, record {
-        live = (old.live.0, (z.place, z.at (omega (arith, old.live.0, l.places))));
-        size = z.size (omega (arith, old.live.0, l.contents)) ∙ omega arith;
-        hidden = old.hidden;
-      });
+      new_block = (
+        refl,
+        record {
+          live = (old.live.0, (z.place, z.at (omega (arith, old.live.0, l.places))));
+          size = z.size (omega (arith, old.live.0, l.contents)) ∙ omega arith;
+          hidden = old.hidden;
+        },
+      );
       hidden = old.hidden;
     }
 

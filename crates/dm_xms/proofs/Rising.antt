@@ -64,7 +64,7 @@ apart_of : (from : ℕ) (u : Upper) (us : List Upper) → 0xD000 ≤ from → 0x
 apart_of from u [] d e r each = tt
 apart_of from u (v ∷ vs) d e r each =
     let here : (v.segment + v.paragraphs ≤ u.segment) ⊎ (u.segment + u.paragraphs ≤ v.segment) =
-        elim (each 0 (record { base = v.segment - 0xD000; units = v.paragraphs }) refl) [ inl p ↦ inl (omega (arith, p, d, e, r.0)) | inr p ↦ inr (omega (arith, p, d, e, r.0)) ]
+    elim (each 0 (record { base = v.segment - 0xD000; units = v.paragraphs }) refl) [ inl p ↦ inl (omega (arith, p, d, e, r.0)) | inr p ↦ inr (omega (arith, p, d, e, r.0)) ]
     in
     (here, apart_of (v.segment + v.paragraphs) u vs (omega (arith, d, r.0)) e r.2 (λ i b h. each (suc i) b h))
 

@@ -94,7 +94,7 @@ impl Xms {
         let Some(slot) = self.handle(handle) else {
             return Err(Status::UnknownHandle);
         };
-        if slot.locks > 0 {
+        if slot.is_locked() {
             return Err(Status::Locked);
         }
         space.give(slot.block);
@@ -180,7 +180,7 @@ impl Xms {
         let Some(slot) = self.handle(handle) else {
             return Err(Status::UnknownHandle);
         };
-        if slot.locks > 0 {
+        if slot.is_locked() {
             return Err(Status::Locked);
         }
         if !space.resize(slot.block, kib as usize) {

@@ -1,6 +1,6 @@
 //! The tables of extended memory (XMS 3.0).
 
-ghost use Rattle.std.specs.Prelude.{◌≡◌, ◌<◌, ◌≤◌, ◌-◌, length, slice_set, position, is_none, count_by, IfSome};
+ghost use Rattle.std.specs.Prelude.{◌≡◌, ◌<◌, ◌≤◌, ◌-◌, length, slice_set, position, is_none, count_by, nat_lt, IfSome};
 ghost use Rattle.dm_xms.specs.Tables.{new_tables};
 ghost use Rattle.dm_xms.specs.Calls.{slot};
 
@@ -20,6 +20,15 @@ pub struct Handle {
     pub kib: u16,
     /// How often it is locked.
     pub locks: u8,
+}
+
+impl Handle {
+    /// Whether its block is locked.
+    pub(crate) fn is_locked(self) -> bool
+        ensures { result ≡ nat_lt 0 self.locks }
+    {
+        self.locks > 0
+    }
 }
 
 /// An upper memory block.
@@ -81,11 +90,7 @@ impl Xms {
             return None;
         }
         let at = handle as usize - 1;
-        if at < HANDLES {
-            self.handles[at]
-        } else {
-            None
-        }
+        if at < HANDLES { self.handles[at] } else { None }
     }
 
     pub(crate) fn set_handle(&mut self, handle: u16, slot: Option<Handle>)
