@@ -1,6 +1,6 @@
 -- Each call keeps the tables and the memory together.
-use Rattle.std.proofs.Common.{◌≡◌, ◌≢◌, ℕ, zero, suc, ◌+◌, ◌-◌, ◌*◌, ◌<◌, ◌≤◌, ◌==◌, Bool, true, false, cond, List, [], ◌∷◌, ◌++◌, Option, Some, None, length, get_or, set, position, replicate, refl, sym, ◌∙◌, ap, subst, inl, inr, arith}
-use Rattle.std.specs.Prelude.{Result, Ok, Err, IfSome, is_none, nat_lt, remove, ◌||◌, if◌then◌else◌}
+use Rattle.std.proofs.Common.{◌≡◌, ◌≢◌, ℕ, zero, suc, ◌+◌, ◌-◌, ◌*◌, ◌<◌, ◌==◌, Bool, true, false, cond, List, [], ◌∷◌, ◌++◌, Option, Some, None, length, get_or, set, position, replicate, refl, sym, ◌∙◌, ap, subst, inl, inr, arith}
+use Rattle.std.specs.Prelude.{Result, Ok, Err, IfSome, is_none, nat_lt, remove, ◌||◌}
 use Rattle.std.proofs.Math.Bool.{true≢false}
 use Rattle.std.proofs.lemmas.Bool.{cases_eq}
 use Rattle.std.proofs.lemmas.List.{get_or-set_same, get_or-set_other, length-set, length-replicate, length-append, length-take-le}
@@ -10,13 +10,13 @@ use Rattle.dm_pool.specs.declared.places.Place.{Place}
 use Rattle.dm_pool.specs.Gaps.{first_empty, lowest}
 use Rattle.dm_pool.specs.Blocks.{Blocks, IsLive, taken, placed, without, resized, moved, at_place, new_base, with_block, zeros, fitted, no_blocks}
 use Rattle.dm_pool.proofs.Blocks.{vacant}
-use Rattle.dm_space.specs.Memory.{Memory, page_bytes, with_blocks, with_a20, of_ram, no_windows}
+use Rattle.dm_space.specs.Memory.{Memory, with_blocks, with_a20}
 use Rattle.dm_space.specs.Places.{IsShaped}
 use Rattle.dm_space.specs.Unseen.{shows}
 use Rattle.dm_xms.specs.declared.status.Status.{Status}
 use Rattle.dm_xms.specs.declared.tables.Handle.{Handle}
-use Rattle.dm_xms.specs.Tables.{Tables, Extended, extended, new_tables}
-use Rattle.dm_xms.specs.Calls.{left, need, slot, with_slot}
+use Rattle.dm_xms.specs.Tables.{Tables, Extended, extended}
+use Rattle.dm_xms.specs.Calls.{left, need, slot}
 use Rattle.dm_xms.specs.declared.status.Status.TheVariants.{LineError, AreaTaken, AreaNotTaken, LineStillOn, NoMemory, NoHandleLeft, UnknownHandle, NotLocked, Locked, TooManyLocks}
 use Rattle.dm_xms.specs.Area.{take_area, release_area}
 use Rattle.dm_xms.specs.declared.tables.Upper.{Upper}

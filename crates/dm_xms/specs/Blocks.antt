@@ -1,12 +1,11 @@
 -- Extended memory blocks (XMS 3.0, functions 08h to 0Ah and 0Ch to 0Fh): each row's refusals in the order in which they are tried.
-use Rattle.std.specs.Prelude.{ℕ, zero, ◌+◌, ◌-◌, ◌*◌, min, nat_lt, ◌==◌, is_none, count_by, position, get_or, if◌then◌else◌, List, Option, Some, None, Result, Ok, Err}
+use Rattle.std.specs.Prelude.{ℕ, ◌+◌, ◌-◌, ◌*◌, min, nat_lt, ◌==◌, is_none, count_by, position, get_or, if◌then◌else◌, Option, Some, None, Result, Ok, Err}
 use Rattle.dm_pool.specs.declared.places.Place.{Place}
 use Rattle.dm_pool.specs.Blocks.{Blocks, taken, without, resized}
 use Rattle.dm_pool.specs.Gaps.{gaps, largest, free_units}
 use Rattle.dm_space.specs.Memory.{with_blocks}
 use Rattle.dm_xms.specs.declared.status.Status.{Status}
 use Rattle.dm_xms.specs.declared.status.Status.TheVariants.{NoMemory, NoHandleLeft, UnknownHandle, NotLocked, Locked, TooManyLocks}
-use Rattle.dm_xms.specs.declared.tables.Handle.{Handle}
 use Rattle.dm_xms.specs.declared.blocks.FreeMemory.{FreeMemory}
 use Rattle.dm_xms.specs.declared.blocks.HandleInformation.{HandleInformation}
 use Rattle.dm_xms.specs.Tables.{Tables, Extended}

@@ -3,7 +3,7 @@ use Rattle.std.specs.Prelude.{ℕ, List}
 use Rattle.dm_pool.specs.Blocks.{no_blocks}
 use Rattle.dm_space.specs.Memory.{Memory, of_ram}
 use Rattle.dm_space.specs.Places.{IsShaped}
-use Rattle.dm_xms.specs.Tables.{Tables, Extended, extended, new_tables}
+use Rattle.dm_xms.specs.Tables.{Extended, extended, new_tables}
 use Rattle.dm_xms.specs.Linked.{IsLinked}
 use Rattle.dm_xms.specs.Calls.{left}
 use Rattle.dm_xms.specs.Area.{take_area, release_area}

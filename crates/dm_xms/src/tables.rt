@@ -24,8 +24,8 @@ pub struct Handle {
 
 impl Handle {
     /// Whether its block is locked.
-    pub(crate) fn is_locked(self) -> bool
-        ensures { result ≡ nat_lt 0 self.locks }
+    pub(crate) fn is_locked(&self) -> bool
+        ensures { result ≡ nat_lt 0 self.now.locks }
     {
         self.locks > 0
     }

@@ -1,4 +1,4 @@
-use Rattle.std.proofs.Common.{◌≡◌, ◌≤◌, ◌+◌, ◌-◌, ◌∙◌, sym, subst, ap, arith, Some}
+use Rattle.std.proofs.Common.{◌≤◌, ◌+◌, ◌-◌, ◌∙◌, sym, subst, ap, arith}
 use Rattle.std.specs.Prelude.{position, slice_get}
 use Rattle.dm_xms.specs.Tables.{Tables, Rise}
 use Rattle.dm_xms.specs.Uppers.{begins_at, begin_or_end}
