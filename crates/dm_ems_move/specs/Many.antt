@@ -5,7 +5,8 @@ use Rattle.dm_ems.specs.declared.status.Status.{Status}
 use Rattle.dm_ems.specs.declared.status.Status.TheVariants.{UnknownHandle, NoSubfunction, NoSuchPage, NoSuchWindow}
 use Rattle.dm_ems.specs.Tables.{Expanded, blocks_of, with_windows}
 use Rattle.dm_ems.specs.Calls.{need, slot, with_memory}
-use Rattle.dm_ems_move.specs.Steps.{and_then, word_after}
+use Rattle.dm_moves.specs.Buffers.{word_after}
+use Rattle.dm_ems_move.specs.Steps.{and_then}
 
 -- the window that a number, or a segment, names
 abbrev pub window_of : Bool → ℕ → Option ℕ

@@ -8,7 +8,7 @@ use Rattle.dm_ems.specs.declared.tables.Page.{Page}
 use Rattle.dm_ems.specs.Tables.{Tables, Expanded, blocks_of, is_of, is_block, with_windows}
 use Rattle.dm_ems.specs.Calls.{need, with_memory}
 use Rattle.dm_ems.specs.Names.{word, writing}
-use Rattle.dm_ems_move.specs.Steps.{word_after}
+use Rattle.dm_moves.specs.Buffers.{word_after}
 
 -- ---- from windows to bytes
 

@@ -13,7 +13,8 @@ use Rattle.dm_ems.specs.Calls.{need, with_memory}
 use Rattle.dm_ems_move.specs.declared.description.Description.{Description}
 use Rattle.dm_ems_move.specs.declared.region_moves.Moved.{Moved}
 use Rattle.dm_ems_move.specs.declared.region_moves.Moved.TheVariants as moved_is
-use Rattle.dm_ems_move.specs.Steps.{and_then, word_after}
+use Rattle.dm_moves.specs.Buffers.{word_after}
+use Rattle.dm_ems_move.specs.Steps.{and_then}
 
 -- ---- the structure at segment:offset: how many bytes, a double word; then the source and the destination, seven bytes each
 

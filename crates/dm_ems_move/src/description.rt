@@ -3,7 +3,7 @@
 ghost use Rattle.std.specs.Prelude.{◌≡◌, ◌<◌, ◌^◌};
 ghost use Rattle.dm_ems_move.specs.RegionMoves.{length_at, described};
 
-use crate::buffer::{byte_after, word_after};
+use dm_moves::{byte_after, word_after};
 use dm_space::Space;
 
 /// Where the source stands in the structure.

@@ -2,7 +2,6 @@
 //! map of the frame, and regions of memory that are moved or exchanged.
 #![tactic(auto)]
 
-mod buffer;
 mod description;
 mod laws;
 mod many;

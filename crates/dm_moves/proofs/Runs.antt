@@ -3,7 +3,7 @@ use Rattle.std.proofs.Common.{◌≡◌, ℕ, zero, suc, ◌+◌, ◌/◌, ◌%�
 use Rattle.std.specs.Prelude.{slice_index}
 use Rattle.std.proofs.lemmas.List.{length-set, get_or_default}
 use Rattle.dm_region.specs.Parts.{part, with_part}
-use Rattle.dm_pool.specs.Blocks.{with_content}
+use Rattle.dm_pool.specs.Blocks.{with_content, moved_bytes}
 use Rattle.dm_pool.proofs.Blocks.{part_length, set_twice, twice, written, elsewhere}
 use Rattle.dm_region.proofs.Bytes.{length-with_part}
 use Rattle.dm_space.specs.declared.place.Place.TheVariants.{Page}
@@ -161,6 +161,23 @@ move-done h s t from to n fits e f =
     let vs = bytes_in h.memory from n in
     ap (λ (x : Held). x.memory) (f ∙ ap (λ (x : Held). written_out x to 0 0 n) e)
     ∙ ap (stored h.memory to 0) (written h.scratch vs 0 n (length-values (byte_in h.memory from) 0 n) (omega (arith, fits)))
+
+-- bytes of one block, written to another or the same
+pub blocks-done : (h : Held) (from to : Region) (p q n : ℕ) → from.kind ≡ Single → to.kind ≡ Single → p ≡ slice_index from.blocks 0 → q ≡ slice_index to.blocks 0 → 0 < n → IsInside h.memory from n → IsInside h.memory to n
+    → with_blocks h.memory (moved_bytes h.memory.blocks p (from.start + 0) q (to.start + 0) n) ≡ moved h.memory from to n
+blocks-done h from to p q n e f is js some inside there =
+    let m = h.memory in
+    let xs = part (page_bytes m p) (from.start + 0) n in
+    let in_from : from.start + 0 + n ≤ length (page_bytes m p) = subst (λ b. from.start + 0 + n ≤ length (page_bytes m b)) (sym is) (omega (arith, (single-of m from n inside e).2)) in
+    let in_to : to.start + 0 + n ≤ length (page_bytes m q) = subst (λ b. to.start + 0 + n ≤ length (page_bytes m b)) (sym js) (omega (arith, (single-of m to n there f).2)) in
+    let run : IsBlockRun from 0 p (from.start + 0) n = subst (λ b. IsBlockRun from 0 b (from.start + 0) n) (sym is) (single-run from 0 n e) in
+    let goes : IsBlockRun to 0 q (to.start + 0) n = subst (λ b. IsBlockRun to 0 b (to.start + 0) n) (sym js) (single-run to 0 n f) in
+    let read : xs ≡ bytes_in m from n = block-read m from 0 p (from.start + 0) n run in_from in
+    let long : length xs ≡ n = part_length (page_bytes m p) (from.start + 0) n in_from in
+    let back : n ≡ length xs = sym long in
+    let live = page-there m.blocks.contents q 0 (omega (arith, in_to, some)) in
+    sym (block-stored xs m to 0 q (to.start + 0) (subst (IsBlockRun to 0 q (to.start + 0)) back goes) live (omega (arith, in_to, long)) ∙ ap (λ j. with_run m (Page q (to.start + 0)) j xs) long)
+    ∙ ap (stored m to 0) read
 
 pub still-inside : (m : Memory) (t u : Held) (to from : Region) (at n len : ℕ) → t.memory ≡ m → u ≡ written_out t to 0 at n → IsInside m from len → IsInside u.memory from len
 still-inside m t u to from at n len e f inside =

@@ -4,12 +4,14 @@
 //! places lie side by side.
 #![tactic(auto)]
 
+mod buffers;
 mod copies;
 mod laws;
 mod overlaps;
 mod regions;
 
-pub use copies::{exchange_bytes, move_bytes};
+pub use buffers::{byte_after, word_after};
+pub use copies::{exchange_bytes, move_blocks, move_bytes};
 pub use laws::moves_keep_the_map;
 pub use overlaps::overlap;
 pub use regions::{Kind, Region};

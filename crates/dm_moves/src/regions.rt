@@ -82,7 +82,7 @@ impl Region {
     }
 
     /// Where its byte `k` stands, counted from linear address 0, or from the first byte of the pages or of the block.
-    pub(crate) fn at(&self, k: usize) -> usize
+    pub fn at(&self, k: usize) -> usize
         requires { self.now.start + k < 2 ^ 64 }
         ensures { result ≡ self.now.start + k }
     {

@@ -231,7 +231,8 @@ impl Store {
     /// The first unit of a block, counted from the pool's first; 0 for a block of no unit.
     pub fn base(&self, block: Block) -> usize
         requires { IsLive self.now.blocks block }
-        ensures { (units : _) × IsAt self.now.blocks block (record { base = result; units = units }) }
+        ensures place { (units : _) × IsAt self.now.blocks block (record { base = result; units = units }) }
+        ensures small { result < 2 ^ 31 }
     {
         place_of(&self.table, block).base
     }

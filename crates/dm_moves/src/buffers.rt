@@ -2,7 +2,7 @@
 
 ghost use Rattle.std.specs.Prelude.{◌≡◌, ◌<◌, ◌+◌, ◌%◌};
 ghost use Rattle.dm_space.specs.EightBytes.{byte_after};
-ghost use Rattle.dm_ems_move.specs.Steps.{word_after};
+ghost use Rattle.dm_moves.specs.Buffers.{word_after};
 
 use dm_space::Space;
 
@@ -15,7 +15,7 @@ fn onward(offset: u16, places: usize) -> u16
 }
 
 /// The byte so many places after segment:offset.
-pub(crate) fn byte_after(space: &Space, segment: u16, offset: u16, places: usize) -> u8
+pub fn byte_after(space: &Space, segment: u16, offset: u16, places: usize) -> u8
     requires { places < 0x100000 }
     ensures { result ≡ byte_after space.now.memory segment offset places }
 {
@@ -23,7 +23,7 @@ pub(crate) fn byte_after(space: &Space, segment: u16, offset: u16, places: usize
 }
 
 /// The word so many places after segment:offset.
-pub(crate) fn word_after(space: &Space, segment: u16, offset: u16, places: usize) -> u16
+pub fn word_after(space: &Space, segment: u16, offset: u16, places: usize) -> u16
     requires { places < 0x100000 }
     ensures { result ≡ word_after space.now.memory segment offset places }
 {

@@ -1,0 +1,4 @@
+pub mod Gaps
+pub mod Rising
+pub mod Linked
+pub mod Sides

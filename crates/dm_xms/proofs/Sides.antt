@@ -1,0 +1,11 @@
+-- What the kind of a side tells.
+use Rattle.std.proofs.Common.{◌≡◌, true, false, refl}
+use Rattle.std.proofs.Math.Bool.{true≢false}
+use Rattle.dm_moves.specs.declared.regions.Kind.{Kind}
+use Rattle.dm_moves.specs.declared.regions.Kind.TheVariants.{Linear, Pages, Single}
+use Rattle.dm_xms.specs.Sides.{is_single}
+
+pub single_kind : (k : Kind) → is_single k ≡ true → k ≡ Single
+single_kind Linear e = absurd cc
+single_kind Pages e = absurd cc
+single_kind Single e = refl

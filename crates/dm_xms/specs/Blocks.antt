@@ -1,0 +1,76 @@
+-- Extended memory blocks (XMS 3.0, functions 08h to 0Ah and 0Ch to 0Fh): each row's refusals in the order in which they are tried.
+use Rattle.std.specs.Prelude.{ℕ, ◌+◌, ◌-◌, ◌*◌, min, nat_lt, ◌==◌, is_none, count_by, position, get_or, if◌then◌else◌, Option, Some, None, Result, Ok, Err}
+use Rattle.dm_pool.specs.declared.places.Place.{Place}
+use Rattle.dm_pool.specs.Blocks.{Blocks, taken, without, resized}
+use Rattle.dm_pool.specs.Gaps.{gaps, largest, free_units}
+use Rattle.dm_space.specs.Memory.{with_blocks}
+use Rattle.dm_xms.specs.declared.status.Status.{Status}
+use Rattle.dm_xms.specs.declared.status.Status.TheVariants.{NoMemory, NoHandleLeft, UnknownHandle, NotLocked, Locked, TooManyLocks}
+use Rattle.dm_xms.specs.declared.blocks.FreeMemory.{FreeMemory}
+use Rattle.dm_xms.specs.declared.blocks.HandleInformation.{HandleInformation}
+use Rattle.dm_xms.specs.Tables.{Tables, Extended}
+use Rattle.dm_xms.specs.Calls.{need, slot, with_slot}
+
+-- the KiB of the largest gap of the pool
+abbrev pub largest_gap : Extended → ℕ
+largest_gap x = largest (gaps x.memory.blocks.places x.memory.blocks.units)
+
+-- the KiB in no block
+abbrev pub all_free : Extended → ℕ
+all_free x = free_units (gaps x.memory.blocks.places x.memory.blocks.units)
+
+-- what is free, in KiB; each is a word
+unfoldable pub free_memory : Extended → Result FreeMemory Status
+free_memory x = if largest_gap x == 0 then Err NoMemory else Ok (record { largest = min 0xFFFF (largest_gap x); total = min 0xFFFF (all_free x) })
+
+abbrev pub leaving : Extended → Tables → Blocks → Extended
+leaving x xms blocks = record { xms = xms; memory = with_blocks x.memory blocks }
+
+-- a new block of zeros in the lowest gap that holds it, under the lowest handle that is not in use; one of 0 KiB needs no gap
+unfoldable pub allocate : Extended → ℕ → Result (ℕ × Extended) Status
+allocate x kib =
+    need (position is_none x.xms.handles) NoHandleLeft (λ k.
+    need (taken x.memory.blocks kib) NoMemory (λ new.
+    Ok (k + 1, leaving x (with_slot x.xms (k + 1) (Some (record { block = new.0; kib = kib; locks = 0 }))) new.1)))
+
+unfoldable pub deallocate : Extended → ℕ → Result (Unit {0} × Extended) Status
+deallocate x handle =
+    need (slot x.xms handle) UnknownHandle (λ s.
+    if nat_lt 0 s.locks then Err Locked else
+    Ok (tt, leaving x (with_slot x.xms handle None) (without x.memory.blocks s.block)))
+
+-- the first unit of the block that lies there
+abbrev pub base_of : Option Place → ℕ
+base_of None = 0
+base_of (Some b) = b.base
+
+-- the linear address of a block's first byte; the pool lies behind the high memory area's 64 KiB
+abbrev pub address : Extended → ℕ → ℕ
+address x block = 0x110000 + 0x400 * base_of (get_or x.memory.blocks.places block None)
+
+-- one lock more, 255 at most; the answer is the block's linear address
+unfoldable pub lock : Extended → ℕ → Result (ℕ × Extended) Status
+lock x handle =
+    need (slot x.xms handle) UnknownHandle (λ s.
+    if s.locks == 255 then Err TooManyLocks else
+    Ok (address x s.block, record x { xms = with_slot x.xms handle (Some (record s { locks = s.locks + 1 })) }))
+
+unfoldable pub unlock : Tables → ℕ → Result (Unit {0} × Tables) Status
+unlock xms handle =
+    need (slot xms handle) UnknownHandle (λ s.
+    if s.locks == 0 then Err NotLocked else
+    Ok (tt, with_slot xms handle (Some (record s { locks = s.locks - 1 }))))
+
+unfoldable pub information : Tables → ℕ → Result HandleInformation Status
+information xms handle =
+    need (slot xms handle) UnknownHandle (λ s.
+    Ok (record { locks = s.locks; free = count_by is_none xms.handles; kib = s.kib }))
+
+-- a block gets another size: it stays where it is if it fits there, else it moves to the lowest gap beside its old place; new bytes are
+-- zeros
+unfoldable pub reallocate : Extended → ℕ → ℕ → Result (Unit {0} × Extended) Status
+reallocate x handle kib =
+    need (slot x.xms handle) UnknownHandle (λ s.
+    if nat_lt 0 s.locks then Err Locked else
+    need (resized x.memory.blocks s.block kib) NoMemory (λ blocks.
+    Ok (tt, leaving x (with_slot x.xms handle (Some (record s { kib = kib }))) blocks)))

@@ -1,0 +1,12 @@
+pub mod Status
+pub mod Tables
+pub mod Calls
+pub mod Area
+pub mod Line
+pub mod Blocks
+pub mod Uppers
+pub mod Walks
+pub mod Moves
+pub mod Sides
+pub mod Linked
+pub mod Laws

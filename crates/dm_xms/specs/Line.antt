@@ -1,0 +1,29 @@
+-- Address line A20 (XMS 3.0, functions 03h to 07h): it is on where the global switch is on or the local count isn't 0.
+use Rattle.std.specs.Prelude.{ℕ, ◌+◌, ◌-◌, Bool, true, false, not, ◌||◌, ◌==◌, if◌then◌else◌, Result, Ok, Err}
+use Rattle.dm_space.specs.Memory.{with_a20}
+use Rattle.dm_xms.specs.declared.status.Status.{Status}
+use Rattle.dm_xms.specs.declared.status.Status.TheVariants.{LineError, LineStillOn}
+use Rattle.dm_xms.specs.Tables.{Extended}
+
+abbrev pub is_on : Bool → ℕ → Bool
+is_on global local = global || not (local == 0)
+
+abbrev pub switched : Extended → Bool → ℕ → Extended
+switched x global local = record { xms = record x.xms { global = global; local = local }; memory = with_a20 x.memory (is_on global local) }
+
+unfoldable pub enable_globally : Extended → Extended
+enable_globally x = switched x true x.xms.local
+
+-- it acts also where the local count keeps the line on
+unfoldable pub disable_globally : Extended → (Result (Unit {0}) Status × Extended)
+disable_globally x = (if x.xms.local == 0 then Ok tt else Err LineStillOn, switched x false x.xms.local)
+
+-- the count is a word
+unfoldable pub enable_locally : Extended → Result (Unit {0} × Extended) Status
+enable_locally x = if x.xms.local == 0xFFFF then Err LineError else Ok (tt, switched x x.xms.global (x.xms.local + 1))
+
+-- at 0 it changes nothing; else it acts also where the line stays on
+unfoldable pub disable_locally : Extended → (Result (Unit {0}) Status × Extended)
+disable_locally x =
+    if x.xms.local == 0 then (Err LineError, x) else
+    (if is_on x.xms.global (x.xms.local - 1) then Err LineStillOn else Ok tt, switched x x.xms.global (x.xms.local - 1))

@@ -1,0 +1,29 @@
+-- That the tables of extended memory and the memory go together: each handle in use has a block of its own, as large as it says, that no
+-- window shows, and A20 is as the tables say. Windows show blocks that are there.
+use Rattle.std.specs.Prelude.{ℕ, ◌*◌, ◌≡◌, ◌≢◌, true, false, List, length, slice_index_or, Option, None, IfSome}
+use Rattle.dm_pool.specs.Blocks.{IsLive}
+use Rattle.dm_space.specs.Memory.{Memory, page_bytes}
+use Rattle.dm_space.specs.Unseen.{shows}
+use Rattle.dm_xms.specs.declared.tables.Handle.{Handle}
+use Rattle.dm_xms.specs.Tables.{Extended}
+use Rattle.dm_xms.specs.Line.{is_on}
+
+-- there is such a block, of so many KiB, and no window shows it
+pub record IsExtended (m : Memory) (s : Handle) : Type 0 where
+  pub live : IsLive m.blocks s.block
+  pub size : length (page_bytes m s.block) ≡ 0x400 * s.kib
+  pub hidden : shows m.windows s.block ≡ false
+
+abbrev pub HasOther : Handle → Option Handle → Type 0
+HasOther s t = IfSome t (λ other. other.block ≢ s.block)
+
+abbrev pub handle_at : List (Option Handle) → ℕ → Option Handle
+handle_at handles k = slice_index_or handles k None
+
+pub record IsLinked (x : Extended) : Type 0 where
+  pub places : length x.memory.blocks.places ≡ 576
+  pub contents : length x.memory.blocks.contents ≡ 576
+  pub blocks : (k : ℕ) → IfSome (handle_at x.xms.handles k) (IsExtended x.memory)
+  pub apart : (j k : ℕ) → j ≢ k → IfSome (handle_at x.xms.handles j) (λ s. HasOther s (handle_at x.xms.handles k))
+  pub shown : (block : ℕ) → shows x.memory.windows block ≡ true → IsLive x.memory.blocks block
+  pub line : x.memory.a20 ≡ is_on x.xms.global x.xms.local

@@ -1,0 +1,18 @@
+-- Where the bytes of a side of a move lie. No public contract mentions it.
+use Rattle.std.specs.Prelude.{◌≡◌, ◌⊎◌, ℕ, ◌+◌, ◌≤◌, ◌<◌, ◌^◌, Bool, true, false}
+use Rattle.dm_space.specs.Memory.{Memory}
+use Rattle.dm_moves.specs.declared.regions.Kind.{Kind}
+use Rattle.dm_moves.specs.declared.regions.Kind.TheVariants.{Linear, Pages, Single}
+use Rattle.dm_moves.specs.Regions.{IsInside}
+use Rattle.dm_xms.specs.declared.moves.Side.{Side}
+
+abbrev pub is_single : Kind → Bool
+is_single Linear = false
+is_single Pages = false
+is_single Single = true
+
+-- as many bytes as end before the side's end are inside memory; they are in a block, or have addresses
+pub record Reaches (m : Memory) (s : Side) : Type 0 where
+  pub small : s.region.start < 2 ^ 33
+  pub short : (is_single s.region.kind ≡ true) ⊎ (s.end ≤ 0x10FFF0)
+  pub inside : (n : ℕ) → s.region.start + n ≤ s.end → IsInside m s.region n

@@ -1,0 +1,90 @@
+-- Upper memory blocks (XMS 3.0, functions 10h to 12h): paragraphs from segment D000h to DFFFh.
+use Rattle.std.specs.Prelude.{ℕ, ◌+◌, ◌-◌, max, Bool, nat_lt, ◌==◌, ◌||◌, if◌then◌else◌, List, length, map, position, count_by, insert, remove, slice_get, slice_set, Option, Some, None, Result, Ok, Err}
+use Rattle.dm_pool.specs.declared.places.Place.{Place}
+use Rattle.dm_pool.specs.Gaps.{gaps, largest, lowest}
+use Rattle.dm_xms.specs.declared.tables.Upper.{Upper}
+use Rattle.dm_xms.specs.declared.uppers.UpperRefusal.{UpperRefusal}
+use Rattle.dm_xms.specs.declared.uppers.UpperRefusal.TheVariants as refusal
+use Rattle.dm_xms.specs.Tables.{Tables}
+use Rattle.dm_xms.specs.Calls.{need}
+
+-- the first segment, and how many paragraphs there are
+abbrev pub first_segment : ℕ
+first_segment = 0xD000
+
+abbrev pub all_paragraphs : ℕ
+all_paragraphs = 0x1000
+
+-- a request of no paragraph counts as one of 1
+abbrev pub at_least_one : ℕ → ℕ
+at_least_one n = max 1 n
+
+-- where a block lies among the paragraphs
+abbrev pub place_of : Upper → Option Place
+place_of u = Some (record { base = u.segment - first_segment; units = u.paragraphs })
+
+abbrev pub places_of : List Upper → List (Option Place)
+places_of us = map place_of us
+
+-- the paragraphs of the largest gap
+abbrev pub largest_upper : List Upper → ℕ
+largest_upper us = largest (gaps (places_of us) all_paragraphs)
+
+-- the lowest gap that holds so many paragraphs
+abbrev pub lowest_upper : List Upper → ℕ → Option ℕ
+lowest_upper us n = lowest (places_of us) all_paragraphs n
+
+abbrev pub is_below : ℕ → Upper → Bool
+is_below segment u = nat_lt u.segment segment
+
+-- a block at its place among rising ones
+abbrev pub inserted : Upper → List Upper → List Upper
+inserted u us = insert us (count_by (is_below u.segment) us) u
+
+abbrev pub with_uppers : Tables → List Upper → Tables
+with_uppers xms us = record xms { uppers = us }
+
+abbrev pub new_upper : Tables → ℕ → Option ℕ → Result (Upper × Tables) UpperRefusal
+new_upper xms n None = Err (refusal.Smaller (largest_upper xms.uppers))
+new_upper xms n (Some p) =
+    let u : Upper = record { segment = first_segment + p; paragraphs = n } in
+    Ok (u, with_uppers xms (inserted u xms.uppers))
+
+-- a new block at the low end of the lowest gap that holds it. Refused: where no paragraph is free, or there are 64 blocks; else where
+-- no gap holds it, with the paragraphs of the largest one
+unfoldable pub request_upper : Tables → ℕ → Result (Upper × Tables) UpperRefusal
+request_upper xms n =
+    if (length xms.uppers == 64) || (largest_upper xms.uppers == 0) then Err refusal.NoneFree else
+    new_upper xms (at_least_one n) (lowest_upper xms.uppers (at_least_one n))
+
+abbrev pub begins_at : ℕ → Upper → Bool
+begins_at segment u = u.segment == segment
+
+-- the block that begins at a segment goes
+unfoldable pub release_upper : Tables → ℕ → Result (Unit {0} × Tables) UpperRefusal
+release_upper xms segment =
+    need (position (begins_at segment) xms.uppers) refusal.Unknown (λ k.
+    Ok (tt, with_uppers xms (remove xms.uppers k)))
+
+-- where the block behind begins, or upper memory ends
+abbrev pub begin_or_end : Option Upper → ℕ
+begin_or_end None = first_segment + all_paragraphs
+begin_or_end (Some u) = u.segment
+
+-- how many paragraphs the block k, which begins at a segment, can have there
+abbrev pub room : List Upper → ℕ → ℕ → ℕ
+room us k segment = begin_or_end (slice_get us (k + 1)) - segment
+
+-- the block that begins at a segment gets another size where it lies. Refused: where no block begins there; else where it has no such
+-- room, with the room that it has
+unfoldable pub resize_upper : Tables → ℕ → ℕ → Result (Unit {0} × Tables) UpperRefusal
+resize_upper xms segment n =
+    need (position (begins_at segment) xms.uppers) refusal.Unknown (λ k.
+    if nat_lt (room xms.uppers k segment) (at_least_one n) then Err (refusal.Smaller (room xms.uppers k segment)) else
+    Ok (tt, with_uppers xms (slice_set xms.uppers k (record { segment = segment; paragraphs = at_least_one n }))))
+
+-- the error codes of refusals (XMS 3.0, appendix A)
+unfoldable pub code_of : UpperRefusal → ℕ
+code_of (refusal.Smaller n) = 0xB0
+code_of refusal.NoneFree = 0xB1
+code_of refusal.Unknown = 0xB2

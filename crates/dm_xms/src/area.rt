@@ -1,0 +1,44 @@
+//! The high memory area (XMS 3.0, functions 01h and 02h).
+
+ghost use Rattle.std.specs.Prelude.{◌≡◌};
+ghost use Rattle.dm_xms.specs.Calls.{answer, left};
+ghost use Rattle.dm_xms.specs.Area.{take_area, release_area};
+
+use crate::status::Status;
+use crate::tables::Xms;
+
+impl Xms {
+    /// Takes the high memory area.
+    ///
+    /// # Errors
+    ///
+    /// `AreaTaken`, and nothing has changed.
+    #[tactic(auto, unfolding(crate::specs::Area::take_area))]
+    pub fn take_area(&mut self) -> Result<(), Status>
+        ensures answer { result ≡ answer (take_area self.old) }
+        ensures left { self.new ≡ left self.old (take_area self.old) }
+    {
+        if self.area {
+            return Err(Status::AreaTaken);
+        }
+        self.area = true;
+        Ok(())
+    }
+
+    /// Gives the high memory area back.
+    ///
+    /// # Errors
+    ///
+    /// `AreaNotTaken`, and nothing has changed.
+    #[tactic(auto, unfolding(crate::specs::Area::release_area))]
+    pub fn release_area(&mut self) -> Result<(), Status>
+        ensures answer { result ≡ answer (release_area self.old) }
+        ensures left { self.new ≡ left self.old (release_area self.old) }
+    {
+        if !self.area {
+            return Err(Status::AreaNotTaken);
+        }
+        self.area = false;
+        Ok(())
+    }
+}

@@ -1,0 +1,192 @@
+//! Extended memory blocks (XMS 3.0, functions 08h to 0Ah and 0Ch to 0Fh).
+
+ghost use Rattle.std.specs.Prelude.{◌≡◌};
+ghost use Rattle.dm_xms.specs.Tables.{extended};
+ghost use Rattle.dm_xms.specs.Calls.{answer, left};
+ghost use Rattle.dm_xms.specs.Linked.{IsLinked};
+ghost use Rattle.dm_xms.specs.Blocks.{free_memory, allocate, deallocate, lock, unlock, information, reallocate};
+
+use crate::status::Status;
+use crate::tables::{Handle, Xms};
+use dm_space::Space;
+
+/// The linear address of the pool's first byte, behind the high memory area.
+const POOL: usize = 0x11_0000;
+
+/// How many bytes a unit of the pool has.
+const UNIT: usize = 0x400;
+
+/// What is free, in KiB; each number is FFFFh at most.
+#[derive(Clone, Copy, Debug)]
+pub struct FreeMemory {
+    /// The largest gap of the pool.
+    pub largest: u16,
+    /// All gaps together.
+    pub total: u16,
+}
+
+/// What is told of a handle.
+#[derive(Clone, Copy, Debug)]
+pub struct HandleInformation {
+    /// How often its block is locked.
+    pub locks: u8,
+    /// How many handles are not in use.
+    pub free: u8,
+    /// The KiB of its block.
+    pub kib: u16,
+}
+
+impl Xms {
+    /// What is free, in KiB.
+    ///
+    /// # Errors
+    ///
+    /// `NoMemory` where there is no gap.
+    #[tactic(auto, unfolding(crate::specs::Blocks::free_memory))]
+    pub fn free_memory(&self, space: &Space) -> Result<FreeMemory, Status>
+        ensures { result ≡ free_memory (extended self.now space.now.memory) }
+    {
+        let largest = space.largest();
+        if largest == 0 {
+            return Err(Status::NoMemory);
+        }
+        Ok(FreeMemory {
+            largest: largest.min(0xFFFF) as u16,
+            total: space.free().min(0xFFFF) as u16,
+        })
+    }
+
+    /// Gives a new block of so many KiB the lowest handle that is not in use, and answers the handle. The block has zeros and lies in
+    /// the lowest gap of the pool that holds it; one of 0 KiB needs none.
+    ///
+    /// # Errors
+    ///
+    /// In this order: `NoHandleLeft`; `NoMemory` where no gap holds the block. Then nothing has changed.
+    #[tactic(auto, unfolding(crate::specs::Blocks::allocate))]
+    pub fn allocate(&mut self, space: &mut Space, kib: u16) -> Result<u16, Status>
+        ensures answer { result ≡ answer (allocate (extended self.old space.old.memory) kib) }
+        ensures left { extended self.new space.new.memory ≡ left (extended self.old space.old.memory) (allocate (extended self.old space.old.memory) kib) }
+        ensures kept { space.new ≡ record space.old { memory = space.new.memory } }
+    {
+        let Some(at) = self.free_slot() else {
+            return Err(Status::NoHandleLeft);
+        };
+        let Some(block) = space.take(kib as usize) else {
+            return Err(Status::NoMemory);
+        };
+        let locks = 0;
+        self.set_handle(at + 1, Some(Handle { block, kib, locks }));
+        Ok(at + 1)
+    }
+
+    /// Frees a handle and its block.
+    ///
+    /// # Errors
+    ///
+    /// In this order: `UnknownHandle`; `Locked`. Then nothing has changed.
+    #[tactic(auto, unfolding(crate::specs::Blocks::deallocate))]
+    pub fn deallocate(&mut self, space: &mut Space, handle: u16) -> Result<(), Status>
+        requires { IsLinked (extended self.old space.old.memory) }
+        ensures answer { result ≡ answer (deallocate (extended self.old space.old.memory) handle) }
+        ensures left { extended self.new space.new.memory ≡ left (extended self.old space.old.memory) (deallocate (extended self.old space.old.memory) handle) }
+        ensures kept { space.new ≡ record space.old { memory = space.new.memory } }
+    {
+        let Some(slot) = self.handle(handle) else {
+            return Err(Status::UnknownHandle);
+        };
+        if slot.is_locked() {
+            return Err(Status::Locked);
+        }
+        space.give(slot.block);
+        self.set_handle(handle, None);
+        Ok(())
+    }
+
+    /// Locks the block of a handle once more, so that it stays where it is, and answers its linear address.
+    ///
+    /// # Errors
+    ///
+    /// In this order: `UnknownHandle`; `TooManyLocks` where it is locked 255 times. Then nothing has changed.
+    #[tactic(auto, unfolding(crate::specs::Blocks::lock))]
+    pub fn lock(&mut self, space: &Space, handle: u16) -> Result<usize, Status>
+        requires { IsLinked (extended self.old space.now.memory) }
+        ensures answer { result ≡ answer (lock (extended self.old space.now.memory) handle) }
+        ensures left { extended self.new space.now.memory ≡ left (extended self.old space.now.memory) (lock (extended self.old space.now.memory) handle) }
+    {
+        let Some(slot) = self.handle(handle) else {
+            return Err(Status::UnknownHandle);
+        };
+        if slot.locks == 255 {
+            return Err(Status::TooManyLocks);
+        }
+        let locks = slot.locks + 1;
+        self.set_handle(handle, Some(Handle { locks, ..slot }));
+        Ok(POOL + UNIT * space.base(slot.block))
+    }
+
+    /// Unlocks the block of a handle once.
+    ///
+    /// # Errors
+    ///
+    /// In this order: `UnknownHandle`; `NotLocked`. Then nothing has changed.
+    #[tactic(auto, unfolding(crate::specs::Blocks::unlock))]
+    pub fn unlock(&mut self, handle: u16) -> Result<(), Status>
+        ensures answer { result ≡ answer (unlock self.old handle) }
+        ensures left { self.new ≡ left self.old (unlock self.old handle) }
+    {
+        let Some(slot) = self.handle(handle) else {
+            return Err(Status::UnknownHandle);
+        };
+        if slot.locks == 0 {
+            return Err(Status::NotLocked);
+        }
+        let locks = slot.locks - 1;
+        self.set_handle(handle, Some(Handle { locks, ..slot }));
+        Ok(())
+    }
+
+    /// A block's locks and size, and how many handles are not in use.
+    ///
+    /// # Errors
+    ///
+    /// `UnknownHandle`.
+    #[tactic(auto, unfolding(crate::specs::Blocks::information))]
+    pub fn information(&self, handle: u16) -> Result<HandleInformation, Status>
+        ensures { result ≡ information self.now handle }
+    {
+        let Some(slot) = self.handle(handle) else {
+            return Err(Status::UnknownHandle);
+        };
+        Ok(HandleInformation {
+            locks: slot.locks,
+            free: self.free_handles(),
+            kib: slot.kib,
+        })
+    }
+
+    /// Makes the block of a handle so many KiB large. It stays where it is if it fits there, else it moves to the lowest gap that holds it
+    /// beside its old place. Its bytes up to the smaller size stay, new ones are zeros.
+    ///
+    /// # Errors
+    ///
+    /// In this order: `UnknownHandle`; `Locked`; `NoMemory` where it fits nowhere. Then nothing has changed.
+    #[tactic(auto, unfolding(crate::specs::Blocks::reallocate))]
+    pub fn reallocate(&mut self, space: &mut Space, handle: u16, kib: u16) -> Result<(), Status>
+        requires { IsLinked (extended self.old space.old.memory) }
+        ensures answer { result ≡ answer (reallocate (extended self.old space.old.memory) handle kib) }
+        ensures left { extended self.new space.new.memory ≡ left (extended self.old space.old.memory) (reallocate (extended self.old space.old.memory) handle kib) }
+        ensures kept { space.new ≡ record space.old { memory = space.new.memory } }
+    {
+        let Some(slot) = self.handle(handle) else {
+            return Err(Status::UnknownHandle);
+        };
+        if slot.is_locked() {
+            return Err(Status::Locked);
+        }
+        if !space.resize(slot.block, kib as usize) {
+            return Err(Status::NoMemory);
+        }
+        self.set_handle(handle, Some(Handle { kib, ..slot }));
+        Ok(())
+    }
+}

@@ -1,0 +1,15 @@
+//! That tables and memory stay together: laws, the contracts of functions that do nothing.
+
+ghost use Rattle.dm_xms.specs.Laws.{StartIsLinked, CallsKeepTheLink, WritesKeepTheLink};
+
+/// The laws that the tables of extended memory and the memory go together from the start, and after each call: each handle in use has
+/// a block of its own, as large as it says, that no window shows, and A20 is as the tables say. It does nothing when called.
+pub fn calls_keep_the_link()
+    ensures start { StartIsLinked }
+    ensures calls { CallsKeepTheLink }
+{}
+
+/// The law that they stay together while a program writes. It does nothing when called.
+pub fn writes_keep_the_link()
+    ensures { WritesKeepTheLink }
+{}

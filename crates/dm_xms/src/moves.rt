@@ -1,0 +1,171 @@
+//! Moves of extended memory blocks (XMS 3.0, function 0Bh).
+
+ghost use Rattle.std.specs.Prelude.{◌≡◌, ◌<◌, ◌≤◌, ◌+◌, ◌^◌, IfOk};
+ghost use Rattle.dm_xms.specs.Tables.{extended};
+ghost use Rattle.dm_xms.specs.Calls.{answer, left};
+ghost use Rattle.dm_xms.specs.Linked.{IsLinked};
+ghost use Rattle.dm_xms.specs.Sides.{is_single, Reaches};
+ghost use Rattle.dm_xms.specs.Moves.{double_after, described, side, move_between, move_memory};
+
+use crate::status::Status;
+use crate::tables::{Handle, Xms};
+use dm_moves::{Kind, Region, move_blocks, move_bytes, word_after};
+use dm_space::Space;
+
+/// Where memory ends that has addresses: behind the high memory area.
+const END: usize = 0x10_FFF0;
+
+/// How many bytes a KiB has.
+const KIB: usize = 0x400;
+
+/// Where the source stands in the structure.
+const SOURCE: usize = 4;
+
+/// Where the destination stands.
+const DESTINATION: usize = 10;
+
+/// One side of a move as it is described.
+#[derive(Clone, Copy, Debug)]
+pub struct Description {
+    /// Its handle, 0 for memory that has addresses.
+    pub handle: u16,
+    /// An offset in the block of the handle; for handle 0 an offset and a segment, the offset in the low word.
+    pub offset: u32,
+}
+
+/// One side of a move.
+#[derive(Drop)]
+pub struct Side {
+    /// Where it begins.
+    pub region: Region,
+    /// Where the memory ends in which it lies, counted as the region's start.
+    pub end: usize,
+}
+
+/// The double word so many places after segment:offset.
+fn double_after(space: &Space, segment: u16, offset: u16, places: usize) -> u32
+    requires { places < 0x1000 }
+    ensures { result ≡ double_after space.now.memory segment offset places }
+{
+    let low = word_after(space, segment, offset, places);
+    let high = word_after(space, segment, offset, places + 2);
+    low as u32 + 0x1_0000 * high as u32
+}
+
+/// The side that is described so many places after segment:offset.
+fn described(space: &Space, segment: u16, offset: u16, places: usize) -> Description
+    requires { places < 0x100 }
+    ensures { result ≡ described space.now.memory segment offset places }
+{
+    Description {
+        handle: word_after(space, segment, offset, places),
+        offset: double_after(space, segment, offset, places + 2),
+    }
+}
+
+/// Whether a side lies in a block.
+fn is_single(side: &Side) -> bool
+    ensures { result ≡ is_single side.now.region.kind }
+{
+    match side.region.kind() {
+        Kind::Linear => false,
+        Kind::Pages => false,
+        Kind::Single => true,
+    }
+}
+
+/// Moves `len` bytes of one side to the other, if both have as many.
+#[tactic(auto, unfolding(crate::specs::Moves::move_between), using(crate::proofs::Sides::single_kind))]
+fn move_between(
+    xms: &Xms,
+    space: &mut Space,
+    len: usize,
+    from: &Side,
+    to: &Side,
+) -> Result<(), Status>
+    requires len { len < 2 ^ 32 }
+    requires from { Reaches space.old.memory from.now }
+    requires to { Reaches space.old.memory to.now }
+    ensures answer { result ≡ answer (move_between (extended xms.now space.old.memory) len from.now to.now) }
+    ensures left { extended xms.now space.new.memory ≡ left (extended xms.now space.old.memory) (move_between (extended xms.now space.old.memory) len from.now to.now) }
+{
+    if from.end < from.region.at(len) || to.end < to.region.at(len) {
+        return Err(Status::BadLength);
+    }
+    if is_single(from) && is_single(to) {
+        move_blocks(space, &from.region, &to.region, len);
+    } else {
+        move_bytes(space, &from.region, &to.region, len);
+    }
+    Ok(())
+}
+
+impl Xms {
+    /// The side that is described, or which of two refusals.
+    #[tactic(auto, unfolding(crate::specs::Moves::side))]
+    fn side(
+        &self,
+        space: &Space,
+        described: Description,
+        unknown: Status,
+        past: Status,
+    ) -> Result<Side, Status>
+        requires { IsLinked (extended self.now space.now.memory) }
+        ensures side { result ≡ side (extended self.now space.now.memory) described unknown past }
+        ensures reaches { IfOk result (Reaches space.now.memory) }
+    {
+        let offset = described.offset as usize;
+        if described.handle == 0 {
+            let start = offset / 0x1_0000 * 16 + offset % 0x1_0000;
+            let region = Region::linear(start);
+            return Ok(Side { region, end: END });
+        }
+        let Some(slot) = self.handle(described.handle) else {
+            return Err(unknown);
+        };
+        let end = KIB * slot.kib as usize;
+        if offset > end {
+            return Err(past);
+        }
+        let region = Region::block(slot.block, offset);
+        Ok(Side { region, end })
+    }
+
+    /// Moves an even number of bytes from one block to another, within one, or between a block and memory that has addresses. The structure
+    /// at segment:offset has sixteen bytes: how many bytes (a double word), and for the source and then the destination a handle (a
+    /// word) and an offset (a double word). For handle 0 the offset is an offset and a segment, which are met with A20 on, up to
+    /// the end of the high memory area. The source is read whole before anything is written. The scratch bytes of the space
+    /// may be overwritten.
+    ///
+    /// # Errors
+    ///
+    /// In this order: `BadLength` for an odd number; `UnknownSource`, `PastSource`; `UnknownDestination`, `PastDestination`; `BadLength`
+    /// where the source or the destination has not so many bytes. Then memory has not changed.
+    #[tactic(auto, unfolding(crate::specs::Moves::move_memory))]
+    pub fn move_memory(&self, space: &mut Space, segment: u16, offset: u16) -> Result<(), Status>
+        requires { IsLinked (extended self.now space.old.memory) }
+        ensures answer { result ≡ answer (move_memory (extended self.now space.old.memory) segment offset) }
+        ensures left { extended self.now space.new.memory ≡ left (extended self.now space.old.memory) (move_memory (extended self.now space.old.memory) segment offset) }
+    {
+        let len = double_after(space, segment, offset, 0) as usize;
+        if len % 2 == 1 {
+            return Err(Status::BadLength);
+        }
+        let source = described(space, segment, offset, SOURCE);
+        match self.side(space, source, Status::UnknownSource, Status::PastSource) {
+            Ok(from) => {
+                let destination = described(space, segment, offset, DESTINATION);
+                match self.side(
+                    space,
+                    destination,
+                    Status::UnknownDestination,
+                    Status::PastDestination,
+                ) {
+                    Ok(to) => move_between(self, space, len, &from, &to),
+                    Err(status) => Err(status),
+                }
+            }
+            Err(status) => Err(status),
+        }
+    }
+}

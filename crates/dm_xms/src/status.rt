@@ -1,0 +1,65 @@
+//! What calls of the extended memory driver refuse (XMS 3.0, appendix A).
+
+ghost use Rattle.std.specs.Prelude.{◌≡◌};
+ghost use Rattle.dm_xms.specs.Status.{code_of};
+
+/// Why a call was refused.
+#[derive(Clone, Copy, Debug, PartialEq, Eq)]
+pub enum Status {
+    /// The local count of A20 is at its end.
+    LineError,
+    /// The high memory area is taken.
+    AreaTaken,
+    /// The high memory area is not taken.
+    AreaNotTaken,
+    /// A20 is still on.
+    LineStillOn,
+    /// No gap of the pool holds the block.
+    NoMemory,
+    /// All 64 handles are in use.
+    NoHandleLeft,
+    /// The handle is not in use.
+    UnknownHandle,
+    /// The handle of the source is not in use.
+    UnknownSource,
+    /// The offset of the source is behind its block's end.
+    PastSource,
+    /// The handle of the destination is not in use.
+    UnknownDestination,
+    /// The offset of the destination is behind its block's end.
+    PastDestination,
+    /// The length is odd, or the source or the destination has not so many bytes.
+    BadLength,
+    /// The block is not locked.
+    NotLocked,
+    /// The block is locked.
+    Locked,
+    /// The block is locked 255 times.
+    TooManyLocks,
+}
+
+impl Status {
+    /// The error code that a program finds in BL.
+    #[tactic(auto, unfolding(crate::specs::Status::code_of))]
+    pub fn code(self) -> u8
+        ensures { result ≡ code_of self }
+    {
+        match self {
+            Status::LineError => 0x82,
+            Status::AreaTaken => 0x91,
+            Status::AreaNotTaken => 0x93,
+            Status::LineStillOn => 0x94,
+            Status::NoMemory => 0xA0,
+            Status::NoHandleLeft => 0xA1,
+            Status::UnknownHandle => 0xA2,
+            Status::UnknownSource => 0xA3,
+            Status::PastSource => 0xA4,
+            Status::UnknownDestination => 0xA5,
+            Status::PastDestination => 0xA6,
+            Status::BadLength => 0xA7,
+            Status::NotLocked => 0xAA,
+            Status::Locked => 0xAB,
+            Status::TooManyLocks => 0xAC,
+        }
+    }
+}

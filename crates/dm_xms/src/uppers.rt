@@ -1,0 +1,218 @@
+//! Upper memory blocks (XMS 3.0, functions 10h to 12h): paragraphs from segment D000h to DFFFh.
+
+ghost use Rattle.std.specs.Prelude.{◌≡◌, ◌≤◌, ◌<◌, ◌+◌, ◌-◌, length, count_by, position, slice_get, slice_set, IfSome};
+ghost use Rattle.dm_pool.specs.Gaps.{largest, first_fit};
+ghost use Rattle.dm_xms.specs.Tables.{Rise};
+ghost use Rattle.dm_xms.specs.Calls.{answer, left};
+ghost use Rattle.dm_xms.specs.Uppers.{at_least_one, is_below, begins_at, begin_or_end, request_upper, release_upper, resize_upper, largest_upper, lowest_upper, code_of};
+ghost use Rattle.dm_xms.specs.Walks.{gaps_between, segment_of};
+
+use crate::tables::{Upper, Xms};
+use arrayvec::ArrayVec;
+
+/// The first segment of upper memory.
+const FIRST: u16 = 0xD000;
+
+/// The segment behind upper memory.
+const END: u16 = 0xE000;
+
+/// How many upper memory blocks there are at most.
+const MOST: usize = 64;
+
+/// Why a call on upper memory blocks was refused.
+#[derive(Clone, Copy, Debug, PartialEq, Eq)]
+pub enum UpperRefusal {
+    /// There are only so many paragraphs.
+    Smaller(u16),
+    /// No paragraph is free, or there are 64 blocks.
+    NoneFree,
+    /// No block begins there.
+    Unknown,
+}
+
+impl UpperRefusal {
+    /// The error code that a program finds in BL.
+    #[tactic(auto, unfolding(crate::specs::Uppers::code_of))]
+    pub fn code(self) -> u8
+        ensures { result ≡ code_of self }
+    {
+        match self {
+            UpperRefusal::Smaller(_) => 0xB0,
+            UpperRefusal::NoneFree => 0xB1,
+            UpperRefusal::Unknown => 0xB2,
+        }
+    }
+}
+
+/// The paragraphs of the largest gap between rising blocks, from a segment on.
+#[tactic(auto, using(crate::proofs::Gaps::first_ends))]
+fn largest_from(from: u16, uppers: &[Upper]) -> u16
+    requires from { 0xD000 ≤ from }
+    requires rise { Rise from uppers.now }
+    ensures { result ≡ largest (gaps_between (from - 0xD000) uppers.now) }
+{
+    match uppers {
+        [] => END - from,
+        [first, rest @ ..] => {
+            let gap = first.segment - from;
+            gap.max(largest_from(first.segment + first.paragraphs, rest))
+        }
+    }
+}
+
+/// The lowest segment from one on where a gap between rising blocks has so many paragraphs.
+#[tactic(auto, using(crate::proofs::Gaps::first_ends))]
+fn lowest_from(from: u16, uppers: &[Upper], paragraphs: u16) -> Option<u16>
+    requires from { 0xD000 ≤ from }
+    requires rise { Rise from uppers.now }
+    requires some { 0 < paragraphs }
+    ensures { result ≡ segment_of (first_fit (gaps_between (from - 0xD000) uppers.now) paragraphs) }
+{
+    match uppers {
+        [] => {
+            if paragraphs <= END - from {
+                Some(from)
+            } else {
+                None
+            }
+        }
+        [first, rest @ ..] => {
+            if paragraphs <= first.segment - from {
+                Some(from)
+            } else {
+                lowest_from(first.segment + first.paragraphs, rest, paragraphs)
+            }
+        }
+    }
+}
+
+/// How many blocks stand below a segment.
+fn count_below(uppers: &[Upper], segment: u16) -> usize
+    ensures count { result ≡ count_by (is_below segment) uppers.now }
+    ensures few { result ≤ length uppers.now }
+{
+    uppers
+        .iter()
+        .filter(|upper| upper.segment < segment)
+        .count()
+}
+
+/// Where the block stands that begins at a segment.
+fn first_at(uppers: &[Upper], segment: u16) -> Option<usize>
+    ensures first { result ≡ position (begins_at segment) uppers.now }
+    ensures there { IfSome result (λ k. k < length uppers.now) }
+{
+    uppers.iter().position(|upper| upper.segment == segment)
+}
+
+fn set_at(uppers: &mut ArrayVec<Upper, 64>, at: usize, upper: Upper)
+    requires { at < length uppers.old.items }
+    ensures { uppers.new.items ≡ slice_set uppers.old.items at upper }
+{
+    uppers[at] = upper;
+}
+
+impl Xms {
+    /// The paragraphs of the largest gap of upper memory.
+    #[tactic(auto, using(crate::proofs::Gaps::gaps_are_between))]
+    fn largest_upper(&self) -> u16
+        ensures { result ≡ largest_upper self.now.uppers }
+    {
+        largest_from(FIRST, self.uppers.as_slice())
+    }
+
+    /// The segment of the lowest gap of upper memory that holds so many paragraphs.
+    #[tactic(auto, using(crate::proofs::Gaps::first_fit_is_lowest))]
+    fn lowest_upper(&self, paragraphs: u16) -> Option<u16>
+        requires { 0 < paragraphs }
+        ensures { result ≡ segment_of (lowest_upper self.now.uppers paragraphs) }
+    {
+        lowest_from(FIRST, self.uppers.as_slice(), paragraphs)
+    }
+
+    /// Makes an upper memory block of so many paragraphs, at least 1, at the low end of the lowest gap that holds it, and answers it.
+    ///
+    /// # Errors
+    ///
+    /// In this order: `NoneFree` where no paragraph is free, or there are 64 blocks; `Smaller`, with the paragraphs of the largest gap,
+    /// where no gap holds it. Then nothing has changed.
+    #[tactic(auto, unfolding(crate::specs::Uppers::request_upper))]
+    pub fn request_upper(&mut self, paragraphs: u16) -> Result<Upper, UpperRefusal>
+        ensures answer { result ≡ answer (request_upper self.old paragraphs) }
+        ensures left { self.new ≡ left self.old (request_upper self.old paragraphs) }
+    {
+        let largest = self.largest_upper();
+        if self.uppers.len() == MOST || largest == 0 {
+            return Err(UpperRefusal::NoneFree);
+        }
+        let paragraphs = paragraphs.max(1);
+        let Some(segment) = self.lowest_upper(paragraphs) else {
+            return Err(UpperRefusal::Smaller(largest));
+        };
+        let upper = Upper {
+            segment,
+            paragraphs,
+        };
+        let at = count_below(self.uppers.as_slice(), segment);
+        self.uppers.insert(at, upper);
+        Ok(upper)
+    }
+
+    /// Frees the upper memory block that begins at a segment.
+    ///
+    /// # Errors
+    ///
+    /// `Unknown` where none begins there, and nothing has changed.
+    #[tactic(auto, unfolding(crate::specs::Uppers::release_upper))]
+    pub fn release_upper(&mut self, segment: u16) -> Result<(), UpperRefusal>
+        ensures answer { result ≡ answer (release_upper self.old segment) }
+        ensures left { self.new ≡ left self.old (release_upper self.old segment) }
+    {
+        let Some(at) = first_at(self.uppers.as_slice(), segment) else {
+            return Err(UpperRefusal::Unknown);
+        };
+        self.uppers.remove(at);
+        Ok(())
+    }
+
+    /// The segment behind block `at` of upper memory where the next one begins, or upper memory ends.
+    fn end_of_room(&self, at: usize) -> u16
+        requires { at < length self.now.uppers }
+        ensures { result ≡ begin_or_end (slice_get self.now.uppers (at + 1)) }
+    {
+        match self.uppers.as_slice().get(at + 1).copied() {
+            Some(upper) => upper.segment,
+            None => END,
+        }
+    }
+
+    /// Makes the upper memory block that begins at a segment so many paragraphs large, at least 1, where it lies.
+    ///
+    /// # Errors
+    ///
+    /// In this order: `Unknown` where none begins there; `Smaller`, with the paragraphs that it can have there. Then nothing has
+    /// changed.
+    #[tactic(auto, unfolding(crate::specs::Uppers::resize_upper))]
+    pub fn resize_upper(&mut self, segment: u16, paragraphs: u16) -> Result<(), UpperRefusal>
+        ensures answer { result ≡ answer (resize_upper self.old segment paragraphs) }
+        ensures left { self.new ≡ left self.old (resize_upper self.old segment paragraphs) }
+    {
+        let Some(at) = first_at(self.uppers.as_slice(), segment) else {
+            return Err(UpperRefusal::Unknown);
+        };
+        let room = self.end_of_room(at) - segment;
+        let paragraphs = paragraphs.max(1);
+        if room < paragraphs {
+            return Err(UpperRefusal::Smaller(room));
+        }
+        set_at(
+            &mut self.uppers,
+            at,
+            Upper {
+                segment,
+                paragraphs,
+            },
+        );
+        Ok(())
+    }
+}
