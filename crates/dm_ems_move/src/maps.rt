@@ -8,9 +8,9 @@ ghost use Rattle.dm_ems.specs.Linked.{IsLinked};
 ghost use Rattle.dm_ems.specs.Calls.{answer, left};
 ghost use Rattle.dm_ems_move.specs.Maps.{whole_map, numbers, entry, entries, meant, meant_at, map_at};
 
-use dm_moves::word_after;
 use arrayvec::ArrayVec;
 use dm_ems::{Ems, Page, Status, set_windows};
+use dm_moves::word_after;
 use dm_pool::Block;
 use dm_space::Space;
 
