@@ -1,7 +1,7 @@
 //! Calls of the expanded memory driver, one after the other, from the start of a machine. The figures are those of LIM EMS 4.0, and what
 //! follows by hand from the calls before.
 use crate::acts::Act::{Call, Holds, Put};
-use crate::acts::Register::{Al, Bx, Cx, Di, Dx};
+use crate::acts::Register::{Al, Bx, Cx, Di, Dx, Si};
 use crate::acts::{Act, BUFFER, FROM, TO, USUAL, act_on, caller, play, play_on};
 use dm_machine::Sizes;
 use std::test::Fail;
@@ -18,8 +18,11 @@ fn the_driver_tells_of_itself(rt: HostRuntime) -> Result<(), Fail> {
         Call(0x5800, &[], 0, &[(Cx, 4)]),
         Holds(BUFFER, TO, &[0x00, 0xE0, 0, 0, 0x00, 0xE4, 1, 0]),
         Holds(BUFFER, TO + 8, &[0x00, 0xE8, 2, 0, 0x00, 0xEC, 3, 0, 0]),
+        // Counting the windows writes nothing.
+        Put(BUFFER, TO, &[7; 16]),
         Call(0x5801, &[], 0, &[(Cx, 4)]),
         Call(0x5802, &[], 0x8F, &[]),
+        Holds(BUFFER, TO, &[7; 16]),
     ];
     play(&rt, rt.alloc(), USUAL, "the driver", &acts)
 }
@@ -198,6 +201,8 @@ fn handles_have_names(rt: HostRuntime) -> Result<(), Fail> {
         Holds(BUFFER, TO, b"ABCDEFGH\0"),
         Call(0x5300, &[(Dx, 1), (Di, 0xFFFC)], 0, &[]),
         Holds(BUFFER, 0xFFFC, b"ABCDEFGH\0"),
+        Call(0x5301, &[(Dx, 2), (Si, 0xFFFC)], 0xA1, &[]),
+        Call(0x5401, &[(Si, 0xFFFC)], 0, &[(Dx, 1)]),
         Call(0x5300, &[(Dx, 3)], 0x83, &[]),
         Call(0x5400, &[], 0, &[(Al, 3)]),
         Holds(BUFFER, TO, b"\0\0\0\0\0\0\0\0\0\0\x01\0ABCDEFGH"),

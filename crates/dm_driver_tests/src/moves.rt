@@ -131,6 +131,8 @@ fn regions_are_refused(rt: HostRuntime) -> Result<(), Fail> {
         // No such type.
         Put(BUFFER, FROM, &[1, 0, 0, 0]),
         Call(0x5701, &[], 0x98, &[]),
+        Put(BUFFER, FROM + 4, &[0xFF]),
+        Call(0x5700, &[], 0x98, &[]),
         // Two bytes from F000:FFFF.
         Put(BUFFER, FROM, &[2, 0, 0, 0, 0, 0, 0, 0xFF, 0xFF, 0x00, 0xF0]),
         Call(0x5700, &[], 0xA2, &[]),

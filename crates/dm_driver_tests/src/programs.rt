@@ -5,7 +5,7 @@ ghost use Rattle.dm_state.specs.State.{HasProgram};
 use crate::checks::same;
 use dm_asm::assemble;
 use dm_machine::{Machine, Stop};
-use dm_machine_tests::machines::loaded;
+use dm_machine_tests::machines::{loaded, machine_with, store};
 use std::alloc::Global;
 use std::test::Fail;
 
@@ -120,6 +120,49 @@ const FAR_CALLS: &str = "
         HLT
 ";
 
+/// It takes three pages, shows the last one in window 2 and writes a letter into it.
+const TAKES_PAGES: &str = "
+        MOV AH,43h              ; three pages
+        MOV BX,3
+        INT 67h
+        MOV AX,4402h            ; the last one in window 2
+        MOV BX,2
+        INT 67h
+        MOV AX,0E800h
+        MOV ES,AX
+        ES MOV BYTE [0],5Ah
+        MOV AX,4C00h
+        INT 21h
+";
+
+/// It starts that program, and finds its handle and its letter when it has ended.
+const STARTS_ANOTHER: &str = "
+        MOV AH,4Ah              ; there is room for another program
+        MOV BX,1000h
+        INT 21h
+        MOV DX,name
+        MOV BX,words
+        MOV AX,4B00h
+        INT 21h
+        JC absent
+        MOV AH,4Bh              ; handle 0, and the one that is kept
+        INT 67h
+        CMP BX,2
+        JNE absent
+        MOV AX,0E800h
+        MOV ES,AX
+        ES MOV DL,[0]
+        MOV AH,2
+        INT 21h
+        MOV AX,4C00h
+        INT 21h
+absent: MOV AX,4C01h
+        INT 21h
+
+name:   DB 'TAKES.COM',0
+words:  DB 0,0,0,0,0,0,0,0,0,0,0,0,0,0
+";
+
 /// A machine with a program of this text.
 fn written(alloc: Global, text: &str) -> Result<Machine, Fail>
     ensures { IfOk result (λ m. HasProgram m) }
@@ -133,6 +176,21 @@ fn a_program_finds_the_driver_and_uses_its_pages(rt: HostRuntime) -> Result<(), 
     let mut machine = written(rt.alloc(), DETECTS)?;
     same(&rt, "stop", machine.run(10_000), Stop::Exited(0));
     let output: &[u8] = b"ABCDDBCD\xFF\xFF\xFF\xFF";
+    same(&rt, "output", machine.output(), output);
+    Ok(())
+}
+
+#[test]
+fn pages_stay_when_their_program_ends(rt: HostRuntime) -> Result<(), Fail> {
+    let alloc = rt.alloc();
+    let program = assemble(alloc, STARTS_ANOTHER.as_bytes())?;
+    let mut programs = store(alloc, b"GO.COM", program.as_slice())?;
+    let taker = assemble(alloc, TAKES_PAGES.as_bytes())?;
+    programs.add(alloc, b"TAKES.COM", taker)?;
+    let mut machine = machine_with(alloc, programs, b"", b"")?;
+    machine.load(b"GO.COM", b"")?;
+    same(&rt, "stop", machine.run(1000), Stop::Exited(0));
+    let output: &[u8] = b"Z";
     same(&rt, "output", machine.output(), output);
     Ok(())
 }

@@ -1,4 +1,4 @@
--- The status bytes of refusals (LIM EMS 4.0, appendix C).
+-- The status bytes of refusals (LIM EMS 4.0, appendix A).
 use Rattle.std.specs.Prelude.{ℕ}
 use Rattle.dm_ems.specs.declared.status.Status.{Status}
 use Rattle.dm_ems.specs.declared.status.Status.TheVariants as status

@@ -1,4 +1,4 @@
-//! What calls of the expanded memory driver refuse (LIM EMS 4.0, appendix C).
+//! What calls of the expanded memory driver refuse (LIM EMS 4.0, appendix A).
 
 ghost use Rattle.std.specs.Prelude.{◌≡◌};
 ghost use Rattle.dm_ems.specs.Status.{code_of};

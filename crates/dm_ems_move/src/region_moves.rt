@@ -26,7 +26,7 @@ const PAGE: usize = 0x4000;
 pub enum Moved {
     /// The two regions share no byte.
     Apart,
-    /// They share bytes, so some of the source were overwritten.
+    /// They share bytes; all were read before any was written.
     Overlapping,
 }
 

@@ -65,6 +65,10 @@ fn cut_pages_leave_windows_and_new_ones_are_zeros(rt: HostRuntime) -> Result<(),
             (Look(0xE000, 0), (0, 0x11223344)),
             (Reallocate(1, 0), (0, 0)),
             (Look(0xE000, 0), (0, 0xFFFFFFFF)),
+            // All pages that there are.
+            (Reallocate(1, 5), (0x87, 0)),
+            (Reallocate(1, 4), (0, 4)),
+            (Unallocated, (0, 0)),
         ],
     )
 }
@@ -105,6 +109,38 @@ fn many_pages_are_mapped(rt: HostRuntime) -> Result<(), Fail> {
             (Words(0xFFFE, [0, 1, 9, 9]), (0, 0)),
             (Many(0, 1, 1, 0xFFFE), (0, 0)),
             (Look(0xE400, 0), (0, 0xA0A1A2A3)),
+            // More pairs than windows; the sixth is bad.
+            (Words(0, [0, 0, 1, 1]), (0, 0)),
+            (Words(8, [0, 2, 1, 3]), (0, 0)),
+            (Words(16, [1, 0, 9, 9]), (0, 0)),
+            (Many(0, 1, 6, 0), (0x8B, 0)),
+            (Look(0xE400, 0), (0, 0xA0A1A2A3)),
+            (Many(0, 1, 5, 0), (0, 0)),
+            (Look(0xE000, 0), (0, 0xB0B1B2B3)),
+            (Look(0xE400, 0), (0, 0xB0B1B2B3)),
+            (Look(0xE800, 0), (0, 0xA0A1A2A3)),
+            (Look(0xEC00, 0), (0, 0xB0B1B2B3)),
+        ],
+    )
+}
+
+#[test]
+fn many_pairs_go_round_their_segment(rt: HostRuntime) -> Result<(), Fail> {
+    run(
+        &rt,
+        rt.alloc(),
+        4,
+        &[
+            (Allocate(2), (0, 1)),
+            (Map(0, 1, 1), (0, 0)),
+            (Put(0xE000, 0, 0xB0B1B2B3), (0, 0)),
+            (Words(0, [1, 3, 0, 3]), (0, 0)),
+            // The 16,384 pairs of a segment, whose others are of page 0 and window 0, and then the first one again.
+            (Many(0, 1, 0x4000, 0), (0, 0)),
+            (Look(0xEC00, 0), (0, 0)),
+            (Look(0xE000, 0), (0, 0)),
+            (Many(0, 1, 0x4001, 0), (0, 0)),
+            (Look(0xEC00, 0), (0, 0xB0B1B2B3)),
         ],
     )
 }
@@ -133,6 +169,9 @@ fn bad_pairs_change_nothing(rt: HostRuntime) -> Result<(), Fail> {
             (Look(0xEC00, 0), (0, 0xFFFFFFFF)),
             (Many(1, 1, 1, 0), (0x8B, 0)),
             (Words(0, [0, 0xE001, 0, 0xF000]), (0, 0)),
+            (Many(1, 1, 1, 0), (0x8B, 0)),
+            (Many(1, 1, 1, 4), (0x8B, 0)),
+            (Words(0, [0, 0xE200, 0, 0xEFFF]), (0, 0)),
             (Many(1, 1, 1, 0), (0x8B, 0)),
             (Many(1, 1, 1, 4), (0x8B, 0)),
             (Words(0, [0, 0xDC00, 0, 0xE800]), (0, 0)),
@@ -225,6 +264,15 @@ fn a_bad_map_changes_nothing(rt: HostRuntime) -> Result<(), Fail> {
             (Whole(1, BUFFER, 0x100, 0), (0xA3, 0)),
             (Words(8, [0xFFFF, 0xFFFF, 0, 0]), (0, 0)),
             (Whole(1, BUFFER, 0x100, 0), (0xA3, 0)),
+            // The third window of the map, the second, and the first.
+            (Words(8, [2, 0, 0xFFFF, 0xFFFF]), (0, 0)),
+            (Whole(1, BUFFER, 0x100, 0), (0xA3, 0)),
+            (Words(0, [1, 0, 2, 0]), (0, 0)),
+            (Words(8, [0xFFFF, 0xFFFF, 0xFFFF, 0xFFFF]), (0, 0)),
+            (Whole(1, BUFFER, 0x100, 0), (0xA3, 0)),
+            (Words(0, [2, 0, 0xFFFF, 0xFFFF]), (0, 0)),
+            (Whole(1, BUFFER, 0x100, 0), (0xA3, 0)),
+            (Words(0, [1, 0, 0xFFFF, 0xFFFF]), (0, 0)),
             (Look(0xE000, 0), (0, 0xFFFFFFFF)),
             (Look(0xEC00, 0), (0, 0x12345678)),
             (Words(8, [1, 0, 1, 1]), (0, 0)),

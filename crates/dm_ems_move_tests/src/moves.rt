@@ -150,6 +150,32 @@ fn windows_of_one_page_are_one_place(rt: HostRuntime) -> Result<(), Fail> {
 }
 
 #[test]
+fn an_exchange_reads_both_regions_before_it_writes(rt: HostRuntime) -> Result<(), Fail> {
+    run(
+        &rt,
+        rt.alloc(),
+        4,
+        &[
+            (Allocate(1), (0, 1)),
+            (Map(0, 0, 1), (0, 0)),
+            (Map(1, 0, 1), (0, 0)),
+            (Put(0xE000, 0, 0x01020304), (0, 0)),
+            (Put(0x2000, 0, 0x11121314), (0, 0)),
+            (Put(0x2000, 0x4000, 0x21222324), (0, 0)),
+            // The first region has the page's first four bytes twice.
+            (
+                Structure(0, 0x4004, Linear(0xE000, 0), Linear(0x2000, 0)),
+                (0, 0),
+            ),
+            (Exchange(0), (0, 0)),
+            (Look(0x2000, 0), (0, 0x01020304)),
+            (Look(0x2000, 0x4000), (0, 0x01020304)),
+            (Look(0xE000, 0), (0, 0x21222324)),
+        ],
+    )
+}
+
+#[test]
 fn rom_is_a_place_and_nothing_is_none(rt: HostRuntime) -> Result<(), Fail> {
     run(
         &rt,
@@ -277,6 +303,33 @@ fn refusals_come_in_order(rt: HostRuntime) -> Result<(), Fail> {
             (Move(0), (0x93, 0)),
             (Structure(0, 0x4000, Pages(1, 0, 0), Pages(1, 0, 0)), (0, 0)),
             (Move(0), (0x92, 0)),
+            // The destination is looked at in the same way.
+            (
+                Structure(0, 2, Linear(0x3000, 0), Pages(9, 0x4000, 7)),
+                (0, 0),
+            ),
+            (Move(0), (0x83, 0)),
+            (
+                Structure(0, 2, Linear(0x3000, 0), Pages(1, 0x4000, 7)),
+                (0, 0),
+            ),
+            (Move(0), (0x95, 0)),
+            (
+                Structure(0, 2, Linear(0x3000, 0), Pages(1, 0x3FFF, 1)),
+                (0, 0),
+            ),
+            (Move(0), (0x8A, 0)),
+            (
+                Structure(0, 2, Linear(0x3000, 0), Pages(1, 0x3FFF, 0)),
+                (0, 0),
+            ),
+            (Move(0), (0x93, 0)),
+            (Exchange(0), (0x93, 0)),
+            (
+                Structure(0, 2, Linear(0x3000, 0), Linear(0xF000, 0xFFFF)),
+                (0, 0),
+            ),
+            (Move(0), (0xA2, 0)),
             (Structure(0, 2, Linear(0xF000, 0xFFFF), Strange), (0, 0)),
             (Move(0), (0xA2, 0)),
             (

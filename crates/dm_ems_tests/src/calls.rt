@@ -187,6 +187,8 @@ fn a_window_shows_a_page(rt: HostRuntime) -> Result<(), Fail> {
             (Map(4, 9, 1), Err(0x83)),
             (Allocate(2), Ok(1)),
             (Map(4, 9, 1), Err(0x8B)),
+            (Map(8, 0, 1), Err(0x8B)),
+            (Map(0xFF, 0, 1), Err(0x8B)),
             (Map(0, 9, 1), Err(0x8A)),
             (Map(0, 2, 1), Err(0x8A)),
             (Map(0, 0, 0), Err(0x8A)),
@@ -370,6 +372,56 @@ fn handles_have_names(rt: HostRuntime) -> Result<(), Fail> {
             (FindName, Err(0xA0)),
         ],
     )
+}
+
+#[test]
+fn names_and_kept_windows_stay_with_their_handle(rt: HostRuntime) -> Result<(), Fail> {
+    run(
+        &rt,
+        rt.alloc(),
+        8,
+        &[
+            (Allocate(1), Ok(1)),
+            (Allocate(1), Ok(2)),
+            (Buffer(*b"ABCDEFGH"), Ok(0)),
+            (SetName(2), Ok(0)),
+            // A handle above has the name.
+            (SetName(0), Err(0xA1)),
+            (SetName(1), Err(0xA1)),
+            // Another handle is given up with its page.
+            (Deallocate(1), Ok(0)),
+            (FindName, Ok(2)),
+            // A handle that keeps windows gets another name.
+            (Map(1, 0, 2), Ok(0)),
+            (Save(2), Ok(0)),
+            (Buffer(*b"IJKLMNOP"), Ok(0)),
+            (SetName(2), Ok(0)),
+            (FindName, Ok(2)),
+            (Map(1, 0xFFFF, 2), Ok(0)),
+            (Deallocate(2), Err(0x86)),
+            (Restore(2), Ok(0)),
+            (Peek(0xE400, 0), Ok(0)),
+        ],
+    )
+}
+
+#[test]
+fn a_freed_page_leaves_what_the_first_and_the_last_handle_kept(
+    rt: HostRuntime,
+) -> Result<(), Fail> {
+    let mut e = Expanded::new(rt.alloc(), 63, 0)?;
+    for k in 1u16..64 {
+        same(&rt, "handle", make(&mut e, Allocate(1)), Ok(k));
+    }
+    same(&rt, "map", make(&mut e, Map(2, 0, 1)), Ok(0));
+    same(&rt, "save", make(&mut e, Save(0)), Ok(0));
+    same(&rt, "save", make(&mut e, Save(63)), Ok(0));
+    same(&rt, "given up", make(&mut e, Deallocate(1)), Ok(0));
+    same(&rt, "restore", make(&mut e, Restore(63)), Ok(0));
+    same(&rt, "window", make(&mut e, Peek(0xE800, 0)), Ok(0xFF));
+    same(&rt, "restore", make(&mut e, Restore(0)), Ok(0));
+    same(&rt, "window", make(&mut e, Peek(0xE800, 0)), Ok(0xFF));
+    Ok(())
 }
 
 #[test]

@@ -7,3 +7,5 @@ mod calls;
 mod checks;
 #[cfg(test)]
 mod expanded;
+#[cfg(test)]
+mod gaps;

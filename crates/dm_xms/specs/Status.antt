@@ -1,4 +1,4 @@
--- The error codes of refusals (XMS 3.0, appendix A).
+-- The error codes of refusals (XMS 3.0, error code index).
 use Rattle.std.specs.Prelude.{ℕ}
 use Rattle.dm_xms.specs.declared.status.Status.{Status}
 use Rattle.dm_xms.specs.declared.status.Status.TheVariants as status

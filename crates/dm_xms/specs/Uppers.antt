@@ -83,7 +83,7 @@ resize_upper xms segment n =
     if nat_lt (room xms.uppers k segment) (at_least_one n) then Err (refusal.Smaller (room xms.uppers k segment)) else
     Ok (tt, with_uppers xms (slice_set xms.uppers k (record { segment = segment; paragraphs = at_least_one n }))))
 
--- the error codes of refusals (XMS 3.0, appendix A)
+-- the error codes of refusals (XMS 3.0, error code index)
 unfoldable pub code_of : UpperRefusal → ℕ
 code_of (refusal.Smaller n) = 0xB0
 code_of refusal.NoneFree = 0xB1

@@ -1,4 +1,4 @@
-//! What calls of the extended memory driver refuse (XMS 3.0, appendix A).
+//! What calls of the extended memory driver refuse (XMS 3.0, error code index).
 
 ghost use Rattle.std.specs.Prelude.{◌≡◌};
 ghost use Rattle.dm_xms.specs.Status.{code_of};
