@@ -19,6 +19,7 @@ B8 05| DB 0B8h/DB 005h/
 90 B8| NOP/DB 0B8h/
 F0 F0 F0 F0 F0 90| DB 0F0h/DB 0F0h,0F0h,0F0h,0F0h,090h ; LOCK NOP/
 EB FE| JMP SHORT 00100h/
+2E 2E EB FE| DB 02Eh,02Eh,0EBh,0FEh ; CS JMP SHORT 00102h/
 E9 FD FF| JMP 00100h/";
 
 /// The lines of bytes, with `/` for each line end.

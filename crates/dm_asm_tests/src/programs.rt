@@ -52,6 +52,11 @@ MOV [BX],5| line 1: syntax
 ADD AX,x/x:| line 1: syntax
 MOV BYTE AL,5| line 1: syntax
 JMP nil| line 1: unknown
+MOV AX,nil| line 1: unknown
+MOV AX,[nil]| line 1: unknown
+MOV WORD [x+0FFFFh],nil/x:| line 1: unknown
+MOV WORD [nil],x+0FFFFh/x:| line 1: unknown
+DB 'xxxxxxxxxxxxxxxxxxxxxxxxxxxxxxxxxxxxxxxxxxxxxxxxxxxxxxxxxxxxxxxxxxxxxxxxxxxxxxxxxxxxxxxxxxxxxxxxxxxxxxxxxxxxxxxxxxxxxxxxxxxxxxxxxxxxxxxxxxxxxxxxxxxxxxxxxxxxxxxxxxxxxxxxxxxxxxxxxxxxxxxxxxxxxxxxxxxxxxxxxxxxxxxxxxxxxxxxxxxxxxxxxxxxxxxxxxxxxxxxxxxxxxxxxx'| 78 78 78 78 78 78 78 78 .. 250
 JMP nil/@| line 2: syntax
 NOP/JMP nil/MOV AL,100h| line 2: unknown
 MOV AL,100h/JMP nil| line 1: range

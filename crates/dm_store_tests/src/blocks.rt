@@ -203,6 +203,28 @@ fn blocks_take_the_lowest_gap(rt: HostRuntime) -> Result<(), Fail> {
 }
 
 #[test]
+fn gaps_are_counted_one_by_one(rt: HostRuntime) -> Result<(), Fail> {
+    let mut taken = Taken {
+        store: made(rt.alloc(), 0, 8)?,
+        blocks: [None; NAMES],
+    };
+    let steps = [
+        Step::Take(0, 1, Some(0)),
+        Step::Take(1, 1, Some(1)),
+        Step::Take(2, 3, Some(2)),
+        Step::Take(3, 1, Some(5)),
+        Step::Give(0),
+        Step::Give(2),
+        // gaps of one, three and two units hold two blocks of two units, where six units together would hold three
+        Step::Tells(3, 6, 2),
+    ];
+    for step in steps {
+        play(&rt, &mut taken, step);
+    }
+    Ok(())
+}
+
+#[test]
 fn sizes_have_bounds(rt: HostRuntime) {
     let alloc = rt.alloc();
     same(

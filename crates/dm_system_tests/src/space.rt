@@ -2,6 +2,7 @@
 
 use crate::checks::same;
 use crate::memory::new_space;
+use dm_space::Space;
 use std::test::Fail;
 
 #[test]
@@ -22,10 +23,15 @@ fn each_part_of_the_map_reads_as_it_starts(rt: HostRuntime) -> Result<(), Fail> 
         (0xE000, 0x0000, 0xFF),
         (0xF000, 0x0084, 0xCF),
         (0xF000, 0x0085, 0xFF),
+        (0xF000, 0x03FC, 0xCF),
         (0xF000, 0x0400, 0xCB),
+        (0xF000, 0x0404, 0xFF),
+        (0xF100, 0x0009, 0xFF),
         (0xF100, 0x000A, b'E'),
         (0xF100, 0x0011, b'0'),
+        (0xF100, 0x0012, 0xFF),
         (0xF100, 0x0020, 0xCF),
+        (0xF100, 0x0021, 0xFF),
         (0xFFFF, 0x0013, 0xF0),
     ];
     for (segment, offset, byte) in bytes {
@@ -112,5 +118,64 @@ fn word_wraps_at_segment_end(rt: HostRuntime) -> Result<(), Fail> {
     same(&rt, "byte", space.peek(0x2000, 0x0000), 0x12);
     same(&rt, "word", space.peek16(0x2000, 0xFFFF), 0x1234);
     same(&rt, "byte", space.peek(0x3000, 0x0000), 0x00);
+    Ok(())
+}
+
+#[test]
+fn words_stand_across_the_borders_of_the_hole(rt: HostRuntime) -> Result<(), Fail> {
+    let mut space = new_space(rt.alloc())?;
+    space.poke(0xBFFF, 0x000F, 0x12);
+    same(&rt, "word", space.peek16(0xBFFF, 0x000F), 0xFF12);
+    space.poke16(0xBFFF, 0x000F, 0x5634);
+    same(&rt, "word", space.peek16(0xBFFF, 0x000F), 0xFF34);
+    space.poke16(0xCFFF, 0x000F, 0x5634);
+    same(&rt, "word", space.peek16(0xCFFF, 0x000F), 0x56FF);
+    Ok(())
+}
+
+/// The eight bytes from segment:offset on, read one by one.
+fn peeked(space: &Space, segment: u16, offset: u16) -> [u8; 8] {
+    let mut bytes = [0; 8];
+    for index in 0..8 {
+        bytes[index] = space.peek(segment, offset.wrapping_add(index as u16));
+    }
+    bytes
+}
+
+#[test]
+fn eight_bytes_are_those_read_one_by_one(rt: HostRuntime) -> Result<(), Fail> {
+    let mut space = new_space(rt.alloc())?;
+    space.poke(0x2000, 0xFFFF, 0x21);
+    space.poke(0x2000, 0x0000, 0x22);
+    space.poke(0x3000, 0x0000, 0x23);
+    space.poke(0xBFFF, 0x000F, 0x24);
+    // Below the hole, beside it and in it; at the end of a segment; behind FFFF:000F, while A20 is off.
+    let places = [
+        (0x0000, 0x0000),
+        (0x2000, 0xFFF8),
+        (0x2000, 0xFFF9),
+        (0x2000, 0xFFFF),
+        (0xB000, 0xFFF8),
+        (0xB000, 0xFFF9),
+        (0xB001, 0xFFE8),
+        (0xB001, 0xFFE9),
+        (0xB001, 0xFFF8),
+        (0xBFFF, 0x0008),
+        (0xBFFF, 0x0009),
+        (0xC000, 0x0000),
+        (0xE000, 0x0000),
+        (0xF000, 0x0000),
+        (0xFFFF, 0x0010),
+    ];
+    for (segment, offset) in places {
+        if let Some(found) = space.eight_bytes(segment, offset) {
+            same(
+                &rt,
+                "bytes",
+                (segment, offset, found.to_le_bytes()),
+                (segment, offset, peeked(&space, segment, offset)),
+            );
+        }
+    }
     Ok(())
 }

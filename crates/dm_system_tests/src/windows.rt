@@ -222,6 +222,25 @@ fn segments_have_places(rt: HostRuntime) -> Result<(), Fail> {
     Ok(())
 }
 
+#[test]
+fn each_window_is_looked_at(rt: HostRuntime) -> Result<(), Fail> {
+    let mut space = new_space(rt.alloc())?;
+    let Pages { first, second } = two_pages(&mut space).ok_or("no room")?;
+    for window in 0..4usize {
+        show(&mut space, window, first);
+        let found = (window, space.shows(first), space.shows(second));
+        same(&rt, "shown", found, (window, true, false));
+        space.set_window(window % 4, None);
+        same(
+            &rt,
+            "not shown",
+            (window, space.shows(first)),
+            (window, false),
+        );
+    }
+    Ok(())
+}
+
 /// Gives a block back that no window shows; else false.
 fn give(space: &mut Space, block: Block) -> bool {
     let may = space.has(block) && !space.shows(block);
@@ -351,7 +370,7 @@ fn scratch_byte(space: &Space, at: usize) -> Option<u8> {
 fn bytes_are_copied_in_across_borders(rt: HostRuntime) -> Result<(), Fail> {
     let (mut space, _page) = bordered(rt.alloc())?;
     // linear address, where in the scratch, the two bytes
-    let rows: [(usize, usize, u8, u8); 9] = [
+    let rows: [(usize, usize, u8, u8); 12] = [
         (0xBFFFF, 0x000000, 0xA1, 0xFF),
         (0xCFFFF, 0x000001, 0xFF, 0xB2),
         (0xDFFFF, 0x100000, 0xB3, 0x01),
@@ -359,6 +378,9 @@ fn bytes_are_copied_in_across_borders(rt: HostRuntime) -> Result<(), Fail> {
         (0xE7FFF, 0x100005, 0x04, 0xFF),
         (0xEBFFF, 0x123456, 0xFF, 0x01),
         (0xEFFFF, 0x123456, 0x02, 0xCF),
+        (0xF03FC, 0x000001, 0xCF, 0xFF),
+        (0xF03FF, 0x000001, 0xFF, 0xCB),
+        (0xF101F, 0x000001, 0xFF, 0xCF),
         (0xFFFFF, 0x1FFFFE, 0xFF, 0xC4),
         (0x10FFEE, 0x1FFFFE, 0x00, 0xC5),
     ];

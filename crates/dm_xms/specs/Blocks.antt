@@ -44,7 +44,7 @@ abbrev pub base_of : Option Place → ℕ
 base_of None = 0
 base_of (Some b) = b.base
 
--- the linear address of a block's first byte; the pool lies behind the high memory area's 64 KiB
+-- the linear address of a block's first byte; the pool lies from 110000h on, behind all memory that has addresses
 abbrev pub address : Extended → ℕ → ℕ
 address x block = 0x110000 + 0x400 * base_of (get_or x.memory.blocks.places block None)
 

@@ -166,3 +166,49 @@ fn a_block_that_grows_moves_where_it_must(rt: HostRuntime) -> Result<(), Fail> {
         ],
     )
 }
+
+#[test]
+fn locked_blocks_keep_their_size(rt: HostRuntime) -> Result<(), Fail> {
+    run(
+        &rt,
+        rt.alloc(),
+        0,
+        4,
+        &[
+            (Allocate(1), Ok(1)),
+            (Lock(1), Ok(0x11_0000)),
+            // That it is locked comes before want of memory, and before any change.
+            (Resize(1, 5), Err((0xAB, 0))),
+            (Resize(1, 2), Err((0xAB, 0))),
+            (Kib(1), Ok(1)),
+            (Total, Ok(3)),
+            (Unlock(1), Ok(0)),
+            (Resize(1, 5), Err((0xA0, 0))),
+            (Resize(1, 2), Ok(0)),
+            (Total, Ok(2)),
+        ],
+    )
+}
+
+#[test]
+fn the_largest_gap_is_not_all_that_is_free(rt: HostRuntime) -> Result<(), Fail> {
+    run(
+        &rt,
+        rt.alloc(),
+        0,
+        8,
+        &[
+            (Allocate(2), Ok(1)),
+            (Allocate(3), Ok(2)),
+            // Gaps of 2 KiB and, behind 5 KiB, of 3 KiB.
+            (Free(1), Ok(0)),
+            (Largest, Ok(3)),
+            (Total, Ok(5)),
+            (Allocate(4), Err((0xA0, 0))),
+            (Allocate(3), Ok(1)),
+            (Lock(1), Ok(0x11_1400)),
+            (Largest, Ok(2)),
+            (Total, Ok(2)),
+        ],
+    )
+}

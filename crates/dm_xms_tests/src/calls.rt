@@ -19,6 +19,8 @@ pub(crate) enum Call {
     /// The high memory area is taken, and given back.
     TakeArea,
     ReleaseArea,
+    /// Whether it is taken.
+    IsTaken,
     /// A20 is switched on and off, globally and locally.
     On,
     Off,
@@ -50,15 +52,17 @@ pub(crate) enum Call {
     ResizeUpper(u16, u16),
     /// So many bytes are moved from a handle's offset to another handle's.
     Move(u32, Side, Side),
+    /// The same, as a structure says that begins at this offset.
+    MoveBy(u16, u32, Side, Side),
     /// A byte is written, or read.
     Poke(u16, u16, u8),
     Peek(u16, u16),
 }
 
 use self::Call::{
-    Allocate, Free, Get, IsOn, Kib, Largest, Left, Lock, Locks, Move, Off, OffLocally, On,
-    OnLocally, Peek, Poke, Put, Release, ReleaseArea, Request, Resize, ResizeUpper, TakeArea,
-    Total, Unlock,
+    Allocate, Free, Get, IsOn, IsTaken, Kib, Largest, Left, Lock, Locks, Move, MoveBy, Off,
+    OffLocally, On, OnLocally, Peek, Poke, Put, Release, ReleaseArea, Request, Resize, ResizeUpper,
+    TakeArea, Total, Unlock,
 };
 
 /// What a call answers: a number, 0 where it has none, or an error code, with a number where it has one.
@@ -100,18 +104,19 @@ fn put_double(e: &mut Extended, at: u16, value: u32) {
     put_word(e, at.wrapping_add(2), (value / 0x1_0000) as u16);
 }
 
-fn move_between(e: &mut Extended, len: u32, from: Side, to: Side) -> Answer {
-    put_double(e, 0, len);
-    put_word(e, 4, from.0);
-    put_double(e, 6, from.1);
-    put_word(e, 10, to.0);
-    put_double(e, 12, to.1);
-    told(e.move_memory(BUFFER, 0))
+fn move_between(e: &mut Extended, at: u16, len: u32, from: Side, to: Side) -> Answer {
+    put_double(e, at, len);
+    put_word(e, at.wrapping_add(4), from.0);
+    put_double(e, at.wrapping_add(6), from.1);
+    put_word(e, at.wrapping_add(10), to.0);
+    put_double(e, at.wrapping_add(12), to.1);
+    told(e.move_memory(BUFFER, at))
 }
 
 /// Calls that change nothing.
 fn ask(e: &Extended, call: Call) -> Answer {
     match call {
+        IsTaken => Ok(e.xms().hma() as usize),
         IsOn => Ok(e.space().a20() as usize),
         Largest => number(
             e.xms()
@@ -159,7 +164,8 @@ pub(crate) fn make(e: &mut Extended, call: Call) -> Answer {
         Free(handle) => told(e.deallocate(handle)),
         Lock(handle) => number(e.lock(handle)),
         Unlock(handle) => told(e.unlock(handle)),
-        Move(len, from, to) => move_between(e, len, from, to),
+        Move(len, from, to) => move_between(e, 0, len, from, to),
+        MoveBy(at, len, from, to) => move_between(e, at, len, from, to),
         Poke(segment, offset, value) => {
             e.poke(segment, offset, value);
             Ok(0)

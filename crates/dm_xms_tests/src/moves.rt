@@ -1,6 +1,6 @@
 //! Moves of extended memory blocks. The figures are the driver's error codes and what follows by hand from the calls before.
 
-use crate::calls::Call::{Allocate, Free, Get, Move, On, Peek, Poke, Put, Resize};
+use crate::calls::Call::{Allocate, Free, Get, Move, MoveBy, On, Peek, Poke, Put, Resize};
 use crate::calls::run;
 use std::test::Fail;
 
@@ -144,6 +144,55 @@ fn long_moves_go_between_blocks(rt: HostRuntime) -> Result<(), Fail> {
             (Get(2, 0x3F_FFFF), Ok(0x22)),
             (Resize(1, 1), Ok(0)),
             (Move(0x40_0000, (2, 0), (1, 0)), Err((0xA7, 0))),
+        ],
+    )
+}
+
+#[test]
+fn offsets_in_blocks_are_double_words(rt: HostRuntime) -> Result<(), Fail> {
+    run(
+        &rt,
+        rt.alloc(),
+        0,
+        128,
+        &[
+            (Allocate(128), Ok(1)),
+            (Put(1, 0x400, 0x77), Ok(0)),
+            (Put(1, 0x1_0400, 0x31), Ok(0)),
+            (Put(1, 0x1_0401, 0x32), Ok(0)),
+            (Move(2, (1, 0x1_0400), (1, 0x1_FFFE)), Ok(0)),
+            (Get(1, 0x1_FFFE), Ok(0x31)),
+            (Get(1, 0x1_FFFF), Ok(0x32)),
+            (Get(1, 0xFFFE), Ok(0)),
+            (Move(2, (1, 0x2_0000), (1, 0)), Err((0xA7, 0))),
+            (Move(2, (1, 0x2_0001), (1, 0)), Err((0xA4, 0))),
+            (Move(2, (1, 0), (1, 0x2_0001)), Err((0xA6, 0))),
+        ],
+    )
+}
+
+#[test]
+fn the_structure_wraps_in_its_segment(rt: HostRuntime) -> Result<(), Fail> {
+    run(
+        &rt,
+        rt.alloc(),
+        0,
+        1,
+        &[
+            (Allocate(1), Ok(1)),
+            (Poke(0x7000, 0x10, 0x41), Ok(0)),
+            (Poke(0x7000, 0x11, 0x42), Ok(0)),
+            // The length is parted, the source's offset, the source's segment, the destination's segment.
+            (MoveBy(0xFFFF, 2, (0, 0x7000_0010), (1, 0x3FE)), Ok(0)),
+            (Get(1, 0x3FE), Ok(0x41)),
+            (Get(1, 0x3FF), Ok(0x42)),
+            (MoveBy(0xFFF9, 2, (0, 0x7000_0010), (1, 0)), Ok(0)),
+            (Get(1, 0), Ok(0x41)),
+            (MoveBy(0xFFF8, 2, (0, 0x7000_0010), (1, 2)), Ok(0)),
+            (Get(1, 3), Ok(0x42)),
+            (MoveBy(0xFFF2, 2, (1, 0), (0, 0x8000_0010)), Ok(0)),
+            (Peek(0x8000, 0x10), Ok(0x41)),
+            (Peek(0x8000, 0x11), Ok(0x42)),
         ],
     )
 }

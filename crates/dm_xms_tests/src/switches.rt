@@ -1,6 +1,8 @@
 //! The high memory area, and A20. The figures are the driver's error codes and what follows by hand from the calls before.
 
-use crate::calls::Call::{IsOn, Off, OffLocally, On, OnLocally, Peek, ReleaseArea, TakeArea};
+use crate::calls::Call::{
+    IsOn, IsTaken, Off, OffLocally, On, OnLocally, Peek, ReleaseArea, TakeArea,
+};
 use crate::calls::{make, run};
 use crate::checks::same;
 use crate::extended::Extended;
@@ -14,10 +16,14 @@ fn the_high_area_has_one_taker(rt: HostRuntime) -> Result<(), Fail> {
         64,
         1024,
         &[
+            (IsTaken, Ok(0)),
             (ReleaseArea, Err((0x93, 0))),
             (TakeArea, Ok(0)),
+            (IsTaken, Ok(1)),
             (TakeArea, Err((0x91, 0))),
+            (IsTaken, Ok(1)),
             (ReleaseArea, Ok(0)),
+            (IsTaken, Ok(0)),
             (ReleaseArea, Err((0x93, 0))),
             (TakeArea, Ok(0)),
         ],
