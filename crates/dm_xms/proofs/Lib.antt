@@ -1,4 +1,5 @@
 pub mod Gaps
 pub mod Rising
 pub mod Linked
+pub mod Leaving
 pub mod Sides

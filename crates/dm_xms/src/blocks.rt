@@ -4,7 +4,7 @@ ghost use Rattle.std.specs.Prelude.{◌≡◌};
 ghost use Rattle.dm_xms.specs.Tables.{extended};
 ghost use Rattle.dm_xms.specs.Calls.{answer, left};
 ghost use Rattle.dm_xms.specs.Linked.{IsLinked};
-ghost use Rattle.dm_xms.specs.Blocks.{free_memory, allocate, deallocate, lock, unlock, information, reallocate};
+ghost use Rattle.dm_xms.specs.Blocks.{address, free_memory, allocate, deallocate, lock, unlock, information, reallocate};
 
 use crate::status::Status;
 use crate::tables::{Handle, Xms};
@@ -34,6 +34,19 @@ pub struct HandleInformation {
     pub free: u8,
     /// The KiB of its block.
     pub kib: u16,
+}
+
+impl Handle {
+    /// The linear address of its block's first byte; 110000h for a block of 0 KiB.
+    pub fn base(&self, space: &Space) -> usize
+        ensures { result ≡ address space.now.memory self.now.block }
+    {
+        if space.has(self.block) {
+            POOL + UNIT * space.base(self.block)
+        } else {
+            POOL
+        }
+    }
 }
 
 impl Xms {
@@ -121,7 +134,7 @@ impl Xms {
         }
         let locks = slot.locks + 1;
         self.set_handle(handle, Some(Handle { locks, ..slot }));
-        Ok(POOL + UNIT * space.base(slot.block))
+        Ok(slot.base(space))
     }
 
     /// Unlocks the block of a handle once.
