@@ -5,7 +5,6 @@ use Rattle.dm_exec.specs.declared.cpu.Cpu.{Cpu}
 use Rattle.dm_exec.specs.Cpu.{byte_of}
 use Rattle.dm_ems.specs.declared.status.Status.TheVariants.{UnknownHandle}
 use Rattle.dm_ems.specs.declared.tables.Handle.{Handle}
-use Rattle.dm_ems.specs.Tables.{Expanded}
 use Rattle.dm_ems.specs.Linked.{IsLinked}
 use Rattle.dm_ems.specs.Outside.{LeavesOutside}
 use Rattle.dm_ems.specs.Calls.{slot, left, need}

@@ -1,5 +1,5 @@
 -- Calls leave what is outside of expanded memory.
-use Rattle.std.proofs.Common.{◌≡◌, ◌≢◌, ℕ, zero, suc, ◌<◌, Bool, true, false, cond, List, [], ◌∷◌, ◌++◌, Option, Some, None, length, map, set, remove, position, drop, get_or, refl, sym, ◌∙◌, ap, subst, arith, inl, inr, length-append}
+use Rattle.std.proofs.Common.{◌≡◌, ◌≢◌, ℕ, zero, suc, Bool, true, false, cond, List, [], ◌∷◌, ◌++◌, Option, Some, None, length, set, position, drop, get_or, refl, sym, ◌∙◌, ap, arith, inl, inr, length-append}
 use Rattle.std.specs.Prelude.{Result, Ok, Err, ◌==◌, nat_lt, nat_le, is_some, slice_get}
 use Rattle.std.proofs.lemmas.Bool.{cases_lt}
 use Rattle.std.proofs.lemmas.List.{get_or-set_other}
@@ -13,9 +13,9 @@ use Rattle.dm_ems.specs.declared.status.Status.{Status}
 use Rattle.dm_ems.specs.declared.status.Status.TheVariants.{NoPages, NoHandleLeft, OverTotal, OverFree, UnknownHandle, ContextSaved, NoSuchWindow, NoSuchPage, SavedAlready, NoneSaved, NameTaken}
 use Rattle.dm_ems.specs.declared.tables.Handle.{Handle}
 use Rattle.dm_ems.specs.declared.tables.Page.{Page}
-use Rattle.dm_ems.specs.Tables.{Tables, Expanded, blank, appended, appended_page, with_page, cut, forgotten, forgotten_all, without_page, is_block, unallocated, free_handle, blocks_of, with_windows}
+use Rattle.dm_ems.specs.Tables.{Expanded, blank, appended, appended_page, with_page, cut, forgotten, forgotten_all, without_page, is_block, unallocated, free_handle, blocks_of, with_windows}
 use Rattle.dm_ems.specs.Linked.{block_at, IsOwned}
-use Rattle.dm_ems.specs.Outside.{IsOutside, LeavesOutside}
+use Rattle.dm_ems.specs.Outside.{LeavesOutside}
 use Rattle.dm_ems.specs.Calls.{left, need, slot, with_slot, with_memory}
 use Rattle.dm_ems.specs.Handles.{allocate, deallocate}
 use Rattle.dm_ems.specs.Maps.{map_page, save_map, restore_map, showing}
@@ -57,7 +57,7 @@ not_new s t i block n l e = none-some l.1.0 (sym (ap (λ (j : ℕ). get_or s.pla
 not_pushed : (ps : List Page) (p : Page) (block : ℕ) → block ≢ p.block → (IsOwned ps block → ⊥) → IsOwned (ps ++ p ∷ []) block → ⊥
 not_pushed ps p block ne apart o =
     elim (cases_lt o.0 (length ps)) [
-      | inl low ↦ apart (o.0, (low, sym (block_pushed ps p o.0 low) ∙ o.2))
+      | inl low ↦ apart (o.0, low, sym (block_pushed ps p o.0 low) ∙ o.2)
       | inr high ↦
           let within = o.1 in
           let last : o.0 ≡ length ps = omega (arith, within, high, length-append ps (p ∷ [])) in
@@ -93,11 +93,11 @@ appended_leaves x h (suc n) = leaves_then x (appended x h n) (appended_page (app
 removed_leaves : (x : Expanded) (block i : ℕ) → IsPlaced x.ems.pages block i → LeavesOutside x (without_page x block (Some i))
 removed_leaves x block i p = record {
   blocks = λ b size o.
-      let ne : b ≢ block = λ e. o.apart (i, (p.within, p.is ∙ sym e)) in
+      let ne : b ≢ block = λ e. o.apart (i, p.within, p.is ∙ sym e) in
       record {
         live = (o.live.0, (o.live.1.0, get_or-set_other x.memory.blocks.places block b None None ne ∙ o.live.1.1));
         size = ap length (get_or-set_other x.memory.blocks.contents block b [] [] ne) ∙ o.size;
-        apart = λ owned. let there = elsewhere x.ems.pages i owned.0 p.within owned.1 in o.apart (there.0, (there.1, sym there.3 ∙ owned.2));
+        apart = λ owned. let there = elsewhere x.ems.pages i owned.0 p.within owned.1 in o.apart (there.0, there.1, sym there.3 ∙ owned.2);
       };
   line = refl;
 }

@@ -6,12 +6,12 @@ use Rattle.dm_ems.specs.Tables.{Expanded}
 use Rattle.dm_ems.specs.Linked.{IsOwned}
 
 -- there is such a block, with so many bytes, and it is no page's
-pub record IsOutside (x : Expanded) (block size : ℕ) : Type 0 where
+pub record IsOutside (x : Expanded) (block bytes : ℕ) : Type 0 where
   pub live : IsLive x.memory.blocks block
-  pub size : length (page_bytes x.memory block) ≡ size
+  pub size : length (page_bytes x.memory block) ≡ bytes
   pub apart : IsOwned x.ems.pages block → ⊥
 
 -- such blocks stay, and so does A20
 pub record LeavesOutside (x y : Expanded) : Type 0 where
-  pub blocks : (block size : ℕ) → IsOutside x block size → IsOutside y block size
+  pub blocks : (block bytes : ℕ) → IsOutside x block bytes → IsOutside y block bytes
   pub line : y.memory.a20 ≡ x.memory.a20

@@ -1,16 +1,16 @@
 -- A run leaves what no program sees.
 use Rattle.std.proofs.Common.{◌≡◌, ℕ, zero, suc, ◌+◌, ◌<◌, ◌≤◌, Bool, true, false, cond, List, [], ◌∷◌, Option, Some, None, length, get_or, refl, sym, ◌∙◌, ap, subst, arith, zero-add, inl, inr}
 use Rattle.std.proofs.lemmas.Bool.{cases_lt}
+use Rattle.std.proofs.lemmas.List.{get_or_past}
 use Rattle.dm_space.specs.Memory.{Memory, page_bytes}
 use Rattle.dm_space.specs.Places.{IsShaped}
-use Rattle.dm_space.specs.Unseen.{shows, mixed, unseen_as, IsUnseen}
+use Rattle.dm_space.specs.Unseen.{shows, mixed, unseen_as}
 use Rattle.dm_space.proofs.Places.{shaped-same, shaped-then}
 use Rattle.dm_space.proofs.Unseen.{pages-unseen}
-use Rattle.dm_ins.specs.declared.ins.Ins.{Ins}
 use Rattle.dm_exec.specs.declared.effect.Next.{Next}
 use Rattle.dm_exec.specs.declared.effect.Next.TheVariants.{Go, Halt}
 use Rattle.dm_exec.specs.Guest.{Guest, guest}
-use Rattle.dm_exec.specs.Effect.{effect, next_of}
+use Rattle.dm_exec.specs.Effect.{next_of}
 use Rattle.dm_exec.specs.Stack.{interrupt_return}
 use Rattle.dm_exec.proofs.Map.{effect-kept}
 use Rattle.dm_state.specs.declared.stop.Stop.{Stop}
@@ -24,8 +24,8 @@ use Rattle.dm_drivers.specs.declared.drivers.Driver.{Driver}
 use Rattle.dm_drivers.specs.declared.drivers.Driver.TheVariants.{ExpandedMemory, Multiplex, ExtendedMemory}
 use Rattle.dm_drivers.specs.Drivers.{driver_at, driven}
 use Rattle.dm_machine.specs.Step.{Steps, Runs, Acts, Drives, Instructs, listed, unlisted, after, instructed}
-use Rattle.dm_machine.specs.Run.{Answers, Goes, here, further, IsRun, StopsWithin, over, whole, cut}
-use Rattle.dm_machine.specs.Laws.{IsQuiet, StaysQuiet, LeavesUnseen, RunLeavesUnseen}
+use Rattle.dm_machine.specs.Run.{Answers, Goes, here, further, IsRun, over, whole, cut}
+use Rattle.dm_machine.specs.Laws.{IsQuiet, StaysQuiet, RunLeavesUnseen}
 use Rattle.dm_machine.proofs.Confined.{steps-unseen, fewer-quiet}
 use Rattle.dm_machine.proofs.OneRun.{steps-one}
 

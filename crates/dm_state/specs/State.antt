@@ -48,10 +48,10 @@ abbrev pub HasProgram : State → Type 0
 HasProgram s = 0 < s.processes.present
 
 -- the tables of expanded and of extended memory and the memory go together, and no block is a page and a handle's at once
-pub record GoTogether (ems : Tables) (extended_tables : xms.Tables) (m : Memory) : Type 0 where
-  pub ems : IsLinked (expanded ems m)
-  pub xms : extended_memory.IsLinked (extended extended_tables m)
-  pub apart : (k : ℕ) → IfSome (handle_at extended_tables.handles k) (λ h. IsOwned ems.pages h.block → ⊥)
+pub record GoTogether (pages : Tables) (blocks : xms.Tables) (m : Memory) : Type 0 where
+  pub ems : IsLinked (expanded pages m)
+  pub xms : extended_memory.IsLinked (extended blocks m)
+  pub apart : (k : ℕ) → IfSome (handle_at blocks.handles k) (λ h. IsOwned pages.pages h.block → ⊥)
 
 abbrev pub AreLinked : State → Type 0
 AreLinked s = GoTogether s.ems s.xms s.memory

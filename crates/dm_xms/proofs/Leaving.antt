@@ -1,6 +1,6 @@
 -- Calls leave what is outside of extended memory.
-use Rattle.std.proofs.Common.{◌≡◌, ◌≢◌, ℕ, ◌+◌, ◌-◌, ◌%◌, ◌<◌, ◌==◌, Bool, true, false, cond, List, [], ◌∷◌, Option, Some, None, length, get_or, set, position, refl, sym, ◌∙◌, ap, subst, inl, inr, arith}
-use Rattle.std.specs.Prelude.{Result, Ok, Err, IfSome, is_none, nat_lt, remove, ◌||◌}
+use Rattle.std.proofs.Common.{◌≡◌, ◌≢◌, ℕ, ◌+◌, ◌-◌, ◌%◌, ◌<◌, ◌==◌, Bool, true, false, cond, List, [], Option, Some, None, length, get_or, set, position, refl, sym, ◌∙◌, ap, subst, inl, inr, arith}
+use Rattle.std.specs.Prelude.{Result, Ok, Err, IfSome, is_none, nat_lt, ◌||◌}
 use Rattle.std.proofs.lemmas.Bool.{cases_eq}
 use Rattle.std.proofs.lemmas.List.Quantifiers.{position-Some}
 use Rattle.dm_pool.specs.declared.places.Place.{Place}
@@ -10,13 +10,12 @@ use Rattle.dm_space.specs.Places.{IsShaped}
 use Rattle.dm_xms.specs.declared.status.Status.{Status}
 use Rattle.dm_xms.specs.declared.status.Status.TheVariants.{LineError, AreaTaken, AreaNotTaken, LineStillOn, NoMemory, NoHandleLeft, UnknownHandle, UnknownSource, PastSource, UnknownDestination, PastDestination, BadLength, NotLocked, Locked, TooManyLocks}
 use Rattle.dm_xms.specs.declared.tables.Handle.{Handle}
-use Rattle.dm_xms.specs.declared.tables.Upper.{Upper}
 use Rattle.dm_xms.specs.declared.uppers.UpperRefusal.TheVariants as refusal
 use Rattle.dm_xms.specs.declared.moves.Side.{Side}
 use Rattle.dm_xms.specs.Tables.{Tables, Extended, extended}
 use Rattle.dm_xms.specs.Calls.{left, need, slot}
 use Rattle.dm_xms.specs.Area.{take_area, release_area}
-use Rattle.dm_xms.specs.Uppers.{first_segment, at_least_one, largest_upper, lowest_upper, inserted, with_uppers, new_upper, begins_at, room, request_upper, release_upper, resize_upper}
+use Rattle.dm_xms.specs.Uppers.{at_least_one, largest_upper, lowest_upper, new_upper, begins_at, room, request_upper, release_upper, resize_upper}
 use Rattle.dm_xms.specs.Line.{is_on, switched, enable_globally, disable_globally, enable_locally, disable_locally}
 use Rattle.dm_xms.specs.Moves.{and_then, double_after, described, side, move_between, move_memory}
 use Rattle.dm_xms.specs.Blocks.{allocate, deallocate, lock, unlock, reallocate}
@@ -25,7 +24,7 @@ use Rattle.dm_xms.specs.Outside.{IsOutside, LeavesOutside}
 use Rattle.dm_xms.specs.Laws.{CallsLeaveOutside}
 use Rattle.dm_moves.specs.Regions as regions
 use Rattle.dm_moves.proofs.Shapes.{moves_keep}
-use Rattle.dm_xms.proofs.Linked.{IsChanged, changed_block, live_stays, if_handle, turned, set_at, set_beside, slot_at, there_at, IsNew, taken_new, not_live, same_pool, IsResized, at_sized}
+use Rattle.dm_xms.proofs.Linked.{IsChanged, changed_block, live_stays, if_handle, turned, set_at, set_beside, slot_at, there_at, taken_new, not_live, same_pool, at_sized}
 
 pub leaves_all : (x : Extended) → LeavesOutside x x
 leaves_all x = record { blocks = λ b n o. o; windows = refl }

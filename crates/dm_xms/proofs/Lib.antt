@@ -1,3 +1,4 @@
+pub mod Bases
 pub mod Gaps
 pub mod Rising
 pub mod Linked

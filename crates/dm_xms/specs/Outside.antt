@@ -6,12 +6,12 @@ use Rattle.dm_xms.specs.Tables.{Extended}
 use Rattle.dm_xms.specs.Linked.{handle_at}
 
 -- there is such a block, with so many bytes, and it is no handle's
-pub record IsOutside (x : Extended) (block size : ℕ) : Type 0 where
+pub record IsOutside (x : Extended) (block bytes : ℕ) : Type 0 where
   pub live : IsLive x.memory.blocks block
-  pub size : length (page_bytes x.memory block) ≡ size
+  pub size : length (page_bytes x.memory block) ≡ bytes
   pub apart : (k : ℕ) → IfSome (handle_at x.xms.handles k) (λ s. s.block ≢ block)
 
 -- such blocks stay, and so do the windows
 pub record LeavesOutside (x y : Extended) : Type 0 where
-  pub blocks : (block size : ℕ) → IsOutside x block size → IsOutside y block size
+  pub blocks : (block bytes : ℕ) → IsOutside x block bytes → IsOutside y block bytes
   pub windows : y.memory.windows ≡ x.memory.windows

@@ -8,6 +8,7 @@ ghost use Rattle.dm_xms.specs.Blocks.{address, free_memory, allocate, deallocate
 
 use crate::status::Status;
 use crate::tables::{Handle, Xms};
+use dm_pool::Block;
 use dm_space::Space;
 
 /// The linear address of the pool's first byte, behind the high memory area.
@@ -36,16 +37,23 @@ pub struct HandleInformation {
     pub kib: u16,
 }
 
+/// The linear address of a block's first byte.
+fn address(space: &Space, block: Block) -> usize
+    ensures { result ≡ address space.now.memory block }
+{
+    if space.has(block) {
+        POOL + UNIT * space.base(block)
+    } else {
+        POOL
+    }
+}
+
 impl Handle {
     /// The linear address of its block's first byte; 110000h for a block of 0 KiB.
     pub fn base(&self, space: &Space) -> usize
         ensures { result ≡ address space.now.memory self.now.block }
     {
-        if space.has(self.block) {
-            POOL + UNIT * space.base(self.block)
-        } else {
-            POOL
-        }
+        address(space, self.block)
     }
 }
 

@@ -1,5 +1,4 @@
 -- Calls keep the tables and the memory together, and leave what is outside.
-use Rattle.std.specs.Prelude.{◌==◌}
 use Rattle.dm_ins.specs.declared.operand.ByteRegister.TheVariants.{Ah}
 use Rattle.dm_exec.specs.Cpu.{byte_of}
 use Rattle.dm_xms.specs.Tables.{Extended}

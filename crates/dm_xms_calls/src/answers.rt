@@ -1,5 +1,6 @@
 //! How a call of the extended memory driver answers (XMS 3.0): AX is 1 for success; for a refusal AX is 0, and BL tells why.
 ghost use Rattle.std.specs.Prelude.{◌≡◌};
+ghost use Rattle.dm_xms.specs.Uppers.{code_of};
 ghost use Rattle.dm_xms_calls.specs.Caller.{succeeded, refused, settled};
 ghost use Rattle.dm_xms_calls.specs.Blocks.{with_free, with_address, with_information};
 ghost use Rattle.dm_xms_calls.specs.Uppers as uppers;
@@ -69,8 +70,8 @@ pub(crate) fn settle_address(cpu: &mut Cpu, res: Result<usize, Status>)
 {
     match res {
         Ok(address) => {
-            cpu.dx = (address / 0x1_0000) as u16;
-            cpu.bx = address as u16;
+            cpu.dx = (address / 0x1_0000 % 0x1_0000) as u16;
+            cpu.bx = (address % 0x1_0000) as u16;
             succeed(cpu);
         }
         Err(status) => refuse(cpu, status.code()),
@@ -94,7 +95,7 @@ pub(crate) fn settle_information(cpu: &mut Cpu, res: Result<HandleInformation, S
 /// A refusal of a call on upper memory blocks.
 #[tactic(auto, unfolding(dm_xms::specs::Uppers::code_of))]
 fn refuse_upper(cpu: &mut Cpu, refusal: UpperRefusal)
-    ensures { cpu.new ≡ refused (uppers.with_room cpu.old refusal) (Rattle.dm_xms.specs.Uppers.code_of refusal) }
+    ensures { cpu.new ≡ refused (uppers.with_room cpu.old refusal) (code_of refusal) }
 {
     match refusal {
         UpperRefusal::Smaller(paragraphs) => cpu.dx = paragraphs,

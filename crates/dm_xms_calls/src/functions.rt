@@ -10,9 +10,7 @@ use crate::area::{release_area, take_area, tell_version};
 use crate::blocks::{
     allocate, deallocate, lock, move_memory, reallocate, tell_free, tell_information, unlock,
 };
-use crate::line::{
-    disable_globally, disable_locally, enable_globally, enable_locally, tell_line,
-};
+use crate::line::{disable_globally, disable_locally, enable_globally, enable_locally, tell_line};
 use crate::uppers::{release, request, resize};
 use dm_exec::Cpu;
 use dm_ins::ByteRegister;
