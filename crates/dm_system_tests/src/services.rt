@@ -15,6 +15,7 @@ use dm_proc::{Arguments, Procs, Programs};
 use dm_services::{Service, serve};
 use dm_space::Space;
 use dm_state::Parts;
+use dm_xms::Xms;
 use std::alloc::Global;
 use std::process::Abort;
 use std::test::Fail;
@@ -49,6 +50,7 @@ fn started_in(alloc: Global, space: Space) -> Result<Parts, Fail>
         cpu,
         space,
         ems: Ems::new(64),
+        xms: Xms::new(),
         console: Console::new(alloc, Vec::new(alloc)),
         procs,
         strategy: first,

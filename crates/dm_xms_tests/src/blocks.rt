@@ -2,7 +2,7 @@
 //! before: a block lies at 110000h and 400h more for each KiB of the pool before it.
 
 use crate::calls::Call::{
-    Allocate, Free, Get, Kib, Largest, Left, Lock, Locks, Put, Resize, Total, Unlock,
+    Allocate, Base, Free, Get, Kib, Largest, Left, Lock, Locks, Put, Resize, Total, Unlock,
 };
 use crate::calls::{make, run};
 use crate::checks::same;
@@ -30,6 +30,9 @@ fn the_pool_is_told_in_kib(rt: HostRuntime) -> Result<(), Fail> {
             // A block of 0 KiB needs no gap.
             (Allocate(0), Ok(3)),
             (Lock(3), Ok(0x11_0000)),
+            (Base(2), Ok(0x21_0000)),
+            (Base(3), Ok(0x11_0000)),
+            (Base(4), Ok(1)),
             (Free(1), Ok(0)),
             (Largest, Ok(0x400)),
         ],

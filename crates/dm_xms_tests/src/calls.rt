@@ -50,6 +50,11 @@ pub(crate) enum Call {
     Request(u16),
     Release(u16),
     ResizeUpper(u16, u16),
+    /// The segment and the paragraphs of an upper memory block, counted from the lowest; 1 where there are not so many.
+    Upper(usize),
+    Paragraphs(usize),
+    /// Where the block of a handle begins; 1 where the handle is not in use.
+    Base(u16),
     /// So many bytes are moved from a handle's offset to another handle's.
     Move(u32, Side, Side),
     /// The same, as a structure says that begins at this offset.
@@ -60,9 +65,9 @@ pub(crate) enum Call {
 }
 
 use self::Call::{
-    Allocate, Free, Get, IsOn, IsTaken, Kib, Largest, Left, Lock, Locks, Move, MoveBy, Off,
-    OffLocally, On, OnLocally, Peek, Poke, Put, Release, ReleaseArea, Request, Resize, ResizeUpper,
-    TakeArea, Total, Unlock,
+    Allocate, Base, Free, Get, IsOn, IsTaken, Kib, Largest, Left, Lock, Locks, Move, MoveBy, Off,
+    OffLocally, On, OnLocally, Paragraphs, Peek, Poke, Put, Release, ReleaseArea, Request, Resize,
+    ResizeUpper, TakeArea, Total, Unlock, Upper,
 };
 
 /// What a call answers: a number, 0 where it has none, or an error code, with a number where it has one.
@@ -131,6 +136,16 @@ fn ask(e: &Extended, call: Call) -> Answer {
         Locks(handle) => number(e.xms().information(handle).map(|told| told.locks as usize)),
         Left(handle) => number(e.xms().information(handle).map(|told| told.free as usize)),
         Kib(handle) => number(e.xms().information(handle).map(|told| told.kib as usize)),
+        Upper(at) => Ok(e.xms().upper(at).map_or(1, |upper| upper.segment as usize)),
+        Paragraphs(at) => Ok(
+            e.xms()
+                .upper(at)
+                .map_or(1, |upper| upper.paragraphs as usize),
+        ),
+        Base(handle) => Ok(match e.xms().handle(handle) {
+            Some(slot) => slot.base(e.space()),
+            None => 1,
+        }),
         Get(handle, at) => Ok(e.get(handle, at).unwrap_or(0xFF) as usize),
         Peek(segment, offset) => Ok(e.space().peek(segment, offset) as usize),
         _ => Ok(0),

@@ -1,6 +1,6 @@
 //! Upper memory blocks. The figures are the driver's error codes, segments, and what follows by hand from the calls before.
 
-use crate::calls::Call::{Release, Request, ResizeUpper};
+use crate::calls::Call::{Paragraphs, Release, Request, ResizeUpper, Upper};
 use crate::calls::{make, run};
 use crate::checks::same;
 use crate::extended::Extended;
@@ -77,6 +77,14 @@ fn blocks_get_another_size_where_they_lie(rt: HostRuntime) -> Result<(), Fail> {
             (Release(0xD010), Ok(0)),
             (ResizeUpper(0xD008, 9), Ok(0)),
             (ResizeUpper(0xD008, 10), Err((0xB0, 9))),
+            // They are told from the lowest one on.
+            (Upper(0), Ok(0xD000)),
+            (Paragraphs(0), Ok(8)),
+            (Upper(1), Ok(0xD008)),
+            (Paragraphs(1), Ok(9)),
+            (Upper(2), Ok(0xD011)),
+            (Paragraphs(2), Ok(1)),
+            (Upper(3), Ok(1)),
         ],
     )
 }
