@@ -1,14 +1,12 @@
 -- When a new header may stand beside others, and what a list with it is then.
-use Rattle.std.proofs.Common.{◌≡◌, ◌≢◌, ℕ, ◌+◌, ◌*◌, ◌<◌, ◌≤◌, Bool, true, false, not, MatchBool, List, [], ◌∷◌, ◌++◌, ◌⊎◌, inl, inr, refl, sym, ◌∙◌, ap, subst, arith, Option, Some, None}
+use Rattle.std.proofs.Common.{◌≡◌, ◌≢◌, ℕ, ◌*◌, ◌<◌, ◌≤◌, Bool, true, false, not, MatchBool, List, [], ◌∷◌, ◌++◌, ◌⊎◌, inl, inr, refl, sym, ◌∙◌, ap, subst, arith, Option, Some, None}
 use Rattle.std.specs.Prelude.{option_to_list}
 use Rattle.dm_space.specs.declared.place.Place.{Place}
 use Rattle.dm_space.specs.declared.place.Place.TheVariants.{Low, Page, Rom, Nothing}
 use Rattle.dm_space.specs.Memory.{Memory, place}
 use Rattle.dm_space.specs.Places.{IsWritable}
 use Rattle.dm_arena.specs.declared.header.Header.{Header}
-use Rattle.dm_arena.specs.declared.cut.Cut.{Cut}
-use Rattle.dm_arena.specs.Chain.{HasHeader, IsClear, next}
-use Rattle.dm_arena.specs.Blocks.{cut_list}
+use Rattle.dm_arena.specs.Chain.{HasHeader, IsClear}
 use Rattle.dm_arena.specs.Walks.{Fills}
 use Rattle.dm_arena.specs.Standing.{MayStand, MaySplit, IsNew, Occupies}
 use Rattle.dm_arena.proofs.Chains.{has_left, has_right, has_either}

@@ -1,10 +1,10 @@
 -- Steps of the walks that look for a header on a place.
-use Rattle.std.proofs.Common.{◌≡◌, ◌≢◌, ℕ, ◌*◌, ◌<◌, ◌≤◌, Bool, true, false, MatchBool, List, [], ◌∷◌, ◌⊎◌, inl, inr, refl, sym, ◌∙◌, ap, subst, arith}
+use Rattle.std.proofs.Common.{◌≡◌, ◌≢◌, ℕ, ◌*◌, ◌≤◌, Bool, true, false, MatchBool, List, [], ◌∷◌, ◌⊎◌, inl, inr, refl, sym, ◌∙◌, ap, subst}
 use Rattle.dm_space.specs.declared.place.Place.{Place}
 use Rattle.dm_space.specs.Memory.{Memory, place}
 use Rattle.dm_arena.specs.declared.header.Header.{Header}
 use Rattle.dm_arena.specs.declared.header.Entry.{Entry}
-use Rattle.dm_arena.specs.Chain.{HasHeader, IsNonEmpty, Spells, next}
+use Rattle.dm_arena.specs.Chain.{IsNonEmpty, Spells, next}
 use Rattle.dm_arena.specs.Blocks.{join}
 use Rattle.dm_arena.specs.Standing.{AreOutside, Occupies, OccupiesOutside}
 use Rattle.dm_arena.specs.Walks.{is_nil, IsFront, IsJoinedFront, IsLooking, IsLookingOutside, IsSpelledFrom}

@@ -2,15 +2,15 @@
 use Rattle.std.proofs.Common.{◌≡◌, ◌≢◌, ℕ, zero, suc, ◌*◌, ◌<◌, Bool, true, false, MatchBool, List, [], ◌∷◌, ◌++◌, length, get_or, set, replicate, ◌⊎◌, inl, inr, refl, sym, ◌∙◌, ap, subst, arith}
 use Rattle.std.proofs.lemmas.Bool.{cases_lt}
 use Rattle.std.proofs.lemmas.List.{get_or-set_same, get_or-set_other, length-set, length-replicate}
-use Rattle.dm_space.specs.declared.place.Place.TheVariants.{Low, Page, Rom, Nothing}
+use Rattle.dm_space.specs.declared.place.Place.TheVariants.{Low, Page}
 use Rattle.dm_space.specs.Memory.{Memory, place}
 use Rattle.dm_arena.specs.declared.header.Header.{Header}
 use Rattle.dm_arena.specs.Chain.{HasHeader}
 use Rattle.dm_arena.specs.Marks.{slot, AreMarked, IsMarkOf}
-use Rattle.dm_arena.specs.Standing.{MayStand, Occupies}
+use Rattle.dm_arena.specs.Standing.{MayStand}
 use Rattle.dm_arena.proofs.Chains.{has_left, has_right, has_either}
 use Rattle.dm_arena.proofs.Places.{page-framed, slot-small, slot-apart, page-first, page-second, low≢page}
-use Rattle.dm_arena.proofs.Beside.{low-stands, page-stands, occupied-stands}
+use Rattle.dm_arena.proofs.Beside.{page-stands, occupied-stands}
 
 number-decide : (a b : ℕ) → (a ≡ b) ⊎ (a ≢ b)
 number-decide a b = elim (cases_lt a b) [

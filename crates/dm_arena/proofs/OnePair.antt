@@ -1,15 +1,15 @@
 -- A pair of blocks is planned in one way.
-use Rattle.std.proofs.Common.{◌≡◌, ℕ, ◌+◌, ◌<◌, IsTrue, min, List, [], ◌∷◌, ◌++◌, inl, inr, refl, sym, ◌∙◌, ap, ap₂, subst, arith, Option, Some, None, Result, Ok, Err}
+use Rattle.std.proofs.Common.{◌≡◌, ℕ, ◌+◌, ◌<◌, IsTrue, min, List, ◌∷◌, ◌++◌, inl, inr, refl, sym, ◌∙◌, ap, ap₂, subst, arith, Option, Some, None, Result, Ok, Err}
 use Rattle.dm_space.specs.Memory.{Memory}
 use Rattle.dm_arena.specs.declared.header.Header.{Header}
 use Rattle.dm_arena.specs.declared.refusal.Refusal.{Refusal}
 use Rattle.dm_arena.specs.declared.refusal.Refusal.TheVariants.{Destroyed, Short, NoBlock}
 use Rattle.dm_arena.specs.declared.fit.Spoken.{Spoken}
 use Rattle.dm_arena.specs.declared.fit.Strategy.{Strategy}
-use Rattle.dm_arena.specs.Chain.{first_header, IsArena, IsClear, Becomes, next}
+use Rattle.dm_arena.specs.Chain.{first_header, IsArena, IsClear, Becomes}
 use Rattle.dm_arena.specs.Blocks.{join, largest, fits, IsIn, cut, taken}
 use Rattle.dm_arena.specs.Walks.{pick, left_of, rest_of, Fills}
-use Rattle.dm_arena.specs.Allocation.{Taking, changed}
+use Rattle.dm_arena.specs.Allocation.{changed}
 use Rattle.dm_arena.specs.Pair.{Pairing, Planned, paired, IsPair, Placed, placed_of, Pairs, PairRefused}
 use Rattle.dm_arena.proofs.Allocating.{taking_of, in_middle, changed_fills}
 use Rattle.dm_arena.proofs.Unique.{arena_unique, becomes_unique, split_unique}

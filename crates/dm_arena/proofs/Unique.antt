@@ -1,11 +1,10 @@
 -- At most one list has a chain, and a list leaves one memory.
-use Rattle.std.proofs.Common.{◌≡◌, ◌≢◌, ℕ, ◌+◌, ◌*◌, ◌<◌, ◌≤◌, true, false, ◌&&◌, List, [], ◌∷◌, ◌++◌, length, ◌⊎◌, inl, inr, refl, sym, ◌∙◌, ap, ap₂, subst, arith}
+use Rattle.std.proofs.Common.{◌≡◌, ◌≢◌, ℕ, ◌+◌, ◌*◌, ◌<◌, ◌≤◌, List, [], ◌∷◌, ◌++◌, length, ◌⊎◌, inl, inr, refl, sym, ◌∙◌, ap, ap₂, subst, arith}
 use Rattle.dm_space.specs.declared.place.Place.{Place}
 use Rattle.dm_space.specs.Memory.{Memory, place, peek, byte_at}
 use Rattle.dm_space.proofs.Places.{place-decide, place-shaped, peek-place, memory-same}
 use Rattle.dm_arena.specs.declared.header.Header.{Header}
 use Rattle.dm_arena.specs.Chain.{word, Spells, HasHeader, IsChain, IsHeader, IsArena, Becomes, next}
-use Rattle.dm_arena.specs.Blocks.{is_free, merge, join, join_after}
 use Rattle.dm_arena.specs.Walks.{Fills}
 use Rattle.dm_arena.specs.Listing.{Path, Leads}
 use Rattle.dm_arena.proofs.Reading.{header-unique}

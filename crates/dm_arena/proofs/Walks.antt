@@ -1,5 +1,5 @@
 -- Steps of the walk that tells the headers.
-use Rattle.std.proofs.Common.{◌≡◌, ℕ, ◌<◌, ◌≤◌, Bool, true, false, List, [], ◌∷◌, ◌++◌, ◌*◌, ◌⊎◌, inl, inr, refl, sym, ◌∙◌, ap, ap₂, subst, arith, Option, Some, None}
+use Rattle.std.proofs.Common.{◌≡◌, ℕ, ◌<◌, ◌≤◌, Bool, true, false, List, [], ◌∷◌, ◌++◌, ◌*◌, inl, inr, refl, sym, ◌∙◌, ap, ap₂, subst, arith, Option, Some, None}
 use Rattle.std.specs.Prelude.{if◌then◌else◌, IfSome}
 use Rattle.dm_space.specs.Memory.{Memory, place}
 use Rattle.dm_space.specs.Places.{IsWritable}

@@ -1,6 +1,4 @@
-use Rattle.std.proofs.Common.{◌≡◌, ◌∙◌, None, Option, ℕ, sym}
-use Rattle.dm_arena.specs.declared.listing.Step.{Step}
-use Rattle.dm_arena.specs.Listing.{IsStep}
+use Rattle.std.proofs.Common.{◌∙◌}
 use Rattle.dm_arena.proofs.Telling.{not_ended, broken, told_last, told_more, told_smaller, step_is}
 use Rattle.dm_arena.proofs.list.is_arena.Goals as goal
 

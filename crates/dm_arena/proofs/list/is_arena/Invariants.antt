@@ -1,4 +1,4 @@
-use Rattle.std.proofs.Common.{◌≡◌, ◌-◌, ◌≤◌, ℕ, Some}
+use Rattle.std.proofs.Common.{◌≡◌, ◌≤◌, ℕ, Some}
 use Rattle.dm_arena.specs.Walks.{steps_left}
 use Rattle.dm_arena.proofs.list.is_arena.Given as goal
 
