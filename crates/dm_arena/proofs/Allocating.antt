@@ -1,6 +1,6 @@
 -- The parts of an allocation.
-use Rattle.std.proofs.Common.{◌≡◌, ℕ, ◌+◌, ◌-◌, ◌*◌, ◌<◌, ◌≤◌, Bool, true, false, cond, ◌&&◌, IsTrue, List, [], ◌∷◌, ◌++◌, ◌⊎◌, inl, inr, refl, sym, ◌∙◌, ap, subst, arith, Option, Some, None, nat_eq}
-use Rattle.std.specs.Prelude.{MatchOption, option_to_list}
+use Rattle.std.proofs.Common.{◌≡◌, ℕ, ◌+◌, ◌-◌, ◌*◌, ◌<◌, ◌≤◌, Bool, true, false, ◌&&◌, IsTrue, List, [], ◌∷◌, ◌++◌, ◌⊎◌, inl, inr, refl, sym, ◌∙◌, ap, subst, arith, Some, None, nat_eq}
+use Rattle.std.specs.Prelude.{option_to_list}
 use Rattle.std.proofs.lemmas.Bool.Decides.{nat_tests}
 use Rattle.dm_space.specs.Memory.{Memory, peek}
 use Rattle.dm_space.proofs.Places.{place-shaped, shaped-then}
@@ -12,16 +12,11 @@ use Rattle.dm_arena.specs.Chain.{IsHeader, signature, Spells, HasHeader, IsNonEm
 use Rattle.dm_arena.specs.Walks.{is_nil, pick, Fills, IsReplaceable, IsReplaced, IsJoined, Placing, IsPlan}
 use Rattle.dm_arena.specs.Blocks.{is_free, merge, join, join_after, fits, cut, cut_low, cut_high, taken, IsIn, cut_list}
 use Rattle.dm_arena.specs.Allocation.{Taking, changed}
-use Rattle.dm_arena.proofs.Chains.{has_left, has_right, has_either, spells_end, clear_map}
-use Rattle.dm_arena.proofs.Reading.{clear-below}
+use Rattle.dm_arena.specs.Standing.{MaySplit, IsNew}
+use Rattle.dm_arena.proofs.Chains.{has_left, has_right, has_either, spells_end, clear_map, clear_within}
+use Rattle.dm_arena.proofs.Beside.{cut-either, cut-has, cut-new, clear-cut, unclear-cut, new-cut}
+use Rattle.dm_arena.proofs.Ends.{bool_cases, join_after-cond, fills_left, fills_right, fills_above, fills_replaced, join_fills}
 use Rattle.dm_arena.proofs.Fitting.{fit_found}
-
-pub bool_cases : (b : Bool) → (b ≡ true) ⊎ (b ≡ false)
-bool_cases true = inl refl
-bool_cases false = inr refl
-
-pub join_after-cond : (b c : Header) (L : List Header) (r : Bool) → is_free b && is_free c ≡ r → join_after b (c ∷ L) ≡ cond r (join_after (merge b c) L) (b ∷ join_after c L)
-join_after-cond b c L r e = rw e refl
 
 -- the headers of the joined list are headers of the list
 join_after-within : (b : Header) (L : List Header) (g : ℕ) → HasHeader (join_after b L) g → (b.segment ≡ g) ⊎ HasHeader L g
@@ -85,29 +80,16 @@ cut_fills Last n owner b h = cut_high-fills n owner b _ refl h
 pub fits_size : (n : ℕ) (b : Header) → IsTrue (fits n b) → n ≤ b.size
 fits_size n b h = grind (arith, nat_tests)
 
--- the new list is clear where its new header is below A000h
-joined_has : (L P : List Header) (b : Header) (Q : List Header) → join L ≡ P ++ b ∷ Q → (g : ℕ) → HasHeader (P ++ b ∷ Q) g → HasHeader L g
-joined_has L P b Q e g w = join-within L g (let F : List Header → Type 0 = λ M. HasHeader M g in subst F (sym e) w)
+-- the joined list is as clear as the list
+pub join-clear : (S : Memory) (start : ℕ) (L : List Header) → IsArena S start L → IsClear S (join L)
+join-clear S start L a = clear_within S L (join L) (join-within L) a.1
 
-pub low_rest : (o : Option Header) → MatchOption o (Unit {0}) (λ c. c.segment < 0xA000) → (f : Header) → f.segment < 0xA000 → (g : ℕ) → HasHeader (f ∷ option_to_list o) g → g < 0xA000
-low_rest None m f l g w = elim w [ inl e ↦ omega arith | inr r ↦ absurd r ]
-low_rest (Some d) m f l g w = elim w [ inl e ↦ omega arith | inr r ↦ elim r [ inl e ↦ omega arith | inr r' ↦ absurd r' ] ]
-
-pub high_rest : (S : Memory) (P : List Header) (f : Header) (o : Option Header) (Q : List Header) → MatchOption o ⊥ (λ c. 0xA000 ≤ c.segment) → IsClear S (P ++ ((f ∷ option_to_list o) ++ Q)) → ⊥
-high_rest S P f None Q m c = m
-high_rest S P f (Some d) Q m c = let x = c.below d.segment (has_right P (f ∷ d ∷ Q) _ (inr (inl refl))) in omega arith
-
-pub clear_cut : (S : Memory) (start : ℕ) (L P : List Header) (b : Header) (Q : List Header) (cut : Cut) → IsArena S start L → join L ≡ P ++ b ∷ Q → cut.first.segment ≡ b.segment → MatchOption cut.second (Unit {0}) (λ c. c.segment < 0xA000) → IsClear S (P ++ (cut_list cut ++ Q))
-clear_cut S start L P b Q cut a e f m =
-    let under : (g : ℕ) → HasHeader (P ++ b ∷ Q) g → g < 0xA000 = λ g w. a.1.below g (joined_has L P b Q e g w) in
-    let low : cut.first.segment < 0xA000 = (let x = under b.segment (has_right P (b ∷ Q) _ (inl refl)) in omega arith) in
-    clear-below S _ (λ g w. elim (has_either P (cut_list cut ++ Q) g w) [
-      | inl l ↦ under g (has_left P (b ∷ Q) g l)
-      | inr r ↦ elim (has_either (cut_list cut) Q g r) [
-        | inl k ↦ low_rest cut.second m cut.first low g k
-        | inr k ↦ under g (has_right P (b ∷ Q) g (inr k))
-      ]
-    ])
+-- the list in which the first block is taken lies end to end
+pub changed_fills : (S : Memory) (start : ℕ) (st : Strategy) (n o : ℕ) (t : Taking S start st n) → (h e : ℕ) × Fills h (changed t o) e
+changed_fills S start st n o t =
+    let r = join_fills S start t.list t.arena.0.1 in
+    let F : List Header → Type 0 = λ X. Fills r.1 X r.0 in
+    (r.1, r.0, fills_replaced r.1 r.0 t.before t.block (cut st n o t.block) t.after (subst F t.joined r.2) (cut_fills st n o t.block (fits_size n t.block t.fit.fit)))
 
 -- the block that the search found
 abbrev pub taking_of : (S : Memory) (start : ℕ) (st : Strategy) (n : ℕ) (L : List Header) (b : Header) → IsArena S start L → pick st n None (join L) ≡ Some b → Taking S start st n
@@ -124,23 +106,59 @@ module _ (S : Memory) (start : ℕ) (st : Strategy) (n owner : ℕ) (L : List He
   block_ends = (let f = fit_found st n (join L) b e in block_fits S start L f.1.0 b f.1.1 a.0.1 f.1.2)
 
   module _ (c : Cut) (is : cut_list c ≡ cut st n owner b) where
-    first_at : c.first.segment ≡ b.segment
-    first_at = (let F : List Header → Type 0 = λ X. Fills b.segment X (next b) in subst F (sym is) (cut_fills st n owner b block_within)).0
+    abbrev pub found : Taking S start st n
+    found = taking_of S start st n L b a e
 
-    pub planned : MatchOption c.second (Unit {0}) (λ d. d.segment < 0xA000) → (segment : ℕ) → segment ≡ taken st n b + 1 → IsPlan S start st n owner (record { cut = c; segment = segment })
-    planned m segment s =
-        let t = taking_of S start st n L b a e in
-        record {
-          taking = t;
-          cut_is = is;
-          segment_is = s;
-          clear = (let F : List Header → Type 0 = λ X. IsClear S (t.before ++ (X ++ t.after)) in subst F is (clear_cut S start L t.before b t.after c a t.joined first_at m));
-        }
+    fills : Fills b.segment (cut_list c) (next b)
+    fills = let F : List Header → Type 0 = λ X. Fills b.segment X (next b) in subst F (sym is) (cut_fills st n owner b block_within)
 
-    pub unplanned : MatchOption c.second ⊥ (λ d. 0xA000 ≤ d.segment) → (t : Taking S start st n) × (IsClear S (changed t owner) → ⊥)
-    unplanned m =
-        let t = taking_of S start st n L b a e in
-        (t, λ k. high_rest S t.before c.first c.second t.after m (let F : List Header → Type 0 = λ X. IsClear S (t.before ++ (X ++ t.after)) in subst F (sym is) k))
+    -- a new header is one that the joined list doesn't have
+    pub is_new : IsNew (join L) c.second
+    is_new =
+        let r = join_fills S start L a.0.1 in
+        let F : List Header → Type 0 = λ X. Fills r.1 X r.0 in
+        let G : List Header → Type 0 = λ X. IsNew X c.second in
+        let f = subst F found.joined r.2 in
+        subst G (sym found.joined) (new-cut found.before b found.after (next b) c.first c.second (fills_left r.1 r.0 found.before b found.after f) (fills_above (next b) r.0 found.after (fills_right r.1 r.0 found.before b found.after f)) fills)
+
+    pub clear_changed : MaySplit S (join L) c.second → IsClear S (changed found owner)
+    clear_changed m =
+        let F : List Header → Type 0 = λ X. IsClear S (found.before ++ (X ++ found.after)) in
+        let G : List Header → Type 0 = λ X. MaySplit S X c.second in
+        let H : List Header → Type 0 = λ X. IsClear S X in
+        subst F is (clear-cut S found.before b found.after c.first c.second fills.0 (subst H found.joined (join-clear S start L a)) (subst G found.joined m))
+
+    pub unclear_changed : (MaySplit S (join L) c.second → ⊥) → IsClear S (changed found owner) → ⊥
+    unclear_changed m k =
+        let F : List Header → Type 0 = λ X. IsClear S (found.before ++ (X ++ found.after)) in
+        let G : List Header → Type 0 = λ X. MaySplit S X c.second in
+        let H : List Header → Type 0 = λ X. IsNew X c.second in
+        unclear-cut S found.before b found.after c.first c.second fills.0 (subst H found.joined is_new) (λ x. m (subst G (sym found.joined) x)) (subst F (sym is) k)
+
+    -- the headers of the changed list are those of the joined list and the new one
+    pub changed_either : (g : ℕ) → HasHeader (changed found owner) g → HasHeader (option_to_list c.second ++ join L) g
+    changed_either g w =
+        let F : List Header → Type 0 = λ X. HasHeader (found.before ++ (X ++ found.after)) g in
+        let G : List Header → Type 0 = λ X. HasHeader X g in
+        elim (cut-either found.before b c.first c.second found.after fills.0 g (subst F (sym is) w)) [
+          | inl l ↦ has_right (option_to_list c.second) (join L) g (subst G (sym found.joined) l)
+          | inr r ↦ has_left (option_to_list c.second) (join L) g r
+        ]
+
+    pub changed_has : (g : ℕ) → HasHeader (option_to_list c.second ++ join L) g → HasHeader (changed found owner) g
+    changed_has g w =
+        let F : List Header → Type 0 = λ X. HasHeader (found.before ++ (X ++ found.after)) g in
+        let G : List Header → Type 0 = λ X. HasHeader X g in
+        elim (has_either (option_to_list c.second) (join L) g w) [
+          | inl l ↦ subst F is (cut-new found.before c.first c.second found.after g l)
+          | inr r ↦ subst F is (cut-has found.before b c.first c.second found.after fills.0 g (subst G found.joined r))
+        ]
+
+    pub planned : MaySplit S (join L) c.second → (segment : ℕ) → segment ≡ taken st n b + 1 → IsPlan S start st n owner (record { cut = c; segment = segment })
+    planned m segment s = record { taking = found; cut_is = is; segment_is = s; clear = clear_changed m }
+
+    pub unplanned : (MaySplit S (join L) c.second → ⊥) → (t : Taking S start st n) × (IsClear S (changed t owner) → ⊥)
+    unplanned m = (found, unclear_changed m)
 
 abbrev pub placing_of : (S : Memory) (start : ℕ) (st : Strategy) (n owner : ℕ) (c : Cut) (t : Taking S start st n) → cut_list c ≡ cut st n owner t.block → IsClear S (changed t owner) → Placing S start (cut_list c)
 placing_of S start st n owner c t is k = record {

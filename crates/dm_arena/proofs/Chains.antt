@@ -76,14 +76,12 @@ spells_below S h (p ∷ P) b Q s g (inr w) = spells_below S (next p) P b Q s.2 g
 
 pub clear_within : (S : Memory) (L M : List Header) → ((g : ℕ) → HasHeader M g → HasHeader L g) → IsClear S L → IsClear S M
 clear_within S L M in' c = record {
-  below = λ h w. c.below h (in' h w);
   writable = λ h w. c.writable h (in' h w);
   apart = λ h g w v. c.apart h g (in' h w) (in' g v);
 }
 
 pub clear_map : (S T : Memory) (L : List Header) → ((a : ℕ) → place T a ≡ place S a) → IsClear S L → IsClear T L
 clear_map S T L map c = record {
-  below = c.below;
   writable = λ h w. subst IsWritable (sym (map _)) (c.writable h w);
   apart = λ h g w v e. c.apart h g w v (sym (map _) ∙ e ∙ map _);
 }

@@ -1,6 +1,6 @@
 -- A block with the run of free blocks after it.
 use Rattle.std.proofs.Common.{◌≡◌, ℕ, ◌<◌, ◌≤◌, true, false, List, [], ◌∷◌, ◌++◌, inl, inr, refl, sym, ◌∙◌, ap, ap₂, subst, arith, append_assoc}
-use Rattle.std.specs.Prelude.{MatchOption, option_to_list}
+use Rattle.std.specs.Prelude.{option_to_list}
 use Rattle.dm_space.specs.Memory.{Memory}
 use Rattle.dm_arena.specs.declared.header.Header.{Header}
 use Rattle.dm_arena.specs.declared.header.Entry.{Entry}
@@ -10,9 +10,11 @@ use Rattle.dm_arena.specs.Chain.{Spells, HasHeader, IsNonEmpty, next, IsClear, I
 use Rattle.dm_arena.specs.Walks.{IsSpelledFrom, IsFront, Fills, IsReplaceable, IsReplaced, IsGrown, IsGrowable, IsFoundAt}
 use Rattle.dm_arena.specs.Blocks.{is_free, merge, cut, cut_low, cut_list}
 use Rattle.dm_arena.specs.Owned.{BlockRunAt, absorb, AllFree, BeginsTaken, resized}
-use Rattle.dm_arena.proofs.Chains.{has_left, has_right, has_either, spells_end}
-use Rattle.dm_arena.proofs.Reading.{clear-below}
-use Rattle.dm_arena.proofs.Allocating.{cut_fills, low_rest, high_rest}
+use Rattle.dm_arena.specs.Standing.{AreOutside, IsNew, MaySplit}
+use Rattle.dm_arena.proofs.Chains.{has_left, has_right, has_either, spells_end, spells_above, spells_below, clear_within}
+use Rattle.dm_arena.proofs.Ends.{fills_above, fills_below}
+use Rattle.dm_arena.proofs.Beside.{clear-cut, unclear-cut, new-cut}
+use Rattle.dm_arena.proofs.Allocating.{cut_fills}
 
 absorb-push : (b : Header) (R : List Header) (c : Header) → absorb b (R ++ c ∷ []) ≡ merge (absorb b R) c
 absorb-push b [] c = refl
@@ -93,6 +95,57 @@ module _ (S : Memory) (start : ℕ) (L : List Header) (segment n : ℕ) (e g : E
   spelled : Spells S start (P ++ e.header ∷ (R ++ Q))
   spelled = let F : List Header → Type 0 = λ X. Spells S start X in subst F is a.0.1
 
+  same-end : next g.header ≡ next (absorb e.header R)
+  same-end = ap next x.header
+
+  inner : Fills (next e.header) R (next (absorb e.header R))
+  inner = absorb-fills S e.header R Q (spells_end S start P e.header (R ++ Q) spelled).2
+
+  before : (h : ℕ) → HasHeader P h → h < e.header.segment
+  before h w = spells_below S start P e.header (R ++ Q) spelled h w
+
+  behind : (h : ℕ) → HasHeader Q h → next (absorb e.header R) ≤ h
+  behind h w = (let y = spells_above S (next g.header) Q x.rest h w in let z = same-end in omega arith)
+
+  has : (h : ℕ) → HasHeader (P ++ e.header ∷ (R ++ Q)) h → HasHeader L h
+  has h w = let F : List Header → Type 0 = λ X. HasHeader X h in subst F (sym is) w
+
+  kept-within : (h : ℕ) → HasHeader (P ++ e.header ∷ Q) h → HasHeader L h
+  kept-within h w = elim (has_either P (e.header ∷ Q) h w) [
+    | inl l ↦ has h (has_left P (e.header ∷ (R ++ Q)) h l)
+    | inr r ↦ elim r [
+      | inl q ↦ has h (has_right P (e.header ∷ (R ++ Q)) h (inl q))
+      | inr v ↦ has h (has_right P (e.header ∷ (R ++ Q)) h (inr (has_right R Q h v)))
+    ]
+  ]
+
+  -- the headers that stay: those that are not within the block with its run
+  pub outside : (t : ℕ) → t ≡ next g.header → AreOutside L e.header.segment t (P ++ e.header ∷ Q)
+  outside t ist = record {
+    has = λ h w o. (let F : List Header → Type 0 = λ X. HasHeader X h in
+        elim (has_either P (e.header ∷ (R ++ Q)) h (subst F is w)) [
+          | inl l ↦ has_left P (e.header ∷ Q) h l
+          | inr r ↦ elim r [
+            | inl q ↦ has_right P (e.header ∷ Q) h (inl q)
+            | inr q ↦ elim (has_either R Q h q) [
+              | inl u ↦ (let low = fills_above (next e.header) _ R inner h u in
+                  let high = fills_below (next e.header) _ R inner h u in
+                  let z = same-end in
+                  absurd (elim o [ inl y ↦ omega arith | inr y ↦ omega arith ]))
+              | inr v ↦ has_right P (e.header ∷ Q) h (inr v)
+            ]
+          ]
+        ]);
+    within = kept-within;
+    outside = λ h w. elim (has_either P (e.header ∷ Q) h w) [
+      | inl l ↦ inl (let y = before h l in omega arith)
+      | inr r ↦ elim r [
+        | inl q ↦ inl (omega arith)
+        | inr v ↦ inr (let y = behind h v in let z = same-end in omega arith)
+      ]
+    ];
+  }
+
   module _ (within : n ≤ g.header.size) (c : Cut) (cut_is : cut_list c ≡ cut First n g.header.owner g.header) where
     list_is : cut_list c ≡ cut_low n e.header.owner (absorb e.header R)
     list_is = cut_is ∙ ap₂ (λ o z. cut_low n o z) (ap (λ z. z.owner) x.header ∙ absorb-owner e.header R) x.header
@@ -103,26 +156,17 @@ module _ (S : Memory) (start : ℕ) (L : List Header) (segment n : ℕ) (e g : E
         let G : ℕ → Type 0 = λ z. Fills z (cut_low n e.header.owner (absorb e.header R)) (next (absorb e.header R)) in
         subst F (sym list_is) (subst G (absorb-segment e.header R) (cut_fills First n e.header.owner (absorb e.header R) (let y = size_is in omega arith)))
 
-    has : (h : ℕ) → HasHeader (P ++ e.header ∷ (R ++ Q)) h → HasHeader L h
-    has h w = let F : List Header → Type 0 = λ X. HasHeader X h in subst F (sym is) w
+    pub resized_new : IsNew (P ++ e.header ∷ Q) c.second
+    resized_new = new-cut P e.header Q (next (absorb e.header R)) c.first c.second before behind fills
 
-    pub clear_resized : MatchOption c.second (Unit {0}) (λ d. d.segment < 0xA000) → IsClear S (P ++ (cut_list c ++ Q))
-    clear_resized m =
-        let under : (h : ℕ) → HasHeader (P ++ e.header ∷ (R ++ Q)) h → h < 0xA000 = λ h w. a.1.below h (has h w) in
-        let low : c.first.segment < 0xA000 = (let y = under e.header.segment (has_right P (e.header ∷ (R ++ Q)) _ (inl refl)) in let z = fills.0 in omega arith) in
-        clear-below S _ (λ h w. elim (has_either P (cut_list c ++ Q) h w) [
-          | inl l ↦ under h (has_left P (e.header ∷ (R ++ Q)) h l)
-          | inr r ↦ elim (has_either (cut_list c) Q h r) [
-            | inl k ↦ low_rest c.second m c.first low h k
-            | inr k ↦ under h (has_right P (e.header ∷ (R ++ Q)) h (inr (has_right R Q h k)))
-          ]
-        ])
+    pub clear_resized : MaySplit S (P ++ e.header ∷ Q) c.second → IsClear S (P ++ (cut_list c ++ Q))
+    clear_resized m = clear-cut S P e.header Q c.first c.second fills.0 (clear_within S L (P ++ e.header ∷ Q) kept-within a.1) m
 
     pub resizing : IsClear S (P ++ (cut_list c ++ Q)) → IsReplaceable S start P (e.header ∷ R) Q (cut_list c) g.last e.header.segment (next (absorb e.header R))
     resizing k = record {
       nonempty = tt;
       spells = spelled;
-      old_fills = (refl, absorb-fills S e.header R Q (spells_end S start P e.header (R ++ Q) spelled).2);
+      old_fills = (refl, inner);
       new_fills = fills;
       end = x.last;
       clear = k;
@@ -140,7 +184,7 @@ module _ (S : Memory) (start : ℕ) (L : List Header) (segment n : ℕ) (e g : E
           }),
         )
 
-    pub unresized : MatchOption c.second ⊥ (λ d. 0xA000 ≤ d.segment) → (r : BlockRunAt S start segment) × (n ≤ (absorb r.block r.run).size) × (IsClear S (resized r n) → ⊥)
+    pub unresized : (MaySplit S (P ++ e.header ∷ Q) c.second → ⊥) → (r : BlockRunAt S start segment) × (n ≤ (absorb r.block r.run).size) × (IsClear S (resized r n) → ⊥)
     unresized m =
         let F : List Header → Type 0 = λ X. IsClear S (P ++ (X ++ Q)) in
-        (run_at, (let y = size_is in omega arith), λ k. high_rest S P c.first c.second Q m (subst F (sym list_is) k))
+        (run_at, (let y = size_is in omega arith), λ k. unclear-cut S P e.header Q c.first c.second fills.0 resized_new m (subst F (sym list_is) k))

@@ -2,6 +2,11 @@ pub mod Bytes
 pub mod Write
 pub mod Reading
 pub mod Chains
+pub mod Ends
+pub mod Places
+pub mod Beside
+pub mod Marking
+pub mod Looking
 pub mod Join
 pub mod Replace
 pub mod Fitting
@@ -11,6 +16,7 @@ pub mod Growing
 pub mod Releasing
 pub mod Unique
 pub mod Walks
+pub mod Telling
 pub mod OneAnswer
 pub mod Choosing
 pub mod Pairs

@@ -14,7 +14,8 @@ use Rattle.dm_arena.specs.Walks.{Fills}
 use Rattle.dm_arena.specs.Allocation.{Taking, changed, Allocates, AllocateRefused}
 use Rattle.dm_arena.proofs.Chains.{has_right}
 use Rattle.dm_arena.proofs.Allocating.{in_middle}
-use Rattle.dm_arena.proofs.Unique.{arena_unique, becomes_unique, fills_of, join_fills, split_unique}
+use Rattle.dm_arena.proofs.Ends.{fills_of, join_fills}
+use Rattle.dm_arena.proofs.Unique.{arena_unique, becomes_unique, split_unique}
 
 pub prefers-same : (st : Strategy) (b c : Header) → IsTrue (prefers st b c) → IsTrue (prefers st c b) → b.segment ≡ c.segment
 prefers-same First b c x y = grind (arith, nat_tests)

@@ -1,39 +1,20 @@
 -- A pair of blocks is planned in one way.
-use Rattle.std.proofs.Common.{◌≡◌, ℕ, ◌+◌, ◌<◌, IsTrue, min, List, [], ◌∷◌, ◌++◌, inl, inr, refl, sym, ◌∙◌, ap, ap₂, subst, arith, Option, Some, None, Result, Ok, Err}
+use Rattle.std.proofs.Common.{◌≡◌, ℕ, ◌+◌, ◌<◌, IsTrue, min, List, ◌∷◌, ◌++◌, inl, inr, refl, sym, ◌∙◌, ap, ap₂, subst, arith, Option, Some, None, Result, Ok, Err}
 use Rattle.dm_space.specs.Memory.{Memory}
 use Rattle.dm_arena.specs.declared.header.Header.{Header}
 use Rattle.dm_arena.specs.declared.refusal.Refusal.{Refusal}
 use Rattle.dm_arena.specs.declared.refusal.Refusal.TheVariants.{Destroyed, Short, NoBlock}
 use Rattle.dm_arena.specs.declared.fit.Spoken.{Spoken}
 use Rattle.dm_arena.specs.declared.fit.Strategy.{Strategy}
-use Rattle.dm_arena.specs.Chain.{first_header, IsArena, IsClear, Becomes, next}
+use Rattle.dm_arena.specs.Chain.{first_header, IsArena, IsClear, Becomes}
 use Rattle.dm_arena.specs.Blocks.{join, largest, fits, IsIn, cut, taken}
 use Rattle.dm_arena.specs.Walks.{pick, left_of, rest_of, Fills}
-use Rattle.dm_arena.specs.Allocation.{Taking, changed}
+use Rattle.dm_arena.specs.Allocation.{changed}
 use Rattle.dm_arena.specs.Pair.{Pairing, Planned, paired, IsPair, Placed, placed_of, Pairs, PairRefused}
-use Rattle.dm_arena.proofs.Allocating.{taking_of, in_middle, fits_size, cut_fills}
-use Rattle.dm_arena.proofs.Unique.{arena_unique, becomes_unique, join_fills, split_unique}
+use Rattle.dm_arena.proofs.Allocating.{taking_of, in_middle, changed_fills}
+use Rattle.dm_arena.proofs.Unique.{arena_unique, becomes_unique, split_unique}
 use Rattle.dm_arena.proofs.OneAnswer.{prefers-same, changed-same, taken-same}
 use Rattle.dm_arena.proofs.Pairs.{size_same, second_fit, none_second, none_first}
-
--- a block is as long as what stands in its place
-fills_replaced : (h t : ℕ) (P : List Header) (b : Header) (C Q : List Header) → Fills h (P ++ b ∷ Q) t → Fills b.segment C (next b) → Fills h (P ++ (C ++ Q)) t
-fills_replaced h t [] b C Q f c = start h C f.0 c
-  where
-    on : (h : ℕ) (C : List Header) → Fills h C (next b) → Fills h (C ++ Q) t
-    on h [] e = (let F : ℕ → Type 0 = λ x. Fills x Q t in subst F (sym e) f.1)
-    on h (d ∷ D) g = (g.0, on (next d) D g.1)
-
-    start : (h : ℕ) (C : List Header) → b.segment ≡ h → Fills b.segment C (next b) → Fills h (C ++ Q) t
-    start h C e g = (let F : ℕ → Type 0 = λ x. Fills x C (next b) in on h C (subst F e g))
-fills_replaced h t (p ∷ P) b C Q f c = (f.0, fills_replaced (next p) t P b C Q f.1 c)
-
--- the list in which the first block is taken lies end to end
-changed_fills : (S : Memory) (start : ℕ) (st : Strategy) (n o : ℕ) (t : Taking S start st n) → (h e : ℕ) × Fills h (changed t o) e
-changed_fills S start st n o t =
-    let r = join_fills S start t.list t.arena.0.1 in
-    let F : List Header → Type 0 = λ X. Fills r.1 X r.0 in
-    (r.1, r.0, fills_replaced r.1 r.0 t.before t.block (cut st n o t.block) t.after (subst F t.joined r.2) (cut_fills st n o t.block (fits_size n t.block t.fit.fit)))
 
 -- where the second block is and how large
 record IsSecond (o m v w : ℕ) : Type 0 where

@@ -1,6 +1,6 @@
 -- Two blocks, planned one after the other and written together.
 use Rattle.std.proofs.Common.{◌≡◌, ◌≢◌, ℕ, ◌+◌, ◌-◌, ◌*◌, ◌<◌, ◌≤◌, Bool, true, false, IsTrue, max, min, List, [], ◌∷◌, ◌++◌, ◌⊎◌, inl, inr, refl, sym, ◌∙◌, ap, ap₂, subst, arith, Option, Some, None, nat_eq}
-use Rattle.std.specs.Prelude.{if◌then◌else◌, MatchOption, option_to_list}
+use Rattle.std.specs.Prelude.{if◌then◌else◌, option_to_list}
 use Rattle.std.proofs.lemmas.Bool.Decides.{nat_tests}
 use Rattle.dm_space.specs.Memory.{Memory, peek}
 use Rattle.dm_space.proofs.Places.{place-shaped, shaped-then}
@@ -11,15 +11,16 @@ use Rattle.dm_arena.specs.declared.fit.Strategy.{Strategy}
 use Rattle.dm_arena.specs.declared.fit.Strategy.TheVariants.{First, Best, Last}
 use Rattle.dm_arena.specs.Chain.{HasHeader, IsClear, IsArena, IsNonEmpty, Spells, Becomes, next}
 use Rattle.dm_arena.specs.Blocks.{is_free, join, fits, largest, free_size, cut, cut_low, cut_high, taken, IsIn, IsFit, cut_list}
+use Rattle.dm_arena.specs.Standing.{MaySplit, IsNew}
 use Rattle.dm_arena.specs.Walks.{pick, better, left_of, left_part, rest_of, Fills, IsJoined, IsReplaceable, IsReplaced}
 use Rattle.dm_arena.specs.Allocation.{changed}
 use Rattle.dm_arena.specs.Pair.{Pairing, Planned, IsPair, paired}
 use Rattle.dm_arena.proofs.Chains.{has_left, has_right, has_either, spells_end, clear_within, clear_map}
-use Rattle.dm_arena.proofs.Reading.{clear-below}
+use Rattle.dm_arena.proofs.Beside.{cut-has, clear-cut, unclear-cut, new-cut, stand-within, new-within}
 use Rattle.dm_arena.proofs.Fitting.{fit_found, none_found}
 use Rattle.dm_arena.proofs.Choosing.{pick-append, largest-append}
-use Rattle.dm_arena.proofs.Allocating.{taking_of, in_middle, fits_size, cut_fills, join_after-fits, join-within, low_rest, placing_of, replaceable, becomes, signature-last}
-use Rattle.dm_arena.proofs.Unique.{fills_above, join_fills}
+use Rattle.dm_arena.proofs.Allocating.{taking_of, in_middle, fits_size, cut_fills, join_after-fits, changed_fills, is_new, clear_changed, unclear_changed, changed_either, changed_has, placing_of, replaceable, becomes, signature-last}
+use Rattle.dm_arena.proofs.Ends.{fills_above, fills_left, fills_right, fills_ends, join_fills}
 use Rattle.dm_arena.proofs.OneAnswer.{changed-same, none_taken}
 
 -- what is left of a list in which one block is spoken for
@@ -42,15 +43,6 @@ left-other s [] ne = refl
 left-other s (x ∷ X) ne =
     let t : nat_eq s.segment x.segment ≡ false = test-other s.segment x.segment (ne x.segment (inl refl)) in
     rw t (ap (λ Z. x ∷ Z) (left-other s X (λ g w. ne g (inr w))))
-
-fills_right : (h t : ℕ) (P : List Header) (b : Header) (Q : List Header) → Fills h (P ++ b ∷ Q) t → Fills (next b) Q t
-fills_right h t [] b Q f = f.1
-fills_right h t (p ∷ P) b Q f = fills_right (next p) t P b Q f.1
-
-fills_left : (h t : ℕ) (P : List Header) (b : Header) (Q : List Header) → Fills h (P ++ b ∷ Q) t → (g : ℕ) → HasHeader P g → g < b.segment
-fills_left h t [] b Q f g w = absurd w
-fills_left h t (p ∷ P) b Q f g (inl e) = (let y = fills_above (next p) t (P ++ b ∷ Q) f.1 b.segment (has_right P (b ∷ Q) _ (inl refl)) in omega arith)
-fills_left h t (p ∷ P) b Q f g (inr w) = fills_left (next p) t P b Q f.1 g w
 
 left-split : (h t : ℕ) (P : List Header) (b : Header) (Q : List Header) (s : Spoken) → Fills h (P ++ b ∷ Q) t → s.segment ≡ b.segment → left_of (Some s) (P ++ b ∷ Q) ≡ P ++ (option_to_list s.rest ++ Q)
 left-split h t P b Q s f e =
@@ -97,10 +89,6 @@ cut-largest Best n owner b h = low-largest n owner b _ refl h
 cut-largest Last n owner b h = high-largest n owner b _ refl h
 
 -- parts of a block end where it ends
-fills_ends : (h t : ℕ) (C : List Header) → Fills h C t → h ≤ t
-fills_ends h t [] f = omega arith
-fills_ends h t (c ∷ C) f = (let x = f.0 in let y = fills_ends (next c) t C f.1 in omega arith)
-
 fills_in : (h t : ℕ) (C : List Header) → Fills h C t → (c : Header) → IsIn c C → next c ≤ t
 fills_in h t [] f c i = absurd i
 fills_in h t (d ∷ C) f c (inl e) = (let y = fills_ends (next d) t C f.1 in let z : next c ≡ next d = ap next e in omega arith)
@@ -205,83 +193,51 @@ module _ (S : Memory) (start : ℕ) (st : Strategy) (n : ℕ) (L : List Header) 
           }
 
       module _ (c d : Cut) (c-is : cut_list c ≡ cut st n o b) (d-is : cut_list d ≡ cut st m o w) where
-        abbrev J : List Header
-        J = changed (taking_of S start st n L b a e) o
+        second-fills : Fills w.segment (cut_list d) (next w)
+        second-fills = let F : List Header → Type 0 = λ X. Fills w.segment X (next w) in subst F (sym d-is) (cut_fills st m o w second_within)
 
-        first-at : c.first.segment ≡ b.segment
-        first-at = (let F : List Header → Type 0 = λ X. Fills b.segment X (next b) in subst F (sym c-is) (cut_fills st n o b (fits_size n b (taking_of S start st n L b a e).fit.fit))).0
+        -- neither new header is one that was there
+        pub first_new : IsNew (join L) c.second
+        first_new = is_new S start st n o L b a e c c-is
 
-        second-at : d.first.segment ≡ w.segment
-        second-at = (let F : List Header → Type 0 = λ X. Fills w.segment X (next w) in subst F (sym d-is) (cut_fills st m o w second_within)).0
-
-        has_list : (g : ℕ) → HasHeader ((taking_of S start st n L b a e).before ++ b ∷ (taking_of S start st n L b a e).after) g → HasHeader L g
-        has_list g h = join-within L g (let F : List Header → Type 0 = λ X. HasHeader X g in subst F (sym (taking_of S start st n L b a e).joined) h)
-
-        below_first : MatchOption c.second (Unit {0}) (λ x. x.segment < 0xA000) → (g : ℕ) → HasHeader J g → g < 0xA000
-        below_first low g h =
+        split-new : IsNew ((second_fit o owned).1.0 ++ w ∷ (second_fit o owned).1.1) d.second
+        split-new =
+            let f = second_fit o owned in
             let t = taking_of S start st n L b a e in
-            let under : (x : ℕ) → HasHeader (t.before ++ b ∷ t.after) x → x < 0xA000 = λ x i. a.1.below x (has_list x i) in
-            let at : c.first.segment < 0xA000 = (let y = under b.segment (has_right t.before (b ∷ t.after) _ (inl refl)) in let z = first-at in omega arith) in
-            let F : List Header → Type 0 = λ X. HasHeader (t.before ++ (X ++ t.after)) g in
-            elim (has_either t.before (cut_list c ++ t.after) g (subst F (sym c-is) h)) [
-              | inl l ↦ under g (has_left t.before (b ∷ t.after) g l)
-              | inr r ↦ elim (has_either (cut_list c) t.after g r) [
-                | inl k ↦ low_rest c.second low c.first at g k
-                | inr k ↦ under g (has_right t.before (b ∷ t.after) g (inr k))
-              ]
-            ]
+            let r = changed_fills S start st n o t in
+            let F : List Header → Type 0 = λ X. Fills r.0 X r.1 in
+            let ends = subst F f.1.2 r.2 in
+            new-cut f.1.0 w f.1.1 (next w) d.first d.second (fills_left r.0 r.1 f.1.0 w f.1.1 ends) (fills_above (next w) r.1 f.1.1 (fills_right r.0 r.1 f.1.0 w f.1.1 ends)) second-fills
 
-        pub pair_clear : MatchOption c.second (Unit {0}) (λ x. x.segment < 0xA000) × MatchOption d.second (Unit {0}) (λ x. x.segment < 0xA000) → IsClear S (paired pairing)
-        pair_clear low =
+        pub second_new : IsNew (option_to_list c.second ++ join L) d.second
+        second_new =
             let f = second_fit o owned in
-            let F : List Header → Type 0 = λ X. IsClear S (f.1.0 ++ (X ++ f.1.1)) in
-            let under : (x : ℕ) → HasHeader (f.1.0 ++ w ∷ f.1.1) x → x < 0xA000 = λ x i. below_first low.0 x (let G : List Header → Type 0 = λ X. HasHeader X x in subst G (sym f.1.2) i) in
-            let at : d.first.segment < 0xA000 = (let y = under w.segment (has_right f.1.0 (w ∷ f.1.1) _ (inl refl)) in let z = second-at in omega arith) in
-            subst F d-is (clear-below S _ (λ g h. elim (has_either f.1.0 (cut_list d ++ f.1.1) g h) [
-              | inl l ↦ under g (has_left f.1.0 (w ∷ f.1.1) g l)
-              | inr r ↦ elim (has_either (cut_list d) f.1.1 g r) [
-                | inl k ↦ low_rest d.second low.1 d.first at g k
-                | inr k ↦ under g (has_right f.1.0 (w ∷ f.1.1) g (inr k))
-              ]
-            ]))
-
-        -- the headers of the list in which the first block is taken stay
-        has_paired : (g : ℕ) → HasHeader J g → HasHeader ((second_fit o owned).1.0 ++ (cut_list d ++ (second_fit o owned).1.1)) g
-        has_paired g h =
-            let f = second_fit o owned in
-            let G : List Header → Type 0 = λ X. HasHeader X g in
-            elim (has_either f.1.0 (w ∷ f.1.1) g (subst G f.1.2 h)) [
-              | inl l ↦ has_left f.1.0 (cut_list d ++ f.1.1) g l
-              | inr r ↦ elim r [
-                | inl q ↦ has_right f.1.0 (cut_list d ++ f.1.1) g (inl (second-at ∙ q))
-                | inr q ↦ has_right f.1.0 (cut_list d ++ f.1.1) g (has_right (cut_list d) f.1.1 g q)
-              ]
-            ]
-
-        has_new : (x : Cut) (y : Header) → x.second ≡ Some y → HasHeader (cut_list x) y.segment
-        has_new x y is = (let F : Option Header → Type 0 = λ z. HasHeader (x.first ∷ option_to_list z) y.segment in subst F (sym is) (inr (inl refl)))
-
-        high_second : (x : Option Header) → MatchOption x ⊥ (λ y. 0xA000 ≤ y.segment) → (y : Header) × (x ≡ Some y) × (0xA000 ≤ y.segment)
-        high_second None h = absurd h
-        high_second (Some y) h = (y, refl, h)
-
-        pub pair_unclear : MatchOption c.second ⊥ (λ x. 0xA000 ≤ x.segment) ⊎ MatchOption d.second ⊥ (λ x. 0xA000 ≤ x.segment) → IsClear S (paired pairing) → ⊥
-        pair_unclear high k =
             let t = taking_of S start st n L b a e in
+            let F : List Header → Type 0 = λ X. IsNew X d.second in
+            new-within (changed t o) (option_to_list c.second ++ join L) d.second (changed_has S start st n o L b a e c c-is) (subst F (sym f.1.2) split-new)
+
+        pub pair_clear : MaySplit S (join L) c.second × MaySplit S (option_to_list c.second ++ join L) d.second → IsClear S (paired pairing)
+        pair_clear may =
             let f = second_fit o owned in
+            let t = taking_of S start st n L b a e in
             let F : List Header → Type 0 = λ X. IsClear S (f.1.0 ++ (X ++ f.1.1)) in
+            let G : List Header → Type 0 = λ X. IsClear S X in
+            let H : List Header → Type 0 = λ X. MaySplit S X d.second in
+            let first : IsClear S (changed t o) = clear_changed S start st n o L b a e c c-is may.0 in
+            let second : MaySplit S (changed t o) d.second = stand-within S (option_to_list c.second ++ join L) (changed t o) d.second (changed_either S start st n o L b a e c c-is) may.1 in
+            subst F d-is (clear-cut S f.1.0 w f.1.1 d.first d.second second-fills.0 (subst G f.1.2 first) (subst H f.1.2 second))
+
+        pub pair_unclear : (MaySplit S (join L) c.second → ⊥) ⊎ (MaySplit S (option_to_list c.second ++ join L) d.second → ⊥) → IsClear S (paired pairing) → ⊥
+        pair_unclear bad k =
+            let f = second_fit o owned in
+            let t = taking_of S start st n L b a e in
+            let F : List Header → Type 0 = λ X. IsClear S (f.1.0 ++ (X ++ f.1.1)) in
+            let G : List Header → Type 0 = λ X. MaySplit S X d.second in
             let k' : IsClear S (f.1.0 ++ (cut_list d ++ f.1.1)) = subst F (sym d-is) k in
-            elim high [
-              | inl h ↦ (let x = high_second c.second h in
-                  let G : List Header → Type 0 = λ X. HasHeader (t.before ++ (X ++ t.after)) x.0.segment in
-                  let i : HasHeader J x.0.segment = subst G c-is (has_right t.before (cut_list c ++ t.after) _ (has_left (cut_list c) t.after _ (has_new c x.0 x.1))) in
-                  let z = k'.below _ (has_paired _ i) in
-                  let y = x.2 in
-                  omega arith)
-              | inr h ↦ (let x = high_second d.second h in
-                  let z = k'.below x.0.segment (has_right f.1.0 (cut_list d ++ f.1.1) _ (has_left (cut_list d) f.1.1 _ (has_new d x.0 x.1))) in
-                  let y = x.2 in
-                  omega arith)
+            let has : (g : ℕ) → HasHeader (changed t o) g → HasHeader (f.1.0 ++ (cut_list d ++ f.1.1)) g = λ g h. (let H : List Header → Type 0 = λ X. HasHeader X g in cut-has f.1.0 w d.first d.second f.1.1 second-fills.0 g (subst H f.1.2 h)) in
+            elim bad [
+              | inl h ↦ unclear_changed S start st n o L b a e c c-is h (clear_within S (f.1.0 ++ (cut_list d ++ f.1.1)) (changed t o) has k')
+              | inr h ↦ unclear-cut S f.1.0 w f.1.1 d.first d.second second-fills.0 split-new (λ x. h (stand-within S (changed t o) (option_to_list c.second ++ join L) d.second (changed_has S start st n o L b a e c c-is) (subst G (sym f.1.2) x))) k'
             ]
 
   -- no room for the second block

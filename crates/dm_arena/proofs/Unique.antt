@@ -1,17 +1,16 @@
 -- At most one list has a chain, and a list leaves one memory.
-use Rattle.std.proofs.Common.{◌≡◌, ◌≢◌, ℕ, ◌+◌, ◌*◌, ◌<◌, ◌≤◌, true, false, ◌&&◌, List, [], ◌∷◌, ◌++◌, length, ◌⊎◌, inl, inr, refl, sym, ◌∙◌, ap, ap₂, subst, arith}
+use Rattle.std.proofs.Common.{◌≡◌, ◌≢◌, ℕ, ◌+◌, ◌*◌, ◌<◌, ◌≤◌, List, [], ◌∷◌, ◌++◌, length, ◌⊎◌, inl, inr, refl, sym, ◌∙◌, ap, ap₂, subst, arith}
 use Rattle.dm_space.specs.declared.place.Place.{Place}
 use Rattle.dm_space.specs.Memory.{Memory, place, peek, byte_at}
 use Rattle.dm_space.proofs.Places.{place-decide, place-shaped, peek-place, memory-same}
 use Rattle.dm_arena.specs.declared.header.Header.{Header}
 use Rattle.dm_arena.specs.Chain.{word, Spells, HasHeader, IsChain, IsHeader, IsArena, Becomes, next}
-use Rattle.dm_arena.specs.Blocks.{is_free, merge, join, join_after}
 use Rattle.dm_arena.specs.Walks.{Fills}
 use Rattle.dm_arena.specs.Listing.{Path, Leads}
 use Rattle.dm_arena.proofs.Reading.{header-unique}
 use Rattle.dm_arena.proofs.Chains.{has_right}
 use Rattle.dm_arena.proofs.Write.{each_of_five}
-use Rattle.dm_arena.proofs.Allocating.{bool_cases, join_after-cond}
+use Rattle.dm_arena.proofs.Ends.{fills_above}
 
 spells_unique : (S : Memory) (h : ℕ) (b : Header) (L : List Header) (c : Header) (M : List Header) → Spells S h (b ∷ L) → Spells S h (c ∷ M) → b ∷ L ≡ c ∷ M
 spells_unique S h b [] c [] s t = ap (λ z. z ∷ []) (header-unique S b c _ _ s.1 t.1 (s.0 ∙ sym t.0)).0
@@ -41,7 +40,7 @@ path_short : (S : Memory) (h : ℕ) (P : List Header) (t : ℕ) → h ≤ 0xFFFF
 path_short S h [] t low p = omega arith
 path_short S h (b ∷ P) t low p = (let x = p.0 in let f = p.1.fits in let r = path_short S (next b) P t f p.2 in omega arith)
 
-pub walk_short : (S : Memory) (P : List Header) (t : ℕ) → Leads S P t → length P < 0xFF00
+pub walk_short : (S : Memory) (P : List Header) (t : ℕ) → Leads S 0x100 P t → length P < 0xFF00
 walk_short S P t w = (let r = path_short S 0x100 P t (omega arith) w.path in omega arith)
 
 -- bytes 0 to 4 of a header are those that it spells
@@ -115,37 +114,13 @@ becomes_unique S start L T U x y = memory-same S T U x.differs.shape y.differs.s
       ap (byte_at T) pt ∙ sym (peek-place T a) ∙ spelled_bytes T U start L x.chain.1 y.chain.1 f.0 f.1 f.2 f.3 ∙ peek-place U a ∙ ap (byte_at U) (sym pu))
 ])
 
--- lists that lie end to end rise
-pub fills_of : (S : Memory) (h : ℕ) (L : List Header) → Spells S h L → (t : ℕ) × Fills h L t
-fills_of S h [] s = (h, refl)
-fills_of S h (b ∷ L) s = let r = fills_of S (next b) L s.2 in (r.0, (s.0, r.1))
-
-join_after-end_to_end : (b : Header) (L : List Header) (t : ℕ) → Fills (next b) L t → Fills b.segment (join_after b L) t
-join_after-end_to_end b [] t f = (refl, f)
-join_after-end_to_end b (c ∷ L) t f =
-    let F : List Header → Type 0 = λ X. Fills b.segment X t in
-    let at : next c ≡ next (merge b c) = (let x = f.0 in omega arith) in
-    elim (bool_cases (is_free b && is_free c)) [
-      | inl e ↦ subst F (sym (join_after-cond b c L true e)) (join_after-end_to_end (merge b c) L t (let G : ℕ → Type 0 = λ z. Fills z L t in subst G at f.1))
-      | inr e ↦ subst F (sym (join_after-cond b c L false e)) (refl, (let G : ℕ → Type 0 = λ z. Fills z (join_after c L) t in subst G f.0 (join_after-end_to_end c L t f.1)))
-    ]
-
-pub join_fills : (S : Memory) (h : ℕ) (L : List Header) → Spells S h L → (t : ℕ) × (g : ℕ) × Fills g (join L) t
-join_fills S h [] s = (h, h, refl)
-join_fills S h (b ∷ L) s = let r = fills_of S (next b) L s.2 in (r.0, b.segment, join_after-end_to_end b L r.0 r.1)
-
-pub fills_above : (h t : ℕ) (L : List Header) → Fills h L t → (g : ℕ) → HasHeader L g → h ≤ g
-fills_above h t [] f g w = absurd w
-fills_above h t (b ∷ L) f g (inl e) = let x = f.0 in omega arith
-fills_above h t (b ∷ L) f g (inr w) = let x = f.0 in let y = fills_above (next b) t L f.1 g w in omega arith
-
+-- a list has one header at a segment
 head-same : (b c : Header) (L M : List Header) → b ∷ L ≡ c ∷ M → b ≡ c
 head-same b c L M e = cc
 
 tail-same : (b c : Header) (L M : List Header) → b ∷ L ≡ c ∷ M → L ≡ M
 tail-same b c L M e = cc
 
--- a rising list has one header at a segment
 pub split_unique : (h t : ℕ) (P : List Header) (b : Header) (Q P' : List Header) (b' : Header) (Q' : List Header) → Fills h (P ++ b ∷ Q) t → P ++ b ∷ Q ≡ P' ++ b' ∷ Q' → b.segment ≡ b'.segment → (P ≡ P') × (b ≡ b') × (Q ≡ Q')
 split_unique h t [] b Q [] b' Q' f e s = (refl, head-same _ _ _ _ e, tail-same _ _ _ _ e)
 split_unique h t [] b Q (p' ∷ P') b' Q' f e s =

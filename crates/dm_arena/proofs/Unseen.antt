@@ -39,7 +39,6 @@ chain-same A B v start L c = (c.0, spells-same A B v start L c.1)
 
 clear-same : (A B : Memory) → Shows A B → (L : List Header) → IsClear A L → IsClear B L
 clear-same A B v L c = record {
-  below = c.below;
   writable = λ h w. subst IsWritable (sym (v.place_same (16 * h))) (c.writable h w);
   apart = λ h g w u e. c.apart h g w u (sym (v.place_same (16 * h)) ∙ e ∙ v.place_same (16 * g));
 }

@@ -1,16 +1,20 @@
 -- Steps of the walk that tells the headers.
-use Rattle.std.proofs.Common.{◌≡◌, ℕ, ◌<◌, ◌≤◌, Bool, true, false, List, [], ◌∷◌, ◌++◌, inl, inr, refl, sym, ◌∙◌, ap, subst, arith, Option, Some, None}
+use Rattle.std.proofs.Common.{◌≡◌, ℕ, ◌<◌, ◌≤◌, Bool, true, false, List, [], ◌∷◌, ◌++◌, ◌*◌, inl, inr, refl, sym, ◌∙◌, ap, ap₂, subst, arith, Option, Some, None}
 use Rattle.std.specs.Prelude.{if◌then◌else◌, IfSome}
-use Rattle.dm_space.specs.Memory.{Memory}
+use Rattle.dm_space.specs.Memory.{Memory, place}
+use Rattle.dm_space.specs.Places.{IsWritable}
 use Rattle.dm_arena.specs.declared.header.Header.{Header}
 use Rattle.dm_arena.specs.declared.header.Entry.{Entry}
-use Rattle.dm_arena.specs.Chain.{first_header, IsHeader, signature, Spells, HasHeader, IsNonEmpty, next, IsClear, NoArena, mark}
+use Rattle.dm_arena.specs.Chain.{IsHeader, signature, Spells, HasHeader, IsNonEmpty, next, IsClear, NoArena, mark}
 use Rattle.dm_arena.specs.Walks.{is_nil}
 use Rattle.dm_arena.specs.declared.listing.Step.{Step}
 use Rattle.dm_arena.specs.declared.listing.Step.TheVariants.{Told, Destroyed}
 use Rattle.dm_arena.specs.Listing.{Walking, Path, Leads, Follows, Closes, IsStep, IsStepFrom, IsUnderWay}
 use Rattle.dm_arena.proofs.Chains.{has_left, has_right, has_either, clear_within}
-use Rattle.dm_arena.proofs.Reading.{clear-below, header-unique}
+use Rattle.dm_arena.specs.Marks.{AreMarked, IsMarkedWalk}
+use Rattle.dm_arena.specs.Standing.{MayStand}
+use Rattle.dm_arena.proofs.Reading.{header-unique}
+use Rattle.dm_arena.proofs.Beside.{clear-with}
 
 signature-append : (P Q : List Header) (b : Header) → signature (P ++ b ∷ Q) ≡ 0x4D
 signature-append [] Q b = refl
@@ -42,21 +46,50 @@ nonempty : (P : List Header) (b : Header) (Q : List Header) → IsNonEmpty (P ++
 nonempty [] b Q = tt
 nonempty (p ∷ P) b Q = tt
 
-pub told : (S : Memory) (P : List Header) (t : ℕ) (e : Entry) → Leads S P t → t < 0xA000 → e.header.segment ≡ t → IsHeader S e.header (mark e.last) → Follows S P t e
-told S P t e l low at x = record {
+-- the headers of a path are below its end, and there is one path
+path-rises : (S : Memory) (h : ℕ) (P : List Header) (t : ℕ) → Path S h P t → h ≤ t
+path-rises S h [] t p = omega arith
+path-rises S h (q ∷ P) t p = (let y = path-rises S (next q) P t p.2 in let x = p.0 in omega arith)
+
+path-below : (S : Memory) (h : ℕ) (P : List Header) (t : ℕ) → Path S h P t → (g : ℕ) → HasHeader P g → g < t
+path-below S h [] t p g w = absurd w
+path-below S h (q ∷ P) t p g (inl e) = (let y = path-rises S (next q) P t p.2 in omega arith)
+path-below S h (q ∷ P) t p g (inr w) = path-below S (next q) P t p.2 g w
+
+path-unique : (S : Memory) (h : ℕ) (P Q : List Header) (t : ℕ) → Path S h P t → Path S h Q t → P ≡ Q
+path-unique S h [] [] t p q = refl
+path-unique S h [] (b ∷ Q) t p q = (let y = path-rises S (next b) Q t q.2 in let x = q.0 in absurd (omega arith))
+path-unique S h (a ∷ P) [] t p q = (let y = path-rises S (next a) P t p.2 in let x = p.0 in absurd (omega arith))
+path-unique S h (a ∷ P) (b ∷ Q) t p q =
+    let u = header-unique S a b _ _ p.1 q.1 (p.0 ∙ sym q.0) in
+    let F : ℕ → Type 0 = λ x. Path S x Q t in
+    ap₂ (λ x X. x ∷ X) u.0 (path-unique S (next a) P Q t p.2 (subst F (sym (ap next u.0)) q.2))
+
+told : (S : Memory) (f : ℕ) (P : List Header) (t : ℕ) (e : Entry) → Leads S f P t → MayStand S P t → e.header.segment ≡ t → IsHeader S e.header (mark e.last) → Follows S P t e
+told S f P t e l may at x = record {
   at = at;
   header = x;
-  clear = clear-below S _ (λ g w. elim (has_either P (e.header ∷ []) g w) [
-    | inl i ↦ l.clear.below g i
-    | inr r ↦ elim r [ inl q ↦ omega arith | inr z ↦ absurd z ]
+  clear = clear-with S P t (P ++ e.header ∷ []) l.clear may (λ g w. elim (has_either P (e.header ∷ []) g w) [
+    | inl i ↦ inl i
+    | inr r ↦ elim r [ inl q ↦ inr (sym q ∙ at) | inr z ↦ absurd z ]
   ]);
 }
 
-pub closes : (S : Memory) (P : List Header) (t : ℕ) (e : Entry) → Leads S P t → Follows S P t e → Closes S P e
-closes S P t e l f last = ((nonempty P e.header [], path-spells S first_header P t e.header l.path f.at (header-mark S e.header _ _ (ap mark last) f.header)), f.clear)
+-- a header that follows may stand there
+stood : (S : Memory) (f : ℕ) (P : List Header) (t : ℕ) (e : Entry) → Leads S f P t → Follows S P t e → MayStand S P t
+stood S f P t e l x =
+    let here : HasHeader (P ++ e.header ∷ []) e.header.segment = has_right P (e.header ∷ []) e.header.segment (inl refl) in
+    let F : ℕ → Type 0 = λ y. IsWritable (place S (16 * y)) in
+    record {
+      writable = subst F x.at (x.clear.writable e.header.segment here);
+      apart = λ g w same. (let y : g ≡ e.header.segment = x.clear.apart g e.header.segment (has_left P (e.header ∷ []) g w) here (same ∙ ap (λ z. place S (16 * z)) (sym x.at)) in
+          let z = path-below S f P t l.path g w in
+          let at = x.at in
+          absurd (omega arith));
+    }
 
-pub high : (S : Memory) (P : List Header) (t : ℕ) (e : Entry) → 0xA000 ≤ t → Follows S P t e → ⊥
-high S P t e h f = (let x = f.clear.below e.header.segment (has_right P (e.header ∷ []) _ (inl refl)) in let y = f.at in omega arith)
+closes : (S : Memory) (f : ℕ) (P : List Header) (t : ℕ) (e : Entry) → Leads S f P t → Follows S P t e → Closes S f P e
+closes S f P t e l x last = ((nonempty P e.header [], path-spells S f P t e.header l.path x.at (header-mark S e.header _ _ (ap mark last) x.header)), x.clear)
 
 bad-by : (S : Memory) (P : List Header) (t : ℕ) (e : Entry) (r : Bool) → e.last ≡ r → ((b : Header) (L : List Header) → b.segment ≡ t → IsHeader S b (signature L) → ⊥) → Follows S P t e → ⊥
 bad-by S P t e true last bad f = bad e.header [] f.at (header-mark S e.header _ _ (ap mark last) f.header)
@@ -84,20 +117,21 @@ follows-of S P t L (k ∷ K) c is n s = (
 )
 
 -- where no header can follow, there is no arena
-pub no_arena : (S : Memory) (P : List Header) (t : ℕ) → Leads S P t → ((e : Entry) → Follows S P t e → ⊥) → NoArena S first_header
-no_arena S P t l bad L a =
-    let r = path-splits S first_header P t L l.path a.0.1 a.0.0 in
-    let f = follows-of S P t L r.0 a.1 r.1 r.2 r.3 in
-    bad f.0 f.1
+no_arena : (S : Memory) (f : ℕ) (P : List Header) (t : ℕ) → Leads S f P t → ((e : Entry) → Follows S P t e → ⊥) → NoArena S f
+no_arena S f P t l bad L a =
+    let r = path-splits S f P t L l.path a.0.1 a.0.0 in
+    let x = follows-of S P t L r.0 a.1 r.1 r.2 r.3 in
+    bad x.0 x.1
 
-pub under_way : (S : Memory) (P : List Header) (t : ℕ) (e : Entry) (r : Bool) → e.last ≡ r → Leads S P t → Follows S P t e → IfSome (if r then None else Some (next e.header)) (λ u. (Q : List Header) × Leads S Q u)
-under_way S P t e true last l f = tt
-under_way S P t e false last l f = (
+under_way : (S : Memory) (f : ℕ) (P : List Header) (t : ℕ) (e : Entry) (new : List Bool) (r : Bool) → e.last ≡ r → Leads S f P t → Follows S P t e → AreMarked S (P ++ e.header ∷ []) new → IfSome (if r then None else Some (next e.header)) (λ u. (Q : List Header) × Leads S f Q u × AreMarked S Q new)
+under_way S f P t e new true last l x a = tt
+under_way S f P t e new false last l x a = (
   P ++ e.header ∷ [],
   record {
-    path = path-more S first_header P t e.header l.path f.at (header-mark S e.header _ _ (ap mark last) f.header);
-    clear = f.clear;
+    path = path-more S f P t e.header l.path x.at (header-mark S e.header _ _ (ap mark last) x.header);
+    clear = x.clear;
   },
+  a,
 )
 
 pub at_last : (o : Option ℕ) (e : Entry) → e.last ≡ true → o ≡ None → o ≡ (if e.last then None else Some (next e.header))
@@ -106,28 +140,63 @@ at_last o e last is = rw last is
 pub at_more : (o : Option ℕ) (e : Entry) (n : ℕ) → e.last ≡ false → o ≡ Some n → n ≡ next e.header → o ≡ (if e.last then None else Some (next e.header))
 at_more o e n last is n-is = rw last (is ∙ ap (λ x. Some x) n-is)
 
--- the walk m, o, that stands at the segment t
-module _ (m : Memory) (o : Option ℕ) (u : IsUnderWay (record { memory = m; at = o })) (t : ℕ) (there : o ≡ Some t) where
-  leads : (P : List Header) × Leads m P t
-  leads = let F : Option ℕ → Type 0 = λ x. IfSome x (λ y. (P : List Header) × Leads m P y) in subst F there u
+way-by : (m : Memory) (f : ℕ) (o : Option ℕ) (marks : List Bool) → IsMarkedWalk (record { memory = m; first = f; at = o }) marks → IsUnderWay (record { memory = m; first = f; at = o })
+way-by m f None marks u = tt
+way-by m f (Some t) marks u = (u.0, u.1)
 
-  module _ (w : Walking) (is : record { memory = m; at = o } ≡ w) where
-    step_by : (s : Step) (o' : Option ℕ) → IsStepFrom m t s o' → IsStep w.memory w.at s o'
+-- what is said of a walk that is under way
+pub way : (m : Memory) (f : ℕ) (o : Option ℕ) (marks : List Bool) → IsMarkedWalk (record { memory = m; first = f; at = o }) marks → (w : Walking) → record { memory = m; first = f; at = o } ≡ w → IsUnderWay w
+way m f o marks u w is = (let F : Walking → Type 0 = λ y. IsUnderWay y in subst F is (way-by m f o marks u))
+
+-- the walk m, f, o, that stands at the segment t
+module _ (m : Memory) (f : ℕ) (o : Option ℕ) (marks : List Bool) (u : IsMarkedWalk (record { memory = m; first = f; at = o }) marks) (t : ℕ) (there : o ≡ Some t) where
+  stands : (P : List Header) × Leads m f P t × AreMarked m P marks
+  stands = let F : Option ℕ → Type 0 = λ x. IfSome x (λ y. (P : List Header) × Leads m f P y × AreMarked m P marks) in subst F there u
+
+  same : (P : List Header) → Leads m f P t → stands.0 ≡ P
+  same P l = path-unique m f stands.0 P t stands.1.path l.path
+
+  apart : HasHeader stands.0 t → ⊥
+  apart w = (let x = path-below m f stands.0 t stands.1.path t w in omega arith)
+
+  module _ (w : Walking) (is : record { memory = m; first = f; at = o } ≡ w) where
+    step_by : (s : Step) (o' : Option ℕ) → IsStepFrom m f t s o' → IsStep w.memory w.first w.at s o'
     step_by s o' x =
-        let F : Walking → Type 0 = λ y. IsStep y.memory y.at s o' in
-        let G : Option ℕ → Type 0 = λ y. IsStep m y s o' in
+        let F : Walking → Type 0 = λ y. IsStep y.memory y.first y.at s o' in
+        let G : Option ℕ → Type 0 = λ y. IsStep m f y s o' in
         subst F is (subst G (sym there) x)
 
     at_of : w.at ≡ Some t
     at_of = ap (λ x. x.at) (sym is) ∙ there
 
-    pub step_destroyed : ((P : List Header) → Leads m P t → (e : Entry) → Follows m P t e → ⊥) → IsStep w.memory w.at (Destroyed t) w.at
-    step_destroyed bad = step_by (Destroyed t) w.at (refl, at_of, no_arena m leads.0 t leads.1 (bad leads.0 leads.1), bad)
+    -- nothing there is a header
+    pub step_bad : ((b : Header) (L : List Header) → b.segment ≡ t → IsHeader m b (signature L) → ⊥) → IsStep w.memory w.first w.at (Destroyed t) w.at
+    step_bad bad = step_by (Destroyed t) w.at (refl, at_of, no_arena m f stands.0 t stands.1 (λ e. bad-header m stands.0 t e bad), λ P l e. bad-header m P t e bad)
 
-    pub step_told : (e : Entry) (o' : Option ℕ) → o' ≡ (if e.last then None else Some (next e.header)) → ((P : List Header) → Leads m P t → Follows m P t e) → IsStep w.memory w.at (Told e) o'
-    step_told e o' at-is f = step_by (Told e) o' (at-is, λ P l. (f P l, closes m P t e l (f P l)))
+  -- no header may stand there
+  module _ (new : List Bool) (refuses : (P : List Header) → AreMarked m P marks → (HasHeader P t → ⊥) → (MayStand m P t → ⊥) × (new ≡ marks)) where
+    refused : (P : List Header) → Leads m f P t → (e : Entry) → Follows m P t e → ⊥
+    refused P l e x =
+        let F : List Header → Type 0 = λ X. MayStand m X t in
+        (refuses stands.0 stands.2 apart).0 (subst F (sym (same P l)) (stood m f P t e l x))
 
-  pub goes_on : (e : Entry) (o' : Option ℕ) → o' ≡ (if e.last then None else Some (next e.header)) → ((P : List Header) → Leads m P t → Follows m P t e) → IsUnderWay (record { memory = m; at = o' })
-  goes_on e o' at-is f =
-      let F : Option ℕ → Type 0 = λ x. IfSome x (λ y. (P : List Header) × Leads m P y) in
-      subst F (sym at-is) (under_way m leads.0 t e _ refl leads.1 (f leads.0 leads.1))
+    pub step_refused : (w : Walking) → record { memory = m; first = f; at = o } ≡ w → IsStep w.memory w.first w.at (Destroyed t) o
+    step_refused w is = step_by w is (Destroyed t) o (refl, there, no_arena m f stands.0 t stands.1 (refused stands.0 stands.1), refused)
+
+    pub stays : IsMarkedWalk (record { memory = m; first = f; at = o }) new
+    stays = let F : List Bool → Type 0 = λ x. IsMarkedWalk (record { memory = m; first = f; at = o }) x in subst F (sym (refuses stands.0 stands.2 apart).1) u
+
+  -- the header of e is told
+  module _ (new : List Bool) (admits : (P : List Header) → AreMarked m P marks → (HasHeader P t → ⊥) → MayStand m P t × ((b : Header) → b.segment ≡ t → AreMarked m (P ++ b ∷ []) new)) (e : Entry) (at : e.header.segment ≡ t) (x : IsHeader m e.header (mark e.last)) where
+    follows : (P : List Header) → Leads m f P t → Follows m P t e
+    follows P l =
+        let F : List Header → Type 0 = λ X. MayStand m X t in
+        told m f P t e l (subst F (same P l) (admits stands.0 stands.2 apart).0) at x
+
+    pub step_told : (w : Walking) → record { memory = m; first = f; at = o } ≡ w → (o' : Option ℕ) → o' ≡ (if e.last then None else Some (next e.header)) → IsStep w.memory w.first w.at (Told e) o'
+    step_told w is o' at-is = step_by w is (Told e) o' (at-is, λ P l. (follows P l, closes m f P t e l (follows P l)))
+
+    pub goes_on : (o' : Option ℕ) → o' ≡ (if e.last then None else Some (next e.header)) → IsMarkedWalk (record { memory = m; first = f; at = o' }) new
+    goes_on o' at-is =
+        let F : Option ℕ → Type 0 = λ y. IfSome y (λ z. (P : List Header) × Leads m f P z × AreMarked m P new) in
+        subst F (sym at-is) (under_way m f stands.0 t e new _ refl stands.1 (follows stands.0 stands.1) ((admits stands.0 stands.2 apart).1 e.header at))

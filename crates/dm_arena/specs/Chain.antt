@@ -51,9 +51,8 @@ abbrev pub HasHeader : List Header → ℕ → Type 0
 HasHeader [] h = ⊥
 HasHeader (b ∷ L) h = (b.segment ≡ h) ⊎ HasHeader L h
 
--- each header of L has a place that keeps what is written, below A000h, and no two have the same
+-- each header of L has a place that keeps what is written, and no two have the same
 pub record IsClear (S : Memory) (L : List Header) : Type 0 where
-  pub below : (h : ℕ) → HasHeader L h → h < 0xA000
   pub writable : (h : ℕ) → HasHeader L h → IsWritable (place S (16 * h))
   pub apart : (h g : ℕ) → HasHeader L h → HasHeader L g → place S (16 * h) ≡ place S (16 * g) → h ≡ g
 

@@ -19,7 +19,7 @@ ChainIsShort = (S : Memory) (L : List Header) → IsChain S first_header L → l
 
 -- nor does a walk meet more, also where it breaks off: fewer lead to the header where it stands
 abbrev pub WalkIsShort : Type 0
-WalkIsShort = (S : Memory) (P : List Header) (t : ℕ) → Leads S P t → length P < 0xFF00
+WalkIsShort = (S : Memory) (P : List Header) (t : ℕ) → Leads S first_header P t → length P < 0xFF00
 
 -- an allocation's answer, and the memory that it leaves, are functions of the memory and the arguments
 abbrev pub AllocationHasOneAnswer : Type 0

@@ -6,3 +6,5 @@ pub mod Pair
 pub mod Listing
 pub mod Laws
 pub mod Walks
+pub mod Marks
+pub mod Standing

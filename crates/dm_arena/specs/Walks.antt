@@ -15,6 +15,7 @@ use Rattle.dm_arena.specs.declared.fit.Strategy.TheVariants.{Best, First, Last}
 use Rattle.dm_arena.specs.Owned.{AllFree, NoBlockAt, absorb, released}
 use Rattle.dm_arena.specs.declared.allocation.Plan.{Plan}
 use Rattle.dm_arena.specs.Allocation.{Taking, changed}
+use Rattle.dm_arena.specs.Standing.{Occupies, OccupiesOutside}
 
 -- what stands at segment h: the header of an entry, or none that a list could have there
 abbrev pub IsEntryAt : Memory → ℕ → Option Entry → Type 0
@@ -41,11 +42,6 @@ pub record IsFront (S : Memory) (L : List Header) (e : Entry) (K : List Header) 
   pub is : L ≡ e.header ∷ K
   pub last : e.last ≡ is_nil K
   pub rest : Spells S (next e.header) K
-
--- the list L, spelled from h on below A000h
-pub record IsArenaFrom (S : Memory) (h : ℕ) (L : List Header) : Type 0 where
-  pub spelled : IsSpelledFrom S h L
-  pub below : (g : ℕ) → HasHeader L g → g < 0xA000
 
 -- the walk that looks for a block
 pub record IsFinding (S : Memory) (L : List Header) (segment h : ℕ) (P K : List Header) : Type 0 where
@@ -76,6 +72,23 @@ pub record IsJoining (S : Memory) (L : List Header) (e : Entry) (K : List Header
   pub last : e.last ≡ is_nil K
   pub rest : Spells S (next e.header) K
   pub within : (g : ℕ) → HasHeader K g → HasHeader L g
+
+-- the walk that looks for a place among the headers of the joined list
+pub record IsLooking (S : Memory) (L : List Header) (p : Place) (h : ℕ) (K : List Header) : Type 0 where
+  pub spelled : IsSpelledFrom S h K
+  pub forth : Occupies S (join L) p → Occupies S (join K) p
+  pub back : Occupies S (join K) p → Occupies S (join L) p
+
+-- the walk that looks for it among those that are not between two segments
+pub record IsLookingOutside (S : Memory) (L : List Header) (low high : ℕ) (p : Place) (h : ℕ) (K : List Header) : Type 0 where
+  pub spelled : IsSpelledFrom S h K
+  pub forth : OccupiesOutside S L low high p → OccupiesOutside S K low high p
+  pub back : OccupiesOutside S K low high p → OccupiesOutside S L low high p
+
+-- no more steps than this are left to a walk
+abbrev pub steps_left : Option ℕ → ℕ
+steps_left None = 0
+steps_left (Some t) = 0x10000 - t
 
 -- T spells the joined list of S
 pub record IsJoined (S : Memory) (start : ℕ) (L : List Header) (T : Memory) : Type 0 where

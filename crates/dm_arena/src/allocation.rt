@@ -5,12 +5,13 @@ ghost use Rattle.dm_arena.specs.Blocks.{cut_list};
 ghost use Rattle.dm_arena.specs.Allocation.{AllocateRefused, Allocates};
 ghost use Rattle.dm_arena.specs.Walks.{IsPlan, Placing};
 
-use crate::cut::{Cut, cut_of, is_clear_cut, taken_of, write_cut};
+use crate::cut::{Cut, cut_of, taken_of, write_cut};
 use crate::fit::{Strategy, choose};
 use crate::header::is_last;
 use crate::joined::join_all;
-use crate::list::is_arena;
+use crate::list::{FIRST, is_arena};
 use crate::refusal::Refusal;
+use crate::standing::may_split;
 use dm_space::Space;
 
 /// What an allocation will write and answer.
@@ -26,7 +27,7 @@ fn plan_allocation(space: &Space, strategy: Strategy, n: u16, owner: u16) -> Res
     ensures first { IfOk result (λ plan. next plan.cut.first ≤ 0xFFFF) }
     ensures second { IfOk result (λ plan. MatchOption plan.cut.second (Unit {0}) (λ c. next c ≤ 0xFFFF)) }
 {
-    if !is_arena(space) {
+    if !is_arena(space, FIRST) {
         return Err(Refusal::Destroyed);
     }
     let choice = choose(space, strategy, n, None);
@@ -36,7 +37,7 @@ fn plan_allocation(space: &Space, strategy: Strategy, n: u16, owner: u16) -> Res
         });
     };
     let cut = cut_of(strategy, n, owner, block);
-    if !is_clear_cut(cut) {
+    if !may_split(space, FIRST, None, cut.second) {
         return Err(Refusal::Destroyed);
     }
     Ok(Plan {

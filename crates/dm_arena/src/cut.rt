@@ -1,5 +1,5 @@
 //! A block cut in two.
-ghost use Rattle.std.specs.Prelude.{◌≡◌, ℕ, ◌+◌, ◌<◌, ◌≤◌, List, MatchBool, MatchOption};
+ghost use Rattle.std.specs.Prelude.{◌≡◌, ℕ, ◌+◌, ◌<◌, ◌≤◌, List, MatchOption};
 ghost use Rattle.dm_arena.specs.declared.header.Header.{Header};
 ghost use Rattle.dm_arena.specs.Chain.{next};
 ghost use Rattle.dm_arena.specs.Blocks.{cut, taken, cut_list};
@@ -7,7 +7,6 @@ ghost use Rattle.dm_arena.specs.Walks.{IsReplaceable, IsReplaced};
 
 use crate::fit::Strategy;
 use crate::header::{Entry, Header, write_header};
-use crate::list::TOP;
 use dm_space::Space;
 
 /// The one or two headers that stand in the place of a block's.
@@ -62,16 +61,6 @@ pub(crate) fn taken_of(strategy: Strategy, n: u16, block: Header) -> u16
     match strategy {
         Strategy::First | Strategy::Best => block.segment,
         Strategy::Last => block.segment + block.size - n,
-    }
-}
-
-/// Whether the new header of a cut, if there is one, may stand where it would.
-pub(crate) fn is_clear_cut(cut: Cut) -> bool
-    ensures { MatchBool result (MatchOption cut.second (Unit {0}) (λ c. c.segment < 0xA000)) (MatchOption cut.second ⊥ (λ c. 0xA000 ≤ c.segment)) }
-{
-    match cut.second {
-        None => true,
-        Some(second) => second.segment < TOP,
     }
 }
 

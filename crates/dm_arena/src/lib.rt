@@ -17,6 +17,8 @@ mod listing;
 mod owned;
 mod pair;
 mod refusal;
+mod seen;
+mod standing;
 
 pub use allocation::allocate;
 pub use fit::Strategy;

@@ -5,12 +5,11 @@ ghost use Rattle.dm_arena.specs.Chain.{first_header, next, IsArena, NoArena};
 ghost use Rattle.dm_arena.specs.Walks.{IsFront, IsSpelledFrom, FindsBlock};
 
 use crate::header::{Entry, header_at};
+use crate::listing::{Step, walk_from};
 use dm_space::Space;
 
 /// The segment of the list's first header.
 pub(crate) const FIRST: u16 = 0x100;
-/// No header stands at or above this segment.
-pub(crate) const TOP: u16 = 0xA000;
 
 /// The header at a segment from which a list is spelled.
 pub(crate) fn entry_at(space: &Space, segment: u16) -> Entry
@@ -25,22 +24,20 @@ pub(crate) fn entry_at(space: &Space, segment: u16) -> Entry
     entry
 }
 
-/// Whether memory spells a clear list.
-pub(crate) fn is_arena(space: &Space) -> bool
-    ensures { MatchBool result ((L : List Header) × IsArena space.now.memory first_header L) (NoArena space.now.memory first_header) }
+/// Whether memory spells a clear list from a segment on.
+pub(crate) fn is_arena(space: &Space, first: u16) -> bool
+    ensures { MatchBool result ((L : List Header) × IsArena space.now.memory first L) (NoArena space.now.memory first) }
 {
-    let mut segment = FIRST;
+    let mut headers = walk_from(space, first);
     'walk: loop {
-        if segment >= TOP {
-            return false;
-        }
-        let Some(entry) = header_at(space, segment) else {
-            return false;
+        let entry = match headers.advance() {
+            Step::Told(entry) => entry,
+            Step::End => return true,
+            Step::Destroyed(_) => return false,
         };
         if entry.last {
             return true;
         }
-        segment = entry.header.next();
     }
 }
 

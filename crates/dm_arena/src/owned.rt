@@ -5,11 +5,12 @@ ghost use Rattle.dm_arena.specs.Chain.{first_header, next, Becomes, IsArena};
 ghost use Rattle.dm_arena.specs.Owned.{released, released_block, BeginsTaken, Frees, Releases, Resizes};
 ghost use Rattle.dm_arena.specs.Walks.{IsGrowable, IsGrown};
 
-use crate::cut::{Cut, cut_of, is_clear_cut, write_cut};
+use crate::cut::{Cut, cut_of, write_cut};
 use crate::fit::Strategy;
 use crate::header::{Entry, Header};
 use crate::list::{FIRST, entry_at, find, is_arena};
 use crate::refusal::Refusal;
+use crate::standing::may_split_outside;
 use dm_space::Space;
 
 /// Frees the block at a segment (MS-DOS Programmer's Reference, function 49h).
@@ -25,7 +26,7 @@ pub fn free(space: &mut Space, segment: u16) -> Result<(), Refusal>
     ensures memory { Frees space.old.memory segment result space.new.memory }
     ensures scratch { space.new.scratch ≡ space.old.scratch }
 {
-    if !is_arena(space) {
+    if !is_arena(space, FIRST) {
         return Err(Refusal::Destroyed);
     }
     let Some(entry) = find(space, segment) else {
@@ -78,7 +79,7 @@ pub fn resize(space: &mut Space, segment: u16, n: u16) -> Result<(), Refusal>
     ensures memory { Resizes space.old.memory segment n result space.new.memory }
     ensures scratch { space.new.scratch ≡ space.old.scratch }
 {
-    if !is_arena(space) {
+    if !is_arena(space, FIRST) {
         return Err(Refusal::Destroyed);
     }
     let Some(block) = find(space, segment) else {
@@ -91,7 +92,8 @@ pub fn resize(space: &mut Space, segment: u16, n: u16) -> Result<(), Refusal>
         });
     }
     let cut = cut_of(Strategy::First, n, grown.header.owner, grown.header);
-    if !is_clear_cut(cut) {
+    let end = grown.header.next();
+    if !may_split_outside(space, FIRST, block.header.segment, end, cut.second) {
         return Err(Refusal::Destroyed);
     }
     write_cut(space, cut, grown.last);
@@ -145,7 +147,7 @@ pub fn free_all(space: &mut Space, owner: u16) -> Result<(), Refusal>
     ensures memory { Releases space.old.memory owner result space.new.memory }
     ensures scratch { space.new.scratch ≡ space.old.scratch }
 {
-    if !is_arena(space) {
+    if !is_arena(space, FIRST) {
         return Err(Refusal::Destroyed);
     }
     release(space, owner);

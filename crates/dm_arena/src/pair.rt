@@ -1,15 +1,19 @@
 //! Two blocks planned and written together: the environment of a program, and the program's own.
-ghost use Rattle.std.specs.Prelude.{◌≡◌, ◌≤◌, ◌<◌, ◌⊎◌, min, MatchBool, MatchOption, MatchResult};
+ghost use Rattle.std.specs.Prelude.{◌≡◌, ◌≤◌, ◌++◌, ◌⊎◌, min, List, MatchBool, MatchResult, option_to_list};
+ghost use Rattle.dm_arena.specs.declared.header.Header.{Header};
 ghost use Rattle.dm_arena.specs.Chain.{first_header, next, Becomes};
-ghost use Rattle.dm_arena.specs.Walks.{rest_of};
+ghost use Rattle.dm_arena.specs.Blocks.{join};
+ghost use Rattle.dm_arena.specs.Walks.{rest_of, IsSpelledFrom};
+ghost use Rattle.dm_arena.specs.Standing.{IsNew, MaySplit};
 ghost use Rattle.dm_arena.specs.Pair.{paired, IsPair, IsPlannedOn, PairRefused};
 
-use crate::cut::{Cut, cut_of, is_clear_cut, taken_of, write_cut};
+use crate::cut::{Cut, cut_of, taken_of, write_cut};
 use crate::fit::{Spoken, Strategy, choose};
 use crate::header::{Header, is_last};
 use crate::joined::join_all;
-use crate::list::is_arena;
+use crate::list::{FIRST, is_arena};
 use crate::refusal::Refusal;
+use crate::standing::may_split;
 use dm_space::Space;
 use std::marker::Model;
 
@@ -105,14 +109,16 @@ fn smaller(most: u32, left: u16) -> u16
     }
 }
 
-/// Whether the new headers of both cuts may stand where they would.
-fn are_clear(first: Cut, second: Cut) -> bool
-    ensures low { MatchBool result (MatchOption first.second (Unit {0}) (λ c. c.segment < 0xA000) × MatchOption second.second (Unit {0}) (λ c. c.segment < 0xA000)) (MatchOption first.second ⊥ (λ c. 0xA000 ≤ c.segment) ⊎ MatchOption second.second ⊥ (λ c. 0xA000 ≤ c.segment)) }
+/// Whether the new headers of both cuts may stand beside those of the joined list and beside each
+/// other.
+fn are_clear(space: &Space, first: Cut, second: Cut) -> bool
+    requires { (L : List Header) × IsSpelledFrom space.now.memory first_header L }
+    ensures { (L : List Header) → IsSpelledFrom space.now.memory first_header L → IsNew (join L) first.second → IsNew (option_to_list first.second ++ join L) second.second → MatchBool result (MaySplit space.now.memory (join L) first.second × MaySplit space.now.memory (option_to_list first.second ++ join L) second.second) ((MaySplit space.now.memory (join L) first.second → ⊥) ⊎ (MaySplit space.now.memory (option_to_list first.second ++ join L) second.second → ⊥)) }
 {
-    if !is_clear_cut(first) {
+    if !may_split(space, FIRST, None, first.second) {
         return false;
     }
-    is_clear_cut(second)
+    may_split(space, FIRST, first.second, second.second)
 }
 
 /// Plans two blocks: the first with so many paragraphs, then, of what is left, the second with the
@@ -135,7 +141,7 @@ pub fn plan_pair(
 ) -> Result<Pair, Refusal>
     ensures { MatchResult result (λ pair. IsPair space.now.memory first_header strategy environment_paragraphs least most pair) (λ e. PairRefused space.now.memory first_header strategy environment_paragraphs least most e) }
 {
-    if !is_arena(space) {
+    if !is_arena(space, FIRST) {
         return Err(Refusal::Destroyed);
     }
     let choice = choose(space, strategy, environment_paragraphs, None);
@@ -158,7 +164,7 @@ pub fn plan_pair(
     let program = taken_of(strategy, size, whole) + 1;
     let first = cut_of(strategy, environment_paragraphs, program, block);
     let second = cut_of(strategy, size, program, whole);
-    if !are_clear(first, second) {
+    if !are_clear(space, first, second) {
         return Err(Refusal::Destroyed);
     }
     Ok(Pair {

@@ -14,7 +14,7 @@ use std::process::Abort;
 use std::test::Fail;
 
 /// Writes the five bytes of each header of a list.
-fn spell(space: &mut Space, blocks: &[(u16, u16)]) {
+pub(crate) fn spell(space: &mut Space, blocks: &[(u16, u16)]) {
     let mut segment = 0x100u16;
     for (index, block) in blocks.iter().enumerate() {
         let is_last = index.saturating_add(1) == blocks.len();
@@ -36,7 +36,7 @@ fn spelled(alloc: Global, blocks: &[(u16, u16)]) -> Result<Space, NewError> {
 }
 
 /// Compares the headers of a list.
-fn spells(rt: &impl Abort, call: Call, space: &Space, blocks: &[(u16, u16)]) {
+pub(crate) fn spells(rt: &impl Abort, call: Call, space: &Space, blocks: &[(u16, u16)]) {
     let mut segment = 0x100u16;
     for (index, block) in blocks.iter().enumerate() {
         let is_last = index.saturating_add(1) == blocks.len();
@@ -70,7 +70,7 @@ fn is_memory(rt: &impl Abort, call: Call, space: &Space, wanted: &Space) {
 
 /// A call of the arena.
 #[derive(Clone, Copy, Debug, PartialEq, Eq)]
-enum Call {
+pub(crate) enum Call {
     Allocate(Strategy, u16),
     Free(u16),
     Resize(u16, u16),
@@ -95,7 +95,7 @@ fn pair(
 
 /// Makes a call for the owner 7. It answers the segment of an allocated block, of two blocks where
 /// they are and the second one's size, else zeros.
-fn answer(space: &mut Space, call: Call) -> Result<(u16, u16, u16), Refusal> {
+pub(crate) fn answer(space: &mut Space, call: Call) -> Result<(u16, u16, u16), Refusal> {
     match call {
         Allocate(strategy, n) => Ok((allocate(space, strategy, n, 7)?, 0, 0)),
         Free(segment) => free(space, segment).map(|()| (0, 0, 0)),
@@ -209,7 +209,7 @@ fn blocks_are_resized_and_freed(rt: HostRuntime) -> Result<(), Fail> {
 fn strategies_choose_and_cut(rt: HostRuntime) -> Result<(), Fail> {
     let [first, best, last] = [Strategy::First, Strategy::Best, Strategy::Last];
     let three = [(0, 2), (9, 1), (0, 5), (9, 1), (0, 9)];
-    let rows: [(&[(u16, u16)], Strategy, u16, u16, &[(u16, u16)]); 17] = [
+    let rows: [(&[(u16, u16)], Strategy, u16, u16, &[(u16, u16)]); 18] = [
         (
             &three,
             first,
@@ -305,7 +305,7 @@ fn strategies_choose_and_cut(rt: HostRuntime) -> Result<(), Fail> {
             0x103,
             &[(9, 1), (7, 0), (9, 2)],
         ),
-        // the last block ends at FFFFh, the last header stands at 9FFFh
+        // the last block ends at FFFFh, the last header stands at 9FFFh or A000h
         (&[(0, 0xFEFE)], first, 1, 0x101, &[(7, 1), (0, 0xFEFC)]),
         (
             &[(0, 0xFEFE)],
@@ -313,6 +313,13 @@ fn strategies_choose_and_cut(rt: HostRuntime) -> Result<(), Fail> {
             0x9EFE,
             0x101,
             &[(7, 0x9EFE), (0, 0x5FFF)],
+        ),
+        (
+            &[(0, 0xFEFE)],
+            first,
+            0x9EFF,
+            0x101,
+            &[(7, 0x9EFF), (0, 0x5FFE)],
         ),
         (&[(0, 0xFEFE)], last, 0xFEFE, 0x101, &[(7, 0xFEFE)]),
     ];
@@ -463,12 +470,12 @@ fn refused_calls_leave_the_list(rt: HostRuntime) -> Result<(), Fail> {
         (&[(7, 4)], Free(0xFFFF), none),
         (&[(7, 4)], Resize(0xFFFF, 0), none),
         (&[(7, 4)], Resize(0, 0xFFFF), none),
-        // the new header would stand at A000h or above
-        (&[(0, 0xFEFE)], Allocate(first, 0x9EFF), broken),
+        // the new header would stand at C000h, where nothing is, or in ROM
+        (&[(0, 0xFEFE)], Allocate(first, 0xBEFF), broken),
         (&[(0, 0xFEFE)], Allocate(last, 1), broken),
-        (&[(7, 0xFEFE)], Resize(0x101, 0x9EFF), broken),
-        (&[(0, 0xFEFE)], Pair(first, 1, 0, 0x9EFD), broken),
-        (&[(0, 0xFEFE)], Pair(first, 0x9EFF, 0, 1), broken),
+        (&[(7, 0xFEFE)], Resize(0x101, 0xBEFF), broken),
+        (&[(0, 0xFEFE)], Pair(first, 1, 0, 0xBEFD), broken),
+        (&[(0, 0xFEFE)], Pair(first, 0xBEFF, 0, 1), broken),
     ];
     for (before, call, refusal) in rows {
         leaves(&rt, rt.alloc(), before, call, Err(refusal), before)?;
@@ -486,9 +493,9 @@ fn bytes_that_spell_no_list(rt: HostRuntime) -> Result<(), Fail> {
         (&[(7, 2)], 0x00, b'z'),
         (&[(7, 2), (0, 3)], 0x30, b'M'),
         (&[(7, 2), (0, 3)], 0x30, 0),
-        // a last block that ends behind FFFFh, and a header at A000h
+        // a last block that ends behind FFFFh, and a header at C000h
         (&[(0, 0xFEFF)], 0x00, b'Z'),
-        (&[(7, 0x9EFF), (0, 1)], 0x00, b'M'),
+        (&[(7, 0xBEFF), (0, 1)], 0x00, b'M'),
     ];
     let calls = [
         Allocate(Strategy::First, 0),

@@ -10,4 +10,6 @@ mod blocks;
 #[cfg(test)]
 mod checks;
 #[cfg(test)]
+mod frames;
+#[cfg(test)]
 mod memory;

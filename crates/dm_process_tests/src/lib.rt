@@ -7,6 +7,8 @@
 #[cfg(test)]
 mod checks;
 #[cfg(test)]
+mod frames;
+#[cfg(test)]
 mod guest;
 #[cfg(test)]
 mod memory;

@@ -211,15 +211,15 @@ fn resident_program_may_have_no_block(rt: HostRuntime) -> Result<(), Fail> {
 }
 
 #[test]
-fn resident_program_leaves_no_header_at_a000h(rt: HostRuntime) -> Result<(), Fail> {
+fn resident_program_leaves_no_header_on_no_memory(rt: HostRuntime) -> Result<(), Fail> {
     let mut space = new_space(rt.alloc())?;
     let (mut procs, mut cpu) = child(&rt, rt.alloc(), &mut space)?;
     put(&mut space, 0, 0x88, b"abcdefghijkl");
     let before = cpu;
-    // The child's block is told to be the last one, up to F105h.
+    // The child's block is told to be the last one, up to F106h; the new header would stand at C000h.
     let told = [b'Z', 0x06, 0x11, 0x00, 0xE0];
     put(&mut space, 0x1105, 0, &told);
-    let ending = end(&mut procs, &mut cpu, &mut space, Some(0x8EFA));
+    let ending = end(&mut procs, &mut cpu, &mut space, Some(0xAEFA));
     same(&rt, "ending", ending, None);
     same(
         &rt,
@@ -229,22 +229,22 @@ fn resident_program_leaves_no_header_at_a000h(rt: HostRuntime) -> Result<(), Fai
     );
     holds(&rt, "header", &space, (0x1105, 0), &told);
     holds(&rt, "vectors", &space, (0, 0x88), b"abcdefghijkl");
-    // one paragraph less: the new header stands at 9FFFh
-    let ending = end(&mut procs, &mut cpu, &mut space, Some(0x8EF9));
+    // one paragraph less: the new header stands at BFFFh
+    let ending = end(&mut procs, &mut cpu, &mut space, Some(0xAEF9));
     same(&rt, "ending", ending, Some(Ending::Returned));
     holds(
         &rt,
         "header",
         &space,
         (0x1105, 0),
-        &[b'M', 0x06, 0x11, 0xF9, 0x8E],
+        &[b'M', 0x06, 0x11, 0xF9, 0xAE],
     );
     holds(
         &rt,
         "header",
         &space,
-        (0x9FFF, 0),
-        &[b'Z', 0, 0, 0x06, 0x51],
+        (0xBFFF, 0),
+        &[b'Z', 0, 0, 0x06, 0x31],
     );
     Ok(())
 }
@@ -306,15 +306,15 @@ fn sixteen_processes_are_alive_at_most(rt: HostRuntime) -> Result<(), Fail> {
 }
 
 #[test]
-fn header_at_a000h_is_told_before_too_many_processes(rt: HostRuntime) -> Result<(), Fail> {
+fn header_on_no_memory_is_told_before_too_many_processes(rt: HostRuntime) -> Result<(), Fail> {
     let programs = store(rt.alloc())?;
     let mut space = new_space(rt.alloc())?;
     let (mut procs, cpu) = asking(&mut space).expect(&rt, "there is room");
     let children = starts(&mut procs, &mut space, &programs, cpu);
     same(&rt, "children", children, (15, Some(Refusal::Short)));
     // what the last block, which is free, is told to have: by last fit the environment's header would
-    // stand at 9FFFh, then at A000h
-    for (size, refusal) in [(0x8DC2, Refusal::Short), (0x8DC3, Refusal::Destroyed)] {
+    // stand at BFFFh, then at C000h
+    for (size, refusal) in [(0xADC2, Refusal::Short), (0xADC3, Refusal::Destroyed)] {
         space.poke16(0x123E, 3, size);
         let mut asked = cpu;
         let answer = procs.exec(&mut asked, &mut space, &programs, Strategy::Last);

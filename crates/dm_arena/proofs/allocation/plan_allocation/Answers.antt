@@ -1,5 +1,5 @@
 use Rattle.std.proofs.Common.{ap, inr, rules, ◌∙◌}
-use Rattle.dm_arena.proofs.Allocating.{block_within, block_ends, planned, unplanned}
+use Rattle.dm_arena.proofs.Allocating.{block_within, block_ends, is_new, planned, unplanned}
 use Rattle.dm_arena.specs.Walks.{IsSpelledFrom}
 use Rattle.dm_arena.proofs.Fitting.{none_found}
 use Rattle.dm_arena.specs.Blocks.{join, largest}
@@ -22,10 +22,18 @@ cut_of-cut-requires-clause-fits c =
     let a = c.if-not-is_arena.ensures in
     block_ends _ _ _ _ 0 a.0 _ a.1 (chosen _ _ a.0 _ _ (c.choose-choice.ensures.block a.0 (record { nonempty = a.1.0.0; spells = a.1.0.1 })) c.in-Some.is)
 
-pub returns-then-not-is_clear_cut-clause-plan : goal.returns-then-not-is_clear_cut-clause-plan
-returns-then-not-is_clear_cut-clause-plan c =
+pub may_split-requires : goal.may_split-requires
+may_split-requires c =
     let a = c.if-not-is_arena.ensures in
-    inr (unplanned _ _ _ _ _ a.0 _ a.1 (chosen _ _ a.0 _ _ (c.choose-choice.ensures.block a.0 (record { nonempty = a.1.0.0; spells = a.1.0.1 })) c.in-Some.is) c.cut_of-cut.result c.cut_of-cut.ensures.cut c.if-not-is_clear_cut.ensures)
+    (a.0, record { nonempty = a.1.0.0; spells = a.1.0.1 })
+
+pub returns-then-not-may_split-clause-plan : goal.returns-then-not-may_split-clause-plan
+returns-then-not-may_split-clause-plan c =
+    let a = c.if-not-is_arena.ensures in
+    let s : IsSpelledFrom c.args.space.now.memory 0x100 a.0 = record { nonempty = a.1.0.0; spells = a.1.0.1 } in
+    let e = chosen _ _ a.0 _ _ (c.choose-choice.ensures.block a.0 s) c.in-Some.is in
+    let new = is_new _ _ _ _ _ a.0 _ a.1 e c.cut_of-cut.result c.cut_of-cut.ensures.cut in
+    inr (unplanned _ _ _ _ _ a.0 _ a.1 e c.cut_of-cut.result c.cut_of-cut.ensures.cut (c.if-not-may_split.ensures a.0 s new))
 
 pub taken_of-requires-clause-within : goal.taken_of-requires-clause-within
 taken_of-requires-clause-within c =
@@ -40,4 +48,7 @@ taken_of-requires-clause-fits c =
 pub returns-clause-plan : goal.returns-clause-plan
 returns-clause-plan c =
     let a = c.if-not-is_arena.ensures in
-    planned _ _ _ _ _ a.0 _ a.1 (chosen _ _ a.0 _ _ (c.choose-choice.ensures.block a.0 (record { nonempty = a.1.0.0; spells = a.1.0.1 })) c.in-Some.is) c.cut_of-cut.result c.cut_of-cut.ensures.cut c.if-not-is_clear_cut.ensures _ (search rules)
+    let s : IsSpelledFrom c.args.space.now.memory 0x100 a.0 = record { nonempty = a.1.0.0; spells = a.1.0.1 } in
+    let e = chosen _ _ a.0 _ _ (c.choose-choice.ensures.block a.0 s) c.in-Some.is in
+    let new = is_new _ _ _ _ _ a.0 _ a.1 e c.cut_of-cut.result c.cut_of-cut.ensures.cut in
+    planned _ _ _ _ _ a.0 _ a.1 e c.cut_of-cut.result c.cut_of-cut.ensures.cut (c.if-not-may_split.ensures a.0 s new) _ (search rules)

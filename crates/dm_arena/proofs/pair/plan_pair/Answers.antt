@@ -4,7 +4,7 @@ use Rattle.dm_arena.specs.Walks.{IsSpelledFrom}
 use Rattle.dm_arena.specs.Blocks.{join, largest, taken}
 use Rattle.dm_arena.proofs.Choosing.{chosen, left-all}
 use Rattle.dm_arena.proofs.Allocating.{block_within, block_ends}
-use Rattle.dm_arena.proofs.Pairs.{second_within, second_ends, pairing, pair_clear, pair_unclear, too_small, none_second, none_first}
+use Rattle.dm_arena.proofs.Pairs.{second_within, second_ends, pairing, first_new, second_new, pair_clear, pair_unclear, too_small, none_second, none_first}
 use Rattle.dm_arena.proofs.pair.plan_pair.Goals as goal
 
 pub returns-in_default : goal.returns-in_default
@@ -104,6 +104,11 @@ returns-in_default-block c =
     let room = c.choose-choice.ensures.largest a.0 s ∙ ap largest (left-all (join a.0)) in
     (a.0, a.1, room, none_second _ _ _ _ a.0 _ a.1 e _ c.spoken_of-spoken.ensures.segment c.spoken_of-spoken.ensures.rest c.args.least c.args.most _ _ (c.choose-left.ensures.largest a.0 s) c.smaller-size.ensures (sym (c.choose.ensures.block a.0 s) ∙ c.in_default-block.is))
 
+pub are_clear-requires : goal.are_clear-requires
+are_clear-requires c =
+    let a = c.if-not-is_arena.ensures in
+    (a.0, record { nonempty = a.1.0.0; spells = a.1.0.1 })
+
 pub returns-then-not-are_clear : goal.returns-then-not-are_clear
 returns-then-not-are_clear c =
     let a = c.if-not-is_arena.ensures in
@@ -111,7 +116,7 @@ returns-then-not-are_clear c =
     let e = chosen _ _ a.0 _ _ (c.choose-choice.ensures.block a.0 s) c.in-Some.is in
     let k = sym (c.choose.ensures.block a.0 s) ∙ c.in-Some-block.is in
     let o : c.taken_of-program.result + 1 ≡ taken c.args.strategy c.smaller-size.result c.in-Some-block.whole + 1 = ap (λ x. x + 1) c.taken_of-program.ensures.value in
-    inr (_, _, pairing _ _ _ _ a.0 _ a.1 e _ c.spoken_of-spoken.ensures.segment c.spoken_of-spoken.ensures.rest _ _ k c.args.least c.args.most _ _ (c.choose-left.ensures.largest a.0 s) c.smaller-size.ensures c.if-size-least.false o, pair_unclear _ _ _ _ a.0 _ a.1 e _ c.spoken_of-spoken.ensures.segment c.spoken_of-spoken.ensures.rest _ _ k c.args.least c.args.most _ _ (c.choose-left.ensures.largest a.0 s) c.smaller-size.ensures c.if-size-least.false o c.cut_of-first.result c.cut_of-second.result c.cut_of-first.ensures.cut c.cut_of-second.ensures.cut c.if-not-are_clear.ensures.low)
+    inr (_, _, pairing _ _ _ _ a.0 _ a.1 e _ c.spoken_of-spoken.ensures.segment c.spoken_of-spoken.ensures.rest _ _ k c.args.least c.args.most _ _ (c.choose-left.ensures.largest a.0 s) c.smaller-size.ensures c.if-size-least.false o, pair_unclear _ _ _ _ a.0 _ a.1 e _ c.spoken_of-spoken.ensures.segment c.spoken_of-spoken.ensures.rest _ _ k c.args.least c.args.most _ _ (c.choose-left.ensures.largest a.0 s) c.smaller-size.ensures c.if-size-least.false o c.cut_of-first.result c.cut_of-second.result c.cut_of-first.ensures.cut c.cut_of-second.ensures.cut (c.if-not-are_clear.ensures a.0 s (first_new _ _ _ _ a.0 _ a.1 e _ c.spoken_of-spoken.ensures.segment c.spoken_of-spoken.ensures.rest _ _ k c.args.least c.args.most _ _ (c.choose-left.ensures.largest a.0 s) c.smaller-size.ensures c.if-size-least.false o c.cut_of-first.result c.cut_of-second.result c.cut_of-first.ensures.cut c.cut_of-second.ensures.cut) (second_new _ _ _ _ a.0 _ a.1 e _ c.spoken_of-spoken.ensures.segment c.spoken_of-spoken.ensures.rest _ _ k c.args.least c.args.most _ _ (c.choose-left.ensures.largest a.0 s) c.smaller-size.ensures c.if-size-least.false o c.cut_of-first.result c.cut_of-second.result c.cut_of-first.ensures.cut c.cut_of-second.ensures.cut)))
 
 pub returns : goal.returns
 returns c =
@@ -125,5 +130,5 @@ returns c =
       environment_is = ap (λ x. x + 1) c.taken_of-environment_segment.ensures.value;
       first_is = c.cut_of-first.ensures.cut;
       second_is = c.cut_of-second.ensures.cut;
-      clear = pair_clear _ _ _ _ a.0 _ a.1 e _ c.spoken_of-spoken.ensures.segment c.spoken_of-spoken.ensures.rest _ _ k c.args.least c.args.most _ _ (c.choose-left.ensures.largest a.0 s) c.smaller-size.ensures c.if-size-least.false o c.cut_of-first.result c.cut_of-second.result c.cut_of-first.ensures.cut c.cut_of-second.ensures.cut c.if-not-are_clear.ensures.low;
+      clear = pair_clear _ _ _ _ a.0 _ a.1 e _ c.spoken_of-spoken.ensures.segment c.spoken_of-spoken.ensures.rest _ _ k c.args.least c.args.most _ _ (c.choose-left.ensures.largest a.0 s) c.smaller-size.ensures c.if-size-least.false o c.cut_of-first.result c.cut_of-second.result c.cut_of-first.ensures.cut c.cut_of-second.ensures.cut (c.if-not-are_clear.ensures a.0 s (first_new _ _ _ _ a.0 _ a.1 e _ c.spoken_of-spoken.ensures.segment c.spoken_of-spoken.ensures.rest _ _ k c.args.least c.args.most _ _ (c.choose-left.ensures.largest a.0 s) c.smaller-size.ensures c.if-size-least.false o c.cut_of-first.result c.cut_of-second.result c.cut_of-first.ensures.cut c.cut_of-second.ensures.cut) (second_new _ _ _ _ a.0 _ a.1 e _ c.spoken_of-spoken.ensures.segment c.spoken_of-spoken.ensures.rest _ _ k c.args.least c.args.most _ _ (c.choose-left.ensures.largest a.0 s) c.smaller-size.ensures c.if-size-least.false o c.cut_of-first.result c.cut_of-second.result c.cut_of-first.ensures.cut c.cut_of-second.ensures.cut));
     }

@@ -1,0 +1,41 @@
+-- When a new header may stand beside others. No public contract mentions any of it.
+use Rattle.std.specs.Prelude.{List, None, Option, Some, ℕ, ◌*◌, ◌≡◌, ◌≢◌, ◌≤◌, ◌⊎◌}
+use Rattle.dm_space.specs.declared.place.Place.{Place}
+use Rattle.dm_space.specs.Memory.{Memory, place}
+use Rattle.dm_space.specs.Places.{IsWritable}
+use Rattle.dm_arena.specs.declared.header.Header.{Header}
+use Rattle.dm_arena.specs.Chain.{HasHeader}
+
+-- the place of the segment keeps what is written, and no header of L has it
+pub record MayStand (S : Memory) (L : List Header) (segment : ℕ) : Type 0 where
+  pub writable : IsWritable (place S (16 * segment))
+  pub apart : (g : ℕ) → HasHeader L g → place S (16 * g) ≢ place S (16 * segment)
+
+-- the same of the new header of a cut, if there is one
+abbrev pub MaySplit : Memory → List Header → Option Header → Type 0
+MaySplit S L None = Unit {0}
+MaySplit S L (Some b) = MayStand S L b.segment
+
+-- L has no header at the segment of a new one
+abbrev pub IsNew : List Header → Option Header → Type 0
+IsNew L None = Unit {0}
+IsNew L (Some b) = HasHeader L b.segment → ⊥
+
+-- a header of L has the place
+pub record Occupies (S : Memory) (L : List Header) (p : Place) : Type 0 where
+  pub segment : ℕ
+  pub has : HasHeader L segment
+  pub is : place S (16 * segment) ≡ p
+
+-- the headers of M are those of L that are not between two segments
+pub record AreOutside (L : List Header) (low high : ℕ) (M : List Header) : Type 0 where
+  pub has : (g : ℕ) → HasHeader L g → (g ≤ low) ⊎ (high ≤ g) → HasHeader M g
+  pub within : (g : ℕ) → HasHeader M g → HasHeader L g
+  pub outside : (g : ℕ) → HasHeader M g → (g ≤ low) ⊎ (high ≤ g)
+
+-- a header of L that is not between the two segments has the place
+pub record OccupiesOutside (S : Memory) (L : List Header) (low high : ℕ) (p : Place) : Type 0 where
+  pub segment : ℕ
+  pub has : HasHeader L segment
+  pub outside : (segment ≤ low) ⊎ (high ≤ segment)
+  pub is : place S (16 * segment) ≡ p
