@@ -37,6 +37,8 @@ enum Way {
     Multiplex,
     /// CALL FAR F000:0400.
     Extended,
+    /// INT 21h, and three times NOP.
+    Dos,
 }
 
 /// The bytes of a call.
@@ -45,6 +47,7 @@ fn bytes_of(way: Way) -> [u8; 5] {
         Way::Expanded => [0xCD, 0x67, 0x90, 0x90, 0x90],
         Way::Multiplex => [0xCD, 0x2F, 0x90, 0x90, 0x90],
         Way::Extended => [0x9A, 0x00, 0x04, 0x00, 0xF0],
+        Way::Dos => [0xCD, 0x21, 0x90, 0x90, 0x90],
     }
 }
 
@@ -54,6 +57,7 @@ fn behind(way: Way) -> u16 {
         Way::Expanded => 0x011F,
         Way::Multiplex => 0x011F,
         Way::Extended => 0x0122,
+        Way::Dos => 0x011F,
     }
 }
 
@@ -63,6 +67,7 @@ fn steps_back(way: Way) -> u64 {
         Way::Expanded => 4,
         Way::Multiplex => 4,
         Way::Extended => 1,
+        Way::Dos => 4,
     }
 }
 
@@ -104,6 +109,8 @@ pub(crate) enum Act<'a> {
     Asks(u16, &'a [(Register, u16)]),
     /// Makes a far call of F000:0400 with AX and other registers so, and finds other registers so, as above.
     Far(u16, &'a [(Register, u16)], &'a [(Register, u16)]),
+    /// Makes a call of INT 21h with AX and other registers so, and finds CF and other registers so, as above.
+    Dos(u16, &'a [(Register, u16)], bool, &'a [(Register, u16)]),
     /// Writes bytes at segment:offset.
     Put(u16, u16, &'a [u8]),
     /// Bytes at segment:offset are these.
@@ -233,6 +240,12 @@ pub(crate) fn act_on(rt: &impl Abort, machine: &mut Machine, row: &str, number: 
                 &asked,
                 with(asked, left),
             );
+        }
+        Act::Dos(ax, registers, carry, left) => {
+            let asked = with(at_call(machine, ax), registers);
+            let mut answered = with(asked, left);
+            answered.flags.carry = carry;
+            answers(rt, machine, (row, number), Way::Dos, &asked, answered);
         }
         Act::Put(segment, offset, bytes) => put(machine, segment, offset, bytes),
         Act::Holds(segment, offset, bytes) => {

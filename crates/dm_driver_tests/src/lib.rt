@@ -1,9 +1,11 @@
 //! Worked rows of the drivers through a machine: what the calls of INT 67h, INT 2Fh and F000:0400 answer and leave to the program that makes
-//! them.
+//! them, and what the calls of INT 21h on memory blocks do with headers in memory that the drivers show.
 #![tactic(auto)]
 
 #[cfg(test)]
 mod acts;
+#[cfg(test)]
+mod arena;
 #[cfg(test)]
 mod blocks;
 #[cfg(test)]
