@@ -1,0 +1,14 @@
+//! The memory that the tests start with.
+
+use dm_pool::{NewError, Sizes, Store};
+use dm_space::Space;
+use std::alloc::Global;
+
+/// A memory as a machine finds it, over a pool of two pages and 16 KiB.
+pub(crate) fn new_space(alloc: Global) -> Result<Space, NewError> {
+    let sizes = Sizes {
+        ems_pages: 2,
+        xms_kib: 16,
+    };
+    Ok(Space::new(Store::new(alloc, sizes)?))
+}

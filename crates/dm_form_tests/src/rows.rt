@@ -1,0 +1,285 @@
+//! Rows of text, and how they are read.
+//!
+//! A row is one instruction: its name, its bytes, what is set before it, and what it changes, as
+//!
+//!     XOR AH,[SI] | 32 24 | 2000:0300=01 | AX=1022
+//!
+//! It is done by its form and, from the same state, as `dm_exec` does it: both have to change that and
+//! nothing else.
+//!
+//! Registers go by their names, the flags' word by `FL`, memory by segment and offset: two digits
+//! are a byte, four a word with its low byte first. What a row does not name is as in `START`, and
+//! has to stay, but for IP, which goes on by the number of the bytes. The bytes that rows
+//! name are 0 before. A line with `#` is a comment.
+
+use crate::checks::same;
+use crate::kinds::number_of;
+use crate::memory::new_space;
+use dm_decode::decode;
+use dm_exec::{Cpu, Flags, exec};
+use dm_forms::{form_of, perform};
+use dm_ins::Ins;
+use dm_space::Space;
+use std::alloc::Global;
+use std::process::Abort;
+use std::test::Fail;
+
+/// Each register has a value of its own. Code stands at 0103:0100, data at 2000:0, the stack below
+/// 3000:0100; strings go to 4000:0400.
+pub(crate) const START: Cpu = Cpu {
+    ax: 0x1122,
+    cx: 0x3344,
+    dx: 0x5566,
+    bx: 0x7788,
+    sp: 0x0100,
+    bp: 0x0200,
+    si: 0x0300,
+    di: 0x0400,
+    es: 0x4000,
+    cs: 0x0103,
+    ss: 0x3000,
+    ds: 0x2000,
+    ip: 0x0100,
+    flags: Flags {
+        carry: false,
+        parity: false,
+        adjust: false,
+        zero: false,
+        sign: false,
+        trap: false,
+        interrupt: false,
+        direction: false,
+        overflow: false,
+    },
+};
+
+/// The flags whose bits are set in a word, by the places that the manual gives them.
+pub(crate) fn flags(word: u16) -> Flags {
+    Flags {
+        carry: word & 0x0001 != 0,
+        parity: word & 0x0004 != 0,
+        adjust: word & 0x0010 != 0,
+        zero: word & 0x0040 != 0,
+        sign: word & 0x0080 != 0,
+        trap: word & 0x0100 != 0,
+        interrupt: word & 0x0200 != 0,
+        direction: word & 0x0400 != 0,
+        overflow: word & 0x0800 != 0,
+    }
+}
+
+fn number(digits: &str) -> Result<u16, Fail> {
+    Ok(u16::from_str_radix(digits, 16)?)
+}
+
+/// Gives the register of this name a value.
+fn set_register(cpu: &mut Cpu, name: &str, value: u16) -> Result<(), Fail> {
+    match name {
+        "AX" => cpu.ax = value,
+        "CX" => cpu.cx = value,
+        "DX" => cpu.dx = value,
+        "BX" => cpu.bx = value,
+        "SP" => cpu.sp = value,
+        "BP" => cpu.bp = value,
+        "SI" => cpu.si = value,
+        "DI" => cpu.di = value,
+        "ES" => cpu.es = value,
+        "CS" => cpu.cs = value,
+        "SS" => cpu.ss = value,
+        "DS" => cpu.ds = value,
+        "IP" => cpu.ip = value,
+        "FL" => cpu.flags = flags(value),
+        _ => return Err("no such register")?,
+    }
+    Ok(())
+}
+
+/// A byte of memory: segment, offset and value.
+type Byte = (u16, u16, u8);
+
+/// The bytes that a change names, as `2000:0010=12` or, of a word, `2000:0010=1234`; none where it
+/// names a register.
+fn bytes_of(change: &str) -> Result<[Option<Byte>; 2], Fail> {
+    let (name, digits) = change.split_once('=').ok_or("no value")?;
+    let Some((segment, offset)) = name.split_once(':') else {
+        return Ok([None, None]);
+    };
+    let (segment, offset) = (number(segment)?, number(offset)?);
+    let [low, high] = number(digits)?.to_le_bytes();
+    let second = if digits.len() == 4 {
+        Some((segment, offset.wrapping_add(1), high))
+    } else {
+        None
+    };
+    Ok([Some((segment, offset, low)), second])
+}
+
+/// Makes the changes of a row.
+fn set_all(cpu: &mut Cpu, space: &mut Space, changes: &str) -> Result<(), Fail> {
+    for change in changes.split_whitespace() {
+        let (name, digits) = change.split_once('=').ok_or("no value")?;
+        if !name.contains(':') {
+            set_register(cpu, name, number(digits)?)?;
+        }
+        for byte in bytes_of(change)? {
+            if let Some((segment, offset, value)) = byte {
+                space.poke(segment, offset, value);
+            }
+        }
+    }
+    Ok(())
+}
+
+/// Gives the bytes that a row names the value 0 again, as all rows find them.
+fn clear(space: &mut Space, changes: &str) -> Result<(), Fail> {
+    for change in changes.split_whitespace() {
+        for byte in bytes_of(change)? {
+            if let Some((segment, offset, _)) = byte {
+                space.poke(segment, offset, 0);
+            }
+        }
+    }
+    Ok(())
+}
+
+/// Compares the bytes that the changes name.
+fn compare_named(
+    rt: &impl Abort,
+    row: &str,
+    changes: &str,
+    one: &Space,
+    other: &Space,
+) -> Result<(), Fail> {
+    for change in changes.split_whitespace() {
+        for byte in bytes_of(change)? {
+            if let Some((segment, offset, _)) = byte {
+                let (found, wanted) = (one.peek(segment, offset), other.peek(segment, offset));
+                same(rt, row, (segment, offset, found), (segment, offset, wanted));
+            }
+        }
+    }
+    Ok(())
+}
+
+/// Compares the bytes that the rows of a text name; `row` is the one that was tried.
+fn compare_all(
+    rt: &impl Abort,
+    row: &str,
+    rows: &str,
+    one: &Space,
+    other: &Space,
+) -> Result<(), Fail> {
+    for line in rows.lines() {
+        if is_row(line) {
+            compare_named(rt, row, part(line, 2)?, one, other)?;
+            compare_named(rt, row, part(line, 3)?, one, other)?;
+        }
+    }
+    Ok(())
+}
+
+/// The segment and offset of the first eight bytes below C0000h in which two memories differ.
+fn difference(one: &Space, other: &Space) -> Option<(u16, u16)> {
+    for bank in 0..12 {
+        for eighth in 0..0x2000 {
+            let (segment, offset) = (bank * 0x1000, eighth * 8);
+            let found = one.eight_bytes(segment, offset);
+            if found.is_none() || found != other.eight_bytes(segment, offset) {
+                return Some((segment, offset));
+            }
+        }
+    }
+    None
+}
+
+/// The instruction that a row's bytes are, and how many they are.
+fn instruction(bytes: &str) -> Result<(Ins, u8), Fail> {
+    let mut spelled = [0; 16];
+    for (place, byte) in spelled.iter_mut().zip(bytes.split_whitespace()) {
+        *place = u8::from_str_radix(byte, 16)?;
+    }
+    let (ins, length) = decode(&spelled).ok_or("no such instruction")?;
+    Ok((ins, length))
+}
+
+/// A part of a row: 0 its name, 1 its bytes, 2 what is set before, 3 what changes.
+fn part(row: &str, number: usize) -> Result<&str, Fail> {
+    Ok(row.split('|').nth(number).ok_or("a part is missing")?)
+}
+
+/// Whether a line of a text is a row, and no comment.
+fn is_row(line: &str) -> bool {
+    !line.starts_with('#')
+}
+
+/// The memories of a test: that of `exec`, that of the forms, and the wanted one.
+#[derive(Drop)]
+struct Memories {
+    plain: Space,
+    formed: Space,
+    wanted: Space,
+}
+
+/// Makes the changes in each memory, and one of the registers.
+fn set_everywhere(memories: &mut Memories, cpu: &mut Cpu, changes: &str) -> Result<(), Fail> {
+    let mut other = *cpu;
+    let mut third = *cpu;
+    set_all(&mut other, &mut memories.plain, changes)?;
+    set_all(&mut third, &mut memories.formed, changes)?;
+    set_all(cpu, &mut memories.wanted, changes)
+}
+
+/// Gives the bytes that a row names the value 0 again in each memory.
+fn clear_everywhere(memories: &mut Memories, changes: &str) -> Result<(), Fail> {
+    clear(&mut memories.plain, changes)?;
+    clear(&mut memories.formed, changes)?;
+    clear(&mut memories.wanted, changes)
+}
+
+/// Tries a row of a text, and notes its form. The memories are as all rows find them, and are so again
+/// afterwards but for bytes that no row of the text names.
+fn check_row(
+    rt: &impl Abort,
+    row: &str,
+    rows: &str,
+    memories: &mut Memories,
+    seen: &mut [bool; 80],
+) -> Result<(), Fail> {
+    let (bytes, before, after) = (part(row, 1)?, part(row, 2)?, part(row, 3)?);
+    let (ins, length) = instruction(bytes)?;
+    same(rt, row, length as usize, bytes.split_whitespace().count());
+    let mut wanted = START;
+    set_everywhere(memories, &mut wanted, before)?;
+    let (mut plain, mut formed) = (wanted, wanted);
+    wanted.ip = wanted.ip.wrapping_add(length as u16);
+    set_all(&mut wanted, &mut memories.wanted, after)?;
+    let form = form_of(&ins);
+    seen[number_of(&form)] = true;
+    let _next = exec(&mut plain, &mut memories.plain, &ins, length);
+    perform(&form, &ins, &mut formed, &mut memories.formed, length);
+    same(rt, row, formed, wanted);
+    same(rt, row, plain, wanted);
+    compare_all(rt, row, rows, &memories.formed, &memories.wanted)?;
+    compare_all(rt, row, rows, &memories.plain, &memories.wanted)?;
+    clear_everywhere(memories, before)?;
+    clear_everywhere(memories, after)
+}
+
+/// Tries each row of a text, and tells the numbers of the forms that were met. Bytes that a row names
+/// are compared behind each row, all others at the end.
+pub(crate) fn check(rt: &impl Abort, alloc: Global, rows: &str) -> Result<[bool; 80], Fail> {
+    let mut memories = Memories {
+        plain: new_space(alloc)?,
+        formed: new_space(alloc)?,
+        wanted: new_space(alloc)?,
+    };
+    let mut seen = [false; 80];
+    for row in rows.lines() {
+        if is_row(row) {
+            check_row(rt, row, rows, &mut memories, &mut seen)?;
+        }
+    }
+    let first = difference(&memories.formed, &memories.wanted);
+    same(rt, "memory that no row names", first, None);
+    Ok(seen)
+}
