@@ -1,0 +1,2 @@
+pub mod WordsBehind
+pub mod Typed
