@@ -6,3 +6,4 @@ mod Confined
 mod NoRoom
 mod Rooms
 mod Links
+mod UntilLaws

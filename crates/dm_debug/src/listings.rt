@@ -1,0 +1,42 @@
+//! The listings of a machine.
+
+ghost use Rattle.std.specs.Prelude.{◌≡◌, ◌++◌, List, ℕ, OnOk};
+ghost use Rattle.dm_views.specs.Bytes.{bytes_text};
+ghost use Rattle.dm_views.specs.Code.{IsCode};
+ghost use Rattle.dm_views.specs.Registers.{IsRegistersText};
+
+use dm_command::Address;
+use dm_machine::Machine;
+use dm_views::{put_bytes, put_code, put_registers};
+use std::alloc::AllocError;
+
+/// Puts the registers of a machine.
+pub(crate) fn put_machine(out: &mut Vec<u8>, machine: &Machine) -> Result<(), AllocError>
+    ensures { OnOk result ((text : List ℕ) × (out.new.items ≡ out.old.items ++ text) × IsRegistersText machine.now.cpu machine.now.memory text) }
+{
+    put_registers(out, &machine.cpu(), machine.space())
+}
+
+/// Puts so many instructions from an address on.
+pub(crate) fn unassemble(
+    out: &mut Vec<u8>,
+    machine: &Machine,
+    at: Address,
+    count: u16,
+) -> Result<(), AllocError>
+    ensures { OnOk result ((text : List ℕ) × (out.new.items ≡ out.old.items ++ text) × IsCode machine.now.memory at.segment at.offset count text) }
+{
+    put_code(out, machine.space(), at.segment, at.offset, count)
+}
+
+/// Puts so many bytes from an address on.
+pub(crate) fn dump(
+    out: &mut Vec<u8>,
+    machine: &Machine,
+    at: Address,
+    count: u32,
+) -> Result<(), AllocError>
+    ensures { OnOk result (out.new.items ≡ out.old.items ++ bytes_text machine.now.memory at.segment at.offset count) }
+{
+    put_bytes(out, machine.space(), at.segment, at.offset, count)
+}

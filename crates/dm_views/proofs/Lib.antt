@@ -1,0 +1,3 @@
+pub mod NumberedTexts
+pub mod ArenaTexts
+pub mod CodeTexts

@@ -1,0 +1,7 @@
+pub mod Digits
+pub mod Code
+pub mod Registers
+pub mod Bytes
+pub mod Arena
+pub mod Pages
+pub mod Extended
