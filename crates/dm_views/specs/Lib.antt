@@ -5,3 +5,4 @@ pub mod Bytes
 pub mod Arena
 pub mod Pages
 pub mod Extended
+pub mod Laws

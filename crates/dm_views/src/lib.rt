@@ -9,6 +9,7 @@ mod bytes;
 mod code;
 mod digits;
 mod extended;
+mod laws;
 mod pages;
 mod registers;
 
@@ -17,5 +18,6 @@ pub use bytes::put_bytes;
 pub use code::put_code;
 pub use digits::{byte_digits, put_address};
 pub use extended::put_extended;
+pub use laws::listings_have_one_text;
 pub use pages::put_pages;
 pub use registers::put_registers;
