@@ -1,2 +1,1 @@
-pub mod WordsBehind
 pub mod Typed

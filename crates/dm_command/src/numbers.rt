@@ -1,6 +1,6 @@
 //! Numbers, addresses and bytes as they are typed: all digits are hexadecimal.
 
-ghost use Rattle.std.specs.Prelude.{◌≡◌, ◌<◌, ◌≤◌, ◌^◌, IfSome, option_map};
+ghost use Rattle.std.specs.Prelude.{◌≡◌, ◌<◌, ◌≤◌, [], IfSome, option_map};
 ghost use Rattle.hex.specs.Hex.{hex_digit_value};
 ghost use Rattle.dm_command.specs.Numbers.{number_of, up_to, word_of, parts_of, address_of, bytes_of};
 
