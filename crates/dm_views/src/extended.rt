@@ -1,8 +1,6 @@
 //! Extended memory, as text (XMS 3.0: blocks, upper memory blocks, A20 and the high memory area).
 
 ghost use Rattle.std.specs.Prelude.{◌≡◌, ◌<◌, ◌++◌, OnOk};
-ghost use Rattle.dm_xms.specs.Tables.{extended};
-ghost use Rattle.dm_xms.specs.Linked.{IsLinked};
 ghost use Rattle.dm_views.specs.Extended.{block_line, block_text, upper_line, upper_text, switches_text, extended_text};
 
 use crate::digits::{byte_digits, put_double, word_digits};
@@ -12,12 +10,6 @@ use std::alloc::AllocError;
 
 /// How many handles there are, and how many upper memory blocks there can be.
 const MOST: u16 = 64;
-
-/// The linear address of the first KiB of the pool.
-const POOL: usize = 0x11_0000;
-
-/// The bytes of a KiB.
-const UNIT: usize = 0x400;
 
 /// Puts the line of a block: its handle, its linear address, its KiB and its locks.
 fn put_block_line(
@@ -41,16 +33,12 @@ fn put_block_line(
 
 /// Puts the line of the block of a handle, if it is in use; handle `before + 1`.
 fn put_block(out: &mut Vec<u8>, xms: &Xms, space: &Space, before: u16) -> Result<(), AllocError>
-    requires linked { IsLinked (extended xms.now space.now.memory) }
-    requires few { before < 64 }
-    ensures { OnOk result (out.new.items ≡ out.old.items ++ block_text (extended xms.now space.now.memory) before) }
+    requires { before < 64 }
+    ensures { OnOk result (out.new.items ≡ out.old.items ++ block_text xms.now space.now.memory before) }
 {
     let number = before + 1;
     match xms.handle(number) {
-        Some(slot) => {
-            let base = POOL + UNIT * space.base(slot.block);
-            put_block_line(out, number, base, slot.kib, slot.locks)
-        }
+        Some(slot) => put_block_line(out, number, slot.base(space), slot.kib, slot.locks),
         None => Ok(()),
     }
 }
@@ -88,8 +76,7 @@ fn put_switches(out: &mut Vec<u8>, on: bool, taken: bool) -> Result<(), AllocErr
 ///
 /// That memory for the text was refused.
 pub fn put_extended(out: &mut Vec<u8>, xms: &Xms, space: &Space) -> Result<(), AllocError>
-    requires { IsLinked (extended xms.now space.now.memory) }
-    ensures { OnOk result (out.new.items ≡ out.old.items ++ extended_text (extended xms.now space.now.memory)) }
+    ensures { OnOk result (out.new.items ≡ out.old.items ++ extended_text xms.now space.now.memory) }
 {
     for before in 0..MOST {
         put_block(out, xms, space, before)?;
