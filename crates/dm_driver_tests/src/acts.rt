@@ -10,10 +10,11 @@ use std::process::Abort;
 use std::test::Fail;
 
 /// A program that makes one call after the other. At 100h MOV AX,0; MOV ES,AX; MOV AX,0; MOV DS,AX; MOV SI,0; MOV DI,0; MOV BX,0;
-/// MOV CX,0; MOV DX,0; MOV AX,0; STC; INT 67h; JMP 100h. The registers of a call are written into its values.
-const CALLER: [u8; 33] = [
+/// MOV CX,0; MOV DX,0; MOV AX,0; STC; five bytes for the call; JMP 100h. The registers of a call are written into its values, and the call
+/// into its place.
+const CALLER: [u8; 36] = [
     0xB8, 0, 0, 0x8E, 0xC0, 0xB8, 0, 0, 0x8E, 0xD8, 0xBE, 0, 0, 0xBF, 0, 0, 0xBB, 0, 0, 0xB9, 0, 0,
-    0xBA, 0, 0, 0xB8, 0, 0, 0xF9, 0xCD, 0x67, 0xEB, 0xDF,
+    0xBA, 0, 0, 0xB8, 0, 0, 0xF9, 0x90, 0x90, 0x90, 0x90, 0x90, 0xEB, 0xDC,
 ];
 
 /// Where the values of ES, DS, SI, DI, BX, CX, DX and AX stand in that program.
@@ -21,11 +22,49 @@ const VALUES: [u16; 8] = [
     0x0101, 0x0106, 0x010B, 0x010E, 0x0111, 0x0114, 0x0117, 0x011A,
 ];
 
+/// Where the call stands.
+const CALL: u16 = 0x011D;
+
 /// How many steps lead from its start to a call's driver.
 const STEPS_TO_DRIVER: u64 = 12;
 
-/// Where it is after a call.
-const BEHIND_CALL: u16 = 0x011F;
+/// How a call is made.
+#[derive(Clone, Copy)]
+enum Way {
+    /// INT 67h, and three times NOP.
+    Expanded,
+    /// INT 2Fh, and three times NOP.
+    Multiplex,
+    /// CALL FAR F000:0400.
+    Extended,
+}
+
+/// The bytes of a call.
+fn bytes_of(way: Way) -> [u8; 5] {
+    match way {
+        Way::Expanded => [0xCD, 0x67, 0x90, 0x90, 0x90],
+        Way::Multiplex => [0xCD, 0x2F, 0x90, 0x90, 0x90],
+        Way::Extended => [0x9A, 0x00, 0x04, 0x00, 0xF0],
+    }
+}
+
+/// Where the program is after a call.
+fn behind(way: Way) -> u16 {
+    match way {
+        Way::Expanded => 0x011F,
+        Way::Multiplex => 0x011F,
+        Way::Extended => 0x0122,
+    }
+}
+
+/// How many steps lead from there to the place of the next one.
+fn steps_back(way: Way) -> u64 {
+    match way {
+        Way::Expanded => 4,
+        Way::Multiplex => 4,
+        Way::Extended => 1,
+    }
+}
 
 /// The segment in which calls find and leave their bytes.
 pub(crate) const BUFFER: u16 = 0x5000;
@@ -45,12 +84,14 @@ pub(crate) const USUAL: Sizes = Sizes {
 /// A register that a call takes or leaves.
 #[derive(Clone, Copy)]
 pub(crate) enum Register {
+    Ax,
     Al,
     Bx,
     Cx,
     Dx,
     Si,
     Di,
+    Es,
 }
 
 /// One thing that a test does, or finds.
@@ -59,6 +100,10 @@ pub(crate) enum Act<'a> {
     /// Makes a call of INT 67h with AX and other registers so, goes back to the program, and finds this status in AH and other registers
     /// so. All that is not named is as before the call, flags, segments and stack among them. DS and ES are the buffer's segment.
     Call(u16, &'a [(Register, u16)], u8, &'a [(Register, u16)]),
+    /// Makes a call of INT 2Fh with AX so, and finds registers so, as above.
+    Asks(u16, &'a [(Register, u16)]),
+    /// Makes a far call of F000:0400 with AX and other registers so, and finds other registers so, as above.
+    Far(u16, &'a [(Register, u16)], &'a [(Register, u16)]),
     /// Writes bytes at segment:offset.
     Put(u16, u16, &'a [u8]),
     /// Bytes at segment:offset are these.
@@ -90,12 +135,14 @@ fn with(cpu: Cpu, changes: &[(Register, u16)]) -> Cpu {
     let mut cpu = cpu;
     for (register, value) in changes {
         match register {
+            Register::Ax => cpu.ax = *value,
             Register::Al => cpu.ax = cpu.ax / 256 * 256 + value % 256,
             Register::Bx => cpu.bx = *value,
             Register::Cx => cpu.cx = *value,
             Register::Dx => cpu.dx = *value,
             Register::Si => cpu.si = *value,
             Register::Di => cpu.di = *value,
+            Register::Es => cpu.es = *value,
         }
     }
     cpu
@@ -117,7 +164,7 @@ fn at_call(machine: &Machine, ax: u16) -> Cpu {
 }
 
 /// Makes a call with these registers, goes on to the place of the next one, and tells the registers right behind the call.
-fn call(machine: &mut Machine, asked: &Cpu) -> Cpu
+fn call(machine: &mut Machine, way: Way, asked: &Cpu) -> Cpu
     requires { HasProgram machine.old }
     ensures { HasProgram machine.new }
 {
@@ -127,10 +174,11 @@ fn call(machine: &mut Machine, asked: &Cpu) -> Cpu
     for (offset, value) in VALUES.iter().zip(&values) {
         put(machine, SEGMENT, *offset, &value.to_le_bytes());
     }
+    put(machine, SEGMENT, CALL, &bytes_of(way));
     machine.run(STEPS_TO_DRIVER);
     machine.run(1);
     let after = machine.cpu();
-    machine.run(1);
+    machine.run(steps_back(way));
     after
 }
 
@@ -138,16 +186,18 @@ fn call(machine: &mut Machine, asked: &Cpu) -> Cpu
 fn answers(
     rt: &impl Abort,
     machine: &mut Machine,
-    row: &str,
-    act: usize,
+    place: (&str, usize),
+    way: Way,
     asked: &Cpu,
-    answered: &Cpu,
+    left: Cpu,
 )
     requires { HasProgram machine.old }
     ensures { HasProgram machine.new }
 {
-    let found = call(machine, asked);
-    same_at(rt, row, act, "registers", found, *answered);
+    let mut answered = left;
+    answered.ip = behind(way);
+    let found = call(machine, way, asked);
+    same_at(rt, place.0, place.1, "registers", found, answered);
 }
 
 /// Does what an act says, or compares what it finds.
@@ -160,8 +210,29 @@ pub(crate) fn act_on(rt: &impl Abort, machine: &mut Machine, row: &str, number: 
             let asked = with(at_call(machine, ax), registers);
             let mut answered = with(asked, left);
             answered.ax = status as u16 * 256 + answered.ax % 256;
-            answered.ip = BEHIND_CALL;
-            answers(rt, machine, row, number, &asked, &answered);
+            answers(rt, machine, (row, number), Way::Expanded, &asked, answered);
+        }
+        Act::Asks(ax, left) => {
+            let asked = at_call(machine, ax);
+            answers(
+                rt,
+                machine,
+                (row, number),
+                Way::Multiplex,
+                &asked,
+                with(asked, left),
+            );
+        }
+        Act::Far(ax, registers, left) => {
+            let asked = with(at_call(machine, ax), registers);
+            answers(
+                rt,
+                machine,
+                (row, number),
+                Way::Extended,
+                &asked,
+                with(asked, left),
+            );
         }
         Act::Put(segment, offset, bytes) => put(machine, segment, offset, bytes),
         Act::Holds(segment, offset, bytes) => {

@@ -1,4 +1,4 @@
-//! Programs that use expanded memory, as they are written for it.
+//! Programs that use expanded and extended memory, as they are written for it.
 ghost use Rattle.std.specs.Prelude.{IfOk};
 ghost use Rattle.dm_state.specs.State.{HasProgram};
 
@@ -163,6 +163,88 @@ name:   DB 'TAKES.COM',0
 words:  DB 0,0,0,0,0,0,0,0,0,0,0,0,0,0
 ";
 
+/// Looks for the extended memory driver, and for its version; moves eight letters out to a block, three times within it over themselves, and
+/// back, and writes them; then writes the first byte of the high memory area, or of memory, with A20 on, off and on.
+const MOVES: &str = "
+        JMP begin
+absent: MOV AX,4C01h
+        INT 21h
+
+begin:  MOV AX,4300h            ; is it there?
+        INT 2Fh
+        CMP AL,80h
+        JNE absent
+        MOV AX,4310h            ; where is it called?
+        INT 2Fh
+        MOV [entry],BX
+        MOV WORD [entry+2],ES
+        MOV AH,0                ; version 3.0
+        CALL FAR [entry]
+        CMP AX,300h
+        JNE absent
+        MOV AH,9                ; a block of 1 KiB
+        MOV DX,1
+        CALL FAR [entry]
+        DEC AX
+        JNZ absent
+        MOV [away+10],DX        ; its handle comes into all structures
+        MOV [one+4],DX
+        MOV [one+10],DX
+        MOV [two+4],DX
+        MOV [two+10],DX
+        MOV [three+4],DX
+        MOV [three+10],DX
+        MOV [home+4],DX
+        MOV WORD [away+8],DS
+        MOV WORD [home+14],DS
+        MOV SI,away
+        MOV DI,last
+more:   MOV AH,0Bh
+        CALL FAR [entry]
+        DEC AX
+        JNZ failed
+        ADD SI,10h
+        CMP SI,DI
+        JNE more
+        MOV DX,letters
+        MOV AH,9
+        INT 21h
+        MOV AH,1                ; the high memory area
+        MOV DX,0FFFFh
+        CALL FAR [entry]
+        DEC AX
+        JNZ failed
+        MOV AX,0FFFFh
+        MOV ES,AX
+        MOV AH,5
+        CALL FAR [entry]
+        ES MOV BYTE [10h],48h
+        CALL tell
+        MOV AH,6
+        CALL FAR [entry]
+        CALL tell
+        MOV AH,3
+        CALL FAR [entry]
+        CALL tell
+        MOV AX,4C00h
+        INT 21h
+failed: JMP absent
+
+tell:   ES MOV DL,[10h]
+        MOV AH,2
+        INT 21h
+        RET
+
+entry:  DW 0,0
+away:   DW 8,0,0,letters,0,0,0,0
+one:    DW 6,0,0,0,0,0,2,0
+two:    DW 6,0,0,2,0,0,0,0
+three:  DW 4,0,0,0,0,0,2,0
+home:   DW 8,0,0,0,0,0,letters,0
+last:   DB 0
+letters: DB 'ABCDEFGH$'
+";
+
 /// A machine with a program of this text.
 fn written(alloc: Global, text: &str) -> Result<Machine, Fail>
     ensures { IfOk result (λ m. HasProgram m) }
@@ -217,5 +299,15 @@ fn the_driver_acts_at_its_place_alone(rt: HostRuntime) -> Result<(), Fail> {
     same(&rt, "CX", cpu.cx, 0xE000);
     same(&rt, "SP", cpu.sp, 0xFFFE);
     same(&rt, "steps", machine.steps(), 10);
+    Ok(())
+}
+
+#[test]
+fn a_program_finds_extended_memory_and_moves_it(rt: HostRuntime) -> Result<(), Fail> {
+    let mut machine = written(rt.alloc(), MOVES)?;
+    same(&rt, "stop", machine.run(10_000), Stop::Exited(0));
+    // ABCDEFGH, ABABCDEF, ABCDEFEF, ABABCDEF; then the area, the first byte of vector 0, and the area again.
+    let output: &[u8] = b"ABABCDEFH\0H";
+    same(&rt, "output", machine.output(), output);
     Ok(())
 }

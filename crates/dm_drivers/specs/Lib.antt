@@ -5,5 +5,6 @@ pub mod Names
 pub mod Frame
 pub mod Regions
 pub mod Functions
+pub mod Multiplex
 pub mod Drivers
 pub mod Laws

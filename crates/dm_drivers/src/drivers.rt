@@ -1,17 +1,23 @@
 //! The drivers, and where they act.
 ghost use Rattle.std.specs.Prelude.{◌≡◌};
 ghost use Rattle.dm_state.specs.State.{AreLinked};
-ghost use Rattle.dm_drivers.specs.Drivers.{driver_at, driven, client_of, with_client, acted};
+ghost use Rattle.dm_drivers.specs.Drivers.{driver_at, driven, acted, given_back};
 
 use crate::functions::expanded_memory_call;
+use crate::multiplex::multiplex_call;
 use dm_exec::Cpu;
 use dm_state::Parts;
+use dm_xms_calls::extended_memory_call;
 
 /// What acts in place of the code at a CS:IP pair.
 #[derive(Clone, Copy, Debug, PartialEq, Eq)]
 pub enum Driver {
     /// INT 67h, expanded memory.
     ExpandedMemory,
+    /// INT 2Fh, which tells where extended memory is called.
+    Multiplex,
+    /// Extended memory, by a far call.
+    ExtendedMemory,
 }
 
 /// The driver at CS:IP, if there is one. Another spelling of its linear address is none.
@@ -21,6 +27,8 @@ pub fn driver_at(cpu: &Cpu) -> Option<Driver>
 {
     match (cpu.cs, cpu.ip) {
         (0xF100, 0x0020) => Some(Driver::ExpandedMemory),
+        (0xF000, 0x00BC) => Some(Driver::Multiplex),
+        (0xF000, 0x0400) => Some(Driver::ExtendedMemory),
         _ => None,
     }
 }
@@ -28,23 +36,38 @@ pub fn driver_at(cpu: &Cpu) -> Option<Driver>
 /// Does what the driver's call asks for.
 fn act(parts: &mut Parts, driver: Driver)
     requires { AreLinked parts.old }
-    ensures { parts.new ≡ with_client parts.old (acted (client_of parts.old) driver) }
+    ensures { parts.new ≡ acted parts.old driver }
 {
     match driver {
         Driver::ExpandedMemory => {
             expanded_memory_call(&mut parts.cpu, &mut parts.ems, &mut parts.space);
         }
+        Driver::Multiplex => multiplex_call(&mut parts.cpu),
+        Driver::ExtendedMemory => {
+            extended_memory_call(&mut parts.cpu, &mut parts.xms, &mut parts.space);
+        }
+    }
+}
+
+/// Goes back to where the program called.
+fn give_back(parts: &mut Parts, driver: Driver)
+    ensures { parts.new ≡ given_back parts.old driver }
+{
+    match driver {
+        Driver::ExpandedMemory => parts.give_back(),
+        Driver::Multiplex => parts.give_back(),
+        Driver::ExtendedMemory => parts.give_back_far(),
     }
 }
 
 /// Acts as the driver, goes back to where the program called, by the stack as it is then, and counts the step. No stop ever comes of
-/// it. The tables of expanded memory and the memory go together, and do so again.
+/// it. The tables of expanded and of extended memory and the memory go together, and do so again.
 pub fn drive(parts: &mut Parts, driver: Driver)
     requires { AreLinked parts.old }
     ensures answer { parts.new ≡ (driven parts.old driver).state }
     ensures linked { AreLinked parts.new }
 {
     act(parts, driver);
-    parts.give_back();
+    give_back(parts, driver);
     parts.count();
 }

@@ -1,24 +1,24 @@
 -- Each call keeps the tables and the memory together.
-use Rattle.std.proofs.Common.{◌≡◌, ℕ, zero, suc, ◌<◌, Bool, true, false, cond, List, [], ◌∷◌, Option, Some, None, length, get_or, set, refl, sym, ◌∙◌, ap, subst, replicate, arith}
+use Rattle.std.proofs.Common.{◌≡◌, ℕ, zero, suc, Bool, true, false, cond, List, [], ◌∷◌, Option, Some, None, length, get_or, set, refl, sym, ◌∙◌, ap, subst, replicate, arith}
 use Rattle.std.specs.Prelude.{Result, Ok, Err, ◌==◌, nat_lt, nat_le, is_some, IfSome, slice_get}
 use Rattle.std.proofs.lemmas.List.{length-replicate}
 use Rattle.dm_pool.specs.declared.places.Place.{Place}
-use Rattle.dm_pool.specs.Blocks.{Blocks, no_blocks}
-use Rattle.dm_space.specs.Memory.{Memory, IsPage, of_ram, no_windows}
+use Rattle.dm_pool.specs.Blocks.{no_blocks}
+use Rattle.dm_space.specs.Memory.{Memory, IsPage, no_windows}
 use Rattle.dm_space.specs.Places.{IsShaped}
 use Rattle.dm_space.specs.EightBytes.{eight_after}
 use Rattle.dm_ems.specs.declared.status.Status.{Status}
 use Rattle.dm_ems.specs.declared.status.Status.TheVariants.{NoPages, NoHandleLeft, OverTotal, OverFree, UnknownHandle, ContextSaved, NoSuchWindow, NoSuchPage, SavedAlready, NoneSaved, NameTaken}
 use Rattle.dm_ems.specs.declared.tables.Handle.{Handle}
 use Rattle.dm_ems.specs.declared.tables.Page.{Page}
-use Rattle.dm_ems.specs.Tables.{Tables, Expanded, expanded, new_tables, blank, appended, cut, unallocated, free_handle, blocks_of, with_windows}
+use Rattle.dm_ems.specs.Tables.{Expanded, blank, appended, cut, unallocated, free_handle, blocks_of, with_windows}
 use Rattle.dm_ems.specs.Linked.{block_at, IsOwned, ShowsPages, SavesPages, IsLinked}
 use Rattle.dm_ems.specs.Calls.{left, need, slot, with_slot, with_memory}
 use Rattle.dm_ems.specs.Handles.{allocate, deallocate}
 use Rattle.dm_ems.specs.Maps.{map_page, save_map, restore_map, showing}
 use Rattle.dm_ems.specs.Names.{set_name, is_name_of_other}
 use Rattle.dm_ems.specs.Laws.{StartIsLinked, CallsKeepTheLink, WritesKeepTheLink}
-use Rattle.dm_ems.proofs.Owned.{each_block, slot_each}
+use Rattle.dm_ems.proofs.Owned.{each_block}
 use Rattle.dm_ems.proofs.Linked.{linked_append, linked_appended, linked_cut, linked_slot}
 
 -- ---- rows

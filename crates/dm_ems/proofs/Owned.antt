@@ -1,16 +1,15 @@
 -- What windows show, while pages come and go.
-use Rattle.std.proofs.Common.{◌≡◌, ◌≢◌, ℕ, zero, suc, ◌+◌, ◌-◌, ◌<◌, ◌≤◌, Bool, true, false, ◌==◌, cond, List, [], ◌∷◌, ◌++◌, Option, Some, None, map, length, get_or, set, remove, position, refl, sym, ◌∙◌, ap, subst, arith, inl, inr, length-append, AllPairs}
+use Rattle.std.proofs.Common.{◌≡◌, ◌≢◌, ℕ, zero, suc, ◌+◌, ◌-◌, ◌<◌, Bool, true, false, ◌==◌, cond, List, [], ◌∷◌, ◌++◌, Option, Some, None, map, length, get_or, set, remove, position, refl, sym, ◌∙◌, ap, subst, arith, inl, inr, length-append}
 use Rattle.std.specs.Prelude.{IfSome, filter, slice_get}
 use Rattle.std.proofs.lemmas.List.Quantifiers.{position-Some}
 use Rattle.std.proofs.lemmas.List.Edits.{length-remove, get_or-remove_below, get_or-remove_above}
 use Rattle.std.proofs.lemmas.Bool.{cases_lt}
 use Rattle.std.proofs.lemmas.Bool.Decides.{nat_tests}
-use Rattle.dm_space.specs.Memory.{Memory, IsPage}
 use Rattle.dm_space.specs.Unseen.{shows}
 use Rattle.dm_ems.specs.declared.tables.Handle.{Handle}
 use Rattle.dm_ems.specs.declared.tables.Page.{Page}
-use Rattle.dm_ems.specs.Tables.{Expanded, hidden, hidden_saved, hiding, is_block, is_of, blocks_of}
-use Rattle.dm_ems.specs.Linked.{block_at, IsOwned, ShowsPages, SavesPages, HasOtherBlock, IsLinked}
+use Rattle.dm_ems.specs.Tables.{hidden, hidden_saved, hiding, is_block, is_of}
+use Rattle.dm_ems.specs.Linked.{block_at, IsOwned, ShowsPages, SavesPages}
 
 -- ---- pages of one list are pages of another
 

@@ -1,5 +1,5 @@
 -- The frame (LIM EMS 4.0, function 25): four windows of 16 KiB from segment E000h on.
-use Rattle.std.specs.Prelude.{ℕ, List, [], ◌∷◌, ◌++◌}
+use Rattle.std.specs.Prelude.{ℕ, List, ◌++◌}
 use Rattle.dm_ems.specs.Tables.{Expanded}
 use Rattle.dm_ems.specs.Names.{word, writing}
 

@@ -1,10 +1,12 @@
--- That tables and memory stay together: at the start, through each call, and while a program writes.
+-- That tables and memory stay together: at the start, through each call, and while a program writes. And that calls leave the blocks that
+-- are no pages.
 use Rattle.std.specs.Prelude.{ℕ, List}
 use Rattle.dm_pool.specs.Blocks.{no_blocks}
 use Rattle.dm_space.specs.Memory.{Memory, of_ram}
 use Rattle.dm_space.specs.Places.{IsShaped}
 use Rattle.dm_ems.specs.Tables.{Expanded, expanded, new_tables, appended_page, cut}
 use Rattle.dm_ems.specs.Linked.{IsLinked}
+use Rattle.dm_ems.specs.Outside.{LeavesOutside}
 use Rattle.dm_ems.specs.Calls.{left, with_memory}
 use Rattle.dm_ems.specs.Handles.{allocate, deallocate}
 use Rattle.dm_ems.specs.Maps.{map_page, save_map, restore_map}
@@ -27,3 +29,14 @@ pub record CallsKeepTheLink : Type 0 where
 -- a memory of the same map, as a write leaves it
 abbrev pub WritesKeepTheLink : Type 0
 WritesKeepTheLink = (x : Expanded) (m : Memory) → IsShaped x.memory m → IsLinked x → IsLinked (with_memory x m)
+
+pub record CallsLeaveOutside : Type 0 where
+  pub allocating : (x : Expanded) (n : ℕ) → LeavesOutside x (left x (allocate x n))
+  pub deallocating : (x : Expanded) (handle : ℕ) → LeavesOutside x (left x (deallocate x handle))
+  pub mapping : (x : Expanded) (window page handle : ℕ) → LeavesOutside x (left x (map_page x window page handle))
+  pub saving : (x : Expanded) (handle : ℕ) → LeavesOutside x (left x (save_map x handle))
+  pub restoring : (x : Expanded) (handle : ℕ) → LeavesOutside x (left x (restore_map x handle))
+  pub naming : (x : Expanded) (handle segment offset : ℕ) → LeavesOutside x (left x (set_name x handle segment offset))
+  pub appending : (x : Expanded) (handle : ℕ) → LeavesOutside x (appended_page x handle)
+  pub cutting : (x : Expanded) (handle count : ℕ) → LeavesOutside x (cut x handle count)
+  pub writing : (x : Expanded) (m : Memory) → IsShaped x.memory m → LeavesOutside x (with_memory x m)

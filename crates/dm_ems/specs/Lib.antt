@@ -1,6 +1,7 @@
 pub mod Status
 pub mod Tables
 pub mod Linked
+pub mod Outside
 pub mod Calls
 pub mod Handles
 pub mod Maps

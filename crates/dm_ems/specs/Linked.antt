@@ -1,10 +1,10 @@
 -- That the tables of expanded memory and the memory go together: each page is a block of its own, and windows, saved ones too,
 -- show pages alone.
 use Rattle.std.specs.Prelude.{ℕ, ◌<◌, ◌≡◌, ◌≢◌, List, length, slice_index_or, AllPairs, Option, Some, None, IfSome}
-use Rattle.dm_space.specs.Memory.{Memory, IsPage}
+use Rattle.dm_space.specs.Memory.{IsPage}
 use Rattle.dm_ems.specs.declared.tables.Handle.{Handle}
 use Rattle.dm_ems.specs.declared.tables.Page.{Page}
-use Rattle.dm_ems.specs.Tables.{Tables, Expanded}
+use Rattle.dm_ems.specs.Tables.{Expanded}
 
 abbrev pub block_at : List Page → ℕ → ℕ
 block_at pages k = (slice_index_or pages k (record { handle = 0; block = 0 })).block

@@ -13,7 +13,7 @@ mod pages;
 mod status;
 mod tables;
 
-pub use laws::{calls_keep_the_link, writes_keep_the_link};
+pub use laws::{calls_keep_the_link, calls_leave_outside, writes_keep_the_link};
 pub use pages::set_windows;
 pub use status::Status;
 pub use tables::{Ems, Handle, Page};

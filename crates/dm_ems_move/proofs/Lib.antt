@@ -1,4 +1,5 @@
 pub mod Pairs
 pub mod Shown
 pub mod Keeping
+pub mod Leaving
 pub mod Regions

@@ -93,7 +93,7 @@ map_shown ems m s o ws e = subst (λ (t : Option (List (Option ℕ))). IfSome t 
 
 -- ---- a map that is written
 
-bytes_shaped : (m : Memory) (s o : ℕ) (bytes : List ℕ) → IsShaped m (with_bytes m s o bytes)
+pub bytes_shaped : (m : Memory) (s o : ℕ) (bytes : List ℕ) → IsShaped m (with_bytes m s o bytes)
 unfolding with_bytes
 bytes_shaped m s o [] = shaped-same m
 bytes_shaped m s o (b ∷ bytes) =

@@ -1,7 +1,8 @@
--- That tables and memory stay together through each call.
+-- That tables and memory stay together through each call, and what is outside stays.
 use Rattle.std.specs.Prelude.{ℕ}
 use Rattle.dm_ems.specs.Tables.{Expanded}
 use Rattle.dm_ems.specs.Linked.{IsLinked}
+use Rattle.dm_ems.specs.Outside.{LeavesOutside}
 use Rattle.dm_ems.specs.Calls.{left}
 use Rattle.dm_ems_move.specs.Reallocation.{reallocate}
 use Rattle.dm_ems_move.specs.Many.{map_many}
@@ -14,3 +15,10 @@ pub record MovesKeepTheLink : Type 0 where
   pub setting : (x : Expanded) (mode to_segment to_offset from_segment from_offset : ℕ) → IsLinked x → IsLinked (left x (whole_map x mode to_segment to_offset from_segment from_offset))
   pub moving : (x : Expanded) (segment offset : ℕ) → IsLinked x → IsLinked (left x (move_region x segment offset))
   pub exchanging : (x : Expanded) (segment offset : ℕ) → IsLinked x → IsLinked (left x (exchange_region x segment offset))
+
+pub record MovesLeaveOutside : Type 0 where
+  pub reallocating : (x : Expanded) (handle n : ℕ) → LeavesOutside x (left x (reallocate x handle n))
+  pub mapping : (x : Expanded) (mode handle count segment offset : ℕ) → LeavesOutside x (left x (map_many x mode handle count segment offset))
+  pub setting : (x : Expanded) (mode to_segment to_offset from_segment from_offset : ℕ) → LeavesOutside x (left x (whole_map x mode to_segment to_offset from_segment from_offset))
+  pub moving : (x : Expanded) (segment offset : ℕ) → LeavesOutside x (left x (move_region x segment offset))
+  pub exchanging : (x : Expanded) (segment offset : ℕ) → LeavesOutside x (left x (exchange_region x segment offset))

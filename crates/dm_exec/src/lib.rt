@@ -21,5 +21,6 @@ mod widths;
 pub use cpu::Cpu;
 pub use dm_alu::Flags;
 pub use effect::{Next, exec};
+pub use jumps::far_return;
 pub use laws::{halt_changes_nothing, ignores_unseen, keeps_the_map};
 pub use stack::interrupt_return;

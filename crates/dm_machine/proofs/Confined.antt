@@ -1,5 +1,5 @@
--- A run neither depends on what no program sees, nor changes it
-use Rattle.std.proofs.Common.{◌≡◌, ℕ, ◌+◌, ◌<◌, ◌≤◌, arith, Option, Some, None, refl, sym, ◌∙◌, ap, subst}
+-- A run doesn't depend on what no program sees
+use Rattle.std.proofs.Common.{◌≡◌, ℕ, ◌+◌, ◌≤◌, arith, Option, Some, None, refl, sym, ◌∙◌, ap, subst}
 use Rattle.dm_space.specs.Memory.{Memory}
 use Rattle.dm_space.specs.Unseen.{unseen_as, IsUnseen}
 use Rattle.dm_ins.specs.declared.ins.Ins.{Ins}
@@ -9,20 +9,22 @@ use Rattle.dm_exec.specs.declared.effect.Next.TheVariants.{Go, Halt}
 use Rattle.dm_exec.specs.Guest.{Guest, guest}
 use Rattle.dm_exec.specs.Effect.{effect, next_of}
 use Rattle.dm_exec.specs.Unseen.{changed}
-use Rattle.dm_exec.proofs.Unseen.{effect-unseen}
+use Rattle.dm_exec.proofs.Unseen.{effect-unseen, interrupt_return-unseen}
 use Rattle.dm_space.proofs.Unseen.{pages-unseen}
 use Rattle.dm_state.specs.declared.stop.Stop.{Stop}
 use Rattle.dm_state.specs.declared.stop.Stop.TheVariants.{Memory as NoMemory}
 use Rattle.dm_services.specs.declared.services.Service.{Service}
 use Rattle.dm_drivers.specs.declared.drivers.Driver.{Driver}
-use Rattle.dm_drivers.specs.Drivers.{driver_at}
-use Rattle.dm_state.specs.State.{State, Answer}
+use Rattle.dm_drivers.specs.declared.drivers.Driver.TheVariants.{ExpandedMemory, Multiplex, ExtendedMemory}
+use Rattle.dm_drivers.specs.Multiplex.{told}
+use Rattle.dm_drivers.specs.Drivers.{driver_at, driven}
+use Rattle.dm_state.specs.State.{State, Answer, go, with_guest}
 use Rattle.dm_services.specs.Services.{service_at}
 use Rattle.dm_services.specs.Wanting.{MayWant}
 use Rattle.dm_machine.specs.Step.{Steps, Runs, Acts, Drives, Instructs, listed, unlisted, Begins, fetched, after, instructed}
 use Rattle.dm_machine.specs.Run.{Answers, here, further, StopsWithin, over, whole, cut}
 use Rattle.dm_services.specs.Laws.{with_change, answer_with}
-use Rattle.dm_machine.specs.Laws.{StaysQuiet, UnseenBytesChangeNoStep, UnseenBytesChangeNoRun, UnseenPagesChangeNoRun}
+use Rattle.dm_machine.specs.Laws.{IsQuiet, StaysQuiet, UnseenBytesChangeNoStep, UnseenBytesChangeNoRun, UnseenBlocksChangeNoRun}
 use Rattle.dm_services.proofs.Unseen.{serves-unseen}
 
 fetched-unseen : (f : Memory → Memory) (u : IsUnseen f) (m : Memory) (c : Cpu) → fetched (f m) c ≡ fetched m c
@@ -44,36 +46,38 @@ instructs-unseen f u s x (listed i k b e) =
 instructs-unseen f u s x (unlisted h e) =
     unlisted (λ i k b. h i k (subst (λ xs. Begins xs i k) (fetched-unseen f u s.memory s.cpu) b)) (ap (answer_with f) e)
 
--- no driver acts at the state
-abbrev IsQuiet : State → Type 0
-IsQuiet s = driver_at s.cpu ≡ None
+-- INT 2Fh changes registers alone
+multiplex-unseen : (f : Memory → Memory) (u : IsUnseen f) (s : State) → driven (with_change f s) Multiplex ≡ answer_with f (driven s Multiplex)
+multiplex-unseen f u s = ap (λ (g : Guest). go (with_guest s g)) (interrupt_return-unseen f u (guest (told s.cpu) s.memory))
 
-drives-unseen : (f : Memory → Memory) (u : IsUnseen f) (s : State) (o : Option Driver) (x : Answer) → o ≡ None → Drives s o x → Drives (with_change f s) o (answer_with f x)
-drives-unseen f u s (Some driver) x q e = cc
+drives-unseen : (f : Memory → Memory) (u : IsUnseen f) (s : State) (o : Option Driver) (x : Answer) → IsQuiet o → Drives s o x → Drives (with_change f s) o (answer_with f x)
+drives-unseen f u s (Some ExpandedMemory) x q e = absurd q
+drives-unseen f u s (Some ExtendedMemory) x q e = absurd q
+drives-unseen f u s (Some Multiplex) x q e = ap (answer_with f) e ∙ sym (multiplex-unseen f u s)
 drives-unseen f u s None x q h = instructs-unseen f u s x h
 
-acts-unseen : (f : Memory → Memory) (u : IsUnseen f) (s : State) (o : Option Service) (x : Answer) → IsQuiet s → Acts s o x → Acts (with_change f s) o (answer_with f x)
+acts-unseen : (f : Memory → Memory) (u : IsUnseen f) (s : State) (o : Option Service) (x : Answer) → IsQuiet (driver_at s.cpu) → Acts s o x → Acts (with_change f s) o (answer_with f x)
 acts-unseen f u s (Some service) x q h = serves-unseen f u s service x h
 acts-unseen f u s None x q h = drives-unseen f u s (driver_at s.cpu) x q h
 
-runs-unseen : (f : Memory → Memory) (u : IsUnseen f) (s : State) (o : Option ℕ) (x : Answer) → IsQuiet s → Runs s o x → Runs (with_change f s) o (answer_with f x)
+runs-unseen : (f : Memory → Memory) (u : IsUnseen f) (s : State) (o : Option ℕ) (x : Answer) → IsQuiet (driver_at s.cpu) → Runs s o x → Runs (with_change f s) o (answer_with f x)
 runs-unseen f u s (Some code) x q e = ap (answer_with f) e
 runs-unseen f u s None x q h = acts-unseen f u s (service_at s.cpu) x q h
 
-steps-unseen : (f : Memory → Memory) (u : IsUnseen f) (s : State) (x : Answer) → IsQuiet s → Steps s x → Steps (with_change f s) (answer_with f x)
+pub steps-unseen : (f : Memory → Memory) (u : IsUnseen f) (s : State) (x : Answer) → IsQuiet (driver_at s.cpu) → Steps s x → Steps (with_change f s) (answer_with f x)
 unfolding Steps
 steps-unseen f u s x q h = runs-unseen f u s s.exited x q h
 
-wants-unseen : (f : Memory → Memory) (u : IsUnseen f) (s : State) → IsQuiet s → MayWant s (Steps s) → MayWant (with_change f s) (Steps (with_change f s))
+wants-unseen : (f : Memory → Memory) (u : IsUnseen f) (s : State) → IsQuiet (driver_at s.cpu) → MayWant s (Steps s) → MayWant (with_change f s) (Steps (with_change f s))
 wants-unseen f u s q w = record { answer = answer_with f w.answer; gives = steps-unseen f u s w.answer q w.gives; overflows = w.overflows }
 
-answers-unseen : (f : Memory → Memory) (u : IsUnseen f) (s : State) (stop : Option Stop) (t : State) → IsQuiet s → Answers s stop t → Answers (with_change f s) stop (with_change f t)
+answers-unseen : (f : Memory → Memory) (u : IsUnseen f) (s : State) (stop : Option Stop) (t : State) → IsQuiet (driver_at s.cpu) → Answers s stop t → Answers (with_change f s) stop (with_change f t)
 answers-unseen f u s (Some NoMemory) t q h = (wants-unseen f u s q h.0, ap (with_change f) h.1)
 answers-unseen f u s (Some stop) t q h = steps-unseen f u s _ q h
 answers-unseen f u s None t q h = steps-unseen f u s _ q h
 
 -- fewer steps are quiet too
-fewer-quiet : (s : State) (m n : ℕ) → m ≤ n → StaysQuiet s n → StaysQuiet s m
+pub fewer-quiet : (s : State) (m n : ℕ) → m ≤ n → StaysQuiet s n → StaysQuiet s m
 fewer-quiet s m n h q k r less goes = q k r (omega (arith, h, less)) goes
 
 pub goes-unseen : UnseenBytesChangeNoStep
@@ -97,5 +101,5 @@ run-unseen f u s t n stop q (over code e g h) = over code e g (ap (with_change f
 run-unseen f u s t n stop q (whole e g goes) = whole e g (goes-unseen f u s t n q goes)
 run-unseen f u s t n stop q (cut e w) = cut e (within-unseen f u s t n stop q w)
 
-pub pages_run-unseen : UnseenPagesChangeNoRun
-pages_run-unseen other = run-unseen (λ m. unseen_as m other) (pages-unseen other)
+pub blocks_run-unseen : UnseenBlocksChangeNoRun
+blocks_run-unseen other = run-unseen (λ m. unseen_as m other) (pages-unseen other)

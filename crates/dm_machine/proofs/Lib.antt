@@ -3,6 +3,7 @@ mod OneRun
 mod OneStop
 mod Memos
 mod Confined
+mod Kept
 mod NoRoom
 mod Rooms
 mod Links

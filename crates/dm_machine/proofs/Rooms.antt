@@ -8,6 +8,7 @@ use Rattle.dm_state.specs.declared.stop.Stop.{Stop}
 use Rattle.dm_state.specs.declared.stop.Stop.TheVariants.{Memory as NoMemory}
 use Rattle.dm_services.specs.declared.services.Service.{Service}
 use Rattle.dm_drivers.specs.declared.drivers.Driver.{Driver}
+use Rattle.dm_drivers.specs.declared.drivers.Driver.TheVariants.{ExpandedMemory, Multiplex, ExtendedMemory}
 use Rattle.dm_drivers.specs.Drivers.{driver_at}
 use Rattle.dm_state.specs.State.{State, Answer}
 use Rattle.dm_services.specs.Services.{service_at}
@@ -27,7 +28,9 @@ instructs-keep s x (listed i k b e) = by s x _ e (after-keeps s (next_of i.actio
 instructs-keep s x (unlisted h e) = by s x _ e (same _)
 
 drives-keep : (s : State) (o : Option Driver) (x : Answer) → Drives s o x → Keeps s x
-drives-keep s (Some driver) x e = by s x _ e (same _)
+drives-keep s (Some ExpandedMemory) x e = by s x _ e (same _)
+drives-keep s (Some Multiplex) x e = by s x _ e (same _)
+drives-keep s (Some ExtendedMemory) x e = by s x _ e (same _)
 drives-keep s None x h = instructs-keep s x h
 
 acts-keep : (s : State) (o : Option Service) (x : Answer) → Acts s o x → Keeps s x

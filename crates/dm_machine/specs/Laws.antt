@@ -1,11 +1,13 @@
 -- Laws of steps and runs.
-use Rattle.std.specs.Prelude.{◌≡◌, ◌≢◌, ℕ, ◌+◌, ◌≤◌, ◌<◌, max, List, length, Option, Some, None}
-use Rattle.dm_space.specs.Memory.{Memory}
-use Rattle.dm_space.specs.Unseen.{unseen_as, IsUnseen}
+use Rattle.std.specs.Prelude.{◌≡◌, ◌≢◌, ℕ, ◌+◌, ◌≤◌, ◌<◌, max, false, List, length, Option, Some, None}
+use Rattle.dm_space.specs.Memory.{Memory, page_bytes}
+use Rattle.dm_space.specs.Unseen.{shows, unseen_as, IsUnseen}
 use Rattle.dm_state.specs.declared.stop.Stop.{Stop}
 use Rattle.dm_state.specs.declared.stop.Stop.TheVariants.{Memory as NoMemory}
 use Rattle.dm_state.specs.State.{State, Answer}
 use Rattle.dm_services.specs.Laws.{with_change}
+use Rattle.dm_drivers.specs.declared.drivers.Driver.{Driver}
+use Rattle.dm_drivers.specs.declared.drivers.Driver.TheVariants.{ExpandedMemory, Multiplex, ExtendedMemory}
 use Rattle.dm_drivers.specs.Drivers.{driver_at}
 use Rattle.dm_machine.specs.Step.{Steps}
 use Rattle.dm_machine.specs.Run.{Answers, Goes, IsRun}
@@ -20,12 +22,19 @@ ThereIsOneRun = (s t u : State) (n : ℕ) → Goes s n t → Goes s n u → t �
 abbrev pub RunHasOneStop : Type 0
 RunHasOneStop = (s t u : State) (n : ℕ) (a b : Stop) → IsRun s n a t → IsRun s n b u → a ≢ NoMemory → b ≢ NoMemory → (a ≡ b) × (t ≡ u)
 
--- no driver acts in n steps from s: none gives the program another view of memory
-abbrev pub StaysQuiet : State → ℕ → Type 0
-StaysQuiet s n = (k : ℕ) (r : State) → k < n → Goes s k r → driver_at r.cpu ≡ None
+-- a driver that gives the program no other view of memory: INT 2Fh, or none
+abbrev pub IsQuiet : Option Driver → Type 0
+IsQuiet None = Unit {0}
+IsQuiet (Some Multiplex) = Unit {0}
+IsQuiet (Some ExpandedMemory) = ⊥
+IsQuiet (Some ExtendedMemory) = ⊥
 
--- n steps that end nothing, and in which no driver acts, lead to the same state where memory is changed out of every program's
--- sight, and the change stays
+-- in n steps from s neither INT 67h nor the extended memory driver acts
+abbrev pub StaysQuiet : State → ℕ → Type 0
+StaysQuiet s n = (k : ℕ) (r : State) → k < n → Goes s k r → IsQuiet (driver_at r.cpu)
+
+-- n steps that end nothing, and in which neither acts, lead to the same state where memory is changed out of every program's sight, and
+-- the change stays
 abbrev pub UnseenBytesChangeNoStep : Type 0
 UnseenBytesChangeNoStep =
     (change : Memory → Memory) → IsUnseen change → (s t : State) (n : ℕ) → StaysQuiet s n →
@@ -37,15 +46,24 @@ UnseenBytesChangeNoRun =
     (change : Memory → Memory) → IsUnseen change → (s t : State) (n : ℕ) (stop : Stop) → StaysQuiet s n →
     IsRun s n stop t → IsRun (with_change change s) n stop (with_change change t)
 
--- the state with other bytes in the pages of expanded memory that no window shows
-abbrev pub with_unseen_pages : (ℕ → List ℕ) → State → State
-with_unseen_pages other s = record s { memory = unseen_as s.memory other }
+-- the state with other bytes in the blocks that no window shows: pages of expanded memory, and extended memory
+abbrev pub with_unseen_blocks : (ℕ → List ℕ) → State → State
+with_unseen_blocks other s = record s { memory = unseen_as s.memory other }
 
--- in particular, a run neither depends on such pages nor changes them
-abbrev pub UnseenPagesChangeNoRun : Type 0
-UnseenPagesChangeNoRun =
+-- in particular, a run doesn't depend on such blocks, and leaves them
+abbrev pub UnseenBlocksChangeNoRun : Type 0
+UnseenBlocksChangeNoRun =
     (other : ℕ → List ℕ) (s t : State) (n : ℕ) (stop : Stop) → StaysQuiet s n →
-    IsRun s n stop t → IsRun (with_unseen_pages other s) n stop (with_unseen_pages other t)
+    IsRun s n stop t → IsRun (with_unseen_blocks other s) n stop (with_unseen_blocks other t)
+
+-- what a run leaves: the windows, where each block lies, and the bytes of each block that no window shows
+pub record LeavesUnseen (m n : Memory) : Type 0 where
+  pub windows : n.windows ≡ m.windows
+  pub places : n.blocks.places ≡ m.blocks.places
+  pub bytes : (block : ℕ) → shows m.windows block ≡ false → page_bytes n block ≡ page_bytes m block
+
+abbrev pub RunLeavesUnseen : Type 0
+RunLeavesUnseen = (s t : State) (n : ℕ) (stop : Stop) → StaysQuiet s n → IsRun s n stop t → LeavesUnseen s.memory t.memory
 
 -- steps and runs one after another, and between them changes of memory from outside, and more room
 pub data Follows (s : State) : State → Type 0 where

@@ -5,6 +5,7 @@ use Rattle.dm_pool.specs.Blocks.{no_blocks}
 use Rattle.dm_pool.specs.Stored.{units_of}
 use Rattle.dm_space.specs.Start.{IsStart}
 use Rattle.dm_ems.specs.Tables.{new_tables}
+use Rattle.dm_xms.specs.Tables as xms
 use Rattle.dm_alu.specs.declared.flags.Flags.{Flags}
 use Rattle.dm_exec.specs.declared.cpu.Cpu.{Cpu}
 use Rattle.dm_arena.specs.declared.fit.Strategy.TheVariants.{First}
@@ -22,13 +23,14 @@ clear_flags = record { carry = false; parity = false; adjust = false; zero = fal
 abbrev pub clear_registers : Cpu
 clear_registers = record { ax = 0; cx = 0; dx = 0; bx = 0; sp = 0; bp = 0; si = 0; di = 0; es = 0; cs = 0; ss = 0; ds = 0; ip = 0; flags = clear_flags }
 
--- memory as it starts over a pool with no block, no handle but handle 0, no output, no process
+-- memory as it starts over a pool with no block, no handle but handle 0 of expanded memory, no output, no process
 pub record IsNew (sizes : Sizes) (variables : List ℕ) (programs : List (List ℕ × List ℕ)) (input : List ℕ) (s : State) : Type 0 where
   pub memory : IsStart (no_blocks (units_of sizes)) s.memory
   pub others : s ≡ record {
     cpu = clear_registers;
     memory = s.memory;
     ems = new_tables sizes.ems_pages;
+    xms = xms.new_tables;
     console = record { input = input; output = []; room = 0 };
     processes = record { present = 0; parents = []; code = 0 };
     strategy = First;

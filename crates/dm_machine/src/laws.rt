@@ -1,5 +1,5 @@
 //! Laws of steps and runs, each the contract of a function that does nothing.
-ghost use Rattle.dm_machine.specs.Laws.{StepHasOneAnswer, ThereIsOneRun, RunHasOneStop, UnseenBytesChangeNoStep, UnseenBytesChangeNoRun, UnseenPagesChangeNoRun, RoomIsEnoughForRuns, RoomIsEnoughForSteps};
+ghost use Rattle.dm_machine.specs.Laws.{StepHasOneAnswer, ThereIsOneRun, RunHasOneStop, UnseenBytesChangeNoStep, UnseenBytesChangeNoRun, UnseenBlocksChangeNoRun, RunLeavesUnseen, RoomIsEnoughForRuns, RoomIsEnoughForSteps};
 
 /// A step is a function of the state: no two answers of one step differ.
 pub fn a_step_has_one_answer()
@@ -13,16 +13,17 @@ pub fn there_is_one_run()
     ensures stops { RunHasOneStop }
 {}
 
-/// Bytes that no address shows neither matter nor change in a run in which no driver acts: with
-/// others of them, the run makes the same steps, stops for the same reason, and leaves the same
-/// state, with those other bytes kept.
+/// Bytes that no address shows neither matter nor change in a run in which neither INT 67h nor the extended memory driver acts: with
+/// others of them, the run makes the same steps, stops for the same reason, and leaves the same state, with those other bytes kept.
 ///
-/// In particular this holds for the pages of expanded memory that no window shows (LIM EMS 4.0,
-/// section 2). A driver may map or move such bytes.
+/// In particular this holds for the pages of expanded memory that no window shows (LIM EMS 4.0, section 2) and for all blocks of
+/// extended memory (XMS 3.0). Such a run leaves the windows as they are, each block where it lies, and the bytes of each block that no
+/// window shows. The two drivers may map, move, give or free such bytes.
 pub fn unseen_bytes_change_nothing()
     ensures steps { UnseenBytesChangeNoStep }
     ensures runs { UnseenBytesChangeNoRun }
-    ensures pages { UnseenPagesChangeNoRun }
+    ensures blocks { UnseenBlocksChangeNoRun }
+    ensures kept { RunLeavesUnseen }
 {}
 
 /// Room that was made beforehand is enough: over any list of steps and runs, with changes of memory

@@ -17,6 +17,7 @@ use dm_pool::{Sizes, Store};
 use dm_proc::{Procs, Programs};
 use dm_space::Space;
 use dm_state::{Config, Parts};
+use dm_xms::Xms;
 use std::alloc::{AllocError, Global};
 use std::marker::Model;
 use thiserror::Error;
@@ -34,7 +35,7 @@ pub enum NewError {
 
 /// A machine that runs one program, and those that it starts.
 ///
-/// Contracts see its state: registers, memory, the tables of expanded memory, console, processes, the allocation strategy, the code
+/// Contracts see its state: registers, memory, the tables of expanded and extended memory, console, processes, the allocation strategy, the code
 /// with which the first program ended, the count of steps, and what no step changes.
 #[derive(Drop)]
 pub struct Machine {
@@ -91,7 +92,7 @@ fn start_space(alloc: Global, sizes: Sizes) -> Result<Space, NewError>
 impl Machine {
     /// A machine as it starts: memory of zeros but for the interrupt vectors and the first arena
     /// header, A20 off, a pool of the configuration's sizes with no block, no handle of expanded
-    /// memory but handle 0, no output, no program loaded.
+    /// memory but handle 0, none of extended memory, no output, no program loaded.
     ///
     /// The variables of the configuration have at most 32,767 bytes with their zeros.
     ///
@@ -118,6 +119,7 @@ impl Machine {
             cpu: clear_registers(),
             space,
             ems: Ems::new(sizes.ems_pages as u16),
+            xms: Xms::new(),
             console: Console::new(alloc, input),
             procs: Procs::new(),
             strategy: Strategy::First,
@@ -163,6 +165,13 @@ impl Machine {
         ensures { result.now ≡ self.now.ems }
     {
         &self.parts.ems
+    }
+
+    /// The handles of extended memory, what keeps A20 on, and the upper memory blocks.
+    pub fn xms(&self) -> &Xms
+        ensures { result.now ≡ self.now.xms }
+    {
+        &self.parts.xms
     }
 
     /// The byte at segment:offset; FFh where there is no memory.

@@ -35,15 +35,15 @@ use Rattle.dm_services.proofs.MapParts.{word-kept, bytes-kept, return-kept, allo
 
 -- the answer's memory has the map of the state's, and its tables are the state's
 abbrev Kept : State → Answer → Type 0
-Kept s x = IsShaped s.memory x.state.memory × (x.state.ems ≡ s.ems)
+Kept s x = IsShaped s.memory x.state.memory × (x.state.ems ≡ s.ems) × (x.state.xms ≡ s.xms)
 
 -- memory as it was
-fixed : (s : State) → IsShaped s.memory s.memory × (s.ems ≡ s.ems)
-fixed s = (shaped-same s.memory, refl)
+fixed : (s : State) → IsShaped s.memory s.memory × (s.ems ≡ s.ems) × (s.xms ≡ s.xms)
+fixed s = (shaped-same s.memory, refl, refl)
 
 -- back in the program, with memory as it was
-still : (s : State) (c : Cpu) → IsShaped s.memory (returned (record s { cpu = c })).memory × (s.ems ≡ s.ems)
-still s c = (return-kept s.memory c s.memory (shaped-same s.memory), refl)
+still : (s : State) (c : Cpu) → IsShaped s.memory (returned (record s { cpu = c })).memory × (s.ems ≡ s.ems) × (s.xms ≡ s.xms)
+still s c = (return-kept s.memory c s.memory (shaped-same s.memory), refl, refl)
 
 choice-kept : (s : State) (b : Bool) (x y : Answer) → Kept s x → Kept s y → Kept s (cond b x y)
 choice-kept s true x y h g = h
@@ -87,7 +87,7 @@ check_input-kept s = still s _
 
 line-kept : (s : State) (m : ℕ) (o : Option ℕ) → Kept s (line_read s m o)
 line-kept s m None = fixed s
-line-kept s m (Some n) = (return-kept s.memory _ _ (bytes-kept s.memory _ _ _ _ (bytes-kept s.memory s.memory _ _ _ (shaped-same s.memory))), refl)
+line-kept s m (Some n) = (return-kept s.memory _ _ (bytes-kept s.memory _ _ _ _ (bytes-kept s.memory s.memory _ _ _ (shaped-same s.memory))), refl, refl)
 
 line_into-kept : (s : State) (m : ℕ) → Kept s (line_into s m)
 line_into-kept s m = choice-kept s (m == 0) _ _ (still s _) (line-kept s m (line_length s.console.input))
@@ -112,7 +112,7 @@ bad_handle-kept s = still s _
 read_handle-kept : (s : State) → Kept s (read_handle s)
 unfolding read_handle
 read_handle-kept s =
-    choice-kept s (nat_lt s.cpu.bx 3) _ _ (return-kept s.memory _ _ (bytes-kept s.memory s.memory _ _ _ (shaped-same s.memory)), refl) (bad_handle-kept s)
+    choice-kept s (nat_lt s.cpu.bx 3) _ _ (return-kept s.memory _ _ (bytes-kept s.memory s.memory _ _ _ (shaped-same s.memory)), refl, refl) (bad_handle-kept s)
 
 write_handle-kept : (s : State) → Kept s (write_handle s)
 unfolding write_handle
@@ -122,7 +122,7 @@ set_vector-kept : (s : State) → Kept s (set_vector s)
 unfolding set_vector
 set_vector-kept s =
     let n = 4 * byte_of s.cpu Al in
-    (return-kept s.memory _ _ (word-kept s.memory _ 0 (n + 2) s.cpu.ds (word-kept s.memory s.memory 0 n s.cpu.dx (shaped-same s.memory))), refl)
+    (return-kept s.memory _ _ (word-kept s.memory _ 0 (n + 2) s.cpu.ds (word-kept s.memory s.memory 0 n s.cpu.dx (shaped-same s.memory))), refl, refl)
 
 get_vector-kept : (s : State) → Kept s (get_vector s)
 unfolding get_vector
@@ -151,12 +151,12 @@ tell_code-kept s = still s _
 -- ---- blocks
 
 allocated-kept : (s : State) (r : Result ℕ Refusal) (m : Memory) → IsShaped s.memory m → Kept s (allocated s r m)
-allocated-kept s (Ok segment) m h = (return-kept s.memory _ m h, refl)
-allocated-kept s (Err e) m h = (return-kept s.memory _ m h, refl)
+allocated-kept s (Ok segment) m h = (return-kept s.memory _ m h, refl, refl)
+allocated-kept s (Err e) m h = (return-kept s.memory _ m h, refl, refl)
 
 settled-kept : (s : State) (r : Result (Unit {0}) Refusal) (m : Memory) → IsShaped s.memory m → Kept s (settled s r m)
-settled-kept s (Ok u) m h = (return-kept s.memory _ m h, refl)
-settled-kept s (Err e) m h = (return-kept s.memory _ m h, refl)
+settled-kept s (Ok u) m h = (return-kept s.memory _ m h, refl, refl)
+settled-kept s (Err e) m h = (return-kept s.memory _ m h, refl, refl)
 
 strategy_set-kept : (s : State) (o : Option Strategy) → Kept s (strategy_set s o)
 strategy_set-kept s None = still s _
@@ -169,16 +169,16 @@ strategy-kept s = choice-kept s (byte_of s.cpu Al == 0) _ _ (still s _) (choice-
 -- ---- programs
 
 executed-kept : (s : State) (r : Result (Unit {0}) ProgramRefusal) (qs : Processes) (d : Cpu) (n : Memory) → IsShaped s.memory n → Kept s (executed s r qs d n)
-executed-kept s (Ok x) qs d n h = (h, refl)
+executed-kept s (Ok x) qs d n h = (h, refl, refl)
 executed-kept s (Err e) qs d n h = still s _
 
 overlaid-kept : (s : State) (r : Result (Unit {0}) ProgramRefusal) (n : Memory) → IsShaped s.memory n → Kept s (overlaid s r n)
-overlaid-kept s (Ok x) n h = (return-kept s.memory _ n h, refl)
+overlaid-kept s (Ok x) n h = (return-kept s.memory _ n h, refl, refl)
 overlaid-kept s (Err e) n h = still s _
 
 concluded-kept : (s : State) (code : ℕ) (r : Result Ending ArenaDestroyed) (qs : Processes) (d : Cpu) (n : Memory) → IsShaped s.memory n → Kept s (concluded s code r qs d n)
-concluded-kept s code (Ok ending.Returned) qs d n h = (h, refl)
-concluded-kept s code (Ok ending.Exited) qs d n h = (h, refl)
+concluded-kept s code (Ok ending.Returned) qs d n h = (h, refl, refl)
+concluded-kept s code (Ok ending.Exited) qs d n h = (h, refl, refl)
 concluded-kept s code (Err e) qs d n h = fixed s
 
 by : (s : State) (x y : Answer) → x ≡ y → Kept s y → Kept s x
@@ -240,4 +240,4 @@ pub serves-kept : ServicesKeepTheMap
 serves-kept s service x h = (served-kept s service x h).0
 
 pub tables-kept : ServicesKeepTheTables
-tables-kept s service x h = (served-kept s service x h).1
+tables-kept s service x h = let k = served-kept s service x h in (k.1, k.2)

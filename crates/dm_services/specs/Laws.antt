@@ -17,9 +17,9 @@ ServicesHaveOneAnswer = (s : State) (service : Service) (x y : Answer) → Serve
 abbrev pub ServicesKeepTheMap : Type 0
 ServicesKeepTheMap = (s : State) (service : Service) (x : Answer) → Serves s service x → IsShaped s.memory x.state.memory
 
--- and so it does the tables of expanded memory
+-- and so it does the tables of expanded and of extended memory
 abbrev pub ServicesKeepTheTables : Type 0
-ServicesKeepTheTables = (s : State) (service : Service) (x : Answer) → Serves s service x → x.state.ems ≡ s.ems
+ServicesKeepTheTables = (s : State) (service : Service) (x : Answer) → Serves s service x → (x.state.ems ≡ s.ems) × (x.state.xms ≡ s.xms)
 
 -- the state, or the answer, with its memory changed
 abbrev pub with_change : (Memory → Memory) → State → State

@@ -1,11 +1,16 @@
 -- The state of the machine, and what a step answers.
-use Rattle.std.specs.Prelude.{ℕ, ◌+◌, ◌-◌, ◌^◌, ◌<◌, min, Bool, All, List, Option, Some, None}
+use Rattle.std.specs.Prelude.{ℕ, ◌+◌, ◌-◌, ◌^◌, ◌<◌, min, Bool, All, List, Option, Some, None, IfSome}
 use Rattle.dm_space.specs.Memory.{Memory}
 use Rattle.dm_ems.specs.Tables.{Tables, expanded}
-use Rattle.dm_ems.specs.Linked.{IsLinked}
+use Rattle.dm_ems.specs.Linked.{IsOwned, IsLinked}
+use Rattle.dm_xms.specs.Tables as xms
+use Rattle.dm_xms.specs.Tables.{extended}
+use Rattle.dm_xms.specs.Linked as extended_memory
+use Rattle.dm_xms.specs.Linked.{handle_at}
 use Rattle.dm_exec.specs.declared.cpu.Cpu.{Cpu}
 use Rattle.dm_exec.specs.Guest.{Guest, guest}
 use Rattle.dm_exec.specs.Stack.{interrupt_return}
+use Rattle.dm_exec.specs.Jumps as jumps
 use Rattle.dm_console.specs.Streams.{Streams}
 use Rattle.dm_arena.specs.declared.fit.Strategy.{Strategy}
 use Rattle.dm_proc.specs.declared.parent.Parent.{Parent}
@@ -18,6 +23,8 @@ pub record State : Type 0 where
   pub memory : Memory
   -- the handles and pages of expanded memory
   pub ems : Tables
+  -- the handles of extended memory, what keeps A20 on, and upper memory blocks
+  pub xms : xms.Tables
   pub console : Streams
   pub processes : Processes
   -- which free block an allocation takes
@@ -40,9 +47,14 @@ HaveSegments parents = All (λ p. 0 < p.segment) parents
 abbrev pub HasProgram : State → Type 0
 HasProgram s = 0 < s.processes.present
 
--- the tables of expanded memory and the memory go together
+-- the tables of expanded and of extended memory and the memory go together, and no block is a page and a handle's at once
+pub record GoTogether (pages : Tables) (blocks : xms.Tables) (m : Memory) : Type 0 where
+  pub ems : IsLinked (expanded pages m)
+  pub xms : extended_memory.IsLinked (extended blocks m)
+  pub apart : (k : ℕ) → IfSome (handle_at blocks.handles k) (λ h. IsOwned pages.pages h.block → ⊥)
+
 abbrev pub AreLinked : State → Type 0
-AreLinked s = IsLinked (expanded s.ems s.memory)
+AreLinked s = GoTogether s.ems s.xms s.memory
 
 pub record Answer : Type 0 where
   pub stop : Option Stop
@@ -62,6 +74,10 @@ with_guest s g = record s { cpu = g.cpu; memory = g.memory }
 -- IP, CS and FLAGS are popped
 abbrev pub returned : State → State
 returned s = with_guest s (interrupt_return (guest s.cpu s.memory))
+
+-- IP and CS are popped
+abbrev pub far_returned : State → State
+far_returned s = with_guest s (jumps.far_returned (guest s.cpu s.memory) 0)
 
 abbrev pub with_carry : State → Bool → State
 with_carry s b = record s { cpu = record s.cpu { flags = record s.cpu.flags { carry = b } } }

@@ -1,19 +1,20 @@
 //! What services act on.
 ghost use Rattle.std.specs.Prelude.{◌≡◌};
-ghost use Rattle.dm_state.specs.State.{go, returned};
+ghost use Rattle.dm_state.specs.State.{go, returned, far_returned};
 
 use dm_arena::Strategy;
 use dm_console::Console;
 use dm_ems::Ems;
-use dm_exec::{Cpu, interrupt_return};
+use dm_exec::{Cpu, far_return, interrupt_return};
 use dm_pool::Sizes;
 use dm_proc::{Procs, Programs};
 use dm_space::Space;
+use dm_xms::Xms;
 use std::marker::Model;
 
 /// The parts of a machine, on which instructions and services act.
 ///
-/// Contracts see its state: registers, memory, the tables of expanded memory, console, processes, the allocation strategy, the code
+/// Contracts see its state: registers, memory, the tables of expanded and extended memory, console, processes, the allocation strategy, the code
 /// with which the first program ended, the count of steps, and what no step changes.
 #[derive(Drop)]
 pub struct Parts {
@@ -23,6 +24,8 @@ pub struct Parts {
     pub space: Space,
     /// Expanded memory: its handles and their pages.
     pub ems: Ems,
+    /// Extended memory: its handles, what keeps A20 on, and upper memory blocks.
+    pub xms: Xms,
     /// The input and the output.
     pub console: Console,
     /// The processes that are alive.
@@ -52,6 +55,7 @@ impl Model for Parts {
       cpu = p.cpu;
       memory = p.space.memory;
       ems = p.ems;
+      xms = p.xms;
       console = p.console;
       processes = p.procs;
       strategy = p.strategy;
@@ -78,5 +82,12 @@ impl Parts {
         ensures { self.new ≡ returned self.old }
     {
         interrupt_return(&mut self.cpu, &self.space);
+    }
+
+    /// Goes back to where the program called by a far call.
+    pub fn give_back_far(&mut self)
+        ensures { self.new ≡ far_returned self.old }
+    {
+        far_return(&mut self.cpu, &self.space, 0);
     }
 }

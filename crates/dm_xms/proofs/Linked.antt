@@ -40,7 +40,7 @@ pub record IsChanged (s t : Blocks) (i : ℕ) : Type 0 where
   pub places : length t.places ≡ length s.places
   pub contents : length t.contents ≡ length s.contents
 
-changed_block : (s : Blocks) (i : ℕ) (b : Option Place) (xs : List ℕ) → IsChanged s (record { units = s.units; places = set s.places i b; contents = set s.contents i xs }) i
+pub changed_block : (s : Blocks) (i : ℕ) (b : Option Place) (xs : List ℕ) → IsChanged s (record { units = s.units; places = set s.places i b; contents = set s.contents i xs }) i
 changed_block s i b xs = record {
   others = λ j ne. get_or-set_other s.places i j b None ne;
   kept = λ j ne. get_or-set_other s.contents i j xs [] ne;
@@ -48,7 +48,7 @@ changed_block s i b xs = record {
   contents = length-set s.contents i xs;
 }
 
-live_stays : (s t : Blocks) (i j : ℕ) → IsChanged s t i → j ≢ i → IsLive s j → IsLive t j
+pub live_stays : (s t : Blocks) (i j : ℕ) → IsChanged s t i → j ≢ i → IsLive s j → IsLive t j
 live_stays s t i j c ne l = (l.0, (l.1.0, c.others j ne ∙ l.1.1))
 
 stays : (m : Memory) (t : Blocks) (i : ℕ) (h : Handle) → IsChanged m.blocks t i → h.block ≢ i → IsExtended m h → IsExtended (with_blocks m t) h
@@ -60,7 +60,7 @@ stays m t i h c ne e = record {
 
 -- ---- a handle and its block change together
 
-if_handle : (o : Option Handle) (P Q : Handle → Type 0) → ((h : Handle) → P h → Q h) → IfSome o P → IfSome o Q
+pub if_handle : (o : Option Handle) (P Q : Handle → Type 0) → ((h : Handle) → P h → Q h) → IfSome o P → IfSome o Q
 if_handle None P Q f p = tt
 if_handle (Some h) P Q f p = f h p
 
@@ -78,10 +78,10 @@ pub record IsTurn (x : Extended) (k i : ℕ) (new : Option Handle) (t : Blocks) 
 abbrev pub turned : Extended → ℕ → Option Handle → Blocks → Extended
 turned x k new t = record { xms = record x.xms { handles = set x.xms.handles k new }; memory = with_blocks x.memory t }
 
-set_at : (x : Extended) (k : ℕ) (new : Option Handle) → k < length x.xms.handles → handle_at (set x.xms.handles k new) k ≡ new
+pub set_at : (x : Extended) (k : ℕ) (new : Option Handle) → k < length x.xms.handles → handle_at (set x.xms.handles k new) k ≡ new
 set_at x k new h = get_or-set_same x.xms.handles k new None h
 
-set_beside : (x : Extended) (k j : ℕ) (new : Option Handle) → j ≢ k → handle_at (set x.xms.handles k new) j ≡ handle_at x.xms.handles j
+pub set_beside : (x : Extended) (k j : ℕ) (new : Option Handle) → j ≢ k → handle_at (set x.xms.handles k new) j ≡ handle_at x.xms.handles j
 set_beside x k j new ne = get_or-set_other x.xms.handles k j new None ne
 
 both_hold : (o : Option Handle) (P Q R : Handle → Type 0) → ((h : Handle) → P h → Q h → R h) → IfSome o P → IfSome o Q → IfSome o R
@@ -217,10 +217,10 @@ slot_cases : (hs : List (Option Handle)) (n : ℕ) (b : Bool) (s : Handle) → c
 slot_cases hs n true s e = absurd (none-some s e)
 slot_cases hs n false s e = e
 
-slot_at : (xms : Tables) (n : ℕ) (s : Handle) → slot xms n ≡ Some s → handle_at xms.handles (n - 1) ≡ Some s
+pub slot_at : (xms : Tables) (n : ℕ) (s : Handle) → slot xms n ≡ Some s → handle_at xms.handles (n - 1) ≡ Some s
 slot_at xms n s e = slot_cases xms.handles n (n == 0) s e
 
-there_at : (hs : List (Option Handle)) (k : ℕ) (s : Handle) → handle_at hs k ≡ Some s → k < length hs
+pub there_at : (hs : List (Option Handle)) (k : ℕ) (s : Handle) → handle_at hs k ≡ Some s → k < length hs
 there_at [] k s e = absurd (none-some s e)
 there_at (h ∷ hs) zero s e = omega arith
 there_at (h ∷ hs) (suc k) s e = omega (arith, there_at hs k s e)
@@ -234,7 +234,7 @@ others_at x k s l e j ne = subst (λ (o : Option Handle). IfSome o (λ a. HasOth
 
 -- ---- a block comes
 
-record IsNew (s : Blocks) (u i : ℕ) (t : Blocks) : Type 0 where
+pub record IsNew (s : Blocks) (u i : ℕ) (t : Blocks) : Type 0 where
   pub free : get_or s.places i None ≡ None
   pub within : i < length s.places
   pub place : Place
@@ -260,10 +260,10 @@ placed_new s u (Some k) (Some p) i t e h =
     let same = same_Some (k, new) (i, t) h in
     subst (λ (x : ℕ × Blocks). IsNew s u x.0 x.1) same (new_block s u k (record { base = p; units = u }) (vacant s.places k e))
 
-taken_new : (s : Blocks) (u i : ℕ) (t : Blocks) → taken s u ≡ Some (i, t) → IsNew s u i t
+pub taken_new : (s : Blocks) (u i : ℕ) (t : Blocks) → taken s u ≡ Some (i, t) → IsNew s u i t
 taken_new s u i t h = placed_new s u (first_empty s.places) (lowest s.places s.units u) i t refl h
 
-not_live : (s : Blocks) (i : ℕ) → get_or s.places i None ≡ None → IsLive s i → ⊥
+pub not_live : (s : Blocks) (i : ℕ) → get_or s.places i None ≡ None → IsLive s i → ⊥
 not_live s i free live = none-some live.1.0 (sym free ∙ live.1.1)
 
 not_shown : (x : Extended) (i : ℕ) (b : Bool) → shows x.memory.windows i ≡ b → IsLinked x → get_or x.memory.blocks.places i None ≡ None → shows x.memory.windows i ≡ false
@@ -320,7 +320,7 @@ deallocate_keeps x n l =
 
 -- ---- locks
 
-same_pool : (s : Blocks) (i : ℕ) → IsChanged s s i
+pub same_pool : (s : Blocks) (i : ℕ) → IsChanged s s i
 same_pool s i = record { others = λ j ne. refl; kept = λ j ne. refl; places = refl; contents = refl }
 
 locks_change : (x : Extended) (k locks : ℕ) (s : Handle) → IsLinked x → handle_at x.xms.handles k ≡ Some s → IsLinked (turned x k (Some (record s { locks = locks })) x.memory.blocks)
@@ -355,7 +355,7 @@ fitted_long xs u =
     let z = length-append xs (replicate (u * 1024) 0) in
     length-take-le (u * 1024) (xs ++ replicate (u * 1024) 0) (omega (arith, z, length-replicate {A = ℕ} (u * 1024) 0))
 
-record IsResized (s : Blocks) (i u : ℕ) (t : Blocks) : Type 0 where
+pub record IsResized (s : Blocks) (i u : ℕ) (t : Blocks) : Type 0 where
   pub place : Place
   pub at : i < length s.places → get_or t.places i None ≡ Some place
   pub size : i < length s.contents → length (get_or t.contents i []) ≡ u * 1024
@@ -374,7 +374,7 @@ moved_sized s i u (Some p) t e =
     } in
     subst (IsResized s i u) (same_Some (with_block s i b xs) t e) made
 
-at_sized : (s : Blocks) (i u : ℕ) (o : Option Place) (t : Blocks) → at_place s i u o ≡ Some t → IsResized s i u t
+pub at_sized : (s : Blocks) (i u : ℕ) (o : Option Place) (t : Blocks) → at_place s i u o ≡ Some t → IsResized s i u t
 at_sized s i u None t e = absurd (none-some t e)
 at_sized s i u (Some b) t e = moved_sized s i u (new_base s i b u) t e
 
@@ -506,7 +506,7 @@ calls_keep = record {
 
 -- ---- the start
 
-none_used : (n k : ℕ) (P : Handle → Type 0) → IfSome (handle_at (replicate n None) k) P
+pub none_used : (n k : ℕ) (P : Handle → Type 0) → IfSome (handle_at (replicate n None) k) P
 none_used zero k P = tt
 none_used (suc n) zero P = tt
 none_used (suc n) (suc k) P = none_used n k P

@@ -1,6 +1,5 @@
 -- What the kind of a side tells.
-use Rattle.std.proofs.Common.{◌≡◌, true, false, refl}
-use Rattle.std.proofs.Math.Bool.{true≢false}
+use Rattle.std.proofs.Common.{◌≡◌, true, refl}
 use Rattle.dm_moves.specs.declared.regions.Kind.{Kind}
 use Rattle.dm_moves.specs.declared.regions.Kind.TheVariants.{Linear, Pages, Single}
 use Rattle.dm_xms.specs.Sides.{is_single}

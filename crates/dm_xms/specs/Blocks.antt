@@ -3,7 +3,7 @@ use Rattle.std.specs.Prelude.{ℕ, ◌+◌, ◌-◌, ◌*◌, min, nat_lt, ◌==
 use Rattle.dm_pool.specs.declared.places.Place.{Place}
 use Rattle.dm_pool.specs.Blocks.{Blocks, taken, without, resized}
 use Rattle.dm_pool.specs.Gaps.{gaps, largest, free_units}
-use Rattle.dm_space.specs.Memory.{with_blocks}
+use Rattle.dm_space.specs.Memory.{Memory, with_blocks}
 use Rattle.dm_xms.specs.declared.status.Status.{Status}
 use Rattle.dm_xms.specs.declared.status.Status.TheVariants.{NoMemory, NoHandleLeft, UnknownHandle, NotLocked, Locked, TooManyLocks}
 use Rattle.dm_xms.specs.declared.blocks.FreeMemory.{FreeMemory}
@@ -45,15 +45,15 @@ base_of None = 0
 base_of (Some b) = b.base
 
 -- the linear address of a block's first byte; the pool lies from 110000h on, behind all memory that has addresses
-abbrev pub address : Extended → ℕ → ℕ
-address x block = 0x110000 + 0x400 * base_of (get_or x.memory.blocks.places block None)
+abbrev pub address : Memory → ℕ → ℕ
+address m block = 0x110000 + 0x400 * base_of (get_or m.blocks.places block None)
 
 -- one lock more, 255 at most; the answer is the block's linear address
 unfoldable pub lock : Extended → ℕ → Result (ℕ × Extended) Status
 lock x handle =
     need (slot x.xms handle) UnknownHandle (λ s.
     if s.locks == 255 then Err TooManyLocks else
-    Ok (address x s.block, record x { xms = with_slot x.xms handle (Some (record s { locks = s.locks + 1 })) }))
+    Ok (address x.memory s.block, record x { xms = with_slot x.xms handle (Some (record s { locks = s.locks + 1 })) }))
 
 unfoldable pub unlock : Tables → ℕ → Result (Unit {0} × Tables) Status
 unlock xms handle =

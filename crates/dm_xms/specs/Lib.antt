@@ -9,4 +9,5 @@ pub mod Walks
 pub mod Moves
 pub mod Sides
 pub mod Linked
+pub mod Outside
 pub mod Laws

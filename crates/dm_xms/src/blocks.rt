@@ -4,10 +4,11 @@ ghost use Rattle.std.specs.Prelude.{◌≡◌};
 ghost use Rattle.dm_xms.specs.Tables.{extended};
 ghost use Rattle.dm_xms.specs.Calls.{answer, left};
 ghost use Rattle.dm_xms.specs.Linked.{IsLinked};
-ghost use Rattle.dm_xms.specs.Blocks.{free_memory, allocate, deallocate, lock, unlock, information, reallocate};
+ghost use Rattle.dm_xms.specs.Blocks.{address, free_memory, allocate, deallocate, lock, unlock, information, reallocate};
 
 use crate::status::Status;
 use crate::tables::{Handle, Xms};
+use dm_pool::Block;
 use dm_space::Space;
 
 /// The linear address of the pool's first byte, behind the high memory area.
@@ -34,6 +35,26 @@ pub struct HandleInformation {
     pub free: u8,
     /// The KiB of its block.
     pub kib: u16,
+}
+
+/// The linear address of a block's first byte.
+fn address(space: &Space, block: Block) -> usize
+    ensures { result ≡ address space.now.memory block }
+{
+    if space.has(block) {
+        POOL + UNIT * space.base(block)
+    } else {
+        POOL
+    }
+}
+
+impl Handle {
+    /// The linear address of its block's first byte; 110000h for a block of 0 KiB.
+    pub fn base(&self, space: &Space) -> usize
+        ensures { result ≡ address space.now.memory self.now.block }
+    {
+        address(space, self.block)
+    }
 }
 
 impl Xms {
@@ -121,7 +142,7 @@ impl Xms {
         }
         let locks = slot.locks + 1;
         self.set_handle(handle, Some(Handle { locks, ..slot }));
-        Ok(POOL + UNIT * space.base(slot.block))
+        Ok(slot.base(space))
     }
 
     /// Unlocks the block of a handle once.

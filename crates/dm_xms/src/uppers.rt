@@ -130,6 +130,13 @@ impl Xms {
         lowest_from(FIRST, self.uppers.as_slice(), paragraphs)
     }
 
+    /// The upper memory block `at`, counted from the lowest one, which is 0; None where there are not so many.
+    pub fn upper(&self, at: usize) -> Option<Upper>
+        ensures { result ≡ slice_get self.now.uppers at }
+    {
+        self.uppers.as_slice().get(at).copied()
+    }
+
     /// Makes an upper memory block of so many paragraphs, at least 1, at the low end of the lowest gap that holds it, and answers it.
     ///
     /// # Errors

@@ -1,0 +1,16 @@
+-- The driver and the high memory area (XMS 3.0, functions 00h to 02h).
+use Rattle.dm_exec.specs.declared.cpu.Cpu.{Cpu}
+use Rattle.dm_xms.specs.Area as rows
+use Rattle.dm_xms_calls.specs.Caller.{Caller, after_tables}
+
+-- 00h: AX is version 3.0, BX the driver's own revision 1, and DX says that there is a high memory area
+unfoldable pub tell_version : Cpu → Cpu
+tell_version cpu = record cpu { ax = 0x0300; bx = 1; dx = 1 }
+
+-- 01h
+unfoldable pub take_area : Caller → Caller
+take_area c = after_tables c (rows.take_area c.x.xms) (λ done. c.cpu)
+
+-- 02h
+unfoldable pub release_area : Caller → Caller
+release_area c = after_tables c (rows.release_area c.x.xms) (λ done. c.cpu)

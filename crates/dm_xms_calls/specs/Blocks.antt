@@ -1,0 +1,56 @@
+-- Extended memory blocks (XMS 3.0, functions 08h to 0Fh).
+use Rattle.std.specs.Prelude.{ℕ, ◌+◌, ◌*◌, ◌/◌, ◌%◌, Result, Ok, Err}
+use Rattle.dm_ins.specs.declared.operand.ByteRegister.TheVariants.{Bl}
+use Rattle.dm_exec.specs.declared.cpu.Cpu.{Cpu}
+use Rattle.dm_exec.specs.Cpu.{with_byte}
+use Rattle.dm_xms.specs.declared.status.Status.{Status}
+use Rattle.dm_xms.specs.declared.blocks.FreeMemory.{FreeMemory}
+use Rattle.dm_xms.specs.declared.blocks.HandleInformation.{HandleInformation}
+use Rattle.dm_xms.specs.Status.{code_of}
+use Rattle.dm_xms.specs.Blocks as rows
+use Rattle.dm_xms.specs.Moves as moves
+use Rattle.dm_xms_calls.specs.Caller.{Caller, on_cpu, settled, after, after_tables}
+
+abbrev pub with_free : Cpu → Result FreeMemory Status → Cpu
+with_free cpu (Ok free) = with_byte (record cpu { ax = free.largest; dx = free.total }) Bl 0
+with_free cpu (Err e) = with_byte (record cpu { ax = 0; dx = 0 }) Bl (code_of e)
+
+-- 08h: AX is the largest gap, DX all that is free, in KiB, and BL is 0; where nothing is free AX and DX are 0, and BL tells it
+unfoldable pub tell_free : Caller → Caller
+tell_free c = on_cpu c (with_free c.cpu (rows.free_memory c.x))
+
+-- 09h: DX is a new handle with a block of DX KiB
+unfoldable pub allocate : Caller → Caller
+allocate c = after c (rows.allocate c.x c.cpu.dx) (λ handle. record c.cpu { dx = handle })
+
+-- 0Ah: the handle in DX and its block are freed
+unfoldable pub deallocate : Caller → Caller
+deallocate c = after c (rows.deallocate c.x c.cpu.dx) (λ done. c.cpu)
+
+-- 0Bh: a move as the structure at DS:SI describes it
+unfoldable pub move_memory : Caller → Caller
+move_memory c = after c (moves.move_memory c.x c.cpu.ds c.cpu.si) (λ done. c.cpu)
+
+-- a linear address in DX:BX
+abbrev pub with_address : Cpu → ℕ → Cpu
+with_address cpu address = record cpu { dx = address / 65536 % 65536; bx = address % 65536 }
+
+-- 0Ch: the block of the handle in DX is locked, and DX:BX is where it begins
+unfoldable pub lock : Caller → Caller
+lock c = after c (rows.lock c.x c.cpu.dx) (with_address c.cpu)
+
+-- 0Dh
+unfoldable pub unlock : Caller → Caller
+unlock c = after_tables c (rows.unlock c.x.xms c.cpu.dx) (λ done. c.cpu)
+
+-- BH is the locks, BL the handles that are not in use, DX the block's KiB
+abbrev pub with_information : Cpu → HandleInformation → Cpu
+with_information cpu i = record cpu { bx = i.locks * 256 + i.free; dx = i.kib }
+
+-- 0Eh: of the handle in DX
+unfoldable pub tell_information : Caller → Caller
+tell_information c = on_cpu c (settled c.cpu (rows.information c.x.xms c.cpu.dx) (with_information c.cpu))
+
+-- 0Fh: the block of the handle in DX gets BX KiB
+unfoldable pub reallocate : Caller → Caller
+reallocate c = after c (rows.reallocate c.x c.cpu.dx c.cpu.bx) (λ done. c.cpu)

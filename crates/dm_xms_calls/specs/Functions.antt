@@ -1,0 +1,66 @@
+-- The functions of the driver: XMS 3.0, functions 00h to 12h.
+use Rattle.std.specs.Prelude.{ℕ, ◌==◌, if◌then◌else◌}
+use Rattle.dm_ins.specs.declared.operand.ByteRegister.TheVariants.{Ah}
+use Rattle.dm_exec.specs.declared.cpu.Cpu.{Cpu}
+use Rattle.dm_exec.specs.Cpu.{byte_of}
+use Rattle.dm_xms_calls.specs.declared.functions.Function.{Function}
+use Rattle.dm_xms_calls.specs.declared.functions.Function.TheVariants.{Version, TakeArea, ReleaseArea, EnableGlobally, DisableGlobally, EnableLocally, DisableLocally, Line, FreeMemory, Allocate, Deallocate, Move, Lock, Unlock, Information, Reallocate, RequestUpper, ReleaseUpper, ResizeUpper, Unknown}
+use Rattle.dm_xms_calls.specs.Caller.{Caller, on_cpu, refused}
+use Rattle.dm_xms_calls.specs.Area.{tell_version, take_area, release_area}
+use Rattle.dm_xms_calls.specs.Line.{enable_globally, disable_globally, enable_locally, disable_locally, tell_line}
+use Rattle.dm_xms_calls.specs.Blocks.{tell_free, allocate, deallocate, move_memory, lock, unlock, tell_information, reallocate}
+use Rattle.dm_xms_calls.specs.Uppers as uppers
+
+-- the function with a number, which calls have in AH
+abbrev pub function_of : ℕ → Function
+function_of number =
+    if number == 0x00 then Version else
+    if number == 0x01 then TakeArea else
+    if number == 0x02 then ReleaseArea else
+    if number == 0x03 then EnableGlobally else
+    if number == 0x04 then DisableGlobally else
+    if number == 0x05 then EnableLocally else
+    if number == 0x06 then DisableLocally else
+    if number == 0x07 then Line else
+    if number == 0x08 then FreeMemory else
+    if number == 0x09 then Allocate else
+    if number == 0x0A then Deallocate else
+    if number == 0x0B then Move else
+    if number == 0x0C then Lock else
+    if number == 0x0D then Unlock else
+    if number == 0x0E then Information else
+    if number == 0x0F then Reallocate else
+    if number == 0x10 then RequestUpper else
+    if number == 0x11 then ReleaseUpper else
+    if number == 0x12 then ResizeUpper else Unknown
+
+-- there is no such function
+unfoldable pub no_function : Cpu → Cpu
+no_function cpu = refused cpu 0x80
+
+-- what a call leaves
+abbrev pub call : Caller → Function → Caller
+call c Version = on_cpu c (tell_version c.cpu)
+call c TakeArea = take_area c
+call c ReleaseArea = release_area c
+call c EnableGlobally = enable_globally c
+call c DisableGlobally = disable_globally c
+call c EnableLocally = enable_locally c
+call c DisableLocally = disable_locally c
+call c Line = on_cpu c (tell_line c.cpu c.x.memory)
+call c FreeMemory = tell_free c
+call c Allocate = allocate c
+call c Deallocate = deallocate c
+call c Move = move_memory c
+call c Lock = lock c
+call c Unlock = unlock c
+call c Information = tell_information c
+call c Reallocate = reallocate c
+call c RequestUpper = uppers.request c
+call c ReleaseUpper = uppers.release c
+call c ResizeUpper = uppers.resize c
+call c Unknown = on_cpu c (no_function c.cpu)
+
+-- the driver does what AH names
+abbrev pub called : Caller → Caller
+called c = call c (function_of (byte_of c.cpu Ah))

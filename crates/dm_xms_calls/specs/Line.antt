@@ -1,0 +1,26 @@
+-- Address line A20 (XMS 3.0, functions 03h to 07h).
+use Rattle.std.specs.Prelude.{if◌then◌else◌}
+use Rattle.dm_exec.specs.declared.cpu.Cpu.{Cpu}
+use Rattle.dm_space.specs.Memory.{Memory}
+use Rattle.dm_xms.specs.Line as rows
+use Rattle.dm_xms_calls.specs.Caller.{Caller, succeeded, refused, after, after_act}
+
+-- 03h
+unfoldable pub enable_globally : Caller → Caller
+enable_globally c = record { cpu = succeeded c.cpu; x = rows.enable_globally c.x }
+
+-- 04h
+unfoldable pub disable_globally : Caller → Caller
+disable_globally c = after_act c (rows.disable_globally c.x)
+
+-- 05h
+unfoldable pub enable_locally : Caller → Caller
+enable_locally c = after c (rows.enable_locally c.x) (λ done. c.cpu)
+
+-- 06h
+unfoldable pub disable_locally : Caller → Caller
+disable_locally c = after_act c (rows.disable_locally c.x)
+
+-- 07h: AX is 1 where the line is on; where it is off AX and BL are 0
+unfoldable pub tell_line : Cpu → Memory → Cpu
+tell_line cpu m = if m.a20 then succeeded cpu else refused cpu 0

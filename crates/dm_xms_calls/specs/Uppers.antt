@@ -1,0 +1,36 @@
+-- Upper memory blocks (XMS 3.0, functions 10h to 12h).
+use Rattle.std.specs.Prelude.{Result, Ok, Err}
+use Rattle.dm_exec.specs.declared.cpu.Cpu.{Cpu}
+use Rattle.dm_xms.specs.declared.tables.Upper.{Upper}
+use Rattle.dm_xms.specs.declared.uppers.UpperRefusal.{UpperRefusal}
+use Rattle.dm_xms.specs.declared.uppers.UpperRefusal.TheVariants as refusal
+use Rattle.dm_xms.specs.Tables.{Tables, extended}
+use Rattle.dm_xms.specs.Calls.{answer, left}
+use Rattle.dm_xms.specs.Uppers as rows
+use Rattle.dm_xms.specs.Uppers.{code_of}
+use Rattle.dm_xms_calls.specs.Caller.{Caller, succeeded, refused}
+
+-- DX is the paragraphs that could be had, where that is why
+abbrev pub with_room : Cpu → UpperRefusal → Cpu
+with_room cpu (refusal.Smaller n) = record cpu { dx = n }
+with_room cpu refusal.NoneFree = record cpu { dx = 0 }
+with_room cpu refusal.Unknown = cpu
+
+abbrev pub settled : {A : Type 0} → Cpu → Result A UpperRefusal → (A → Cpu) → Cpu
+settled cpu (Ok v) set = succeeded (set v)
+settled cpu (Err e) set = refused (with_room cpu e) (code_of e)
+
+abbrev pub after : {A : Type 0} → Caller → Result (A × Tables) UpperRefusal → (A → Cpu) → Caller
+after c r set = record { cpu = settled c.cpu (answer r) set; x = extended (left c.x.xms r) c.x.memory }
+
+-- 10h: a block of DX paragraphs; BX is its segment, DX its size
+unfoldable pub request : Caller → Caller
+request c = after c (rows.request_upper c.x.xms c.cpu.dx) (λ (u : Upper). record c.cpu { bx = u.segment; dx = u.paragraphs })
+
+-- 11h: the block at segment DX is freed
+unfoldable pub release : Caller → Caller
+release c = after c (rows.release_upper c.x.xms c.cpu.dx) (λ done. c.cpu)
+
+-- 12h: the block at segment DX gets BX paragraphs
+unfoldable pub resize : Caller → Caller
+resize c = after c (rows.resize_upper c.x.xms c.cpu.dx c.cpu.bx) (λ done. c.cpu)

@@ -1,0 +1,130 @@
+//! How a call of the extended memory driver answers (XMS 3.0): AX is 1 for success; for a refusal AX is 0, and BL tells why.
+ghost use Rattle.std.specs.Prelude.{◌≡◌};
+ghost use Rattle.dm_xms.specs.Uppers.{code_of};
+ghost use Rattle.dm_xms_calls.specs.Caller.{succeeded, refused, settled};
+ghost use Rattle.dm_xms_calls.specs.Blocks.{with_free, with_address, with_information};
+ghost use Rattle.dm_xms_calls.specs.Uppers as uppers;
+
+use dm_exec::Cpu;
+use dm_ins::ByteRegister;
+use dm_xms::{FreeMemory, HandleInformation, Status, Upper, UpperRefusal};
+
+/// Success.
+pub(crate) fn succeed(cpu: &mut Cpu)
+    ensures { cpu.new ≡ succeeded cpu.old }
+{
+    cpu.ax = 1;
+}
+
+/// A refusal with an error code.
+pub(crate) fn refuse(cpu: &mut Cpu, code: u8)
+    ensures { cpu.new ≡ refused cpu.old code }
+{
+    cpu.ax = 0;
+    cpu.set_byte(ByteRegister::Bl, code);
+}
+
+/// The answer of a call that tells nothing.
+pub(crate) fn settle(cpu: &mut Cpu, res: Result<(), Status>)
+    ensures { cpu.new ≡ settled cpu.old res (λ done. cpu.old) }
+{
+    match res {
+        Ok(()) => succeed(cpu),
+        Err(status) => refuse(cpu, status.code()),
+    }
+}
+
+/// The answer of a call that tells what is free.
+pub(crate) fn settle_free(cpu: &mut Cpu, res: Result<FreeMemory, Status>)
+    ensures { cpu.new ≡ with_free cpu.old res }
+{
+    match res {
+        Ok(free) => {
+            cpu.ax = free.largest;
+            cpu.dx = free.total;
+            cpu.set_byte(ByteRegister::Bl, 0);
+        }
+        Err(status) => {
+            cpu.dx = 0;
+            refuse(cpu, status.code());
+        }
+    }
+}
+
+/// The answer of a call that tells a handle in DX.
+pub(crate) fn settle_dx(cpu: &mut Cpu, res: Result<u16, Status>)
+    ensures { cpu.new ≡ settled cpu.old res (λ handle. record cpu.old { dx = handle }) }
+{
+    match res {
+        Ok(handle) => {
+            cpu.dx = handle;
+            succeed(cpu);
+        }
+        Err(status) => refuse(cpu, status.code()),
+    }
+}
+
+/// The answer of a call that tells a linear address in DX:BX.
+pub(crate) fn settle_address(cpu: &mut Cpu, res: Result<usize, Status>)
+    ensures { cpu.new ≡ settled cpu.old res (with_address cpu.old) }
+{
+    match res {
+        Ok(address) => {
+            cpu.dx = (address / 0x1_0000 % 0x1_0000) as u16;
+            cpu.bx = (address % 0x1_0000) as u16;
+            succeed(cpu);
+        }
+        Err(status) => refuse(cpu, status.code()),
+    }
+}
+
+/// The answer of a call that tells of a handle.
+pub(crate) fn settle_information(cpu: &mut Cpu, res: Result<HandleInformation, Status>)
+    ensures { cpu.new ≡ settled cpu.old res (with_information cpu.old) }
+{
+    match res {
+        Ok(information) => {
+            cpu.bx = information.locks as u16 * 0x100 + information.free as u16;
+            cpu.dx = information.kib;
+            succeed(cpu);
+        }
+        Err(status) => refuse(cpu, status.code()),
+    }
+}
+
+/// A refusal of a call on upper memory blocks.
+#[tactic(auto, unfolding(dm_xms::specs::Uppers::code_of))]
+fn refuse_upper(cpu: &mut Cpu, refusal: UpperRefusal)
+    ensures { cpu.new ≡ refused (uppers.with_room cpu.old refusal) (code_of refusal) }
+{
+    match refusal {
+        UpperRefusal::Smaller(paragraphs) => cpu.dx = paragraphs,
+        UpperRefusal::NoneFree => cpu.dx = 0,
+        UpperRefusal::Unknown => {}
+    }
+    refuse(cpu, refusal.code());
+}
+
+/// The answer of a call that tells an upper memory block: BX is its segment, DX its paragraphs.
+pub(crate) fn settle_upper(cpu: &mut Cpu, res: Result<Upper, UpperRefusal>)
+    ensures { cpu.new ≡ uppers.settled cpu.old res (λ u. record cpu.old { bx = u.segment; dx = u.paragraphs }) }
+{
+    match res {
+        Ok(upper) => {
+            cpu.bx = upper.segment;
+            cpu.dx = upper.paragraphs;
+            succeed(cpu);
+        }
+        Err(refusal) => refuse_upper(cpu, refusal),
+    }
+}
+
+/// The answer of a call on upper memory blocks that tells nothing.
+pub(crate) fn settle_uppers(cpu: &mut Cpu, res: Result<(), UpperRefusal>)
+    ensures { cpu.new ≡ uppers.settled cpu.old res (λ done. cpu.old) }
+{
+    match res {
+        Ok(()) => succeed(cpu),
+        Err(refusal) => refuse_upper(cpu, refusal),
+    }
+}

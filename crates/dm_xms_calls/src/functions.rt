@@ -1,0 +1,134 @@
+//! The functions of the driver (XMS 3.0).
+ghost use Rattle.std.specs.Prelude.{◌≡◌};
+ghost use Rattle.dm_xms.specs.Tables.{extended};
+ghost use Rattle.dm_xms.specs.Linked.{IsLinked};
+ghost use Rattle.dm_xms_calls.specs.Caller.{caller};
+ghost use Rattle.dm_xms_calls.specs.Functions.{no_function, call, called};
+
+use crate::answers::refuse;
+use crate::area::{release_area, take_area, tell_version};
+use crate::blocks::{
+    allocate, deallocate, lock, move_memory, reallocate, tell_free, tell_information, unlock,
+};
+use crate::line::{disable_globally, disable_locally, enable_globally, enable_locally, tell_line};
+use crate::uppers::{release, request, resize};
+use dm_exec::Cpu;
+use dm_ins::ByteRegister;
+use dm_space::Space;
+use dm_xms::Xms;
+
+/// The error code of a function that is not there.
+const NO_FUNCTION: u8 = 0x80;
+
+/// What a call asks for.
+#[derive(Clone, Copy, Debug, PartialEq, Eq)]
+pub(crate) enum Function {
+    /// 00h: tells the version.
+    Version,
+    /// 01h: takes the high memory area.
+    TakeArea,
+    /// 02h: releases the high memory area.
+    ReleaseArea,
+    /// 03h: switches A20 on globally.
+    EnableGlobally,
+    /// 04h: switches A20 off globally.
+    DisableGlobally,
+    /// 05h: switches A20 on locally.
+    EnableLocally,
+    /// 06h: switches A20 off locally.
+    DisableLocally,
+    /// 07h: tells whether A20 is on.
+    Line,
+    /// 08h: tells what is free.
+    FreeMemory,
+    /// 09h: gives a new handle a block of DX KiB, and tells it in DX.
+    Allocate,
+    /// 0Ah: frees handle DX and its block.
+    Deallocate,
+    /// 0Bh: moves memory.
+    Move,
+    /// 0Ch: locks the block of handle DX, and tells its address in DX:BX.
+    Lock,
+    /// 0Dh: unlocks the block of handle DX.
+    Unlock,
+    /// 0Eh: tells of handle DX.
+    Information,
+    /// 0Fh: gives the block of handle DX BX KiB.
+    Reallocate,
+    /// 10h: makes an upper memory block of DX paragraphs.
+    RequestUpper,
+    /// 11h: frees the upper memory block at segment DX.
+    ReleaseUpper,
+    /// 12h: gives the upper memory block at segment DX BX paragraphs.
+    ResizeUpper,
+    /// Any other number.
+    Unknown,
+}
+
+/// The function with this number, which calls have in AH.
+fn function_of(number: u8) -> Function
+    ensures { result ≡ Rattle.dm_xms_calls.specs.Functions.function_of number }
+{
+    match number {
+        0x00 => Function::Version,
+        0x01 => Function::TakeArea,
+        0x02 => Function::ReleaseArea,
+        0x03 => Function::EnableGlobally,
+        0x04 => Function::DisableGlobally,
+        0x05 => Function::EnableLocally,
+        0x06 => Function::DisableLocally,
+        0x07 => Function::Line,
+        0x08 => Function::FreeMemory,
+        0x09 => Function::Allocate,
+        0x0A => Function::Deallocate,
+        0x0B => Function::Move,
+        0x0C => Function::Lock,
+        0x0D => Function::Unlock,
+        0x0E => Function::Information,
+        0x0F => Function::Reallocate,
+        0x10 => Function::RequestUpper,
+        0x11 => Function::ReleaseUpper,
+        0x12 => Function::ResizeUpper,
+        _ => Function::Unknown,
+    }
+}
+
+/// Does what a call asks for.
+#[tactic(auto, unfolding(crate::specs::Functions::no_function))]
+fn call(cpu: &mut Cpu, xms: &mut Xms, space: &mut Space, function: Function)
+    requires { IsLinked (extended xms.old space.old.memory) }
+    ensures { caller cpu.new xms.new space.new.memory ≡ call (caller cpu.old xms.old space.old.memory) function }
+{
+    match function {
+        Function::Version => tell_version(cpu),
+        Function::TakeArea => take_area(cpu, xms, space),
+        Function::ReleaseArea => release_area(cpu, xms, space),
+        Function::EnableGlobally => enable_globally(cpu, xms, space),
+        Function::DisableGlobally => disable_globally(cpu, xms, space),
+        Function::EnableLocally => enable_locally(cpu, xms, space),
+        Function::DisableLocally => disable_locally(cpu, xms, space),
+        Function::Line => tell_line(cpu, space),
+        Function::FreeMemory => tell_free(cpu, xms, space),
+        Function::Allocate => allocate(cpu, xms, space),
+        Function::Deallocate => deallocate(cpu, xms, space),
+        Function::Move => move_memory(cpu, xms, space),
+        Function::Lock => lock(cpu, xms, space),
+        Function::Unlock => unlock(cpu, xms, space),
+        Function::Information => tell_information(cpu, xms, space),
+        Function::Reallocate => reallocate(cpu, xms, space),
+        Function::RequestUpper => request(cpu, xms, space),
+        Function::ReleaseUpper => release(cpu, xms, space),
+        Function::ResizeUpper => resize(cpu, xms, space),
+        Function::Unknown => refuse(cpu, NO_FUNCTION),
+    }
+}
+
+/// Does the function that AH names, on the registers of the program that calls, the tables of extended memory and the memory, which go
+/// together. AX is then 1, or 0 where the call was refused, and BL tells why; functions 00h and 08h answer otherwise.
+pub fn extended_memory_call(cpu: &mut Cpu, xms: &mut Xms, space: &mut Space)
+    requires { IsLinked (extended xms.old space.old.memory) }
+    ensures { caller cpu.new xms.new space.new.memory ≡ called (caller cpu.old xms.old space.old.memory) }
+{
+    let function = function_of(cpu.byte(ByteRegister::Ah));
+    call(cpu, xms, space, function);
+}

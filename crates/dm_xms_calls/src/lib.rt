@@ -1,0 +1,13 @@
+//! The calls of the extended memory driver (XMS 3.0): what each function finds and leaves in the registers of the program that calls.
+#![tactic(auto)]
+
+mod answers;
+mod area;
+mod blocks;
+mod functions;
+mod laws;
+mod line;
+mod uppers;
+
+pub use functions::extended_memory_call;
+pub use laws::extended_memory_calls_keep;

@@ -1,0 +1,57 @@
+//! Address line A20 (XMS 3.0, functions 03h to 07h).
+ghost use Rattle.std.specs.Prelude.{◌≡◌};
+ghost use Rattle.dm_xms_calls.specs.Caller.{caller};
+ghost use Rattle.dm_xms_calls.specs.Line.{enable_globally, disable_globally, enable_locally, disable_locally, tell_line};
+
+use crate::answers::{refuse, settle, succeed};
+use dm_exec::Cpu;
+use dm_space::Space;
+use dm_xms::Xms;
+
+/// 03h: A20 is switched on globally.
+#[tactic(auto, unfolding(crate::specs::Line::enable_globally))]
+pub(crate) fn enable_globally(cpu: &mut Cpu, xms: &mut Xms, space: &mut Space)
+    ensures { caller cpu.new xms.new space.new.memory ≡ enable_globally (caller cpu.old xms.old space.old.memory) }
+{
+    xms.enable_globally(space);
+    succeed(cpu);
+}
+
+/// 04h: A20 is switched off globally.
+#[tactic(auto, unfolding(crate::specs::Line::disable_globally))]
+pub(crate) fn disable_globally(cpu: &mut Cpu, xms: &mut Xms, space: &mut Space)
+    ensures { caller cpu.new xms.new space.new.memory ≡ disable_globally (caller cpu.old xms.old space.old.memory) }
+{
+    let res = xms.disable_globally(space);
+    settle(cpu, res);
+}
+
+/// 05h: A20 is switched on locally.
+#[tactic(auto, unfolding(crate::specs::Line::enable_locally))]
+pub(crate) fn enable_locally(cpu: &mut Cpu, xms: &mut Xms, space: &mut Space)
+    ensures { caller cpu.new xms.new space.new.memory ≡ enable_locally (caller cpu.old xms.old space.old.memory) }
+{
+    let res = xms.enable_locally(space);
+    settle(cpu, res);
+}
+
+/// 06h: A20 is switched off locally.
+#[tactic(auto, unfolding(crate::specs::Line::disable_locally))]
+pub(crate) fn disable_locally(cpu: &mut Cpu, xms: &mut Xms, space: &mut Space)
+    ensures { caller cpu.new xms.new space.new.memory ≡ disable_locally (caller cpu.old xms.old space.old.memory) }
+{
+    let res = xms.disable_locally(space);
+    settle(cpu, res);
+}
+
+/// 07h: AX becomes 1 where A20 is on; where it is off AX and BL become 0.
+#[tactic(auto, unfolding(crate::specs::Line::tell_line))]
+pub(crate) fn tell_line(cpu: &mut Cpu, space: &Space)
+    ensures { cpu.new ≡ tell_line cpu.old space.now.memory }
+{
+    if space.a20() {
+        succeed(cpu);
+    } else {
+        refuse(cpu, 0);
+    }
+}
