@@ -16,6 +16,7 @@ use Rattle.dm_views.specs.Code.{IsCode}
 use Rattle.dm_views.specs.Bytes.{bytes_text}
 use Rattle.dm_views.specs.Arena.{IsArenaText}
 use Rattle.dm_views.specs.Pages.{pages_text}
+use Rattle.dm_views.specs.Extended.{extended_text}
 use Rattle.dm_debug.specs.Debugged.{Debugged}
 use Rattle.dm_debug.specs.Points.{is_set, with_point, without_point, points_text}
 use Rattle.dm_debug.specs.Runs.{entered, GoesTo, IsTrace, TracesPart}
@@ -44,7 +45,7 @@ pub data Shows (s : Debugged) : Command → List ℕ → Type 0 where
   bytes : (a : Address) (n : ℕ) → Shows s (c.Dump a n) (bytes_text s.machine.memory a.segment a.offset n)
   arena : (text : List ℕ) → IsArenaText s.machine.memory text → Shows s c.Arena text
   pages : Shows s c.Pages (pages_text s.machine.ems s.machine.memory)
-  extended : Shows s c.Extended []
+  extended : Shows s c.Extended (extended_text s.machine.xms s.machine.memory)
   points : Shows s c.Breakpoints (points_text s.points)
   output : Shows s c.Output s.machine.console.output
 

@@ -16,7 +16,7 @@ use arrayvec::ArrayVec;
 use dm_command::{Address, Bytes, Command, read_command};
 use dm_machine::{Machine, Out};
 use dm_out::write_all;
-use dm_views::{put_arena, put_pages};
+use dm_views::{put_arena, put_extended, put_pages};
 use std::alloc::{AllocError, Global};
 use std::marker::Model;
 
@@ -157,7 +157,7 @@ impl Session {
             Command::Dump(at, count) => dump(text, &self.machine, *at, *count),
             Command::Arena => put_arena(text, self.machine.space()),
             Command::Pages => put_pages(text, self.machine.ems(), self.machine.space()),
-            Command::Extended => Ok(()),
+            Command::Extended => put_extended(text, self.machine.xms(), self.machine.space()),
             Command::Go(n) => go(&mut self.machine, *n, self.points.as_slice(), text),
             Command::Trace(n) => trace(&mut self.machine, *n, text),
             Command::Break(at) => self.set_point(*at, text),

@@ -11,6 +11,10 @@ const HI: &[u8] = b"\xB4\x09\xBA\x0C\x01\xCD\x21\xB8\x00\x4C\xCD\x21hi$";
 const PAGES: &[u8] =
     b"\xB4\x43\xBB\x02\x00\xCD\x67\xB8\x02\x44\xBB\x01\x00\xCD\x67\xB8\x01\x53\xBE\x18\x01\xCD\x67\xF4PAGETEST";
 
+/// MOV AH,9; MOV DX,10; CALL FAR 0F000h:0400h; MOV AH,0Ch; CALL FAR ..; MOV AH,10h; MOV DX,20h; CALL FAR ..; MOV AH,5; CALL FAR ..;
+/// MOV AH,1; CALL FAR ..; HLT
+const BLOCKS: &[u8] = b"\xB4\x09\xBA\x0A\x00\x9A\x00\x04\x00\xF0\xB4\x0C\x9A\x00\x04\x00\xF0\xB4\x10\xBA\x20\x00\x9A\x00\x04\x00\xF0\xB4\x05\x9A\x00\x04\x00\xF0\xB4\x01\x9A\x00\x04\x00\xF0\xF4";
+
 const START: &str = "\
 > R
 AX=0000 BX=0000 CX=0000 DX=0000 SP=FFFE BP=0000 SI=0000 DI=0000
@@ -177,6 +181,23 @@ ok
 > D E800:0000 3
 E800:0000 01 02 00  ...";
 
+const EXTENDED: &str = "\
+> X
+A20 off HMA free
+> D FFFF:0013 1
+FFFF:0013 F0  .
+> G
+halted
+AX=0001 BX=D000 CX=0000 DX=0020 SP=FFFE BP=0000 SI=0000 DI=0000
+DS=0103 ES=0103 SS=0103 CS=0103 IP=0129 FL=F202
+0103:0129 F4 HLT
+> X
+0001 00110000 000A 01
+upper D000 0020
+A20 on HMA used
+> D FFFF:0013 1
+FFFF:0013 00  .";
+
 #[test]
 fn registers_are_told_at_the_start(rt: HostRuntime) -> Result<(), Fail> {
     play(&rt, rt.alloc(), HI, START)
@@ -200,4 +221,9 @@ fn arena_is_told_up_to_what_breaks_it(rt: HostRuntime) -> Result<(), Fail> {
 #[test]
 fn handles_and_windows_are_told(rt: HostRuntime) -> Result<(), Fail> {
     play(&rt, rt.alloc(), PAGES, EXPANDED)
+}
+
+#[test]
+fn blocks_and_upper_memory_are_told(rt: HostRuntime) -> Result<(), Fail> {
+    play(&rt, rt.alloc(), BLOCKS, EXTENDED)
 }

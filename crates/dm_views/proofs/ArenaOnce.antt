@@ -3,7 +3,7 @@ use Rattle.std.proofs.Common.{◌≡◌, ℕ, List, [], ◌∷◌, ◌++◌, fal
 use Rattle.dm_space.specs.Memory.{Memory}
 use Rattle.dm_arena.specs.declared.header.Header.{Header}
 use Rattle.dm_arena.specs.declared.header.Entry.{Entry}
-use Rattle.dm_arena.specs.Chain.{first_header, next, HasHeader, IsClear, IsHeader, IsArena}
+use Rattle.dm_arena.specs.Chain.{first_header, next, HasHeader, IsClear, IsHeader}
 use Rattle.dm_arena.specs.Listing.{Path, Follows}
 use Rattle.dm_arena.proofs.Chains.{has_left, has_right, has_either, clear_within}
 use Rattle.dm_arena.proofs.Reading.{header-unique}

@@ -7,7 +7,7 @@ use Rattle.dm_arena.specs.declared.header.Entry.{Entry}
 use Rattle.dm_arena.specs.declared.listing.Step.{Step}
 use Rattle.dm_arena.specs.declared.listing.Step.TheVariants as step
 use Rattle.dm_arena.specs.Chain.{first_header, next, mark, signature, IsHeader, IsArena}
-use Rattle.dm_arena.specs.Listing.{Path, Leads, Follows, Closes, IsStep, IsStepFrom}
+use Rattle.dm_arena.specs.Listing.{Walking, Path, Leads, Follows, Closes, IsStep, IsStepFrom}
 use Rattle.dm_views.specs.Arena.{header_line, list_text, front_text, end_line, destroyed_line, IsArenaText, whole, broken}
 
 -- ---- texts of more headers
@@ -43,8 +43,8 @@ path_more S h (q ∷ P) t b p at x = (p.0, p.1, path_more S (next q) P t b p.2 a
 
 -- a header that others follow, or the last one
 leads_more : (m : Memory) (P : List Header) (t : ℕ) (e : Entry) → Leads m P t → Follows m P t e → e.last ≡ false → Leads m (P ++ e.header ∷ []) (next e.header)
-leads_more m P t e l f no = record {
-  path = path_more m first_header P t e.header l.path f.at (subst (λ (s : ℕ). IsHeader m e.header s) (ap mark no) f.header);
+leads_more m P t e l f more = record {
+  path = path_more m first_header P t e.header l.path f.at (subst (λ (s : ℕ). IsHeader m e.header s) (ap mark more) f.header);
   clear = f.clear;
 }
 
@@ -101,3 +101,46 @@ told_destroyed m at after segment text all (on_way P t is same l) h k =
     let s = at_segment m at after (step.Destroyed segment) t is h in
     broken P t l.path l.clear (s.3 P l) (k ∙ ap (λ (x : List ℕ). x ++ destroyed_line segment) same ∙ ap (λ (n : ℕ). front_text P ++ destroyed_line n) s.0)
 told_destroyed m at after segment text all (over L is same a) h k = absurd (at_end m at after (step.Destroyed segment) is h)
+
+-- ---- the walk
+
+-- what a walk over a memory has put behind what stood there
+pub record Telling (m : Memory) (old : List ℕ) (w : Walking) (out : List ℕ) : Type 0 where
+  pub memory : w.memory ≡ m
+  pub text : List ℕ
+  pub is : out ≡ old ++ text
+  pub told : HasTold w.memory w.at text
+
+pub telling_none : (m : Memory) (old : List ℕ) (w : Walking) → w.memory ≡ m → w.at ≡ Some first_header → Telling m old w old
+telling_none m old w e k = record { memory = e; text = []; is = sym (append-nil old); told = told_none w.memory w.at k }
+
+pub telling_more : (m : Memory) (old out new : List ℕ) (v w : Walking) (e : Entry) → Telling m old v out → w.memory ≡ v.memory → IsStep v.memory v.at (step.Told e) w.at → new ≡ out ++ header_line (mark e.last) e.header → Telling m old w new
+telling_more m old out new v w e h same s k =
+    let F : Memory → Type 0 = λ x. HasTold x w.at (h.text ++ header_line (mark e.last) e.header) in
+    record {
+      memory = same ∙ h.memory;
+      text = h.text ++ header_line (mark e.last) e.header;
+      is = k ∙ ap (λ (x : List ℕ). x ++ header_line (mark e.last) e.header) h.is ∙ append_assoc old h.text (header_line (mark e.last) e.header);
+      told = subst F (sym same) (one_told v.memory v.at w.at e h.text (h.text ++ header_line (mark e.last) e.header) h.told s refl);
+    }
+
+pub telling_nearer : (m : Memory) (old out : List ℕ) (v w : Walking) (e : Entry) → Telling m old v out → IsStep v.memory v.at (step.Told e) w.at → ahead w.at < ahead v.at
+telling_nearer m old out v w e h s = told_nearer v.memory v.at w.at e h.text h.told s
+
+-- a text behind what stood there
+abbrev pub HasText : Memory → List ℕ → List ℕ → Type 0
+HasText m old new = (x : List ℕ) × (new ≡ old ++ x) × IsArenaText m x
+
+pub telling_all : (m : Memory) (old out new : List ℕ) (v w : Walking) → Telling m old v out → IsStep v.memory v.at step.End w.at → new ≡ out ++ end_line → HasText m old new
+telling_all m old out new v w h s k = (
+  h.text ++ end_line,
+  k ∙ ap (λ (x : List ℕ). x ++ end_line) h.is ∙ append_assoc old h.text end_line,
+  subst (λ (y : Memory). IsArenaText y (h.text ++ end_line)) h.memory (told_all v.memory v.at w.at h.text (h.text ++ end_line) h.told s refl),
+)
+
+pub telling_destroyed : (m : Memory) (old out new : List ℕ) (v w : Walking) (segment : ℕ) → Telling m old v out → IsStep v.memory v.at (step.Destroyed segment) w.at → new ≡ out ++ destroyed_line segment → HasText m old new
+telling_destroyed m old out new v w segment h s k = (
+  h.text ++ destroyed_line segment,
+  k ∙ ap (λ (x : List ℕ). x ++ destroyed_line segment) h.is ∙ append_assoc old h.text (destroyed_line segment),
+  subst (λ (y : Memory). IsArenaText y (h.text ++ destroyed_line segment)) h.memory (told_destroyed v.memory v.at w.at segment h.text (h.text ++ destroyed_line segment) h.told s refl),
+)

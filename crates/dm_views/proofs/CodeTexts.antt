@@ -1,9 +1,9 @@
 -- The lines of instructions that stand in memory.
-use Rattle.std.proofs.Common.{◌≡◌, ℕ, ◌+◌, ◌≤◌, List, [], ◌∷◌, ◌++◌, take, get_or, Option, Some, None, refl, sym, ◌∙◌, ap, subst, append_assoc, append-nil}
+use Rattle.std.proofs.Common.{◌≡◌, ℕ, ◌+◌, ◌≤◌, List, [], ◌++◌, take, get_or, Some, None, refl, sym, ◌∙◌, ap, subst, append_assoc, append-nil}
 use Rattle.dm_space.specs.Memory.{Memory}
 use Rattle.dm_ins.specs.declared.ins.Ins.{Ins}
 use Rattle.dm_decode.specs.Decoded.{Decodes}
-use Rattle.dm_views.specs.Code.{up, byte_after, sixteen, listed_line, unlisted_line, Stands, IsLine, listed, unlisted, AreLines, none, more}
+use Rattle.dm_views.specs.Code.{up, byte_after, sixteen, listed_line, unlisted_line, Stands, IsLine, listed, unlisted, AreLines, none, more, IsCode}
 
 -- the bytes there begin with a spelling of the instruction
 pub stands : (m : Memory) (s o : ℕ) (window : List ℕ) (i : Ins) (k : ℕ) → window ≡ sixteen m s o → Decodes window (Some (i, k)) → Stands m s o i k
@@ -43,3 +43,10 @@ lines_more m s o old out new line n at k after h e l a = rw a (record {
   is = e ∙ ap (λ (x : List ℕ). x ++ line) h.is ∙ append_assoc old h.text line;
   lines = more n at k h.text line h.lines l;
 })
+
+pub lines_all : (m : Memory) (s o : ℕ) (old out : List ℕ) (n at k : ℕ) → HasLines m s o old n at out → n ≡ k → (text : List ℕ) × (out ≡ old ++ text) × IsCode m s o k text
+lines_all m s o old out n at k h e = (h.text, h.is, (at, subst (λ (i : ℕ). AreLines m s o i at h.text) e h.lines))
+
+-- an instruction has at most sixteen bytes
+pub short : (window : List ℕ) (i : Ins) (k : ℕ) → Decodes window (Some (i, k)) → k ≤ 16
+short window i k d = ((d i k).0 refl).0

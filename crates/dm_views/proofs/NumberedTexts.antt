@@ -1,5 +1,6 @@
 -- Texts of numbers, one after the other.
-use Rattle.std.proofs.Common.{◌≡◌, ℕ, zero, suc, ◌+◌, List, [], ◌++◌, refl, sym, ◌∙◌, ap, add-one, append-nil, append_assoc}
+use Rattle.std.proofs.Common.{◌≡◌, ℕ, ◌+◌, ◌*◌, ◌/◌, ◌%◌, List, ◌++◌, refl, sym, ◌∙◌, ap, arith, add-one, append-nil, append_assoc}
+use Rattle.std.proofs.Math.Nat.{add-mul-mod_self_left}
 use Rattle.dm_views.specs.Digits.{numbered}
 
 pub numbered_none : (old : List ℕ) (f : ℕ → List ℕ) → old ≡ old ++ numbered f 0
@@ -16,3 +17,9 @@ numbered_more old out new f n e k =
 
 pub numbered_all : (old out : List ℕ) (f : ℕ → List ℕ) (n m : ℕ) → n ≡ m → out ≡ old ++ numbered f n → out ≡ old ++ numbered f m
 numbered_all old out f n m e k = k ∙ ap (λ (i : ℕ). old ++ numbered f i) e
+
+-- an offset that has wrapped wraps no further
+pub wrapped : (o x : ℕ) → (o + x % 65536) % 65536 ≡ (o + x) % 65536
+wrapped o x =
+    let e : o + x ≡ o + x % 65536 + 65536 * (x / 65536) = omega arith in
+    sym (ap (λ (n : ℕ). n % 65536) e ∙ add-mul-mod_self_left (o + x % 65536) 65536 (x / 65536))

@@ -3,14 +3,14 @@
 use Rattle.std.specs.Prelude.{ℕ, zero, suc, ◌/◌, ◌%◌, List, [], ◌∷◌, ◌++◌, codes}
 use Rattle.dm_text.specs.Pieces.{digit}
 
-abbrev pub two : ℕ → List ℕ
+unfoldable pub two : ℕ → List ℕ
 two n = digit (n / 16) ∷ digit (n % 16) ∷ []
 
-abbrev pub four : ℕ → List ℕ
+unfoldable pub four : ℕ → List ℕ
 four n = digit (n / 4096) ∷ digit (n / 256 % 16) ∷ digit (n / 16 % 16) ∷ digit (n % 16) ∷ []
 
 -- of a number below 2^32
-abbrev pub eight : ℕ → List ℕ
+unfoldable pub eight : ℕ → List ℕ
 eight n = four (n / 65536 % 65536) ++ four (n % 65536)
 
 abbrev pub address_text : ℕ → ℕ → List ℕ

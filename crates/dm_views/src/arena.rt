@@ -1,7 +1,8 @@
 //! The headers of the arena, as text (MS-DOS Programmer's Reference, "Arena header").
 
-ghost use Rattle.std.specs.Prelude.{◌≡◌, ◌++◌, List, ℕ, OnOk};
+ghost use Rattle.std.specs.Prelude.{◌≡◌, ◌++◌, ◌∷◌, [], List, ℕ, OnOk};
 ghost use Rattle.dm_arena.specs.Chain.{mark};
+ghost use Rattle.dm_views.specs.Digits.{four};
 ghost use Rattle.dm_views.specs.Arena.{header_line, end_line, destroyed_line, IsArenaText};
 
 use crate::digits::word_digits;
@@ -28,13 +29,27 @@ fn put_entry(out: &mut Vec<u8>, entry: Entry) -> Result<(), AllocError>
     out.extend_from_slice(b"\n")
 }
 
+/// Puts that the arena ends.
+fn put_end(out: &mut Vec<u8>) -> Result<(), AllocError>
+    ensures { OnOk result (out.new.items ≡ out.old.items ++ end_line) }
+{
+    out.extend_from_slice(b"end\n")
+}
+
+/// Puts the digits of a word, and a line end.
+fn put_word_line(out: &mut Vec<u8>, word: u16) -> Result<(), AllocError>
+    ensures { OnOk result (out.new.items ≡ out.old.items ++ (four word ++ 10 ∷ [])) }
+{
+    out.extend_from_slice(&word_digits(word))?;
+    out.extend_from_slice(b"\n")
+}
+
 /// Puts where the arena is destroyed.
 fn put_destroyed(out: &mut Vec<u8>, segment: u16) -> Result<(), AllocError>
     ensures { OnOk result (out.new.items ≡ out.old.items ++ destroyed_line segment) }
 {
     out.extend_from_slice(b"destroyed at ")?;
-    out.extend_from_slice(&word_digits(segment))?;
-    out.extend_from_slice(b"\n")
+    put_word_line(out, segment)
 }
 
 /// Puts the headers of the arena, a line each: segment, signature, owner and size; then `end`, or where the first stands that breaks the
@@ -50,7 +65,7 @@ pub fn put_arena(out: &mut Vec<u8>, space: &Space) -> Result<(), AllocError>
     'walk: loop {
         match headers.advance() {
             Step::Told(entry) => put_entry(out, entry)?,
-            Step::End => return out.extend_from_slice(b"end\n"),
+            Step::End => return put_end(out),
             Step::Destroyed(segment) => return put_destroyed(out, segment),
         }
     }

@@ -1,8 +1,8 @@
 //! Bytes in memory, as text.
 
-ghost use Rattle.std.specs.Prelude.{◌≡◌, ◌+◌, ◌*◌, ◌≤◌, ◌++◌, OnOk};
+ghost use Rattle.std.specs.Prelude.{◌≡◌, ◌+◌, ◌*◌, ◌≤◌, ◌++◌, codes, OnOk};
 ghost use Rattle.dm_views.specs.Bytes.{shown, in_digits, as_text, line_text, bytes_text};
-ghost use Rattle.dm_views.specs.Digits.{numbered};
+ghost use Rattle.dm_views.specs.Digits.{two, numbered};
 
 use crate::digits::{byte_digits, put_address};
 use dm_space::Space;
@@ -22,6 +22,14 @@ fn printed(byte: u8) -> u8
     }
 }
 
+/// Puts the digits of a byte behind a space.
+fn put_byte(out: &mut Vec<u8>, byte: u8) -> Result<(), AllocError>
+    ensures { OnOk result (out.new.items ≡ out.old.items ++ (codes " " ++ two byte)) }
+{
+    out.extend_from_slice(b" ")?;
+    out.extend_from_slice(&byte_digits(byte))
+}
+
 /// Puts so many bytes from an address on in digits, each behind a space.
 fn put_digits(
     out: &mut Vec<u8>,
@@ -33,9 +41,7 @@ fn put_digits(
     ensures { OnOk result (out.new.items ≡ out.old.items ++ numbered (in_digits space.now.memory segment offset) count) }
 {
     for k in 0..count {
-        let byte = space.peek(segment, offset.wrapping_add(k));
-        out.extend_from_slice(b" ")?;
-        out.extend_from_slice(&byte_digits(byte))?;
+        put_byte(out, space.peek(segment, offset.wrapping_add(k)))?;
     }
     Ok(())
 }
@@ -90,7 +96,7 @@ pub fn put_bytes(
     ensures { OnOk result (out.new.items ≡ out.old.items ++ bytes_text space.now.memory segment offset count) }
 {
     for line in 0..count.div_ceil(IN_LINE) {
-        let before = line * IN_LINE;
+        let before = IN_LINE * line;
         let left = IN_LINE.min(count - before) as u16;
         let at = offset.wrapping_add((before % 65536) as u16);
         put_bytes_line(out, space, segment, at, left)?;

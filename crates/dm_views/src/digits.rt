@@ -19,6 +19,7 @@ pub(crate) fn digit_of(n: u16) -> u8
 }
 
 /// The two digits of a byte.
+#[tactic(auto, unfolding(crate::specs::Digits::two))]
 pub fn byte_digits(n: u8) -> [u8; 2]
     ensures { result ≡ two n }
 {
@@ -27,6 +28,7 @@ pub fn byte_digits(n: u8) -> [u8; 2]
 }
 
 /// The four digits of a word.
+#[tactic(auto, unfolding(crate::specs::Digits::four))]
 pub(crate) fn word_digits(n: u16) -> [u8; 4]
     ensures { result ≡ four n }
 {
@@ -39,6 +41,7 @@ pub(crate) fn word_digits(n: u16) -> [u8; 4]
 }
 
 /// Puts the eight digits of a number below 2^32.
+#[tactic(auto, unfolding(crate::specs::Digits::eight))]
 pub(crate) fn put_double(out: &mut Vec<u8>, n: usize) -> Result<(), AllocError>
     ensures { OnOk result (out.new.items ≡ out.old.items ++ eight n) }
 {

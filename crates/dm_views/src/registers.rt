@@ -39,7 +39,7 @@ fn put_fields(out: &mut Vec<u8>, fields: &[Field]) -> Result<(), AllocError>
     out.extend_from_slice(b"\n")
 }
 
-fn field(name: [u8; 2], value: u16) -> Field
+fn named(name: [u8; 2], value: u16) -> Field
     ensures { result ≡ record { name = name; value = value } }
 {
     Field { name, value }
@@ -50,14 +50,14 @@ fn general(cpu: &Cpu) -> [Field; 8]
     ensures { result ≡ Rattle.dm_views.specs.Registers.general cpu.now }
 {
     [
-        field(*b"AX", cpu.ax),
-        field(*b"BX", cpu.bx),
-        field(*b"CX", cpu.cx),
-        field(*b"DX", cpu.dx),
-        field(*b"SP", cpu.sp),
-        field(*b"BP", cpu.bp),
-        field(*b"SI", cpu.si),
-        field(*b"DI", cpu.di),
+        named(*b"AX", cpu.ax),
+        named(*b"BX", cpu.bx),
+        named(*b"CX", cpu.cx),
+        named(*b"DX", cpu.dx),
+        named(*b"SP", cpu.sp),
+        named(*b"BP", cpu.bp),
+        named(*b"SI", cpu.si),
+        named(*b"DI", cpu.di),
     ]
 }
 
@@ -66,12 +66,12 @@ fn special(cpu: &Cpu) -> [Field; 6]
     ensures { result ≡ Rattle.dm_views.specs.Registers.special cpu.now }
 {
     [
-        field(*b"DS", cpu.ds),
-        field(*b"ES", cpu.es),
-        field(*b"SS", cpu.ss),
-        field(*b"CS", cpu.cs),
-        field(*b"IP", cpu.ip),
-        field(*b"FL", cpu.flags.to_word()),
+        named(*b"DS", cpu.ds),
+        named(*b"ES", cpu.es),
+        named(*b"SS", cpu.ss),
+        named(*b"CS", cpu.cs),
+        named(*b"IP", cpu.ip),
+        named(*b"FL", cpu.flags.to_word()),
     ]
 }
 
