@@ -1,10 +1,13 @@
 -- Single steps, as they are made and told.
-use Rattle.std.proofs.Common.{◌≡◌, ℕ, ◌+◌, ◌<◌, ◌≤◌, List, [], ◌++◌, Option, Some, None, refl, sym, ◌∙◌, ap, subst, arith, append-nil, append_assoc}
+use Rattle.std.proofs.Common.{◌≡◌, ℕ, ◌+◌, ◌<◌, List, [], ◌++◌, Option, Some, None, Result, Ok, Err, refl, sym, ◌∙◌, ap, subst, append-nil, append_assoc}
+use Rattle.std.specs.Prelude.{OnErr}
 use Rattle.dm_state.specs.declared.stop.Stop.{Stop}
 use Rattle.dm_state.specs.State.{State}
+use Rattle.dm_machine.specs.declared.until.Breakpoint.{Breakpoint}
 use Rattle.dm_machine.specs.Run.{Answers}
+use Rattle.dm_machine.specs.Until.{RunsUntil}
 use Rattle.dm_views.specs.Registers.{IsRegistersText}
-use Rattle.dm_debug.specs.Runs.{stop_line, Traces, none, more, IsTrace, whole, cut, TracesPart, some, next, stopped}
+use Rattle.dm_debug.specs.Runs.{stop_line, GoesTo, Traces, none, more, IsTrace, whole, cut, TracesPart, next, stopped}
 
 -- so many steps were made, and told behind what stood there
 pub record HasTraced (s : State) (old : List ℕ) (n : ℕ) (out : List ℕ) (t : State) : Type 0 where
@@ -41,3 +44,16 @@ part_next s t u old out n m h lt a = next n t h.text lt h.traces a
 
 pub part_stopped : (s t u : State) (old out : List ℕ) (n m : ℕ) (why : Stop) → HasTraced s old n out t → n < m → Answers t (Some why) u → TracesPart s m u
 part_stopped s t u old out n m why h lt a = stopped n t h.text why lt h.traces a
+
+-- what holds in any case holds at an error
+pub at_err : {T E P : Type 0} (r : Result T E) → P → OnErr r P
+at_err (Ok v) p = tt
+at_err (Err e) p = p
+
+-- a run, and the registers behind why it ended
+pub goes_told : (s t : State) (old mid new : List ℕ) (n : ℕ) (points : List Breakpoint) (why : Option Stop) → RunsUntil s n points why t → mid ≡ old ++ stop_line why → (text : List ℕ) × (new ≡ mid ++ text) × IsRegistersText t.cpu t.memory text → (text : List ℕ) × (new ≡ old ++ text) × GoesTo s n points text t
+goes_told s t old mid new n points why r e x = (
+  stop_line why ++ x.0,
+  x.1 ∙ ap (λ (z : List ℕ). z ++ x.0) e ∙ append_assoc old (stop_line why) x.0,
+  record { why = why; registers = x.0; runs = r; shown = x.2; is = refl },
+)

@@ -6,7 +6,7 @@ use Rattle.dm_state.specs.declared.stop.Stop.{Stop}
 use Rattle.dm_state.specs.declared.stop.Stop.TheVariants as stop
 use Rattle.dm_state.specs.State.{State}
 use Rattle.dm_machine.specs.declared.until.Breakpoint.{Breakpoint}
-use Rattle.dm_machine.specs.Run.{Answers, Goes}
+use Rattle.dm_machine.specs.Run.{Answers}
 use Rattle.dm_machine.specs.Until.{RunsUntil}
 use Rattle.dm_views.specs.Digits.{two}
 use Rattle.dm_views.specs.Registers.{IsRegistersText}

@@ -8,7 +8,7 @@ ghost use Rattle.dm_command.specs.Commands.{command_of};
 ghost use Rattle.dm_debug.specs.Points.{with_point, without_point};
 ghost use Rattle.dm_debug.specs.Sessions.{new_session, done, with_points, with_entered, Does, DoesPart, clears_none, is_over, is_syntax, is_full, IsAnswered, IsCutOff, IsPartlyWritten};
 
-use crate::listings::{dump, put_machine, unassemble};
+use crate::listings::{arena, dump, extended, output, pages, put_machine, unassemble};
 use crate::points::{MOST, Points, place_of, point_at, put_points};
 use crate::refusal::Refusal;
 use crate::runs::{enter, go, trace};
@@ -16,7 +16,6 @@ use arrayvec::ArrayVec;
 use dm_command::{Address, Bytes, Command, read_command};
 use dm_machine::{Machine, Out};
 use dm_out::write_all;
-use dm_views::{put_arena, put_extended, put_pages};
 use std::alloc::{AllocError, Global};
 use std::marker::Model;
 
@@ -155,16 +154,16 @@ impl Session {
             Command::Registers => put_machine(text, &self.machine),
             Command::Unassemble(at, count) => unassemble(text, &self.machine, *at, *count),
             Command::Dump(at, count) => dump(text, &self.machine, *at, *count),
-            Command::Arena => put_arena(text, self.machine.space()),
-            Command::Pages => put_pages(text, self.machine.ems(), self.machine.space()),
-            Command::Extended => put_extended(text, self.machine.xms(), self.machine.space()),
+            Command::Arena => arena(text, &self.machine),
+            Command::Pages => pages(text, &self.machine),
+            Command::Extended => extended(text, &self.machine),
             Command::Go(n) => go(&mut self.machine, *n, self.points.as_slice(), text),
             Command::Trace(n) => trace(&mut self.machine, *n, text),
             Command::Break(at) => self.set_point(*at, text),
             Command::Clear(at) => self.clear_point(*at, text),
             Command::Breakpoints => put_points(text, self.points.as_slice()),
             Command::Enter(at, bytes) => self.enter_bytes(*at, bytes, text),
-            Command::Output => text.extend_from_slice(self.machine.output()),
+            Command::Output => output(text, &self.machine),
         }
     }
 
