@@ -7,3 +7,4 @@ mod Kept
 mod NoRoom
 mod Rooms
 mod Links
+mod UntilLaws

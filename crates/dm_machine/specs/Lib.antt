@@ -4,3 +4,4 @@ pub mod Start
 pub mod Laws
 pub mod Memo
 pub mod Repeats
+pub mod Until

@@ -6,6 +6,7 @@ mod loading;
 mod machine;
 mod memo;
 mod steps;
+mod until;
 
 pub use dm_exec::{Cpu, Flags};
 pub use dm_out::{Failed, Out};
@@ -18,3 +19,4 @@ pub use laws::{
 };
 pub use loading::LoadError;
 pub use machine::{Machine, NewError};
+pub use until::Breakpoint;

@@ -1,0 +1,80 @@
+-- The command of a line.
+-- Source: MS-DOS User's Reference, "DEBUG" (D, E, G, R, T, U); the others, the bounds and what is taken for numbers that are left out are
+-- this machine's own.
+use Rattle.std.specs.Prelude.{ℕ, List, [], ◌∷◌, Option, Some, None}
+use Rattle.dm_command.specs.declared.command.Address.{Address}
+use Rattle.dm_command.specs.declared.command.Command.{Command}
+use Rattle.dm_command.specs.declared.command.Command.TheVariants as command
+use Rattle.dm_command.specs.declared.names.Name.{Name}
+use Rattle.dm_command.specs.declared.names.Name.TheVariants as name
+use Rattle.dm_command.specs.Words.{words_of}
+use Rattle.dm_command.specs.Numbers.{◌>>=◌, number_of, up_to, address_of, bytes_of}
+use Rattle.dm_command.specs.Names.{name_of}
+
+-- nothing behind the name
+abbrev pub alone : Name → Option Command
+alone name.Registers = Some command.Registers
+alone name.Arena = Some command.Arena
+alone name.Pages = Some command.Pages
+alone name.Extended = Some command.Extended
+alone name.Go = Some (command.Go 0xFFFFFF)
+alone name.Trace = Some (command.Trace 1)
+alone name.Breakpoints = Some command.Breakpoints
+alone name.Output = Some command.Output
+alone _ = None
+
+-- one word behind it
+abbrev pub with_one : Name → List ℕ → Option Command
+with_one name.Unassemble w = do
+  a ← address_of w
+  Some (command.Unassemble a 8)
+with_one name.Dump w = do
+  a ← address_of w
+  Some (command.Dump a 0x80)
+with_one name.Go w = do
+  n ← number_of w
+  Some (command.Go n)
+with_one name.Trace w = do
+  n ← up_to 0x1000 (number_of w)
+  Some (command.Trace n)
+with_one name.Break w = do
+  a ← address_of w
+  Some (command.Break a)
+with_one name.Clear w = do
+  a ← address_of w
+  Some (command.Clear a)
+with_one _ w = None
+
+-- an address and one more word behind it
+abbrev pub at_address : Name → Address → List ℕ → Option Command
+at_address name.Unassemble a w = do
+  n ← up_to 0x1000 (number_of w)
+  Some (command.Unassemble a n)
+at_address name.Dump a w = do
+  n ← up_to 0x10000 (number_of w)
+  Some (command.Dump a n)
+at_address name.Enter a w = do
+  bytes ← bytes_of w
+  Some (command.Enter a bytes)
+at_address _ a w = None
+
+abbrev pub with_two : Name → List ℕ → List ℕ → Option Command
+with_two n v w = do
+  a ← address_of v
+  at_address n a w
+
+abbrev pub named : Name → List (List ℕ) → Option Command
+named n [] = alone n
+named n (v ∷ []) = with_one n v
+named n (v ∷ w ∷ []) = with_two n v w
+named n _ = None
+
+abbrev pub of_words : List (List ℕ) → Option Command
+of_words [] = None
+of_words (w ∷ ws) = do
+  n ← name_of w
+  named n ws
+
+-- the command that a line asks for, if it asks for one
+abbrev pub command_of : List ℕ → Option Command
+command_of line = of_words (words_of line)

@@ -1,0 +1,51 @@
+-- Numbers, addresses and bytes as they are typed: all digits are hexadecimal, letters in either case.
+-- Source: MS-DOS User's Reference, "DEBUG" (numbers and addresses); the bounds are this machine's own.
+use Rattle.std.specs.Prelude.{ℕ, ◌+◌, ◌*◌, ◌/◌, ◌==◌, ◌||◌, nat_lt, nat_le, if◌then◌else◌, List, [], ◌∷◌, ◌++◌, length, Option, Some, None, Result, Ok, Err}
+use Rattle.hex.specs.Hex.{hex_digit_value, decode_of}
+use Rattle.hex.specs.declared.error.FromHexError.{FromHexError}
+use Rattle.dm_command.specs.declared.command.Address.{Address}
+
+-- what follows a value; where there is none, there is none
+infixl 10 ◌>>=◌
+abbrev pub ◌>>=◌ : {A B : Type 0} → Option A → (A → Option B) → Option B
+None >>= f = None
+(Some x) >>= f = f x
+
+-- the number that the digits go on to spell
+abbrev pub digits_of : ℕ → List ℕ → Option ℕ
+digits_of n [] = Some n
+digits_of n (b ∷ bs) = do
+  d ← hex_digit_value b
+  digits_of (n * 16 + d) bs
+
+-- one to eight digits
+unfoldable pub number_of : List ℕ → Option ℕ
+number_of w = if length w == 0 || nat_lt 8 (length w) then None else digits_of 0 w
+
+abbrev pub up_to : ℕ → Option ℕ → Option ℕ
+up_to most None = None
+up_to most (Some n) = if nat_le n most then Some n else None
+
+abbrev pub word_of : List ℕ → Option ℕ
+word_of w = up_to 0xFFFF (number_of w)
+
+-- what stands before the first colon, behind the bytes `front`, and what stands behind it
+abbrev pub parts_of : List ℕ → List ℕ → Option (List ℕ × List ℕ)
+parts_of front [] = None
+parts_of front (b ∷ bs) = if b == 58 then Some (front, bs) else parts_of (front ++ b ∷ []) bs
+
+-- a segment and an offset, with a colon between them
+abbrev pub address_of : List ℕ → Option Address
+address_of w = do
+  p ← parts_of [] w
+  segment ← word_of p.0
+  offset ← word_of p.1
+  Some (record { segment = segment; offset = offset })
+
+abbrev pub if_good : Result (List ℕ) FromHexError → Option (List ℕ)
+if_good (Ok bytes) = Some bytes
+if_good (Err e) = None
+
+-- one to 64 bytes, each two digits, with nothing between them
+unfoldable pub bytes_of : List ℕ → Option (List ℕ)
+bytes_of w = if length w / 2 == 0 || nat_lt 64 (length w / 2) then None else if_good (decode_of w)

@@ -1,0 +1,78 @@
+//! The names of commands: one letter or two.
+
+ghost use Rattle.std.specs.Prelude.{◌≡◌};
+ghost use Rattle.dm_command.specs.Names.{upper, letter_name, pair_name, name_of};
+
+/// The name of a command.
+#[derive(Clone, Copy, Debug, PartialEq, Eq)]
+pub(crate) enum Name {
+    Registers,
+    Unassemble,
+    Dump,
+    Arena,
+    Pages,
+    Extended,
+    Go,
+    Trace,
+    Break,
+    Clear,
+    Breakpoints,
+    Enter,
+    Output,
+}
+
+/// A letter in upper case; any other byte as it is.
+fn upper_byte(byte: u8) -> u8
+    ensures { result ≡ upper byte }
+{
+    if b'a' <= byte && byte <= b'z' {
+        byte - 32
+    } else {
+        byte
+    }
+}
+
+/// The name of one letter.
+fn of_letter(letter: u8) -> Option<Name>
+    ensures { result ≡ letter_name letter }
+{
+    match letter {
+        b'B' => Some(Name::Break),
+        b'D' => Some(Name::Dump),
+        b'E' => Some(Name::Enter),
+        b'G' => Some(Name::Go),
+        b'M' => Some(Name::Arena),
+        b'O' => Some(Name::Output),
+        b'P' => Some(Name::Pages),
+        b'R' => Some(Name::Registers),
+        b'T' => Some(Name::Trace),
+        b'U' => Some(Name::Unassemble),
+        b'X' => Some(Name::Extended),
+        _ => None,
+    }
+}
+
+/// The name of two letters.
+fn of_letters(first: u8, second: u8) -> Option<Name>
+    ensures { result ≡ pair_name first second }
+{
+    if first != b'B' {
+        return None;
+    }
+    match second {
+        b'C' => Some(Name::Clear),
+        b'L' => Some(Name::Breakpoints),
+        _ => None,
+    }
+}
+
+/// The name that a word is, if it is one.
+pub(crate) fn read_name(word: &[u8]) -> Option<Name>
+    ensures { result ≡ name_of word.now }
+{
+    match word {
+        [letter] => of_letter(upper_byte(*letter)),
+        [first, second] => of_letters(upper_byte(*first), upper_byte(*second)),
+        _ => None,
+    }
+}

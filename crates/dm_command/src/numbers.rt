@@ -1,0 +1,98 @@
+//! Numbers, addresses and bytes as they are typed: all digits are hexadecimal.
+
+ghost use Rattle.std.specs.Prelude.{◌≡◌, ◌<◌, ◌≤◌, [], IfSome, option_map};
+ghost use Rattle.hex.specs.Hex.{hex_digit_value};
+ghost use Rattle.dm_command.specs.Numbers.{number_of, up_to, word_of, parts_of, address_of, bytes_of};
+
+use crate::command::{Address, Bytes};
+
+/// The most digits of a number.
+const DIGITS: usize = 8;
+
+/// The most bytes that are typed in a row.
+const BYTES: usize = 64;
+
+/// What a digit stands for, in either case.
+fn digit(byte: u8) -> Option<u8>
+    ensures value { result ≡ hex_digit_value byte }
+    ensures small { IfSome result (λ d. d < 16) }
+{
+    match byte {
+        b'A'..=b'F' => Some(byte - b'A' + 10),
+        b'a'..=b'f' => Some(byte - b'a' + 10),
+        b'0'..=b'9' => Some(byte - b'0'),
+        _ => None,
+    }
+}
+
+/// A number of one to eight digits.
+#[tactic(auto, unfolding(crate::specs::Numbers::number_of))]
+pub(crate) fn read_number(word: &[u8]) -> Option<u32>
+    ensures { result ≡ number_of word.now }
+{
+    if word.is_empty() || DIGITS < word.len() {
+        return None;
+    }
+    let mut n: u32 = 0;
+    for byte in word {
+        n = n * 16 + digit(*byte)? as u32;
+    }
+    Some(n)
+}
+
+/// A number of at most so many.
+pub(crate) fn read_up_to(word: &[u8], most: u32) -> Option<u32>
+    ensures value { result ≡ up_to most (number_of word.now) }
+    ensures few { IfSome result (λ n. n ≤ most) }
+{
+    let n = read_number(word)?;
+    if n <= most { Some(n) } else { None }
+}
+
+/// A number of at most FFFFh.
+fn read_word(word: &[u8]) -> Option<u16>
+    ensures { result ≡ word_of word.now }
+{
+    let n = read_up_to(word, 0xFFFF)?;
+    Some(n as u16)
+}
+
+/// What stands before the first colon, and what stands behind it.
+fn parts(word: &[u8]) -> Option<(&[u8], &[u8])>
+    ensures { option_map (λ x. (x.0.now, x.1.now)) result ≡ parts_of [] word.now }
+{
+    for (i, byte) in word.iter().enumerate() {
+        if *byte == b':' {
+            let (before, behind) = word.split_at(i);
+            return Some((before, &behind[1..]));
+        }
+    }
+    None
+}
+
+/// A segment and an offset, with a colon between them.
+pub(crate) fn read_address(word: &[u8]) -> Option<Address>
+    ensures { result ≡ address_of word.now }
+{
+    let (before, behind) = parts(word)?;
+    let segment = read_word(before)?;
+    let offset = read_word(behind)?;
+    Some(Address { segment, offset })
+}
+
+/// One to 64 bytes, each two digits, with nothing between them.
+#[tactic(auto, unfolding(crate::specs::Numbers::bytes_of))]
+pub(crate) fn read_bytes(word: &[u8]) -> Option<Bytes>
+    ensures { result ≡ bytes_of word.now }
+{
+    let count = word.len() / 2;
+    if count == 0 || BYTES < count {
+        return None;
+    }
+    let mut bytes = [0; BYTES];
+    let typed = &mut bytes[..count];
+    match hex::decode_to_slice(word, typed) {
+        Ok(()) => Some(Bytes::new(&bytes[..count])),
+        Err(_) => None,
+    }
+}

@@ -1,0 +1,91 @@
+//! From a line to its command.
+
+ghost use Rattle.std.specs.Prelude.{◌≡◌};
+ghost use Rattle.dm_command.specs.Commands.{alone, with_one, with_two, command_of};
+
+use crate::command::Command;
+use crate::names::{Name, read_name};
+use crate::numbers::{read_address, read_bytes, read_number, read_up_to};
+use crate::words::next_word;
+
+/// The most instructions that are listed, and the most steps that are traced.
+const MOST_LINES: u32 = 0x1000;
+
+/// The most bytes that are listed.
+const MOST_BYTES: u32 = 0x1_0000;
+
+/// A command with nothing behind its name.
+fn alone(name: Name) -> Option<Command>
+    ensures { result ≡ alone name }
+{
+    match name {
+        Name::Registers => Some(Command::Registers),
+        Name::Arena => Some(Command::Arena),
+        Name::Pages => Some(Command::Pages),
+        Name::Extended => Some(Command::Extended),
+        Name::Go => Some(Command::Go(0xFF_FFFF)),
+        Name::Trace => Some(Command::Trace(1)),
+        Name::Breakpoints => Some(Command::Breakpoints),
+        Name::Output => Some(Command::Output),
+        _ => None,
+    }
+}
+
+/// A command with one word behind its name.
+fn with_one(name: Name, word: &[u8]) -> Option<Command>
+    ensures { result ≡ with_one name word.now }
+{
+    match name {
+        Name::Unassemble => Some(Command::Unassemble(read_address(word)?, 8)),
+        Name::Dump => Some(Command::Dump(read_address(word)?, 0x80)),
+        Name::Go => Some(Command::Go(read_number(word)?)),
+        Name::Trace => Some(Command::Trace(read_up_to(word, MOST_LINES)? as u16)),
+        Name::Break => Some(Command::Break(read_address(word)?)),
+        Name::Clear => Some(Command::Clear(read_address(word)?)),
+        _ => None,
+    }
+}
+
+/// A command with two words behind its name.
+fn with_two(name: Name, first: &[u8], second: &[u8]) -> Option<Command>
+    ensures { result ≡ with_two name first.now second.now }
+{
+    let address = read_address(first)?;
+    match name {
+        Name::Unassemble => {
+            let count = read_up_to(second, MOST_LINES)?;
+            Some(Command::Unassemble(address, count as u16))
+        }
+        Name::Dump => {
+            let length = read_up_to(second, MOST_BYTES)?;
+            Some(Command::Dump(address, length))
+        }
+        Name::Enter => {
+            let bytes = read_bytes(second)?;
+            Some(Command::Enter(address, bytes))
+        }
+        _ => None,
+    }
+}
+
+/// The command that a line asks for, without its line end; None where it asks for none.
+///
+/// Words are parted by spaces, which may be many and stand at the ends too. Letters are in either case, and numbers are hexadecimal with
+/// one to eight digits. Segments and offsets are at most FFFFh, instructions and traced steps at most 1000h, listed bytes at most
+/// 10000h. Where a number may be left out, it is 8 for U, 80h for D, FFFFFFh for G and 1 for T.
+pub fn read_command(line: &[u8]) -> Option<Command>
+    ensures { result ≡ command_of line.now }
+{
+    let (word, rest) = next_word(line)?;
+    let name = read_name(word)?;
+    let Some((first, rest)) = next_word(rest) else {
+        return alone(name);
+    };
+    let Some((second, rest)) = next_word(rest) else {
+        return with_one(name, first);
+    };
+    match next_word(rest) {
+        Some(_) => None,
+        None => with_two(name, first, second),
+    }
+}

@@ -1,0 +1,4 @@
+use Rattle.dm_debug.proofs.listings.arena.Goals as goal
+
+pub returns : goal.returns
+returns c = rw c.space.ensures at c.put_arena.ensures

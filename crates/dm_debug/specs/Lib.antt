@@ -1,0 +1,4 @@
+pub mod Debugged
+pub mod Points
+pub mod Runs
+pub mod Sessions

@@ -1,0 +1,60 @@
+-- What the commands do that change the machine, and what they tell: runs, single steps, and bytes that are written.
+-- Source: MS-DOS User's Reference, "DEBUG" (Go, Trace, Enter). The words are this machine's own.
+use Rattle.std.specs.Prelude.{◌≡◌, ℕ, ◌+◌, ◌%◌, ◌<◌, ◌≤◌, List, [], ◌∷◌, ◌++◌, codes, Option, Some, None}
+use Rattle.dm_space.specs.Memory.{Memory, linear, poke}
+use Rattle.dm_state.specs.declared.stop.Stop.{Stop}
+use Rattle.dm_state.specs.declared.stop.Stop.TheVariants as stop
+use Rattle.dm_state.specs.State.{State}
+use Rattle.dm_machine.specs.declared.until.Breakpoint.{Breakpoint}
+use Rattle.dm_machine.specs.Run.{Answers}
+use Rattle.dm_machine.specs.Until.{RunsUntil}
+use Rattle.dm_views.specs.Digits.{two}
+use Rattle.dm_views.specs.Registers.{IsRegistersText}
+
+-- the word of a stop; none is a breakpoint
+abbrev pub stop_text : Option Stop → List ℕ
+stop_text None = codes "break"
+stop_text (Some stop.Steps) = codes "steps"
+stop_text (Some (stop.Exited code)) = codes "exited "
+stop_text (Some stop.Halted) = codes "halted"
+stop_text (Some stop.Unlisted) = codes "unlisted"
+stop_text (Some stop.InputEnded) = codes "input ended"
+stop_text (Some stop.Destroyed) = codes "destroyed"
+stop_text (Some stop.Memory) = codes "memory"
+
+-- the code of an end
+abbrev pub code_text : Option Stop → List ℕ
+code_text (Some (stop.Exited code)) = two code
+code_text _ = []
+
+abbrev pub stop_line : Option Stop → List ℕ
+stop_line why = stop_text why ++ code_text why ++ 10 ∷ []
+
+-- a run of at most n steps up to a breakpoint: why it ended, and the registers
+pub record GoesTo (s : State) (n : ℕ) (points : List Breakpoint) (text : List ℕ) (t : State) : Type 0 where
+  pub why : Option Stop
+  pub registers : List ℕ
+  pub runs : RunsUntil s n points why t
+  pub shown : IsRegistersText t.cpu t.memory registers
+  pub is : text ≡ stop_line why ++ registers
+
+-- n steps that end nothing, and the registers after each
+pub data Traces (s : State) : ℕ → List ℕ → State → Type 0 where
+  none : Traces s 0 [] s
+  more : (n : ℕ) (t u : State) (text registers : List ℕ) → Traces s n text t → Answers t None u → IsRegistersText u.cpu u.memory registers → Traces s (n + 1) (text ++ registers) u
+
+-- n steps; or fewer, and the line of the stop that comes then
+pub data IsTrace (s : State) (n : ℕ) (text : List ℕ) (t : State) : Type 0 where
+  whole : Traces s n text t → IsTrace s n text t
+  cut : (made : ℕ) (before : State) (told : List ℕ) (why : Stop) → made < n → Traces s made told before → Answers before (Some why) t → text ≡ told ++ stop_line (Some why) → IsTrace s n text t
+
+-- some first steps of them
+pub data TracesPart (s : State) (n : ℕ) (t : State) : Type 0 where
+  some : (made : ℕ) (told : List ℕ) → made ≤ n → Traces s made told t → TracesPart s n t
+  next : (made : ℕ) (before : State) (told : List ℕ) → made < n → Traces s made told before → Answers before None t → TracesPart s n t
+  stopped : (made : ℕ) (before : State) (told : List ℕ) (why : Stop) → made < n → Traces s made told before → Answers before (Some why) t → TracesPart s n t
+
+-- the bytes are written upwards from segment:offset on; offsets wrap
+abbrev pub entered : Memory → ℕ → ℕ → List ℕ → Memory
+entered m segment offset [] = m
+entered m segment offset (byte ∷ bytes) = entered (poke m (linear m.a20 segment offset) byte) segment ((offset + 1) % 65536) bytes

@@ -1,0 +1,107 @@
+-- Sessions: what a command leaves and tells, and which lines are refused.
+-- Source: MS-DOS User's Reference, "DEBUG". The forms, breakpoints and listings beyond it are this machine's own.
+use Rattle.std.specs.Prelude.{◌≡◌, ℕ, Bool, true, false, not, nat_le, if◌then◌else◌, List, [], ◌∷◌, ◌++◌, length, codes, Option, Some, None}
+use Rattle.std.specs.Io.KnownBytes.{Appends}
+use Rattle.dm_out.specs.Out.{AppendsPart}
+use Rattle.dm_state.specs.declared.stop.Stop.{Stop}
+use Rattle.dm_state.specs.State.{State}
+use Rattle.dm_machine.specs.declared.until.Breakpoint.{Breakpoint}
+use Rattle.dm_machine.specs.Until.{RunsUntil}
+use Rattle.dm_command.specs.declared.command.Address.{Address}
+use Rattle.dm_command.specs.declared.command.Command.{Command}
+use Rattle.dm_command.specs.declared.command.Command.TheVariants as c
+use Rattle.dm_command.specs.Commands.{command_of}
+use Rattle.dm_views.specs.Registers.{IsRegistersText}
+use Rattle.dm_views.specs.Code.{IsCode}
+use Rattle.dm_views.specs.Bytes.{bytes_text}
+use Rattle.dm_views.specs.Arena.{IsArenaText}
+use Rattle.dm_views.specs.Pages.{pages_text}
+use Rattle.dm_views.specs.Extended.{extended_text}
+use Rattle.dm_debug.specs.Debugged.{Debugged}
+use Rattle.dm_debug.specs.Points.{is_set, with_point, without_point, points_text}
+use Rattle.dm_debug.specs.Runs.{entered, GoesTo, IsTrace, TracesPart}
+
+abbrev pub new_session : State → Debugged
+new_session m = record { machine = m; points = [] }
+
+-- ---- what commands leave and tell
+
+abbrev pub done : List ℕ
+done = codes "ok" ++ 10 ∷ []
+
+abbrev pub with_machine : Debugged → State → Debugged
+with_machine s t = record s { machine = t }
+
+abbrev pub with_points : Debugged → List Breakpoint → Debugged
+with_points s points = record s { points = points }
+
+abbrev pub with_entered : Debugged → Address → List ℕ → Debugged
+with_entered s a bytes = with_machine s (record s.machine { memory = entered s.machine.memory a.segment a.offset bytes })
+
+-- a command that changes nothing: a listing of one state, or what the console wrote
+pub data Shows (s : Debugged) : Command → List ℕ → Type 0 where
+  registers : (text : List ℕ) → IsRegistersText s.machine.cpu s.machine.memory text → Shows s c.Registers text
+  code : (a : Address) (n : ℕ) (text : List ℕ) → IsCode s.machine.memory a.segment a.offset n text → Shows s (c.Unassemble a n) text
+  bytes : (a : Address) (n : ℕ) → Shows s (c.Dump a n) (bytes_text s.machine.memory a.segment a.offset n)
+  arena : (text : List ℕ) → IsArenaText s.machine.memory text → Shows s c.Arena text
+  pages : Shows s c.Pages (pages_text s.machine.ems s.machine.memory)
+  extended : Shows s c.Extended (extended_text s.machine.xms s.machine.memory)
+  points : Shows s c.Breakpoints (points_text s.points)
+  output : Shows s c.Output s.machine.console.output
+
+-- a command: what it tells, and the session behind it
+pub data Does (s : Debugged) : Command → List ℕ → Debugged → Type 0 where
+  shows : (command : Command) (text : List ℕ) → Shows s command text → Does s command text s
+  goes : (n : ℕ) (text : List ℕ) (t : State) → GoesTo s.machine n s.points text t → Does s (c.Go n) text (with_machine s t)
+  traces : (n : ℕ) (text : List ℕ) (t : State) → IsTrace s.machine n text t → Does s (c.Trace n) text (with_machine s t)
+  sets : (a : Address) → Does s (c.Break a) done (with_points s (with_point s.points a))
+  clears : (a : Address) → Does s (c.Clear a) done (with_points s (without_point s.points a))
+  enters : (a : Address) (typed : List ℕ) → Does s (c.Enter a typed) done (with_entered s a typed)
+
+-- some first part of what a command changes has changed
+pub data DoesPart (s : Debugged) : Command → Debugged → Type 0 where
+  nothing : (command : Command) → DoesPart s command s
+  ran : (n : ℕ) (why : Option Stop) (t : State) → RunsUntil s.machine n s.points why t → DoesPart s (c.Go n) (with_machine s t)
+  traced : (n : ℕ) (t : State) → TracesPart s.machine n t → DoesPart s (c.Trace n) (with_machine s t)
+
+-- ---- lines
+
+abbrev pub clears_none : Debugged → Command → Bool
+clears_none s (c.Clear a) = not (is_set s.points a)
+clears_none s _ = false
+
+abbrev pub is_over : Debugged → Command → Bool
+is_over s (c.Break a) = if is_set s.points a then false else nat_le 16 (length s.points)
+is_over s _ = false
+
+-- the line is no command, or clears a breakpoint that is not set
+abbrev pub is_syntax : Debugged → Option Command → Bool
+is_syntax s None = true
+is_syntax s (Some command) = clears_none s command
+
+-- the line sets a seventeenth breakpoint
+abbrev pub is_full : Debugged → Option Command → Bool
+is_full s None = false
+is_full s (Some command) = is_over s command
+
+-- a line's command was done, and what it tells was written
+pub record IsAnswered (s : Debugged) (line : List ℕ) (t : Debugged) (before after : Option (List ℕ)) : Type 0 where
+  pub command : Command
+  pub text : List ℕ
+  pub read : command_of line ≡ Some command
+  pub does : Does s command text t
+  pub written : Appends before after text
+
+-- some first part of it was done
+pub record IsCutOff (s : Debugged) (line : List ℕ) (t : Debugged) : Type 0 where
+  pub command : Command
+  pub read : command_of line ≡ Some command
+  pub part : DoesPart s command t
+
+-- it was done, and a first part of what it tells was written
+pub record IsPartlyWritten (s : Debugged) (line : List ℕ) (t : Debugged) (before after : Option (List ℕ)) : Type 0 where
+  pub command : Command
+  pub text : List ℕ
+  pub read : command_of line ≡ Some command
+  pub does : Does s command text t
+  pub written : AppendsPart before after text

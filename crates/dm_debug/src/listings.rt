@@ -1,0 +1,73 @@
+//! The listings of a machine.
+
+ghost use Rattle.std.specs.Prelude.{◌≡◌, ◌++◌, List, ℕ, OnOk};
+ghost use Rattle.dm_views.specs.Arena.{IsArenaText};
+ghost use Rattle.dm_views.specs.Bytes.{bytes_text};
+ghost use Rattle.dm_views.specs.Code.{IsCode};
+ghost use Rattle.dm_views.specs.Extended.{extended_text};
+ghost use Rattle.dm_views.specs.Pages.{pages_text};
+ghost use Rattle.dm_views.specs.Registers.{IsRegistersText};
+
+use dm_command::Address;
+use dm_machine::Machine;
+use dm_views::{put_arena, put_bytes, put_code, put_extended, put_pages, put_registers};
+use std::alloc::AllocError;
+
+/// Puts the registers of a machine.
+pub(crate) fn put_machine(out: &mut Vec<u8>, machine: &Machine) -> Result<(), AllocError>
+    ensures { OnOk result ((text : List ℕ) × (out.new.items ≡ out.old.items ++ text) × IsRegistersText machine.now.cpu machine.now.memory text) }
+{
+    put_registers(out, &machine.cpu(), machine.space())
+}
+
+/// Puts so many instructions from an address on.
+pub(crate) fn unassemble(
+    out: &mut Vec<u8>,
+    machine: &Machine,
+    at: Address,
+    count: u16,
+) -> Result<(), AllocError>
+    ensures { OnOk result ((text : List ℕ) × (out.new.items ≡ out.old.items ++ text) × IsCode machine.now.memory at.segment at.offset count text) }
+{
+    put_code(out, machine.space(), at.segment, at.offset, count)
+}
+
+/// Puts so many bytes from an address on.
+pub(crate) fn dump(
+    out: &mut Vec<u8>,
+    machine: &Machine,
+    at: Address,
+    count: u32,
+) -> Result<(), AllocError>
+    ensures { OnOk result (out.new.items ≡ out.old.items ++ bytes_text machine.now.memory at.segment at.offset count) }
+{
+    put_bytes(out, machine.space(), at.segment, at.offset, count)
+}
+
+/// Puts the headers of the arena.
+pub(crate) fn arena(out: &mut Vec<u8>, machine: &Machine) -> Result<(), AllocError>
+    ensures { OnOk result ((text : List ℕ) × (out.new.items ≡ out.old.items ++ text) × IsArenaText machine.now.memory text) }
+{
+    put_arena(out, machine.space())
+}
+
+/// Puts the handles and windows of expanded memory.
+pub(crate) fn pages(out: &mut Vec<u8>, machine: &Machine) -> Result<(), AllocError>
+    ensures { OnOk result (out.new.items ≡ out.old.items ++ pages_text machine.now.ems machine.now.memory) }
+{
+    put_pages(out, machine.ems(), machine.space())
+}
+
+/// Puts the blocks of extended memory, the upper memory blocks, A20 and the high memory area.
+pub(crate) fn extended(out: &mut Vec<u8>, machine: &Machine) -> Result<(), AllocError>
+    ensures { OnOk result (out.new.items ≡ out.old.items ++ extended_text machine.now.xms machine.now.memory) }
+{
+    put_extended(out, machine.xms(), machine.space())
+}
+
+/// Puts what the console wrote.
+pub(crate) fn output(out: &mut Vec<u8>, machine: &Machine) -> Result<(), AllocError>
+    ensures { OnOk result (out.new.items ≡ out.old.items ++ machine.now.console.output) }
+{
+    out.extend_from_slice(machine.output())
+}

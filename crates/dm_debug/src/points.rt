@@ -1,0 +1,53 @@
+//! The breakpoints of a session, in the order of setting.
+
+ghost use Rattle.std.specs.Prelude.{◌≡◌, ◌<◌, ◌++◌, ◌∷◌, IfSome, OnOk, length, position};
+ghost use Rattle.arrayvec.specs.ArrayVec.{array_vec_len};
+ghost use Rattle.dm_debug.specs.Points.{is_point, point_at, points_text};
+
+use arrayvec::ArrayVec;
+use dm_command::Address;
+use dm_machine::Breakpoint;
+use dm_views::put_address;
+use std::alloc::AllocError;
+
+/// How many breakpoints there can be.
+pub(crate) const MOST: usize = 16;
+
+/// The breakpoints of a session.
+pub(crate) type Points = ArrayVec<Breakpoint, 16>;
+
+/// The breakpoint at an address.
+pub(crate) fn point_at(address: Address) -> Breakpoint
+    ensures { result ≡ point_at address }
+{
+    Breakpoint {
+        segment: address.segment,
+        offset: address.offset,
+    }
+}
+
+/// Whether a breakpoint is at an address.
+fn is_point(address: Address, point: Breakpoint) -> bool
+    ensures { result ≡ is_point address point }
+{
+    point.offset == address.offset && point.segment == address.segment
+}
+
+/// Where the breakpoint at an address stands among the others.
+pub(crate) fn place_of(points: &[Breakpoint], address: Address) -> Option<usize>
+    ensures first { result ≡ position (is_point address) points.now }
+    ensures there { IfSome result (λ k. k < length points.now) }
+{
+    points.iter().position(|point| is_point(address, *point))
+}
+
+/// Puts the breakpoints, a line each.
+pub(crate) fn put_points(out: &mut Vec<u8>, points: &[Breakpoint]) -> Result<(), AllocError>
+    ensures { OnOk result (out.new.items ≡ out.old.items ++ points_text points.now) }
+{
+    for point in points {
+        put_address(out, point.segment, point.offset)?;
+        out.extend_from_slice(b"\n")?;
+    }
+    Ok(())
+}

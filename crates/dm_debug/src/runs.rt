@@ -1,0 +1,83 @@
+//! What the commands do that change the machine: runs, single steps, and bytes that are written.
+
+ghost use Rattle.std.specs.Prelude.{◌≡◌, ◌≤◌, ◌++◌, List, ℕ, Option, OnOk, OnErr};
+ghost use Rattle.dm_state.specs.declared.stop.Stop.{Stop};
+ghost use Rattle.dm_state.specs.State.{HasProgram};
+ghost use Rattle.dm_machine.specs.Until.{RunsUntil};
+ghost use Rattle.dm_debug.specs.Runs.{stop_text, stop_line, entered, GoesTo, Traces, IsTrace, TracesPart};
+
+use crate::listings::put_machine;
+use dm_machine::{Breakpoint, Machine, Stop};
+use dm_views::byte_digits;
+use std::alloc::AllocError;
+
+/// The word of a stop, and of none: a breakpoint.
+fn word_of(stop: Option<Stop>) -> &'static [u8]
+    ensures { result.now ≡ stop_text stop }
+{
+    match stop {
+        None => b"break",
+        Some(Stop::Steps) => b"steps",
+        Some(Stop::Exited(_)) => b"exited ",
+        Some(Stop::Halted) => b"halted",
+        Some(Stop::Unlisted) => b"unlisted",
+        Some(Stop::InputEnded) => b"input ended",
+        Some(Stop::Destroyed) => b"destroyed",
+        Some(Stop::Memory) => b"memory",
+    }
+}
+
+/// Puts the line of a stop, or of a breakpoint.
+fn put_stop(out: &mut Vec<u8>, stop: Option<Stop>) -> Result<(), AllocError>
+    ensures { OnOk result (out.new.items ≡ out.old.items ++ stop_line stop) }
+{
+    out.extend_from_slice(word_of(stop))?;
+    if let Some(Stop::Exited(code)) = stop {
+        out.extend_from_slice(&byte_digits(code))?;
+    }
+    out.extend_from_slice(b"\n")
+}
+
+/// Makes at most `n` steps, up to a breakpoint or a stop, and puts why it ended and the registers.
+pub(crate) fn go(
+    machine: &mut Machine,
+    n: u32,
+    points: &[Breakpoint],
+    out: &mut Vec<u8>,
+) -> Result<(), AllocError>
+    requires { HasProgram machine.old }
+    ensures ok { OnOk result ((text : List ℕ) × (out.new.items ≡ out.old.items ++ text) × GoesTo machine.old n points.now text machine.new) }
+    ensures err { OnErr result ((stop : Option Stop) × RunsUntil machine.old n points.now stop machine.new) }
+    ensures loaded { HasProgram machine.new }
+{
+    let stop = machine.run_until(n as u64, points);
+    put_stop(out, stop)?;
+    put_machine(out, machine)
+}
+
+/// Makes at most `n` steps and puts the registers after each, or the line of the stop that comes instead.
+pub(crate) fn trace(machine: &mut Machine, n: u16, out: &mut Vec<u8>) -> Result<(), AllocError>
+    requires { HasProgram machine.old }
+    ensures ok { OnOk result ((text : List ℕ) × (out.new.items ≡ out.old.items ++ text) × IsTrace machine.old n text machine.new) }
+    ensures err { OnErr result (TracesPart machine.old n machine.new) }
+    ensures loaded { HasProgram machine.new }
+{
+    for _ in 0..n {
+        if let Some(stop) = machine.step() {
+            return put_stop(out, Some(stop));
+        }
+        put_machine(out, machine)?;
+    }
+    Ok(())
+}
+
+/// Writes bytes upwards from an address on; offsets wrap.
+pub(crate) fn enter(machine: &mut Machine, segment: u16, offset: u16, bytes: &[u8])
+    requires { HasProgram machine.old }
+    ensures { machine.new ≡ record machine.old { memory = entered machine.old.memory segment offset bytes.now } }
+{
+    if let [byte, rest @ ..] = bytes {
+        machine.poke(segment, offset, *byte);
+        enter(machine, segment, offset.wrapping_add(1), rest);
+    }
+}

@@ -1,0 +1,210 @@
+//! A session: a machine, its breakpoints, and the commands that are asked of them.
+
+ghost use Rattle.std.specs.Prelude.{◌≡◌, ◌++◌, ◌↔◌, ◌⊎◌, [], true, false, OnOk, OnErr, IsErrOf};
+ghost use Rattle.dm_state.specs.State.{HasProgram};
+ghost use Rattle.dm_out.specs.Out.{HasFailed};
+ghost use Rattle.dm_command.specs.declared.command.Command.TheVariants.{Break};
+ghost use Rattle.dm_command.specs.Commands.{command_of};
+ghost use Rattle.dm_debug.specs.Points.{with_point, without_point};
+ghost use Rattle.dm_debug.specs.Sessions.{new_session, done, with_points, with_entered, Does, DoesPart, clears_none, is_over, is_syntax, is_full, IsAnswered, IsCutOff, IsPartlyWritten};
+
+use crate::listings::{arena, dump, extended, output, pages, put_machine, unassemble};
+use crate::points::{MOST, Points, place_of, point_at, put_points};
+use crate::refusal::Refusal;
+use crate::runs::{enter, go, trace};
+use arrayvec::ArrayVec;
+use dm_command::{Address, Bytes, Command, read_command};
+use dm_machine::{Machine, Out};
+use dm_out::write_all;
+use std::alloc::{AllocError, Global};
+use std::marker::Model;
+
+/// The answer of a command that tells nothing else.
+const DONE: &[u8] = b"ok\n";
+
+/// A machine that is debugged, and its breakpoints: at most sixteen exact pairs of CS and IP.
+///
+/// Contracts see the machine's state and the list of breakpoints, in the order of setting. A program is loaded.
+#[derive(Drop)]
+pub struct Session {
+    machine: Machine,
+    points: Points,
+}
+
+impl Model for Session {
+    ghost use Rattle.dm_debug.specs.Debugged.{Debugged, IsDebugged};
+
+    ghost Value = { Debugged };
+
+    ghost view = { λ s. record { machine = s.machine; points = s.points.items } };
+
+    ghost invariant = { λ s. IsDebugged (record { machine = s.machine; points = s.points.items }) };
+}
+
+impl Session {
+    /// A session with no breakpoints, over a machine on which a program is loaded.
+    pub fn new(machine: Machine) -> Session
+        requires { HasProgram machine }
+        ensures { result ≡ new_session machine }
+    {
+        Session {
+            machine,
+            points: ArrayVec::new(),
+        }
+    }
+
+    /// Whether a breakpoint is set at an address.
+    fn is_set(&self, address: Address) -> bool
+        ensures { result ≡ Rattle.dm_debug.specs.Points.is_set self.now.points address }
+    {
+        place_of(self.points.as_slice(), address).is_some()
+    }
+
+    /// Whether the command clears a breakpoint that is not set.
+    fn clears_none(&self, command: &Command) -> bool
+        ensures { result ≡ clears_none self.now command.now }
+    {
+        match command {
+            Command::Clear(address) => !self.is_set(*address),
+            _ => false,
+        }
+    }
+
+    /// Whether the command sets one more breakpoint than there can be.
+    fn is_over(&self, command: &Command) -> bool
+        ensures { result ≡ is_over self.now command.now }
+    {
+        match command {
+            Command::Break(address) => !self.is_set(*address) && MOST <= self.points.len(),
+            _ => false,
+        }
+    }
+
+    /// Sets a breakpoint, if it is not set.
+    fn set(&mut self, address: Address)
+        requires { is_over self.old (Break address) ≡ false }
+        ensures { self.new ≡ with_points self.old (with_point self.old.points address) }
+    {
+        if let None = place_of(self.points.as_slice(), address) {
+            self.points.push(point_at(address));
+        }
+    }
+
+    /// Clears a breakpoint, if it is set.
+    fn clear(&mut self, address: Address)
+        ensures { self.new ≡ with_points self.old (without_point self.old.points address) }
+    {
+        if let Some(at) = place_of(self.points.as_slice(), address) {
+            self.points.remove(at);
+        }
+    }
+
+    /// Sets a breakpoint, if it is not set.
+    fn set_point(&mut self, address: Address, text: &mut Vec<u8>) -> Result<(), AllocError>
+        requires over { is_over self.old (Break address) ≡ false }
+        ensures ok { OnOk result (self.new ≡ with_points self.old (with_point self.old.points address)) }
+        ensures told { OnOk result (text.new.items ≡ text.old.items ++ done) }
+        ensures err { OnErr result (self.new ≡ self.old) }
+    {
+        text.extend_from_slice(DONE)?;
+        self.set(address);
+        Ok(())
+    }
+
+    /// Clears a breakpoint, if it is set.
+    fn clear_point(&mut self, address: Address, text: &mut Vec<u8>) -> Result<(), AllocError>
+        ensures ok { OnOk result (self.new ≡ with_points self.old (without_point self.old.points address)) }
+        ensures told { OnOk result (text.new.items ≡ text.old.items ++ done) }
+        ensures err { OnErr result (self.new ≡ self.old) }
+    {
+        text.extend_from_slice(DONE)?;
+        self.clear(address);
+        Ok(())
+    }
+
+    /// Writes bytes from an address on.
+    fn enter_bytes(
+        &mut self,
+        address: Address,
+        bytes: &Bytes,
+        text: &mut Vec<u8>,
+    ) -> Result<(), AllocError>
+        ensures ok { OnOk result (self.new ≡ with_entered self.old address bytes.now) }
+        ensures told { OnOk result (text.new.items ≡ text.old.items ++ done) }
+        ensures err { OnErr result (self.new ≡ self.old) }
+    {
+        text.extend_from_slice(DONE)?;
+        enter(
+            &mut self.machine,
+            address.segment,
+            address.offset,
+            bytes.as_slice(),
+        );
+        Ok(())
+    }
+
+    /// Does a command, and puts what it tells.
+    fn perform(&mut self, command: &Command, text: &mut Vec<u8>) -> Result<(), AllocError>
+        requires over { is_over self.old command.now ≡ false }
+        requires empty { text.old.items ≡ [] }
+        ensures ok { OnOk result (Does self.old command.now text.new.items self.new) }
+        ensures err { OnErr result (DoesPart self.old command.now self.new) }
+    {
+        match command {
+            Command::Registers => put_machine(text, &self.machine),
+            Command::Unassemble(at, count) => unassemble(text, &self.machine, *at, *count),
+            Command::Dump(at, count) => dump(text, &self.machine, *at, *count),
+            Command::Arena => arena(text, &self.machine),
+            Command::Pages => pages(text, &self.machine),
+            Command::Extended => extended(text, &self.machine),
+            Command::Go(n) => go(&mut self.machine, *n, self.points.as_slice(), text),
+            Command::Trace(n) => trace(&mut self.machine, *n, text),
+            Command::Break(at) => self.set_point(*at, text),
+            Command::Clear(at) => self.clear_point(*at, text),
+            Command::Breakpoints => put_points(text, self.points.as_slice()),
+            Command::Enter(at, bytes) => self.enter_bytes(*at, bytes, text),
+            Command::Output => output(text, &self.machine),
+        }
+    }
+
+    /// Answers a line: does the command that it asks for, and writes what the command tells, each line with a line end (0Ah). The line has
+    /// no line end.
+    ///
+    /// # Errors
+    ///
+    /// In this order: `Syntax` exactly where the line is no command, or clears a breakpoint that is not set; `Full` exactly where it sets a
+    /// seventeenth breakpoint: then nothing has changed, and nothing was written. `Memory` where memory for the answer was refused: then
+    /// nothing was written, and some first part of what the command changes may have changed. `Write` where a write failed or took
+    /// nothing: then all that the command changes has changed, and a first part of the answer was written.
+    pub fn command<O: Out>(
+        &mut self,
+        alloc: Global,
+        line: &[u8],
+        out: &mut O,
+    ) -> Result<(), Refusal>
+        ensures ok { OnOk result (IsAnswered self.old line.now self.new (O.taken out.old) (O.taken out.new)) }
+        ensures syntax { IsErrOf result Refusal.Syntax ↔ (is_syntax self.old (command_of line.now) ≡ true) }
+        ensures full { IsErrOf result Refusal.Full ↔ (is_full self.old (command_of line.now) ≡ true) }
+        ensures unchanged { IsErrOf result Refusal.Syntax ⊎ IsErrOf result Refusal.Full → (self.new ≡ self.old) × (out.new ≡ out.old) }
+        ensures memory { IsErrOf result Refusal.Memory → IsCutOff self.old line.now self.new × (out.new ≡ out.old) }
+        ensures write { IsErrOf result Refusal.Write → IsPartlyWritten self.old line.now self.new (O.taken out.old) (O.taken out.new) × HasFailed (O.failures out.old) (O.failures out.new) }
+    {
+        let Some(command) = read_command(line) else {
+            return Err(Refusal::Syntax);
+        };
+        if self.clears_none(&command) {
+            return Err(Refusal::Syntax);
+        }
+        if self.is_over(&command) {
+            return Err(Refusal::Full);
+        }
+        let mut text = Vec::new(alloc);
+        if let Err(_) = self.perform(&command, &mut text) {
+            return Err(Refusal::Memory);
+        }
+        match write_all(out, text.as_slice()) {
+            Ok(()) => Ok(()),
+            Err(_) => Err(Refusal::Write),
+        }
+    }
+}

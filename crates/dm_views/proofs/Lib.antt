@@ -1,0 +1,5 @@
+pub mod NumberedTexts
+pub mod ArenaTexts
+pub mod CodeTexts
+pub mod CodeOnce
+pub mod ArenaOnce

@@ -1,0 +1,49 @@
+-- Instructions that stand in memory, as lines: the address, the bytes as joined pairs of digits, and the text.
+-- Source: MS-DOS User's Reference, "DEBUG" (Unassemble); Intel 8086 Family User's Manual, section 4 (encoding). The form is this machine's
+-- own.
+use Rattle.std.specs.Prelude.{ℕ, ◌+◌, ◌%◌, ◌≤◌, List, [], ◌∷◌, ◌++◌, map, take, codes}
+use Rattle.std.specs.List.{flat_map}
+use Rattle.dm_space.specs.Memory.{Memory, linear, peek}
+use Rattle.dm_ins.specs.declared.ins.Ins.{Ins}
+use Rattle.dm_ins.specs.Ins.{Spells}
+use Rattle.dm_text.specs.Texts.{text_of}
+use Rattle.dm_views.specs.Digits.{two, address_text}
+
+-- offsets wrap at 65,536
+abbrev pub up : ℕ → ℕ → ℕ
+up offset k = (offset + k) % 65536
+
+-- the byte k places behind segment:offset
+abbrev pub byte_after : Memory → ℕ → ℕ → ℕ → ℕ
+byte_after m segment offset k = peek m (linear m.a20 segment (up offset k))
+
+-- the sixteen bytes from segment:offset on; no instruction is longer
+unfoldable pub sixteen : Memory → ℕ → ℕ → List ℕ
+sixteen m segment offset = map (byte_after m segment offset) (0 ∷ 1 ∷ 2 ∷ 3 ∷ 4 ∷ 5 ∷ 6 ∷ 7 ∷ 8 ∷ 9 ∷ 10 ∷ 11 ∷ 12 ∷ 13 ∷ 14 ∷ 15 ∷ [])
+
+-- the line of an instruction with these bytes, where the next one stands at an offset
+abbrev pub listed_line : ℕ → ℕ → List ℕ → Ins → ℕ → List ℕ
+listed_line segment offset bytes i next = address_text segment offset ++ codes " " ++ flat_map two bytes ++ codes " " ++ text_of i next ++ 10 ∷ []
+
+-- the line of a byte that begins no instruction
+abbrev pub unlisted_line : ℕ → ℕ → ℕ → List ℕ
+unlisted_line segment offset byte = address_text segment offset ++ codes " " ++ two byte ++ codes " DB" ++ 10 ∷ []
+
+-- the first bytes there, as many as the length, spell the instruction
+pub record Stands (m : Memory) (segment offset : ℕ) (i : Ins) (k : ℕ) : Type 0 where
+  pub short : k ≤ 16
+  pub spells : Spells i (take k (sixteen m segment offset))
+
+-- the line of the k bytes at segment:offset
+pub data IsLine (m : Memory) (segment offset : ℕ) : ℕ → List ℕ → Type 0 where
+  listed : (i : Ins) (k : ℕ) → Stands m segment offset i k → IsLine m segment offset k (listed_line segment offset (take k (sixteen m segment offset)) i (up offset k))
+  unlisted : ((i : Ins) (k : ℕ) → Stands m segment offset i k → ⊥) → IsLine m segment offset 1 (unlisted_line segment offset (byte_after m segment offset 0))
+
+-- so many lines, each of what stands behind the bytes of the line before it, and the offset behind the last
+pub data AreLines (m : Memory) (segment offset : ℕ) : ℕ → ℕ → List ℕ → Type 0 where
+  none : AreLines m segment offset 0 offset []
+  more : (n at k : ℕ) (text line : List ℕ) → AreLines m segment offset n at text → IsLine m segment at k line → AreLines m segment offset (n + 1) (up at k) (text ++ line)
+
+-- the text of n instructions from segment:offset on
+abbrev pub IsCode : Memory → ℕ → ℕ → ℕ → List ℕ → Type 0
+IsCode m segment offset n text = (end : ℕ) × AreLines m segment offset n end text

@@ -1,0 +1,37 @@
+-- Extended memory, as lines: the blocks of the handles in use, the upper memory blocks, and A20 and the high memory area.
+-- Source: XMS 3.0. The form is this machine's own.
+use Rattle.std.specs.Prelude.{ℕ, ◌+◌, Bool, if◌then◌else◌, List, [], ◌∷◌, ◌++◌, codes, slice_get, Option, Some, None}
+use Rattle.dm_space.specs.Memory.{Memory}
+use Rattle.dm_xms.specs.declared.tables.Handle.{Handle}
+use Rattle.dm_xms.specs.declared.tables.Upper.{Upper}
+use Rattle.dm_xms.specs.Tables.{Tables}
+use Rattle.dm_xms.specs.Calls.{slot}
+use Rattle.dm_xms.specs.Blocks.{address}
+use Rattle.dm_views.specs.Digits.{two, four, eight, numbered}
+
+-- handle, linear address, KiB, locks
+abbrev pub block_line : ℕ → ℕ → ℕ → ℕ → List ℕ
+block_line number base kib locks = four number ++ codes " " ++ eight base ++ codes " " ++ four kib ++ codes " " ++ two locks ++ 10 ∷ []
+
+abbrev pub if_used : Memory → ℕ → Option Handle → List ℕ
+if_used m number None = []
+if_used m number (Some h) = block_line number (address m h.block) h.kib h.locks
+
+-- the line of the handle behind so many, if it is in use: handles count from 1
+abbrev pub block_text : Tables → Memory → ℕ → List ℕ
+block_text xms m before = if_used m (before + 1) (slot xms (before + 1))
+
+-- segment and paragraphs of an upper memory block, if there is one
+abbrev pub upper_line : Option Upper → List ℕ
+upper_line None = []
+upper_line (Some u) = codes "upper " ++ four u.segment ++ codes " " ++ four u.paragraphs ++ 10 ∷ []
+
+abbrev pub upper_text : Tables → ℕ → List ℕ
+upper_text xms k = upper_line (slice_get xms.uppers k)
+
+abbrev pub switches_text : Bool → Bool → List ℕ
+switches_text on taken = (if on then codes "A20 on" else codes "A20 off") ++ (if taken then codes " HMA used" ++ 10 ∷ [] else codes " HMA free" ++ 10 ∷ [])
+
+-- there are 64 handles, and at most 64 upper memory blocks
+abbrev pub extended_text : Tables → Memory → List ℕ
+extended_text xms m = numbered (block_text xms m) 64 ++ numbered (upper_text xms) 64 ++ switches_text m.a20 xms.area

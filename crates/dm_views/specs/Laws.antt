@@ -1,0 +1,16 @@
+-- What holds of all listings: a listing is one text of one state.
+use Rattle.std.specs.Prelude.{◌≡◌, ℕ, List}
+use Rattle.dm_space.specs.Memory.{Memory}
+use Rattle.dm_exec.specs.declared.cpu.Cpu.{Cpu}
+use Rattle.dm_views.specs.Registers.{IsRegistersText}
+use Rattle.dm_views.specs.Code.{IsCode}
+use Rattle.dm_views.specs.Arena.{IsArenaText}
+
+abbrev pub CodeHasOneText : Type 0
+CodeHasOneText = (m : Memory) (segment offset n : ℕ) (a b : List ℕ) → IsCode m segment offset n a → IsCode m segment offset n b → a ≡ b
+
+abbrev pub RegistersHaveOneText : Type 0
+RegistersHaveOneText = (c : Cpu) (m : Memory) (a b : List ℕ) → IsRegistersText c m a → IsRegistersText c m b → a ≡ b
+
+abbrev pub ArenaHasOneText : Type 0
+ArenaHasOneText = (m : Memory) (a b : List ℕ) → IsArenaText m a → IsArenaText m b → a ≡ b

@@ -1,0 +1,105 @@
+//! Bytes in memory, as text.
+
+ghost use Rattle.std.specs.Prelude.{◌≡◌, ◌+◌, ◌*◌, ◌≤◌, ◌++◌, codes, OnOk};
+ghost use Rattle.dm_views.specs.Bytes.{shown, in_digits, as_text, line_text, bytes_text};
+ghost use Rattle.dm_views.specs.Digits.{two, numbered};
+
+use crate::digits::{byte_digits, put_address};
+use dm_space::Space;
+use std::alloc::AllocError;
+
+/// How many bytes a line has.
+const IN_LINE: u32 = 16;
+
+/// A byte as it is told: itself, or a point where it can't be printed.
+fn printed(byte: u8) -> u8
+    ensures { result ≡ shown byte }
+{
+    if 0x20 <= byte && byte <= 0x7E {
+        byte
+    } else {
+        b'.'
+    }
+}
+
+/// Puts the digits of a byte behind a space.
+fn put_byte(out: &mut Vec<u8>, byte: u8) -> Result<(), AllocError>
+    ensures { OnOk result (out.new.items ≡ out.old.items ++ (codes " " ++ two byte)) }
+{
+    out.extend_from_slice(b" ")?;
+    out.extend_from_slice(&byte_digits(byte))
+}
+
+/// Puts so many bytes from an address on in digits, each behind a space.
+fn put_digits(
+    out: &mut Vec<u8>,
+    space: &Space,
+    segment: u16,
+    offset: u16,
+    count: u16,
+) -> Result<(), AllocError>
+    ensures { OnOk result (out.new.items ≡ out.old.items ++ numbered (in_digits space.now.memory segment offset) count) }
+{
+    for k in 0..count {
+        put_byte(out, space.peek(segment, offset.wrapping_add(k)))?;
+    }
+    Ok(())
+}
+
+/// Puts so many bytes from an address on as characters.
+fn put_characters(
+    out: &mut Vec<u8>,
+    space: &Space,
+    segment: u16,
+    offset: u16,
+    count: u16,
+) -> Result<(), AllocError>
+    ensures { OnOk result (out.new.items ≡ out.old.items ++ numbered (as_text space.now.memory segment offset) count) }
+{
+    for k in 0..count {
+        let byte = space.peek(segment, offset.wrapping_add(k));
+        out.extend_from_slice(&[printed(byte)])?;
+    }
+    Ok(())
+}
+
+/// Puts the line of so many bytes from an address on.
+fn put_bytes_line(
+    out: &mut Vec<u8>,
+    space: &Space,
+    segment: u16,
+    offset: u16,
+    count: u16,
+) -> Result<(), AllocError>
+    ensures { OnOk result (out.new.items ≡ out.old.items ++ line_text space.now.memory segment offset count) }
+{
+    put_address(out, segment, offset)?;
+    put_digits(out, space, segment, offset, count)?;
+    out.extend_from_slice(b"  ")?;
+    put_characters(out, space, segment, offset, count)?;
+    out.extend_from_slice(b"\n")
+}
+
+/// Puts so many bytes from an address on, 16 to a line: the address of the first, each in two digits behind a space, two
+/// spaces, and each as a character, or a point where it is none from 20h to 7Eh. Offsets wrap in the segment.
+///
+/// # Errors
+///
+/// That memory for the text was refused.
+pub fn put_bytes(
+    out: &mut Vec<u8>,
+    space: &Space,
+    segment: u16,
+    offset: u16,
+    count: u32,
+) -> Result<(), AllocError>
+    ensures { OnOk result (out.new.items ≡ out.old.items ++ bytes_text space.now.memory segment offset count) }
+{
+    for line in 0..count.div_ceil(IN_LINE) {
+        let before = IN_LINE * line;
+        let left = IN_LINE.min(count - before) as u16;
+        let at = offset.wrapping_add((before % 65536) as u16);
+        put_bytes_line(out, space, segment, at, left)?;
+    }
+    Ok(())
+}

@@ -1,0 +1,131 @@
+//! Instructions that stand in memory, as text (Intel 8086 Family User's Manual, section 2.7 and section 4).
+
+ghost use Rattle.std.specs.Prelude.{◌≡◌, ◌+◌, ◌%◌, ◌++◌, ◌≤◌, List, ℕ, length, take, OnOk, IfOk};
+ghost use Rattle.std.specs.List.{flat_map};
+ghost use Rattle.dm_text.specs.Texts.{text_of};
+ghost use Rattle.dm_views.specs.Digits.{two};
+ghost use Rattle.dm_views.specs.Code.{sixteen, listed_line, unlisted_line, IsLine, IsCode};
+
+use crate::digits::{byte_digits, put_address};
+use dm_decode::decode;
+use dm_ins::Ins;
+use dm_space::Space;
+use dm_text::{Line, text};
+use std::alloc::AllocError;
+
+/// The sixteen bytes from an address on.
+#[tactic(auto, unfolding(crate::specs::Code::sixteen))]
+fn window(space: &Space, segment: u16, offset: u16) -> [u8; 16]
+    ensures { result ≡ sixteen space.now.memory segment offset }
+{
+    let at = |k: u16| space.peek(segment, offset.wrapping_add(k));
+    [
+        at(0),
+        at(1),
+        at(2),
+        at(3),
+        at(4),
+        at(5),
+        at(6),
+        at(7),
+        at(8),
+        at(9),
+        at(10),
+        at(11),
+        at(12),
+        at(13),
+        at(14),
+        at(15),
+    ]
+}
+
+/// Puts bytes as joined pairs of digits.
+pub(crate) fn put_pairs(out: &mut Vec<u8>, bytes: &[u8]) -> Result<(), AllocError>
+    ensures { OnOk result (out.new.items ≡ out.old.items ++ flat_map two bytes.now) }
+{
+    for byte in bytes {
+        out.extend_from_slice(&byte_digits(*byte))?;
+    }
+    Ok(())
+}
+
+/// Puts the text of an instruction, where the next one stands at an offset.
+fn put_text(out: &mut Vec<u8>, ins: &Ins, next: u16) -> Result<(), AllocError>
+    ensures { OnOk result (out.new.items ≡ out.old.items ++ text_of ins.now next) }
+{
+    let mut line = Line::new();
+    text(ins, next, &mut line);
+    out.extend_from_slice(line.bytes())
+}
+
+/// Puts the line of an instruction.
+fn put_listed(
+    out: &mut Vec<u8>,
+    segment: u16,
+    offset: u16,
+    bytes: &[u8],
+    ins: &Ins,
+    next: u16,
+) -> Result<(), AllocError>
+    ensures { OnOk result (out.new.items ≡ out.old.items ++ listed_line segment offset bytes.now ins.now next) }
+{
+    put_address(out, segment, offset)?;
+    out.extend_from_slice(b" ")?;
+    put_pairs(out, bytes)?;
+    out.extend_from_slice(b" ")?;
+    put_text(out, ins, next)?;
+    out.extend_from_slice(b"\n")
+}
+
+/// Puts the line of a byte that begins no instruction.
+fn put_unlisted(out: &mut Vec<u8>, segment: u16, offset: u16, byte: u8) -> Result<(), AllocError>
+    ensures { OnOk result (out.new.items ≡ out.old.items ++ unlisted_line segment offset byte) }
+{
+    put_address(out, segment, offset)?;
+    out.extend_from_slice(b" ")?;
+    out.extend_from_slice(&byte_digits(byte))?;
+    out.extend_from_slice(b" DB\n")
+}
+
+/// Puts the line of what stands at an address, and tells how many bytes it is.
+pub(crate) fn put_line(
+    out: &mut Vec<u8>,
+    space: &Space,
+    segment: u16,
+    offset: u16,
+) -> Result<u16, AllocError>
+    ensures { IfOk result (λ k. (line : List ℕ) × (out.new.items ≡ out.old.items ++ line) × IsLine space.now.memory segment offset k line) }
+{
+    let bytes = window(space, segment, offset);
+    let Some((ins, len)) = decode(&bytes) else {
+        put_unlisted(out, segment, offset, bytes[0])?;
+        return Ok(1);
+    };
+    let len = len as usize;
+    let next = offset.wrapping_add(len as u16);
+    put_listed(out, segment, offset, &bytes[..len], &ins, next)?;
+    Ok(len as u16)
+}
+
+/// Puts the lines of so many instructions from an address on: the address, the bytes and the text of each. A byte that begins no
+/// instruction is a line of its own, with `DB` in place of a text. Offsets wrap in the segment.
+///
+/// # Errors
+///
+/// That memory for the text was refused.
+pub fn put_code(
+    out: &mut Vec<u8>,
+    space: &Space,
+    segment: u16,
+    offset: u16,
+    count: u16,
+) -> Result<(), AllocError>
+    ensures { OnOk result ((text : List ℕ) × (out.new.items ≡ out.old.items ++ text) × IsCode space.now.memory segment offset count text) }
+{
+    let mut at = offset;
+    for _ in 0..count {
+        let len = put_line(out, space, segment, at)?;
+        at = at.wrapping_add(len);
+    }
+    Ok(())
+}

@@ -1,0 +1,59 @@
+//! Numbers in hexadecimal, and addresses.
+
+ghost use Rattle.std.specs.Prelude.{◌≡◌, ◌<◌, ◌++◌, OnOk};
+ghost use Rattle.dm_text.specs.Pieces.{digit};
+ghost use Rattle.dm_views.specs.Digits.{two, four, eight, address_text};
+
+use std::alloc::AllocError;
+
+/// A digit, in upper case.
+pub(crate) fn digit_of(n: u16) -> u8
+    requires { n < 16 }
+    ensures { result ≡ digit n }
+{
+    if n < 10 {
+        b'0' + n as u8
+    } else {
+        b'A' - 10 + n as u8
+    }
+}
+
+/// The two digits of a byte.
+#[tactic(auto, unfolding(crate::specs::Digits::two))]
+pub fn byte_digits(n: u8) -> [u8; 2]
+    ensures { result ≡ two n }
+{
+    let n = n as u16;
+    [digit_of(n / 16), digit_of(n % 16)]
+}
+
+/// The four digits of a word.
+#[tactic(auto, unfolding(crate::specs::Digits::four))]
+pub(crate) fn word_digits(n: u16) -> [u8; 4]
+    ensures { result ≡ four n }
+{
+    [
+        digit_of(n / 4096),
+        digit_of(n / 256 % 16),
+        digit_of(n / 16 % 16),
+        digit_of(n % 16),
+    ]
+}
+
+/// Puts the eight digits of a number below 2^32.
+#[tactic(auto, unfolding(crate::specs::Digits::eight))]
+pub(crate) fn put_double(out: &mut Vec<u8>, n: usize) -> Result<(), AllocError>
+    ensures { OnOk result (out.new.items ≡ out.old.items ++ eight n) }
+{
+    out.extend_from_slice(&word_digits((n / 65536 % 65536) as u16))?;
+    out.extend_from_slice(&word_digits((n % 65536) as u16))
+}
+
+/// Puts a segment and an offset, with a colon between them.
+pub fn put_address(out: &mut Vec<u8>, segment: u16, offset: u16) -> Result<(), AllocError>
+    ensures { OnOk result (out.new.items ≡ out.old.items ++ address_text segment offset) }
+{
+    out.extend_from_slice(&word_digits(segment))?;
+    out.extend_from_slice(b":")?;
+    out.extend_from_slice(&word_digits(offset))
+}

@@ -1,0 +1,23 @@
+//! The listings of a debugger: the texts of registers, instructions, bytes, the arena, and expanded and extended memory.
+//!
+//! Each call puts a text at the end of what was put before. Digits are in upper case, and each line ends with a line end (0Ah). An `Err`
+//! says that memory for the text was refused; what was put before then still stands at the front.
+#![tactic(auto)]
+
+mod arena;
+mod bytes;
+mod code;
+mod digits;
+mod extended;
+mod laws;
+mod pages;
+mod registers;
+
+pub use arena::put_arena;
+pub use bytes::put_bytes;
+pub use code::put_code;
+pub use digits::{byte_digits, put_address};
+pub use extended::put_extended;
+pub use laws::listings_have_one_text;
+pub use pages::put_pages;
+pub use registers::put_registers;

@@ -1,0 +1,90 @@
+//! The registers (Intel 8086 Family User's Manual, section 2.2, registers and flags).
+
+ghost use Rattle.std.specs.Prelude.{◌≡◌, ◌++◌, List, ℕ, OnOk};
+ghost use Rattle.dm_views.specs.Registers.{field_text, fields_text, IsRegistersText};
+
+use crate::code::put_line;
+use crate::digits::word_digits;
+use dm_exec::Cpu;
+use dm_space::Space;
+use std::alloc::AllocError;
+
+/// A register's name and its word.
+#[derive(Clone, Copy)]
+pub(crate) struct Field {
+    name: [u8; 2],
+    value: u16,
+}
+
+/// Puts a register.
+fn put_field(out: &mut Vec<u8>, field: Field) -> Result<(), AllocError>
+    ensures { OnOk result (out.new.items ≡ out.old.items ++ field_text field) }
+{
+    out.extend_from_slice(&field.name)?;
+    out.extend_from_slice(b"=")?;
+    out.extend_from_slice(&word_digits(field.value))
+}
+
+/// Puts a line of registers, with a space between any two.
+fn put_fields(out: &mut Vec<u8>, fields: &[Field]) -> Result<(), AllocError>
+    ensures { OnOk result (out.new.items ≡ out.old.items ++ fields_text fields.now) }
+{
+    if let [first, rest @ ..] = fields {
+        put_field(out, *first)?;
+        for field in rest {
+            out.extend_from_slice(b" ")?;
+            put_field(out, *field)?;
+        }
+    }
+    out.extend_from_slice(b"\n")
+}
+
+fn named(name: [u8; 2], value: u16) -> Field
+    ensures { result ≡ record { name = name; value = value } }
+{
+    Field { name, value }
+}
+
+/// The registers that instructions calculate with, and the pointers and indexes.
+fn general(cpu: &Cpu) -> [Field; 8]
+    ensures { result ≡ Rattle.dm_views.specs.Registers.general cpu.now }
+{
+    [
+        named(*b"AX", cpu.ax),
+        named(*b"BX", cpu.bx),
+        named(*b"CX", cpu.cx),
+        named(*b"DX", cpu.dx),
+        named(*b"SP", cpu.sp),
+        named(*b"BP", cpu.bp),
+        named(*b"SI", cpu.si),
+        named(*b"DI", cpu.di),
+    ]
+}
+
+/// The segment registers, IP and the flags.
+fn special(cpu: &Cpu) -> [Field; 6]
+    ensures { result ≡ Rattle.dm_views.specs.Registers.special cpu.now }
+{
+    [
+        named(*b"DS", cpu.ds),
+        named(*b"ES", cpu.es),
+        named(*b"SS", cpu.ss),
+        named(*b"CS", cpu.cs),
+        named(*b"IP", cpu.ip),
+        named(*b"FL", cpu.flags.to_word()),
+    ]
+}
+
+/// Puts the registers, in two lines, and the line of the instruction at CS:IP. The flags are the word that PUSHF stores.
+///
+/// # Errors
+///
+/// That memory for the text was refused.
+pub fn put_registers(out: &mut Vec<u8>, cpu: &Cpu, space: &Space) -> Result<(), AllocError>
+    ensures { OnOk result ((text : List ℕ) × (out.new.items ≡ out.old.items ++ text) × IsRegistersText cpu.now space.now.memory text) }
+{
+    put_fields(out, &general(cpu))?;
+    put_fields(out, &special(cpu))?;
+    put_line(out, space, cpu.cs, cpu.ip)?;
+    Ok(())
+}
