@@ -117,7 +117,7 @@ follows-of S P t L (k ∷ K) c is n s = (
 )
 
 -- where no header can follow, there is no arena
-no_arena : (S : Memory) (f : ℕ) (P : List Header) (t : ℕ) → Leads S f P t → ((e : Entry) → Follows S P t e → ⊥) → NoArena S f
+pub no_arena : (S : Memory) (f : ℕ) (P : List Header) (t : ℕ) → Leads S f P t → ((e : Entry) → Follows S P t e → ⊥) → NoArena S f
 no_arena S f P t l bad L a =
     let r = path-splits S f P t L l.path a.0.1 a.0.0 in
     let x = follows-of S P t L r.0 a.1 r.1 r.2 r.3 in

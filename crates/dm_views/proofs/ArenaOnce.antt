@@ -55,8 +55,8 @@ broken_once m front h (p ∷ P) t (q ∷ Q) u a b =
 
 pub arena_once : (m : Memory) (a b : List ℕ) → IsArenaText m a → IsArenaText m b → a ≡ b
 arena_once m a b (whole L x e) (whole M y f) = e ∙ ap (λ (X : List Header). list_text X ++ end_line) (arena_unique m first_header L M x y) ∙ sym f
-arena_once m a b (whole L x e) (broken Q u q c n f) = absurd (no_arena m Q u (record { path = q; clear = c }) n L x)
-arena_once m a b (broken P t p c n e) (whole M y f) = absurd (no_arena m P t (record { path = p; clear = c }) n M y)
+arena_once m a b (whole L x e) (broken Q u q c n f) = absurd (no_arena m first_header Q u (record { path = q; clear = c }) n L x)
+arena_once m a b (broken P t p c n e) (whole M y f) = absurd (no_arena m first_header P t (record { path = p; clear = c }) n M y)
 arena_once m a b (broken P t p c n e) (broken Q u q d o f) =
     let s = broken_once m [] first_header P t Q u (record { path = p; clear = c; none = n }) (record { path = q; clear = d; none = o }) in
     e ∙ ap (λ (X : List Header). front_text X ++ destroyed_line t) s.headers ∙ ap (λ (k : ℕ). front_text Q ++ destroyed_line k) s.at ∙ sym f
