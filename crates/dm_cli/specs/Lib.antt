@@ -3,3 +3,4 @@ pub mod Names
 pub mod Statuses
 pub mod Stores
 pub mod Assembling
+pub mod Debugging

@@ -1,15 +1,14 @@
 //! The commands of `dm`, with their fault texts and statuses.
-ghost use Rattle.std.specs.Prelude.{◌≡◌, IfErr, IfOk, OnOk, map};
-ghost use Rattle.dm_cli.specs.Stores.{AddsFile, IsFaultOf, IsStarted, Stores};
+ghost use Rattle.std.specs.Prelude.{◌≡◌, map};
 ghost use Rattle.dm_cli.specs.Statuses.{status_of, told_status, TellsWrongLine};
-ghost use Rattle.dm_state.specs.State.{HasProgram};
 
 use crate::assembling::{asm, disasm};
+use crate::debugging::debug;
 use crate::fault::Fault;
-use crate::files::{Storage, read_file, read_whole};
-use crate::names::{names_file, program_name};
+use crate::files::Storage;
+use crate::loading::loaded;
 use crate::output::run_program;
-use dm_machine::{Config, Machine, Programs, Sizes, Stop};
+use dm_machine::Stop;
 use dm_options::command_line::{MachineOptions, Options, OptionsError};
 use dm_options::options;
 use dm_out::Sink;
@@ -25,76 +24,6 @@ const STOPPED: u8 = 125;
 
 /// The status of a wrong command line or a call for help.
 const USAGE: u8 = 2;
-
-/// The most bytes of a command tail.
-const MOST_TAIL_BYTES: usize = 126;
-
-/// Adds the file at `path` to the store, under the last part of its path.
-fn add_file<'a, F: Storage>(
-    alloc: Global,
-    storage: &F,
-    programs: &mut Programs,
-    path: &'a str,
-) -> Result<(), Fault<'a>>
-    ensures ok { OnOk result (AddsFile (F.contents storage.now path.now) programs.old path.now programs.new) }
-    ensures fault { IfErr result (λ e. IsFaultOf (Fault.CannotRead path.entry) (F.contents storage.now path.now) programs.old path.now e) }
-{
-    if !names_file(path) {
-        return Err(Fault::CannotRead(path));
-    }
-    let bytes = read_file(alloc, storage, path)?;
-    let name = program_name(path)?;
-    match programs.add(alloc, name, bytes) {
-        Ok(()) => Ok(()),
-        Err(refusal) => Err(Fault::from(refusal)),
-    }
-}
-
-/// The store of the files at `paths`, each under the last part of its path.
-fn read_programs<'a, F: Storage>(
-    alloc: Global,
-    storage: &F,
-    paths: &[&'a str],
-) -> Result<Programs, Fault<'a>>
-    ensures store { IfOk result (λ store. Stores (F.contents storage.now) (map (λ path. path.now) paths.now) store) }
-{
-    let mut programs = Programs::new(alloc);
-    for path in paths {
-        add_file(alloc, storage, &mut programs, path)?;
-    }
-    Ok(programs)
-}
-
-/// A machine with the first file loaded.
-fn loaded<'a, F: Storage, I: Read + Drop>(
-    alloc: Global,
-    storage: &F,
-    options: &MachineOptions<'a>,
-    input: I,
-) -> Result<Machine, Fault<'a>>
-    ensures started { IfOk result (IsStarted (F.contents storage.now) (I.remaining input)
-        (record { ems_pages = options.now.ems_pages; xms_kib = options.now.xms_kib })
-        (map (λ path. path.now) options.now.files.items) options.now.tail.now) }
-    ensures loaded { IfOk result (λ machine. HasProgram machine) }
-{
-    let programs = read_programs(alloc, storage, options.files.as_slice())?;
-    let input = read_whole(alloc, input, "standard input")?;
-    let config = Config {
-        sizes: Sizes {
-            ems_pages: options.ems_pages,
-            xms_kib: options.xms_kib,
-        },
-        variables: Vec::new(alloc),
-    };
-    let mut machine = Machine::new(alloc, config, programs, input)?;
-    let tail = options.tail.as_bytes();
-    if tail.len() > MOST_TAIL_BYTES {
-        return Err(Fault::TailTooLong);
-    }
-    let first = options.files.first().ok_or(Fault::NotFound)?;
-    machine.load(program_name(first)?, tail)?;
-    Ok(machine)
-}
 
 /// `dm run`: runs the first file, and writes its output at the end.
 fn run<'a, F: Storage, I: Read + Drop, O: Write>(
@@ -164,6 +93,9 @@ fn told<E: Write>(outcome: Result<(), Fault<'_>>, error: &mut E) -> u8
 /// `too large` (over 512 pages or 15360 KiB), `tail too long` (over 126 bytes), `not found`, `bad format`, `short`;
 /// `cannot write standard output`.
 ///
+/// `dm debug` exits with status 0, also where the program has ended, or tells a fault with status 126, in the same order: the console's input
+/// is the file of `--input`, and none without it, and the commands are read behind `short`.
+///
 /// `dm asm` and `dm disasm` exit with status 0, or tell a fault with status 126: `cannot read NAME` or `input too long` of the file that
 /// they read, then `too long` (over 65,278 bytes of program) or `line N: ` and `syntax`, `unknown`, `range` or `twice`, then `cannot write
 /// NAME`. A text that is refused leaves the file of its bytes as it was.
@@ -181,6 +113,9 @@ pub fn dm_main<S: AsStr, F: Storage, I: Read + Drop, O: Write, E: Write>(
 {
     match options(alloc, words) {
         Ok(Options::Run(options)) => report(run(alloc, storage, &options, input, output), error),
+        Ok(Options::Debug(options)) => {
+            told(debug(alloc, storage, &options, input, output), error)
+        }
         Ok(Options::Asm(options)) => told(asm(alloc, storage, &options), error),
         Ok(Options::Disasm(path)) => told(disasm(alloc, storage, path, output), error),
         Err(OptionsError::Usage(text)) => {

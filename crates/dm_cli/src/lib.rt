@@ -3,8 +3,10 @@
 
 mod assembling;
 mod commands;
+mod debugging;
 mod fault;
 mod files;
+mod loading;
 mod names;
 mod output;
 #[cfg(test)]

@@ -43,6 +43,13 @@ with_machine_rules a =
 abbrev pub run_app : App
 run_app = with_machine_rules (new_app (codes "run"))
 
+-- `--input FILE`, which may be left out
+abbrev pub input_rule : Rule
+input_rule = record (new_rule (codes "input")) { long = Some (codes "input"); value_names = 1 }
+
+abbrev pub debug_app : App
+debug_app = with_rule (with_machine_rules (new_app (codes "debug"))) input_rule
+
 -- one file
 abbrev pub path_rule : Text → Rule
 path_rule name = record (new_rule name) { value_names = 1; required = true }
@@ -58,4 +65,4 @@ named_app = let empty = new_app (codes "dm") in record empty { top = record empt
 
 -- `dm` with its subcommands
 abbrev pub dm_app : App
-dm_app = with_subcommand (with_subcommand (with_subcommand named_app run_app.top) asm_app.top) disasm_app.top
+dm_app = with_subcommand (with_subcommand (with_subcommand (with_subcommand named_app run_app.top) debug_app.top) asm_app.top) disasm_app.top

@@ -1,8 +1,9 @@
 -- What the options say, of the rows that `clap` states for the words of a command line.
-use Rattle.std.specs.Prelude.{◌≡◌, ℕ, ◌<◌, ◌^◌, List, Option, Some, ⊤, MatchOption, codes, map}
+use Rattle.std.specs.Prelude.{◌≡◌, ℕ, ◌<◌, ◌^◌, List, Option, Some, ⊤, MatchOption, codes, map, option_map}
 use Rattle.std.specs.Str.Parse.{IsNumeral, digits_value, without_leading_plus}
 use Rattle.clap.specs.Words.{IsAmong, Kinds, Row, Text, all_of, first_of, kind_of, one_of}
 use Rattle.dm_options.specs.declared.command_line.MachineOptions.{MachineOptions}
+use Rattle.dm_options.specs.declared.command_line.DebugOptions.{DebugOptions}
 use Rattle.dm_options.specs.declared.command_line.AsmOptions.{AsmOptions}
 use Rattle.dm_options.specs.declared.command_line.Options.{Options}
 use Rattle.dm_options.specs.declared.command_line.Options.TheVariants as command
@@ -27,6 +28,11 @@ pub record HasMachineOptions (rows : List Row) (o : MachineOptions) : Type 0 whe
   pub tail : first_of (codes "tail") rows ≡ Some o.tail.now
   pub files : all_of (codes "files") rows ≡ Some (map (λ s. s.now) o.files.items)
 
+-- the rows of the arguments, and the options of a debugger
+pub record HasDebugOptions (rows : List Row) (o : DebugOptions) : Type 0 where
+  pub machine : HasMachineOptions rows o.machine
+  pub input : first_of (codes "input") rows ≡ option_map (λ s. s.now) o.input
+
 -- the rows of the arguments, and the two paths
 pub record HasAsmOptions (rows : List Row) (o : AsmOptions) : Type 0 where
   pub input : first_of (codes "in") rows ≡ Some o.input.now
@@ -35,6 +41,7 @@ pub record HasAsmOptions (rows : List Row) (o : AsmOptions) : Type 0 where
 -- the subcommand with its rows, and the options
 abbrev pub HasOptions : Text × List Row → Options → Type 0
 HasOptions given (command.Run o) = (given.0 ≡ codes "run") × HasMachineOptions given.1 o
+HasOptions given (command.Debug o) = (given.0 ≡ codes "debug") × HasDebugOptions given.1 o
 HasOptions given (command.Asm o) = (given.0 ≡ codes "asm") × HasAsmOptions given.1 o
 HasOptions given (command.Disasm path) = (given.0 ≡ codes "disasm") × (first_of (codes "in") given.1 ≡ Some path.now)
 

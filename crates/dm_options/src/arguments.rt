@@ -1,7 +1,7 @@
 //! The commands and arguments of `dm`, as `clap` is given them.
 ghost use Rattle.std.specs.Prelude.{◌≡◌, IfOk, false};
 ghost use Rattle.clap.specs.Words.{app_of, rule_of};
-ghost use Rattle.dm_options.specs.Arguments.{asm_app, disasm_app, dm_app, ems_rule, files_rule, path_rule, run_app, steps_rule, tail_rule, with_machine_rules, xms_rule};
+ghost use Rattle.dm_options.specs.Arguments.{asm_app, debug_app, disasm_app, dm_app, ems_rule, files_rule, input_rule, path_rule, run_app, steps_rule, tail_rule, with_machine_rules, xms_rule};
 ghost use Rattle.clap.specs.declared.Command.TheViews.{out-Command as fields_of};
 
 use clap::builder::ValueParser;
@@ -87,6 +87,24 @@ fn run_command<'a>(alloc: Global) -> Result<Command<'a>, AllocError>
     with_machine_args(alloc, command)
 }
 
+fn input_arg<'a>(alloc: Global) -> Arg<'a>
+    ensures rule { rule_of result ≡ input_rule }
+    ensures local { result.global ≡ false }
+{
+    Arg::new(alloc, "input")
+        .long("input")
+        .value_name("FILE")
+        .help("the file of the program's input")
+}
+
+fn debug_command<'a>(alloc: Global) -> Result<Command<'a>, AllocError>
+    ensures app { IfOk result (λ c. app_of c ≡ debug_app) }
+    ensures local { IfOk result (λ c. (fields_of c).has_globals ≡ false) }
+{
+    let command = Command::new(alloc, "debug").about("debug a program");
+    with_machine_args(alloc, command)?.arg(input_arg(alloc))
+}
+
 /// An argument that is the path of one file.
 fn path_arg<'a>(
     alloc: Global,
@@ -130,6 +148,7 @@ pub(crate) fn dm_command<'a>(alloc: Global) -> Result<Command<'a>, AllocError>
         .about("a DOS real-mode machine")
         .subcommand_required(true)
         .subcommand(run_command(alloc)?)?
+        .subcommand(debug_command(alloc)?)?
         .subcommand(asm_command(alloc)?)?
         .subcommand(disasm_command(alloc)?)
 }

@@ -17,6 +17,15 @@ pub struct MachineOptions<'a> {
     pub files: Vec<&'a str>,
 }
 
+/// How a machine is made that is debugged.
+#[derive(Debug, Drop)]
+pub struct DebugOptions<'a> {
+    /// How it is made, and what it runs; its number of steps does nothing.
+    pub machine: MachineOptions<'a>,
+    /// The path of the file of its console's input, from `--input`; with none there is no input.
+    pub input: Option<&'a str>,
+}
+
 /// What is assembled, and where its bytes go.
 #[derive(Clone, Copy, Debug)]
 pub struct AsmOptions<'a> {
@@ -31,6 +40,8 @@ pub struct AsmOptions<'a> {
 pub enum Options<'a> {
     /// `dm run`: runs the first file.
     Run(MachineOptions<'a>),
+    /// `dm debug`: debugs the first file.
+    Debug(DebugOptions<'a>),
     /// `dm asm`: assembles a text to a file.
     Asm(AsmOptions<'a>),
     /// `dm disasm`: tells the lines of the file at this path.

@@ -1,11 +1,11 @@
 //! Reading the words of a command line.
-ghost use Rattle.std.specs.Prelude.{◌≡◌, [], Some, IfOk, IfErr, IsSomeAnd, OnOk, codes, map};
+ghost use Rattle.std.specs.Prelude.{◌≡◌, [], Some, IfOk, IfErr, IsSomeAnd, OnOk, codes, map, option_map};
 ghost use Rattle.clap.specs.Words.{all_of, fault_of, first_of, found_of, one_of, rows_of, subcommand_of};
 ghost use Rattle.dm_options.specs.Arguments.{dm_app};
-ghost use Rattle.dm_options.specs.Options.{Explains, HasAsmOptions, HasMachineOptions, HasNumber, HasOptions};
+ghost use Rattle.dm_options.specs.Options.{Explains, HasAsmOptions, HasDebugOptions, HasMachineOptions, HasNumber, HasOptions};
 
 use crate::arguments::dm_command;
-use crate::command_line::{AsmOptions, MachineOptions, Options, OptionsError};
+use crate::command_line::{AsmOptions, DebugOptions, MachineOptions, Options, OptionsError};
 use clap::ArgMatches;
 use clap::error::ErrorKind;
 use std::alloc::{AllocError, Global};
@@ -30,6 +30,13 @@ fn text_of<'a>(matches: &ArgMatches<'a>, id: &str) -> Result<&'a str, AllocError
     ensures { IfOk result (λ s. first_of id.now (rows_of (found_of matches.now)) ≡ Some s.now) }
 {
     matches.get_str(id).ok_or(AllocError)
+}
+
+/// A text that may be left out.
+fn text_if_any<'a>(matches: &ArgMatches<'a>, id: &str) -> Option<&'a str>
+    ensures { first_of id.now (rows_of (found_of matches.now)) ≡ option_map (λ s. s.now) result }
+{
+    matches.get_str(id)
 }
 
 fn files_of<'a>(alloc: Global, matches: &ArgMatches<'a>) -> Result<Vec<&'a str>, AllocError>
@@ -60,6 +67,17 @@ fn machine_options<'a>(
     })
 }
 
+fn debug_options<'a>(
+    alloc: Global,
+    matches: &ArgMatches<'a>,
+) -> Result<DebugOptions<'a>, AllocError>
+    ensures { IfOk result (HasDebugOptions (rows_of (found_of matches.now))) }
+{
+    let machine = machine_options(alloc, matches)?;
+    let input = text_if_any(matches, "input");
+    Ok(DebugOptions { machine, input })
+}
+
 fn asm_options<'a>(matches: &ArgMatches<'a>) -> Result<AsmOptions<'a>, AllocError>
     ensures { IfOk result (HasAsmOptions (rows_of (found_of matches.now))) }
 {
@@ -77,6 +95,7 @@ fn read_subcommand<'a>(
 {
     match name {
         "run" => Ok(Options::Run(machine_options(alloc, matches)?)),
+        "debug" => Ok(Options::Debug(debug_options(alloc, matches)?)),
         "asm" => Ok(Options::Asm(asm_options(matches)?)),
         "disasm" => Ok(Options::Disasm(text_of(matches, "in")?)),
         _ => Err(AllocError),
@@ -89,7 +108,7 @@ fn read_subcommand<'a>(
 /// KIB are decimal numbers below 2^32, and there is at least one file. A number may begin with `+`. The defaults are
 /// 100000000, 64, 1024 and the empty text. An option that comes twice, or one that is unknown, is wrong.
 ///
-/// `dm asm IN OUT` and `dm disasm IN` take paths alone.
+/// `dm debug` takes the same, and `--input FILE`, which may be left out. `dm asm IN OUT` and `dm disasm IN` take paths alone.
 ///
 /// # Errors
 ///

@@ -1,4 +1,4 @@
-use Rattle.std.proofs.Common.{◌≤◌, length, rules, arith}
+use Rattle.std.proofs.Common.{rules}
 use Rattle.dm_cli.proofs.Cuts.{cut_past_end}
 use Rattle.dm_cli.proofs.files.read_whole.Goals as goal
 

@@ -1,16 +1,12 @@
 use Rattle.std.proofs.Common.{arith}
 use Rattle.dm_cli.proofs.Starts.{first_of}
-use Rattle.dm_cli.proofs.commands.loaded.Goals as goal
+use Rattle.dm_cli.proofs.loading.begun.Goals as goal
 
-pub returns-clause-started : goal.returns-clause-started
-returns-clause-started g c =
+pub returns-clause-begun : goal.returns-clause-begun
+returns-clause-begun c =
     let head = first_of (λ path. path.now) c.args.options.now.files.items c.in_ok-first.first.now
     (rw (c.ok_or.ensures.ok_part, c.in_ok-first.was, c.deref.ensures.value) at c.first.ensures.value) in
     record {
-      store = c.in_ok-programs.programs;
-      stores = rw (c.as_slice.ensures.value) at c.in_ok-programs.ensures.store;
-      input = c.in_ok-input.input.items;
-      read = c.in_ok-input.ensures.bytes;
       fresh = c.in_ok-machine.machine;
       new = rw (c.new.ensures.items) at c.in_ok-machine.ensures.ok;
       first = c.in_ok-first.first.now.now;

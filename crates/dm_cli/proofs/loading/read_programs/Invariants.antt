@@ -1,6 +1,6 @@
 use Rattle.std.proofs.Common.{map, take}
 use Rattle.dm_cli.specs.Stores.{Stores}
-use Rattle.dm_cli.proofs.commands.read_programs.Given as goal
+use Rattle.dm_cli.proofs.loading.read_programs.Given as goal
 
 -- the files so far are in the store, in their order
 abbrev pub invariant-loop-path : goal.invariant-loop-path

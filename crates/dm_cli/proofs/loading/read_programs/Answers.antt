@@ -1,6 +1,6 @@
 use Rattle.dm_cli.specs.Stores.{none}
 use Rattle.dm_cli.proofs.Starts.{stores_more}
-use Rattle.dm_cli.proofs.commands.read_programs.Goals as goal
+use Rattle.dm_cli.proofs.loading.read_programs.Goals as goal
 
 pub loop-path-init : goal.loop-path-init
 loop-path-init g c = rw c.new-programs.ensures none

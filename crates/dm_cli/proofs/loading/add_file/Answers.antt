@@ -1,8 +1,8 @@
-use Rattle.std.proofs.Common.{◌≡◌, ◌∙◌, Err, ap, sym, refl}
+use Rattle.std.proofs.Common.{Err, ap}
 use Rattle.std.proofs.lemmas.Result.{err_from_is_err_and}
 use Rattle.dm_cli.specs.Stores.{not_read}
 use Rattle.dm_cli.proofs.Starts.{fault_of_reading, fault_of_name, fault_of_store}
-use Rattle.dm_cli.proofs.commands.add_file.Goals as goal
+use Rattle.dm_cli.proofs.loading.add_file.Goals as goal
 
 pub returns-then-not-names_file-clause-fault : goal.returns-then-not-names_file-clause-fault
 returns-then-not-names_file-clause-fault g c = not_read

@@ -1,0 +1,127 @@
+//! The machine that a command begins with.
+ghost use Rattle.std.specs.Prelude.{◌≡◌, IfErr, IfOk, OnOk, map, option_map};
+ghost use Rattle.dm_cli.specs.Stores.{AddsFile, IsBegun, IsFaultOf, IsRead, IsStarted, Stores, bytes_if_any};
+ghost use Rattle.dm_state.specs.State.{HasProgram};
+
+use crate::fault::Fault;
+use crate::files::{Storage, read_file, read_whole};
+use crate::names::{names_file, program_name};
+use dm_machine::{Config, Machine, Programs, Sizes};
+use dm_options::command_line::{DebugOptions, MachineOptions};
+use std::alloc::Global;
+use std::io::Read;
+
+/// The most bytes of a command tail.
+const MOST_TAIL_BYTES: usize = 126;
+
+/// Adds the file at `path` to the store, under the last part of its path.
+fn add_file<'a, F: Storage>(
+    alloc: Global,
+    storage: &F,
+    programs: &mut Programs,
+    path: &'a str,
+) -> Result<(), Fault<'a>>
+    ensures ok { OnOk result (AddsFile (F.contents storage.now path.now) programs.old path.now programs.new) }
+    ensures fault { IfErr result (λ e. IsFaultOf (Fault.CannotRead path.entry) (F.contents storage.now path.now) programs.old path.now e) }
+{
+    if !names_file(path) {
+        return Err(Fault::CannotRead(path));
+    }
+    let bytes = read_file(alloc, storage, path)?;
+    let name = program_name(path)?;
+    match programs.add(alloc, name, bytes) {
+        Ok(()) => Ok(()),
+        Err(refusal) => Err(Fault::from(refusal)),
+    }
+}
+
+/// The store of the files at `paths`, each under the last part of its path.
+fn read_programs<'a, F: Storage>(
+    alloc: Global,
+    storage: &F,
+    paths: &[&'a str],
+) -> Result<Programs, Fault<'a>>
+    ensures store { IfOk result (λ store. Stores (F.contents storage.now) (map (λ path. path.now) paths.now) store) }
+{
+    let mut programs = Programs::new(alloc);
+    for path in paths {
+        add_file(alloc, storage, &mut programs, path)?;
+    }
+    Ok(programs)
+}
+
+/// A machine over a store and an input, with the first file loaded.
+fn begun<'a>(
+    alloc: Global,
+    options: &MachineOptions<'a>,
+    programs: Programs,
+    input: Vec<u8>,
+) -> Result<Machine, Fault<'a>>
+    ensures begun { IfOk result (IsBegun programs input.items
+        (record { ems_pages = options.now.ems_pages; xms_kib = options.now.xms_kib })
+        (map (λ path. path.now) options.now.files.items) options.now.tail.now) }
+    ensures loaded { IfOk result (λ machine. HasProgram machine) }
+{
+    let config = Config {
+        sizes: Sizes {
+            ems_pages: options.ems_pages,
+            xms_kib: options.xms_kib,
+        },
+        variables: Vec::new(alloc),
+    };
+    let mut machine = Machine::new(alloc, config, programs, input)?;
+    let tail = options.tail.as_bytes();
+    if tail.len() > MOST_TAIL_BYTES {
+        return Err(Fault::TailTooLong);
+    }
+    let first = options.files.first().ok_or(Fault::NotFound)?;
+    machine.load(program_name(first)?, tail)?;
+    Ok(machine)
+}
+
+/// A machine with the first file loaded, whose console reads what is typed.
+pub(crate) fn loaded<'a, F: Storage, I: Read + Drop>(
+    alloc: Global,
+    storage: &F,
+    options: &MachineOptions<'a>,
+    input: I,
+) -> Result<Machine, Fault<'a>>
+    ensures started { IfOk result (IsStarted (F.contents storage.now) (I.remaining input)
+        (record { ems_pages = options.now.ems_pages; xms_kib = options.now.xms_kib })
+        (map (λ path. path.now) options.now.files.items) options.now.tail.now) }
+    ensures loaded { IfOk result (λ machine. HasProgram machine) }
+{
+    let programs = read_programs(alloc, storage, options.files.as_slice())?;
+    let input = read_whole(alloc, input, "standard input")?;
+    begun(alloc, options, programs, input)
+}
+
+/// The bytes of a file that may be left out.
+fn read_if_any<'a, F: Storage>(
+    alloc: Global,
+    storage: &F,
+    path: Option<&'a str>,
+) -> Result<Vec<u8>, Fault<'a>>
+    ensures { IfOk result (λ v. IsRead (bytes_if_any (F.contents storage.now) (option_map (λ s. s.now) path.entry)) v.items) }
+{
+    match path {
+        Some(path) => read_file(alloc, storage, path),
+        None => Ok(Vec::new(alloc)),
+    }
+}
+
+/// A machine with the first file loaded, whose console reads the file of its input, if there is one.
+pub(crate) fn loaded_for_debug<'a, F: Storage>(
+    alloc: Global,
+    storage: &F,
+    options: &DebugOptions<'a>,
+) -> Result<Machine, Fault<'a>>
+    ensures started { IfOk result (IsStarted (F.contents storage.now) (bytes_if_any (F.contents storage.now) (option_map (λ s. s.now) options.now.input))
+        (record { ems_pages = options.now.machine.ems_pages; xms_kib = options.now.machine.xms_kib })
+        (map (λ path. path.now) options.now.machine.files.items) options.now.machine.tail.now) }
+    ensures loaded { IfOk result (λ machine. HasProgram machine) }
+{
+    let programs = read_programs(alloc, storage, options.machine.files.as_slice())?;
+    let input = read_if_any(alloc, storage, options.input)?;
+    begun(alloc, &options.machine, programs, input)
+}
