@@ -10,6 +10,10 @@ mod checks;
 #[cfg(test)]
 mod listings;
 #[cfg(test)]
+mod long;
+#[cfg(test)]
 mod player;
 #[cfg(test)]
 mod runs;
+#[cfg(test)]
+mod writers;
