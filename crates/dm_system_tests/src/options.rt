@@ -45,6 +45,33 @@ fn reads_options_and_files(rt: HostRuntime) -> Result<(), Fail> {
 }
 
 #[test]
+fn reads_options_of_a_debugger(rt: HostRuntime) -> Result<(), Fail> {
+    let cases = [
+        ("dm debug hi.com", 64, None, 1),
+        (
+            "dm debug --ems=2 --input a/b.txt hi.com ho.com",
+            2,
+            Some("a/b.txt"),
+            2,
+        ),
+        ("dm debug hi.com --input= --ems 3", 3, Some(""), 1),
+    ];
+    for (line, ems_pages, input, files) in cases {
+        let words: Vec<&str> = line.split(' ').collect(rt.alloc())?;
+        match options(rt.alloc(), words.as_slice()) {
+            Ok(Options::Debug(got)) => {
+                same(&rt, line, got.machine.ems_pages, ems_pages);
+                same(&rt, line, got.machine.steps, 100000000);
+                same(&rt, line, got.input, input);
+                same(&rt, line, got.machine.files.len(), files);
+            }
+            other => assert!(rt; false, "{line}: {other:?}"),
+        }
+    }
+    Ok(())
+}
+
+#[test]
 fn reads_paths(rt: HostRuntime) -> Result<(), Fail> {
     for (line, wanted) in [("dm disasm a/b.com", "a/b.com"), ("dm disasm -- -x", "-x")] {
         let words: Vec<&str> = line.split(' ').collect(rt.alloc())?;
@@ -85,6 +112,14 @@ fn refuses_wrong_lines_and_calls_for_help(rt: HostRuntime) -> Result<(), Fail> {
         ("dm run --ems=1 --ems=2 hi.com", ErrorKind::ArgumentConflict),
         ("dm run --speed=1 hi.com", ErrorKind::UnknownArgument),
         ("dm run hi.com --ems", ErrorKind::InvalidValue),
+        ("dm run --input=a hi.com", ErrorKind::UnknownArgument),
+        ("dm debug", ErrorKind::MissingRequiredArgument),
+        ("dm debug --input a", ErrorKind::MissingRequiredArgument),
+        ("dm debug hi.com --input", ErrorKind::InvalidValue),
+        (
+            "dm debug --input a --input b hi.com",
+            ErrorKind::ArgumentConflict,
+        ),
         ("dm asm", ErrorKind::MissingRequiredArgument),
         ("dm asm a.asm", ErrorKind::MissingRequiredArgument),
         ("dm asm a.asm b.com c", ErrorKind::UnknownArgument),
