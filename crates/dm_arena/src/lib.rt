@@ -3,7 +3,10 @@
 //!
 //! Nothing is kept beside those bytes: each call reads the list where it stands, and a program that
 //! has written over a header meets a destroyed arena, as it would under DOS. The list begins with
-//! the header at segment 0100h.
+//! the header at segment 0100h, and may go through the frame, upper memory and all that a program
+//! leads it to. But each of its headers needs a place of its own: where a write would be lost, or
+//! where two windows of the frame show one header twice, there is no list, and no call leaves one
+//! that is so.
 #![tactic(auto)]
 
 mod allocation;

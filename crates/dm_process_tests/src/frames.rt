@@ -39,15 +39,20 @@ fn show(space: &mut Space, window: usize, page: Option<Block>) {
     }
 }
 
+/// The page of a number.
+fn page_of(pages: &[Option<Block>; 2], number: u8) -> Option<Block> {
+    match number {
+        1 => pages[0],
+        2 => pages[1],
+        _ => None,
+    }
+}
+
 /// Lets the windows show pages, and writes headers.
 fn lay(space: &mut Space, windows: Windows, heads: &[Head]) {
-    let [first, second] = [space.take(16), space.take(16)];
+    let pages = [space.take(16), space.take(16)];
     for (window, number) in windows.iter().enumerate() {
-        match *number {
-            1 => show(space, window, first),
-            2 => show(space, window, second),
-            _ => {}
-        }
+        show(space, window, page_of(&pages, *number));
     }
     for (segment, signature, owner, size) in heads {
         space.poke(*segment, 0, *signature);
@@ -92,6 +97,13 @@ fn has_heads(rt: &impl Abort, space: &Space, heads: &[Head]) {
             (*segment, found),
             (*segment, (*owner, *size)),
         );
+    }
+}
+
+/// Compares headers, once their blocks are freed.
+fn are_freed(rt: &impl Abort, space: &Space, heads: &[Head]) {
+    for (segment, signature, _, size) in heads {
+        has_heads(rt, space, &[(*segment, *signature, 0, *size)]);
     }
 }
 
@@ -172,9 +184,7 @@ fn blocks_may_lie_anywhere(rt: HostRuntime) -> Result<(), Fail> {
         has_words(&rt, &space, words);
         let ending = procs.terminate(&mut cpu, &mut space, 0);
         same(&rt, "ending", ending, Ok(Ending::Returned));
-        for (segment, signature, _, size) in left {
-            has_heads(&rt, &space, &[(*segment, *signature, 0, *size)]);
-        }
+        are_freed(&rt, &space, left);
         same(&rt, "CS, IP", (cpu.cs, cpu.ip), (0x103, 0x1234));
     }
     Ok(())
@@ -298,16 +308,16 @@ fn first_program_frees_blocks_in_the_frame(rt: HostRuntime) -> Result<(), Fail> 
 #[test]
 fn overlays_may_lie_anywhere(rt: HostRuntime) -> Result<(), Fail> {
     let programs = store(rt.alloc())?;
-    // the load segment, and where the last two letters stand
-    let rows = [
-        (ONE, 0xE3FF, 0xE000, [b'Q', b'R']),
-        (TWO, 0xE3FF, 0xE000, [0, 0]),
-        (TWO, 0xE3FF, 0xE400, [b'Q', b'R']),
-        ([0, 0, 0, 1], 0xEFFF, 0xF000, [0xCF, 0xFF]),
-        ([0; 4], 0xCFFF, 0xD000, [b'Q', b'R']),
-        ([0; 4], 0xBFFF, 0xC000, [0xFF, 0xFF]),
+    // the load segment, the one behind its first paragraph, and the word there: `QR` is 5251h
+    let rows: [(Windows, u16, u16, u16); 6] = [
+        (ONE, 0xE3FF, 0xE000, 0x5251),
+        (TWO, 0xE3FF, 0xE000, 0),
+        (TWO, 0xE3FF, 0xE400, 0x5251),
+        ([0, 0, 0, 1], 0xEFFF, 0xF000, 0xFFCF),
+        ([0; 4], 0xCFFF, 0xD000, 0x5251),
+        ([0; 4], 0xBFFF, 0xC000, 0xFFFF),
     ];
-    for (windows, segment, behind, letters) in rows {
+    for (windows, segment, behind, word) in rows {
         let mut space = new_space(rt.alloc())?;
         let (_procs, mut cpu) = started(&mut space).expect(&rt, "there is room");
         lay(&mut space, windows, &[]);
@@ -316,7 +326,8 @@ fn overlays_may_lie_anywhere(rt: HostRuntime) -> Result<(), Fail> {
         space.poke16(0x103, 0x300, segment);
         space.poke16(0x103, 0x302, 0);
         same(&rt, "overlay", overlay(&cpu, &mut space, &programs), Ok(()));
-        holds(&rt, "letters", &space, (behind, 0), &letters);
+        let found = (segment, behind, space.peek16(behind, 0));
+        same(&rt, "word in memory", found, (segment, behind, word));
     }
     Ok(())
 }
