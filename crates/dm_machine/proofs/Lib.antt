@@ -8,3 +8,4 @@ mod NoRoom
 mod Rooms
 mod Links
 mod UntilLaws
+mod UntilRuns

@@ -19,4 +19,4 @@ pub use laws::{
 };
 pub use loading::LoadError;
 pub use machine::{Machine, NewError};
-pub use until::Breakpoint;
+pub use until::{Breakpoint, a_run_until_is_a_run};
