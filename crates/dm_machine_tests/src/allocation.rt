@@ -197,3 +197,40 @@ fn a_destroyed_arena(rt: HostRuntime) -> Result<(), Fail> {
     }
     Ok(())
 }
+
+#[test]
+fn headers_above_conventional_memory(rt: HostRuntime) -> Result<(), Fail> {
+    // the program's block ends at 1100h, and one free block goes on to FFFFh
+    let long = [
+        Put(0x0102, 0, b"M"),
+        Put(0x0102, 3, &[0xFD, 0x0F]),
+        Put(0x1100, 0, &[b'Z', 0, 0, 0xFE, 0xEE]),
+    ];
+    let rows: [(&str, &[Act]); 4] = [
+        (
+            "nothing at C000h",
+            &[Reach([0x4800, 0xAEFF, 0, 0, 0]), Refuses(7)],
+        ),
+        (
+            "ROM at F000h",
+            &[Reach([0x4800, 0xDEFF, 0, 0, 0]), Refuses(7)],
+        ),
+        (
+            "BFFFh",
+            &[
+                Call([0x4800, 0xAEFE, 0, 0, 0], [0x1101, 0xAEFE, 0]),
+                Holds(0xBFFF, 0, &[b'Z', 0, 0, 0xFF, 0x3F]),
+            ],
+        ),
+        (
+            "all of it",
+            &[Call([0x4800, 0xEEFE, 0, 0, 0], [0x1101, 0xEEFE, 0])],
+        ),
+    ];
+    for (name, acts) in rows {
+        let mut machine = caller(rt.alloc(), b"")?;
+        play(&rt, &mut machine, name, &long);
+        play(&rt, &mut machine, name, acts);
+    }
+    Ok(())
+}

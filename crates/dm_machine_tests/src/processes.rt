@@ -181,13 +181,13 @@ const BEYOND_MEMORY: [Act; 3] = [
 ];
 
 #[test]
-fn the_last_list_has_a_header_at_a000h(rt: HostRuntime) -> Result<(), Fail> {
-    // one paragraph less has room: the header behind it stands at 9FFFh
+fn the_last_list_has_a_header_on_no_memory(rt: HostRuntime) -> Result<(), Fail> {
+    // one paragraph less has room: the header behind it stands at BFFFh
     let last = [
         Run(1, Stop::Steps),
-        Holds(0x9FFF, 0, &[b'Z', 0, 0, 0x00, 0x40]),
+        Holds(0xBFFF, 0, &[b'Z', 0, 0, 0x00, 0x20]),
     ];
-    let rows: [(u16, &[Act]); 2] = [(0x8EE9, &[Refuses(7)]), (0x8EE8, &last)];
+    let rows: [(u16, &[Act]); 2] = [(0xAEE9, &[Refuses(7)]), (0xAEE8, &last)];
     for (minimum, acts) in rows {
         let mut machine = caller_of(rt.alloc(), b"HI.EXE", &mz(minimum), b"")?;
         play(&rt, &mut machine, "beyond memory", &BEYOND_MEMORY);
