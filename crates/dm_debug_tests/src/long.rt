@@ -9,6 +9,12 @@ use std::test::Fail;
 /// JMP SHORT 0100h
 const TURNING: &[u8] = b"\xEB\xFE";
 
+/// Compares how many lines are told, and the last of them.
+fn compare(rt: &impl Abort, line: &str, found: &str, wanted: (usize, &str)) {
+    same(rt, line, found.lines().count(), wanted.0);
+    same(rt, line, found.lines().last(), Some(wanted.1));
+}
+
 /// Answers a line, and compares how many lines are told, and the last of them.
 fn ends(
     rt: &impl Abort,
@@ -20,9 +26,7 @@ fn ends(
     let mut session = session(alloc, program, b"")?;
     let mut text = Vec::new(alloc);
     answer(alloc, &mut session, line.as_bytes(), &mut text)?;
-    let found = str::from_utf8(text.as_slice())?;
-    same(rt, line, found.lines().count(), wanted.0);
-    same(rt, line, found.lines().last(), Some(wanted.1));
+    compare(rt, line, str::from_utf8(text.as_slice())?, wanted);
     Ok(())
 }
 
