@@ -1,4 +1,6 @@
 //! Programs that start programs, load overlays and end.
+ghost use Rattle.std.specs.Prelude.{◌≡◌};
+
 use crate::acts::Act::{Call, Has, Holds, Load, Output, Put, Reach, Refuses, Run, Stays, Steps};
 use crate::acts::Register::{Ax, Bx, Carry, Cs, Ds, Es, Ip, Sp, Ss};
 use crate::acts::{Act, BEHIND_CALL, BLOCK, NAME, caller_of, play};
@@ -6,7 +8,7 @@ use crate::allocation::SHRINK;
 use crate::checks::same;
 use crate::machines::{SEGMENT, loaded_as, machine_with, store, sum_of_memory};
 use crate::starts::HELLO;
-use dm_machine::{LoadError, Stop};
+use dm_machine::{LoadError, Machine, Stop};
 use std::alloc::Global;
 use std::process::Abort;
 use std::test::Fail;
@@ -238,6 +240,13 @@ fn an_overlay_is_relocated(rt: HostRuntime) -> Result<(), Fail> {
     play_with_mz(&rt, rt.alloc(), &mz(0), &acts)
 }
 
+/// Loads the program of that name as the first one.
+fn load_exe(machine: &mut Machine) -> Result<(), LoadError>
+    requires { machine.old.processes.present ≡ 0 }
+{
+    machine.load(b"HI.EXE", b"")
+}
+
 /// The load of a file as first program answers so, and leaves this first word of its image.
 fn is_first(
     rt: &impl Abort,
@@ -246,7 +255,7 @@ fn is_first(
 ) -> Result<(), Fail> {
     let mut machine = machine_with(alloc, store(alloc, b"HI.EXE", file)?, b"", b"")?;
     let before = sum_of_memory(&machine);
-    same(rt, "load", machine.load(b"HI.EXE", b""), answer);
+    same(rt, "load", load_exe(&mut machine), answer);
     let stays = sum_of_memory(&machine) == before;
     same(rt, "memory stays", stays, answer.is_err());
     let found = [machine.peek(0x0113, 0), machine.peek(0x0113, 1)];
