@@ -3,7 +3,8 @@
 use crate::acts::Act::{Asks, Call, Far, Holds, Put};
 use crate::acts::Register::{Ax, Bx, Dx, Es};
 use crate::acts::{Act, BUFFER, FROM, USUAL, act_on, caller, play, play_on};
-use dm_machine::Sizes;
+use crate::checks::same;
+use dm_machine::{Sizes, Stop};
 use std::test::Fail;
 
 /// 09h: a block of 1 KiB for handle 1.
@@ -24,6 +25,35 @@ fn the_driver_is_found(rt: HostRuntime) -> Result<(), Fail> {
         Far(0xFF00, &[], &[(Ax, 0), (Bx, 0x1B80)]),
     ];
     play(&rt, rt.alloc(), USUAL, "the driver", &acts)
+}
+
+#[test]
+fn the_drivers_act_at_their_places_alone(rt: HostRuntime) -> Result<(), Fail> {
+    // The linear addresses of both places under another segment, where RETF and IRET stand, and HLT behind the call; AX stays.
+    let rows: [(&str, &[u8], u16); 2] = [
+        // MOV AX,0; CALL FAR F040:0000; HLT
+        (
+            "extended memory",
+            &[0xB8, 0, 0, 0x9A, 0x00, 0x00, 0x40, 0xF0, 0xF4],
+            0,
+        ),
+        // MOV AX,4300h; PUSHF; CALL FAR F00B:000C; HLT
+        (
+            "INT 2Fh",
+            &[0xB8, 0x00, 0x43, 0x9C, 0x9A, 0x0C, 0x00, 0x0B, 0xF0, 0xF4],
+            0x4300,
+        ),
+    ];
+    for (row, program, ax) in rows {
+        let mut machine = caller(rt.alloc(), USUAL)?;
+        let bx = machine.cpu().bx;
+        play_on(&rt, &mut machine, row, &[Put(0x0103, 0x0100, program)]);
+        same(&rt, row, machine.run(100), Stop::Halted);
+        let cpu = machine.cpu();
+        same(&rt, row, [cpu.ax, cpu.bx], [ax, bx]);
+        same(&rt, row, cpu.sp, 0xFFFE);
+    }
+    Ok(())
 }
 
 #[test]
@@ -178,6 +208,48 @@ fn new_blocks_are_zeros(rt: HostRuntime) -> Result<(), Fail> {
         Far(0x0B00, &[], &[(Ax, 0), (Bx, 0x1BA3)]),
     ];
     play(&rt, rt.alloc(), USUAL, "zeros", &acts)
+}
+
+#[test]
+fn a_block_may_begin_behind_120000h(rt: HostRuntime) -> Result<(), Fail> {
+    let acts = [
+        Far(0x0900, &[(Dx, 0x0041)], &[(Ax, 1), (Dx, 1)]),
+        Far(0x0900, &[(Dx, 1)], &[(Ax, 1), (Dx, 2)]),
+        // 41h KiB behind 110000h: 120400h.
+        Far(0x0C00, &[(Dx, 2)], &[(Ax, 1), (Dx, 0x0012), (Bx, 0x0400)]),
+        Far(0x0D00, &[(Dx, 1)], &[(Ax, 0), (Bx, 0x1BAA)]),
+        Far(0x0D00, &[(Dx, 2)], &[(Ax, 1)]),
+        Far(0x0D00, &[(Dx, 3)], &[(Ax, 0), (Bx, 0x1BA2)]),
+        Far(0x0C00, &[(Dx, 1)], &[(Ax, 1), (Dx, 0x0011), (Bx, 0)]),
+        // It is locked.
+        Far(0x0A00, &[(Dx, 1)], &[(Ax, 0), (Bx, 0x1BAB)]),
+        Far(0x0A00, &[(Dx, 2)], &[(Ax, 1)]),
+    ];
+    play(&rt, rt.alloc(), USUAL, "behind 120000h", &acts)
+}
+
+#[test]
+fn a_move_is_told_at_ds_si(rt: HostRuntime) -> Result<(), Fail> {
+    let acts = [
+        ONE_BLOCK,
+        Put(BUFFER, 0, &[0x41, 0x42]),
+        // Two bytes of the buffer come to the block; at ES:SI and DS:DI zeros stand, a length of 0.
+        Put(
+            BUFFER,
+            FROM,
+            &[2, 0, 0, 0, 0, 0, 0, 0, 0x00, 0x50, 1, 0, 0, 0, 0, 0],
+        ),
+        Far(0x0B00, &[(Es, 0x6000)], &[(Ax, 1)]),
+        // And back, to 5000:0010.
+        Put(
+            BUFFER,
+            FROM,
+            &[2, 0, 0, 0, 1, 0, 0, 0, 0, 0, 0, 0, 0x10, 0, 0x00, 0x50],
+        ),
+        Far(0x0B00, &[(Es, 0x6000)], &[(Ax, 1)]),
+        Holds(BUFFER, 0x10, &[0x41, 0x42, 0]),
+    ];
+    play(&rt, rt.alloc(), USUAL, "DS:SI", &acts)
 }
 
 #[test]
