@@ -199,6 +199,33 @@ A20 on HMA used
 > D FFFF:0013 1
 FFFF:0013 00  .";
 
+/// MOV AH,43h; MOV BX,1; INT 67h; MOV AX,4400h; MOV BX,0; INT 67h; MOV AH,48h; MOV BX,10h; INT 21h; HLT
+const IN_FRAME: &[u8] =
+    b"\xB4\x43\xBB\x01\x00\xCD\x67\xB8\x00\x44\xBB\x00\x00\xCD\x67\xB4\x48\xBB\x10\x00\xCD\x21\xF4";
+
+/// The list goes on in the frame, where window 0 shows a page: a block is taken there.
+const TAKEN_IN_FRAME: &str = "\
+> G 8
+steps
+AX=0000 BX=0000 CX=0000 DX=0001 SP=FFFE BP=0000 SI=0000 DI=0000
+DS=0103 ES=0103 SS=0103 CS=0103 IP=010F FL=F202
+0103:010F B448 MOV AH,048h
+> E 0102:0 4D0301FDDE
+ok
+> E E000:0 5A0000FF0F
+ok
+> G
+halted
+AX=E001 BX=0010 CX=0000 DX=0001 SP=FFFE BP=0000 SI=0000 DI=0000
+DS=0103 ES=0103 SS=0103 CS=0103 IP=0116 FL=F202
+0103:0116 F4 HLT
+> M
+0100 M 0103 0001
+0102 M 0103 DEFD
+E000 M 0103 0010
+E011 Z 0000 0FEE
+end";
+
 #[test]
 fn registers_are_told_at_the_start(rt: HostRuntime) -> Result<(), Fail> {
     play(&rt, rt.alloc(), HI, START)
@@ -217,6 +244,11 @@ fn bytes_are_told_in_lines_of_16(rt: HostRuntime) -> Result<(), Fail> {
 #[test]
 fn arena_is_told_up_to_what_breaks_it(rt: HostRuntime) -> Result<(), Fail> {
     play(&rt, rt.alloc(), HI, ARENA)
+}
+
+#[test]
+fn a_list_in_the_frame_is_told(rt: HostRuntime) -> Result<(), Fail> {
+    play(&rt, rt.alloc(), IN_FRAME, TAKEN_IN_FRAME)
 }
 
 #[test]
