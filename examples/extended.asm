@@ -1,0 +1,33 @@
+; Asks where the extended memory driver is called, takes a block of 16 KiB, copies a line into it and back to another place, gives the
+; block back and prints what came back.
+        MOV AX,4310h            ; the driver's address
+        INT 2Fh
+        MOV [driver],BX
+        MOV WORD [driver+2],ES
+        MOV AH,9                ; a block of 16 KiB, whose handle is DX
+        MOV DX,16
+        CALL FAR [driver]
+        MOV WORD [there+8],DS
+        MOV [there+10],DX
+        MOV [back+4],DX
+        MOV WORD [back+14],DS
+        MOV SI,there            ; the line into the block
+        MOV AH,0Bh
+        CALL FAR [driver]
+moved:  MOV SI,back             ; and back, to another place
+        MOV AH,0Bh
+        CALL FAR [driver]
+        MOV DX,[back+4]
+        MOV AH,0Ah              ; the block is given back
+        CALL FAR [driver]
+        MOV AH,9
+        MOV DX,room
+        INT 21h
+        MOV AX,4C00h
+        INT 21h
+
+driver: DW 0,0
+there:  DW 14,0,0,line,0,0,0,0  ; length, handle and offset of the source, of the destination
+back:   DW 14,0,0,0,0,0,room,0
+line:   DB 'far and back',10,'$'
+room:   DB '              '
