@@ -1,37 +1,21 @@
 -- Lists whose headers lie end to end.
-use Rattle.std.proofs.Common.{◌≡◌, ℕ, ◌<◌, ◌≤◌, Bool, true, false, cond, ◌&&◌, List, [], ◌∷◌, ◌++◌, ◌⊎◌, inl, inr, refl, sym, subst, arith}
+use Rattle.std.proofs.Common.{◌≡◌, ℕ, ◌<◌, ◌≤◌, Bool, true, false, cond, ◌&&◌, List, [], ◌∷◌, ◌++◌, ◌⊎◌, inl, inr, refl, sym, ap, ap₂, subst, arith}
 use Rattle.dm_space.specs.Memory.{Memory}
-use Rattle.dm_arena.specs.declared.header.Header.{Header}
-use Rattle.dm_arena.specs.Chain.{Spells, HasHeader, next}
-use Rattle.dm_arena.specs.Blocks.{is_free, merge, join, join_after}
+use Rattle.dm_blocks.specs.declared.header.Header.{Header}
+use Rattle.dm_blocks.specs.Chain.{Spells, HasHeader, next}
+use Rattle.dm_blocks.specs.Chain.{is_free}
+use Rattle.dm_arena.specs.Blocks.{merge, join, join_after}
 use Rattle.dm_arena.specs.Walks.{Fills}
-use Rattle.dm_arena.proofs.Chains.{has_right}
+use Rattle.dm_blocks.proofs.Chains.{has_right}
 
 pub bool_cases : (b : Bool) → (b ≡ true) ⊎ (b ≡ false)
 bool_cases true = inl refl
 bool_cases false = inr refl
 
-pub join_after-cond : (b c : Header) (L : List Header) (r : Bool) → is_free b && is_free c ≡ r → join_after b (c ∷ L) ≡ cond r (join_after (merge b c) L) (b ∷ join_after c L)
-join_after-cond b c L r e = rw e refl
-
 -- lists that lie end to end rise
 pub fills_of : (S : Memory) (h : ℕ) (L : List Header) → Spells S h L → (t : ℕ) × Fills h L t
 fills_of S h [] s = (h, refl)
 fills_of S h (b ∷ L) s = let r = fills_of S (next b) L s.2 in (r.0, (s.0, r.1))
-
-join_after-end_to_end : (b : Header) (L : List Header) (t : ℕ) → Fills (next b) L t → Fills b.segment (join_after b L) t
-join_after-end_to_end b [] t f = (refl, f)
-join_after-end_to_end b (c ∷ L) t f =
-    let F : List Header → Type 0 = λ X. Fills b.segment X t in
-    let at : next c ≡ next (merge b c) = (let x = f.0 in omega arith) in
-    elim (bool_cases (is_free b && is_free c)) [
-      | inl e ↦ subst F (sym (join_after-cond b c L true e)) (join_after-end_to_end (merge b c) L t (let G : ℕ → Type 0 = λ z. Fills z L t in subst G at f.1))
-      | inr e ↦ subst F (sym (join_after-cond b c L false e)) (refl, (let G : ℕ → Type 0 = λ z. Fills z (join_after c L) t in subst G f.0 (join_after-end_to_end c L t f.1)))
-    ]
-
-pub join_fills : (S : Memory) (h : ℕ) (L : List Header) → Spells S h L → (t : ℕ) × (g : ℕ) × Fills g (join L) t
-join_fills S h [] s = (h, h, refl)
-join_fills S h (b ∷ L) s = let r = fills_of S (next b) L s.2 in (r.0, b.segment, join_after-end_to_end b L r.0 r.1)
 
 pub fills_above : (h t : ℕ) (L : List Header) → Fills h L t → (g : ℕ) → HasHeader L g → h ≤ g
 fills_above h t [] f g w = absurd w
@@ -67,3 +51,45 @@ fills_replaced h t [] b C Q f c = start h C f.0 c
     start : (h : ℕ) (C : List Header) → b.segment ≡ h → Fills b.segment C (next b) → Fills h (C ++ Q) t
     start h C e g = (let F : ℕ → Type 0 = λ x. Fills x C (next b) in on h C (subst F e g))
 fills_replaced h t (p ∷ P) b C Q f c = (f.0, fills_replaced (next p) t P b C Q f.1 c)
+
+-- a list has one header at a segment
+head-same : (b c : Header) (L M : List Header) → b ∷ L ≡ c ∷ M → b ≡ c
+head-same b c L M e = cc
+
+tail-same : (b c : Header) (L M : List Header) → b ∷ L ≡ c ∷ M → L ≡ M
+tail-same b c L M e = cc
+
+pub split_unique : (h t : ℕ) (P : List Header) (b : Header) (Q P' : List Header) (b' : Header) (Q' : List Header) → Fills h (P ++ b ∷ Q) t → P ++ b ∷ Q ≡ P' ++ b' ∷ Q' → b.segment ≡ b'.segment → (P ≡ P') × (b ≡ b') × (Q ≡ Q')
+split_unique h t [] b Q [] b' Q' f e s = (refl, head-same _ _ _ _ e, tail-same _ _ _ _ e)
+split_unique h t [] b Q (p' ∷ P') b' Q' f e s =
+    let F : List Header → Type 0 = λ X. HasHeader X b'.segment in
+    let w : HasHeader Q b'.segment = subst F (sym (tail-same _ _ _ _ e)) (has_right P' (b' ∷ Q') _ (inl refl)) in
+    let y = fills_above (next b) t Q f.1 _ w in
+    absurd (omega arith)
+split_unique h t (p ∷ P) b Q [] b' Q' f e s =
+    let w : HasHeader (P ++ b ∷ Q) b.segment = has_right P (b ∷ Q) _ (inl refl) in
+    let y = fills_above (next p) t (P ++ b ∷ Q) f.1 _ w in
+    let z : p ≡ b' = head-same _ _ _ _ e in
+    let v : p.segment ≡ b'.segment = ap (λ x. x.segment) z in
+    absurd (omega arith)
+split_unique h t (p ∷ P) b Q (p' ∷ P') b' Q' f e s =
+    let r = split_unique (next p) t P b Q P' b' Q' f.1 (tail-same _ _ _ _ e) s in
+    (ap₂ (λ x y. x ∷ y) (head-same _ _ _ _ e) r.0, r.1, r.2)
+
+module _ (up : Bool) where
+  pub join_after-cond : (b c : Header) (L : List Header) (r : Bool) → is_free up b && is_free up c ≡ r → join_after up b (c ∷ L) ≡ cond r (join_after up (merge b c) L) (b ∷ join_after up c L)
+  join_after-cond b c L r e = rw e refl
+
+  join_after-end_to_end : (b : Header) (L : List Header) (t : ℕ) → Fills (next b) L t → Fills b.segment (join_after up b L) t
+  join_after-end_to_end b [] t f = (refl, f)
+  join_after-end_to_end b (c ∷ L) t f =
+      let F : List Header → Type 0 = λ X. Fills b.segment X t in
+      let at : next c ≡ next (merge b c) = (let x = f.0 in omega arith) in
+      elim (bool_cases (is_free up b && is_free up c)) [
+        | inl e ↦ subst F (sym (join_after-cond b c L true e)) (join_after-end_to_end (merge b c) L t (let G : ℕ → Type 0 = λ z. Fills z L t in subst G at f.1))
+        | inr e ↦ subst F (sym (join_after-cond b c L false e)) (refl, (let G : ℕ → Type 0 = λ z. Fills z (join_after up c L) t in subst G f.0 (join_after-end_to_end c L t f.1)))
+      ]
+
+  pub join_fills : (S : Memory) (h : ℕ) (L : List Header) → Spells S h L → (t : ℕ) × (g : ℕ) × Fills g (join up L) t
+  join_fills S h [] s = (h, h, refl)
+  join_fills S h (b ∷ L) s = let r = fills_of S (next b) L s.2 in (r.0, b.segment, join_after-end_to_end b L r.0 r.1)

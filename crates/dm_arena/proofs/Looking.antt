@@ -2,12 +2,14 @@
 use Rattle.std.proofs.Common.{◌≡◌, ◌≢◌, ℕ, ◌*◌, ◌≤◌, Bool, true, false, MatchBool, List, [], ◌∷◌, ◌⊎◌, inl, inr, refl, sym, ◌∙◌, ap, subst}
 use Rattle.dm_space.specs.declared.place.Place.{Place}
 use Rattle.dm_space.specs.Memory.{Memory, place}
-use Rattle.dm_arena.specs.declared.header.Header.{Header}
-use Rattle.dm_arena.specs.declared.header.Entry.{Entry}
-use Rattle.dm_arena.specs.Chain.{IsNonEmpty, Spells, next}
+use Rattle.dm_blocks.specs.declared.header.Header.{Header}
+use Rattle.dm_blocks.specs.declared.header.Entry.{Entry}
+use Rattle.dm_blocks.specs.Chain.{IsNonEmpty, Spells, next}
 use Rattle.dm_arena.specs.Blocks.{join}
-use Rattle.dm_arena.specs.Standing.{AreOutside, Occupies, OccupiesOutside}
-use Rattle.dm_arena.specs.Walks.{is_nil, IsFront, IsJoinedFront, IsLooking, IsLookingOutside, IsSpelledFrom}
+use Rattle.dm_blocks.specs.Standing.{Occupies}
+use Rattle.dm_arena.specs.Standing.{AreOutside, OccupiesOutside}
+use Rattle.dm_blocks.specs.Reading.{is_nil, IsFront, IsSpelledFrom}
+use Rattle.dm_arena.specs.Walks.{IsJoinedFront, IsLooking, IsLookingOutside}
 
 nil_of : (X : List Header) → is_nil X ≡ true → X ≡ []
 nil_of [] e = refl
@@ -22,41 +24,6 @@ spelled_at S e N last rest l t ist = record {
   nonempty = nonempty_by N (sym last ∙ l);
   spells = (let F : ℕ → Type 0 = λ x. Spells S x N in subst F (sym ist) rest);
 }
-
--- among the headers of the joined list
-pub looking-start : (S : Memory) (h : ℕ) (L : List Header) (p : Place) → IsSpelledFrom S h L → IsLooking S L p h L
-looking-start S h L p s = record { spelled = s; forth = λ o. o; back = λ o. o }
-
-module _ (S : Memory) (L : List Header) (p : Place) (h : ℕ) (K : List Header) (l : IsLooking S L p h K) (e : Entry) (there : e.header.segment ≡ h) (N : List Header) (f : IsJoinedFront S K e N) where
-  pub looked-here : place S (16 * h) ≡ p → Occupies S (join L) p
-  looked-here is =
-      let F : List Header → Type 0 = λ X. Occupies S X p in
-      l.back (subst F (sym f.is) (record { segment = e.header.segment; has = inl refl; is = ap (λ x. place S (16 * x)) there ∙ is }))
-
-  rest-of : place S (16 * h) ≢ p → Occupies S (join L) p → Occupies S (join N) p
-  rest-of ne o =
-      let F : List Header → Type 0 = λ X. Occupies S X p in
-      let x : Occupies S (e.header ∷ join N) p = subst F f.is (l.forth o) in
-      elim x.has [
-        | inl q ↦ absurd (ne (ap (λ y. place S (16 * y)) (sym there ∙ q) ∙ x.is))
-        | inr w ↦ record { segment = x.segment; has = w; is = x.is }
-      ]
-
-  pub looked-none : place S (16 * h) ≢ p → e.last ≡ true → Occupies S (join L) p → ⊥
-  looked-none ne last o =
-      let F : List Header → Type 0 = λ X. Occupies S (join X) p in
-      let x : Occupies S [] p = subst F (nil_of N (sym f.last ∙ last)) (rest-of ne o) in
-      x.has
-
-  pub looked-more : place S (16 * h) ≢ p → e.last ≡ false → (t : ℕ) → t ≡ next e.header → (M : List Header) × IsLooking S L p t M
-  looked-more ne last t ist = (
-    N,
-    record {
-      spelled = spelled_at S e N f.last f.rest last t ist;
-      forth = rest-of ne;
-      back = λ o. (let F : List Header → Type 0 = λ X. Occupies S X p in l.back (subst F (sym f.is) (record { segment = o.segment; has = inr o.has; is = o.is })));
-    },
-  )
 
 -- among those that are not between two segments
 pub outside-start : (S : Memory) (h : ℕ) (L : List Header) (low high : ℕ) (p : Place) → IsSpelledFrom S h L → IsLookingOutside S L low high p h L
@@ -106,3 +73,39 @@ module _ (S : Memory) (L : List Header) (low high : ℕ) (p : Place) (h : ℕ) (
 pub outside-decides : (r : Bool) (A B : Type 0) → A → MatchBool r B (B → ⊥) → MatchBool r (A × B) (A → B → ⊥)
 outside-decides true A B a b = (a, b)
 outside-decides false A B a b = λ _. b
+
+module _ (up : Bool) where
+  -- among the headers of the joined list
+  pub looking-start : (S : Memory) (h : ℕ) (L : List Header) (p : Place) → IsSpelledFrom S h L → IsLooking up S L p h L
+  looking-start S h L p s = record { spelled = s; forth = λ o. o; back = λ o. o }
+
+  module _ (S : Memory) (L : List Header) (p : Place) (h : ℕ) (K : List Header) (l : IsLooking up S L p h K) (e : Entry) (there : e.header.segment ≡ h) (N : List Header) (f : IsJoinedFront up S K e N) where
+    pub looked-here : place S (16 * h) ≡ p → Occupies S (join up L) p
+    looked-here is =
+        let F : List Header → Type 0 = λ X. Occupies S X p in
+        l.back (subst F (sym f.is) (record { segment = e.header.segment; has = inl refl; is = ap (λ x. place S (16 * x)) there ∙ is }))
+
+    rest-of : place S (16 * h) ≢ p → Occupies S (join up L) p → Occupies S (join up N) p
+    rest-of ne o =
+        let F : List Header → Type 0 = λ X. Occupies S X p in
+        let x : Occupies S (e.header ∷ join up N) p = subst F f.is (l.forth o) in
+        elim x.has [
+          | inl q ↦ absurd (ne (ap (λ y. place S (16 * y)) (sym there ∙ q) ∙ x.is))
+          | inr w ↦ record { segment = x.segment; has = w; is = x.is }
+        ]
+
+    pub looked-none : place S (16 * h) ≢ p → e.last ≡ true → Occupies S (join up L) p → ⊥
+    looked-none ne last o =
+        let F : List Header → Type 0 = λ X. Occupies S (join up X) p in
+        let x : Occupies S [] p = subst F (nil_of N (sym f.last ∙ last)) (rest-of ne o) in
+        x.has
+
+    pub looked-more : place S (16 * h) ≢ p → e.last ≡ false → (t : ℕ) → t ≡ next e.header → (M : List Header) × IsLooking up S L p t M
+    looked-more ne last t ist = (
+      N,
+      record {
+        spelled = spelled_at S e N f.last f.rest last t ist;
+        forth = rest-of ne;
+        back = λ o. (let F : List Header → Type 0 = λ X. Occupies S X p in l.back (subst F (sym f.is) (record { segment = o.segment; has = inr o.has; is = o.is })));
+      },
+    )

@@ -1,19 +1,21 @@
 -- A pair of blocks is planned in one way.
-use Rattle.std.proofs.Common.{◌≡◌, ℕ, ◌+◌, ◌<◌, IsTrue, min, List, ◌∷◌, ◌++◌, inl, inr, refl, sym, ◌∙◌, ap, ap₂, subst, arith, Option, Some, None, Result, Ok, Err}
+use Rattle.std.proofs.Common.{Bool, ◌≡◌, ℕ, ◌+◌, ◌<◌, IsTrue, min, List, ◌∷◌, ◌++◌, inl, inr, refl, sym, ◌∙◌, ap, ap₂, subst, arith, Option, Some, None, Result, Ok, Err}
 use Rattle.dm_space.specs.Memory.{Memory}
-use Rattle.dm_arena.specs.declared.header.Header.{Header}
+use Rattle.dm_blocks.specs.declared.header.Header.{Header}
 use Rattle.dm_arena.specs.declared.refusal.Refusal.{Refusal}
 use Rattle.dm_arena.specs.declared.refusal.Refusal.TheVariants.{Destroyed, Short, NoBlock}
 use Rattle.dm_arena.specs.declared.fit.Spoken.{Spoken}
 use Rattle.dm_arena.specs.declared.fit.Strategy.{Strategy}
-use Rattle.dm_arena.specs.Chain.{first_header, IsArena, IsClear, Becomes}
-use Rattle.dm_arena.specs.Blocks.{join, largest, fits, IsIn, cut, taken}
+use Rattle.dm_blocks.specs.Chain.{first_header, IsArena, IsClear, Becomes}
+use Rattle.dm_arena.specs.Blocks.{in_effect, join, largest, fits, IsFit, IsIn, cut, taken}
 use Rattle.dm_arena.specs.Walks.{pick, left_of, rest_of, Fills}
 use Rattle.dm_arena.specs.Allocation.{changed}
 use Rattle.dm_arena.specs.Pair.{Pairing, Planned, paired, IsPair, Placed, placed_of, Pairs, PairRefused}
 use Rattle.dm_arena.proofs.Allocating.{taking_of, in_middle, changed_fills}
-use Rattle.dm_arena.proofs.Unique.{arena_unique, becomes_unique, split_unique}
-use Rattle.dm_arena.proofs.OneAnswer.{prefers-same, changed-same, taken-same}
+use Rattle.dm_blocks.proofs.Unique.{arena_unique, becomes_unique}
+use Rattle.dm_arena.proofs.Ends.{split_unique}
+use Rattle.dm_arena.proofs.Fitting.{prefers-same}
+use Rattle.dm_arena.proofs.OneAnswer.{changed-same, effect-same, taken-same}
 use Rattle.dm_arena.proofs.Pairs.{size_same, second_fit, none_second, none_first}
 
 -- where the second block is and how large
@@ -21,108 +23,115 @@ record IsSecond (o m v w : ℕ) : Type 0 where
   owner : o ≡ v
   size : m ≡ w
 
-module _ (S : Memory) (start : ℕ) (st : Strategy) (n least most : ℕ) where
-  -- with the same first block, the search finds the second one of each pairing
-  found_second : (L : List Header) (b : Header) (a : IsArena S start L) (e : pick st n None (join L) ≡ Some b) (m : ℕ) (w : Header) → m ≡ min most (largest (left_of (Some (record { segment = b.segment; rest = rest_of st n b })) (join L))) →
-      pick st m None (left_of (Some (record { segment = b.segment; rest = rest_of st n b })) (join L)) ≡ Some w →
-      (o k : ℕ) (p : Pairing S start st n least most o k) → IsSecond o k (taken st m w + 1) m
-  found_second L b a e m w is chosen o k p =
-      let s : Spoken = record { segment = b.segment; rest = rest_of st n b } in
-      let size : k ≡ m = size_same S start st n L b a e s refl refl least most (largest (left_of (Some s) (join L))) m refl is o k p in
-      let h : 0 < o = (let y = p.owner_is in omega arith) in
-      let t = taking_of S start st n L b a e in
-      let f = second_fit S start st n L b a e s refl refl m w chosen o h in
-      let same : changed p.first o ≡ changed t o = changed-same S start st n p.first t o in
-      let lists : p.before ++ p.block ∷ p.after ≡ f.1.0 ++ w ∷ f.1.1 = sym p.split ∙ same ∙ f.1.2 in
-      let fills = changed_fills S start st n o p.first in
-      let F : List Header → Type 0 = λ X. Fills fills.0 X fills.1 in
-      let I : List Header → Type 0 = λ X. IsIn w X in
-      let J : List Header → Type 0 = λ X. IsIn p.block X in
-      let G : ℕ → Type 0 = λ x. IsTrue (fits x w) in
-      let H : ℕ → Type 0 = λ x. IsTrue (fits x p.block) in
-      let iw : IsIn w (changed p.first o) = subst I (sym (same ∙ f.1.2)) (in_middle f.1.0 w f.1.1) in
-      let ip : IsIn p.block (changed t o) = subst J (sym p.split ∙ same) (in_middle p.before p.block p.after) in
-      let at : p.block.segment ≡ w.segment = prefers-same st p.block w (p.fit.preferred w iw (subst G (sym size) f.0.fit)) (f.0.preferred p.block ip (subst H size p.fit.fit)) in
-      let u = split_unique fills.0 fills.1 p.before p.block p.after f.1.0 w f.1.1 (subst F p.split fills.2) lists at in
-      record { owner = p.owner_is ∙ ap₂ (λ x c. taken st x c + 1) size u.1; size = size }
-
-  by_second : (L : List Header) (b : Header) (a : IsArena S start L) (e : pick st n None (join L) ≡ Some b) (m : ℕ) (r : Option Header) → m ≡ min most (largest (left_of (Some (record { segment = b.segment; rest = rest_of st n b })) (join L))) →
-      pick st m None (left_of (Some (record { segment = b.segment; rest = rest_of st n b })) (join L)) ≡ r →
-      (o k v w : ℕ) → Pairing S start st n least most o k → Pairing S start st n least most v w → IsSecond o k v w
-  by_second L b a e m None is none o k v w p q =
-      absurd (none_second S start st n L b a e (record { segment = b.segment; rest = rest_of st n b }) refl refl least most (largest (left_of (Some (record { segment = b.segment; rest = rest_of st n b })) (join L))) m refl is none o k p)
-  by_second L b a e m (Some c) is some o k v w p q =
-      let x = found_second L b a e m c is some o k p in
-      let y = found_second L b a e m c is some v w q in
-      record { owner = x.owner ∙ sym y.owner; size = x.size ∙ sym y.size }
-
-  by_first : (L : List Header) (a : IsArena S start L) (r : Option Header) → pick st n None (join L) ≡ r → (o k v w : ℕ) → Pairing S start st n least most o k → Pairing S start st n least most v w → IsSecond o k v w
-  by_first L a None e o k v w p q = absurd (none_first S start st n least most L a e o k p)
-  by_first L a (Some b) e o k v w p q = by_second L b a e _ _ refl refl o k v w p q
-
-  second_unique : (o k v w : ℕ) → Pairing S start st n least most o k → Pairing S start st n least most v w → IsSecond o k v w
-  second_unique o k v w p q = by_first p.first.list p.first.arena _ refl o k v w p q
-
-  -- the lists that two pairings leave
-  module _ (o k v w : ℕ) (p : Pairing S start st n least most o k) (q : Pairing S start st n least most v w) where
-    lists : p.before ++ p.block ∷ p.after ≡ q.before ++ q.block ∷ q.after
-    lists = sym p.split ∙ changed-same S start st n p.first q.first o ∙ ap (changed q.first) (second_unique o k v w p q).owner ∙ q.split
-
-    blocks : (p.before ≡ q.before) × (p.block ≡ q.block) × (p.after ≡ q.after)
-    blocks =
-        let fills = changed_fills S start st n o p.first in
+module _ (up : Bool) where
+  module _ (S : Memory) (start : ℕ) (st : Strategy) (n least most : ℕ) where
+    -- with the same first block, the search finds the second one of each pairing
+    found_second : (L : List Header) (b : Header) (a : IsArena S start L) (e : pick up (in_effect up L st) n None (join up L) ≡ Some b) (m : ℕ) (w : Header) → m ≡ min most (largest up (in_effect up L st) (left_of (Some (record { segment = b.segment; rest = rest_of st.fit n b })) (join up L))) →
+        pick up (in_effect up L st) m None (left_of (Some (record { segment = b.segment; rest = rest_of st.fit n b })) (join up L)) ≡ Some w →
+        (o k : ℕ) (p : Pairing up S start st n least most o k) → IsSecond o k (taken st.fit m w + 1) m
+    found_second L b a e m w is chosen o k p =
+        let s : Spoken = record { segment = b.segment; rest = rest_of st.fit n b } in
+        let size : k ≡ m = size_same up S start st n L b a e s refl refl least most (largest up (in_effect up L st) (left_of (Some s) (join up L))) m refl is o k p in
+        let h : 0 < o = (let y = p.owner_is in omega arith) in
+        let t = taking_of up S start st n L b a e in
+        let f = second_fit up S start st n L b a e s refl refl m w chosen o h in
+        let same : changed p.first o ≡ changed t o = changed-same up S start st n p.first t o in
+        let lists : p.before ++ p.block ∷ p.after ≡ f.1.0 ++ w ∷ f.1.1 = sym p.split ∙ same ∙ f.1.2 in
+        let fills = changed_fills up S start st n o p.first in
         let F : List Header → Type 0 = λ X. Fills fills.0 X fills.1 in
-        let I : List Header → Type 0 = λ X. IsIn q.block X in
+        let I : List Header → Type 0 = λ X. IsIn w X in
         let J : List Header → Type 0 = λ X. IsIn p.block X in
-        let size = (second_unique o k v w p q).size in
-        let G : ℕ → Type 0 = λ x. IsTrue (fits x q.block) in
-        let H : ℕ → Type 0 = λ x. IsTrue (fits x p.block) in
-        let iq : IsIn q.block (changed p.first o) = subst I (sym (p.split ∙ lists)) (in_middle q.before q.block q.after) in
-        let ip : IsIn p.block (changed q.first v) = subst J (lists ∙ sym q.split) (in_middle p.before p.block p.after) in
-        let at : p.block.segment ≡ q.block.segment = prefers-same st p.block q.block (p.fit.preferred q.block iq (subst G (sym size) q.fit.fit)) (q.fit.preferred p.block ip (subst H size p.fit.fit)) in
-        split_unique fills.0 fills.1 p.before p.block p.after q.before q.block q.after (subst F p.split fills.2) lists at
+        let E : Strategy = in_effect up L st in
+        let P : Strategy → Type 0 = λ x. IsFit up x k (changed p.first o) p.block in
+        let fit : IsFit up E k (changed p.first o) p.block = subst P (effect-same up S start st n L a p.first) p.fit in
+        let G : ℕ → Type 0 = λ x. IsTrue (fits up E x w) in
+        let H : ℕ → Type 0 = λ x. IsTrue (fits up E x p.block) in
+        let iw : IsIn w (changed p.first o) = subst I (sym (same ∙ f.1.2)) (in_middle f.1.0 w f.1.1) in
+        let ip : IsIn p.block (changed t o) = subst J (sym p.split ∙ same) (in_middle p.before p.block p.after) in
+        let at : p.block.segment ≡ w.segment = prefers-same E p.block w (fit.preferred w iw (subst G (sym size) f.0.fit)) (f.0.preferred p.block ip (subst H size fit.fit)) in
+        let u = split_unique fills.0 fills.1 p.before p.block p.after f.1.0 w f.1.1 (subst F p.split fills.2) lists at in
+        record { owner = p.owner_is ∙ ap₂ (λ x c. taken st.fit x c + 1) size u.1; size = size }
 
-    pub paired-same : paired p ≡ paired q
-    paired-same =
-        let u = second_unique o k v w p q in
-        ap₂ (λ P R. P ++ R) blocks.0
-        (ap (λ x. cut st x o p.block ++ p.after) u.size ∙ ap (λ x. cut st w x p.block ++ p.after) u.owner ∙ ap₂ (λ c Q. cut st w v c ++ Q) blocks.1 blocks.2)
+    by_second : (L : List Header) (b : Header) (a : IsArena S start L) (e : pick up (in_effect up L st) n None (join up L) ≡ Some b) (m : ℕ) (r : Option Header) → m ≡ min most (largest up (in_effect up L st) (left_of (Some (record { segment = b.segment; rest = rest_of st.fit n b })) (join up L))) →
+        pick up (in_effect up L st) m None (left_of (Some (record { segment = b.segment; rest = rest_of st.fit n b })) (join up L)) ≡ r →
+        (o k v w : ℕ) → Pairing up S start st n least most o k → Pairing up S start st n least most v w → IsSecond o k v w
+    by_second L b a e m None is none o k v w p q =
+        absurd (none_second up S start st n L b a e (record { segment = b.segment; rest = rest_of st.fit n b }) refl refl least most (largest up (in_effect up L st) (left_of (Some (record { segment = b.segment; rest = rest_of st.fit n b })) (join up L))) m refl is none o k p)
+    by_second L b a e m (Some c) is some o k v w p q =
+        let x = found_second L b a e m c is some o k p in
+        let y = found_second L b a e m c is some v w q in
+        record { owner = x.owner ∙ sym y.owner; size = x.size ∙ sym y.size }
 
-  -- where the blocks are
-  pub placed-same : (x y : Planned) → IsPair S start st n least most x → IsPair S start st n least most y → placed_of x ≡ placed_of y
-  placed-same x y p q =
-      let u = second_unique _ _ _ _ p.pairing q.pairing in
-      let first : x.environment ≡ y.environment = p.environment_is ∙ ap (λ z. z + 1) (taken-same S start st n p.pairing.first q.pairing.first) ∙ sym q.environment_is in
-      let program = u.owner in
-      let size = u.size in
-      λ i. record { environment = first i; program = program i; size = size i }
+    by_first : (L : List Header) (a : IsArena S start L) (r : Option Header) → pick up (in_effect up L st) n None (join up L) ≡ r → (o k v w : ℕ) → Pairing up S start st n least most o k → Pairing up S start st n least most v w → IsSecond o k v w
+    by_first L a None e o k v w p q = absurd (none_first up S start st n least most L a e o k p)
+    by_first L a (Some b) e o k v w p q = by_second L b a e _ _ refl refl o k v w p q
 
-  -- what can be planned is not refused
-  pub pair_refused : (x : Planned) → IsPair S start st n least most x → (e : Refusal) → PairRefused S start st n least most e → ⊥
-  pair_refused x p Destroyed (inl none) = none p.pairing.first.list p.pairing.first.arena
-  pair_refused x p Destroyed (inr r) = (let F : List Header → Type 0 = λ X. IsClear S X in r.3 (subst F (paired-same _ _ _ _ p.pairing r.2) p.clear))
-  pair_refused x p (Short room) r = r.3 _ _ p.pairing
-  pair_refused x p NoBlock r = r
+    second_unique : (o k v w : ℕ) → Pairing up S start st n least most o k → Pairing up S start st n least most v w → IsSecond o k v w
+    second_unique o k v w p q = by_first p.first.list p.first.arena _ refl o k v w p q
 
-  destroyed_room : (room : ℕ) → PairRefused S start st n least most Destroyed → PairRefused S start st n least most (Short room) → ⊥
-  destroyed_room room (inl none) r = none r.0 r.1
-  destroyed_room room (inr d) r = r.3 _ _ d.2
+    -- the lists that two pairings leave
+    module _ (o k v w : ℕ) (p : Pairing up S start st n least most o k) (q : Pairing up S start st n least most v w) where
+      lists : p.before ++ p.block ∷ p.after ≡ q.before ++ q.block ∷ q.after
+      lists = sym p.split ∙ changed-same up S start st n p.first q.first o ∙ ap (changed q.first) (second_unique o k v w p q).owner ∙ q.split
 
-  pair_refused_same : (d e : Refusal) → PairRefused S start st n least most d → PairRefused S start st n least most e → d ≡ e
-  pair_refused_same Destroyed Destroyed x y = refl
-  pair_refused_same Destroyed (Short room) x y = absurd (destroyed_room room x y)
-  pair_refused_same Destroyed NoBlock x y = absurd y
-  pair_refused_same (Short room) Destroyed x y = absurd (destroyed_room room y x)
-  pair_refused_same (Short room) (Short other) x y = ap (λ (z : ℕ). Short z) (x.2 ∙ ap (λ X. largest (join X)) (arena_unique S start x.0 y.0 x.1 y.1) ∙ sym y.2)
-  pair_refused_same (Short room) NoBlock x y = absurd y
-  pair_refused_same NoBlock e x y = absurd x
+      blocks : (p.before ≡ q.before) × (p.block ≡ q.block) × (p.after ≡ q.after)
+      blocks =
+          let fills = changed_fills up S start st n o p.first in
+          let F : List Header → Type 0 = λ X. Fills fills.0 X fills.1 in
+          let I : List Header → Type 0 = λ X. IsIn q.block X in
+          let J : List Header → Type 0 = λ X. IsIn p.block X in
+          let size = (second_unique o k v w p q).size in
+          let E : Strategy = in_effect up p.first.list st in
+          let Q : Strategy → Type 0 = λ x. IsFit up x w (changed q.first v) q.block in
+          let fit : IsFit up E w (changed q.first v) q.block = subst Q (effect-same up S start st n p.first.list p.first.arena q.first) q.fit in
+          let G : ℕ → Type 0 = λ x. IsTrue (fits up E x q.block) in
+          let H : ℕ → Type 0 = λ x. IsTrue (fits up E x p.block) in
+          let iq : IsIn q.block (changed p.first o) = subst I (sym (p.split ∙ lists)) (in_middle q.before q.block q.after) in
+          let ip : IsIn p.block (changed q.first v) = subst J (lists ∙ sym q.split) (in_middle p.before p.block p.after) in
+          let at : p.block.segment ≡ q.block.segment = prefers-same E p.block q.block (p.fit.preferred q.block iq (subst G (sym size) fit.fit)) (fit.preferred p.block ip (subst H size p.fit.fit)) in
+          split_unique fills.0 fills.1 p.before p.block p.after q.before q.block q.after (subst F p.split fills.2) lists at
 
-pub pairing_unique : (S : Memory) (st : Strategy) (n least most : ℕ) (r q : Result Placed Refusal) (T U : Memory) → Pairs S st n least most r T → Pairs S st n least most q U → (r ≡ q) × (T ≡ U)
-pairing_unique S st n least most (Ok a) (Ok b) T U x y =
-    let F : List Header → Type 0 = λ X. Becomes S first_header X U in (
-      ap (λ (z : Placed). Ok z) (x.2 ∙ placed-same S first_header st n least most x.0 y.0 x.1 y.1 ∙ sym y.2),
-      becomes_unique S first_header _ T U x.3 (subst F (sym (paired-same S first_header st n least most _ _ _ _ x.1.pairing y.1.pairing)) y.3),
-    )
-pairing_unique S st n least most (Ok a) (Err e) T U x y = absurd (pair_refused S first_header st n least most x.0 x.1 e y.1)
-pairing_unique S st n least most (Err e) (Ok b) T U x y = absurd (pair_refused S first_header st n least most y.0 y.1 e x.1)
-pairing_unique S st n least most (Err d) (Err e) T U x y = (ap (λ (z : Refusal). Err z) (pair_refused_same S first_header st n least most d e x.1 y.1), x.0 ∙ sym y.0)
+      pub paired-same : paired p ≡ paired q
+      paired-same =
+          let u = second_unique o k v w p q in
+          ap₂ (λ P R. P ++ R) blocks.0
+          (ap (λ x. cut st.fit x o p.block ++ p.after) u.size ∙ ap (λ x. cut st.fit w x p.block ++ p.after) u.owner ∙ ap₂ (λ c Q. cut st.fit w v c ++ Q) blocks.1 blocks.2)
+
+    -- where the blocks are
+    pub placed-same : (x y : Planned) → IsPair up S start st n least most x → IsPair up S start st n least most y → placed_of x ≡ placed_of y
+    placed-same x y p q =
+        let u = second_unique _ _ _ _ p.pairing q.pairing in
+        let first : x.environment ≡ y.environment = p.environment_is ∙ ap (λ z. z + 1) (taken-same up S start st n p.pairing.first q.pairing.first) ∙ sym q.environment_is in
+        let program = u.owner in
+        let size = u.size in
+        λ i. record { environment = first i; program = program i; size = size i }
+
+    -- what can be planned is not refused
+    pub pair_refused : (x : Planned) → IsPair up S start st n least most x → (e : Refusal) → PairRefused up S start st n least most e → ⊥
+    pair_refused x p Destroyed (inl none) = none p.pairing.first.list p.pairing.first.arena
+    pair_refused x p Destroyed (inr r) = (let F : List Header → Type 0 = λ X. IsClear S X in r.3 (subst F (paired-same _ _ _ _ p.pairing r.2) p.clear))
+    pair_refused x p (Short room) r = r.3 _ _ p.pairing
+    pair_refused x p NoBlock r = r
+
+    destroyed_room : (room : ℕ) → PairRefused up S start st n least most Destroyed → PairRefused up S start st n least most (Short room) → ⊥
+    destroyed_room room (inl none) r = none r.0 r.1
+    destroyed_room room (inr d) r = r.3 _ _ d.2
+
+    pair_refused_same : (d e : Refusal) → PairRefused up S start st n least most d → PairRefused up S start st n least most e → d ≡ e
+    pair_refused_same Destroyed Destroyed x y = refl
+    pair_refused_same Destroyed (Short room) x y = absurd (destroyed_room room x y)
+    pair_refused_same Destroyed NoBlock x y = absurd y
+    pair_refused_same (Short room) Destroyed x y = absurd (destroyed_room room y x)
+    pair_refused_same (Short room) (Short other) x y = ap (λ (z : ℕ). Short z) (x.2 ∙ ap (λ X. largest up (in_effect up X st) (join up X)) (arena_unique S start x.0 y.0 x.1 y.1) ∙ sym y.2)
+    pair_refused_same (Short room) NoBlock x y = absurd y
+    pair_refused_same NoBlock e x y = absurd x
+
+  pub pairing_unique : (S : Memory) (st : Strategy) (n least most : ℕ) (r q : Result Placed Refusal) (T U : Memory) → Pairs up S st n least most r T → Pairs up S st n least most q U → (r ≡ q) × (T ≡ U)
+  pairing_unique S st n least most (Ok a) (Ok b) T U x y =
+      let F : List Header → Type 0 = λ X. Becomes S first_header X U in (
+        ap (λ (z : Placed). Ok z) (x.2 ∙ placed-same S first_header st n least most x.0 y.0 x.1 y.1 ∙ sym y.2),
+        becomes_unique S first_header _ T U x.3 (subst F (sym (paired-same S first_header st n least most _ _ _ _ x.1.pairing y.1.pairing)) y.3),
+      )
+  pairing_unique S st n least most (Ok a) (Err e) T U x y = absurd (pair_refused S first_header st n least most x.0 x.1 e y.1)
+  pairing_unique S st n least most (Err e) (Ok b) T U x y = absurd (pair_refused S first_header st n least most y.0 y.1 e x.1)
+  pairing_unique S st n least most (Err d) (Err e) T U x y = (ap (λ (z : Refusal). Err z) (pair_refused_same S first_header st n least most d e x.1 y.1), x.0 ∙ sym y.0)

@@ -1,69 +1,62 @@
 -- Steps of the walks that read.
-use Rattle.std.proofs.Common.{◌≡◌, ℕ, ◌+◌, ◌*◌, true, false, List, [], ◌∷◌, inr, refl, sym, ◌∙◌, ap, subst, arith}
+use Rattle.std.proofs.Common.{Bool, ◌≡◌, ℕ, ◌+◌, ◌*◌, true, false, List, [], ◌∷◌, inr, refl, sym, ◌∙◌, ap, subst, arith}
 use Rattle.dm_space.specs.Memory.{Memory, peek}
-use Rattle.dm_arena.specs.declared.header.Header.{Header}
-use Rattle.dm_arena.specs.declared.header.Entry.{Entry}
-use Rattle.dm_arena.specs.Chain.{word, IsHeader, Spells, HasHeader, next}
-use Rattle.dm_arena.specs.Walks.{IsFront, IsSpelledFrom, IsJoining, IsJoinedFront}
-use Rattle.dm_arena.specs.Blocks.{is_free, merge, join, join_after}
-
-pub joining_start : (S : Memory) (L : List Header) (e : Entry) → (K : List Header) × IsFront S L e K → (K : List Header) × IsJoining S L e K
-joining_start S L e (K, f) = (K, record { is = ap join f.is; last = f.last; rest = f.rest; within = λ g w. rw f.is (inr w) })
+use Rattle.dm_blocks.specs.declared.header.Header.{Header}
+use Rattle.dm_blocks.specs.declared.header.Entry.{Entry}
+use Rattle.dm_blocks.specs.Chain.{word, IsHeader, Spells, HasHeader, next}
+use Rattle.dm_blocks.specs.Reading.{IsFront, IsSpelledFrom}
+use Rattle.dm_arena.specs.Walks.{IsJoining, IsJoinedFront}
+use Rattle.dm_blocks.specs.Chain.{is_free}
+use Rattle.dm_arena.specs.Blocks.{merge, join, join_after}
 
 spells-at : (S : Memory) (h k : ℕ) (L : List Header) → h ≡ k → Spells S h L → Spells S k L
 spells-at S h k L e s = let P : ℕ → Type 0 = λ x. Spells S x L in subst P e s
 
-join_after-free : (b c : Header) (L : List Header) → is_free b ≡ true → is_free c ≡ true → join_after b (c ∷ L) ≡ join_after (merge b c) L
-join_after-free b c L fb fc = rw (fb, fc) refl
+module _ (up : Bool) where
+  pub joining_start : (S : Memory) (L : List Header) (e : Entry) → (K : List Header) × IsFront S L e K → (K : List Header) × IsJoining up S L e K
+  joining_start S L e (K, f) = (K, record { is = ap (join up) f.is; last = f.last; rest = f.rest; within = λ g w. rw f.is (inr w) })
 
-pub joining_more : (S : Memory) (L : List Header) (e a : Entry) (K : List Header) → IsJoining S L e K → e.last ≡ false → is_free e.header ≡ true → is_free a.header ≡ true → a.header.segment ≡ next e.header → (t : ℕ) → t ≡ next e.header → ((M : List Header) → IsSpelledFrom S t M → (N : List Header) × IsFront S M a N) → (N : List Header) × IsJoining S L (record { header = merge e.header a.header; last = a.last }) N
-joining_more S L e a [] j l fe fa there t ist front = absurd (let x : false ≡ true = sym l ∙ j.last in cc)
-joining_more S L e a (c ∷ K) j l fe fa there t ist front =
-    let r = front (c ∷ K) (record { nonempty = tt; spells = spells-at S _ _ (c ∷ K) (sym ist) j.rest }) in
-    let N = r.0 in
-    let f : IsFront S (c ∷ K) a N = r.1 in (
-      N,
-      record {
-        is = j.is ∙ ap (join_after e.header) f.is ∙ join_after-free e.header a.header N fe fa;
-        last = f.last;
-        rest = spells-at S _ _ N (omega arith) f.rest;
-        within = λ g w. j.within g (let P : List Header → Type 0 = λ M. HasHeader M g in subst P (sym f.is) (inr w));
-      },
-    )
+  join_after-free : (b c : Header) (L : List Header) → is_free up b ≡ true → is_free up c ≡ true → join_after up b (c ∷ L) ≡ join_after up (merge b c) L
+  join_after-free b c L fb fc = rw (fb, fc) refl
 
-pub exit_last : (S : Memory) (L : List Header) (e : Entry) → e.last ≡ true → (K : List Header) × IsJoining S L e K → (K : List Header) × IsJoinedFront S L e K
-exit_last S L e l ([], j) = ([], record { is = j.is; last = j.last; rest = j.rest; within = j.within })
-exit_last S L e l (c ∷ K, j) = absurd (let x : true ≡ false = sym l ∙ j.last in cc)
+  pub joining_more : (S : Memory) (L : List Header) (e a : Entry) (K : List Header) → IsJoining up S L e K → e.last ≡ false → is_free up e.header ≡ true → is_free up a.header ≡ true → a.header.segment ≡ next e.header → (t : ℕ) → t ≡ next e.header → ((M : List Header) → IsSpelledFrom S t M → (N : List Header) × IsFront S M a N) → (N : List Header) × IsJoining up S L (record { header = merge e.header a.header; last = a.last }) N
+  joining_more S L e a [] j l fe fa there t ist front = absurd (let x : false ≡ true = sym l ∙ j.last in cc)
+  joining_more S L e a (c ∷ K) j l fe fa there t ist front =
+      let r = front (c ∷ K) (record { nonempty = tt; spells = spells-at S _ _ (c ∷ K) (sym ist) j.rest }) in
+      let N = r.0 in
+      let f : IsFront S (c ∷ K) a N = r.1 in (
+        N,
+        record {
+          is = j.is ∙ ap (join_after up e.header) f.is ∙ join_after-free e.header a.header N fe fa;
+          last = f.last;
+          rest = spells-at S _ _ N (omega arith) f.rest;
+          within = λ g w. j.within g (let P : List Header → Type 0 = λ M. HasHeader M g in subst P (sym f.is) (inr w));
+        },
+      )
 
-join_after-taken : (b c : Header) (L : List Header) → is_free b ≡ false → join_after b (c ∷ L) ≡ b ∷ join (c ∷ L)
-join_after-taken b c L fb = rw fb refl
+  pub exit_last : (S : Memory) (L : List Header) (e : Entry) → e.last ≡ true → (K : List Header) × IsJoining up S L e K → (K : List Header) × IsJoinedFront up S L e K
+  exit_last S L e l ([], j) = ([], record { is = j.is; last = j.last; rest = j.rest; within = j.within })
+  exit_last S L e l (c ∷ K, j) = absurd (let x : true ≡ false = sym l ∙ j.last in cc)
 
-join_after-before_taken : (b c : Header) (L : List Header) → is_free b ≡ true → is_free c ≡ false → join_after b (c ∷ L) ≡ b ∷ join (c ∷ L)
-join_after-before_taken b c L fb fc = rw (fb, fc) refl
+  join_after-taken : (b c : Header) (L : List Header) → is_free up b ≡ false → join_after up b (c ∷ L) ≡ b ∷ join up (c ∷ L)
+  join_after-taken b c L fb = rw fb refl
 
-pub exit_taken : (S : Memory) (L : List Header) (e : Entry) → is_free e.header ≡ false → (K : List Header) × IsJoining S L e K → (K : List Header) × IsJoinedFront S L e K
-exit_taken S L e f ([], j) = ([], record { is = j.is; last = j.last; rest = j.rest; within = j.within })
-exit_taken S L e f (c ∷ K, j) = (c ∷ K, record { is = j.is ∙ join_after-taken e.header c K f; last = j.last; rest = j.rest; within = j.within })
+  join_after-before_taken : (b c : Header) (L : List Header) → is_free up b ≡ true → is_free up c ≡ false → join_after up b (c ∷ L) ≡ b ∷ join up (c ∷ L)
+  join_after-before_taken b c L fb fc = rw (fb, fc) refl
 
-pub exit_before_taken : (S : Memory) (L : List Header) (e a : Entry) → e.last ≡ false → is_free e.header ≡ true → is_free a.header ≡ false → (t : ℕ) → t ≡ next e.header → ((M : List Header) → IsSpelledFrom S t M → (N : List Header) × IsFront S M a N) → (K : List Header) × IsJoining S L e K → (K : List Header) × IsJoinedFront S L e K
-exit_before_taken S L e a l fe fa t ist front ([], j) = absurd (let x : false ≡ true = sym l ∙ j.last in cc)
-exit_before_taken S L e a l fe fa t ist front (c ∷ K, j) =
-    let r = front (c ∷ K) (record { nonempty = tt; spells = spells-at S _ _ (c ∷ K) (sym ist) j.rest }) in
-    let f : IsFront S (c ∷ K) a r.0 = r.1 in
-    let fc : is_free c ≡ false = let x : c ≡ a.header = (let y = f.is in cc) in rw x fa in
-    (c ∷ K, record { is = j.is ∙ join_after-before_taken e.header c K fe fc; last = j.last; rest = j.rest; within = j.within })
+  pub exit_taken : (S : Memory) (L : List Header) (e : Entry) → is_free up e.header ≡ false → (K : List Header) × IsJoining up S L e K → (K : List Header) × IsJoinedFront up S L e K
+  exit_taken S L e f ([], j) = ([], record { is = j.is; last = j.last; rest = j.rest; within = j.within })
+  exit_taken S L e f (c ∷ K, j) = (c ∷ K, record { is = j.is ∙ join_after-taken e.header c K f; last = j.last; rest = j.rest; within = j.within })
 
--- what is left to walk from a header that is not the last
-pub next_spelled : (S : Memory) (L : List Header) (e : Entry) → e.last ≡ false → (K : List Header) × IsJoining S L e K → (K : List Header) × IsSpelledFrom S (next e.header) K
-next_spelled S L e l ([], j) = absurd (let x : false ≡ true = sym l ∙ j.last in cc)
-next_spelled S L e l (c ∷ K, j) = (c ∷ K, record { nonempty = tt; spells = j.rest })
+  pub exit_before_taken : (S : Memory) (L : List Header) (e a : Entry) → e.last ≡ false → is_free up e.header ≡ true → is_free up a.header ≡ false → (t : ℕ) → t ≡ next e.header → ((M : List Header) → IsSpelledFrom S t M → (N : List Header) × IsFront S M a N) → (K : List Header) × IsJoining up S L e K → (K : List Header) × IsJoinedFront up S L e K
+  exit_before_taken S L e a l fe fa t ist front ([], j) = absurd (let x : false ≡ true = sym l ∙ j.last in cc)
+  exit_before_taken S L e a l fe fa t ist front (c ∷ K, j) =
+      let r = front (c ∷ K) (record { nonempty = tt; spells = spells-at S _ _ (c ∷ K) (sym ist) j.rest }) in
+      let f : IsFront S (c ∷ K) a r.0 = r.1 in
+      let fc : is_free up c ≡ false = let x : c ≡ a.header = (let y = f.is in cc) in rw x fa in
+      (c ∷ K, record { is = j.is ∙ join_after-before_taken e.header c K fe fc; last = j.last; rest = j.rest; within = j.within })
 
-header-same : (b c : Header) → b.segment ≡ c.segment → b.owner ≡ c.owner → b.size ≡ c.size → b ≡ c
-header-same b c e o s = λ i. record { segment = e i; owner = o i; size = s i }
-
--- the header at a segment is one
-pub header-unique : (S : Memory) (b c : Header) (m n : ℕ) → IsHeader S b m → IsHeader S c n → b.segment ≡ c.segment → (b ≡ c) × (m ≡ n)
-header-unique S b c m n x y e =
-    let owner : b.owner ≡ c.owner = sym x.owned ∙ ap (λ h. word S (16 * h + 1)) e ∙ y.owned in
-    let size : b.size ≡ c.size = sym x.sized ∙ ap (λ h. word S (16 * h + 3)) e ∙ y.sized in
-    (header-same b c e owner size, sym x.signed ∙ ap (λ h. peek S (16 * h)) e ∙ y.signed)
+  -- what is left to walk from a header that is not the last
+  pub next_spelled : (S : Memory) (L : List Header) (e : Entry) → e.last ≡ false → (K : List Header) × IsJoining up S L e K → (K : List Header) × IsSpelledFrom S (next e.header) K
+  next_spelled S L e l ([], j) = absurd (let x : false ≡ true = sym l ∙ j.last in cc)
+  next_spelled S L e l (c ∷ K, j) = (c ∷ K, record { nonempty = tt; spells = j.rest })

@@ -2,14 +2,15 @@
 use Rattle.std.proofs.Common.{◌≡◌, ℕ, Bool, true, false, List, [], ◌∷◌, ◌++◌, inl, inr, refl, sym, ◌∙◌, ap, subst, append_assoc}
 use Rattle.dm_space.specs.Memory.{Memory}
 use Rattle.dm_space.proofs.Places.{place-shaped, shaped-then}
-use Rattle.dm_arena.specs.declared.header.Header.{Header}
-use Rattle.dm_arena.specs.declared.header.Entry.{Entry}
-use Rattle.dm_arena.specs.Chain.{Spells, HasHeader, IsNonEmpty, next, IsArena, Becomes, DiffersInHeaders}
-use Rattle.dm_arena.specs.Walks.{is_nil, IsFront, IsReplaceable, IsReplaced, IsReleasing}
+use Rattle.dm_blocks.specs.declared.header.Header.{Header}
+use Rattle.dm_blocks.specs.declared.header.Entry.{Entry}
+use Rattle.dm_blocks.specs.Chain.{Spells, HasHeader, IsNonEmpty, next, IsArena, Becomes, DiffersInHeaders}
+use Rattle.dm_blocks.specs.Reading.{is_nil, IsFront}
+use Rattle.dm_arena.specs.Walks.{IsReplaceable, IsReplaced, IsReleasing}
 use Rattle.dm_arena.specs.Owned.{released, released_block}
-use Rattle.dm_arena.proofs.Chains.{has_left, has_right, has_either, spells_end, clear_within, clear_map}
+use Rattle.dm_blocks.proofs.Chains.{has_left, has_right, has_either, spells_end, clear_within, clear_map}
 
-released-has : (o : ℕ) (P : List Header) (g : ℕ) → HasHeader (released o P) g → HasHeader P g
+pub released-has : (o : ℕ) (P : List Header) (g : ℕ) → HasHeader (released o P) g → HasHeader P g
 released-has o [] g w = w
 released-has o (p ∷ P) g w = elim w [ inl e ↦ inl e | inr r ↦ inr (released-has o P g r) ]
 

@@ -2,10 +2,11 @@
 use Rattle.std.proofs.Common.{◌≡◌, ℕ, ◌<◌, ◌≤◌, Bool, List, [], ◌∷◌, ◌++◌, inl, inr, refl, sym, ◌∙◌, subst, arith}
 use Rattle.dm_space.specs.Memory.{Memory}
 use Rattle.dm_space.proofs.Places.{place-shaped, shaped-then}
-use Rattle.dm_arena.specs.declared.header.Header.{Header}
-use Rattle.dm_arena.specs.Chain.{IsHeader, signature, Spells, HasHeader, next, IsClear, mark}
+use Rattle.dm_blocks.specs.declared.header.Header.{Header}
+use Rattle.dm_blocks.specs.Chain.{IsHeader, signature, Spells, HasHeader, next, IsClear, mark}
 use Rattle.dm_arena.specs.Walks.{IsHeaderWritten, Fills, IsReplaceable, IsReplaced}
-use Rattle.dm_arena.proofs.Chains.{Agrees, spells_kept, spells_replace, spells_above, spells_below, spells_end, header_kept, has_left, has_right, clear_map, agrees_written, byte_kept, mark-signature}
+use Rattle.dm_blocks.proofs.Chains.{Agrees, spells_kept, spells_replace, spells_above, spells_below, spells_end, header_kept, has_left, has_right, clear_map, mark-signature}
+use Rattle.dm_arena.proofs.Written.{agrees_written, byte_kept}
 
 -- what comes after blocks that fill h to t is spelled from t on
 after_fills : (S : Memory) (h t : ℕ) (B Q : List Header) → Fills h B t → Spells S h (B ++ Q) → Spells S t Q

@@ -4,15 +4,8 @@ use Rattle.dm_space.specs.declared.place.Place.{Place}
 use Rattle.dm_space.specs.Memory.{Memory, place, peek, byte_at}
 use Rattle.dm_space.specs.Places.{IsWritable, IsShaped, IsPoked}
 use Rattle.dm_space.proofs.Places.{paragraph-writable, paragraph-apart, place-shaped, shaped-then, poked-read, poked-kept}
-use Rattle.dm_arena.specs.Chain.{IsHeader}
-
-pub each_of_five : (P : ℕ → Type 0) → P 0 → P 1 → P 2 → P 3 → P 4 → (k : ℕ) → k < 5 → P k
-each_of_five P a b c d e zero h = a
-each_of_five P a b c d e (suc zero) h = b
-each_of_five P a b c d e (suc (suc zero)) h = c
-each_of_five P a b c d e (suc (suc (suc zero))) h = d
-each_of_five P a b c d e (suc (suc (suc (suc zero)))) h = e
-each_of_five P a b c d e (suc (suc (suc (suc (suc k))))) h = absurd (omega arith)
+use Rattle.dm_blocks.specs.Chain.{IsHeader}
+use Rattle.dm_blocks.proofs.Unique.{each_of_five}
 
 poked-same : (S : Memory) (a v : ℕ) (T : Memory) → IsPoked S a v T → IsWritable (place S a) → peek T a ≡ v
 poked-same S a v T p w = poked-read S a v T p w

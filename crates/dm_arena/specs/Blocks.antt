@@ -1,52 +1,84 @@
 -- Lists of blocks: joined, chosen from and cut.
 -- MS-DOS Programmer's Reference, functions 48h, 4Ah and 58h: which free block is taken, and which end of it.
-use Rattle.std.specs.Prelude.{Bool, IsTrue, List, [], cond, max, nat_le, nat_lt, option_to_list, ℕ, ◌&&◌, ◌+◌, ◌-◌, ◌==◌, ◌||◌, ◌∷◌, ◌≡◌, ◌⊎◌}
-use Rattle.dm_arena.specs.declared.header.Header.{Header}
+use Rattle.std.specs.Prelude.{Bool, IsTrue, List, [], cond, max, nat_le, nat_lt, not, option_to_list, true, ℕ, if◌then◌else◌, ◌&&◌, ◌+◌, ◌-◌, ◌==◌, ◌||◌, ◌∷◌, ◌≡◌, ◌⊎◌}
+use Rattle.dm_blocks.specs.declared.header.Header.{Header}
+use Rattle.dm_blocks.specs.Chain.{is_free, is_linked, link_header}
+use Rattle.dm_arena.specs.declared.fit.Area.{Area}
+use Rattle.dm_arena.specs.declared.fit.Area.TheVariants.{All, Upper, UpperFirst}
+use Rattle.dm_arena.specs.declared.fit.Fit.{Fit}
+use Rattle.dm_arena.specs.declared.fit.Fit.TheVariants.{Best, First, Last}
 use Rattle.dm_arena.specs.declared.fit.Strategy.{Strategy}
-use Rattle.dm_arena.specs.declared.fit.Strategy.TheVariants.{Best, First, Last}
 use Rattle.dm_arena.specs.declared.cut.Cut.{Cut}
-
-abbrev pub is_free : Header → Bool
-is_free b = b.owner == 0
 
 -- b with the block c after it taken in
 abbrev pub merge : Header → Header → Header
 merge b c = record b { size = b.size + (1 + c.size) }
 
--- the block b, then L, with each run of free blocks made one
-abbrev pub join_after : Header → List Header → List Header
-join_after b [] = b ∷ []
-join_after b (c ∷ L) = cond (is_free b && is_free c) (join_after (merge b c) L) (b ∷ join_after c L)
+-- the block b, then L, with each run of free blocks made one. `upper` is the setting: whether upper memory belongs to the arena
+abbrev pub join_after : Bool → Header → List Header → List Header
+join_after upper b [] = b ∷ []
+join_after upper b (c ∷ L) = cond (is_free upper b && is_free upper c) (join_after upper (merge b c) L) (b ∷ join_after upper c L)
 
-abbrev pub join : List Header → List Header
-join [] = []
-join (b ∷ L) = join_after b L
+abbrev pub join : Bool → List Header → List Header
+join upper [] = []
+join upper (b ∷ L) = join_after upper b L
 
-abbrev pub free_size : Header → ℕ
-free_size b = cond (is_free b) b.size 0
+-- a header above the link block's is one of upper memory
+abbrev pub is_upper : Header → Bool
+is_upper b = nat_lt link_header b.segment
 
--- the largest free size, 0 if none
-abbrev pub largest : List Header → ℕ
-largest [] = 0
-largest (b ∷ L) = max (free_size b) (largest L)
+-- the blocks of an area
+abbrev pub is_in : Area → Header → Bool
+is_in All b = true
+is_in Upper b = is_upper b
+is_in UpperFirst b = true
 
-abbrev pub fits : ℕ → Header → Bool
-fits n b = is_free b && nat_le n b.size
+-- the strategy that is in effect: one that looks at all blocks, unless the list goes on in upper memory
+abbrev pub in_effect : Bool → List Header → Strategy → Strategy
+in_effect upper L strategy = record strategy { area = if upper && is_linked L then strategy.area else All }
 
--- the strategy takes b rather than c: the lower, the smaller and then the lower, the higher
+-- the strategy looks at the block
+abbrev pub is_candidate : Bool → Strategy → Header → Bool
+is_candidate upper strategy b = is_free upper b && is_in strategy.area b
+
+abbrev pub free_size : Bool → Strategy → Header → ℕ
+free_size upper strategy b = cond (is_candidate upper strategy b) b.size 0
+
+-- the largest free size that the strategy looks at, 0 if none
+abbrev pub largest : Bool → Strategy → List Header → ℕ
+largest upper strategy [] = 0
+largest upper strategy (b ∷ L) = max (free_size upper strategy b) (largest upper strategy L)
+
+abbrev pub fits : Bool → Strategy → ℕ → Header → Bool
+fits upper strategy n b = is_candidate upper strategy b && nat_le n b.size
+
+-- of two blocks of one area the fit takes b rather than c: the lower, the smaller and then the lower, the higher
+abbrev pub prefers_by : Fit → Header → Header → Bool
+prefers_by First b c = nat_le b.segment c.segment
+prefers_by Best b c = nat_lt b.size c.size || (b.size == c.size && nat_le b.segment c.segment)
+prefers_by Last b c = nat_le c.segment b.segment
+
+-- what is preferred comes first, and else a further test decides
+abbrev pub before_or : Bool → Bool → Bool → Bool
+before_or b c test = cond b (not c || test) (not c && test)
+
+abbrev pub prefers_in : Area → Fit → Header → Header → Bool
+prefers_in All fit b c = prefers_by fit b c
+prefers_in Upper fit b c = prefers_by fit b c
+prefers_in UpperFirst fit b c = before_or (is_upper b) (is_upper c) (prefers_by fit b c)
+
+-- the strategy takes b rather than c
 abbrev pub prefers : Strategy → Header → Header → Bool
-prefers First b c = nat_le b.segment c.segment
-prefers Best b c = nat_lt b.size c.size || (b.size == c.size && nat_le b.segment c.segment)
-prefers Last b c = nat_le c.segment b.segment
+prefers strategy b c = prefers_in strategy.area strategy.fit b c
 
 abbrev pub IsIn : Header → List Header → Type 0
 IsIn b [] = ⊥
 IsIn b (c ∷ L) = (b ≡ c) ⊎ IsIn b L
 
 -- b is what the strategy takes from L for n paragraphs
-pub record IsFit (strategy : Strategy) (n : ℕ) (L : List Header) (b : Header) : Type 0 where
-  pub fit : IsTrue (fits n b)
-  pub preferred : (c : Header) → IsIn c L → IsTrue (fits n c) → IsTrue (prefers strategy b c)
+pub record IsFit (upper : Bool) (strategy : Strategy) (n : ℕ) (L : List Header) (b : Header) : Type 0 where
+  pub fit : IsTrue (fits upper strategy n b)
+  pub preferred : (c : Header) → IsIn c L → IsTrue (fits upper strategy n c) → IsTrue (prefers strategy b c)
 
 -- the block b with n paragraphs of it taken by the owner, at its low or its high end
 abbrev pub cut_low : ℕ → ℕ → Header → List Header
@@ -59,13 +91,13 @@ cut_high n owner b = cond (b.size == n)
     (record b { owner = owner } ∷ [])
     (record { segment = b.segment; owner = 0; size = b.size - n - 1 } ∷ record { segment = b.segment + b.size - n; owner = owner; size = n } ∷ [])
 
-abbrev pub cut : Strategy → ℕ → ℕ → Header → List Header
+abbrev pub cut : Fit → ℕ → ℕ → Header → List Header
 cut First n owner b = cut_low n owner b
 cut Best n owner b = cut_low n owner b
 cut Last n owner b = cut_high n owner b
 
 -- the header of the taken part
-abbrev pub taken : Strategy → ℕ → Header → ℕ
+abbrev pub taken : Fit → ℕ → Header → ℕ
 taken First n b = b.segment
 taken Best n b = b.segment
 taken Last n b = b.segment + b.size - n

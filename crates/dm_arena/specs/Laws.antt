@@ -1,50 +1,55 @@
--- Laws of the definitions: memory spells at most one list, and each call has one answer.
-use Rattle.std.specs.Prelude.{◌≡◌, ℕ, ◌≤◌, ◌<◌, List, length, Result}
+-- Laws of the definitions: each call has one answer.
+use Rattle.std.specs.Prelude.{◌≡◌, ◌==◌, ℕ, Bool, false, List, Result}
 use Rattle.dm_space.specs.Memory.{Memory}
 use Rattle.dm_space.specs.Unseen.{IsUnseen}
-use Rattle.dm_arena.specs.declared.header.Header.{Header}
 use Rattle.dm_arena.specs.declared.refusal.Refusal.{Refusal}
 use Rattle.dm_arena.specs.declared.fit.Strategy.{Strategy}
-use Rattle.dm_arena.specs.Chain.{first_header, IsChain}
-use Rattle.dm_arena.specs.Listing.{Leads}
 use Rattle.dm_arena.specs.Allocation.{Allocates}
-use Rattle.dm_arena.specs.Owned.{Frees, Resizes, Releases}
+use Rattle.dm_arena.specs.Owned.{Frees, Resizes, Releases, is_link_block, is_parted}
+use Rattle.dm_arena.specs.Blocks.{in_effect, is_candidate, prefers, prefers_by}
+use Rattle.dm_blocks.specs.declared.header.Header.{Header}
+use Rattle.dm_blocks.specs.Chain.{is_free}
 use Rattle.dm_arena.specs.Pair.{Placed, Pairs}
-
-abbrev pub ChainIsUnique : Type 0
-ChainIsUnique = (S : Memory) (start : ℕ) (L M : List Header) → IsChain S start L → IsChain S start M → L ≡ M
-
-abbrev pub ChainIsShort : Type 0
-ChainIsShort = (S : Memory) (L : List Header) → IsChain S first_header L → length L ≤ 0xFF00
-
--- nor does a walk meet more, also where it breaks off: fewer lead to the header where it stands
-abbrev pub WalkIsShort : Type 0
-WalkIsShort = (S : Memory) (P : List Header) (t : ℕ) → Leads S first_header P t → length P < 0xFF00
+use Rattle.dm_arena.specs.Linking.{Links, TellsLinked}
 
 -- an allocation's answer, and the memory that it leaves, are functions of the memory and the arguments
 abbrev pub AllocationHasOneAnswer : Type 0
-AllocationHasOneAnswer = (S : Memory) (strategy : Strategy) (n owner : ℕ) (r q : Result ℕ Refusal) (T U : Memory) → Allocates S strategy n owner r T → Allocates S strategy n owner q U → (r ≡ q) × (T ≡ U)
+AllocationHasOneAnswer = (upper : Bool) (S : Memory) (strategy : Strategy) (n owner : ℕ) (r q : Result ℕ Refusal) (T U : Memory) → Allocates upper S strategy n owner r T → Allocates upper S strategy n owner q U → (r ≡ q) × (T ≡ U)
 
 -- and so are those of the other calls
 abbrev pub FreeingHasOneAnswer : Type 0
-FreeingHasOneAnswer = (S : Memory) (segment : ℕ) (r q : Result (Unit {0}) Refusal) (T U : Memory) → Frees S segment r T → Frees S segment q U → (r ≡ q) × (T ≡ U)
+FreeingHasOneAnswer = (upper : Bool) (S : Memory) (segment : ℕ) (r q : Result (Unit {0}) Refusal) (T U : Memory) → Frees upper S segment r T → Frees upper S segment q U → (r ≡ q) × (T ≡ U)
 
 abbrev pub ResizingHasOneAnswer : Type 0
-ResizingHasOneAnswer = (S : Memory) (segment n : ℕ) (r q : Result (Unit {0}) Refusal) (T U : Memory) → Resizes S segment n r T → Resizes S segment n q U → (r ≡ q) × (T ≡ U)
+ResizingHasOneAnswer = (upper : Bool) (S : Memory) (segment n : ℕ) (r q : Result (Unit {0}) Refusal) (T U : Memory) → Resizes upper S segment n r T → Resizes upper S segment n q U → (r ≡ q) × (T ≡ U)
 
 abbrev pub ReleasingHasOneAnswer : Type 0
-ReleasingHasOneAnswer = (S : Memory) (owner : ℕ) (r q : Result (Unit {0}) Refusal) (T U : Memory) → Releases S owner r T → Releases S owner q U → (r ≡ q) × (T ≡ U)
+ReleasingHasOneAnswer = (upper : Bool) (S : Memory) (owner : ℕ) (r q : Result (Unit {0}) Refusal) (T U : Memory) → Releases upper S owner r T → Releases upper S owner q U → (r ≡ q) × (T ≡ U)
 
 abbrev pub PairingHasOneAnswer : Type 0
-PairingHasOneAnswer = (S : Memory) (strategy : Strategy) (environment least most : ℕ) (r q : Result Placed Refusal) (T U : Memory) → Pairs S strategy environment least most r T → Pairs S strategy environment least most q U → (r ≡ q) × (T ≡ U)
+PairingHasOneAnswer = (upper : Bool) (S : Memory) (strategy : Strategy) (environment least most : ℕ) (r q : Result Placed Refusal) (T U : Memory) → Pairs upper S strategy environment least most r T → Pairs upper S strategy environment least most q U → (r ≡ q) × (T ≡ U)
+
+abbrev pub LinkingHasOneAnswer : Type 0
+LinkingHasOneAnswer = (S : Memory) (on : Bool) (r q : Result (Unit {0}) Refusal) (T U : Memory) → Links S on r T → Links S on q U → (r ≡ q) × (T ≡ U)
 
 -- no call depends on what no program sees, or changes it
 pub record CallsIgnoreUnseen (change : Memory → Memory) : Type 0 where
-  pub allocation : (S T : Memory) (strategy : Strategy) (n owner : ℕ) (r : Result ℕ Refusal) → Allocates S strategy n owner r T → Allocates (change S) strategy n owner r (change T)
-  pub freeing : (S T : Memory) (segment : ℕ) (r : Result (Unit {0}) Refusal) → Frees S segment r T → Frees (change S) segment r (change T)
-  pub resizing : (S T : Memory) (segment n : ℕ) (r : Result (Unit {0}) Refusal) → Resizes S segment n r T → Resizes (change S) segment n r (change T)
-  pub releasing : (S T : Memory) (owner : ℕ) (r : Result (Unit {0}) Refusal) → Releases S owner r T → Releases (change S) owner r (change T)
-  pub pairing : (S T : Memory) (strategy : Strategy) (environment least most : ℕ) (r : Result Placed Refusal) → Pairs S strategy environment least most r T → Pairs (change S) strategy environment least most r (change T)
+  pub allocation : (upper : Bool) (S T : Memory) (strategy : Strategy) (n owner : ℕ) (r : Result ℕ Refusal) → Allocates upper S strategy n owner r T → Allocates upper (change S) strategy n owner r (change T)
+  pub freeing : (upper : Bool) (S T : Memory) (segment : ℕ) (r : Result (Unit {0}) Refusal) → Frees upper S segment r T → Frees upper (change S) segment r (change T)
+  pub resizing : (upper : Bool) (S T : Memory) (segment n : ℕ) (r : Result (Unit {0}) Refusal) → Resizes upper S segment n r T → Resizes upper (change S) segment n r (change T)
+  pub releasing : (upper : Bool) (S T : Memory) (owner : ℕ) (r : Result (Unit {0}) Refusal) → Releases upper S owner r T → Releases upper (change S) owner r (change T)
+  pub pairing : (upper : Bool) (S T : Memory) (strategy : Strategy) (environment least most : ℕ) (r : Result Placed Refusal) → Pairs upper S strategy environment least most r T → Pairs upper (change S) strategy environment least most r (change T)
+  pub telling : (S : Memory) (r : Result Bool Refusal) → TellsLinked S r → TellsLinked (change S) r
+  pub linking : (S T : Memory) (on : Bool) (r : Result (Unit {0}) Refusal) → Links S on r T → Links (change S) on r (change T)
 
 abbrev pub IgnoresUnseen : Type 0
 IgnoresUnseen = (change : Memory → Memory) → IsUnseen change → CallsIgnoreUnseen change
+
+-- where upper memory doesn't belong to the arena: each block without an owner is free, each strategy looks at all blocks, no
+-- block is the link block's, and no second list goes with the first
+pub record IsConventional : Type 0 where
+  pub free : (b : Header) → is_free false b ≡ (b.owner == 0)
+  pub whole : (L : List Header) (strategy : Strategy) (b : Header) → is_candidate false (in_effect false L strategy) b ≡ (b.owner == 0)
+  pub by_fit : (L : List Header) (strategy : Strategy) (b c : Header) → prefers (in_effect false L strategy) b c ≡ prefers_by strategy.fit b c
+  pub any : (segment : ℕ) → is_link_block false segment ≡ false
+  pub one : (L : List Header) → is_parted false L ≡ false

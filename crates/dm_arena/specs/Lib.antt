@@ -1,10 +1,8 @@
-pub mod Chain
 pub mod Blocks
 pub mod Allocation
 pub mod Owned
 pub mod Pair
-pub mod Listing
+pub mod Linking
 pub mod Laws
 pub mod Walks
-pub mod Marks
 pub mod Standing

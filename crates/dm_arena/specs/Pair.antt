@@ -1,43 +1,43 @@
 -- Two blocks planned together and written together: the environment of a program, and the program's own block.
 -- MS-DOS Programmer's Reference, function 4Bh.
-use Rattle.std.specs.Prelude.{◌≡◌, ℕ, ◌+◌, ◌≤◌, ◌⊎◌, min, List, ◌∷◌, ◌++◌, MatchOption, Result, Ok, Err}
+use Rattle.std.specs.Prelude.{Bool, ◌≡◌, ℕ, ◌+◌, ◌≤◌, ◌⊎◌, min, List, ◌∷◌, ◌++◌, MatchOption, Result, Ok, Err}
 use Rattle.dm_space.specs.Memory.{Memory}
-use Rattle.dm_arena.specs.declared.header.Header.{Header}
+use Rattle.dm_blocks.specs.declared.header.Header.{Header}
 use Rattle.dm_arena.specs.declared.fit.Strategy.{Strategy}
 use Rattle.dm_arena.specs.declared.cut.Cut.{Cut}
 use Rattle.dm_arena.specs.declared.refusal.Refusal.{Refusal}
 use Rattle.dm_arena.specs.declared.refusal.Refusal.TheVariants.{Destroyed, Short, NoBlock}
-use Rattle.dm_arena.specs.Chain.{first_header, next, IsArena, NoArena, IsClear, Becomes}
-use Rattle.dm_arena.specs.Blocks.{join, largest, IsFit, cut, taken}
+use Rattle.dm_blocks.specs.Chain.{first_header, next, IsArena, NoArena, IsClear, Becomes}
+use Rattle.dm_arena.specs.Blocks.{in_effect, join, largest, IsFit, cut, taken}
 use Rattle.dm_arena.specs.Allocation.{Taking, changed}
 
 -- the block that the strategy takes for the environment; then, of the list in which it is taken, the block for the
 -- program, which has the smaller of `most` paragraphs and the largest free block, and at least `least`. The program's
 -- segment owns both
-pub record Pairing (S : Memory) (start : ℕ) (strategy : Strategy) (environment least most owner size : ℕ) : Type 0 where
-  pub first : Taking S start strategy environment
+pub record Pairing (upper : Bool) (S : Memory) (start : ℕ) (strategy : Strategy) (environment least most owner size : ℕ) : Type 0 where
+  pub first : Taking upper S start strategy environment
   pub before : List Header
   pub block : Header
   pub after : List Header
   pub split : changed first owner ≡ before ++ block ∷ after
-  pub fit : IsFit strategy size (changed first owner) block
-  pub size_is : size ≡ min most (largest (changed first owner))
+  pub fit : IsFit upper (in_effect upper first.list strategy) size (changed first owner) block
+  pub size_is : size ≡ min most (largest upper (in_effect upper first.list strategy) (changed first owner))
   pub enough : least ≤ size
-  pub owner_is : owner ≡ taken strategy size block + 1
+  pub owner_is : owner ≡ taken strategy.fit size block + 1
 
 -- the list with both blocks taken
-abbrev pub paired : {S : Memory} {start : ℕ} {strategy : Strategy} {environment least most owner size : ℕ} → Pairing S start strategy environment least most owner size → List Header
-paired {S} {start} {strategy} {environment} {least} {most} {owner} {size} p = p.before ++ (cut strategy size owner p.block ++ p.after)
+abbrev pub paired : {upper : Bool} {S : Memory} {start : ℕ} {strategy : Strategy} {environment least most owner size : ℕ} → Pairing upper S start strategy environment least most owner size → List Header
+paired {upper} {S} {start} {strategy} {environment} {least} {most} {owner} {size} p = p.before ++ (cut strategy.fit size owner p.block ++ p.after)
 
 -- no arena, or a last list that is not clear; no room for both blocks
-abbrev pub PairRefused : Memory → ℕ → Strategy → ℕ → ℕ → ℕ → Refusal → Type 0
-PairRefused S start strategy environment least most Destroyed =
+abbrev pub PairRefused : Bool → Memory → ℕ → Strategy → ℕ → ℕ → ℕ → Refusal → Type 0
+PairRefused upper S start strategy environment least most Destroyed =
     NoArena S start
-    ⊎ ((owner : ℕ) × (size : ℕ) × (p : Pairing S start strategy environment least most owner size) × (IsClear S (paired p) → ⊥))
-PairRefused S start strategy environment least most (Short room) =
-    (L : List Header) × IsArena S start L × (room ≡ largest (join L))
-    × ((owner size : ℕ) → Pairing S start strategy environment least most owner size → ⊥)
-PairRefused S start strategy environment least most NoBlock = ⊥
+    ⊎ ((owner : ℕ) × (size : ℕ) × (p : Pairing upper S start strategy environment least most owner size) × (IsClear S (paired p) → ⊥))
+PairRefused upper S start strategy environment least most (Short room) =
+    (L : List Header) × IsArena S start L × (room ≡ largest upper (in_effect upper L strategy) (join upper L))
+    × ((owner size : ℕ) → Pairing upper S start strategy environment least most owner size → ⊥)
+PairRefused upper S start strategy environment least most NoBlock = ⊥
 
 -- what a pair tells: the segments of both blocks, of which the program's owns both, and its size; and the headers that
 -- stand in the place of those of the blocks that are cut
@@ -49,11 +49,11 @@ pub record Planned : Type 0 where
   pub second : List Header
 
 -- the pair is planned on the memory S
-pub record IsPair (S : Memory) (start : ℕ) (strategy : Strategy) (environment least most : ℕ) (pair : Planned) : Type 0 where
-  pub pairing : Pairing S start strategy environment least most pair.program pair.size
-  pub environment_is : pair.environment ≡ taken strategy environment pairing.first.block + 1
-  pub first_is : pair.first ≡ cut strategy environment pair.program pairing.first.block
-  pub second_is : pair.second ≡ cut strategy pair.size pair.program pairing.block
+pub record IsPair (upper : Bool) (S : Memory) (start : ℕ) (strategy : Strategy) (environment least most : ℕ) (pair : Planned) : Type 0 where
+  pub pairing : Pairing upper S start strategy environment least most pair.program pair.size
+  pub environment_is : pair.environment ≡ taken strategy.fit environment pairing.first.block + 1
+  pub first_is : pair.first ≡ cut strategy.fit environment pair.program pairing.first.block
+  pub second_is : pair.second ≡ cut strategy.fit pair.size pair.program pairing.block
   pub clear : IsClear S (paired pairing)
 
 -- where the blocks of a pair are: the segments of both, and the size of the program's in paragraphs
@@ -65,20 +65,20 @@ pub record Placed : Type 0 where
 abbrev pub placed_of : Planned → Placed
 placed_of pair = record { environment = pair.environment; program = pair.program; size = pair.size }
 
--- a pair planned and written, from memory S to memory T
-abbrev pub Pairs : Memory → Strategy → ℕ → ℕ → ℕ → Result Placed Refusal → Memory → Type 0
-Pairs S strategy environment least most (Ok placed) T =
-    (pair : Planned) × (p : IsPair S first_header strategy environment least most pair) × (placed ≡ placed_of pair)
+-- a pair planned and written, from memory S to memory T. `upper` is the setting: whether upper memory belongs to the arena
+abbrev pub Pairs : Bool → Memory → Strategy → ℕ → ℕ → ℕ → Result Placed Refusal → Memory → Type 0
+Pairs upper S strategy environment least most (Ok placed) T =
+    (pair : Planned) × (p : IsPair upper S first_header strategy environment least most pair) × (placed ≡ placed_of pair)
     × Becomes S first_header (paired p.pairing) T
-Pairs S strategy environment least most (Err e) T = (T ≡ S) × PairRefused S first_header strategy environment least most e
+Pairs upper S strategy environment least most (Err e) T = (T ≡ S) × PairRefused upper S first_header strategy environment least most e
 
 -- the memory is as the pair was planned on
-pub record IsPlannedOn (S : Memory) (pair : Planned) : Type 0 where
+pub record IsPlannedOn (upper : Bool) (S : Memory) (pair : Planned) : Type 0 where
   pub strategy : Strategy
   pub environment : ℕ
   pub least : ℕ
   pub most : ℕ
-  pub planned : IsPair S first_header strategy environment least most pair
+  pub planned : IsPair upper S first_header strategy environment least most pair
 
 -- the headers of a cut lead to no segment past FFFFh
 abbrev pub IsCutFitting : Cut → Type 0

@@ -2,14 +2,9 @@
 use Rattle.std.specs.Prelude.{List, None, Option, Some, ℕ, ◌*◌, ◌≡◌, ◌≢◌, ◌≤◌, ◌⊎◌}
 use Rattle.dm_space.specs.declared.place.Place.{Place}
 use Rattle.dm_space.specs.Memory.{Memory, place}
-use Rattle.dm_space.specs.Places.{IsWritable}
-use Rattle.dm_arena.specs.declared.header.Header.{Header}
-use Rattle.dm_arena.specs.Chain.{HasHeader}
-
--- the place of the segment keeps what is written, and no header of L has it
-pub record MayStand (S : Memory) (L : List Header) (segment : ℕ) : Type 0 where
-  pub writable : IsWritable (place S (16 * segment))
-  pub apart : (g : ℕ) → HasHeader L g → place S (16 * g) ≢ place S (16 * segment)
+use Rattle.dm_blocks.specs.declared.header.Header.{Header}
+use Rattle.dm_blocks.specs.Chain.{HasHeader}
+use Rattle.dm_blocks.specs.Standing.{MayStand}
 
 -- the same of the new header of a cut, if there is one
 abbrev pub MaySplit : Memory → List Header → Option Header → Type 0
@@ -20,12 +15,6 @@ MaySplit S L (Some b) = MayStand S L b.segment
 abbrev pub IsNew : List Header → Option Header → Type 0
 IsNew L None = Unit {0}
 IsNew L (Some b) = HasHeader L b.segment → ⊥
-
--- a header of L has the place
-pub record Occupies (S : Memory) (L : List Header) (p : Place) : Type 0 where
-  pub segment : ℕ
-  pub has : HasHeader L segment
-  pub is : place S (16 * segment) ≡ p
 
 -- the headers of M are those of L that are not between two segments
 pub record AreOutside (L : List Header) (low high : ℕ) (M : List Header) : Type 0 where

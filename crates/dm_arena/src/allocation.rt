@@ -1,17 +1,16 @@
 //! Allocation (function 48h).
 ghost use Rattle.std.specs.Prelude.{◌≡◌, ◌≤◌, ◌++◌, MatchOption, MatchResult, IfOk};
-ghost use Rattle.dm_arena.specs.Chain.{first_header, next, Becomes};
+ghost use Rattle.dm_blocks.specs.Chain.{first_header, next, Becomes};
 ghost use Rattle.dm_arena.specs.Blocks.{cut_list};
 ghost use Rattle.dm_arena.specs.Allocation.{AllocateRefused, Allocates};
 ghost use Rattle.dm_arena.specs.Walks.{IsPlan, Placing};
 
 use crate::cut::{Cut, cut_of, taken_of, write_cut};
-use crate::fit::{Strategy, choose};
-use crate::header::is_last;
+use crate::fit::{Strategy, choose, in_effect};
 use crate::joined::join_all;
-use crate::list::{FIRST, is_arena};
 use crate::refusal::Refusal;
 use crate::standing::may_split;
+use dm_blocks::{FIRST, is_arena, is_last};
 use dm_space::Space;
 
 /// What an allocation will write and answer.
@@ -22,39 +21,46 @@ struct Plan {
 }
 
 /// Plans an allocation. Nothing is written.
-fn plan_allocation(space: &Space, strategy: Strategy, n: u16, owner: u16) -> Result<Plan, Refusal>
-    ensures plan { MatchResult result (λ plan. IsPlan space.now.memory first_header strategy n owner plan) (λ e. AllocateRefused space.now.memory first_header strategy n owner e) }
+fn plan_allocation(
+    space: &Space,
+    strategy: Strategy,
+    n: u16,
+    owner: u16,
+    upper: bool,
+) -> Result<Plan, Refusal>
+    ensures plan { MatchResult result (λ plan. IsPlan upper space.now.memory first_header strategy n owner plan) (λ e. AllocateRefused upper space.now.memory first_header strategy n owner e) }
     ensures first { IfOk result (λ plan. next plan.cut.first ≤ 0xFFFF) }
     ensures second { IfOk result (λ plan. MatchOption plan.cut.second (Unit {0}) (λ c. next c ≤ 0xFFFF)) }
 {
-    if !is_arena(space, FIRST) {
+    if !is_arena(space) {
         return Err(Refusal::Destroyed);
     }
-    let choice = choose(space, strategy, n, None);
+    let searched = in_effect(space, strategy, upper);
+    let choice = choose(space, searched, n, None, upper);
     let Some(block) = choice.block else {
         return Err(Refusal::Short {
             largest: choice.largest,
         });
     };
-    let cut = cut_of(strategy, n, owner, block);
-    if !may_split(space, FIRST, None, cut.second) {
+    let cut = cut_of(strategy.fit, n, owner, block);
+    if !may_split(space, FIRST, None, cut.second, upper) {
         return Err(Refusal::Destroyed);
     }
     Ok(Plan {
         cut,
-        segment: taken_of(strategy, n, block) + 1,
+        segment: taken_of(strategy.fit, n, block) + 1,
     })
 }
 
 /// Writes the joined list, with the headers of a cut in the place of one of its blocks.
-fn write_joined(space: &mut Space, cut: Cut)
-    requires placing { Placing space.old.memory first_header (cut_list cut) }
+fn write_joined(space: &mut Space, cut: Cut, upper: bool)
+    requires placing { Placing upper space.old.memory first_header (cut_list cut) }
     requires first { next cut.first ≤ 0xFFFF }
     requires second { MatchOption cut.second (Unit {0}) (λ c. next c ≤ 0xFFFF) }
-    ensures memory { (p : Placing space.old.memory first_header (cut_list cut)) → Becomes space.old.memory first_header (p.before ++ (cut_list cut ++ p.after)) space.new.memory }
+    ensures memory { (p : Placing upper space.old.memory first_header (cut_list cut)) → Becomes space.old.memory first_header (p.before ++ (cut_list cut ++ p.after)) space.new.memory }
     ensures scratch { space.new.scratch ≡ space.old.scratch }
 {
-    join_all(space);
+    join_all(space, upper);
     let last = is_last(space, cut.first.segment);
     write_cut(space, cut, last);
 }
@@ -62,22 +68,32 @@ fn write_joined(space: &mut Space, cut: Cut)
 /// Allocates a block of n paragraphs to an owner, and answers the block's segment (MS-DOS
 /// Programmer's Reference, function 48h).
 ///
-/// Runs of free blocks are joined first. Of the free blocks with at least n paragraphs the strategy
-/// takes one. Of a block that is larger, first and best fit take the low end, last fit the high end;
+/// Runs of free blocks are joined first. Of the free blocks with at least n paragraphs that it looks
+/// at the strategy takes one. Of a block that is larger, first and best fit take the low end, last fit the high end;
 /// the rest stays free behind a header of its own. n may be 0.
+///
+/// `upper` tells whether upper memory belongs to the arena: then the link block counts as taken, and
+/// where the list is linked the strategy's area counts; else it looks at all blocks.
 ///
 /// Bytes 0 to 4 of the headers of the new list are all that changes.
 ///
 /// # Errors
 ///
-/// `Destroyed` where memory spells no clear list; else `Short` where no free block is large enough,
-/// with the size of the largest one once runs of free blocks are joined, 0 if there is none; else
+/// `Destroyed` where memory spells no clear list; else `Short` where no free block that the strategy
+/// looks at is large enough, with the size of the largest of them once runs of free blocks are
+/// joined, 0 if there is none; else
 /// `Destroyed` where the new list would not be clear. A refusal changes no byte.
-pub fn allocate(space: &mut Space, strategy: Strategy, n: u16, owner: u16) -> Result<u16, Refusal>
-    ensures memory { Allocates space.old.memory strategy n owner result space.new.memory }
+pub fn allocate(
+    space: &mut Space,
+    strategy: Strategy,
+    n: u16,
+    owner: u16,
+    upper: bool,
+) -> Result<u16, Refusal>
+    ensures memory { Allocates upper space.old.memory strategy n owner result space.new.memory }
     ensures scratch { space.new.scratch ≡ space.old.scratch }
 {
-    let plan = plan_allocation(space, strategy, n, owner)?;
-    write_joined(space, plan.cut);
+    let plan = plan_allocation(space, strategy, n, owner, upper)?;
+    write_joined(space, plan.cut, upper);
     Ok(plan.segment)
 }

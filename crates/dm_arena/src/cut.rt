@@ -1,12 +1,13 @@
 //! A block cut in two.
 ghost use Rattle.std.specs.Prelude.{◌≡◌, ℕ, ◌+◌, ◌<◌, ◌≤◌, List, MatchOption};
-ghost use Rattle.dm_arena.specs.declared.header.Header.{Header};
-ghost use Rattle.dm_arena.specs.Chain.{next};
+ghost use Rattle.dm_blocks.specs.declared.header.Header.{Header};
+ghost use Rattle.dm_blocks.specs.Chain.{next};
 ghost use Rattle.dm_arena.specs.Blocks.{cut, taken, cut_list};
 ghost use Rattle.dm_arena.specs.Walks.{IsReplaceable, IsReplaced};
 
-use crate::fit::Strategy;
-use crate::header::{Entry, Header, write_header};
+use crate::fit::Fit;
+use crate::writing::write_header;
+use dm_blocks::{Entry, Header};
 use dm_space::Space;
 
 /// The one or two headers that stand in the place of a block's.
@@ -17,10 +18,10 @@ pub(crate) struct Cut {
 }
 
 /// A block with n of its paragraphs taken by the owner, and the rest free.
-pub(crate) fn cut_of(strategy: Strategy, n: u16, owner: u16, block: Header) -> Cut
+pub(crate) fn cut_of(fit: Fit, n: u16, owner: u16, block: Header) -> Cut
     requires within { n ≤ block.size }
     requires fits { next block ≤ 0xFFFF }
-    ensures cut { cut_list result ≡ cut strategy n owner block }
+    ensures cut { cut_list result ≡ cut fit n owner block }
     ensures first { next result.first ≤ 0xFFFF }
     ensures second { MatchOption result.second (Unit {0}) (λ c. next c ≤ 0xFFFF) }
 {
@@ -31,9 +32,9 @@ pub(crate) fn cut_of(strategy: Strategy, n: u16, owner: u16, block: Header) -> C
         };
     }
     let rest = block.size - n - 1;
-    let (low, high) = match strategy {
-        Strategy::First | Strategy::Best => ((owner, n), (0, rest)),
-        Strategy::Last => ((0, rest), (owner, n)),
+    let (low, high) = match fit {
+        Fit::First | Fit::Best => ((owner, n), (0, rest)),
+        Fit::Last => ((0, rest), (owner, n)),
     };
     let first = Header {
         segment: block.segment,
@@ -52,15 +53,15 @@ pub(crate) fn cut_of(strategy: Strategy, n: u16, owner: u16, block: Header) -> C
 }
 
 /// The segment of the header whose block is the taken part.
-pub(crate) fn taken_of(strategy: Strategy, n: u16, block: Header) -> u16
+pub(crate) fn taken_of(fit: Fit, n: u16, block: Header) -> u16
     requires within { n ≤ block.size }
     requires fits { next block ≤ 0xFFFF }
-    ensures value { result ≡ taken strategy n block }
+    ensures value { result ≡ taken fit n block }
     ensures small { result < 0xFFFF }
 {
-    match strategy {
-        Strategy::First | Strategy::Best => block.segment,
-        Strategy::Last => block.segment + block.size - n,
+    match fit {
+        Fit::First | Fit::Best => block.segment,
+        Fit::Last => block.segment + block.size - n,
     }
 }
 

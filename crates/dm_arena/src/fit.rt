@@ -1,19 +1,53 @@
 //! Which free block an allocation takes.
 ghost use Rattle.std.specs.Prelude.{◌≡◌, List, None, max, option_to_list};
-ghost use Rattle.dm_arena.specs.declared.header.Header.{Header};
-ghost use Rattle.dm_arena.specs.Chain.{first_header};
-ghost use Rattle.dm_arena.specs.Walks.{IsSpelledFrom, better, left_of, pick};
+ghost use Rattle.dm_blocks.specs.declared.header.Header.{Header};
+ghost use Rattle.dm_blocks.specs.Chain.{first_header};
+ghost use Rattle.dm_blocks.specs.Reading.{IsSpelledFrom};
+ghost use Rattle.dm_arena.specs.Walks.{better, left_of, pick};
 ghost use Rattle.dm_arena.specs.Walks;
+ghost use Rattle.dm_arena.specs.Blocks;
+ghost use Rattle.dm_arena.specs.declared.fit.Area.TheVariants.{All};
 ghost use Rattle.dm_arena.specs.Blocks.{join, largest};
 
-use crate::header::Header;
 use crate::joined::joined_at;
-use crate::list::FIRST;
+use dm_blocks::{FIRST, Header, LINK, is_linked};
 use dm_space::Space;
 
 /// Which of the free blocks that are large enough an allocation takes (function 58h).
 #[derive(Clone, Copy, Debug, PartialEq, Eq)]
-pub enum Strategy {
+pub struct Strategy {
+    /// Which block of an area.
+    pub fit: Fit,
+    /// The blocks that are looked at.
+    pub area: Area,
+}
+
+impl Strategy {
+    /// The strategy that looks at all blocks alike.
+    pub fn everywhere(fit: Fit) -> Strategy
+        ensures { result ≡ record { fit = fit; area = All } }
+    {
+        Strategy {
+            fit,
+            area: Area::All,
+        }
+    }
+}
+
+/// The blocks that a strategy looks at in a list that goes on in upper memory; in others, all.
+#[derive(Clone, Copy, Debug, PartialEq, Eq)]
+pub enum Area {
+    /// All blocks alike.
+    All,
+    /// Those of upper memory alone, whose headers are above that of the link block.
+    Upper,
+    /// Those of upper memory, and the others where none of these fits.
+    UpperFirst,
+}
+
+/// Which of the blocks that are looked at and are large enough is taken.
+#[derive(Clone, Copy, Debug, PartialEq, Eq)]
+pub enum Fit {
     /// The lowest one, and its low end.
     First,
     /// The smallest one, of several the lowest, and its low end.
@@ -27,28 +61,92 @@ pub enum Strategy {
 pub(crate) struct Choice {
     /// The block that the strategy takes.
     pub(crate) block: Option<Header>,
-    /// The size of the largest free block, 0 if there is none.
+    /// The size of the largest free block that the strategy looks at, 0 if there is none.
     pub(crate) largest: u16,
 }
 
-/// What the search takes so far, once it has met one more block.
-fn better_of(strategy: Strategy, n: u16, best: Option<Header>, header: Header) -> Option<Header>
-    ensures { result ≡ better strategy n best header }
+/// The strategy that is in effect: it looks at all blocks, unless the list goes on in upper memory.
+pub(crate) fn in_effect(space: &Space, strategy: Strategy, upper: bool) -> Strategy
+    requires { (L : List Header) × IsSpelledFrom space.now.memory first_header L }
+    ensures { (L : List Header) → IsSpelledFrom space.now.memory first_header L → result ≡ Blocks.in_effect upper L strategy }
 {
-    if !header.is_free() || header.size < n {
+    if upper && is_linked(space) {
+        return strategy;
+    }
+    Strategy::everywhere(strategy.fit)
+}
+
+/// Whether the block is one of upper memory.
+fn is_upper(header: Header) -> bool
+    ensures { result ≡ Blocks.is_upper header }
+{
+    LINK < header.segment
+}
+
+/// Whether the strategy looks at a block.
+fn is_candidate(strategy: Strategy, header: Header, upper: bool) -> bool
+    ensures { result ≡ Blocks.is_candidate upper strategy header }
+{
+    if !header.is_free(upper) {
+        return false;
+    }
+    match strategy.area {
+        Area::All | Area::UpperFirst => true,
+        Area::Upper => is_upper(header),
+    }
+}
+
+/// Whether, of two blocks of one area, the first one is taken.
+fn prefers_by(fit: Fit, header: Header, old: Header) -> bool
+    ensures { result ≡ Blocks.prefers_by fit header old }
+{
+    match fit {
+        Fit::First => header.segment <= old.segment,
+        Fit::Best => {
+            header.size < old.size || (header.size == old.size && header.segment <= old.segment)
+        }
+        Fit::Last => old.segment <= header.segment,
+    }
+}
+
+/// Whether, of two blocks that fit, the first one is taken.
+fn prefers(strategy: Strategy, header: Header, old: Header) -> bool
+    ensures { result ≡ Blocks.prefers strategy header old }
+{
+    let preferred = prefers_by(strategy.fit, header, old);
+    match strategy.area {
+        Area::All | Area::Upper => preferred,
+        Area::UpperFirst => {
+            if is_upper(header) {
+                !is_upper(old) || preferred
+            } else {
+                !is_upper(old) && preferred
+            }
+        }
+    }
+}
+
+/// What the search takes so far, once it has met one more block.
+fn better_of(
+    strategy: Strategy,
+    n: u16,
+    best: Option<Header>,
+    header: Header,
+    upper: bool,
+) -> Option<Header>
+    ensures { result ≡ better upper strategy n best header }
+{
+    if !is_candidate(strategy, header, upper) || header.size < n {
         return best;
     }
     let Some(old) = best else {
         return Some(header);
     };
-    let preferred = match strategy {
-        Strategy::First => header.segment <= old.segment,
-        Strategy::Best => {
-            header.size < old.size || (header.size == old.size && header.segment <= old.segment)
-        }
-        Strategy::Last => old.segment <= header.segment,
-    };
-    if preferred { Some(header) } else { best }
+    if prefers(strategy, header, old) {
+        Some(header)
+    } else {
+        best
+    }
 }
 
 /// A block that is spoken for, by its header's segment, and the part of it that stays free.
@@ -75,26 +173,36 @@ fn left_part(spoken: Option<Spoken>, header: Header) -> Option<Header>
 }
 
 /// What the search has found once it has met one more block.
-fn meet(strategy: Strategy, n: u16, choice: Choice, header: Option<Header>) -> Choice
-    ensures block { result.block ≡ pick strategy n choice.block (option_to_list header) }
-    ensures largest { result.largest ≡ max choice.largest (largest (option_to_list header)) }
+fn meet(strategy: Strategy, n: u16, choice: Choice, header: Option<Header>, upper: bool) -> Choice
+    ensures block { result.block ≡ pick upper strategy n choice.block (option_to_list header) }
+    ensures largest { result.largest ≡ max choice.largest (largest upper strategy (option_to_list header)) }
 {
     let Some(header) = header else {
         return choice;
     };
-    let free = if header.is_free() { header.size } else { 0 };
+    let free = if is_candidate(strategy, header, upper) {
+        header.size
+    } else {
+        0
+    };
     Choice {
-        block: better_of(strategy, n, choice.block, header),
+        block: better_of(strategy, n, choice.block, header, upper),
         largest: choice.largest.max(free),
     }
 }
 
 /// The free block of the joined list that the strategy takes for n paragraphs, where one block may
 /// be spoken for.
-pub(crate) fn choose(space: &Space, strategy: Strategy, n: u16, spoken: Option<Spoken>) -> Choice
+pub(crate) fn choose(
+    space: &Space,
+    strategy: Strategy,
+    n: u16,
+    spoken: Option<Spoken>,
+    upper: bool,
+) -> Choice
     requires { (L : List Header) × IsSpelledFrom space.now.memory first_header L }
-    ensures block { (L : List Header) → IsSpelledFrom space.now.memory first_header L → result.block ≡ pick strategy n None (left_of spoken (join L)) }
-    ensures largest { (L : List Header) → IsSpelledFrom space.now.memory first_header L → result.largest ≡ largest (left_of spoken (join L)) }
+    ensures block { (L : List Header) → IsSpelledFrom space.now.memory first_header L → result.block ≡ pick upper strategy n None (left_of spoken (join upper L)) }
+    ensures largest { (L : List Header) → IsSpelledFrom space.now.memory first_header L → result.largest ≡ largest upper strategy (left_of spoken (join upper L)) }
 {
     let mut choice = Choice {
         block: None,
@@ -102,8 +210,8 @@ pub(crate) fn choose(space: &Space, strategy: Strategy, n: u16, spoken: Option<S
     };
     let mut segment = FIRST;
     'walk: loop {
-        let entry = joined_at(space, segment);
-        choice = meet(strategy, n, choice, left_part(spoken, entry.header));
+        let entry = joined_at(space, segment, upper);
+        choice = meet(strategy, n, choice, left_part(spoken, entry.header), upper);
         if entry.last {
             return choice;
         }

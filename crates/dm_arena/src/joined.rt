@@ -1,28 +1,29 @@
 //! The list with each run of free blocks made one.
 ghost use Rattle.std.specs.Prelude.{◌≡◌, ℕ, ◌+◌, ◌≤◌, List};
-ghost use Rattle.dm_arena.specs.declared.header.Header.{Header};
-ghost use Rattle.dm_arena.specs.Chain.{first_header, next, IsArena};
-ghost use Rattle.dm_arena.specs.Walks.{IsSpelledFrom, IsJoinedFront, IsJoined};
+ghost use Rattle.dm_blocks.specs.declared.header.Header.{Header};
+ghost use Rattle.dm_blocks.specs.Chain.{first_header, next, IsArena};
+ghost use Rattle.dm_blocks.specs.Reading.{IsSpelledFrom};
+ghost use Rattle.dm_arena.specs.Walks.{IsJoinedFront, IsJoined};
 
-use crate::header::{Entry, write_header};
-use crate::list::{FIRST, entry_at};
+use crate::writing::write_header;
+use dm_blocks::{Entry, FIRST, entry_at};
 use dm_space::Space;
 
 /// The header at a segment from which a list is spelled, its block joined with the free blocks
 /// behind it if it is free itself.
-pub(crate) fn joined_at(space: &Space, segment: u16) -> Entry
+pub(crate) fn joined_at(space: &Space, segment: u16, upper: bool) -> Entry
     requires { (L : List Header) × IsSpelledFrom space.now.memory segment L }
     ensures there { result.header.segment ≡ segment }
     ensures fits { next result.header ≤ 0xFFFF }
-    ensures front { (L : List Header) → IsSpelledFrom space.now.memory segment L → (K : List Header) × IsJoinedFront space.now.memory L result K }
+    ensures front { (L : List Header) → IsSpelledFrom space.now.memory segment L → (K : List Header) × IsJoinedFront upper space.now.memory L result K }
 {
     let mut entry = entry_at(space, segment);
     loop {
-        if entry.last || !entry.header.is_free() {
+        if entry.last || !entry.header.is_free(upper) {
             return entry;
         }
         let after = entry_at(space, entry.header.next());
-        if !after.header.is_free() {
+        if !after.header.is_free(upper) {
             return entry;
         }
         entry.header.size += 1 + after.header.size;
@@ -31,14 +32,14 @@ pub(crate) fn joined_at(space: &Space, segment: u16) -> Entry
 }
 
 /// Writes the joined list.
-pub(crate) fn join_all(space: &mut Space)
+pub(crate) fn join_all(space: &mut Space, upper: bool)
     requires { (L : List Header) × IsArena space.old.memory first_header L }
-    ensures memory { (L : List Header) → IsArena space.old.memory first_header L → IsJoined space.old.memory first_header L space.new.memory }
+    ensures memory { (L : List Header) → IsArena space.old.memory first_header L → IsJoined upper space.old.memory first_header L space.new.memory }
     ensures scratch { space.new.scratch ≡ space.old.scratch }
 {
     let mut segment = FIRST;
     'walk: loop {
-        let entry = joined_at(space, segment);
+        let entry = joined_at(space, segment, upper);
         write_header(space, entry);
         if entry.last {
             return;

@@ -1,35 +1,47 @@
 //! Blocks that are owned already: freed and resized (functions 49h and 4Ah).
-ghost use Rattle.std.specs.Prelude.{◌≡◌, ◌≤◌, List};
-ghost use Rattle.dm_arena.specs.declared.header.Header.{Header};
-ghost use Rattle.dm_arena.specs.Chain.{first_header, next, Becomes, IsArena};
+ghost use Rattle.std.specs.Prelude.{◌≡◌, ◌≤◌, List, MatchOption};
+ghost use Rattle.dm_blocks.specs.declared.header.Header.{Header};
+ghost use Rattle.dm_blocks.specs.Chain.{first_header, next, Becomes, IsArena};
 ghost use Rattle.dm_arena.specs.Owned.{released, released_block, BeginsTaken, Frees, Releases, Resizes};
-ghost use Rattle.dm_arena.specs.Walks.{IsGrowable, IsGrown};
+ghost use Rattle.dm_blocks.specs.Reading.{IsSpelledFrom};
+ghost use Rattle.dm_arena.specs.Walks.{FindsOther, IsGrowable, IsGrown};
 
 use crate::cut::{Cut, cut_of, write_cut};
-use crate::fit::Strategy;
-use crate::header::{Entry, Header};
-use crate::list::{FIRST, entry_at, find, is_arena};
+use crate::fit::Fit;
 use crate::refusal::Refusal;
 use crate::standing::may_split_outside;
+use dm_blocks::{Entry, FIRST, Header, LINK, entry_at, find, has_second, is_arena, is_linked};
 use dm_space::Space;
+
+/// The header whose block begins at a segment, if the list has one and it isn't the link block's.
+fn find_block(space: &Space, segment: u16, upper: bool) -> Option<Entry>
+    requires { (L : List Header) × IsSpelledFrom space.now.memory first_header L }
+    ensures found { FindsOther upper space.now.memory first_header segment result }
+    ensures fits { MatchOption result (Unit {0}) (λ e. next e.header ≤ 0xFFFF) }
+{
+    if upper && segment == LINK + 1 {
+        return None;
+    }
+    find(space, segment)
+}
 
 /// Frees the block at a segment (MS-DOS Programmer's Reference, function 49h).
 ///
 /// Its owner becomes 0; nothing is joined, and a free block stays free. Bytes 0 to 4 of its header
-/// are all that changes.
+/// are all that changes. `upper` tells whether upper memory belongs to the arena.
 ///
 /// # Errors
 ///
 /// `Destroyed` where memory spells no clear list, else `NoBlock` where no block of the list begins
-/// at the segment. A refusal changes no byte.
-pub fn free(space: &mut Space, segment: u16) -> Result<(), Refusal>
-    ensures memory { Frees space.old.memory segment result space.new.memory }
+/// at the segment, or the link block does. A refusal changes no byte.
+pub fn free(space: &mut Space, segment: u16, upper: bool) -> Result<(), Refusal>
+    ensures memory { Frees upper space.old.memory segment result space.new.memory }
     ensures scratch { space.new.scratch ≡ space.old.scratch }
 {
-    if !is_arena(space, FIRST) {
+    if !is_arena(space) {
         return Err(Refusal::Destroyed);
     }
-    let Some(entry) = find(space, segment) else {
+    let Some(entry) = find_block(space, segment, upper) else {
         return Err(Refusal::NoBlock);
     };
     let cut = Cut {
@@ -44,11 +56,11 @@ pub fn free(space: &mut Space, segment: u16) -> Result<(), Refusal>
 }
 
 /// A header whose block takes in the run of free blocks behind it.
-fn grow(space: &Space, entry: Entry) -> Entry
+fn grow(space: &Space, entry: Entry, upper: bool) -> Entry
     requires fits { next entry.header ≤ 0xFFFF }
     requires growable { (K : List Header) × IsGrowable space.now.memory entry K }
     ensures fits { next result.header ≤ 0xFFFF }
-    ensures grown { (K : List Header) → IsGrowable space.now.memory entry K → (R : List Header) × (Q : List Header) × IsGrown space.now.memory entry K result R Q × BeginsTaken Q }
+    ensures grown { (K : List Header) → IsGrowable space.now.memory entry K → (R : List Header) × (Q : List Header) × IsGrown upper space.now.memory entry K result R Q × BeginsTaken upper Q }
 {
     let mut grown = entry;
     'walk: loop {
@@ -56,7 +68,7 @@ fn grow(space: &Space, entry: Entry) -> Entry
             return grown;
         }
         let after = entry_at(space, grown.header.next());
-        if !after.header.is_free() {
+        if !after.header.is_free(upper) {
             return grown;
         }
         grown.header.size += 1 + after.header.size;
@@ -68,30 +80,30 @@ fn grow(space: &Space, entry: Entry) -> Entry
 ///
 /// The block first takes in the run of free blocks behind it, then it is cut to n as by first fit.
 /// Its owner stays. Bytes 0 to 4 of its header and of the one behind its n paragraphs are all that
-/// changes.
+/// changes. `upper` tells whether upper memory belongs to the arena.
 ///
 /// # Errors
 ///
 /// `Destroyed` where memory spells no clear list; else `NoBlock` where no block of the list begins
-/// at the segment; else `Short` where n is over the block's size with its run, which it tells; else
+/// at the segment, or the link block does; else `Short` where n is over the block's size with its run, which it tells; else
 /// `Destroyed` where the new list would not be clear. A refusal changes no byte.
-pub fn resize(space: &mut Space, segment: u16, n: u16) -> Result<(), Refusal>
-    ensures memory { Resizes space.old.memory segment n result space.new.memory }
+pub fn resize(space: &mut Space, segment: u16, n: u16, upper: bool) -> Result<(), Refusal>
+    ensures memory { Resizes upper space.old.memory segment n result space.new.memory }
     ensures scratch { space.new.scratch ≡ space.old.scratch }
 {
-    if !is_arena(space, FIRST) {
+    if !is_arena(space) {
         return Err(Refusal::Destroyed);
     }
-    let Some(block) = find(space, segment) else {
+    let Some(block) = find_block(space, segment, upper) else {
         return Err(Refusal::NoBlock);
     };
-    let grown = grow(space, block);
+    let grown = grow(space, block, upper);
     if n > grown.header.size {
         return Err(Refusal::Short {
             largest: grown.header.size,
         });
     }
-    let cut = cut_of(Strategy::First, n, grown.header.owner, grown.header);
+    let cut = cut_of(Fit::First, n, grown.header.owner, grown.header);
     let end = grown.header.next();
     if !may_split_outside(space, FIRST, block.header.segment, end, cut.second) {
         return Err(Refusal::Destroyed);
@@ -114,13 +126,13 @@ fn released_of(header: Header, owner: u16) -> Header
     }
 }
 
-/// Writes the list with each block of an owner freed.
-fn release(space: &mut Space, owner: u16)
-    requires { (L : List Header) × IsArena space.old.memory first_header L }
-    ensures memory { (L : List Header) → IsArena space.old.memory first_header L → Becomes space.old.memory first_header (released owner L) space.new.memory }
+/// Writes the list from a segment on with each block of an owner freed.
+fn release(space: &mut Space, first: u16, owner: u16)
+    requires { (L : List Header) × IsArena space.old.memory first L }
+    ensures memory { (L : List Header) → IsArena space.old.memory first L → Becomes space.old.memory first (released owner L) space.new.memory }
     ensures scratch { space.new.scratch ≡ space.old.scratch }
 {
-    let mut here = FIRST;
+    let mut here = first;
     'walk: loop {
         let entry = entry_at(space, here);
         let header = released_of(entry.header, owner);
@@ -138,18 +150,28 @@ fn release(space: &mut Space, owner: u16)
 
 /// Frees each block of an owner, as at the end of a program. Nothing is joined.
 ///
-/// Bytes 0 to 4 of the headers of the list are all that changes.
+/// `upper` tells whether upper memory belongs to the arena. Where the list isn't linked then, the
+/// second list's blocks are freed too. Bytes 0 to 4 of the headers of the lists are all that changes.
 ///
 /// # Errors
 ///
-/// `Destroyed` where memory spells no clear list; then no byte changes.
-pub fn free_all(space: &mut Space, owner: u16) -> Result<(), Refusal>
-    ensures memory { Releases space.old.memory owner result space.new.memory }
+/// `Destroyed` where memory spells no clear list, or where the list isn't linked and memory spells no
+/// second one, or the first followed by the second isn't clear; then no byte changes.
+pub fn free_all(space: &mut Space, owner: u16, upper: bool) -> Result<(), Refusal>
+    ensures memory { Releases upper space.old.memory owner result space.new.memory }
     ensures scratch { space.new.scratch ≡ space.old.scratch }
 {
-    if !is_arena(space, FIRST) {
+    if !is_arena(space) {
         return Err(Refusal::Destroyed);
     }
-    release(space, owner);
+    if !upper || is_linked(space) {
+        release(space, FIRST, owner);
+        return Ok(());
+    }
+    if !has_second(space) {
+        return Err(Refusal::Destroyed);
+    }
+    release(space, FIRST, owner);
+    release(space, LINK, owner);
     Ok(())
 }

@@ -1,19 +1,19 @@
 //! Two blocks planned and written together: the environment of a program, and the program's own.
 ghost use Rattle.std.specs.Prelude.{◌≡◌, ◌≤◌, ◌++◌, ◌⊎◌, min, List, MatchBool, MatchResult, option_to_list};
-ghost use Rattle.dm_arena.specs.declared.header.Header.{Header};
-ghost use Rattle.dm_arena.specs.Chain.{first_header, next, Becomes};
+ghost use Rattle.dm_blocks.specs.declared.header.Header.{Header};
+ghost use Rattle.dm_blocks.specs.Chain.{first_header, next, Becomes};
 ghost use Rattle.dm_arena.specs.Blocks.{join};
-ghost use Rattle.dm_arena.specs.Walks.{rest_of, IsSpelledFrom};
+ghost use Rattle.dm_blocks.specs.Reading.{IsSpelledFrom};
+ghost use Rattle.dm_arena.specs.Walks.{rest_of};
 ghost use Rattle.dm_arena.specs.Standing.{IsNew, MaySplit};
 ghost use Rattle.dm_arena.specs.Pair.{paired, IsPair, IsPlannedOn, PairRefused};
 
 use crate::cut::{Cut, cut_of, taken_of, write_cut};
-use crate::fit::{Spoken, Strategy, choose};
-use crate::header::{Header, is_last};
+use crate::fit::{Fit, Spoken, Strategy, choose, in_effect};
 use crate::joined::join_all;
-use crate::list::{FIRST, is_arena};
 use crate::refusal::Refusal;
 use crate::standing::may_split;
+use dm_blocks::{FIRST, Header, is_arena, is_last};
 use dm_space::Space;
 use std::marker::Model;
 
@@ -71,11 +71,11 @@ impl Pair {
 }
 
 /// A block of which n paragraphs are spoken for.
-fn spoken_of(strategy: Strategy, n: u16, block: Header) -> Spoken
+fn spoken_of(fit: Fit, n: u16, block: Header) -> Spoken
     requires within { n ≤ block.size }
     requires fits { next block ≤ 0xFFFF }
     ensures segment { result.segment ≡ block.segment }
-    ensures rest { result.rest ≡ rest_of strategy n block }
+    ensures rest { result.rest ≡ rest_of fit n block }
 {
     if block.size == n {
         return Spoken {
@@ -83,9 +83,9 @@ fn spoken_of(strategy: Strategy, n: u16, block: Header) -> Spoken
             rest: None,
         };
     }
-    let segment = match strategy {
-        Strategy::First | Strategy::Best => block.segment + 1 + n,
-        Strategy::Last => block.segment,
+    let segment = match fit {
+        Fit::First | Fit::Best => block.segment + 1 + n,
+        Fit::Last => block.segment,
     };
     let rest = Header {
         segment,
@@ -109,62 +109,63 @@ fn smaller(most: u32, left: u16) -> u16
     }
 }
 
-/// Whether the new headers of both cuts may stand beside those of the joined list and beside each
-/// other.
-fn are_clear(space: &Space, first: Cut, second: Cut) -> bool
+/// Whether the new headers of both cuts may stand beside the joined list and beside each other.
+fn are_clear(space: &Space, first: Cut, second: Cut, upper: bool) -> bool
     requires { (L : List Header) × IsSpelledFrom space.now.memory first_header L }
-    ensures { (L : List Header) → IsSpelledFrom space.now.memory first_header L → IsNew (join L) first.second → IsNew (option_to_list first.second ++ join L) second.second → MatchBool result (MaySplit space.now.memory (join L) first.second × MaySplit space.now.memory (option_to_list first.second ++ join L) second.second) ((MaySplit space.now.memory (join L) first.second → ⊥) ⊎ (MaySplit space.now.memory (option_to_list first.second ++ join L) second.second → ⊥)) }
+    ensures { (L : List Header) → IsSpelledFrom space.now.memory first_header L → IsNew (join upper L) first.second → IsNew (option_to_list first.second ++ join upper L) second.second → MatchBool result (MaySplit space.now.memory (join upper L) first.second × MaySplit space.now.memory (option_to_list first.second ++ join upper L) second.second) ((MaySplit space.now.memory (join upper L) first.second → ⊥) ⊎ (MaySplit space.now.memory (option_to_list first.second ++ join upper L) second.second → ⊥)) }
 {
-    if !may_split(space, FIRST, None, first.second) {
+    if !may_split(space, FIRST, None, first.second, upper) {
         return false;
     }
-    may_split(space, FIRST, first.second, second.second)
+    may_split(space, FIRST, first.second, second.second, upper)
 }
 
 /// Plans two blocks: the first with so many paragraphs, then, of what is left, the second with the
 /// smaller of `most` paragraphs and the largest free block. Nothing is written.
 ///
 /// Both are chosen by the strategy, as by an allocation of each in turn, once runs of free blocks
-/// are joined.
+/// are joined. `upper` tells whether upper memory belongs to the arena.
 ///
 /// # Errors
 ///
 /// `Destroyed` where memory spells no clear list; else `Short` where the first block has no room,
 /// or the second would have less than `least` paragraphs, with the size of the largest free block
-/// once runs are joined; else `Destroyed` where the last list would not be clear.
+/// that the strategy looks at once runs are joined; else `Destroyed` where the last list would not be clear.
 pub fn plan_pair(
     space: &Space,
     strategy: Strategy,
     environment_paragraphs: u16,
     least: u32,
     most: u32,
+    upper: bool,
 ) -> Result<Pair, Refusal>
-    ensures { MatchResult result (λ pair. IsPair space.now.memory first_header strategy environment_paragraphs least most pair) (λ e. PairRefused space.now.memory first_header strategy environment_paragraphs least most e) }
+    ensures { MatchResult result (λ pair. IsPair upper space.now.memory first_header strategy environment_paragraphs least most pair) (λ e. PairRefused upper space.now.memory first_header strategy environment_paragraphs least most e) }
 {
-    if !is_arena(space, FIRST) {
+    if !is_arena(space) {
         return Err(Refusal::Destroyed);
     }
-    let choice = choose(space, strategy, environment_paragraphs, None);
+    let searched = in_effect(space, strategy, upper);
+    let choice = choose(space, searched, environment_paragraphs, None, upper);
     let short = Refusal::Short {
         largest: choice.largest,
     };
     let Some(block) = choice.block else {
         return Err(short);
     };
-    let spoken = spoken_of(strategy, environment_paragraphs, block);
-    let left = choose(space, strategy, 0, Some(spoken)).largest;
+    let spoken = spoken_of(strategy.fit, environment_paragraphs, block);
+    let left = choose(space, searched, 0, Some(spoken), upper).largest;
     let size = smaller(most, left);
     if (size as u32) < least {
         return Err(short);
     }
-    let Some(whole) = choose(space, strategy, size, Some(spoken)).block else {
+    let Some(whole) = choose(space, searched, size, Some(spoken), upper).block else {
         return Err(short);
     };
-    let environment_segment = taken_of(strategy, environment_paragraphs, block) + 1;
-    let program = taken_of(strategy, size, whole) + 1;
-    let first = cut_of(strategy, environment_paragraphs, program, block);
-    let second = cut_of(strategy, size, program, whole);
-    if !are_clear(space, first, second) {
+    let environment_segment = taken_of(strategy.fit, environment_paragraphs, block) + 1;
+    let program = taken_of(strategy.fit, size, whole) + 1;
+    let first = cut_of(strategy.fit, environment_paragraphs, program, block);
+    let second = cut_of(strategy.fit, size, program, whole);
+    if !are_clear(space, first, second, upper) {
         return Err(Refusal::Destroyed);
     }
     Ok(Pair {
@@ -179,15 +180,15 @@ pub fn plan_pair(
 /// Writes the headers of two blocks, both owned by the second one's segment, and those of the free
 /// blocks around them.
 ///
-/// The memory is as the pair was planned on. Bytes 0 to 4 of the headers of the new list are all
+/// Memory and setting are as the pair was planned on. Bytes 0 to 4 of the headers of the new list are all
 /// that changes.
-pub fn write_pair(space: &mut Space, pair: Pair)
-    requires { IsPlannedOn space.old.memory pair }
-    ensures memory { (p : IsPlannedOn space.old.memory pair) → Becomes space.old.memory first_header (paired p.planned.pairing) space.new.memory }
+pub fn write_pair(space: &mut Space, pair: Pair, upper: bool)
+    requires { IsPlannedOn upper space.old.memory pair }
+    ensures memory { (p : IsPlannedOn upper space.old.memory pair) → Becomes space.old.memory first_header (paired p.planned.pairing) space.new.memory }
     ensures scratch { space.new.scratch ≡ space.old.scratch }
 {
     let Pair { first, second, .. } = pair;
-    join_all(space);
+    join_all(space, upper);
     let last = is_last(space, first.first.segment);
     write_cut(space, first, last);
     let last = is_last(space, second.first.segment);

@@ -5,14 +5,14 @@
 ghost use Rattle.std.specs.Prelude.{◌≡◌, ◌≢◌, ◌≤◌, ◌*◌, ◌++◌, ◌⊎◌, List, MatchBool, option_to_list};
 ghost use Rattle.dm_space.specs.declared.place.Place.TheVariants.{Page};
 ghost use Rattle.dm_space.specs.Memory.{place};
-ghost use Rattle.dm_arena.specs.declared.header.Header.{Header};
+ghost use Rattle.dm_blocks.specs.declared.header.Header.{Header};
 ghost use Rattle.dm_arena.specs.Blocks.{join};
-ghost use Rattle.dm_arena.specs.Walks.{IsSpelledFrom};
-ghost use Rattle.dm_arena.specs.Standing.{AreOutside, IsNew, MaySplit, Occupies};
+ghost use Rattle.dm_blocks.specs.Reading.{IsSpelledFrom};
+ghost use Rattle.dm_blocks.specs.Standing.{Occupies};
+ghost use Rattle.dm_arena.specs.Standing.{AreOutside, IsNew, MaySplit};
 
-use crate::header::Header;
 use crate::joined::joined_at;
-use crate::list::entry_at;
+use dm_blocks::{Header, entry_at};
 use dm_pool::Block;
 use dm_space::{Place, Space};
 
@@ -40,13 +40,13 @@ fn has_place(space: &Space, header: Option<Header>, block: Block, offset: usize)
 }
 
 /// Whether a header of the joined list has a given byte of a page as its place.
-fn stands_joined(space: &Space, first: u16, block: Block, offset: usize) -> bool
+fn stands_joined(space: &Space, first: u16, block: Block, offset: usize, upper: bool) -> bool
     requires { (L : List Header) × IsSpelledFrom space.now.memory first L }
-    ensures { (L : List Header) → IsSpelledFrom space.now.memory first L → MatchBool result (Occupies space.now.memory (join L) (Page block offset)) (Occupies space.now.memory (join L) (Page block offset) → ⊥) }
+    ensures { (L : List Header) → IsSpelledFrom space.now.memory first L → MatchBool result (Occupies space.now.memory (join upper L) (Page block offset)) (Occupies space.now.memory (join upper L) (Page block offset) → ⊥) }
 {
     let mut segment = first;
     'walk: loop {
-        let entry = joined_at(space, segment);
+        let entry = joined_at(space, segment, upper);
         if is_on(space, segment, block, offset) {
             return true;
         }
@@ -78,8 +78,7 @@ fn is_on_outside(
     is_on(space, segment, block, offset)
 }
 
-/// Whether a header of the list that isn't between two segments has a given byte of a page as its
-/// place.
+/// Whether a header that isn't between two segments has a given byte of a page as its place.
 fn stands_outside(
     space: &Space,
     first: u16,
@@ -111,26 +110,27 @@ fn is_occupied(
     beside: Option<Header>,
     block: Block,
     offset: usize,
+    upper: bool,
 ) -> bool
     requires { (L : List Header) × IsSpelledFrom space.now.memory first L }
-    ensures { (L : List Header) → IsSpelledFrom space.now.memory first L → MatchBool result (Occupies space.now.memory (option_to_list beside ++ join L) (Page block offset)) (Occupies space.now.memory (option_to_list beside ++ join L) (Page block offset) → ⊥) }
+    ensures { (L : List Header) → IsSpelledFrom space.now.memory first L → MatchBool result (Occupies space.now.memory (option_to_list beside ++ join upper L) (Page block offset)) (Occupies space.now.memory (option_to_list beside ++ join upper L) (Page block offset) → ⊥) }
 {
     if has_place(space, beside, block, offset) {
         return true;
     }
-    stands_joined(space, first, block, offset)
+    stands_joined(space, first, block, offset, upper)
 }
 
-/// Whether a new header, if there is one, may stand beside another new one and those of the joined
-/// list.
+/// Whether a new header, if there is one, may stand beside another and those of the joined list.
 pub(crate) fn may_split(
     space: &Space,
     first: u16,
     beside: Option<Header>,
     new: Option<Header>,
+    upper: bool,
 ) -> bool
     requires { (L : List Header) × IsSpelledFrom space.now.memory first L }
-    ensures { (L : List Header) → IsSpelledFrom space.now.memory first L → IsNew (option_to_list beside ++ join L) new → MatchBool result (MaySplit space.now.memory (option_to_list beside ++ join L) new) (MaySplit space.now.memory (option_to_list beside ++ join L) new → ⊥) }
+    ensures { (L : List Header) → IsSpelledFrom space.now.memory first L → IsNew (option_to_list beside ++ join upper L) new → MatchBool result (MaySplit space.now.memory (option_to_list beside ++ join upper L) new) (MaySplit space.now.memory (option_to_list beside ++ join upper L) new → ⊥) }
 {
     let Some(header) = new else {
         return true;
@@ -138,7 +138,7 @@ pub(crate) fn may_split(
     match space.back(header.segment) {
         Place::Low(_) => true,
         Place::Rom(_) | Place::Nothing => false,
-        Place::Page(block, offset) => !is_occupied(space, first, beside, block, offset),
+        Place::Page(block, offset) => !is_occupied(space, first, beside, block, offset, upper),
     }
 }
 

@@ -2,10 +2,8 @@
 
 use crate::checks::same;
 use crate::memory::new_space;
-use dm_arena::{
-    Entry, Header, Refusal, Step, Strategy, allocate, free, free_all, plan_pair, resize, walk,
-    write_pair,
-};
+use dm_arena::{Fit, Refusal, Strategy, allocate, free, free_all, plan_pair, resize, write_pair};
+use dm_blocks::{Entry, Header, Step, walk};
 use dm_space::Space;
 use std::process::Abort;
 use std::test::Fail;
@@ -50,7 +48,7 @@ fn loaded(space: &mut Space) {
 /// The same, once its block is resized to 1000h paragraphs.
 fn shrunk(space: &mut Space) -> Result<(), Refusal> {
     loaded(space);
-    resize(space, OWNER, 0x1000)
+    resize(space, OWNER, 0x1000, false)
 }
 
 #[test]
@@ -67,15 +65,32 @@ fn resized_block_leaves_the_rest_free(rt: HostRuntime) -> Result<(), Fail> {
     same(
         &rt,
         "allocate",
-        allocate(&mut space, Strategy::First, 0xFFFF, OWNER),
+        allocate(
+            &mut space,
+            Strategy::everywhere(Fit::First),
+            0xFFFF,
+            OWNER,
+            false,
+        ),
         Err(Refusal::Short { largest: 0 }),
     );
-    same(&rt, "resize", resize(&mut space, OWNER, 0x1000), Ok(()));
+    same(
+        &rt,
+        "resize",
+        resize(&mut space, OWNER, 0x1000, false),
+        Ok(()),
+    );
     stands(&rt, &space, entry(true, 0x1103, 0, 0x8EFC));
     same(
         &rt,
         "allocate",
-        allocate(&mut space, Strategy::First, 0xFFFF, OWNER),
+        allocate(
+            &mut space,
+            Strategy::everywhere(Fit::First),
+            0xFFFF,
+            OWNER,
+            false,
+        ),
         Err(Refusal::Short { largest: 0x8EFC }),
     );
     Ok(())
@@ -88,11 +103,16 @@ fn block_grows_back_over_the_rest(rt: HostRuntime) -> Result<(), Fail> {
     same(
         &rt,
         "resize",
-        resize(&mut space, OWNER, 0x9EFE),
+        resize(&mut space, OWNER, 0x9EFE, false),
         Err(Refusal::Short { largest: 0x9EFD }),
     );
     stands(&rt, &space, entry(true, 0x1103, 0, 0x8EFC));
-    same(&rt, "resize", resize(&mut space, OWNER, 0x9EFD), Ok(()));
+    same(
+        &rt,
+        "resize",
+        resize(&mut space, OWNER, 0x9EFD, false),
+        Ok(()),
+    );
     stands(&rt, &space, entry(true, 0x102, OWNER, 0x9EFD));
     Ok(())
 }
@@ -111,7 +131,13 @@ fn rest_of_a_block_may_be_empty(rt: HostRuntime) -> Result<(), Fail> {
         same(
             &rt,
             "allocate",
-            allocate(&mut space, Strategy::First, n, OWNER),
+            allocate(
+                &mut space,
+                Strategy::everywhere(Fit::First),
+                n,
+                OWNER,
+                false,
+            ),
             Ok(0x1104),
         );
         stands(&rt, &space, last);
@@ -122,9 +148,9 @@ fn rest_of_a_block_may_be_empty(rt: HostRuntime) -> Result<(), Fail> {
 #[test]
 fn strategies_take_other_blocks(rt: HostRuntime) -> Result<(), Fail> {
     let rows = [
-        (Strategy::First, 0x1104),
-        (Strategy::Best, 0x1117),
-        (Strategy::Last, 0x111A),
+        (Strategy::everywhere(Fit::First), 0x1104),
+        (Strategy::everywhere(Fit::Best), 0x1117),
+        (Strategy::everywhere(Fit::Last), 0x111A),
     ];
     for (strategy, segment) in rows {
         let mut space = new_space(rt.alloc())?;
@@ -139,16 +165,22 @@ fn strategies_take_other_blocks(rt: HostRuntime) -> Result<(), Fail> {
             same(
                 &rt,
                 "allocate",
-                allocate(&mut space, Strategy::First, n, OWNER),
+                allocate(
+                    &mut space,
+                    Strategy::everywhere(Fit::First),
+                    n,
+                    OWNER,
+                    false,
+                ),
                 Ok(block),
             );
         }
-        same(&rt, "free", free(&mut space, 0x1104), Ok(()));
-        same(&rt, "free", free(&mut space, 0x1117), Ok(()));
+        same(&rt, "free", free(&mut space, 0x1104, false), Ok(()));
+        same(&rt, "free", free(&mut space, 0x1117, false), Ok(()));
         same(
             &rt,
             "allocate",
-            allocate(&mut space, strategy, 5, OWNER),
+            allocate(&mut space, strategy, 5, OWNER, false),
             Ok(segment),
         );
     }
@@ -162,12 +194,28 @@ fn nothing_is_freed_inside_a_block(rt: HostRuntime) -> Result<(), Fail> {
     same(
         &rt,
         "allocate",
-        allocate(&mut space, Strategy::First, 0x10, OWNER),
+        allocate(
+            &mut space,
+            Strategy::everywhere(Fit::First),
+            0x10,
+            OWNER,
+            false,
+        ),
         Ok(0x1104),
     );
     space.poke(0x1104, 0, b'M');
-    same(&rt, "free", free(&mut space, 0x1105), Err(Refusal::NoBlock));
-    same(&rt, "free", free(&mut space, 0), Err(Refusal::NoBlock));
+    same(
+        &rt,
+        "free",
+        free(&mut space, 0x1105, false),
+        Err(Refusal::NoBlock),
+    );
+    same(
+        &rt,
+        "free",
+        free(&mut space, 0, false),
+        Err(Refusal::NoBlock),
+    );
     Ok(())
 }
 
@@ -179,25 +227,31 @@ fn broken_signature_destroys_the_arena(rt: HostRuntime) -> Result<(), Fail> {
     same(
         &rt,
         "allocate",
-        allocate(&mut space, Strategy::First, 0, OWNER),
+        allocate(
+            &mut space,
+            Strategy::everywhere(Fit::First),
+            0,
+            OWNER,
+            false,
+        ),
         Err(Refusal::Destroyed),
     );
     same(
         &rt,
         "free",
-        free(&mut space, OWNER),
+        free(&mut space, OWNER, false),
         Err(Refusal::Destroyed),
     );
     same(
         &rt,
         "resize",
-        resize(&mut space, OWNER, 0),
+        resize(&mut space, OWNER, 0, false),
         Err(Refusal::Destroyed),
     );
     same(
         &rt,
         "free_all",
-        free_all(&mut space, OWNER),
+        free_all(&mut space, OWNER, false),
         Err(Refusal::Destroyed),
     );
     same(&rt, "byte in memory", space.peek(0x102, 0), 0);
@@ -217,7 +271,7 @@ fn broken_signature_destroys_the_arena(rt: HostRuntime) -> Result<(), Fail> {
 fn ended_program_leaves_free_blocks(rt: HostRuntime) -> Result<(), Fail> {
     let mut space = new_space(rt.alloc())?;
     loaded(&mut space);
-    same(&rt, "free_all", free_all(&mut space, OWNER), Ok(()));
+    same(&rt, "free_all", free_all(&mut space, OWNER, false), Ok(()));
     let mut headers = walk(&space);
     same(
         &rt,
@@ -236,7 +290,13 @@ fn ended_program_leaves_free_blocks(rt: HostRuntime) -> Result<(), Fail> {
     same(
         &rt,
         "allocate",
-        allocate(&mut space, Strategy::Last, 0x9EFF, 7),
+        allocate(
+            &mut space,
+            Strategy::everywhere(Fit::Last),
+            0x9EFF,
+            7,
+            false,
+        ),
         Ok(0x101),
     );
     Ok(())
@@ -244,11 +304,19 @@ fn ended_program_leaves_free_blocks(rt: HostRuntime) -> Result<(), Fail> {
 
 /// Plans two blocks that take all that is left, and writes them.
 fn write_two(rt: &impl Abort, space: &mut Space) {
-    let pair = plan_pair(space, Strategy::First, 1, 0x20, 0xFFFF).expect(rt, "there is room");
+    let pair = plan_pair(
+        space,
+        Strategy::everywhere(Fit::First),
+        1,
+        0x20,
+        0xFFFF,
+        false,
+    )
+    .expect(rt, "there is room");
     same(rt, "environment", pair.environment(), 0x1104);
     same(rt, "program", pair.program(), 0x1106);
     same(rt, "size", pair.size(), 0x8EFA);
-    write_pair(space, pair);
+    write_pair(space, pair, false);
 }
 
 #[test]
@@ -261,7 +329,15 @@ fn two_blocks_share_what_is_left(rt: HostRuntime) -> Result<(), Fail> {
         (0xFFFF, 0, 0),
         (1, 0x1_0000, 0x2_0000),
     ] {
-        let refusal = plan_pair(&space, Strategy::First, environment, least, most).err();
+        let refusal = plan_pair(
+            &space,
+            Strategy::everywhere(Fit::First),
+            environment,
+            least,
+            most,
+            false,
+        )
+        .err();
         same(
             &rt,
             "refusal",

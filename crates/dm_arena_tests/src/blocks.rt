@@ -6,7 +6,7 @@
 use self::Call::{Allocate, Free, FreeAll, Pair, Resize};
 use crate::checks::same;
 use crate::memory::new_space;
-use dm_arena::{Refusal, Strategy, allocate, free, free_all, plan_pair, resize, write_pair};
+use dm_arena::{Fit, Refusal, Strategy, allocate, free, free_all, plan_pair, resize, write_pair};
 use dm_pool::NewError;
 use dm_space::Space;
 use std::alloc::Global;
@@ -87,9 +87,9 @@ fn pair(
     least: u32,
     most: u32,
 ) -> Result<(u16, u16, u16), Refusal> {
-    let pair = plan_pair(space, strategy, environment, least, most)?;
+    let pair = plan_pair(space, strategy, environment, least, most, false)?;
     let placed = (pair.environment(), pair.program(), pair.size());
-    write_pair(space, pair);
+    write_pair(space, pair, false);
     Ok(placed)
 }
 
@@ -97,10 +97,10 @@ fn pair(
 /// they are and the second one's size, else zeros.
 pub(crate) fn answer(space: &mut Space, call: Call) -> Result<(u16, u16, u16), Refusal> {
     match call {
-        Allocate(strategy, n) => Ok((allocate(space, strategy, n, 7)?, 0, 0)),
-        Free(segment) => free(space, segment).map(|()| (0, 0, 0)),
-        Resize(segment, n) => resize(space, segment, n).map(|()| (0, 0, 0)),
-        FreeAll(owner) => free_all(space, owner).map(|()| (0, 0, 0)),
+        Allocate(strategy, n) => Ok((allocate(space, strategy, n, 7, false)?, 0, 0)),
+        Free(segment) => free(space, segment, false).map(|()| (0, 0, 0)),
+        Resize(segment, n) => resize(space, segment, n, false).map(|()| (0, 0, 0)),
+        FreeAll(owner) => free_all(space, owner, false).map(|()| (0, 0, 0)),
         Pair(strategy, n, least, most) => pair(space, strategy, n, least, most),
     }
 }
@@ -207,7 +207,11 @@ fn blocks_are_resized_and_freed(rt: HostRuntime) -> Result<(), Fail> {
 
 #[test]
 fn strategies_choose_and_cut(rt: HostRuntime) -> Result<(), Fail> {
-    let [first, best, last] = [Strategy::First, Strategy::Best, Strategy::Last];
+    let [first, best, last] = [
+        Strategy::everywhere(Fit::First),
+        Strategy::everywhere(Fit::Best),
+        Strategy::everywhere(Fit::Last),
+    ];
     let three = [(0, 2), (9, 1), (0, 5), (9, 1), (0, 9)];
     let rows: [(&[(u16, u16)], Strategy, u16, u16, &[(u16, u16)]); 18] = [
         (
@@ -332,7 +336,11 @@ fn strategies_choose_and_cut(rt: HostRuntime) -> Result<(), Fail> {
 
 #[test]
 fn two_blocks_are_chosen_in_turn(rt: HostRuntime) -> Result<(), Fail> {
-    let [first, best, last] = [Strategy::First, Strategy::Best, Strategy::Last];
+    let [first, best, last] = [
+        Strategy::everywhere(Fit::First),
+        Strategy::everywhere(Fit::Best),
+        Strategy::everywhere(Fit::Last),
+    ];
     let holes = [(0, 3), (9, 1), (0, 0x40), (9, 1)];
     let ties = [(0, 1), (9, 1), (0, 5), (9, 1), (0, 5)];
     let whole = [(0, 0xFEFE)];
@@ -436,7 +444,11 @@ fn two_blocks_are_chosen_in_turn(rt: HostRuntime) -> Result<(), Fail> {
 
 #[test]
 fn refused_calls_leave_the_list(rt: HostRuntime) -> Result<(), Fail> {
-    let [first, best, last] = [Strategy::First, Strategy::Best, Strategy::Last];
+    let [first, best, last] = [
+        Strategy::everywhere(Fit::First),
+        Strategy::everywhere(Fit::Best),
+        Strategy::everywhere(Fit::Last),
+    ];
     let none = Refusal::NoBlock;
     let broken = Refusal::Destroyed;
     let short = |largest| Refusal::Short { largest };
@@ -498,18 +510,18 @@ fn bytes_that_spell_no_list(rt: HostRuntime) -> Result<(), Fail> {
         (&[(7, 0xBEFF), (0, 1)], 0x00, b'M'),
     ];
     let calls = [
-        Allocate(Strategy::First, 0),
-        Allocate(Strategy::Last, 1),
+        Allocate(Strategy::everywhere(Fit::First), 0),
+        Allocate(Strategy::everywhere(Fit::Last), 1),
         Free(0x101),
         Resize(0x101, 1),
         FreeAll(7),
-        Pair(Strategy::Best, 1, 0, 0),
+        Pair(Strategy::everywhere(Fit::Best), 1, 0, 0),
         // these would be refused in a clear list too: no block begins there, none is so large
         Free(0x105),
         Resize(0x105, 1),
         Resize(0x101, 0xFFFF),
-        Allocate(Strategy::First, 0xFFFF),
-        Pair(Strategy::First, 0xFFFF, 0, 0),
+        Allocate(Strategy::everywhere(Fit::First), 0xFFFF),
+        Pair(Strategy::everywhere(Fit::First), 0xFFFF, 0, 0),
     ];
     for (blocks, offset, byte) in rows {
         let mut space = spelled(rt.alloc(), blocks)?;

@@ -8,7 +8,8 @@ use crate::blocks::Call::{self, Allocate, Free, FreeAll, Pair, Resize};
 use crate::blocks::{answer, spell, spells};
 use crate::checks::same;
 use crate::memory::new_space;
-use dm_arena::{Entry, Header, Refusal, Step, Strategy, allocate, walk};
+use dm_arena::{Fit, Refusal, Strategy, allocate};
+use dm_blocks::{Entry, Header, Step, walk};
 use dm_pool::{Block, NewError};
 use dm_space::Space;
 use std::alloc::Global;
@@ -139,7 +140,10 @@ type Row<'a> = (
 
 #[test]
 fn headers_may_stand_in_the_frame(rt: HostRuntime) -> Result<(), Fail> {
-    let [first, last] = [Strategy::First, Strategy::Last];
+    let [first, last] = [
+        Strategy::everywhere(Fit::First),
+        Strategy::everywhere(Fit::Last),
+    ];
     // E000h and E410h, of one page at other offsets
     let apart = [(7, 0xDEFF), (7, 0x40F), (0, 0xBEF)];
     let owners = [(7, 0xDEFF), (7, 0x3FF), (9, 0x3FF), (7, 0x7FE)];
@@ -231,7 +235,7 @@ fn headers_may_stand_in_the_frame(rt: HostRuntime) -> Result<(), Fail> {
 
 #[test]
 fn headers_that_go_have_no_place(rt: HostRuntime) -> Result<(), Fail> {
-    let first = Strategy::First;
+    let first = Strategy::everywhere(Fit::First);
     let rows: [Row; 3] = [
         // the new header at E411h takes the place of E011h, which is joined or taken in
         (
@@ -279,7 +283,10 @@ fn headers_that_go_have_no_place(rt: HostRuntime) -> Result<(), Fail> {
 
 #[test]
 fn headers_may_stand_at_the_ends_of_memory(rt: HostRuntime) -> Result<(), Fail> {
-    let [first, last] = [Strategy::First, Strategy::Last];
+    let [first, last] = [
+        Strategy::everywhere(Fit::First),
+        Strategy::everywhere(Fit::Last),
+    ];
     // the last block has EEFEh paragraphs from 1101h on, up to FFFFh
     let rows: [(Windows, Strategy, u16, u16, &[(u16, u16)]); 7] = [
         (
@@ -363,7 +370,10 @@ fn headers_may_stand_at_the_ends_of_memory(rt: HostRuntime) -> Result<(), Fail> 
 
 #[test]
 fn new_headers_need_a_place_of_their_own(rt: HostRuntime) -> Result<(), Fail> {
-    let [first, last] = [Strategy::First, Strategy::Last];
+    let [first, last] = [
+        Strategy::everywhere(Fit::First),
+        Strategy::everywhere(Fit::Last),
+    ];
     let low = [(7, 1), (7, 0xFFD), (0, 0xEEFE)];
     let frame = [(7, 0xDEFF), (0, 0xFFF)];
     let rows: [(Windows, &[(u16, u16)], Call); 17] = [
@@ -447,14 +457,14 @@ fn lists_that_are_not_clear(rt: HostRuntime) -> Result<(), Fail> {
         ([1, 2, 3, 4], &[(7, 0xEEFE), (0, 0x1000)]),
     ];
     let calls = [
-        Allocate(Strategy::First, 0),
-        Allocate(Strategy::Last, 0xFFFF),
+        Allocate(Strategy::everywhere(Fit::First), 0),
+        Allocate(Strategy::everywhere(Fit::Last), 0xFFFF),
         Free(0x101),
         Free(0x100),
         Resize(0x101, 1),
         Resize(0x101, 0xFFFF),
         FreeAll(7),
-        Pair(Strategy::Best, 0, 0, 0),
+        Pair(Strategy::everywhere(Fit::Best), 0, 0, 0),
     ];
     for (windows, blocks) in rows {
         let mut space = framed(rt.alloc(), false, windows, blocks)?;
@@ -552,12 +562,18 @@ fn longest_lists_are_looked_through(rt: HostRuntime) -> Result<(), Fail> {
     space.poke(0xEFFF, 0, b'Z');
     space.poke16(0xEFFF, 1, 0);
     space.poke16(0xEFFF, 3, 0xFFF);
-    let found = allocate(&mut space, Strategy::First, 0xFFF, 7);
+    let found = allocate(
+        &mut space,
+        Strategy::everywhere(Fit::First),
+        0xFFF,
+        7,
+        false,
+    );
     same(&rt, "answer", found, Ok(0xF000));
     // window 3 on window 0's page: EC00h is E000h's place
     let [first, _, _, _] = space.windows();
     show(&mut space, 3, first);
-    let found = allocate(&mut space, Strategy::First, 0, 7);
+    let found = allocate(&mut space, Strategy::everywhere(Fit::First), 0, 7, false);
     same(&rt, "answer", found, Err(Refusal::Destroyed));
     Ok(())
 }

@@ -13,3 +13,5 @@ mod checks;
 mod frames;
 #[cfg(test)]
 mod memory;
+#[cfg(test)]
+mod upper;

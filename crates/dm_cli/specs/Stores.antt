@@ -1,5 +1,5 @@
 -- What a run starts with: the store of the files, standard input, and the machine with its first program loaded.
-use Rattle.std.specs.Prelude.{ℕ, ◌≡◌, ◌<◌, ◌≤◌, ◌++◌, List, [], ◌∷◌, Option, Some, None, IfSome, length, true, false}
+use Rattle.std.specs.Prelude.{ℕ, ◌≡◌, ◌<◌, ◌≤◌, ◌++◌, List, [], ◌∷◌, Option, Some, None, IfSome, length, Bool, true, false}
 use Rattle.dm_cli.specs.declared.fault.Fault.{Fault}
 use Rattle.dm_cli.specs.declared.fault.Fault.TheVariants.{InputTooLong, NameTooLong, NameTwice, OutOfMemory}
 use Rattle.dm_cli.specs.Names.{last_part}
@@ -35,11 +35,11 @@ pub data IsFaultOf (unread : Fault) (known : Option (List ℕ)) (store : List (L
   twice : (bytes : List ℕ) → IsRead known bytes → IsName (last_part path) → has_name store (last_part path) ≡ true → IsFaultOf unread known store path NameTwice
   no_memory : IsFaultOf unread known store path OutOfMemory
 
--- a new machine of these sizes, with no variables, over a store and an input, and its first program loaded with a tail of at most 126
+-- a new machine of these sizes, with upper memory in its arena or not, with no variables, over a store and an input, and its first program loaded with a tail of at most 126
 -- bytes
-pub record IsBegun (store : List (List ℕ × List ℕ)) (input : List ℕ) (sizes : Sizes) (paths : List (List ℕ)) (tail : List ℕ) (m : State) : Type 0 where
+pub record IsBegun (store : List (List ℕ × List ℕ)) (input : List ℕ) (sizes : Sizes) (upper : Bool) (paths : List (List ℕ)) (tail : List ℕ) (m : State) : Type 0 where
   pub fresh : State
-  pub new : IsNew sizes [] store input fresh
+  pub new : IsNew sizes [] upper store input fresh
   pub first : List ℕ
   pub others : List (List ℕ)
   pub is_first : paths ≡ first ∷ others
@@ -47,12 +47,12 @@ pub record IsBegun (store : List (List ℕ × List ℕ)) (input : List ℕ) (siz
   pub loaded : IsLoaded fresh (last_part first) tail m
 
 -- the machine that a run begins with: over the files at the paths, and what was typed
-pub record IsStarted (known : List ℕ → Option (List ℕ)) (typed : Option (List ℕ)) (sizes : Sizes) (paths : List (List ℕ)) (tail : List ℕ) (m : State) : Type 0 where
+pub record IsStarted (known : List ℕ → Option (List ℕ)) (typed : Option (List ℕ)) (sizes : Sizes) (upper : Bool) (paths : List (List ℕ)) (tail : List ℕ) (m : State) : Type 0 where
   pub store : List (List ℕ × List ℕ)
   pub stores : Stores known paths store
   pub input : List ℕ
   pub read : IsRead typed input
-  pub begun : IsBegun store input sizes paths tail m
+  pub begun : IsBegun store input sizes upper paths tail m
 
 -- the bytes of a file that may be left out, where they are known: without it there are none
 abbrev pub bytes_if_any : (List ℕ → Option (List ℕ)) → Option (List ℕ) → Option (List ℕ)

@@ -9,8 +9,6 @@ mod files;
 mod loading;
 mod names;
 mod output;
-#[cfg(test)]
-mod tests;
 
 pub use commands::dm_main;
 pub use dm_options::{command_line, options};

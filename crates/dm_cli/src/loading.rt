@@ -58,7 +58,7 @@ fn begun<'a>(
     input: Vec<u8>,
 ) -> Result<Machine, Fault<'a>>
     ensures begun { IfOk result (IsBegun programs input.items
-        (record { ems_pages = options.now.ems_pages; xms_kib = options.now.xms_kib })
+        (record { ems_pages = options.now.ems_pages; xms_kib = options.now.xms_kib }) options.now.upper
         (map (λ path. path.now) options.now.files.items) options.now.tail.now) }
     ensures loaded { IfOk result (λ machine. HasProgram machine) }
 {
@@ -68,6 +68,7 @@ fn begun<'a>(
             xms_kib: options.xms_kib,
         },
         variables: Vec::new(alloc),
+        upper: options.upper,
     };
     let mut machine = Machine::new(alloc, config, programs, input)?;
     let tail = options.tail.as_bytes();
@@ -87,7 +88,7 @@ pub(crate) fn loaded<'a, F: Storage, I: Read + Drop>(
     input: I,
 ) -> Result<Machine, Fault<'a>>
     ensures started { IfOk result (IsStarted (F.contents storage.now) (I.remaining input)
-        (record { ems_pages = options.now.ems_pages; xms_kib = options.now.xms_kib })
+        (record { ems_pages = options.now.ems_pages; xms_kib = options.now.xms_kib }) options.now.upper
         (map (λ path. path.now) options.now.files.items) options.now.tail.now) }
     ensures loaded { IfOk result (λ machine. HasProgram machine) }
 {
@@ -117,7 +118,7 @@ pub(crate) fn loaded_for_debug<'a, F: Storage>(
     options: &DebugOptions<'a>,
 ) -> Result<Machine, Fault<'a>>
     ensures started { IfOk result (IsStarted (F.contents storage.now) (bytes_if_any (F.contents storage.now) (option_map (λ s. s.now) options.now.input))
-        (record { ems_pages = options.now.machine.ems_pages; xms_kib = options.now.machine.xms_kib })
+        (record { ems_pages = options.now.machine.ems_pages; xms_kib = options.now.machine.xms_kib }) options.now.machine.upper
         (map (λ path. path.now) options.now.machine.files.items) options.now.machine.tail.now) }
     ensures loaded { IfOk result (λ machine. HasProgram machine) }
 {

@@ -197,7 +197,7 @@ acted_linked s ExpandedMemory l =
     let k = call_keeps (client_of s) (function_of (byte_of s.cpu Ah)) in
     expanded_changed s _ l (k.link l.ems) k.outside
 acted_linked s Multiplex l = l
-acted_linked s ExtendedMemory l = extended_changed s _ l (extended_memory.keep.link (caller_of s) l.xms) (extended_memory.keep.outside (caller_of s))
+acted_linked s ExtendedMemory l = extended_changed s _ l (extended_memory.keep.link s.upper (caller_of s) l.xms) (extended_memory.keep.outside s.upper (caller_of s))
 
 given_back_linked : (s : State) (driver : Driver) → AreLinked s → AreLinked (given_back s driver)
 given_back_linked s ExpandedMemory l = returned_linked s l

@@ -33,7 +33,7 @@ with_caller s c = record s { cpu = c.cpu; memory = c.x.memory; xms = c.x.xms }
 abbrev pub acted : State → Driver → State
 acted s ExpandedMemory = with_client s (called (client_of s))
 acted s Multiplex = record s { cpu = told s.cpu }
-acted s ExtendedMemory = with_caller s (extended_memory.called (caller_of s))
+acted s ExtendedMemory = with_caller s (extended_memory.called s.upper (caller_of s))
 
 -- back where the program called, by an interrupt or by a far call
 abbrev pub given_back : State → Driver → State

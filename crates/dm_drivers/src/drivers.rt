@@ -44,7 +44,12 @@ fn act(parts: &mut Parts, driver: Driver)
         }
         Driver::Multiplex => multiplex_call(&mut parts.cpu),
         Driver::ExtendedMemory => {
-            extended_memory_call(&mut parts.cpu, &mut parts.xms, &mut parts.space);
+            extended_memory_call(
+                &mut parts.cpu,
+                &mut parts.xms,
+                &mut parts.space,
+                parts.upper,
+            );
         }
     }
 }

@@ -7,4 +7,5 @@ pub mod Handles
 pub mod Maps
 pub mod Names
 pub mod Frame
+pub mod Readers
 pub mod Laws

@@ -10,10 +10,12 @@ mod laws;
 mod maps;
 mod names;
 mod pages;
+mod readers;
 mod status;
 mod tables;
 
 pub use laws::{calls_keep_the_link, calls_leave_outside, writes_keep_the_link};
 pub use pages::set_windows;
+pub use readers::Holding;
 pub use status::Status;
 pub use tables::{Ems, Handle, Page};

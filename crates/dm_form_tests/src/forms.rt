@@ -5,6 +5,7 @@
 //! and overflow 0800h; F002h is none and FFD7h all of them.
 
 use crate::checks::same;
+use crate::kinds::FORMS;
 use crate::rows::check;
 use std::test::Fail;
 
@@ -45,6 +46,7 @@ ADD CX,-1      | 83 C1 FF    |                                        | CX=3343 
 ADD CX,[BX]    | 03 0F       | 2000:7788=0001                         | CX=3345
 ADD CX,ES:[BX] | 26 03 0F    | 4000:7788=0001                         | CX=3345
 ADD AX,[FFFF]  | 03 06 FF FF | 2000:FFFF=01 2000:0000=10 3000:0000=77 | AX=2123
+SUB CX,[BX]    | 2B 0F       | 2000:7788=1122                         | CX=2222 FL=F006
 SUB CX,AX      | 29 C1       |                                        | CX=2222 FL=F006
 SUB AX,CX      | 29 C8       |                                        | AX=DDDE FL=F097
 SUB AX,0001    | 2D 01 00    | AX=8000                                | AX=7FFF FL=F816
@@ -55,9 +57,15 @@ CMP AX,CX      | 39 C8       |                                        | FL=F097
 CMP CX,AX      | 39 C1       |                                        | FL=F006
 CMP AX,[BX]    | 3B 07       | 2000:7788=3344                         | FL=F097
 CMP AX,SS:[BX] | 36 3B 07    | 3000:7788=3344                         | FL=F097
+CMP [BX],CX    | 39 0F       | 2000:7788=3344                         | FL=F046
+CMP ES:[BX],CX | 26 39 0F    | 4000:7788=3344                         | FL=F046
+CMP WORD [BX],1234 | 81 3F 34 12 | 2000:7788=1233                     | FL=F097
+AND AX,CX      | 21 C8       |                                        | AX=1100 FL=F006
 AND AX,F0F0    | 25 F0 F0    | AX=8181                                | AX=8080 FL=F082
 OR AX,AX       | 09 C0       | FL=FFD7                                | FL=F716
 OR CX,AX       | 09 C1       |                                        | CX=3366 FL=F006
+OR AX,8000     | 0D 00 80    |                                        | AX=9122 FL=F086
+OR CX,[BX]     | 0B 0F       | 2000:7788=0001                         | CX=3345
 XOR AX,AX      | 31 C0       | FL=FFD7                                | AX=0000 FL=F756
 XOR AX,1021    | 35 21 10    |                                        | AX=0103 FL=F006
 XOR AX,FFFF    | 35 FF FF    |                                        | AX=EEDD FL=F086
@@ -81,12 +89,15 @@ ADD BL,AL            | 00 C3          |                | BX=77AA FL=F086
 ADD BH,BL            | 00 DF          |                | BX=FF88 FL=F086
 ADD AL,01            | 04 01          | AX=117F        | AX=1180 FL=F892
 ADD AL,01            | 04 01          | AX=11FF        | AX=1100 FL=F057
+ADD AL,[BX]          | 02 07          | 2000:7788=01   | AX=1123
 ADC AL,01            | 14 01          | AX=117F FL=F003 | AX=1181 FL=F896
 ADC BL,00            | 80 D3 00       | BX=77FF FL=F003 | BX=7700 FL=F057
 ADC BH,00            | 80 D7 00       |                | FL=F006
 ADC AL,CH            | 10 E8          | FL=F003        | AX=1156 FL=F006
 SUB AL,01            | 2C 01          | AX=1180        | AX=117F FL=F812
 SUB AL,80            | 2C 80          | AX=1100        | AX=1180 FL=F883
+SUB BL,AL            | 28 C3          |                | BX=7766 FL=F806
+CMP BL,AL            | 38 C3          |                | FL=F806
 CMP AL,23            | 3C 23          |                | FL=F097
 CMP AL,80            | 3C 80          | AX=1100        | FL=F883
 CMP AL,[BX]          | 3A 07          | 2000:7788=23   | FL=F097
@@ -94,10 +105,14 @@ CMP AL,ES:[BX]       | 26 3A 07       | 4000:7788=23   | FL=F097
 CMP BYTE [SI+2000],0 | 80 BC 00 20 00 | 2000:2300=01   |
 CMP BYTE [SI-1],22   | 80 7C FF 22    | 2000:02FF=22   | FL=F046
 CMP BYTE CS:[SI],10  | 2E 80 3C 10    | 0103:0300=0F   | FL=F087
+CMP [SI],AL          | 38 04          | 2000:0300=22   | FL=F046
+AND AL,AH            | 20 E0          |                | AX=1100 FL=F046
 AND AL,0F            | 24 0F          | FL=FFD7        | AX=1102 FL=F712
 AND CH,F0            | 80 E5 F0       |                | CX=3044 FL=F006
 OR AL,AH             | 08 E0          |                | AX=1133 FL=F006
+OR AL,80             | 0C 80          |                | AX=11A2 FL=F082
 XOR AL,AL            | 30 C0          | FL=FFD7        | AX=1100 FL=F756
+XOR AL,FF            | 34 FF          |                | AX=11DD FL=F086
 XOR AH,BL            | 30 DC          |                | AX=9922 FL=F086
 XOR AH,[SI]          | 32 24          | 2000:0300=01   | AX=1022
 XOR AH,SS:[SI]       | 36 32 24       | 3000:0300=11   | AX=0022 FL=F046";
@@ -109,6 +124,10 @@ JMP SHORT 0100 | EB FE    |         | IP=0100
 JMP SHORT 0071 | EB 7F    | IP=FFF0 | IP=0071
 JMP 0100       | E9 FD FF |         | IP=0100
 JMP 9103       | E9 00 90 |         | IP=9103
+JO             | 70 FE    | FL=F802 | IP=0100
+JO             | 70 FE    | FL=F7D7 |
+JNO            | 71 FE    | FL=F7D7 | IP=0100
+JNO            | 71 FE    | FL=F802 |
 JB             | 72 FE    | FL=F003 | IP=0100
 JB             | 72 FE    | FL=FFD6 |
 JAE            | 73 FE    | FL=FFD6 | IP=0100
@@ -129,6 +148,10 @@ JS             | 78 FE    | FL=F082 | IP=0100
 JS             | 78 FE    | FL=FF57 |
 JNS            | 79 FE    | FL=FF57 | IP=0100
 JNS            | 79 FE    | FL=F082 |
+JP             | 7A FE    | FL=F006 | IP=0100
+JP             | 7A FE    | FL=FFD3 |
+JNP            | 7B FE    | FL=FFD3 | IP=0100
+JNP            | 7B FE    | FL=F006 |
 JL             | 7C FE    | FL=F082 | IP=0100
 JL             | 7C FE    | FL=F802 | IP=0100
 JL             | 7C FE    | FL=F882 |
@@ -199,8 +222,8 @@ SHL AX,CL   | D3 E0 | CX=3301        | AX=2244 FL=F006
 HLT         | F4    | FL=FFD7        | IP=0100";
 
 /// Notes what was met.
-fn note(all: &mut [bool; 80], seen: &[bool; 80]) {
-    for number in 0..80 {
+fn note(all: &mut [bool; FORMS], seen: &[bool; FORMS]) {
+    for number in 0..FORMS {
         if seen[number] {
             all[number] = true;
         }
@@ -209,7 +232,7 @@ fn note(all: &mut [bool; 80], seen: &[bool; 80]) {
 
 #[test]
 fn each_form_does_what_its_instruction_does(rt: HostRuntime) -> Result<(), Fail> {
-    let mut met = [false; 80];
+    let mut met = [false; FORMS];
     for rows in [MOVES, WORDS, BYTES, JUMPS, STACK, STRINGS, OTHERS] {
         let seen = check(&rt, rt.alloc(), rows)?;
         note(&mut met, &seen);
@@ -218,7 +241,7 @@ fn each_form_does_what_its_instruction_does(rt: HostRuntime) -> Result<(), Fail>
         &rt,
         "forms that were met",
         met.iter().filter(|it| **it).count(),
-        66,
+        FORMS,
     );
     Ok(())
 }

@@ -13,12 +13,13 @@
 //! name are 0 before. A line with `#` is a comment.
 
 use crate::checks::same;
-use crate::kinds::number_of;
+use crate::kinds::{FORMS, number_of};
 use crate::memory::new_space;
 use dm_decode::decode;
 use dm_exec::{Cpu, Flags, exec};
 use dm_forms::{form_of, perform};
 use dm_ins::Ins;
+use dm_registers::Registers;
 use dm_space::Space;
 use std::alloc::Global;
 use std::process::Abort;
@@ -243,21 +244,22 @@ fn check_row(
     row: &str,
     rows: &str,
     memories: &mut Memories,
-    seen: &mut [bool; 80],
+    seen: &mut [bool; FORMS],
 ) -> Result<(), Fail> {
     let (bytes, before, after) = (part(row, 1)?, part(row, 2)?, part(row, 3)?);
     let (ins, length) = instruction(bytes)?;
     same(rt, row, length as usize, bytes.split_whitespace().count());
     let mut wanted = START;
     set_everywhere(memories, &mut wanted, before)?;
-    let (mut plain, mut formed) = (wanted, wanted);
+    let mut plain = wanted;
+    let mut formed = Registers::from_cpu(&wanted);
     wanted.ip = wanted.ip.wrapping_add(length as u16);
     set_all(&mut wanted, &mut memories.wanted, after)?;
     let form = form_of(&ins);
     seen[number_of(&form)] = true;
     let _next = exec(&mut plain, &mut memories.plain, &ins, length);
     perform(&form, &ins, &mut formed, &mut memories.formed, length);
-    same(rt, row, formed, wanted);
+    same(rt, row, formed.to_cpu(), wanted);
     same(rt, row, plain, wanted);
     compare_all(rt, row, rows, &memories.formed, &memories.wanted)?;
     compare_all(rt, row, rows, &memories.plain, &memories.wanted)?;
@@ -267,13 +269,13 @@ fn check_row(
 
 /// Tries each row of a text, and tells the numbers of the forms that were met. Bytes that a row names
 /// are compared behind each row, all others at the end.
-pub(crate) fn check(rt: &impl Abort, alloc: Global, rows: &str) -> Result<[bool; 80], Fail> {
+pub(crate) fn check(rt: &impl Abort, alloc: Global, rows: &str) -> Result<[bool; FORMS], Fail> {
     let mut memories = Memories {
         plain: new_space(alloc)?,
         formed: new_space(alloc)?,
         wanted: new_space(alloc)?,
     };
-    let mut seen = [false; 80];
+    let mut seen = [false; FORMS];
     for row in rows.lines() {
         if is_row(row) {
             check_row(rt, row, rows, &mut memories, &mut seen)?;

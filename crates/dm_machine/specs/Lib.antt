@@ -5,3 +5,4 @@ pub mod Laws
 pub mod Memo
 pub mod Repeats
 pub mod Until
+pub mod Quick

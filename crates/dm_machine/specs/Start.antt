@@ -1,14 +1,17 @@
 -- The machine as it starts, and as it is once the first program is loaded.
-use Rattle.std.specs.Prelude.{◌≡◌, ℕ, false, List, [], length, replicate, Some, None}
+use Rattle.std.specs.Prelude.{◌≡◌, ℕ, Bool, false, if◌then◌else◌, List, [], ◌∷◌, length, replicate, Some, None}
 use Rattle.dm_pool.specs.declared.sizes.Sizes.{Sizes}
 use Rattle.dm_pool.specs.Blocks.{no_blocks}
 use Rattle.dm_pool.specs.Stored.{units_of}
+use Rattle.dm_space.specs.Memory.{Memory}
+use Rattle.dm_space.specs.Buffers.{with_bytes}
 use Rattle.dm_space.specs.Start.{IsStart}
 use Rattle.dm_ems.specs.Tables.{new_tables}
 use Rattle.dm_xms.specs.Tables as xms
 use Rattle.dm_alu.specs.declared.flags.Flags.{Flags}
 use Rattle.dm_exec.specs.declared.cpu.Cpu.{Cpu}
-use Rattle.dm_arena.specs.declared.fit.Strategy.TheVariants.{First}
+use Rattle.dm_arena.specs.declared.fit.Area.TheVariants.{All}
+use Rattle.dm_arena.specs.declared.fit.Fit.TheVariants.{First}
 use Rattle.dm_load.specs.Image.{IsGood}
 use Rattle.dm_proc.specs.declared.refusal.Refusal.{Refusal}
 use Rattle.dm_proc.specs.Programs.{program_of}
@@ -23,9 +26,27 @@ clear_flags = record { carry = false; parity = false; adjust = false; zero = fal
 abbrev pub clear_registers : Cpu
 clear_registers = record { ax = 0; cx = 0; dx = 0; bx = 0; sp = 0; bp = 0; si = 0; di = 0; es = 0; cs = 0; ss = 0; ds = 0; ip = 0; flags = clear_flags }
 
--- memory as it starts over a pool with no block, no handle but handle 0 of expanded memory, no output, no process
-pub record IsNew (sizes : Sizes) (variables : List ℕ) (programs : List (List ℕ × List ℕ)) (input : List ℕ) (s : State) : Type 0 where
-  pub memory : IsStart (no_blocks (units_of sizes)) s.memory
+-- the headers of an arena that goes on in upper memory: at 0100h `Z`, owner 0, size 9EFEh; at 9FFFh `M`, owner 0008h, size 3000h, which links
+-- what is above; at D000h `Z`, owner 0, size 0FFFh
+unfoldable pub with_upper_headers : Memory → Memory
+with_upper_headers m =
+    with_bytes (with_bytes (with_bytes m
+    0x0100 0 (0x5A ∷ 0 ∷ 0 ∷ 0xFE ∷ 0x9E ∷ []))
+    0x9FFF 0 (0x4D ∷ 0x08 ∷ 0 ∷ 0x00 ∷ 0x30 ∷ []))
+    0xD000 0 (0x5A ∷ 0 ∷ 0 ∷ 0xFF ∷ 0x0F ∷ [])
+
+abbrev pub with_headers : Bool → Memory → Memory
+with_headers upper m = if upper then with_upper_headers m else m
+
+-- memory as it starts, over a pool with no block
+pub record IsStartWith (upper : Bool) (sizes : Sizes) (m : Memory) : Type 0 where
+  pub plain : Memory
+  pub start : IsStart (no_blocks (units_of sizes)) plain
+  pub headers : m ≡ with_headers upper plain
+
+-- memory as it starts, no handle but handle 0 of expanded memory, no output, no process
+pub record IsNew (sizes : Sizes) (variables : List ℕ) (upper : Bool) (programs : List (List ℕ × List ℕ)) (input : List ℕ) (s : State) : Type 0 where
+  pub memory : IsStartWith upper sizes s.memory
   pub others : s ≡ record {
     cpu = clear_registers;
     memory = s.memory;
@@ -33,12 +54,13 @@ pub record IsNew (sizes : Sizes) (variables : List ℕ) (programs : List (List �
     xms = xms.new_tables;
     console = record { input = input; output = []; room = 0 };
     processes = record { present = 0; parents = []; code = 0 };
-    strategy = First;
+    strategy = record { fit = First; area = All };
     exited = None;
     steps = 0;
     programs = programs;
     variables = variables;
     sizes = sizes;
+    upper = upper;
   }
 
 -- the first program is passed a tail, and no file control blocks
@@ -50,7 +72,7 @@ pub record IsLoaded (s : State) (name tail : List ℕ) (t : State) : Type 0 wher
   pub file : List ℕ
   pub found : program_of s.programs name ≡ Some file
   pub good : IsGood file
-  pub begins : Begins s.memory s.strategy file s.variables name (passed_first tail) t.processes t.cpu t.memory
+  pub begins : Begins s.upper s.memory s.strategy file s.variables name (passed_first tail) t.processes t.cpu t.memory
   pub others : t ≡ record s { cpu = t.cpu; memory = t.memory; processes = t.processes }
 
 -- the store has the program, and it can't be loaded
@@ -65,4 +87,4 @@ pub record HasNoRoom (s : State) (name : List ℕ) : Type 0 where
   pub found : program_of s.programs name ≡ Some file
   pub good : IsGood file
   pub why : Refusal
-  pub refused : PlanRefused s.memory s.strategy (length (environment s.variables name)) file why
+  pub refused : PlanRefused s.upper s.memory s.strategy (length (environment s.variables name)) file why

@@ -5,6 +5,7 @@ mod laws;
 mod loading;
 mod machine;
 mod memo;
+mod quick;
 mod steps;
 mod until;
 

@@ -75,6 +75,7 @@ impl Machine {
             self.parts.variables.as_slice(),
             name,
             &arguments,
+            self.parts.upper,
         );
         match loaded {
             Ok((procs, cpu)) => {

@@ -1,15 +1,13 @@
 //! The machine and what it shows.
 ghost use Rattle.std.specs.Prelude.{◌≡◌, ◌≤◌, ◌↔◌, IsTrue, IfOk, IsOk, IsErrOf, OnOk, OnErr, length, max};
 ghost use Rattle.dm_space.specs.Memory.{linear, peek, poke};
-ghost use Rattle.dm_space.specs.Start.{IsStart};
-ghost use Rattle.dm_pool.specs.Blocks.{no_blocks};
-ghost use Rattle.dm_pool.specs.Stored.{units_of, IsTooLarge};
-ghost use Rattle.dm_machine.specs.Start.{IsNew};
+ghost use Rattle.dm_pool.specs.Stored.{IsTooLarge};
+ghost use Rattle.dm_machine.specs.Start.{IsNew, IsStartWith, with_headers};
 ghost use Rattle.dm_state.specs.State.{HasProgram};
 
 use crate::memo::Memo;
 use dm_alu::Flags;
-use dm_arena::Strategy;
+use dm_arena::{Area, Fit, Strategy};
 use dm_console::Console;
 use dm_ems::Ems;
 use dm_exec::Cpu;
@@ -76,14 +74,31 @@ fn clear_registers() -> Cpu
     }
 }
 
-/// The memory of a machine of those sizes as it starts.
-fn start_space(alloc: Global, sizes: Sizes) -> Result<Space, NewError>
-    ensures start { IfOk result (λ space. IsStart (no_blocks (units_of sizes)) space.memory) }
+/// Writes the headers of an arena that goes on in upper memory, if it does: what is below 9FFFh is one free block, as is what is from D000h
+/// to DFFFh.
+#[tactic(auto, unfolding(crate::specs::Start::with_upper_headers))]
+fn write_headers(space: &mut Space, upper: bool)
+    ensures { space.new.memory ≡ with_headers upper space.old.memory }
+{
+    if upper {
+        space.write_bytes(0x0100, 0, &[b'Z', 0, 0, 0xFE, 0x9E]);
+        space.write_bytes(0x9FFF, 0, &[b'M', 0x08, 0, 0x00, 0x30]);
+        space.write_bytes(0xD000, 0, &[b'Z', 0, 0, 0xFF, 0x0F]);
+    }
+}
+
+/// The memory of a machine of those sizes as it starts, with upper memory in its arena or not.
+fn start_space(alloc: Global, sizes: Sizes, upper: bool) -> Result<Space, NewError>
+    ensures start { IfOk result (λ space. IsStartWith upper sizes space.memory) }
     ensures few { IfOk result (λ space. sizes.ems_pages ≤ 512) }
     ensures too_large { IsErrOf result NewError.TooLarge ↔ IsTooLarge sizes }
 {
     match Store::new(alloc, sizes) {
-        Ok(store) => Ok(Space::new(store)),
+        Ok(store) => {
+            let mut space = Space::new(store);
+            write_headers(&mut space, upper);
+            Ok(space)
+        }
         Err(dm_pool::NewError::TooLarge) => Err(NewError::TooLarge),
         Err(dm_pool::NewError::Memory) => Err(NewError::Memory),
     }
@@ -91,7 +106,7 @@ fn start_space(alloc: Global, sizes: Sizes) -> Result<Space, NewError>
 
 impl Machine {
     /// A machine as it starts: memory of zeros but for the interrupt vectors and the first arena
-    /// header, A20 off, a pool of the configuration's sizes with no block, no handle of expanded
+    /// header, or the three headers of an arena that goes on in upper memory, A20 off, a pool of the configuration's sizes with no block, no handle of expanded
     /// memory but handle 0, none of extended memory, no output, no program loaded.
     ///
     /// The variables of the configuration have at most 32,767 bytes with their zeros.
@@ -107,11 +122,15 @@ impl Machine {
         input: Vec<u8>,
     ) -> Result<Machine, NewError>
         requires { length config.variables.items ≤ 0x7FFF }
-        ensures ok { IfOk result (IsNew config.sizes config.variables.items programs input.items) }
+        ensures ok { IfOk result (IsNew config.sizes config.variables.items config.upper programs input.items) }
         ensures too_large { IsErrOf result NewError.TooLarge ↔ IsTooLarge config.sizes }
     {
-        let Config { sizes, variables } = config;
-        let space = start_space(alloc, sizes)?;
+        let Config {
+            sizes,
+            variables,
+            upper,
+        } = config;
+        let space = start_space(alloc, sizes, upper)?;
         let Ok(memo) = Memo::new(alloc) else {
             return Err(NewError::Memory);
         };
@@ -122,12 +141,16 @@ impl Machine {
             xms: Xms::new(),
             console: Console::new(alloc, input),
             procs: Procs::new(),
-            strategy: Strategy::First,
+            strategy: Strategy {
+                fit: Fit::First,
+                area: Area::All,
+            },
             exited: None,
             steps: 0,
             programs,
             variables,
             sizes,
+            upper,
         };
         Ok(Machine { parts, memo })
     }
@@ -137,6 +160,13 @@ impl Machine {
         ensures { IsTrue result ↔ HasProgram self.now }
     {
         self.parts.procs.psp() > 0
+    }
+
+    /// Whether the arena goes on in upper memory: what the configuration said.
+    pub fn upper(&self) -> bool
+        ensures { result ≡ self.now.upper }
+    {
+        self.parts.upper
     }
 
     /// How many steps were made; at 2^64 - 1 the count stays.

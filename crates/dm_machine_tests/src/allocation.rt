@@ -143,7 +143,10 @@ fn a_strategy_that_is_not_there(rt: HostRuntime) -> Result<(), Fail> {
         (
             "58h of other actions",
             &[
-                Call([0x5802, 0, 0, 0, 0], [1, 0, 1]),
+                Call([0x5802, 0, 0, 0, 0], [0x5800, 0, 0]),
+                Call([0x5803, 0, 0, 0, 0], [1, 0, 1]),
+                Call([0x5803, 1, 0, 0, 0], [1, 1, 1]),
+                Call([0x5804, 0, 0, 0, 0], [1, 0, 1]),
                 Call([0x58FF, 0, 0, 0, 0], [1, 0, 1]),
             ],
         ),

@@ -26,6 +26,7 @@ pub fn sized(alloc: Global, sizes: Sizes, programs: Programs) -> Result<Machine,
     let config = Config {
         sizes,
         variables: Vec::new(alloc),
+        upper: false,
     };
     Machine::new(alloc, config, programs, Vec::new(alloc))
 }
@@ -48,6 +49,7 @@ pub fn machine_with(
     let config = Config {
         sizes,
         variables: Vec::from_slice(alloc, variables)?,
+        upper: false,
     };
     let input = Vec::from_slice(alloc, input)?;
     Ok(Machine::new(alloc, config, programs, input)?)

@@ -1,6 +1,7 @@
 -- The commands and arguments of `dm`, as the command-line library `clap` is given them (Rust's crate `clap`, version 4).
 use Rattle.std.specs.Prelude.{[], ◌∷◌, Some, true, codes}
 use Rattle.clap.specs.Words.{App, Rule, Text, new_app, new_rule, with_rule, with_subcommand}
+use Rattle.clap.specs.declared.builder.action.ArgAction.TheVariants as action
 use Rattle.clap.specs.declared.builder.value_parser.ValueParser.TheVariants as parser
 
 -- an option with a long name and one value, which has a default
@@ -23,6 +24,10 @@ ems_rule = record (option_rule (codes "ems") (codes "64")) { parser = Some (pars
 abbrev pub xms_rule : Rule
 xms_rule = record (option_rule (codes "xms") (codes "1024")) { parser = Some (parser.Unsigned 0 4294967295) }
 
+-- `--upper`, which has no value
+abbrev pub upper_rule : Rule
+upper_rule = record (new_rule (codes "upper")) { long = Some (codes "upper"); action = Some action.SetTrue }
+
 -- `--tail TEXT`
 abbrev pub tail_rule : Rule
 tail_rule = option_rule (codes "tail") []
@@ -38,7 +43,7 @@ files_rule = record (new_rule (codes "files")) {
 -- a command with the options and files of a machine
 abbrev pub with_machine_rules : App → App
 with_machine_rules a =
-    with_rule (with_rule (with_rule (with_rule (with_rule a steps_rule) ems_rule) xms_rule) tail_rule) files_rule
+    with_rule (with_rule (with_rule (with_rule (with_rule (with_rule a steps_rule) ems_rule) xms_rule) upper_rule) tail_rule) files_rule
 
 abbrev pub run_app : App
 run_app = with_machine_rules (new_app (codes "run"))
@@ -64,5 +69,5 @@ abbrev pub named_app : App
 named_app = let empty = new_app (codes "dm") in record empty { top = record empty.top { subcommand_required = true } }
 
 -- `dm` with its subcommands
-abbrev pub dm_app : App
+unfoldable pub dm_app : App
 dm_app = with_subcommand (with_subcommand (with_subcommand (with_subcommand named_app run_app.top) debug_app.top) asm_app.top) disasm_app.top

@@ -1,5 +1,5 @@
 -- What the options say, of the rows that `clap` states for the words of a command line.
-use Rattle.std.specs.Prelude.{◌≡◌, ℕ, ◌<◌, ◌^◌, List, Option, Some, ⊤, MatchOption, codes, map, option_map}
+use Rattle.std.specs.Prelude.{◌≡◌, ℕ, ◌<◌, ◌^◌, Bool, true, false, List, Option, Some, None, ⊤, MatchOption, codes, map, option_map}
 use Rattle.std.specs.Str.Parse.{IsNumeral, digits_value, without_leading_plus}
 use Rattle.clap.specs.Words.{IsAmong, Kinds, Row, Text, all_of, first_of, kind_of, one_of}
 use Rattle.dm_options.specs.declared.command_line.MachineOptions.{MachineOptions}
@@ -20,11 +20,18 @@ IsNumber k text n = IsNumeral 10 (without_leading_plus text)
 abbrev pub HasNumber : ℕ → Option Text → ℕ → Type 0
 HasNumber k text n = MatchOption text ⊥ (λ t. IsNumber k t n)
 
+-- the option is given or not
+pub record IsGiven (text : Option Text) (b : Bool) : Type 0 where
+  pub given : text ≡ Some (codes "true") → b ≡ true
+  pub not_given : text ≡ Some (codes "false") → b ≡ false
+  pub unknown : text ≡ None → b ≡ false
+
 -- the rows of the arguments, and the options of a machine
 pub record HasMachineOptions (rows : List Row) (o : MachineOptions) : Type 0 where
   pub steps : HasNumber 64 (one_of (codes "steps") rows) o.steps
   pub ems_pages : HasNumber 32 (one_of (codes "ems") rows) o.ems_pages
   pub xms_kib : HasNumber 32 (one_of (codes "xms") rows) o.xms_kib
+  pub upper : IsGiven (one_of (codes "upper") rows) o.upper
   pub tail : first_of (codes "tail") rows ≡ Some o.tail.now
   pub files : all_of (codes "files") rows ≡ Some (map (λ s. s.now) o.files.items)
 

@@ -1,11 +1,11 @@
 //! The commands and arguments of `dm`, as `clap` is given them.
 ghost use Rattle.std.specs.Prelude.{◌≡◌, IfOk, false};
 ghost use Rattle.clap.specs.Words.{app_of, rule_of};
-ghost use Rattle.dm_options.specs.Arguments.{asm_app, debug_app, disasm_app, dm_app, ems_rule, files_rule, input_rule, path_rule, run_app, steps_rule, tail_rule, with_machine_rules, xms_rule};
+ghost use Rattle.dm_options.specs.Arguments.{asm_app, debug_app, disasm_app, dm_app, ems_rule, files_rule, input_rule, path_rule, run_app, steps_rule, tail_rule, upper_rule, with_machine_rules, xms_rule};
 ghost use Rattle.clap.specs.declared.Command.TheViews.{out-Command as fields_of};
 
 use clap::builder::ValueParser;
-use clap::{Arg, Command, value_parser};
+use clap::{Arg, ArgAction, Command, value_parser};
 use std::alloc::{AllocError, Global};
 
 fn steps_arg<'a>(alloc: Global) -> Arg<'a>
@@ -44,6 +44,16 @@ fn xms_arg<'a>(alloc: Global) -> Arg<'a>
         .help("KiB of extended memory")
 }
 
+fn upper_arg<'a>(alloc: Global) -> Arg<'a>
+    ensures rule { rule_of result ≡ upper_rule }
+    ensures local { result.global ≡ false }
+{
+    Arg::new(alloc, "upper")
+        .long("upper")
+        .action(ArgAction::SetTrue)
+        .help("let the arena go on in upper memory")
+}
+
 fn tail_arg<'a>(alloc: Global) -> Arg<'a>
     ensures rule { rule_of result ≡ tail_rule }
     ensures local { result.global ≡ false }
@@ -75,6 +85,7 @@ fn with_machine_args<'a>(alloc: Global, command: Command<'a>) -> Result<Command<
         .arg(steps_arg(alloc))?
         .arg(ems_arg(alloc))?
         .arg(xms_arg(alloc))?
+        .arg(upper_arg(alloc))?
         .arg(tail_arg(alloc))?
         .arg(files_arg(alloc))
 }

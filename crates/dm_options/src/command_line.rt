@@ -11,6 +11,8 @@ pub struct MachineOptions<'a> {
     pub ems_pages: u32,
     /// The KiB of extended memory, from `--xms`.
     pub xms_kib: u32,
+    /// Whether the arena goes on in upper memory, by `--upper`.
+    pub upper: bool,
     /// The tail of the program's command line, from `--tail`.
     pub tail: &'a str,
     /// The paths of the program to run and of the other programs in the store; there is at least one.

@@ -1,8 +1,8 @@
 //! Reading the words of a command line.
 ghost use Rattle.std.specs.Prelude.{◌≡◌, [], Some, IfOk, IfErr, IsSomeAnd, OnOk, codes, map, option_map};
-ghost use Rattle.clap.specs.Words.{all_of, fault_of, first_of, found_of, one_of, rows_of, subcommand_of};
+ghost use Rattle.clap.specs.Words.{all_of, fault_of, first_of, found_of, one_of, rows_of, subcommand_of, subcommand_rows_of};
 ghost use Rattle.dm_options.specs.Arguments.{dm_app};
-ghost use Rattle.dm_options.specs.Options.{Explains, HasAsmOptions, HasDebugOptions, HasMachineOptions, HasNumber, HasOptions};
+ghost use Rattle.dm_options.specs.Options.{Explains, HasAsmOptions, HasDebugOptions, HasMachineOptions, HasNumber, HasOptions, IsGiven};
 
 use crate::arguments::dm_command;
 use crate::command_line::{AsmOptions, DebugOptions, MachineOptions, Options, OptionsError};
@@ -24,6 +24,13 @@ fn number_u32(matches: &ArgMatches<'_>, id: &str) -> Result<u32, AllocError>
     ensures { IfOk result (HasNumber 32 (one_of id.now (rows_of (found_of matches.now)))) }
 {
     matches.get_one::<u32>(id).ok_or(AllocError)
+}
+
+/// Whether an option that has no value is given.
+fn is_given(matches: &ArgMatches<'_>, id: &str) -> bool
+    ensures { IsGiven (one_of id.now (rows_of (found_of matches.now))) result }
+{
+    matches.get_flag(id)
 }
 
 fn text_of<'a>(matches: &ArgMatches<'a>, id: &str) -> Result<&'a str, AllocError>
@@ -56,12 +63,14 @@ fn machine_options<'a>(
     let steps = number_u64(matches, "steps")?;
     let ems_pages = number_u32(matches, "ems")?;
     let xms_kib = number_u32(matches, "xms")?;
+    let upper = is_given(matches, "upper");
     let tail = text_of(matches, "tail")?;
     let files = files_of(alloc, matches)?;
     Ok(MachineOptions {
         steps,
         ems_pages,
         xms_kib,
+        upper,
         tail,
         files,
     })
@@ -102,9 +111,19 @@ fn read_subcommand<'a>(
     }
 }
 
+/// The options of the subcommand that was found.
+fn found_options<'a>(alloc: Global, matches: &ArgMatches<'a>) -> Result<Options<'a>, AllocError>
+    ensures { IfOk result (λ o. IsSomeAnd (subcommand_rows_of matches.now) (λ g. HasOptions g o)) }
+{
+    match matches.subcommand() {
+        Some((name, inner)) => read_subcommand(alloc, name, inner),
+        None => Err(AllocError),
+    }
+}
+
 /// Reads the words of a command line, of which the first is the program's name.
 ///
-/// `dm run [--steps N] [--ems PAGES] [--xms KIB] [--tail TEXT] FILES...`: N is a decimal number below 2^64, PAGES and
+/// `dm run [--steps N] [--ems PAGES] [--xms KIB] [--upper] [--tail TEXT] FILES...`: N is a decimal number below 2^64, PAGES and
 /// KIB are decimal numbers below 2^32, and there is at least one file. A number may begin with `+`. The defaults are
 /// 100000000, 64, 1024 and the empty text. An option that comes twice, or one that is unknown, is wrong.
 ///
@@ -129,11 +148,8 @@ pub fn options<'a, S: AsStr>(alloc: Global, words: &'a [S]) -> Result<Options<'a
             _ => return Err(OptionsError::Usage(error)),
         },
     };
-    match matches.subcommand() {
-        Some((name, inner)) => match read_subcommand(alloc, name, inner) {
-            Ok(options) => Ok(options),
-            Err(_) => Err(OptionsError::Memory),
-        },
-        None => Err(OptionsError::Memory),
+    match found_options(alloc, &matches) {
+        Ok(options) => Ok(options),
+        Err(_) => Err(OptionsError::Memory),
     }
 }

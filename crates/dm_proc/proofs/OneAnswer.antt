@@ -1,11 +1,11 @@
 -- Each call has one answer.
-use Rattle.std.proofs.Common.{◌≡◌, ℕ, zero, suc, ◌+◌, ◌<◌, ◌⊎◌, nat_eq, List, [], ◌∷◌, ◌++◌, length, inl, inr, refl, sym, ◌∙◌, ap, ap₂, subst, arith, Option, Some, None, Result, Ok, Err}
-use Rattle.std.specs.Prelude.{if◌then◌else◌}
+use Rattle.std.proofs.Common.{Bool, ◌≡◌, ℕ, zero, suc, ◌+◌, ◌<◌, ◌⊎◌, nat_eq, List, [], ◌∷◌, ◌++◌, length, inl, inr, refl, sym, ◌∙◌, ap, ap₂, subst, arith, Option, Some, None, Result, Ok, Err}
+use Rattle.std.specs.Prelude.{if◌then◌else◌, false}
 use Rattle.dm_space.specs.Memory.{Memory}
 use Rattle.dm_arena.specs.declared.fit.Strategy.{Strategy}
 use Rattle.dm_arena.specs.declared.refusal.Refusal.TheVariants as arena
 use Rattle.dm_arena.specs.declared.refusal.Refusal.{Refusal as ArenaRefusal}
-use Rattle.dm_arena.specs.Chain.{first_header}
+use Rattle.dm_blocks.specs.Chain.{first_header}
 use Rattle.dm_arena.specs.Pair.{Placed}
 use Rattle.dm_arena.proofs.OneAnswer.{resizing_unique, releasing_unique}
 use Rattle.dm_arena.proofs.OnePair.{pairing_unique, pair_refused}
@@ -107,81 +107,6 @@ module _ (ps : Processes) (c : Cpu) (m : Memory) (store : List (List ℕ × List
       let R : List ℕ → Type 0 = λ f. P (length (environment_of a)) f in
       subst R (sym file-same) (subst Q (sym (ap length environment-same)) p)
 
--- a plan is made or refused
-planned_refused : (m : Memory) (st : Strategy) (k : ℕ) (f : List ℕ) (e : Refusal) → IsPlanned m st k f → PlanRefused m st k f e → ⊥
-planned_refused m st k f Destroyed p r = pair_refused m first_header st (paragraphs k) (least f) (most f) p.0 p.1 arena.Destroyed r.1
-planned_refused m st k f Short p r = pair_refused m first_header st (paragraphs k) (least f) (most f) p.0 p.1 (arena.Short r.0) r.1.1
-planned_refused m st k f Function p r = r
-planned_refused m st k f NotFound p r = r
-planned_refused m st k f BadFormat p r = r
-planned_refused m st k f Environment p r = r
-
-destroyed_room : (m : Memory) (st : Strategy) (k : ℕ) (f : List ℕ) → PlanRefused m st k f Destroyed → PlanRefused m st k f Short → ⊥
-destroyed_room m st k f x y =
-    refusals-clash _ _ y.0 refl refl (pairing_unique m st (paragraphs k) (least f) (most f) (Err arena.Destroyed) (Err (arena.Short y.0)) m m x y.1).0
-
-started_planned : (m : Memory) (st : Strategy) (env f : List ℕ) (parent : ℕ) (a : Passed) (placed : Placed) (n : Memory) → Starts m st env f parent a placed n → IsPlanned m st (length env) f
-started_planned m st env f parent a placed n s = (s.plans.0, s.plans.1)
-
-starts_unique : (m : Memory) (st : Strategy) (env f : List ℕ) (parent : ℕ) (a : Passed) (p q : Placed) (n o : Memory) → Starts m st env f parent a p n → Starts m st env f parent a q o → (p ≡ q) × (n ≡ o)
-starts_unique m st env f parent a p q n o x y =
-    let u = pairing_unique m st (paragraphs (length env)) (least f) (most f) (Ok p) (Ok q) x.middle y.middle x.plans y.plans in
-    let e : p ≡ q = placed-same _ _ p q refl refl u.0 in
-    (e, x.memory ∙ ap (λ (k : Memory). apply (start_writes k.a20 p env (prefix m p parent a) f) k) u.1 ∙ ap (λ (z : Placed). apply (start_writes y.middle.a20 z env (prefix m z parent a) f) y.middle) e ∙ sym y.memory)
-
-plan_refused_same : (m : Memory) (st : Strategy) (k : ℕ) (f : List ℕ) (d e : Refusal) → PlanRefused m st k f d → PlanRefused m st k f e → d ≡ e
-plan_refused_same m st k f Destroyed Destroyed x y = refl
-plan_refused_same m st k f Destroyed Short x y = absurd (destroyed_room m st k f x y)
-plan_refused_same m st k f Short Destroyed x y = absurd (destroyed_room m st k f y x)
-plan_refused_same m st k f Short Short x y = refl
-plan_refused_same m st k f Function e x y = absurd x
-plan_refused_same m st k f NotFound e x y = absurd x
-plan_refused_same m st k f BadFormat e x y = absurd x
-plan_refused_same m st k f Environment e x y = absurd x
-plan_refused_same m st k f Destroyed Function x y = absurd y
-plan_refused_same m st k f Destroyed NotFound x y = absurd y
-plan_refused_same m st k f Destroyed BadFormat x y = absurd y
-plan_refused_same m st k f Destroyed Environment x y = absurd y
-plan_refused_same m st k f Short Function x y = absurd y
-plan_refused_same m st k f Short NotFound x y = absurd y
-plan_refused_same m st k f Short BadFormat x y = absurd y
-plan_refused_same m st k f Short Environment x y = absurd y
-
--- a program is started or refused
-starts-at : (ps : Processes) (c : Cpu) (m : Memory) (store : List (List ℕ × List ℕ)) (st : Strategy) (a b : Asks ps c m store) (placed : Placed) (n : Memory) →
-    Starts m st (environment_of b) b.file ps.present (passed c m) placed n → Starts m st (environment_of a) a.file ps.present (passed c m) placed n
-starts-at ps c m store st a b placed n s =
-    let Q : List ℕ → Type 0 = λ env. Starts m st env b.file ps.present (passed c m) placed n in
-    let R : List ℕ → Type 0 = λ f. Starts m st (environment_of a) f ps.present (passed c m) placed n in
-    subst R (sym (file-same ps c m store a b)) (subst Q (sym (environment-same ps c m store a b)) s)
-
-execs_unique : (ps : Processes) (c : Cpu) (m : Memory) (store : List (List ℕ × List ℕ)) (st : Strategy) (p q : Processes) (d e : Cpu) (n o : Memory) →
-    Execs ps c m store st p d n → Execs ps c m store st q e o → (p ≡ q) × (d ≡ e) × (n ≡ o)
-execs_unique ps c m store st p q d e n o x y =
-    let u = starts_unique m st _ _ _ _ x.placed y.placed n o x.starts (starts-at ps c m store st x.asks y.asks y.placed o y.starts) in (
-      x.processes ∙ ap (λ (z : Placed). record ps { present = z.program; parents = ps.parents ++ record { segment = ps.present; cpu = returned c m } ∷ [] }) u.0 ∙ sym y.processes,
-      x.registers ∙ ap₂ start_registers u.0 (file-same ps c m store x.asks y.asks) ∙ sym y.registers,
-      u.1,
-    )
-
-exec_refused : (ps : Processes) (c : Cpu) (m : Memory) (store : List (List ℕ × List ℕ)) (st : Strategy) (q : Processes) (d : Cpu) (n : Memory) → Execs ps c m store st q d n → (e : Refusal) → ExecRefused ps c m store st e → ⊥
-exec_refused ps c m store st q d n x Function r = r x.asks.action
-exec_refused ps c m store st q d n x NotFound r = good_refused c m store x.asks.name x.asks.file x.asks.names NotFound r.1
-exec_refused ps c m store st q d n x BadFormat r = good_refused c m store x.asks.name x.asks.file x.asks.names BadFormat r.1
-exec_refused ps c m store st q d n x Environment r = no_variables m _ x.asks.variables r.2 x.asks.old
-exec_refused ps c m store st q d n x Destroyed r =
-    planned_refused m st _ _ Destroyed (started_planned _ _ _ _ _ _ _ _ x.starts) (planned-same ps c m store x.asks r.0 (λ k f. PlanRefused m st k f Destroyed) r.1)
-exec_refused ps c m store st q d n x Short r = elim r.1 [
-  | inl s ↦ planned_refused m st _ _ Short (started_planned _ _ _ _ _ _ _ _ x.starts) (planned-same ps c m store x.asks r.0 (λ k f. PlanRefused m st k f Short) s)
-  | inr s ↦ (let full = s.1 in let few = x.few in omega arith)
-]
-
-destroyed_short : (ps : Processes) (c : Cpu) (m : Memory) (store : List (List ℕ × List ℕ)) (st : Strategy) → ExecRefused ps c m store st Destroyed → ExecRefused ps c m store st Short → ⊥
-destroyed_short ps c m store st x y = elim y.1 [
-  | inl s ↦ destroyed_room m st _ _ x.1 (planned-same ps c m store x.0 y.0 (λ k f. PlanRefused m st k f Short) s)
-  | inr s ↦ planned_refused m st _ _ Destroyed (planned-same ps c m store x.0 y.0 (λ k f. IsPlanned m st k f) s.0) x.1
-]
-
 -- the refusals in their order
 abbrev place : Refusal → ℕ
 place Function = 0
@@ -190,44 +115,6 @@ place BadFormat = 2
 place Environment = 3
 place Destroyed = 4
 place Short = 5
-
-clash : (ps : Processes) (c : Cpu) (m : Memory) (store : List (List ℕ × List ℕ)) (st : Strategy) (d e : Refusal) → place d < place e → ExecRefused ps c m store st d → ExecRefused ps c m store st e → ⊥
-clash ps c m store st Function Function l x y = absurd (omega arith)
-clash ps c m store st Function NotFound l x y = x y.0
-clash ps c m store st Function BadFormat l x y = x y.0
-clash ps c m store st Function Environment l x y = x y.0
-clash ps c m store st Function Destroyed l x y = x y.0.action
-clash ps c m store st Function Short l x y = x y.0.action
-clash ps c m store st NotFound Function l x y = absurd (omega arith)
-clash ps c m store st NotFound NotFound l x y = absurd (omega arith)
-clash ps c m store st NotFound BadFormat l x y = (let b = y.1 in named_none c m store b.0 b.1 b.2 x.1)
-clash ps c m store st NotFound Environment l x y = good_refused c m store y.1.0 y.1.1 y.1.2 NotFound x.1
-clash ps c m store st NotFound Destroyed l x y = good_refused c m store y.0.name y.0.file y.0.names NotFound x.1
-clash ps c m store st NotFound Short l x y = good_refused c m store y.0.name y.0.file y.0.names NotFound x.1
-clash ps c m store st BadFormat Function l x y = absurd (omega arith)
-clash ps c m store st BadFormat NotFound l x y = absurd (omega arith)
-clash ps c m store st BadFormat BadFormat l x y = absurd (omega arith)
-clash ps c m store st BadFormat Environment l x y = good_refused c m store y.1.0 y.1.1 y.1.2 BadFormat x.1
-clash ps c m store st BadFormat Destroyed l x y = good_refused c m store y.0.name y.0.file y.0.names BadFormat x.1
-clash ps c m store st BadFormat Short l x y = good_refused c m store y.0.name y.0.file y.0.names BadFormat x.1
-clash ps c m store st Environment Function l x y = absurd (omega arith)
-clash ps c m store st Environment NotFound l x y = absurd (omega arith)
-clash ps c m store st Environment BadFormat l x y = absurd (omega arith)
-clash ps c m store st Environment Environment l x y = absurd (omega arith)
-clash ps c m store st Environment Destroyed l x y = no_variables m _ y.0.variables x.2 y.0.old
-clash ps c m store st Environment Short l x y = no_variables m _ y.0.variables x.2 y.0.old
-clash ps c m store st Destroyed Function l x y = absurd (omega arith)
-clash ps c m store st Destroyed NotFound l x y = absurd (omega arith)
-clash ps c m store st Destroyed BadFormat l x y = absurd (omega arith)
-clash ps c m store st Destroyed Environment l x y = absurd (omega arith)
-clash ps c m store st Destroyed Destroyed l x y = absurd (omega arith)
-clash ps c m store st Destroyed Short l x y = destroyed_short ps c m store st x y
-clash ps c m store st Short Function l x y = absurd (omega arith)
-clash ps c m store st Short NotFound l x y = absurd (omega arith)
-clash ps c m store st Short BadFormat l x y = absurd (omega arith)
-clash ps c m store st Short Environment l x y = absurd (omega arith)
-clash ps c m store st Short Destroyed l x y = absurd (omega arith)
-clash ps c m store st Short Short l x y = absurd (omega arith)
 
 -- the refusal at a place
 abbrev refusal_at : ℕ → Refusal
@@ -243,31 +130,6 @@ refusal_at-place Short = refl
 
 place-same : (d e : Refusal) → place d ≡ place e → d ≡ e
 place-same d e h = sym (refusal_at-place d) ∙ ap refusal_at h ∙ refusal_at-place e
-
-refused_same : (ps : Processes) (c : Cpu) (m : Memory) (store : List (List ℕ × List ℕ)) (st : Strategy) (d e : Refusal) → ExecRefused ps c m store st d → ExecRefused ps c m store st e → d ≡ e
-refused_same ps c m store st d e x y = place-same d e (compared (place d) (place e) (λ l. clash ps c m store st d e l x y) (λ l. clash ps c m store st e d l y x))
-
-pub exec_unique : (ps : Processes) (c : Cpu) (m : Memory) (store : List (List ℕ × List ℕ)) (st : Strategy) (r q : Result (Unit {0}) Refusal) (p₁ p₂ : Processes) (c₁ c₂ : Cpu) (m₁ m₂ : Memory) →
-    Executes ps c m store st r p₁ c₁ m₁ → Executes ps c m store st q p₂ c₂ m₂ → (r ≡ q) × (p₁ ≡ p₂) × (c₁ ≡ c₂) × (m₁ ≡ m₂)
-exec_unique ps c m store st (Ok u) (Ok v) p₁ p₂ c₁ c₂ m₁ m₂ x y = (let e = execs_unique ps c m store st p₁ p₂ c₁ c₂ m₁ m₂ x y in (refl, e.0, e.1, e.2))
-exec_unique ps c m store st (Ok u) (Err e) p₁ p₂ c₁ c₂ m₁ m₂ x y = absurd (exec_refused ps c m store st p₁ c₁ m₁ x e y.3)
-exec_unique ps c m store st (Err e) (Ok v) p₁ p₂ c₁ c₂ m₁ m₂ x y = absurd (exec_refused ps c m store st p₂ c₂ m₂ y e x.3)
-exec_unique ps c m store st (Err d) (Err e) p₁ p₂ c₁ c₂ m₁ m₂ x y =
-    (ap (λ (z : Refusal). Err z) (refused_same ps c m store st d e x.3 y.3), x.0 ∙ sym y.0, x.1 ∙ sym y.1, x.2 ∙ sym y.2)
-
--- the first program
-pub load_unique : (m : Memory) (st : Strategy) (file variables name : List ℕ) (a : Passed) (r q : Result (Processes × Cpu) Refusal) (m₁ m₂ : Memory) →
-    Loads m st file variables name a r m₁ → Loads m st file variables name a q m₂ → (r ≡ q) × (m₁ ≡ m₂)
-load_unique m st file variables name a (Ok d) (Ok e) m₁ m₂ x y =
-    let u = starts_unique m st _ _ _ _ x.placed y.placed m₁ m₂ x.starts y.starts in (
-      ap₂ (λ (z : Processes) (k : Cpu). Ok (z, k))
-          (x.processes ∙ ap (λ (z : Placed). let ps : Processes = record { present = z.program; parents = []; code = 0 } in ps) u.0 ∙ sym y.processes)
-          (x.registers ∙ ap (λ (z : Placed). start_registers z file) u.0 ∙ sym y.registers),
-      u.1,
-    )
-load_unique m st file variables name a (Ok d) (Err e) m₁ m₂ x y = absurd (planned_refused m st _ _ e (started_planned _ _ _ _ _ _ _ _ x.starts) y.1)
-load_unique m st file variables name a (Err e) (Ok d) m₁ m₂ x y = absurd (planned_refused m st _ _ e (started_planned _ _ _ _ _ _ _ _ y.starts) x.1)
-load_unique m st file variables name a (Err d) (Err e) m₁ m₂ x y = (ap (λ (z : Refusal). Err z) (plan_refused_same m st _ _ d e x.1 y.1), x.0 ∙ sym y.0)
 
 -- an overlay
 lays_refused : (c : Cpu) (m : Memory) (store : List (List ℕ × List ℕ)) (n : Memory) → Lays c m store n → (e : Refusal) → OverlayRefused c m store e → ⊥
@@ -343,22 +205,161 @@ ends_unique ps c m n word d e p₁ p₂ c₁ c₂ m₁ m₂ same x y =
     let u = goes_on_unique ps c word d e p₁ p₂ c₁ c₂ x.goes_on y.goes_on in
     (u.0, u.1, u.2, x.memory ∙ ap (λ k. vectors_back k ps.present) same ∙ sym y.memory)
 
-pub terminating_unique : (ps : Processes) (c : Cpu) (m : Memory) (code : ℕ) (r q : Result Ending ArenaDestroyed) (p₁ p₂ : Processes) (c₁ c₂ : Cpu) (m₁ m₂ : Memory) →
-    Terminates ps c m code r p₁ c₁ m₁ → Terminates ps c m code q p₂ c₂ m₂ → (r ≡ q) × (p₁ ≡ p₂) × (c₁ ≡ c₂) × (m₁ ≡ m₂)
-terminating_unique ps c m code (Ok d) (Ok e) p₁ p₂ c₁ c₂ m₁ m₂ x y =
-    let same = (releasing_unique m ps.present (Ok tt) (Ok tt) x.0 y.0 x.1 y.1).1 in
-    let u = ends_unique ps c x.0 y.0 code d e p₁ p₂ c₁ c₂ m₁ m₂ same x.2 y.2 in
-    (ap (λ (z : Ending). Ok z) u.0, u.1, u.2, u.3)
-terminating_unique ps c m code (Ok d) (Err e) p₁ p₂ c₁ c₂ m₁ m₂ x y = absurd (served-clash _ _ refl refl (releasing_unique m ps.present (Ok tt) (Err arena.Destroyed) x.0 m x.1 y.3).0)
-terminating_unique ps c m code (Err e) (Ok d) p₁ p₂ c₁ c₂ m₁ m₂ x y = absurd (served-clash _ _ refl refl (releasing_unique m ps.present (Ok tt) (Err arena.Destroyed) y.0 m y.1 x.3).0)
-terminating_unique ps c m code (Err d) (Err e) p₁ p₂ c₁ c₂ m₁ m₂ x y = (refl, x.0 ∙ sym y.0, x.1 ∙ sym y.1, x.2 ∙ sym y.2)
+module _ (up : Bool) where
+  -- a plan is made or refused
+  planned_refused : (m : Memory) (st : Strategy) (k : ℕ) (f : List ℕ) (e : Refusal) → IsPlanned up m st k f → PlanRefused up m st k f e → ⊥
+  planned_refused m st k f Destroyed p r = pair_refused up m first_header st (paragraphs k) (least f) (most f) p.0 p.1 arena.Destroyed r.1
+  planned_refused m st k f Short p r = pair_refused up m first_header st (paragraphs k) (least f) (most f) p.0 p.1 (arena.Short r.0) r.1.1
+  planned_refused m st k f Function p r = r
+  planned_refused m st k f NotFound p r = r
+  planned_refused m st k f BadFormat p r = r
+  planned_refused m st k f Environment p r = r
 
-pub keeping_unique : (ps : Processes) (c : Cpu) (m : Memory) (code n : ℕ) (r q : Result Ending ArenaDestroyed) (p₁ p₂ : Processes) (c₁ c₂ : Cpu) (m₁ m₂ : Memory) →
-    Keeps ps c m code n r p₁ c₁ m₁ → Keeps ps c m code n q p₂ c₂ m₂ → (r ≡ q) × (p₁ ≡ p₂) × (c₁ ≡ c₂) × (m₁ ≡ m₂)
-keeping_unique ps c m code n (Ok d) (Ok e) p₁ p₂ c₁ c₂ m₁ m₂ x y =
-    let same = (resizing_unique m ps.present n x.0 y.0 x.1 y.1 x.2 y.2).1 in
-    let u = ends_unique ps c x.1 y.1 (0x300 + code) d e p₁ p₂ c₁ c₂ m₁ m₂ same x.4 y.4 in
-    (ap (λ (z : Ending). Ok z) u.0, u.1, u.2, u.3)
-keeping_unique ps c m code n (Ok d) (Err e) p₁ p₂ c₁ c₂ m₁ m₂ x y = absurd (x.3 (resizing_unique m ps.present n x.0 (Err arena.Destroyed) x.1 m x.2 y.3).0)
-keeping_unique ps c m code n (Err e) (Ok d) p₁ p₂ c₁ c₂ m₁ m₂ x y = absurd (y.3 (resizing_unique m ps.present n y.0 (Err arena.Destroyed) y.1 m y.2 x.3).0)
-keeping_unique ps c m code n (Err d) (Err e) p₁ p₂ c₁ c₂ m₁ m₂ x y = (refl, x.0 ∙ sym y.0, x.1 ∙ sym y.1, x.2 ∙ sym y.2)
+  destroyed_room : (m : Memory) (st : Strategy) (k : ℕ) (f : List ℕ) → PlanRefused up m st k f Destroyed → PlanRefused up m st k f Short → ⊥
+  destroyed_room m st k f x y =
+      refusals-clash _ _ y.0 refl refl (pairing_unique up m st (paragraphs k) (least f) (most f) (Err arena.Destroyed) (Err (arena.Short y.0)) m m x y.1).0
+
+  started_planned : (m : Memory) (st : Strategy) (env f : List ℕ) (parent : ℕ) (a : Passed) (placed : Placed) (n : Memory) → Starts up m st env f parent a placed n → IsPlanned up m st (length env) f
+  started_planned m st env f parent a placed n s = (s.plans.0, s.plans.1)
+
+  starts_unique : (m : Memory) (st : Strategy) (env f : List ℕ) (parent : ℕ) (a : Passed) (p q : Placed) (n o : Memory) → Starts up m st env f parent a p n → Starts up m st env f parent a q o → (p ≡ q) × (n ≡ o)
+  starts_unique m st env f parent a p q n o x y =
+      let u = pairing_unique up m st (paragraphs (length env)) (least f) (most f) (Ok p) (Ok q) x.middle y.middle x.plans y.plans in
+      let e : p ≡ q = placed-same _ _ p q refl refl u.0 in
+      (e, x.memory ∙ ap (λ (k : Memory). apply (start_writes k.a20 p env (prefix m p parent a) f) k) u.1 ∙ ap (λ (z : Placed). apply (start_writes y.middle.a20 z env (prefix m z parent a) f) y.middle) e ∙ sym y.memory)
+
+  plan_refused_same : (m : Memory) (st : Strategy) (k : ℕ) (f : List ℕ) (d e : Refusal) → PlanRefused up m st k f d → PlanRefused up m st k f e → d ≡ e
+  plan_refused_same m st k f Destroyed Destroyed x y = refl
+  plan_refused_same m st k f Destroyed Short x y = absurd (destroyed_room m st k f x y)
+  plan_refused_same m st k f Short Destroyed x y = absurd (destroyed_room m st k f y x)
+  plan_refused_same m st k f Short Short x y = refl
+  plan_refused_same m st k f Function e x y = absurd x
+  plan_refused_same m st k f NotFound e x y = absurd x
+  plan_refused_same m st k f BadFormat e x y = absurd x
+  plan_refused_same m st k f Environment e x y = absurd x
+  plan_refused_same m st k f Destroyed Function x y = absurd y
+  plan_refused_same m st k f Destroyed NotFound x y = absurd y
+  plan_refused_same m st k f Destroyed BadFormat x y = absurd y
+  plan_refused_same m st k f Destroyed Environment x y = absurd y
+  plan_refused_same m st k f Short Function x y = absurd y
+  plan_refused_same m st k f Short NotFound x y = absurd y
+  plan_refused_same m st k f Short BadFormat x y = absurd y
+  plan_refused_same m st k f Short Environment x y = absurd y
+
+  -- a program is started or refused
+  starts-at : (ps : Processes) (c : Cpu) (m : Memory) (store : List (List ℕ × List ℕ)) (st : Strategy) (a b : Asks ps c m store) (placed : Placed) (n : Memory) →
+      Starts up m st (environment_of b) b.file ps.present (passed c m) placed n → Starts up m st (environment_of a) a.file ps.present (passed c m) placed n
+  starts-at ps c m store st a b placed n s =
+      let Q : List ℕ → Type 0 = λ env. Starts up m st env b.file ps.present (passed c m) placed n in
+      let R : List ℕ → Type 0 = λ f. Starts up m st (environment_of a) f ps.present (passed c m) placed n in
+      subst R (sym (file-same ps c m store a b)) (subst Q (sym (environment-same ps c m store a b)) s)
+
+  execs_unique : (ps : Processes) (c : Cpu) (m : Memory) (store : List (List ℕ × List ℕ)) (st : Strategy) (p q : Processes) (d e : Cpu) (n o : Memory) →
+      Execs up ps c m store st p d n → Execs up ps c m store st q e o → (p ≡ q) × (d ≡ e) × (n ≡ o)
+  execs_unique ps c m store st p q d e n o x y =
+      let u = starts_unique m st _ _ _ _ x.placed y.placed n o x.starts (starts-at ps c m store st x.asks y.asks y.placed o y.starts) in (
+        x.processes ∙ ap (λ (z : Placed). record ps { present = z.program; parents = ps.parents ++ record { segment = ps.present; cpu = returned c m } ∷ [] }) u.0 ∙ sym y.processes,
+        x.registers ∙ ap₂ start_registers u.0 (file-same ps c m store x.asks y.asks) ∙ sym y.registers,
+        u.1,
+      )
+
+  exec_refused : (ps : Processes) (c : Cpu) (m : Memory) (store : List (List ℕ × List ℕ)) (st : Strategy) (q : Processes) (d : Cpu) (n : Memory) → Execs up ps c m store st q d n → (e : Refusal) → ExecRefused up ps c m store st e → ⊥
+  exec_refused ps c m store st q d n x Function r = r x.asks.action
+  exec_refused ps c m store st q d n x NotFound r = good_refused c m store x.asks.name x.asks.file x.asks.names NotFound r.1
+  exec_refused ps c m store st q d n x BadFormat r = good_refused c m store x.asks.name x.asks.file x.asks.names BadFormat r.1
+  exec_refused ps c m store st q d n x Environment r = no_variables m _ x.asks.variables r.2 x.asks.old
+  exec_refused ps c m store st q d n x Destroyed r =
+      planned_refused m st _ _ Destroyed (started_planned _ _ _ _ _ _ _ _ x.starts) (planned-same ps c m store x.asks r.0 (λ k f. PlanRefused up m st k f Destroyed) r.1)
+  exec_refused ps c m store st q d n x Short r = elim r.1 [
+    | inl s ↦ planned_refused m st _ _ Short (started_planned _ _ _ _ _ _ _ _ x.starts) (planned-same ps c m store x.asks r.0 (λ k f. PlanRefused up m st k f Short) s)
+    | inr s ↦ (let full = s.1 in let few = x.few in omega arith)
+  ]
+
+  destroyed_short : (ps : Processes) (c : Cpu) (m : Memory) (store : List (List ℕ × List ℕ)) (st : Strategy) → ExecRefused up ps c m store st Destroyed → ExecRefused up ps c m store st Short → ⊥
+  destroyed_short ps c m store st x y = elim y.1 [
+    | inl s ↦ destroyed_room m st _ _ x.1 (planned-same ps c m store x.0 y.0 (λ k f. PlanRefused up m st k f Short) s)
+    | inr s ↦ planned_refused m st _ _ Destroyed (planned-same ps c m store x.0 y.0 (λ k f. IsPlanned up m st k f) s.0) x.1
+  ]
+
+  clash : (ps : Processes) (c : Cpu) (m : Memory) (store : List (List ℕ × List ℕ)) (st : Strategy) (d e : Refusal) → place d < place e → ExecRefused up ps c m store st d → ExecRefused up ps c m store st e → ⊥
+  clash ps c m store st Function Function l x y = absurd (omega arith)
+  clash ps c m store st Function NotFound l x y = x y.0
+  clash ps c m store st Function BadFormat l x y = x y.0
+  clash ps c m store st Function Environment l x y = x y.0
+  clash ps c m store st Function Destroyed l x y = x y.0.action
+  clash ps c m store st Function Short l x y = x y.0.action
+  clash ps c m store st NotFound Function l x y = absurd (omega arith)
+  clash ps c m store st NotFound NotFound l x y = absurd (omega arith)
+  clash ps c m store st NotFound BadFormat l x y = (let b = y.1 in named_none c m store b.0 b.1 b.2 x.1)
+  clash ps c m store st NotFound Environment l x y = good_refused c m store y.1.0 y.1.1 y.1.2 NotFound x.1
+  clash ps c m store st NotFound Destroyed l x y = good_refused c m store y.0.name y.0.file y.0.names NotFound x.1
+  clash ps c m store st NotFound Short l x y = good_refused c m store y.0.name y.0.file y.0.names NotFound x.1
+  clash ps c m store st BadFormat Function l x y = absurd (omega arith)
+  clash ps c m store st BadFormat NotFound l x y = absurd (omega arith)
+  clash ps c m store st BadFormat BadFormat l x y = absurd (omega arith)
+  clash ps c m store st BadFormat Environment l x y = good_refused c m store y.1.0 y.1.1 y.1.2 BadFormat x.1
+  clash ps c m store st BadFormat Destroyed l x y = good_refused c m store y.0.name y.0.file y.0.names BadFormat x.1
+  clash ps c m store st BadFormat Short l x y = good_refused c m store y.0.name y.0.file y.0.names BadFormat x.1
+  clash ps c m store st Environment Function l x y = absurd (omega arith)
+  clash ps c m store st Environment NotFound l x y = absurd (omega arith)
+  clash ps c m store st Environment BadFormat l x y = absurd (omega arith)
+  clash ps c m store st Environment Environment l x y = absurd (omega arith)
+  clash ps c m store st Environment Destroyed l x y = no_variables m _ y.0.variables x.2 y.0.old
+  clash ps c m store st Environment Short l x y = no_variables m _ y.0.variables x.2 y.0.old
+  clash ps c m store st Destroyed Function l x y = absurd (omega arith)
+  clash ps c m store st Destroyed NotFound l x y = absurd (omega arith)
+  clash ps c m store st Destroyed BadFormat l x y = absurd (omega arith)
+  clash ps c m store st Destroyed Environment l x y = absurd (omega arith)
+  clash ps c m store st Destroyed Destroyed l x y = absurd (omega arith)
+  clash ps c m store st Destroyed Short l x y = destroyed_short ps c m store st x y
+  clash ps c m store st Short Function l x y = absurd (omega arith)
+  clash ps c m store st Short NotFound l x y = absurd (omega arith)
+  clash ps c m store st Short BadFormat l x y = absurd (omega arith)
+  clash ps c m store st Short Environment l x y = absurd (omega arith)
+  clash ps c m store st Short Destroyed l x y = absurd (omega arith)
+  clash ps c m store st Short Short l x y = absurd (omega arith)
+
+  refused_same : (ps : Processes) (c : Cpu) (m : Memory) (store : List (List ℕ × List ℕ)) (st : Strategy) (d e : Refusal) → ExecRefused up ps c m store st d → ExecRefused up ps c m store st e → d ≡ e
+  refused_same ps c m store st d e x y = place-same d e (compared (place d) (place e) (λ l. clash ps c m store st d e l x y) (λ l. clash ps c m store st e d l y x))
+
+  pub exec_unique : (ps : Processes) (c : Cpu) (m : Memory) (store : List (List ℕ × List ℕ)) (st : Strategy) (r q : Result (Unit {0}) Refusal) (p₁ p₂ : Processes) (c₁ c₂ : Cpu) (m₁ m₂ : Memory) →
+      Executes up ps c m store st r p₁ c₁ m₁ → Executes up ps c m store st q p₂ c₂ m₂ → (r ≡ q) × (p₁ ≡ p₂) × (c₁ ≡ c₂) × (m₁ ≡ m₂)
+  exec_unique ps c m store st (Ok u) (Ok v) p₁ p₂ c₁ c₂ m₁ m₂ x y = (let e = execs_unique ps c m store st p₁ p₂ c₁ c₂ m₁ m₂ x y in (refl, e.0, e.1, e.2))
+  exec_unique ps c m store st (Ok u) (Err e) p₁ p₂ c₁ c₂ m₁ m₂ x y = absurd (exec_refused ps c m store st p₁ c₁ m₁ x e y.3)
+  exec_unique ps c m store st (Err e) (Ok v) p₁ p₂ c₁ c₂ m₁ m₂ x y = absurd (exec_refused ps c m store st p₂ c₂ m₂ y e x.3)
+  exec_unique ps c m store st (Err d) (Err e) p₁ p₂ c₁ c₂ m₁ m₂ x y =
+      (ap (λ (z : Refusal). Err z) (refused_same ps c m store st d e x.3 y.3), x.0 ∙ sym y.0, x.1 ∙ sym y.1, x.2 ∙ sym y.2)
+
+  -- the first program
+  pub load_unique : (m : Memory) (st : Strategy) (file variables name : List ℕ) (a : Passed) (r q : Result (Processes × Cpu) Refusal) (m₁ m₂ : Memory) →
+      Loads up m st file variables name a r m₁ → Loads up m st file variables name a q m₂ → (r ≡ q) × (m₁ ≡ m₂)
+  load_unique m st file variables name a (Ok d) (Ok e) m₁ m₂ x y =
+      let u = starts_unique m st _ _ _ _ x.placed y.placed m₁ m₂ x.starts y.starts in (
+        ap₂ (λ (z : Processes) (k : Cpu). Ok (z, k))
+            (x.processes ∙ ap (λ (z : Placed). let ps : Processes = record { present = z.program; parents = []; code = 0 } in ps) u.0 ∙ sym y.processes)
+            (x.registers ∙ ap (λ (z : Placed). start_registers z file) u.0 ∙ sym y.registers),
+        u.1,
+      )
+  load_unique m st file variables name a (Ok d) (Err e) m₁ m₂ x y = absurd (planned_refused m st _ _ e (started_planned _ _ _ _ _ _ _ _ x.starts) y.1)
+  load_unique m st file variables name a (Err e) (Ok d) m₁ m₂ x y = absurd (planned_refused m st _ _ e (started_planned _ _ _ _ _ _ _ _ y.starts) x.1)
+  load_unique m st file variables name a (Err d) (Err e) m₁ m₂ x y = (ap (λ (z : Refusal). Err z) (plan_refused_same m st _ _ d e x.1 y.1), x.0 ∙ sym y.0)
+
+  pub terminating_unique : (ps : Processes) (c : Cpu) (m : Memory) (code : ℕ) (r q : Result Ending ArenaDestroyed) (p₁ p₂ : Processes) (c₁ c₂ : Cpu) (m₁ m₂ : Memory) →
+      Terminates up ps c m code r p₁ c₁ m₁ → Terminates up ps c m code q p₂ c₂ m₂ → (r ≡ q) × (p₁ ≡ p₂) × (c₁ ≡ c₂) × (m₁ ≡ m₂)
+  terminating_unique ps c m code (Ok d) (Ok e) p₁ p₂ c₁ c₂ m₁ m₂ x y =
+      let same = (releasing_unique up m ps.present (Ok tt) (Ok tt) x.0 y.0 x.1 y.1).1 in
+      let u = ends_unique ps c x.0 y.0 code d e p₁ p₂ c₁ c₂ m₁ m₂ same x.2 y.2 in
+      (ap (λ (z : Ending). Ok z) u.0, u.1, u.2, u.3)
+  terminating_unique ps c m code (Ok d) (Err e) p₁ p₂ c₁ c₂ m₁ m₂ x y = absurd (served-clash _ _ refl refl (releasing_unique up m ps.present (Ok tt) (Err arena.Destroyed) x.0 m x.1 y.3).0)
+  terminating_unique ps c m code (Err e) (Ok d) p₁ p₂ c₁ c₂ m₁ m₂ x y = absurd (served-clash _ _ refl refl (releasing_unique up m ps.present (Ok tt) (Err arena.Destroyed) y.0 m y.1 x.3).0)
+  terminating_unique ps c m code (Err d) (Err e) p₁ p₂ c₁ c₂ m₁ m₂ x y = (refl, x.0 ∙ sym y.0, x.1 ∙ sym y.1, x.2 ∙ sym y.2)
+
+  pub keeping_unique : (ps : Processes) (c : Cpu) (m : Memory) (code n : ℕ) (r q : Result Ending ArenaDestroyed) (p₁ p₂ : Processes) (c₁ c₂ : Cpu) (m₁ m₂ : Memory) →
+      Keeps up ps c m code n r p₁ c₁ m₁ → Keeps up ps c m code n q p₂ c₂ m₂ → (r ≡ q) × (p₁ ≡ p₂) × (c₁ ≡ c₂) × (m₁ ≡ m₂)
+  keeping_unique ps c m code n (Ok d) (Ok e) p₁ p₂ c₁ c₂ m₁ m₂ x y =
+      let same = (resizing_unique up m ps.present n x.0 y.0 x.1 y.1 x.2 y.2).1 in
+      let u = ends_unique ps c x.1 y.1 (0x300 + code) d e p₁ p₂ c₁ c₂ m₁ m₂ same x.4 y.4 in
+      (ap (λ (z : Ending). Ok z) u.0, u.1, u.2, u.3)
+  keeping_unique ps c m code n (Ok d) (Err e) p₁ p₂ c₁ c₂ m₁ m₂ x y = absurd (x.3 (resizing_unique up m ps.present n x.0 (Err arena.Destroyed) x.1 m x.2 y.3).0)
+  keeping_unique ps c m code n (Err e) (Ok d) p₁ p₂ c₁ c₂ m₁ m₂ x y = absurd (y.3 (resizing_unique up m ps.present n y.0 (Err arena.Destroyed) y.1 m y.2 x.3).0)
+  keeping_unique ps c m code n (Err d) (Err e) p₁ p₂ c₁ c₂ m₁ m₂ x y = (refl, x.0 ∙ sym y.0, x.1 ∙ sym y.1, x.2 ∙ sym y.2)

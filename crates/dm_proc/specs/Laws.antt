@@ -1,5 +1,5 @@
 -- Laws of the definitions: each call has one answer, and none depends on what no program sees.
-use Rattle.std.specs.Prelude.{◌≡◌, ℕ, List, Result, Ok}
+use Rattle.std.specs.Prelude.{◌≡◌, ℕ, Bool, List, Result, Ok}
 use Rattle.dm_space.specs.Memory.{Memory}
 use Rattle.dm_space.specs.Unseen.{IsUnseen}
 use Rattle.dm_arena.specs.declared.fit.Strategy.{Strategy}
@@ -13,14 +13,14 @@ use Rattle.dm_proc.specs.Processes.{Processes, AreLoaded, Executes, Loads, Overl
 -- the answer of a call, and all that it leaves, are functions of the state and the arguments
 abbrev pub ExecHasOneAnswer : Type 0
 ExecHasOneAnswer =
-    (ps : Processes) (c : Cpu) (m : Memory) (store : List (List ℕ × List ℕ)) (strategy : Strategy) (r q : Result (Unit {0}) Refusal)
+    (upper : Bool) (ps : Processes) (c : Cpu) (m : Memory) (store : List (List ℕ × List ℕ)) (strategy : Strategy) (r q : Result (Unit {0}) Refusal)
     (ps₁ ps₂ : Processes) (c₁ c₂ : Cpu) (m₁ m₂ : Memory) →
-    Executes ps c m store strategy r ps₁ c₁ m₁ → Executes ps c m store strategy q ps₂ c₂ m₂ → (r ≡ q) × (ps₁ ≡ ps₂) × (c₁ ≡ c₂) × (m₁ ≡ m₂)
+    Executes upper ps c m store strategy r ps₁ c₁ m₁ → Executes upper ps c m store strategy q ps₂ c₂ m₂ → (r ≡ q) × (ps₁ ≡ ps₂) × (c₁ ≡ c₂) × (m₁ ≡ m₂)
 
 abbrev pub LoadHasOneAnswer : Type 0
 LoadHasOneAnswer =
-    (m : Memory) (strategy : Strategy) (file variables name : List ℕ) (a : Passed) (r q : Result (Processes × Cpu) Refusal) (m₁ m₂ : Memory) →
-    Loads m strategy file variables name a r m₁ → Loads m strategy file variables name a q m₂ → (r ≡ q) × (m₁ ≡ m₂)
+    (upper : Bool) (m : Memory) (strategy : Strategy) (file variables name : List ℕ) (a : Passed) (r q : Result (Processes × Cpu) Refusal) (m₁ m₂ : Memory) →
+    Loads upper m strategy file variables name a r m₁ → Loads upper m strategy file variables name a q m₂ → (r ≡ q) × (m₁ ≡ m₂)
 
 abbrev pub OverlayHasOneAnswer : Type 0
 OverlayHasOneAnswer =
@@ -29,37 +29,37 @@ OverlayHasOneAnswer =
 
 abbrev pub TerminatingHasOneAnswer : Type 0
 TerminatingHasOneAnswer =
-    (ps : Processes) (c : Cpu) (m : Memory) (code : ℕ) (r q : Result Ending ArenaDestroyed) (ps₁ ps₂ : Processes) (c₁ c₂ : Cpu) (m₁ m₂ : Memory) →
-    Terminates ps c m code r ps₁ c₁ m₁ → Terminates ps c m code q ps₂ c₂ m₂ → (r ≡ q) × (ps₁ ≡ ps₂) × (c₁ ≡ c₂) × (m₁ ≡ m₂)
+    (upper : Bool) (ps : Processes) (c : Cpu) (m : Memory) (code : ℕ) (r q : Result Ending ArenaDestroyed) (ps₁ ps₂ : Processes) (c₁ c₂ : Cpu) (m₁ m₂ : Memory) →
+    Terminates upper ps c m code r ps₁ c₁ m₁ → Terminates upper ps c m code q ps₂ c₂ m₂ → (r ≡ q) × (ps₁ ≡ ps₂) × (c₁ ≡ c₂) × (m₁ ≡ m₂)
 
 abbrev pub KeepingHasOneAnswer : Type 0
 KeepingHasOneAnswer =
-    (ps : Processes) (c : Cpu) (m : Memory) (code paragraphs : ℕ) (r q : Result Ending ArenaDestroyed) (ps₁ ps₂ : Processes) (c₁ c₂ : Cpu) (m₁ m₂ : Memory) →
-    Keeps ps c m code paragraphs r ps₁ c₁ m₁ → Keeps ps c m code paragraphs q ps₂ c₂ m₂ → (r ≡ q) × (ps₁ ≡ ps₂) × (c₁ ≡ c₂) × (m₁ ≡ m₂)
+    (upper : Bool) (ps : Processes) (c : Cpu) (m : Memory) (code paragraphs : ℕ) (r q : Result Ending ArenaDestroyed) (ps₁ ps₂ : Processes) (c₁ c₂ : Cpu) (m₁ m₂ : Memory) →
+    Keeps upper ps c m code paragraphs r ps₁ c₁ m₁ → Keeps upper ps c m code paragraphs q ps₂ c₂ m₂ → (r ≡ q) × (ps₁ ≡ ps₂) × (c₁ ≡ c₂) × (m₁ ≡ m₂)
 
 -- a loaded program stays loaded, whatever is called; the load of the first one makes it so
 pub record CallsKeepLoaded : Type 0 where
-  pub exec : (ps : Processes) (c : Cpu) (m : Memory) (store : List (List ℕ × List ℕ)) (strategy : Strategy) (r : Result (Unit {0}) Refusal) (qs : Processes) (d : Cpu) (n : Memory) →
-      Executes ps c m store strategy r qs d n → AreLoaded ps → AreLoaded qs
-  pub load : (m : Memory) (strategy : Strategy) (file variables name : List ℕ) (a : Passed) (qs : Processes) (d : Cpu) (n : Memory) →
-      Loads m strategy file variables name a (Ok (qs, d)) n → AreLoaded qs
-  pub terminating : (ps : Processes) (c : Cpu) (m : Memory) (code : ℕ) (r : Result Ending ArenaDestroyed) (qs : Processes) (d : Cpu) (n : Memory) →
-      Terminates ps c m code r qs d n → AreLoaded ps → AreLoaded qs
-  pub keeping : (ps : Processes) (c : Cpu) (m : Memory) (code paragraphs : ℕ) (r : Result Ending ArenaDestroyed) (qs : Processes) (d : Cpu) (n : Memory) →
-      Keeps ps c m code paragraphs r qs d n → AreLoaded ps → AreLoaded qs
+  pub exec : (upper : Bool) (ps : Processes) (c : Cpu) (m : Memory) (store : List (List ℕ × List ℕ)) (strategy : Strategy) (r : Result (Unit {0}) Refusal) (qs : Processes) (d : Cpu) (n : Memory) →
+      Executes upper ps c m store strategy r qs d n → AreLoaded ps → AreLoaded qs
+  pub load : (upper : Bool) (m : Memory) (strategy : Strategy) (file variables name : List ℕ) (a : Passed) (qs : Processes) (d : Cpu) (n : Memory) →
+      Loads upper m strategy file variables name a (Ok (qs, d)) n → AreLoaded qs
+  pub terminating : (upper : Bool) (ps : Processes) (c : Cpu) (m : Memory) (code : ℕ) (r : Result Ending ArenaDestroyed) (qs : Processes) (d : Cpu) (n : Memory) →
+      Terminates upper ps c m code r qs d n → AreLoaded ps → AreLoaded qs
+  pub keeping : (upper : Bool) (ps : Processes) (c : Cpu) (m : Memory) (code paragraphs : ℕ) (r : Result Ending ArenaDestroyed) (qs : Processes) (d : Cpu) (n : Memory) →
+      Keeps upper ps c m code paragraphs r qs d n → AreLoaded ps → AreLoaded qs
 
 -- no call depends on what no program sees, or changes it
 pub record CallsIgnoreUnseen (change : Memory → Memory) : Type 0 where
-  pub exec : (ps : Processes) (c : Cpu) (m : Memory) (store : List (List ℕ × List ℕ)) (strategy : Strategy) (r : Result (Unit {0}) Refusal) (qs : Processes) (d : Cpu) (n : Memory) →
-      Executes ps c m store strategy r qs d n → Executes ps c (change m) store strategy r qs d (change n)
-  pub load : (m : Memory) (strategy : Strategy) (file variables name : List ℕ) (a : Passed) (r : Result (Processes × Cpu) Refusal) (n : Memory) →
-      Loads m strategy file variables name a r n → Loads (change m) strategy file variables name a r (change n)
+  pub exec : (upper : Bool) (ps : Processes) (c : Cpu) (m : Memory) (store : List (List ℕ × List ℕ)) (strategy : Strategy) (r : Result (Unit {0}) Refusal) (qs : Processes) (d : Cpu) (n : Memory) →
+      Executes upper ps c m store strategy r qs d n → Executes upper ps c (change m) store strategy r qs d (change n)
+  pub load : (upper : Bool) (m : Memory) (strategy : Strategy) (file variables name : List ℕ) (a : Passed) (r : Result (Processes × Cpu) Refusal) (n : Memory) →
+      Loads upper m strategy file variables name a r n → Loads upper (change m) strategy file variables name a r (change n)
   pub overlay : (c : Cpu) (m : Memory) (store : List (List ℕ × List ℕ)) (r : Result (Unit {0}) Refusal) (n : Memory) →
       Overlays c m store r n → Overlays c (change m) store r (change n)
-  pub terminating : (ps : Processes) (c : Cpu) (m : Memory) (code : ℕ) (r : Result Ending ArenaDestroyed) (qs : Processes) (d : Cpu) (n : Memory) →
-      Terminates ps c m code r qs d n → Terminates ps c (change m) code r qs d (change n)
-  pub keeping : (ps : Processes) (c : Cpu) (m : Memory) (code paragraphs : ℕ) (r : Result Ending ArenaDestroyed) (qs : Processes) (d : Cpu) (n : Memory) →
-      Keeps ps c m code paragraphs r qs d n → Keeps ps c (change m) code paragraphs r qs d (change n)
+  pub terminating : (upper : Bool) (ps : Processes) (c : Cpu) (m : Memory) (code : ℕ) (r : Result Ending ArenaDestroyed) (qs : Processes) (d : Cpu) (n : Memory) →
+      Terminates upper ps c m code r qs d n → Terminates upper ps c (change m) code r qs d (change n)
+  pub keeping : (upper : Bool) (ps : Processes) (c : Cpu) (m : Memory) (code paragraphs : ℕ) (r : Result Ending ArenaDestroyed) (qs : Processes) (d : Cpu) (n : Memory) →
+      Keeps upper ps c m code paragraphs r qs d n → Keeps upper ps c (change m) code paragraphs r qs d (change n)
 
 abbrev pub IgnoresUnseen : Type 0
 IgnoresUnseen = (change : Memory → Memory) → IsUnseen change → CallsIgnoreUnseen change

@@ -1,11 +1,11 @@
 -- The processes that are alive, and what starting and ending one does: MS-DOS Programmer's Reference, functions 4Bh, 4Ch,
 -- 31h and 4Dh.
-use Rattle.std.specs.Prelude.{◌≡◌, ◌≢◌, ℕ, ◌+◌, ◌<◌, ◌⊎◌, false, List, [], ◌∷◌, ◌++◌, length, Result, Ok, Err, All}
+use Rattle.std.specs.Prelude.{◌≡◌, Bool, ◌≢◌, ℕ, ◌+◌, ◌<◌, ◌⊎◌, false, List, [], ◌∷◌, ◌++◌, length, Result, Ok, Err, All}
 use Rattle.dm_space.specs.Memory.{Memory}
 use Rattle.dm_arena.specs.declared.fit.Strategy.{Strategy}
 use Rattle.dm_arena.specs.declared.refusal.Refusal.TheVariants as arena
 use Rattle.dm_arena.specs.declared.refusal.Refusal.{Refusal as ArenaRefusal}
-use Rattle.dm_arena.specs.Chain.{first_header, Becomes}
+use Rattle.dm_blocks.specs.Chain.{first_header, Becomes}
 use Rattle.dm_arena.specs.Pair.{Planned, IsPair, IsPlannedOn, paired}
 use Rattle.dm_arena.specs.Owned.{Releases, Resizes}
 use Rattle.dm_load.specs.Image.{relocated}
@@ -44,29 +44,29 @@ returned c m =
     record r { flags = record r.flags { carry = false } }
 
 -- both blocks of a program, planned and written: for the bytes of its environment, of which there are so many, and its file
-abbrev pub Plans : Memory → Strategy → ℕ → List ℕ → Result Placed ArenaRefusal → Memory → Type 0
-Plans m strategy count file answer n = Pairs m strategy (paragraphs count) (least file) (most file) answer n
+abbrev pub Plans : Bool → Memory → Strategy → ℕ → List ℕ → Result Placed ArenaRefusal → Memory → Type 0
+Plans upper m strategy count file answer n = Pairs upper m strategy (paragraphs count) (least file) (most file) answer n
 
 -- there is room, and the last list is clear
-abbrev pub IsPlanned : Memory → Strategy → ℕ → List ℕ → Type 0
-IsPlanned m strategy count file = (pair : Planned) × IsPair m first_header strategy (paragraphs count) (least file) (most file) pair
+abbrev pub IsPlanned : Bool → Memory → Strategy → ℕ → List ℕ → Type 0
+IsPlanned upper m strategy count file = (pair : Planned) × IsPair upper m first_header strategy (paragraphs count) (least file) (most file) pair
 
 -- no list of blocks that is clear, or none for the last list; no room for both blocks
-abbrev pub PlanRefused : Memory → Strategy → ℕ → List ℕ → Refusal → Type 0
-PlanRefused m strategy count file Destroyed = Plans m strategy count file (Err arena.Destroyed) m
-PlanRefused m strategy count file Short = (room : ℕ) × Plans m strategy count file (Err (arena.Short room)) m
-PlanRefused m strategy count file _ = ⊥
+abbrev pub PlanRefused : Bool → Memory → Strategy → ℕ → List ℕ → Refusal → Type 0
+PlanRefused upper m strategy count file Destroyed = Plans upper m strategy count file (Err arena.Destroyed) m
+PlanRefused upper m strategy count file Short = (room : ℕ) × Plans upper m strategy count file (Err (arena.Short room)) m
+PlanRefused upper m strategy count file _ = ⊥
 
 -- what was planned is written: all
-pub record IsWritten (m : Memory) (pair : Planned) (p : IsPlannedOn m pair) (environment file : List ℕ) (parent : ℕ) (a : Passed) (n : Memory) : Type 0 where
+pub record IsWritten (upper : Bool) (m : Memory) (pair : Planned) (p : IsPlannedOn upper m pair) (environment file : List ℕ) (parent : ℕ) (a : Passed) (n : Memory) : Type 0 where
   pub middle : Memory
   pub becomes : Becomes m first_header (paired p.planned.pairing) middle
   pub memory : n ≡ apply (start_writes middle.a20 (placed_of pair) environment (prefix m (placed_of pair) parent a) file) middle
 
 -- a program is placed and written: all that is written behind the headers was read before
-pub record Starts (m : Memory) (strategy : Strategy) (environment file : List ℕ) (parent : ℕ) (a : Passed) (placed : Placed) (n : Memory) : Type 0 where
+pub record Starts (upper : Bool) (m : Memory) (strategy : Strategy) (environment file : List ℕ) (parent : ℕ) (a : Passed) (placed : Placed) (n : Memory) : Type 0 where
   pub middle : Memory
-  pub plans : Plans m strategy (length environment) file (Ok placed) middle
+  pub plans : Plans upper m strategy (length environment) file (Ok placed) middle
   pub memory : n ≡ apply (start_writes middle.a20 placed environment (prefix m placed parent a) file) middle
 
 -- what a call of function 4Bh asks for
@@ -82,11 +82,11 @@ abbrev pub environment_of : {ps : Processes} {c : Cpu} {m : Memory} {store : Lis
 environment_of a = environment a.variables a.name
 
 -- a child is started
-pub record Execs (ps : Processes) (c : Cpu) (m : Memory) (store : List (List ℕ × List ℕ)) (strategy : Strategy) (qs : Processes) (d : Cpu) (n : Memory) : Type 0 where
+pub record Execs (upper : Bool) (ps : Processes) (c : Cpu) (m : Memory) (store : List (List ℕ × List ℕ)) (strategy : Strategy) (qs : Processes) (d : Cpu) (n : Memory) : Type 0 where
   pub asks : Asks ps c m store
   pub few : length ps.parents < 15
   pub placed : Placed
-  pub starts : Starts m strategy (environment_of asks) asks.file ps.present (passed c m) placed n
+  pub starts : Starts upper m strategy (environment_of asks) asks.file ps.present (passed c m) placed n
   pub registers : d ≡ start_registers placed asks.file
   pub processes : qs ≡ record ps {
     present = placed.program;
@@ -94,32 +94,32 @@ pub record Execs (ps : Processes) (c : Cpu) (m : Memory) (store : List (List ℕ
   }
 
 -- why none is
-abbrev pub ExecRefused : Processes → Cpu → Memory → List (List ℕ × List ℕ) → Strategy → Refusal → Type 0
-ExecRefused ps c m store strategy Function = action c ≢ 0
-ExecRefused ps c m store strategy NotFound = (action c ≡ 0) × NameRefused c m store NotFound
-ExecRefused ps c m store strategy BadFormat = (action c ≡ 0) × NameRefused c m store BadFormat
-ExecRefused ps c m store strategy Environment =
+abbrev pub ExecRefused : Bool → Processes → Cpu → Memory → List (List ℕ × List ℕ) → Strategy → Refusal → Type 0
+ExecRefused upper ps c m store strategy Function = action c ≢ 0
+ExecRefused upper ps c m store strategy NotFound = (action c ≡ 0) × NameRefused c m store NotFound
+ExecRefused upper ps c m store strategy BadFormat = (action c ≡ 0) × NameRefused c m store BadFormat
+ExecRefused upper ps c m store strategy Environment =
     (action c ≡ 0) × ((name : List ℕ) × (file : List ℕ) × NamesGood c m store name file) × NoVariables m (environment_segment m ps.present c)
-ExecRefused ps c m store strategy Destroyed = (a : Asks ps c m store) × PlanRefused m strategy (length (environment_of a)) a.file Destroyed
-ExecRefused ps c m store strategy Short =
-    (a : Asks ps c m store) × (PlanRefused m strategy (length (environment_of a)) a.file Short ⊎ (IsPlanned m strategy (length (environment_of a)) a.file × (length ps.parents ≡ 15)))
+ExecRefused upper ps c m store strategy Destroyed = (a : Asks ps c m store) × PlanRefused upper m strategy (length (environment_of a)) a.file Destroyed
+ExecRefused upper ps c m store strategy Short =
+    (a : Asks ps c m store) × (PlanRefused upper m strategy (length (environment_of a)) a.file Short ⊎ (IsPlanned upper m strategy (length (environment_of a)) a.file × (length ps.parents ≡ 15)))
 
 -- function 4Bh with AL = 0; a refusal changes nothing
-abbrev pub Executes : Processes → Cpu → Memory → List (List ℕ × List ℕ) → Strategy → Result (Unit {0}) Refusal → Processes → Cpu → Memory → Type 0
-Executes ps c m store strategy (Ok x) qs d n = Execs ps c m store strategy qs d n
-Executes ps c m store strategy (Err e) qs d n = (qs ≡ ps) × (d ≡ c) × (n ≡ m) × ExecRefused ps c m store strategy e
+abbrev pub Executes : Bool → Processes → Cpu → Memory → List (List ℕ × List ℕ) → Strategy → Result (Unit {0}) Refusal → Processes → Cpu → Memory → Type 0
+Executes upper ps c m store strategy (Ok x) qs d n = Execs upper ps c m store strategy qs d n
+Executes upper ps c m store strategy (Err e) qs d n = (qs ≡ ps) × (d ≡ c) × (n ≡ m) × ExecRefused upper ps c m store strategy e
 
 -- the first program is started, with given variables: it alone is alive
-pub record Begins (m : Memory) (strategy : Strategy) (file variables name : List ℕ) (a : Passed) (qs : Processes) (d : Cpu) (n : Memory) : Type 0 where
+pub record Begins (upper : Bool) (m : Memory) (strategy : Strategy) (file variables name : List ℕ) (a : Passed) (qs : Processes) (d : Cpu) (n : Memory) : Type 0 where
   pub placed : Placed
-  pub starts : Starts m strategy (environment variables name) file 0 a placed n
+  pub starts : Starts upper m strategy (environment variables name) file 0 a placed n
   pub registers : d ≡ start_registers placed file
   pub processes : qs ≡ record { present = placed.program; parents = []; code = 0 }
 
 -- the load of the first program; a refusal changes nothing
-abbrev pub Loads : Memory → Strategy → List ℕ → List ℕ → List ℕ → Passed → Result (Processes × Cpu) Refusal → Memory → Type 0
-Loads m strategy file variables name a (Ok r) n = Begins m strategy file variables name a r.0 r.1 n
-Loads m strategy file variables name a (Err e) n = (n ≡ m) × PlanRefused m strategy (length (environment variables name)) file e
+abbrev pub Loads : Bool → Memory → Strategy → List ℕ → List ℕ → List ℕ → Passed → Result (Processes × Cpu) Refusal → Memory → Type 0
+Loads upper m strategy file variables name a (Ok r) n = Begins upper m strategy file variables name a r.0 r.1 n
+Loads upper m strategy file variables name a (Err e) n = (n ≡ m) × PlanRefused upper m strategy (length (environment variables name)) file e
 
 -- an overlay: the image, relocated by the factor that the parameter block gives, is written from its load segment up
 pub record Lays (c : Cpu) (m : Memory) (store : List (List ℕ × List ℕ)) (n : Memory) : Type 0 where
@@ -157,14 +157,14 @@ pub record Ends (ps : Processes) (c : Cpu) (m : Memory) (word : ℕ) (ending : E
   pub goes_on : GoesOn ps c word ending qs d
 
 -- the end of the present process, whose blocks are freed; where the arena is destroyed nothing changes
-abbrev pub Terminates : Processes → Cpu → Memory → ℕ → Result Ending ArenaDestroyed → Processes → Cpu → Memory → Type 0
-Terminates ps c m code (Ok ending) qs d n =
-    (freed : Memory) × Releases m ps.present (Ok tt) freed × Ends ps c freed code ending qs d n
-Terminates ps c m code (Err e) qs d n = (qs ≡ ps) × (d ≡ c) × (n ≡ m) × Releases m ps.present (Err arena.Destroyed) m
+abbrev pub Terminates : Bool → Processes → Cpu → Memory → ℕ → Result Ending ArenaDestroyed → Processes → Cpu → Memory → Type 0
+Terminates upper ps c m code (Ok ending) qs d n =
+    (freed : Memory) × Releases upper m ps.present (Ok tt) freed × Ends ps c freed code ending qs d n
+Terminates upper ps c m code (Err e) qs d n = (qs ≡ ps) × (d ≡ c) × (n ≡ m) × Releases upper m ps.present (Err arena.Destroyed) m
 
 -- its end with its block kept, resized to so many paragraphs where that is possible
-abbrev pub Keeps : Processes → Cpu → Memory → ℕ → ℕ → Result Ending ArenaDestroyed → Processes → Cpu → Memory → Type 0
-Keeps ps c m code paragraphs (Ok ending) qs d n =
-    (answer : Result (Unit {0}) ArenaRefusal) × (kept : Memory) × Resizes m ps.present paragraphs answer kept × (answer ≢ Err arena.Destroyed)
+abbrev pub Keeps : Bool → Processes → Cpu → Memory → ℕ → ℕ → Result Ending ArenaDestroyed → Processes → Cpu → Memory → Type 0
+Keeps upper ps c m code paragraphs (Ok ending) qs d n =
+    (answer : Result (Unit {0}) ArenaRefusal) × (kept : Memory) × Resizes upper m ps.present paragraphs answer kept × (answer ≢ Err arena.Destroyed)
     × Ends ps c kept (0x300 + code) ending qs d n
-Keeps ps c m code paragraphs (Err e) qs d n = (qs ≡ ps) × (d ≡ c) × (n ≡ m) × Resizes m ps.present paragraphs (Err arena.Destroyed) m
+Keeps upper ps c m code paragraphs (Err e) qs d n = (qs ≡ ps) × (d ≡ c) × (n ≡ m) × Resizes upper m ps.present paragraphs (Err arena.Destroyed) m

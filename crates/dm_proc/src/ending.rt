@@ -53,10 +53,11 @@ impl Procs {
         cpu: &mut Cpu,
         space: &mut Space,
         code: u8,
+        upper: bool,
     ) -> Result<Ending, ArenaDestroyed>
-        ensures { Terminates self.old cpu.old space.old.memory code result self.new cpu.new space.new.memory }
+        ensures { Terminates upper self.old cpu.old space.old.memory code result self.new cpu.new space.new.memory }
     {
-        if free_all(space, self.psp()).is_err() {
+        if free_all(space, self.psp(), upper).is_err() {
             return Err(ArenaDestroyed);
         }
         Ok(self.end(cpu, space, code as u16))
@@ -75,10 +76,11 @@ impl Procs {
         space: &mut Space,
         code: u8,
         paragraphs: u16,
+        upper: bool,
     ) -> Result<Ending, ArenaDestroyed>
-        ensures { Keeps self.old cpu.old space.old.memory code paragraphs result self.new cpu.new space.new.memory }
+        ensures { Keeps upper self.old cpu.old space.old.memory code paragraphs result self.new cpu.new space.new.memory }
     {
-        let answer = resize(space, self.psp(), paragraphs);
+        let answer = resize(space, self.psp(), paragraphs, upper);
         if is_destroyed(answer) {
             return Err(ArenaDestroyed);
         }

@@ -46,8 +46,9 @@ impl Procs {
         space: &mut Space,
         programs: &Programs,
         strategy: Strategy,
+        upper: bool,
     ) -> Result<(), Refusal>
-        ensures { Executes self.old cpu.old space.old.memory programs.now strategy result self.new cpu.new space.new.memory }
+        ensures { Executes upper self.old cpu.old space.old.memory programs.now strategy result self.new cpu.new space.new.memory }
     {
         if cpu.ax % 256 != 0 {
             return Err(Refusal::Function);
@@ -58,7 +59,7 @@ impl Procs {
         else {
             return Err(Refusal::Environment);
         };
-        let pair = plan(space, strategy, &program.image, environment_bytes)?;
+        let pair = plan(space, strategy, &program.image, environment_bytes, upper)?;
         if self.is_full() {
             return Err(Refusal::Short);
         }
@@ -72,6 +73,7 @@ impl Procs {
             environment_bytes,
             parent,
             &arguments,
+            upper,
         );
         self.begin(started.segment, after);
         *cpu = started.cpu;
@@ -94,15 +96,16 @@ impl Procs {
         variables: &[u8],
         name: &[u8],
         arguments: &Arguments,
+        upper: bool,
     ) -> Result<(Procs, Cpu), Refusal>
         requires variables { length variables.now ≤ 0x7FFF }
         requires name { length name.now ≤ 64 }
-        ensures loads { Loads space.old.memory strategy image.now variables.now name.now (passed_of arguments.now) result space.new.memory }
+        ensures loads { Loads upper space.old.memory strategy image.now variables.now name.now (passed_of arguments.now) result space.new.memory }
         ensures present { IfOk result (λ r. 0 < r.0.present) }
     {
         let environment_bytes = put_environment(space, variables, name);
-        let pair = plan(space, strategy, image, environment_bytes)?;
-        let started = start(space, image, pair, environment_bytes, 0, arguments);
+        let pair = plan(space, strategy, image, environment_bytes, upper)?;
+        let started = start(space, image, pair, environment_bytes, 0, arguments, upper);
         Ok((Procs::of_first(started.segment), started.cpu))
     }
 }

@@ -2,7 +2,7 @@
 //! Execute Program").
 ghost use Rattle.std.specs.Prelude.{◌≡◌, ◌+◌, ◌<◌, ◌≤◌, length, min, take, true, false, MatchResult};
 ghost use Rattle.dm_load.specs.Image.{is_mz, relocated};
-ghost use Rattle.dm_arena.specs.Chain.{first_header};
+ghost use Rattle.dm_blocks.specs.Chain.{first_header};
 ghost use Rattle.dm_arena.specs.Pair.{IsPair, IsPlannedOn};
 ghost use Rattle.dm_proc.specs.Writes.{apply, block};
 ghost use Rattle.dm_proc.specs.Room.{paragraphs};
@@ -166,9 +166,10 @@ pub(crate) fn plan(
     strategy: Strategy,
     image: &Image,
     environment_bytes: usize,
+    upper: bool,
 ) -> Result<Pair, Refusal>
     requires { environment_bytes < 0x8100 }
-    ensures { MatchResult result (λ pair. IsPair space.now.memory first_header strategy (paragraphs environment_bytes) (Room.least image.now) (Room.most image.now) pair) (λ e. PlanRefused space.now.memory strategy environment_bytes image.now e) }
+    ensures { MatchResult result (λ pair. IsPair upper space.now.memory first_header strategy (paragraphs environment_bytes) (Room.least image.now) (Room.most image.now) pair) (λ e. PlanRefused upper space.now.memory strategy environment_bytes image.now e) }
 {
     let environment_paragraphs = environment_bytes.div_ceil(16) as u16;
     match plan_pair(
@@ -177,6 +178,7 @@ pub(crate) fn plan(
         environment_paragraphs,
         least(image),
         most(image),
+        upper,
     ) {
         Ok(pair) => Ok(pair),
         Err(dm_arena::Refusal::Short { .. }) => Err(Refusal::Short),
@@ -201,13 +203,14 @@ pub(crate) fn start(
     environment_bytes: usize,
     parent: u16,
     arguments: &Arguments,
+    upper: bool,
 ) -> Started
-    requires planned { IsPlannedOn space.old.memory pair }
+    requires planned { IsPlannedOn upper space.old.memory pair }
     requires size { Room.least image.now ≤ pair.size }
     requires environment { environment_bytes ≤ 0x200000 }
     ensures segment { result.segment ≡ pair.program }
     ensures registers { result.cpu ≡ Rattle.dm_proc.specs.Start.start_registers (placed_of pair) image.now }
-    ensures written { (p : IsPlannedOn space.old.memory pair) → IsWritten space.old.memory pair p (take environment_bytes space.old.scratch) image.now parent (passed_of arguments.now) space.new.memory }
+    ensures written { (p : IsPlannedOn upper space.old.memory pair) → IsWritten upper space.old.memory pair p (take environment_bytes space.old.scratch) image.now parent (passed_of arguments.now) space.new.memory }
 {
     let blocks = Blocks {
         environment_segment: pair.environment(),
@@ -215,7 +218,7 @@ pub(crate) fn start(
         size: pair.size(),
     };
     let prefix = make_prefix(space, blocks, parent, arguments);
-    write_pair(space, pair);
+    write_pair(space, pair, upper);
     write_start(space, image, blocks, environment_bytes, prefix.as_slice());
     Started {
         segment: blocks.program,

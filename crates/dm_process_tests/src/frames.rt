@@ -5,7 +5,7 @@ use crate::checks::same;
 use crate::guest::{holds, put};
 use crate::memory::new_space;
 use crate::processes::{HI, started};
-use dm_arena::Strategy;
+use dm_arena::{Fit, Strategy};
 use dm_exec::Cpu;
 use dm_pool::Block;
 use dm_proc::{Ending, Procs, Programs, Refusal, overlay};
@@ -109,7 +109,10 @@ fn are_freed(rt: &impl Abort, space: &Space, heads: &[Head]) {
 
 #[test]
 fn blocks_may_lie_anywhere(rt: HostRuntime) -> Result<(), Fail> {
-    let [first, last] = [Strategy::First, Strategy::Last];
+    let [first, last] = [
+        Strategy::everywhere(Fit::First),
+        Strategy::everywhere(Fit::Last),
+    ];
     let programs = store(rt.alloc())?;
     // the process and its SP, and words of its blocks
     let rows: [(
@@ -174,7 +177,7 @@ fn blocks_may_lie_anywhere(rt: HostRuntime) -> Result<(), Fail> {
         let mut space = new_space(rt.alloc())?;
         let (mut procs, mut cpu) = started(&mut space).expect(&rt, "there is room");
         lay(&mut space, windows, heads);
-        let answer = procs.exec(&mut cpu, &mut space, &programs, strategy);
+        let answer = procs.exec(&mut cpu, &mut space, &programs, strategy, false);
         same(&rt, "answer", (process, answer), (process, Ok(())));
         same(&rt, "process", procs.psp(), process);
         let segments = [cpu.cs, cpu.ds, cpu.es, cpu.ss];
@@ -182,7 +185,7 @@ fn blocks_may_lie_anywhere(rt: HostRuntime) -> Result<(), Fail> {
         same(&rt, "SP", (process, cpu.sp), (process, sp));
         has_heads(&rt, &space, left);
         has_words(&rt, &space, words);
-        let ending = procs.terminate(&mut cpu, &mut space, 0);
+        let ending = procs.terminate(&mut cpu, &mut space, 0, false);
         same(&rt, "ending", ending, Ok(Ending::Returned));
         are_freed(&rt, &space, left);
         same(&rt, "CS, IP", (cpu.cs, cpu.ip), (0x103, 0x1234));
@@ -195,10 +198,10 @@ fn blocks_need_places_for_their_headers(rt: HostRuntime) -> Result<(), Fail> {
     let programs = store(rt.alloc())?;
     let rows: [(Windows, Strategy, &[Head]); 3] = [
         // the environment's header at EFFEh: in no window, and on the place of E3FEh
-        ([1, 0, 0, 0], Strategy::Last, &FRAME),
+        ([1, 0, 0, 0], Strategy::everywhere(Fit::Last), &FRAME),
         (
             [1, 0, 0, 1],
-            Strategy::Last,
+            Strategy::everywhere(Fit::Last),
             &[
                 (0x102, b'M', 0x103, 0xDEFD),
                 (0xE000, b'M', 0x103, 0x3FD),
@@ -208,7 +211,7 @@ fn blocks_need_places_for_their_headers(rt: HostRuntime) -> Result<(), Fail> {
         // the program's header at C001h
         (
             [0; 4],
-            Strategy::First,
+            Strategy::everywhere(Fit::First),
             &[(0x102, b'M', 0x103, 0xBEFC), (0xBFFF, b'Z', 0, 0x3FFF)],
         ),
     ];
@@ -217,7 +220,7 @@ fn blocks_need_places_for_their_headers(rt: HostRuntime) -> Result<(), Fail> {
         let (mut procs, mut cpu) = started(&mut space).expect(&rt, "there is room");
         lay(&mut space, windows, heads);
         let before = cpu;
-        let answer = procs.exec(&mut cpu, &mut space, &programs, strategy);
+        let answer = procs.exec(&mut cpu, &mut space, &programs, strategy, false);
         same(&rt, "answer", answer, Err(Refusal::Destroyed));
         has_heads(&rt, &space, heads);
         let found = (procs.psp(), cpu);
@@ -233,7 +236,13 @@ fn programs_may_be_written_over_their_headers(rt: HostRuntime) -> Result<(), Fai
     let (mut procs, mut cpu) = started(&mut space).expect(&rt, "there is room");
     lay(&mut space, ONE, &FRAME);
     put(&mut space, 0x103, 0x200, b"long\0");
-    let answer = procs.exec(&mut cpu, &mut space, &programs, Strategy::First);
+    let answer = procs.exec(
+        &mut cpu,
+        &mut space,
+        &programs,
+        Strategy::everywhere(Fit::First),
+        false,
+    );
     same(&rt, "answer", answer, Ok(()));
     // The image goes on from E3FF:000F at E000:0000, with its byte 3ED0h, up to its end.
     for (segment, offset, byte) in [
@@ -247,7 +256,7 @@ fn programs_may_be_written_over_their_headers(rt: HostRuntime) -> Result<(), Fai
         holds(&rt, "image", &space, (segment, offset), &[byte]);
     }
     let before = cpu;
-    let ending = procs.terminate(&mut cpu, &mut space, 0);
+    let ending = procs.terminate(&mut cpu, &mut space, 0, false);
     same(&rt, "ending", ending.is_err(), true);
     let found = (procs.psp(), cpu);
     same(&rt, "process, registers", found, (0xE003, before));
@@ -274,9 +283,15 @@ fn resident_programs_may_lie_in_the_frame(rt: HostRuntime) -> Result<(), Fail> {
         let mut space = new_space(rt.alloc())?;
         let (mut procs, mut cpu) = started(&mut space).expect(&rt, "there is room");
         lay(&mut space, windows, &FRAME);
-        let answer = procs.exec(&mut cpu, &mut space, &programs, Strategy::First);
+        let answer = procs.exec(
+            &mut cpu,
+            &mut space,
+            &programs,
+            Strategy::everywhere(Fit::First),
+            false,
+        );
         same(&rt, "answer", answer, Ok(()));
-        let ending = procs.keep(&mut cpu, &mut space, 5, 0x3FD);
+        let ending = procs.keep(&mut cpu, &mut space, 5, 0x3FD, false);
         same(&rt, "ending", (windows, ending.is_ok()), (windows, is_kept));
         has_heads(&rt, &space, heads);
     }
@@ -293,7 +308,7 @@ fn first_program_frees_blocks_in_the_frame(rt: HostRuntime) -> Result<(), Fail> 
         (0xE011, b'Z', 0, 0xFEE),
     ];
     lay(&mut space, [1, 0, 0, 0], &heads);
-    let ending = procs.terminate(&mut cpu, &mut space, 0);
+    let ending = procs.terminate(&mut cpu, &mut space, 0, false);
     same(&rt, "ending", ending, Ok(Ending::Exited));
     let freed = [
         (0x100, b'M', 0, 1),

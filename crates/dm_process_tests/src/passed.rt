@@ -5,7 +5,7 @@ use crate::checks::same;
 use crate::guest::{fill, holds, put};
 use crate::memory::new_space;
 use crate::processes::{HI, started};
-use dm_arena::Strategy;
+use dm_arena::{Fit, Strategy};
 use dm_exec::Cpu;
 use dm_pool::NewError;
 use dm_proc::{Procs, Programs, Refusal};
@@ -56,7 +56,13 @@ fn named(
     fill(&mut space, ENVIRONMENT, 0, 0x80, 0xEE);
     fill(&mut space, 0x103, 0x200, 0x80, 0);
     fill(&mut space, 0x103, 0x200, length, b'n');
-    let answer = procs.exec(&mut cpu, &mut space, programs, Strategy::First);
+    let answer = procs.exec(
+        &mut cpu,
+        &mut space,
+        programs,
+        Strategy::everywhere(Fit::First),
+        false,
+    );
     let size = answer.map(|()| space.peek16(ENVIRONMENT - 1, 3));
     same(rt, "size", (length, size), (length, wanted));
     if wanted.is_ok() {
@@ -192,7 +198,13 @@ fn requests_wrap_in_their_segment(rt: HostRuntime) -> Result<(), Fail> {
         let (mut procs, mut cpu) = started(&mut space).expect(&rt, "there is room");
         fill(&mut space, PREFIX, 0, 0x100, 0xEE);
         request(&mut space, &mut cpu, places);
-        let answer = procs.exec(&mut cpu, &mut space, &programs, Strategy::First);
+        let answer = procs.exec(
+            &mut cpu,
+            &mut space,
+            &programs,
+            Strategy::everywhere(Fit::First),
+            false,
+        );
         same(&rt, "answer", (places, answer), (places, Ok(())));
         is_prefix(&rt, rt.alloc(), &space, places.6)?;
     }
@@ -219,7 +231,13 @@ fn variables_come_from_the_segment_asked_for(rt: HostRuntime) -> Result<(), Fail
         fill(&mut space, ENVIRONMENT, 0, 0x20, 0xEE);
         space.poke16(0x103, 0x2C, own);
         space.poke16(0x103, 0x300, asked);
-        let answer = procs.exec(&mut cpu, &mut space, &programs, Strategy::First);
+        let answer = procs.exec(
+            &mut cpu,
+            &mut space,
+            &programs,
+            Strategy::everywhere(Fit::First),
+            false,
+        );
         same(&rt, "answer", (asked, own, answer), (asked, own, Ok(())));
         holds(&rt, "environment", &space, (ENVIRONMENT, 0), environment);
     }
@@ -241,7 +259,13 @@ fn variables_have_at_most_7fffh_bytes(rt: HostRuntime) -> Result<(), Fail> {
         let (mut procs, mut cpu) = started(&mut space).expect(&rt, "there is room");
         fill(&mut space, 0x4000, 0, letters, b'A');
         space.poke16(0x103, 0x300, 0x4000);
-        let answer = procs.exec(&mut cpu, &mut space, &programs, Strategy::First);
+        let answer = procs.exec(
+            &mut cpu,
+            &mut space,
+            &programs,
+            Strategy::everywhere(Fit::First),
+            false,
+        );
         let size = answer.map(|()| space.peek16(ENVIRONMENT - 1, 3));
         same(&rt, "size", (letters, size), (letters, wanted));
         if wanted.is_ok() {

@@ -4,7 +4,7 @@ use crate::checks::same;
 use crate::guest::put;
 use crate::memory::new_space;
 use arrayvec::ArrayVec;
-use dm_arena::{Strategy, resize};
+use dm_arena::{Fit, Strategy, resize};
 use dm_exec::{Cpu, Flags};
 use dm_load::Image;
 use dm_proc::{Arguments, Ending, Procs, Programs, Refusal, overlay};
@@ -58,14 +58,23 @@ fn store(alloc: Global) -> Result<Programs, Fail> {
 /// The first program, with the environment of its name alone.
 fn loaded(space: &mut Space) -> Option<(Procs, Cpu)> {
     let image = Image::of(&HI).ok()?;
-    Procs::load(space, Strategy::First, &image, &[], b"HI.COM", &none()).ok()
+    Procs::load(
+        space,
+        Strategy::everywhere(Fit::First),
+        &image,
+        &[],
+        b"HI.COM",
+        &none(),
+        false,
+    )
+    .ok()
 }
 
 /// A first program that has shrunk its block to 1000h paragraphs, and its registers at a call of
 /// function 4Bh: the name at 0103:0200, the parameter block at 0103:0300.
 pub(crate) fn started(space: &mut Space) -> Option<(Procs, Cpu)> {
     let (procs, mut cpu) = loaded(space)?;
-    resize(space, 0x103, 0x1000).ok()?;
+    resize(space, 0x103, 0x1000, false).ok()?;
     put(space, 0x103, 0x200, b"hi.com\0");
     put(space, 0x103, 0x300, &[0, 0, 0x80, 0, 3, 1]);
     // The call's return address and flags, with CF set, are on the stack.
@@ -114,7 +123,13 @@ fn child_runs_and_returns(rt: HostRuntime) -> Result<(), Fail> {
     let mut space = new_space(rt.alloc())?;
     let (mut procs, mut cpu) = started(&mut space).expect(&rt, "there is room");
     [cpu.si, cpu.di, cpu.bp] = [0x1111, 0x2222, 0x3333];
-    let answer = procs.exec(&mut cpu, &mut space, &programs, Strategy::First);
+    let answer = procs.exec(
+        &mut cpu,
+        &mut space,
+        &programs,
+        Strategy::everywhere(Fit::First),
+        false,
+    );
     same(&rt, "answer", answer, Ok(()));
     same(
         &rt,
@@ -126,7 +141,7 @@ fn child_runs_and_returns(rt: HostRuntime) -> Result<(), Fail> {
     for (segment, offset, word) in [(0x1103, 3, 1), (0x1105, 3, 0x8EFA), (0x1106, 0x16, 0x103)] {
         same(&rt, "word in memory", space.peek16(segment, offset), word);
     }
-    let ending = procs.terminate(&mut cpu, &mut space, 0);
+    let ending = procs.terminate(&mut cpu, &mut space, 0, false);
     same(&rt, "ending", ending, Ok(Ending::Returned));
     same(
         &rt,
@@ -152,7 +167,7 @@ fn child_runs_and_returns(rt: HostRuntime) -> Result<(), Fail> {
         (procs.take_code(), space.peek16(0x1105, 1)),
         (0, 0),
     );
-    let ending = procs.terminate(&mut cpu, &mut space, 7);
+    let ending = procs.terminate(&mut cpu, &mut space, 7, false);
     same(&rt, "ending", ending, Ok(Ending::Exited));
     same(
         &rt,
@@ -168,9 +183,15 @@ fn resident_program_keeps_its_block(rt: HostRuntime) -> Result<(), Fail> {
     let programs = store(rt.alloc())?;
     let mut space = new_space(rt.alloc())?;
     let (mut procs, mut cpu) = started(&mut space).expect(&rt, "there is room");
-    let answer = procs.exec(&mut cpu, &mut space, &programs, Strategy::First);
+    let answer = procs.exec(
+        &mut cpu,
+        &mut space,
+        &programs,
+        Strategy::everywhere(Fit::First),
+        false,
+    );
     same(&rt, "answer", answer, Ok(()));
-    let ending = procs.keep(&mut cpu, &mut space, 5, 0x20);
+    let ending = procs.keep(&mut cpu, &mut space, 5, 0x20, false);
     same(&rt, "ending", ending, Ok(Ending::Returned));
     for (segment, offset, word) in [
         (0x1105, 1, 0x1106),
@@ -204,13 +225,24 @@ fn refusals_come_in_their_order(rt: HostRuntime) -> Result<(), Fail> {
     for (ax, name, environment, signature, refusal) in rows {
         let mut space = new_space(rt.alloc())?;
         let (mut procs, mut cpu) = started(&mut space).expect(&rt, "there is room");
-        same(&rt, "resize", resize(&mut space, 0x103, 0x9E00), Ok(()));
+        same(
+            &rt,
+            "resize",
+            resize(&mut space, 0x103, 0x9E00, false),
+            Ok(()),
+        );
         cpu.ax = ax;
         put(&mut space, 0x103, 0x200, name);
         space.poke16(0x103, 0x300, environment);
         space.poke(0x100, 0, signature);
         let before = cpu;
-        let answer = procs.exec(&mut cpu, &mut space, &programs, Strategy::First);
+        let answer = procs.exec(
+            &mut cpu,
+            &mut space,
+            &programs,
+            Strategy::everywhere(Fit::First),
+            false,
+        );
         same(&rt, "answer", answer, Err(refusal));
         same(
             &rt,

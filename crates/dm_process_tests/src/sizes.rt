@@ -4,7 +4,7 @@ use crate::checks::same;
 use crate::guest::{fill, holds};
 use crate::memory::new_space;
 use crate::processes::{has_no_values, none};
-use dm_arena::Strategy;
+use dm_arena::{Fit, Strategy};
 use dm_exec::Cpu;
 use dm_load::Image;
 use dm_proc::{Procs, Refusal};
@@ -21,7 +21,15 @@ const PREFIX: u16 = 0x103;
 fn load(space: &mut Space, file: &[u8], room: u16) -> Option<Result<Cpu, Refusal>> {
     space.poke16(0x100, 3, room);
     let image = Image::of(file).ok()?;
-    let answer = Procs::load(space, Strategy::First, &image, &[], b"A", &none());
+    let answer = Procs::load(
+        space,
+        Strategy::everywhere(Fit::First),
+        &image,
+        &[],
+        b"A",
+        &none(),
+        false,
+    );
     Some(answer.map(|started| started.1))
 }
 

@@ -5,7 +5,7 @@ use crate::checks::same;
 use crate::guest::{holds, put};
 use crate::memory::new_space;
 use crate::processes::started;
-use dm_arena::Strategy;
+use dm_arena::{Fit, Strategy};
 use dm_exec::Cpu;
 use dm_proc::{Ending, Procs, Programs, Refusal, overlay};
 use dm_space::Space;
@@ -67,7 +67,13 @@ fn all_is_read_before_anything_is_written(rt: HostRuntime) -> Result<(), Fail> {
     [cpu.ss, cpu.sp] = [0x1105, 0];
     [cpu.ds, cpu.dx] = [0x1106, 0x30];
     [cpu.es, cpu.bx] = [0x1106, 0];
-    let answer = procs.exec(&mut cpu, &mut space, &programs, Strategy::First);
+    let answer = procs.exec(
+        &mut cpu,
+        &mut space,
+        &programs,
+        Strategy::everywhere(Fit::First),
+        false,
+    );
     same(&rt, "answer", answer, Ok(()));
     holds(
         &rt,
@@ -99,7 +105,7 @@ fn all_is_read_before_anything_is_written(rt: HostRuntime) -> Result<(), Fail> {
         b"0123456789ABCDEFFEDCBA9876543210",
     );
     holds(&rt, "tail", &space, (0x1106, 0x80), b"\x03xyz\x0D\0");
-    let ending = procs.terminate(&mut cpu, &mut space, 0);
+    let ending = procs.terminate(&mut cpu, &mut space, 0, false);
     same(&rt, "ending", ending, Ok(Ending::Returned));
     let back = (cpu.cs, cpu.ip, cpu.ss, cpu.sp);
     same(&rt, "CS, IP, SS, SP", back, (0x103, 0x1234, 0x1105, 6));
@@ -109,8 +115,8 @@ fn all_is_read_before_anything_is_written(rt: HostRuntime) -> Result<(), Fail> {
 /// Ends a program as function 4Ch does, or as 31h does with so many paragraphs.
 fn end(procs: &mut Procs, cpu: &mut Cpu, space: &mut Space, kept: Option<u16>) -> Option<Ending> {
     match kept {
-        None => procs.terminate(cpu, space, 7).ok(),
-        Some(paragraphs) => procs.keep(cpu, space, 7, paragraphs).ok(),
+        None => procs.terminate(cpu, space, 7, false).ok(),
+        Some(paragraphs) => procs.keep(cpu, space, 7, paragraphs, false).ok(),
     }
 }
 
@@ -126,7 +132,13 @@ fn ends(
     let mut space = new_space(alloc)?;
     let (mut procs, mut cpu) = asking(&mut space).ok_or("there is room")?;
     put(&mut space, 0, 0x88, b"0123456789AB");
-    let answer = procs.exec(&mut cpu, &mut space, programs, Strategy::First);
+    let answer = procs.exec(
+        &mut cpu,
+        &mut space,
+        programs,
+        Strategy::everywhere(Fit::First),
+        false,
+    );
     same(rt, "answer", answer, Ok(()));
     put(&mut space, 0, 0x84, b"abcdefghijklmnopqrst");
     space.poke16(0x1118, 1, 0x103);
@@ -160,7 +172,13 @@ fn child(rt: &impl Abort, alloc: Global, space: &mut Space) -> Result<(Procs, Cp
     let programs = store(alloc)?;
     let (mut procs, mut cpu) = asking(space).ok_or("there is room")?;
     put(space, 0, 0x88, b"0123456789AB");
-    let answer = procs.exec(&mut cpu, space, &programs, Strategy::First);
+    let answer = procs.exec(
+        &mut cpu,
+        space,
+        &programs,
+        Strategy::everywhere(Fit::First),
+        false,
+    );
     same(rt, "answer", answer, Ok(()));
     Ok((procs, cpu))
 }
@@ -255,7 +273,13 @@ fn word_of_an_ending_is_kept_through_a_start(rt: HostRuntime) -> Result<(), Fail
     let mut space = new_space(rt.alloc())?;
     let (mut procs, mut cpu) = asking(&mut space).expect(&rt, "there is room");
     let asked = cpu;
-    let answer = procs.exec(&mut cpu, &mut space, &programs, Strategy::First);
+    let answer = procs.exec(
+        &mut cpu,
+        &mut space,
+        &programs,
+        Strategy::everywhere(Fit::First),
+        false,
+    );
     same(&rt, "answer", answer, Ok(()));
     same(
         &rt,
@@ -264,7 +288,13 @@ fn word_of_an_ending_is_kept_through_a_start(rt: HostRuntime) -> Result<(), Fail
         Some(Ending::Returned),
     );
     cpu = asked;
-    let answer = procs.exec(&mut cpu, &mut space, &programs, Strategy::First);
+    let answer = procs.exec(
+        &mut cpu,
+        &mut space,
+        &programs,
+        Strategy::everywhere(Fit::First),
+        false,
+    );
     same(&rt, "answer", answer, Ok(()));
     let words = (procs.take_code(), procs.take_code());
     same(&rt, "word, word again", words, (7, 0));
@@ -280,7 +310,13 @@ fn starts(
 ) -> (u16, Option<Refusal>) {
     for count in 0..20 {
         let mut cpu = asked;
-        if let Err(refusal) = procs.exec(&mut cpu, space, programs, Strategy::First) {
+        if let Err(refusal) = procs.exec(
+            &mut cpu,
+            space,
+            programs,
+            Strategy::everywhere(Fit::First),
+            false,
+        ) {
             return (count, Some(refusal));
         }
     }
@@ -317,7 +353,13 @@ fn header_on_no_memory_is_told_before_too_many_processes(rt: HostRuntime) -> Res
     for (size, refusal) in [(0xADC2, Refusal::Short), (0xADC3, Refusal::Destroyed)] {
         space.poke16(0x123E, 3, size);
         let mut asked = cpu;
-        let answer = procs.exec(&mut asked, &mut space, &programs, Strategy::Last);
+        let answer = procs.exec(
+            &mut asked,
+            &mut space,
+            &programs,
+            Strategy::everywhere(Fit::Last),
+            false,
+        );
         same(&rt, "answer", (size, answer), (size, Err(refusal)));
         same(
             &rt,

@@ -1,35 +1,40 @@
 -- The calls that allocate, from what the arena answers
-use Rattle.std.proofs.Common.{◌≡◌, ℕ, None, Ok, Err, true, false, ◌∙◌, ap, subst}
+use Rattle.std.proofs.Common.{◌≡◌, ℕ, Bool, None, Ok, Err, true, false, ◌∙◌, ap, subst}
 use Rattle.dm_space.specs.Memory.{Memory}
 use Rattle.dm_exec.specs.declared.cpu.Cpu.{Cpu}
 use Rattle.dm_arena.specs.declared.refusal.Refusal.{Refusal}
 use Rattle.dm_arena.specs.Allocation.{Allocates}
 use Rattle.dm_arena.specs.Owned.{Frees, Resizes}
+use Rattle.dm_arena.specs.Linking.{Links}
 use Rattle.dm_state.specs.State.{State, Answer}
 use Rattle.dm_services.specs.Allocation.{answered, refused, Allocation, Freeing, Resizing}
+use Rattle.dm_services.specs.Strategies.{Linking}
 
 -- a step after which the machine goes on
 abbrev pub going : State → Answer
 going t = record { stop = None; state = t }
 
-pub allocation-served : (s v : State) (o n : ℕ) (m : Memory) (t : State) → v ≡ s → o ≡ v.processes.present → Allocates v.memory v.strategy v.cpu.bx o (Ok n) m → t ≡ (answered v (record v.cpu { ax = n }) m false).state → Allocation s (going t)
+pub allocation-served : (s v : State) (o n : ℕ) (m : Memory) (t : State) → v ≡ s → o ≡ v.processes.present → Allocates v.upper v.memory v.strategy v.cpu.bx o (Ok n) m → t ≡ (answered v (record v.cpu { ax = n }) m false).state → Allocation s (going t)
 allocation-served s v o n m t e p a h =
-    let b = subst (λ q. Allocates v.memory v.strategy v.cpu.bx q (Ok n) m) p a in
+    let b = subst (λ q. Allocates v.upper v.memory v.strategy v.cpu.bx q (Ok n) m) p a in
     subst (λ w. Allocation w (going t)) e (record { result = Ok n; memory = m; allocates = b; answer = ap going h })
 
-pub allocation-refused : (s v : State) (o : ℕ) (e : Refusal) (m : Memory) (c : Cpu) (t : State) → v ≡ s → o ≡ v.processes.present → Allocates v.memory v.strategy v.cpu.bx o (Err e) m → c ≡ refused v.cpu e → t ≡ (answered v c m true).state → Allocation s (going t)
+pub allocation-refused : (s v : State) (o : ℕ) (e : Refusal) (m : Memory) (c : Cpu) (t : State) → v ≡ s → o ≡ v.processes.present → Allocates v.upper v.memory v.strategy v.cpu.bx o (Err e) m → c ≡ refused v.cpu e → t ≡ (answered v c m true).state → Allocation s (going t)
 allocation-refused s v o e m c t is p a g h =
-    let b = subst (λ q. Allocates v.memory v.strategy v.cpu.bx q (Err e) m) p a in
+    let b = subst (λ q. Allocates v.upper v.memory v.strategy v.cpu.bx q (Err e) m) p a in
     subst (λ w. Allocation w (going t)) is (record { result = Err e; memory = m; allocates = b; answer = ap going h ∙ ap (λ d. answered v d m true) g })
 
-pub freeing-served : (s v : State) (n : Unit {0}) (m : Memory) (t : State) → v ≡ s → Frees v.memory v.cpu.es (Ok n) m → t ≡ (answered v v.cpu m false).state → Freeing s (going t)
+pub freeing-served : (s v : State) (n : Unit {0}) (m : Memory) (t : State) → v ≡ s → Frees v.upper v.memory v.cpu.es (Ok n) m → t ≡ (answered v v.cpu m false).state → Freeing s (going t)
 freeing-served s v n m t e a h = subst (λ w. Freeing w (going t)) e (record { result = Ok n; memory = m; frees = a; answer = ap going h })
 
-pub freeing-refused : (s v : State) (e : Refusal) (m : Memory) (c : Cpu) (t : State) → v ≡ s → Frees v.memory v.cpu.es (Err e) m → c ≡ refused v.cpu e → t ≡ (answered v c m true).state → Freeing s (going t)
+pub freeing-refused : (s v : State) (e : Refusal) (m : Memory) (c : Cpu) (t : State) → v ≡ s → Frees v.upper v.memory v.cpu.es (Err e) m → c ≡ refused v.cpu e → t ≡ (answered v c m true).state → Freeing s (going t)
 freeing-refused s v e m c t is a g h = subst (λ w. Freeing w (going t)) is (record { result = Err e; memory = m; frees = a; answer = ap going h ∙ ap (λ d. answered v d m true) g })
 
-pub resizing-served : (s v : State) (n : Unit {0}) (m : Memory) (t : State) → v ≡ s → Resizes v.memory v.cpu.es v.cpu.bx (Ok n) m → t ≡ (answered v v.cpu m false).state → Resizing s (going t)
+pub resizing-served : (s v : State) (n : Unit {0}) (m : Memory) (t : State) → v ≡ s → Resizes v.upper v.memory v.cpu.es v.cpu.bx (Ok n) m → t ≡ (answered v v.cpu m false).state → Resizing s (going t)
 resizing-served s v n m t e a h = subst (λ w. Resizing w (going t)) e (record { result = Ok n; memory = m; resizes = a; answer = ap going h })
 
-pub resizing-refused : (s v : State) (e : Refusal) (m : Memory) (c : Cpu) (t : State) → v ≡ s → Resizes v.memory v.cpu.es v.cpu.bx (Err e) m → c ≡ refused v.cpu e → t ≡ (answered v c m true).state → Resizing s (going t)
+pub resizing-refused : (s v : State) (e : Refusal) (m : Memory) (c : Cpu) (t : State) → v ≡ s → Resizes v.upper v.memory v.cpu.es v.cpu.bx (Err e) m → c ≡ refused v.cpu e → t ≡ (answered v c m true).state → Resizing s (going t)
 resizing-refused s v e m c t is a g h = subst (λ w. Resizing w (going t)) is (record { result = Err e; memory = m; resizes = a; answer = ap going h ∙ ap (λ d. answered v d m true) g })
+
+pub linking-served : (s v : State) (on : Bool) (n : Unit {0}) (m : Memory) (t : State) → v ≡ s → Links v.memory on (Ok n) m → t ≡ (answered v v.cpu m false).state → Linking on s (going t)
+linking-served s v on n m t e a h = subst (λ w. Linking on w (going t)) e (record { result = Ok n; memory = m; links = a; answer = ap going h })

@@ -21,7 +21,11 @@ use Rattle.dm_services.specs.Flush.{flush_and_read}
 use Rattle.dm_services.specs.Handles.{bad_handle, read_handle, write_handle}
 use Rattle.dm_services.specs.Vectors.{set_vector, get_vector}
 use Rattle.dm_services.specs.System.{tell_version, tell_process}
-use Rattle.dm_services.specs.Allocation.{allocated, settled, strategy_of, strategy_set, strategy_call}
+use Rattle.dm_services.specs.Allocation.{allocated, settled}
+use Rattle.dm_services.specs.declared.strategies.StrategyFunction.{StrategyFunction}
+use Rattle.dm_services.specs.declared.strategies.StrategyFunction.TheVariants.{TellStrategy, SetStrategy, TellLink, SetLink, Unlisted}
+use Rattle.dm_services.specs.Strategies as strategies
+use Rattle.dm_services.specs.Strategies.{TellsLink, link_told, SetsLink, StrategyCalls, strategy_of, set_to, wanted}
 use Rattle.dm_proc.specs.declared.refusal.Refusal.{Refusal as ProgramRefusal}
 use Rattle.dm_proc.specs.declared.refusal.ArenaDestroyed.{ArenaDestroyed}
 use Rattle.dm_proc.specs.declared.parent.Ending.{Ending}
@@ -31,7 +35,7 @@ use Rattle.dm_services.specs.Processes.{executed, overlaid, LoadingAs, concluded
 use Rattle.dm_services.specs.Functions.{function_of, no_function, Calls}
 use Rattle.dm_services.specs.Services.{Serves}
 use Rattle.dm_services.specs.Laws.{ServicesKeepTheMap, ServicesKeepTheTables}
-use Rattle.dm_services.proofs.MapParts.{word-kept, bytes-kept, return-kept, allocates-kept, frees-kept, resizes-kept, executes-kept, overlays-kept, terminates-kept, keeps-kept}
+use Rattle.dm_services.proofs.MapParts.{word-kept, bytes-kept, return-kept, allocates-kept, frees-kept, resizes-kept, links-kept, executes-kept, overlays-kept, terminates-kept, keeps-kept}
 
 -- the answer's memory has the map of the state's, and its tables are the state's
 abbrev Kept : State → Answer → Type 0
@@ -158,13 +162,13 @@ settled-kept : (s : State) (r : Result (Unit {0}) Refusal) (m : Memory) → IsSh
 settled-kept s (Ok u) m h = (return-kept s.memory _ m h, refl, refl)
 settled-kept s (Err e) m h = (return-kept s.memory _ m h, refl, refl)
 
-strategy_set-kept : (s : State) (o : Option Strategy) → Kept s (strategy_set s o)
-strategy_set-kept s None = still s _
-strategy_set-kept s (Some strategy) = still s _
+set_to-kept : (s : State) (o : Option Strategy) → Kept s (set_to s o)
+set_to-kept s None = still s _
+set_to-kept s (Some strategy) = still s _
 
-strategy-kept : (s : State) → Kept s (strategy_call s)
-unfolding strategy_call
-strategy-kept s = choice-kept s (byte_of s.cpu Al == 0) _ _ (still s _) (choice-kept s (byte_of s.cpu Al == 1) _ _ (strategy_set-kept s (strategy_of s.cpu.bx)) (still s _))
+link_told-kept : (s : State) (r : Result Bool Refusal) → Kept s (link_told s r)
+link_told-kept s (Ok on) = still s _
+link_told-kept s (Err e) = still s _
 
 -- ---- programs
 
@@ -189,21 +193,36 @@ loading-kept s true x a = by s x _ a.answer (overlaid-kept s a.result a.memory (
 loading-kept s false x a =
     by s x _ a.answer
     (executed-kept s a.result a.processes a.cpu a.memory
-    (executes-kept s.processes s.cpu s.memory s.programs s.strategy a.result a.processes a.cpu a.memory a.executes))
+    (executes-kept s.upper s.processes s.cpu s.memory s.programs s.strategy a.result a.processes a.cpu a.memory a.executes))
 
 terminating-kept : (s : State) (code : ℕ) (x : Answer) → Terminating s code x → Kept s x
 terminating-kept s code x a =
     by s x _ a.answer
     (concluded-kept s code a.result a.processes a.cpu a.memory
-    (terminates-kept s.processes s.cpu s.memory code a.result a.processes a.cpu a.memory a.terminates))
+    (terminates-kept s.upper s.processes s.cpu s.memory code a.result a.processes a.cpu a.memory a.terminates))
 
 keeping-kept : (s : State) (x : Answer) → Keeping s x → Kept s x
 keeping-kept s x a =
     by s x _ a.answer
     (concluded-kept s (byte_of s.cpu Al) a.result a.processes a.cpu a.memory
-    (keeps-kept s.processes s.cpu s.memory (byte_of s.cpu Al) s.cpu.dx a.result a.processes a.cpu a.memory a.keeps))
+    (keeps-kept s.upper s.processes s.cpu s.memory (byte_of s.cpu Al) s.cpu.dx a.result a.processes a.cpu a.memory a.keeps))
 
 -- ---- all calls
+
+tells-kept : (s : State) (upper : Bool) (x : Answer) → TellsLink upper s x → Kept s x
+tells-kept s false x e = by s x _ e (link_told-kept s (Ok false))
+tells-kept s true x a = by s x _ a.answer (link_told-kept s a.result)
+
+sets-kept : (s : State) (o : Option Bool) (x : Answer) → SetsLink o s x → Kept s x
+sets-kept s None x e = by s x _ e (still s _)
+sets-kept s (Some on) x a = by s x _ a.answer (settled-kept s a.result a.memory (links-kept s.memory on a.result a.memory a.links))
+
+strategy-kept : (s : State) (f : StrategyFunction) (x : Answer) → StrategyCalls s f x → Kept s x
+strategy-kept s TellStrategy x e = by s x _ e (still s _)
+strategy-kept s SetStrategy x e = by s x _ e (set_to-kept s (strategy_of s.upper s.cpu.bx))
+strategy-kept s TellLink x a = tells-kept s s.upper x a
+strategy-kept s SetLink x a = sets-kept s (wanted s.upper s.cpu.bx) x a
+strategy-kept s Unlisted x e = by s x _ e (still s _)
 
 calls-kept : (s : State) (g : Function) (x : Answer) → Calls s g x → Kept s x
 calls-kept s EchoCharacter x e = by s x _ e (echo_character-kept s)
@@ -219,16 +238,16 @@ calls-kept s Version x e = by s x _ e (tell_version-kept s)
 calls-kept s GetVector x e = by s x _ e (get_vector-kept s)
 calls-kept s ReadHandle x e = by s x _ e (read_handle-kept s)
 calls-kept s WriteHandle x e = by s x _ e (write_handle-kept s)
-calls-kept s Allocate x a = by s x _ a.answer (allocated-kept s a.result a.memory (allocates-kept s.memory s.strategy s.cpu.bx s.processes.present a.result a.memory a.allocates))
-calls-kept s Free x a = by s x _ a.answer (settled-kept s a.result a.memory (frees-kept s.memory s.cpu.es a.result a.memory a.frees))
-calls-kept s Resize x a = by s x _ a.answer (settled-kept s a.result a.memory (resizes-kept s.memory s.cpu.es s.cpu.bx a.result a.memory a.resizes))
+calls-kept s Allocate x a = by s x _ a.answer (allocated-kept s a.result a.memory (allocates-kept s.upper s.memory s.strategy s.cpu.bx s.processes.present a.result a.memory a.allocates))
+calls-kept s Free x a = by s x _ a.answer (settled-kept s a.result a.memory (frees-kept s.upper s.memory s.cpu.es a.result a.memory a.frees))
+calls-kept s Resize x a = by s x _ a.answer (settled-kept s a.result a.memory (resizes-kept s.upper s.memory s.cpu.es s.cpu.bx a.result a.memory a.resizes))
 calls-kept s LoadProgram x a = loading-kept s _ x a
 calls-kept s Exit x a = terminating-kept s _ x a
 calls-kept s Keep x a = keeping-kept s x a
 calls-kept s Terminate x a = terminating-kept s 0 x a
 calls-kept s ExitCode x e = by s x _ e (tell_code-kept s)
 calls-kept s Process x e = by s x _ e (tell_process-kept s)
-calls-kept s AllocationStrategy x e = by s x _ e (strategy-kept s)
+calls-kept s AllocationStrategy x e = strategy-kept s (strategies.function_of (byte_of s.cpu Al)) x e
 calls-kept s Unknown x e = by s x _ e (no_function-kept s)
 
 served-kept : (s : State) (service : Service) (x : Answer) → Serves s service x → Kept s x

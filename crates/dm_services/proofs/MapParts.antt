@@ -1,5 +1,5 @@
 -- Parts of a step keep the map of memory: all that they write are bytes
-use Rattle.std.proofs.Common.{◌≡◌, ℕ, suc, ◌%◌, List, [], ◌∷◌, Result, Ok, Err, sym, subst}
+use Rattle.std.proofs.Common.{inl, inr, ◌≡◌, ℕ, suc, ◌%◌, List, [], ◌∷◌, Result, Ok, Err, Bool, true, false, sym, subst}
 use Rattle.dm_space.specs.Memory.{Memory, poke, poke16, linear}
 use Rattle.dm_space.specs.Buffers.{with_bytes}
 use Rattle.dm_space.specs.Places.{IsShaped}
@@ -11,6 +11,7 @@ use Rattle.dm_arena.specs.declared.fit.Strategy.{Strategy}
 use Rattle.dm_arena.specs.declared.refusal.Refusal.{Refusal as ArenaRefusal}
 use Rattle.dm_arena.specs.Allocation.{Allocates}
 use Rattle.dm_arena.specs.Owned.{Frees, Resizes, Releases}
+use Rattle.dm_arena.specs.Linking.{Links}
 use Rattle.dm_arena.specs.Pair.{Placed, Pairs}
 use Rattle.dm_proc.specs.declared.refusal.Refusal.{Refusal}
 use Rattle.dm_proc.specs.declared.refusal.ArenaDestroyed.{ArenaDestroyed}
@@ -50,37 +51,46 @@ return-kept S c m h = h
 
 -- ---- blocks
 
-pub allocates-kept : (S : Memory) (strategy : Strategy) (n owner : ℕ) (r : Result ℕ ArenaRefusal) (T : Memory) → Allocates S strategy n owner r T → IsShaped S T
-allocates-kept S strategy n owner (Ok segment) T a = a.2.differs.shape
-allocates-kept S strategy n owner (Err e) T a = unchanged S T a.0
+pub allocates-kept : (upper : Bool) (S : Memory) (strategy : Strategy) (n owner : ℕ) (r : Result ℕ ArenaRefusal) (T : Memory) → Allocates upper S strategy n owner r T → IsShaped S T
+allocates-kept upper S strategy n owner (Ok segment) T a = a.2.differs.shape
+allocates-kept upper S strategy n owner (Err e) T a = unchanged S T a.0
 
-pub frees-kept : (S : Memory) (segment : ℕ) (r : Result (Unit {0}) ArenaRefusal) (T : Memory) → Frees S segment r T → IsShaped S T
-frees-kept S segment (Ok u) T a = a.1.differs.shape
-frees-kept S segment (Err e) T a = unchanged S T a.0
+pub frees-kept : (upper : Bool) (S : Memory) (segment : ℕ) (r : Result (Unit {0}) ArenaRefusal) (T : Memory) → Frees upper S segment r T → IsShaped S T
+frees-kept upper S segment (Ok u) T a = a.1.differs.shape
+frees-kept upper S segment (Err e) T a = unchanged S T a.0
 
-pub resizes-kept : (S : Memory) (segment n : ℕ) (r : Result (Unit {0}) ArenaRefusal) (T : Memory) → Resizes S segment n r T → IsShaped S T
-resizes-kept S segment n (Ok u) T a = a.2.differs.shape
-resizes-kept S segment n (Err e) T a = unchanged S T a.0
+pub resizes-kept : (upper : Bool) (S : Memory) (segment n : ℕ) (r : Result (Unit {0}) ArenaRefusal) (T : Memory) → Resizes upper S segment n r T → IsShaped S T
+resizes-kept upper S segment n (Ok u) T a = a.2.differs.shape
+resizes-kept upper S segment n (Err e) T a = unchanged S T a.0
 
-releases-kept : (S : Memory) (owner : ℕ) (r : Result (Unit {0}) ArenaRefusal) (T : Memory) → Releases S owner r T → IsShaped S T
-releases-kept S owner (Ok u) T a = a.2.differs.shape
-releases-kept S owner (Err e) T a = unchanged S T a.0
+pub links-kept : (S : Memory) (on : Bool) (r : Result (Unit {0}) ArenaRefusal) (T : Memory) → Links S on r T → IsShaped S T
+links-kept S true (Ok u) T (inl a) = unchanged S T a.same
+links-kept S true (Ok u) T (inr a) = a.becomes.differs.shape
+links-kept S false (Ok u) T (inl a) = unchanged S T a.same
+links-kept S false (Ok u) T (inr a) = a.becomes.differs.shape
+links-kept S true (Err e) T a = unchanged S T a.0
+links-kept S false (Err e) T a = unchanged S T a.0
 
-pairs-kept : (S : Memory) (strategy : Strategy) (environment least most : ℕ) (r : Result Placed ArenaRefusal) (T : Memory) → Pairs S strategy environment least most r T → IsShaped S T
-pairs-kept S strategy environment least most (Ok placed) T a = a.3.differs.shape
-pairs-kept S strategy environment least most (Err e) T a = unchanged S T a.0
+releases-kept : (upper : Bool) (S : Memory) (owner : ℕ) (r : Result (Unit {0}) ArenaRefusal) (T : Memory) → Releases upper S owner r T → IsShaped S T
+releases-kept upper S owner (Ok u) T (inl a) = a.becomes.differs.shape
+releases-kept upper S owner (Ok u) T (inr a) = a.differs.shape
+releases-kept upper S owner (Err e) T a = unchanged S T a.0
+
+pairs-kept : (upper : Bool) (S : Memory) (strategy : Strategy) (environment least most : ℕ) (r : Result Placed ArenaRefusal) (T : Memory) → Pairs upper S strategy environment least most r T → IsShaped S T
+pairs-kept upper S strategy environment least most (Ok placed) T a = a.3.differs.shape
+pairs-kept upper S strategy environment least most (Err e) T a = unchanged S T a.0
 
 -- ---- programs
 
-pub starts-kept : (S : Memory) (strategy : Strategy) (environment file : List ℕ) (parent : ℕ) (a : Passed) (placed : Placed) (T : Memory) →
-    Starts S strategy environment file parent a placed T → IsShaped S T
-starts-kept S strategy environment file parent a placed T s =
-    another S _ T s.memory (writes-kept S s.middle (start_writes s.middle.a20 placed environment (prefix S placed parent a) file) (pairs-kept S strategy _ _ _ (Ok placed) s.middle s.plans))
+pub starts-kept : (upper : Bool) (S : Memory) (strategy : Strategy) (environment file : List ℕ) (parent : ℕ) (a : Passed) (placed : Placed) (T : Memory) →
+    Starts upper S strategy environment file parent a placed T → IsShaped S T
+starts-kept upper S strategy environment file parent a placed T s =
+    another S _ T s.memory (writes-kept S s.middle (start_writes s.middle.a20 placed environment (prefix S placed parent a) file) (pairs-kept upper S strategy _ _ _ (Ok placed) s.middle s.plans))
 
-pub executes-kept : (ps : Processes) (c : Cpu) (S : Memory) (store : List (List ℕ × List ℕ)) (strategy : Strategy) (r : Result (Unit {0}) Refusal) (qs : Processes) (d : Cpu) (T : Memory) →
-    Executes ps c S store strategy r qs d T → IsShaped S T
-executes-kept ps c S store strategy (Ok x) qs d T a = starts-kept S strategy _ _ _ _ a.placed T a.starts
-executes-kept ps c S store strategy (Err e) qs d T a = unchanged S T a.2
+pub executes-kept : (upper : Bool) (ps : Processes) (c : Cpu) (S : Memory) (store : List (List ℕ × List ℕ)) (strategy : Strategy) (r : Result (Unit {0}) Refusal) (qs : Processes) (d : Cpu) (T : Memory) →
+    Executes upper ps c S store strategy r qs d T → IsShaped S T
+executes-kept upper ps c S store strategy (Ok x) qs d T a = starts-kept upper S strategy _ _ _ _ a.placed T a.starts
+executes-kept upper ps c S store strategy (Err e) qs d T a = unchanged S T a.2
 
 pub overlays-kept : (c : Cpu) (S : Memory) (store : List (List ℕ × List ℕ)) (r : Result (Unit {0}) Refusal) (T : Memory) → Overlays c S store r T → IsShaped S T
 overlays-kept c S store (Ok x) T a = another S _ T a.memory (search (writes-kept, shaped-same))
@@ -94,12 +104,12 @@ ends-kept : (S : Memory) (ps : Processes) (c : Cpu) (m : Memory) (word : ℕ) (e
     IsShaped S m → Ends ps c m word ending qs d T → IsShaped S T
 ends-kept S ps c m word ending qs d T h a = another S _ T a.memory (vectors-kept S m ps.present h)
 
-pub terminates-kept : (ps : Processes) (c : Cpu) (S : Memory) (code : ℕ) (r : Result Ending ArenaDestroyed) (qs : Processes) (d : Cpu) (T : Memory) →
-    Terminates ps c S code r qs d T → IsShaped S T
-terminates-kept ps c S code (Ok ending) qs d T a = ends-kept S ps c a.0 code ending qs d T (releases-kept S ps.present (Ok tt) a.0 a.1) a.2
-terminates-kept ps c S code (Err e) qs d T a = unchanged S T a.2
+pub terminates-kept : (upper : Bool) (ps : Processes) (c : Cpu) (S : Memory) (code : ℕ) (r : Result Ending ArenaDestroyed) (qs : Processes) (d : Cpu) (T : Memory) →
+    Terminates upper ps c S code r qs d T → IsShaped S T
+terminates-kept upper ps c S code (Ok ending) qs d T a = ends-kept S ps c a.0 code ending qs d T (releases-kept upper S ps.present (Ok tt) a.0 a.1) a.2
+terminates-kept upper ps c S code (Err e) qs d T a = unchanged S T a.2
 
-pub keeps-kept : (ps : Processes) (c : Cpu) (S : Memory) (code paragraphs : ℕ) (r : Result Ending ArenaDestroyed) (qs : Processes) (d : Cpu) (T : Memory) →
-    Keeps ps c S code paragraphs r qs d T → IsShaped S T
-keeps-kept ps c S code paragraphs (Ok ending) qs d T a = ends-kept S ps c a.1 _ ending qs d T (resizes-kept S ps.present paragraphs a.0 a.1 a.2) a.4
-keeps-kept ps c S code paragraphs (Err e) qs d T a = unchanged S T a.2
+pub keeps-kept : (upper : Bool) (ps : Processes) (c : Cpu) (S : Memory) (code paragraphs : ℕ) (r : Result Ending ArenaDestroyed) (qs : Processes) (d : Cpu) (T : Memory) →
+    Keeps upper ps c S code paragraphs r qs d T → IsShaped S T
+keeps-kept upper ps c S code paragraphs (Ok ending) qs d T a = ends-kept S ps c a.1 _ ending qs d T (resizes-kept upper S ps.present paragraphs a.0 a.1 a.2) a.4
+keeps-kept upper ps c S code paragraphs (Err e) qs d T a = unchanged S T a.2

@@ -22,7 +22,11 @@ use Rattle.dm_services.specs.Flush.{flush_and_read}
 use Rattle.dm_services.specs.Handles.{bad_handle, read_handle, write_handle}
 use Rattle.dm_services.specs.Vectors.{set_vector, get_vector}
 use Rattle.dm_services.specs.System.{tell_version, tell_process}
-use Rattle.dm_services.specs.Allocation.{allocated, settled, strategy_of, strategy_set, strategy_call}
+use Rattle.dm_services.specs.Allocation.{allocated, settled}
+use Rattle.dm_services.specs.declared.strategies.StrategyFunction.{StrategyFunction}
+use Rattle.dm_services.specs.declared.strategies.StrategyFunction.TheVariants.{TellStrategy, SetStrategy, TellLink, SetLink, Unlisted}
+use Rattle.dm_services.specs.Strategies as strategies
+use Rattle.dm_services.specs.Strategies.{TellsLink, link_told, SetsLink, StrategyCalls, strategy_of, set_to, wanted}
 use Rattle.dm_proc.specs.declared.refusal.Refusal.{Refusal as ProgramRefusal}
 use Rattle.dm_proc.specs.declared.refusal.ArenaDestroyed.{ArenaDestroyed}
 use Rattle.dm_proc.specs.declared.parent.Ending.{Ending}
@@ -142,13 +146,13 @@ settled-keeps : (s : State) (r : Result (Unit {0}) Refusal) (m : Memory) → Kee
 settled-keeps s (Ok x) m = same _
 settled-keeps s (Err e) m = same _
 
-strategy_set-keeps : (s : State) (o : Option Strategy) → Keeps s (strategy_set s o)
-strategy_set-keeps s None = same _
-strategy_set-keeps s (Some strategy) = same _
+set_to-keeps : (s : State) (o : Option Strategy) → Keeps s (set_to s o)
+set_to-keeps s None = same _
+set_to-keeps s (Some strategy) = same _
 
-strategy-keeps : (s : State) → Keeps s (strategy_call s)
-unfolding strategy_call
-strategy-keeps s = choice-keeps s (byte_of s.cpu Al == 0) _ _ (same _) (choice-keeps s (byte_of s.cpu Al == 1) _ _ (strategy_set-keeps s (strategy_of s.cpu.bx)) (same _))
+link_told-keeps : (s : State) (r : Result Bool Refusal) → Keeps s (link_told s r)
+link_told-keeps s (Ok on) = same _
+link_told-keeps s (Err e) = same _
 
 no_function-keeps : (s : State) → Keeps s (no_function s)
 unfolding no_function
@@ -184,6 +188,21 @@ terminating-keeps s code x a = by s x _ a.answer (concluded-keeps s code a.resul
 keeping-keeps : (s : State) (x : Answer) → Keeping s x → Keeps s x
 keeping-keeps s x a = by s x _ a.answer (concluded-keeps s (byte_of s.cpu Al) a.result a.processes a.cpu a.memory)
 
+tells-keep : (s : State) (upper : Bool) (x : Answer) → TellsLink upper s x → Keeps s x
+tells-keep s false x e = by s x _ e (link_told-keeps s (Ok false))
+tells-keep s true x a = by s x _ a.answer (link_told-keeps s a.result)
+
+sets-keep : (s : State) (o : Option Bool) (x : Answer) → SetsLink o s x → Keeps s x
+sets-keep s None x e = by s x _ e (same _)
+sets-keep s (Some on) x a = by s x _ a.answer (settled-keeps s a.result a.memory)
+
+strategy-keeps : (s : State) (f : StrategyFunction) (x : Answer) → StrategyCalls s f x → Keeps s x
+strategy-keeps s TellStrategy x e = by s x _ e (same _)
+strategy-keeps s SetStrategy x e = by s x _ e (set_to-keeps s (strategy_of s.upper s.cpu.bx))
+strategy-keeps s TellLink x a = tells-keep s s.upper x a
+strategy-keeps s SetLink x a = sets-keep s (wanted s.upper s.cpu.bx) x a
+strategy-keeps s Unlisted x e = by s x _ e (same _)
+
 calls-keep : (s : State) (g : Function) (x : Answer) → Calls s g x → Keeps s x
 calls-keep s EchoCharacter x e = by s x _ e (echo_character-keeps s)
 calls-keep s WriteCharacter x e = by s x _ e (write_character-keeps s)
@@ -207,7 +226,7 @@ calls-keep s Keep x a = keeping-keeps s x a
 calls-keep s Terminate x a = terminating-keeps s 0 x a
 calls-keep s ExitCode x e = by s x _ e (tell_code-keeps s)
 calls-keep s Process x e = by s x _ e (tell_process-keeps s)
-calls-keep s AllocationStrategy x e = by s x _ e (strategy-keeps s)
+calls-keep s AllocationStrategy x e = strategy-keeps s (strategies.function_of (byte_of s.cpu Al)) x e
 calls-keep s Unknown x e = by s x _ e (no_function-keeps s)
 
 pub serves-keep : (s : State) (service : Service) (x : Answer) → Serves s service x → Keeps s x

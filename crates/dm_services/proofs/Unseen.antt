@@ -12,10 +12,14 @@ use Rattle.dm_services.specs.declared.functions.Function.{Function}
 use Rattle.dm_services.specs.declared.functions.Function.TheVariants.{EchoCharacter, WriteCharacter, DirectCharacter, ReadCharacter, WriteText, ReadLine, CheckInput, FlushAndRead, SetVector, Version, Keep, GetVector, ReadHandle, WriteHandle, Allocate, Free, Resize, LoadProgram, Exit, ExitCode, Process, AllocationStrategy, Terminate, Unknown}
 use Rattle.dm_arena.specs.declared.fit.Strategy.{Strategy}
 use Rattle.dm_arena.specs.declared.refusal.Refusal.{Refusal}
-use Rattle.dm_arena.proofs.Unseen.{allocation-unseen, freeing-unseen, resizing-unseen}
+use Rattle.dm_arena.proofs.Unseen.{allocation-unseen, freeing-unseen, resizing-unseen, linking-unseen, telling-unseen}
 use Rattle.dm_state.specs.State.{State, Answer}
 use Rattle.dm_services.specs.Text.{text_within, print}
-use Rattle.dm_services.specs.Allocation.{answered, allocated, settled, strategy_of, strategy_set, strategy_call}
+use Rattle.dm_services.specs.Allocation.{answered, allocated, settled}
+use Rattle.dm_services.specs.declared.strategies.StrategyFunction.{StrategyFunction}
+use Rattle.dm_services.specs.declared.strategies.StrategyFunction.TheVariants.{TellStrategy, SetStrategy, TellLink, SetLink, Unlisted}
+use Rattle.dm_services.specs.Strategies as strategies
+use Rattle.dm_services.specs.Strategies.{TellingLink, TellsLink, link_told, Linking, SetsLink, StrategyCalls, strategy_of, set_to, wanted}
 use Rattle.dm_proc.specs.declared.refusal.Refusal.{Refusal as ProgramRefusal}
 use Rattle.dm_proc.specs.declared.refusal.ArenaDestroyed.{ArenaDestroyed}
 use Rattle.dm_proc.specs.declared.parent.Ending.{Ending}
@@ -53,15 +57,43 @@ settled-unseen : (f : Memory → Memory) (u : IsUnseen f) (s : State) (r : Resul
 settled-unseen f u s (Ok x) m = answered-unseen f u s _ m false
 settled-unseen f u s (Err e) m = answered-unseen f u s _ m true
 
-strategy_set-unseen : (f : Memory → Memory) (u : IsUnseen f) (s : State) (o : Option Strategy) → strategy_set (with_change f s) o ≡ answer_with f (strategy_set s o)
-strategy_set-unseen f u s None = answered-unseen f u s _ s.memory true
-strategy_set-unseen f u s (Some strategy) = answered-unseen f u (record s { strategy = strategy }) s.cpu s.memory false
+set_to-unseen : (f : Memory → Memory) (u : IsUnseen f) (s : State) (o : Option Strategy) → set_to (with_change f s) o ≡ answer_with f (set_to s o)
+set_to-unseen f u s None = answered-unseen f u s _ s.memory true
+set_to-unseen f u s (Some strategy) = answered-unseen f u (record s { strategy = strategy }) s.cpu s.memory false
 
-strategy-unseen : (f : Memory → Memory) (u : IsUnseen f) (s : State) → strategy_call (with_change f s) ≡ answer_with f (strategy_call s)
-unfolding strategy_call
-strategy-unseen f u s =
-    choice-unseen f _ _ _ _ _ (answered-unseen f u s _ s.memory false)
-    (choice-unseen f _ _ _ _ _ (strategy_set-unseen f u s (strategy_of s.cpu.bx)) (answered-unseen f u s _ s.memory true))
+link_told-unseen : (f : Memory → Memory) (u : IsUnseen f) (s : State) (r : Result Bool Refusal) → link_told (with_change f s) r ≡ answer_with f (link_told s r)
+link_told-unseen f u s (Ok on) = answered-unseen f u s _ s.memory false
+link_told-unseen f u s (Err e) = answered-unseen f u s _ s.memory true
+
+telling_link-unseen : (f : Memory → Memory) (u : IsUnseen f) (s : State) (x : Answer) → TellingLink s x → TellingLink (with_change f s) (answer_with f x)
+telling_link-unseen f u s x a = record {
+  result = a.result;
+  tells = telling-unseen f u s.memory a.result a.tells;
+  answer = ap (answer_with f) a.answer ∙ sym (link_told-unseen f u s a.result);
+}
+
+tells-unseen : (f : Memory → Memory) (u : IsUnseen f) (s : State) (upper : Bool) (x : Answer) → TellsLink upper s x → TellsLink upper (with_change f s) (answer_with f x)
+tells-unseen f u s false x e = ap (answer_with f) e ∙ sym (link_told-unseen f u s (Ok false))
+tells-unseen f u s true x a = telling_link-unseen f u s x a
+
+linking-unseen-call : (f : Memory → Memory) (u : IsUnseen f) (s : State) (on : Bool) (x : Answer) → Linking on s x → Linking on (with_change f s) (answer_with f x)
+linking-unseen-call f u s on x a = record {
+  result = a.result;
+  memory = f a.memory;
+  links = linking-unseen f u s.memory a.memory on a.result a.links;
+  answer = ap (answer_with f) a.answer ∙ sym (settled-unseen f u s a.result a.memory);
+}
+
+sets-unseen : (f : Memory → Memory) (u : IsUnseen f) (s : State) (o : Option Bool) (x : Answer) → SetsLink o s x → SetsLink o (with_change f s) (answer_with f x)
+sets-unseen f u s None x e = ap (answer_with f) e ∙ sym (answered-unseen f u s _ s.memory true)
+sets-unseen f u s (Some on) x a = linking-unseen-call f u s on x a
+
+strategy-unseen : (f : Memory → Memory) (u : IsUnseen f) (s : State) (g : StrategyFunction) (x : Answer) → StrategyCalls s g x → StrategyCalls (with_change f s) g (answer_with f x)
+strategy-unseen f u s TellStrategy x e = ap (answer_with f) e ∙ sym (answered-unseen f u s _ s.memory false)
+strategy-unseen f u s SetStrategy x e = ap (answer_with f) e ∙ sym (set_to-unseen f u s (strategy_of s.upper s.cpu.bx))
+strategy-unseen f u s TellLink x a = tells-unseen f u s s.upper x a
+strategy-unseen f u s SetLink x a = sets-unseen f u s (wanted s.upper s.cpu.bx) x a
+strategy-unseen f u s Unlisted x e = ap (answer_with f) e ∙ sym (answered-unseen f u s _ s.memory true)
 
 not_loaded-unseen : (f : Memory → Memory) (u : IsUnseen f) (s : State) (e : ProgramRefusal) → not_loaded (with_change f s) e ≡ answer_with f (not_loaded s e)
 not_loaded-unseen f u s e = answered-unseen f u s _ s.memory true
@@ -87,7 +119,7 @@ loading-unseen f u s false x a = record {
   processes = a.processes;
   cpu = a.cpu;
   memory = f a.memory;
-  executes = (ignores_unseen f u).exec s.processes s.cpu s.memory s.programs s.strategy a.result a.processes a.cpu a.memory a.executes;
+  executes = (ignores_unseen f u).exec s.upper s.processes s.cpu s.memory s.programs s.strategy a.result a.processes a.cpu a.memory a.executes;
   answer = ap (answer_with f) a.answer ∙ sym (executed-unseen f u s a.result a.processes a.cpu a.memory);
 }
 
@@ -103,7 +135,7 @@ terminating-unseen f u s code x a = record {
   processes = a.processes;
   cpu = a.cpu;
   memory = f a.memory;
-  terminates = (ignores_unseen f u).terminating s.processes s.cpu s.memory code a.result a.processes a.cpu a.memory a.terminates;
+  terminates = (ignores_unseen f u).terminating s.upper s.processes s.cpu s.memory code a.result a.processes a.cpu a.memory a.terminates;
   answer = ap (answer_with f) a.answer ∙ sym (concluded-unseen f s code a.result a.processes a.cpu a.memory);
 }
 
@@ -113,7 +145,7 @@ keeping-unseen f u s x a = record {
   processes = a.processes;
   cpu = a.cpu;
   memory = f a.memory;
-  keeps = (ignores_unseen f u).keeping s.processes s.cpu s.memory (byte_of s.cpu Al) s.cpu.dx a.result a.processes a.cpu a.memory a.keeps;
+  keeps = (ignores_unseen f u).keeping s.upper s.processes s.cpu s.memory (byte_of s.cpu Al) s.cpu.dx a.result a.processes a.cpu a.memory a.keeps;
   answer = ap (answer_with f) a.answer ∙ sym (concluded-unseen f s (byte_of s.cpu Al) a.result a.processes a.cpu a.memory);
 }
 
@@ -139,22 +171,22 @@ calls-unseen f u s Process x e = ap (answer_with f) e ∙ sym (tell_process-unse
 calls-unseen f u s Allocate x a = record {
   result = a.result;
   memory = f a.memory;
-  allocates = allocation-unseen f u s.memory a.memory s.strategy s.cpu.bx s.processes.present a.result a.allocates;
+  allocates = allocation-unseen s.upper f u s.memory a.memory s.strategy s.cpu.bx s.processes.present a.result a.allocates;
   answer = ap (answer_with f) a.answer ∙ sym (allocated-unseen f u s a.result a.memory);
 }
 calls-unseen f u s Free x a = record {
   result = a.result;
   memory = f a.memory;
-  frees = freeing-unseen f u s.memory a.memory s.cpu.es a.result a.frees;
+  frees = freeing-unseen s.upper f u s.memory a.memory s.cpu.es a.result a.frees;
   answer = ap (answer_with f) a.answer ∙ sym (settled-unseen f u s a.result a.memory);
 }
 calls-unseen f u s Resize x a = record {
   result = a.result;
   memory = f a.memory;
-  resizes = resizing-unseen f u s.memory a.memory s.cpu.es s.cpu.bx a.result a.resizes;
+  resizes = resizing-unseen s.upper f u s.memory a.memory s.cpu.es s.cpu.bx a.result a.resizes;
   answer = ap (answer_with f) a.answer ∙ sym (settled-unseen f u s a.result a.memory);
 }
-calls-unseen f u s AllocationStrategy x e = ap (answer_with f) e ∙ sym (strategy-unseen f u s)
+calls-unseen f u s AllocationStrategy x e = strategy-unseen f u s (strategies.function_of (byte_of s.cpu Al)) x e
 calls-unseen f u s Terminate x a = terminating-unseen f u s 0 x a
 calls-unseen f u s LoadProgram x a = loading-unseen f u s _ x a
 calls-unseen f u s Exit x a = terminating-unseen f u s _ x a

@@ -13,7 +13,9 @@ use Rattle.dm_services.specs.Flush.{flush_and_read}
 use Rattle.dm_services.specs.Handles.{read_handle, write_handle}
 use Rattle.dm_services.specs.Vectors.{set_vector, get_vector}
 use Rattle.dm_services.specs.System.{tell_version, tell_process}
-use Rattle.dm_services.specs.Allocation.{Allocation, Freeing, Resizing, strategy_call}
+use Rattle.dm_services.specs.Allocation.{Allocation, Freeing, Resizing}
+use Rattle.dm_services.specs.Strategies as strategies
+use Rattle.dm_services.specs.Strategies.{StrategyCalls}
 use Rattle.dm_services.specs.Processes.{Loading, Terminating, Keeping, tell_code}
 
 -- the function with a number, which calls have in AH
@@ -73,5 +75,5 @@ Calls s Keep x = Keeping s x
 Calls s Terminate x = Terminating s 0 x
 Calls s ExitCode x = x ≡ tell_code s
 Calls s Process x = x ≡ tell_process s
-Calls s AllocationStrategy x = x ≡ strategy_call s
+Calls s AllocationStrategy x = StrategyCalls s (strategies.function_of (byte_of s.cpu Al)) x
 Calls s Unknown x = x ≡ no_function s

@@ -7,6 +7,7 @@ pub mod Handles
 pub mod Vectors
 pub mod System
 pub mod Allocation
+pub mod Strategies
 pub mod Processes
 pub mod Functions
 pub mod Services

@@ -42,7 +42,7 @@ pub record Executing (s : State) (x : Answer) : Type 0 where
   pub processes : Processes
   pub cpu : Cpu
   pub memory : Memory
-  pub executes : Executes s.processes s.cpu s.memory s.programs s.strategy result processes cpu memory
+  pub executes : Executes s.upper s.processes s.cpu s.memory s.programs s.strategy result processes cpu memory
   pub answer : x ≡ executed s result processes cpu memory
 
 -- 4Bh with AL = 3: an overlay is loaded, and the program goes on
@@ -80,7 +80,7 @@ pub record Terminating (s : State) (code : ℕ) (x : Answer) : Type 0 where
   pub processes : Processes
   pub cpu : Cpu
   pub memory : Memory
-  pub terminates : Terminates s.processes s.cpu s.memory code result processes cpu memory
+  pub terminates : Terminates s.upper s.processes s.cpu s.memory code result processes cpu memory
   pub answer : x ≡ concluded s code result processes cpu memory
 
 -- 31h: the process ends with the code in AL, and keeps DX paragraphs
@@ -89,7 +89,7 @@ pub record Keeping (s : State) (x : Answer) : Type 0 where
   pub processes : Processes
   pub cpu : Cpu
   pub memory : Memory
-  pub keeps : Keeps s.processes s.cpu s.memory (byte_of s.cpu Al) s.cpu.dx result processes cpu memory
+  pub keeps : Keeps s.upper s.processes s.cpu s.memory (byte_of s.cpu Al) s.cpu.dx result processes cpu memory
   pub answer : x ≡ concluded s (byte_of s.cpu Al) result processes cpu memory
 
 -- 4Dh: AX is the word of the last ending, which is told once

@@ -1,16 +1,15 @@
-//! INT 21h functions 48h, 49h, 4Ah and 58h: blocks of the arena, for the present process
+//! INT 21h functions 48h, 49h and 4Ah: blocks of the arena, for the present process
 //! (MS-DOS Programmer's Reference, "System Calls").
 ghost use Rattle.std.specs.Prelude.{◌≡◌};
-ghost use Rattle.dm_services.specs.Allocation.{answered, refused, Allocation, Freeing, Resizing, strategy_call};
+ghost use Rattle.dm_services.specs.Allocation.{answered, refused, Allocation, Freeing, Resizing};
 
-use dm_arena::{Refusal, Strategy};
+use dm_arena::Refusal;
 use dm_exec::Cpu;
-use dm_ins::ByteRegister;
 use dm_state::Parts;
 
 /// Puts the error into AX and, where there is not enough memory, how many paragraphs there are into
 /// BX.
-fn refuse(cpu: &mut Cpu, refusal: Refusal)
+pub(crate) fn refuse(cpu: &mut Cpu, refusal: Refusal)
     ensures { cpu.new ≡ refused cpu.old refusal }
 {
     match refusal {
@@ -20,29 +19,6 @@ fn refuse(cpu: &mut Cpu, refusal: Refusal)
             cpu.bx = largest;
         }
         Refusal::NoBlock => cpu.ax = 9,
-    }
-}
-
-/// The number of a strategy.
-fn number_of(strategy: Strategy) -> u16
-    ensures { result ≡ Rattle.dm_services.specs.Allocation.number_of strategy }
-{
-    match strategy {
-        Strategy::First => 0,
-        Strategy::Best => 1,
-        Strategy::Last => 2,
-    }
-}
-
-/// The strategy with this number, if there is one.
-fn strategy_of(number: u16) -> Option<Strategy>
-    ensures { result ≡ Rattle.dm_services.specs.Allocation.strategy_of number }
-{
-    match number {
-        0 => Some(Strategy::First),
-        1 => Some(Strategy::Best),
-        2 => Some(Strategy::Last),
-        _ => None,
     }
 }
 
@@ -60,7 +36,13 @@ pub(crate) fn allocate(parts: &mut Parts)
     ensures { Allocation parts.old (record { stop = None; state = parts.new }) }
 {
     let owner = parts.procs.psp();
-    match dm_arena::allocate(&mut parts.space, parts.strategy, parts.cpu.bx, owner) {
+    match dm_arena::allocate(
+        &mut parts.space,
+        parts.strategy,
+        parts.cpu.bx,
+        owner,
+        parts.upper,
+    ) {
         Ok(segment) => {
             parts.cpu.ax = segment;
             answer(parts, false);
@@ -76,7 +58,7 @@ pub(crate) fn allocate(parts: &mut Parts)
 pub(crate) fn free(parts: &mut Parts)
     ensures { Freeing parts.old (record { stop = None; state = parts.new }) }
 {
-    match dm_arena::free(&mut parts.space, parts.cpu.es) {
+    match dm_arena::free(&mut parts.space, parts.cpu.es, parts.upper) {
         Ok(()) => answer(parts, false),
         Err(refusal) => {
             refuse(&mut parts.cpu, refusal);
@@ -89,37 +71,10 @@ pub(crate) fn free(parts: &mut Parts)
 pub(crate) fn resize(parts: &mut Parts)
     ensures { Resizing parts.old (record { stop = None; state = parts.new }) }
 {
-    match dm_arena::resize(&mut parts.space, parts.cpu.es, parts.cpu.bx) {
+    match dm_arena::resize(&mut parts.space, parts.cpu.es, parts.cpu.bx, parts.upper) {
         Ok(()) => answer(parts, false),
         Err(refusal) => {
             refuse(&mut parts.cpu, refusal);
-            answer(parts, true);
-        }
-    }
-}
-
-/// 58h: tells the allocation strategy, or sets it.
-#[tactic(auto, unfolding(crate::specs::Allocation::strategy_call))]
-pub(crate) fn allocation_strategy(parts: &mut Parts)
-    ensures { parts.new ≡ (strategy_call parts.old).state }
-{
-    match parts.cpu.byte(ByteRegister::Al) {
-        0 => {
-            parts.cpu.ax = number_of(parts.strategy);
-            answer(parts, false);
-        }
-        1 => match strategy_of(parts.cpu.bx) {
-            Some(strategy) => {
-                parts.strategy = strategy;
-                answer(parts, false);
-            }
-            None => {
-                parts.cpu.ax = 1;
-                answer(parts, true);
-            }
-        },
-        _ => {
-            parts.cpu.ax = 1;
             answer(parts, true);
         }
     }

@@ -2,7 +2,7 @@
 //! 07h, 08h and 0Bh). Input and output are redirected byte streams.
 ghost use Rattle.std.specs.Prelude.{◌≡◌, None};
 ghost use Rattle.dm_services.specs.Wanting.{OrMemory};
-ghost use Rattle.dm_services.specs.Characters.{read_character, echo_character, write_character, poll_character, direct_character, check_input};
+ghost use Rattle.dm_services.specs.Characters.{read_character, echo_character, write_character, poll_character, direct_character, check_input, status_of};
 
 use dm_ins::ByteRegister;
 use dm_state::{Parts, Stop};
@@ -85,13 +85,20 @@ pub(crate) fn direct_character(parts: &mut Parts) -> Option<Stop>
     }
 }
 
+/// What AL tells of the input: FFh where some is left, else 0.
+fn status(parts: &Parts) -> u8
+    ensures { result ≡ status_of parts.now.console.input }
+{
+    if parts.console.left() == 0 { 0 } else { 0xFF }
+}
+
 /// 0Bh: AL tells whether input is left.
 #[tactic(auto, unfolding(crate::specs::Characters::check_input))]
 pub(crate) fn check_input(parts: &mut Parts) -> Option<Stop>
     ensures answer { OrMemory parts.old (check_input parts.old) result parts.new }
     ensures program { parts.new.processes ≡ parts.old.processes }
 {
-    let status = if parts.console.left() == 0 { 0 } else { 0xFF };
+    let status = status(parts);
     parts.cpu.set_byte(ByteRegister::Al, status);
     parts.give_back();
     parts.count();

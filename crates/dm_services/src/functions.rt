@@ -6,7 +6,7 @@ ghost use Rattle.dm_state.specs.State.{HasProgram};
 ghost use Rattle.dm_services.specs.Functions.{function_of, no_function, Calls};
 ghost use Rattle.dm_services.specs.Wanting.{OrWants};
 
-use crate::allocation::{allocate, allocation_strategy, free, resize};
+use crate::allocation::{allocate, free, resize};
 use crate::characters::{
     check_input, direct_character, echo_character, read_character, write_character,
 };
@@ -14,6 +14,7 @@ use crate::flush::flush_and_read;
 use crate::handles::{read_handle, write_handle};
 use crate::lines::read_line;
 use crate::processes::{keep, load_program, tell_code, terminate};
+use crate::strategies::allocation_strategy;
 use crate::system::{tell_process, tell_version};
 use crate::text::print;
 use crate::vectors::{get_vector, set_vector};
@@ -67,7 +68,7 @@ pub(crate) enum Function {
     ExitCode,
     /// 51h and 62h: tells the segment of the present process in BX.
     Process,
-    /// 58h: tells or sets the allocation strategy.
+    /// 58h: tells or sets the allocation strategy, or the link with upper memory.
     AllocationStrategy,
     /// Any other number.
     Unknown,
@@ -117,7 +118,7 @@ fn refuse(parts: &mut Parts)
 }
 
 /// Does what a call asks for.
-#[tactic(auto, unfolding(crate::specs::Functions::no_function, crate::specs::Allocation::strategy_call, crate::specs::Processes::tell_code))]
+#[tactic(auto, unfolding(crate::specs::Functions::no_function, crate::specs::Processes::tell_code))]
 fn call(parts: &mut Parts, function: Function) -> Option<Stop>
     requires { HasProgram parts.old }
     ensures answer { OrWants parts.old (Calls parts.old function) result parts.new }

@@ -12,6 +12,7 @@ mod laws;
 mod lines;
 mod processes;
 mod services;
+mod strategies;
 mod system;
 mod text;
 mod vectors;

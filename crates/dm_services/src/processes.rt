@@ -44,6 +44,7 @@ fn execute(parts: &mut Parts)
         &mut parts.space,
         &parts.programs,
         parts.strategy,
+        parts.upper,
     ) {
         Ok(()) => parts.count(),
         Err(refusal) => refuse_program(parts, refusal),
@@ -101,7 +102,7 @@ pub(crate) fn terminate(parts: &mut Parts, code: u8) -> Option<Stop>
 {
     let ended = parts
         .procs
-        .terminate(&mut parts.cpu, &mut parts.space, code);
+        .terminate(&mut parts.cpu, &mut parts.space, code, parts.upper);
     conclude(parts, ended, code)
 }
 
@@ -113,9 +114,13 @@ pub(crate) fn keep(parts: &mut Parts) -> Option<Stop>
 {
     let code = parts.cpu.byte(ByteRegister::Al);
     let paragraphs = parts.cpu.dx;
-    let ended = parts
-        .procs
-        .keep(&mut parts.cpu, &mut parts.space, code, paragraphs);
+    let ended = parts.procs.keep(
+        &mut parts.cpu,
+        &mut parts.space,
+        code,
+        paragraphs,
+        parts.upper,
+    );
     conclude(parts, ended, code)
 }
 

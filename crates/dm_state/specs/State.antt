@@ -34,10 +34,11 @@ pub record State : Type 0 where
   -- how many steps were made; at 2^64 - 1 the count stays
   pub steps : ℕ
   -- what no step changes: the store of programs (names and files), the variables of the first program's environment,
-  -- each closed by a zero, and the sizes
+  -- each closed by a zero, the sizes, and whether the arena goes on in upper memory
   pub programs : List (List ℕ × List ℕ)
   pub variables : List ℕ
   pub sizes : Sizes
+  pub upper : Bool
 
 -- each process that waits for a child has a program segment prefix
 abbrev pub HaveSegments : List Parent → Type 0

@@ -43,6 +43,8 @@ pub struct Parts {
     pub variables: Vec<u8>,
     /// How much expanded and extended memory there is.
     pub sizes: Sizes,
+    /// Whether the arena goes on in upper memory, from 9FFFh on.
+    pub upper: bool,
 }
 
 impl Model for Parts {
@@ -64,6 +66,7 @@ impl Model for Parts {
       programs = p.programs;
       variables = p.variables.items;
       sizes = p.sizes;
+      upper = p.upper;
     } };
 
     ghost invariant = { λ p. (length p.variables.items ≤ 0x7FFF) × HaveSegments p.procs.parents };

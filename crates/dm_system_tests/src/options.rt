@@ -45,6 +45,24 @@ fn reads_options_and_files(rt: HostRuntime) -> Result<(), Fail> {
 }
 
 #[test]
+fn reads_whether_upper_memory_is_in_the_arena(rt: HostRuntime) -> Result<(), Fail> {
+    let cases = [
+        ("dm run hi.com", false),
+        ("dm run --upper hi.com", true),
+        ("dm run hi.com --upper", true),
+        ("dm run --tail=--upper hi.com", false),
+    ];
+    for (line, upper) in cases {
+        let words: Vec<&str> = line.split(' ').collect(rt.alloc())?;
+        match options(rt.alloc(), words.as_slice()) {
+            Ok(Options::Run(got)) => same(&rt, line, got.upper, upper),
+            other => assert!(rt; false, "{line}: {other:?}"),
+        }
+    }
+    Ok(())
+}
+
+#[test]
 fn reads_options_of_a_debugger(rt: HostRuntime) -> Result<(), Fail> {
     let cases = [
         ("dm debug hi.com", 64, None, 1),

@@ -5,7 +5,7 @@ ghost use Rattle.dm_state.specs.State.{HasProgram};
 use crate::checks::same;
 use crate::memory::new_space;
 use arrayvec::ArrayVec;
-use dm_arena::Strategy;
+use dm_arena::{Fit, Strategy};
 use dm_console::Console;
 use dm_ems::Ems;
 use dm_exec::{Cpu, Flags};
@@ -44,8 +44,8 @@ fn started_in(alloc: Global, space: Space) -> Result<Parts, Fail>
         first: [0; 16],
         second: [0; 16],
     };
-    let first = Strategy::First;
-    let (procs, cpu) = Procs::load(&mut space, first, &image, b"", b"HI.COM", &arguments)?;
+    let first = Strategy::everywhere(Fit::First);
+    let (procs, cpu) = Procs::load(&mut space, first, &image, b"", b"HI.COM", &arguments, false)?;
     Ok(Parts {
         cpu,
         space,
@@ -62,6 +62,7 @@ fn started_in(alloc: Global, space: Space) -> Result<Parts, Fail>
             ems_pages: 64,
             xms_kib: 1024,
         },
+        upper: false,
     })
 }
 

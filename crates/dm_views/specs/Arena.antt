@@ -2,10 +2,10 @@
 -- Source: MS-DOS Programmer's Reference, "Arena header". The form is this machine's own.
 use Rattle.std.specs.Prelude.{◌≡◌, ℕ, List, [], ◌∷◌, ◌++◌, codes}
 use Rattle.dm_space.specs.Memory.{Memory}
-use Rattle.dm_arena.specs.declared.header.Header.{Header}
-use Rattle.dm_arena.specs.declared.header.Entry.{Entry}
-use Rattle.dm_arena.specs.Chain.{first_header, signature, IsArena, IsClear}
-use Rattle.dm_arena.specs.Listing.{Path, Follows}
+use Rattle.dm_blocks.specs.declared.header.Header.{Header}
+use Rattle.dm_blocks.specs.declared.header.Entry.{Entry}
+use Rattle.dm_blocks.specs.Chain.{first_header, signature, IsArena, IsClear}
+use Rattle.dm_blocks.specs.Listing.{Path, Follows}
 use Rattle.dm_views.specs.Digits.{four}
 
 abbrev pub header_line : ℕ → Header → List ℕ
@@ -30,4 +30,4 @@ destroyed_line segment = codes "destroyed at " ++ four segment ++ 10 ∷ []
 -- the list that memory spells, and its end; or headers that may stand in a list, up to the place where none can follow, and that place
 pub data IsArenaText (m : Memory) (text : List ℕ) : Type 0 where
   whole : (L : List Header) → IsArena m first_header L → text ≡ list_text L ++ end_line → IsArenaText m text
-  broken : (P : List Header) (t : ℕ) → Path m first_header P t → IsClear m P → ((e : Entry) → Follows m P t e → ⊥) → text ≡ front_text P ++ destroyed_line t → IsArenaText m text
+  broken : (P : List Header) (t : ℕ) → Path m first_header P t → IsClear m P → ((e : Entry) → Follows m [] P t e → ⊥) → text ≡ front_text P ++ destroyed_line t → IsArenaText m text

@@ -1,12 +1,12 @@
 //! The headers of the arena, as text (MS-DOS Programmer's Reference, "Arena header").
 
 ghost use Rattle.std.specs.Prelude.{◌≡◌, ◌++◌, ◌∷◌, [], List, ℕ, OnOk};
-ghost use Rattle.dm_arena.specs.Chain.{mark};
+ghost use Rattle.dm_blocks.specs.Chain.{mark};
 ghost use Rattle.dm_views.specs.Digits.{four};
 ghost use Rattle.dm_views.specs.Arena.{header_line, end_line, destroyed_line, IsArenaText};
 
 use crate::digits::word_digits;
-use dm_arena::{Entry, Step, walk};
+use dm_blocks::{Entry, Step, walk};
 use dm_space::Space;
 use std::alloc::AllocError;
 

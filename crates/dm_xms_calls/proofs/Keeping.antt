@@ -1,4 +1,5 @@
 -- Calls keep the tables and the memory together, and leave what is outside.
+use Rattle.std.proofs.Common.{Bool, true, false}
 use Rattle.dm_ins.specs.declared.operand.ByteRegister.TheVariants.{Ah}
 use Rattle.dm_exec.specs.Cpu.{byte_of}
 use Rattle.dm_xms.specs.Tables.{Extended}
@@ -80,42 +81,45 @@ reallocate_keeps : (c : Caller) → Keeps c.x (reallocate c).x
 unfolding reallocate
 reallocate_keeps c = record { link = calls_keep.reallocating c.x c.cpu.dx c.cpu.bx; outside = calls_leave.reallocating c.x c.cpu.dx c.cpu.bx }
 
-request_keeps : (c : Caller) → Keeps c.x (uppers.request c).x
+request_keeps : (upper : Bool) (c : Caller) → Keeps c.x (uppers.request upper c).x
 unfolding uppers.request
-request_keeps c = record { link = calls_keep.requesting c.x c.cpu.dx; outside = calls_leave.requesting c.x c.cpu.dx }
+request_keeps true c = nothing c.x
+request_keeps false c = record { link = calls_keep.requesting c.x c.cpu.dx; outside = calls_leave.requesting c.x c.cpu.dx }
 
-release_keeps : (c : Caller) → Keeps c.x (uppers.release c).x
+release_keeps : (upper : Bool) (c : Caller) → Keeps c.x (uppers.release upper c).x
 unfolding uppers.release
-release_keeps c = record { link = calls_keep.releasing c.x c.cpu.dx; outside = calls_leave.releasing c.x c.cpu.dx }
+release_keeps true c = nothing c.x
+release_keeps false c = record { link = calls_keep.releasing c.x c.cpu.dx; outside = calls_leave.releasing c.x c.cpu.dx }
 
-resize_keeps : (c : Caller) → Keeps c.x (uppers.resize c).x
+resize_keeps : (upper : Bool) (c : Caller) → Keeps c.x (uppers.resize upper c).x
 unfolding uppers.resize
-resize_keeps c = record { link = calls_keep.resizing c.x c.cpu.dx c.cpu.bx; outside = calls_leave.resizing c.x c.cpu.dx c.cpu.bx }
+resize_keeps true c = nothing c.x
+resize_keeps false c = record { link = calls_keep.resizing c.x c.cpu.dx c.cpu.bx; outside = calls_leave.resizing c.x c.cpu.dx c.cpu.bx }
 
-call_keeps : (c : Caller) (f : Function) → Keeps c.x (call c f).x
-call_keeps c function.Version = nothing c.x
-call_keeps c function.TakeArea = take_area_keeps c
-call_keeps c function.ReleaseArea = release_area_keeps c
-call_keeps c function.EnableGlobally = enable_globally_keeps c
-call_keeps c function.DisableGlobally = disable_globally_keeps c
-call_keeps c function.EnableLocally = enable_locally_keeps c
-call_keeps c function.DisableLocally = disable_locally_keeps c
-call_keeps c function.Line = nothing c.x
-call_keeps c function.FreeMemory = tell_free_keeps c
-call_keeps c function.Allocate = allocate_keeps c
-call_keeps c function.Deallocate = deallocate_keeps c
-call_keeps c function.Move = move_memory_keeps c
-call_keeps c function.Lock = lock_keeps c
-call_keeps c function.Unlock = unlock_keeps c
-call_keeps c function.Information = tell_information_keeps c
-call_keeps c function.Reallocate = reallocate_keeps c
-call_keeps c function.RequestUpper = request_keeps c
-call_keeps c function.ReleaseUpper = release_keeps c
-call_keeps c function.ResizeUpper = resize_keeps c
-call_keeps c function.Unknown = nothing c.x
+call_keeps : (upper : Bool) (c : Caller) (f : Function) → Keeps c.x (call upper c f).x
+call_keeps upper c function.Version = nothing c.x
+call_keeps upper c function.TakeArea = take_area_keeps c
+call_keeps upper c function.ReleaseArea = release_area_keeps c
+call_keeps upper c function.EnableGlobally = enable_globally_keeps c
+call_keeps upper c function.DisableGlobally = disable_globally_keeps c
+call_keeps upper c function.EnableLocally = enable_locally_keeps c
+call_keeps upper c function.DisableLocally = disable_locally_keeps c
+call_keeps upper c function.Line = nothing c.x
+call_keeps upper c function.FreeMemory = tell_free_keeps c
+call_keeps upper c function.Allocate = allocate_keeps c
+call_keeps upper c function.Deallocate = deallocate_keeps c
+call_keeps upper c function.Move = move_memory_keeps c
+call_keeps upper c function.Lock = lock_keeps c
+call_keeps upper c function.Unlock = unlock_keeps c
+call_keeps upper c function.Information = tell_information_keeps c
+call_keeps upper c function.Reallocate = reallocate_keeps c
+call_keeps upper c function.RequestUpper = request_keeps upper c
+call_keeps upper c function.ReleaseUpper = release_keeps upper c
+call_keeps upper c function.ResizeUpper = resize_keeps upper c
+call_keeps upper c function.Unknown = nothing c.x
 
 pub keep : ExtendedMemoryCallsKeep
 keep = record {
-  link = λ c. (call_keeps c (function_of (byte_of c.cpu Ah))).link;
-  outside = λ c. (call_keeps c (function_of (byte_of c.cpu Ah))).outside;
+  link = λ upper c. (call_keeps upper c (function_of (byte_of c.cpu Ah))).link;
+  outside = λ upper c. (call_keeps upper c (function_of (byte_of c.cpu Ah))).outside;
 }

@@ -1,5 +1,5 @@
 -- The functions of the driver: XMS 3.0, functions 00h to 12h.
-use Rattle.std.specs.Prelude.{ℕ, ◌==◌, if◌then◌else◌}
+use Rattle.std.specs.Prelude.{ℕ, Bool, ◌==◌, if◌then◌else◌}
 use Rattle.dm_ins.specs.declared.operand.ByteRegister.TheVariants.{Ah}
 use Rattle.dm_exec.specs.declared.cpu.Cpu.{Cpu}
 use Rattle.dm_exec.specs.Cpu.{byte_of}
@@ -38,29 +38,29 @@ function_of number =
 unfoldable pub no_function : Cpu → Cpu
 no_function cpu = refused cpu 0x80
 
--- what a call leaves
-abbrev pub call : Caller → Function → Caller
-call c Version = on_cpu c (tell_version c.cpu)
-call c TakeArea = take_area c
-call c ReleaseArea = release_area c
-call c EnableGlobally = enable_globally c
-call c DisableGlobally = disable_globally c
-call c EnableLocally = enable_locally c
-call c DisableLocally = disable_locally c
-call c Line = on_cpu c (tell_line c.cpu c.x.memory)
-call c FreeMemory = tell_free c
-call c Allocate = allocate c
-call c Deallocate = deallocate c
-call c Move = move_memory c
-call c Lock = lock c
-call c Unlock = unlock c
-call c Information = tell_information c
-call c Reallocate = reallocate c
-call c RequestUpper = uppers.request c
-call c ReleaseUpper = uppers.release c
-call c ResizeUpper = uppers.resize c
-call c Unknown = on_cpu c (no_function c.cpu)
+-- what a call leaves; `upper` is whether DOS has upper memory in its arena
+abbrev pub call : Bool → Caller → Function → Caller
+call upper c Version = on_cpu c (tell_version c.cpu)
+call upper c TakeArea = take_area c
+call upper c ReleaseArea = release_area c
+call upper c EnableGlobally = enable_globally c
+call upper c DisableGlobally = disable_globally c
+call upper c EnableLocally = enable_locally c
+call upper c DisableLocally = disable_locally c
+call upper c Line = on_cpu c (tell_line c.cpu c.x.memory)
+call upper c FreeMemory = tell_free c
+call upper c Allocate = allocate c
+call upper c Deallocate = deallocate c
+call upper c Move = move_memory c
+call upper c Lock = lock c
+call upper c Unlock = unlock c
+call upper c Information = tell_information c
+call upper c Reallocate = reallocate c
+call upper c RequestUpper = uppers.request upper c
+call upper c ReleaseUpper = uppers.release upper c
+call upper c ResizeUpper = uppers.resize upper c
+call upper c Unknown = on_cpu c (no_function c.cpu)
 
 -- the driver does what AH names
-abbrev pub called : Caller → Caller
-called c = call c (function_of (byte_of c.cpu Ah))
+abbrev pub called : Bool → Caller → Caller
+called upper c = call upper c (function_of (byte_of c.cpu Ah))

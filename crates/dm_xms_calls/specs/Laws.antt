@@ -1,9 +1,10 @@
 -- Laws of the driver's calls: tables and memory stay together, and what is outside of extended memory stays.
+use Rattle.std.specs.Prelude.{Bool}
 use Rattle.dm_xms.specs.Linked.{IsLinked}
 use Rattle.dm_xms.specs.Outside.{LeavesOutside}
 use Rattle.dm_xms_calls.specs.Caller.{Caller}
 use Rattle.dm_xms_calls.specs.Functions.{called}
 
 pub record ExtendedMemoryCallsKeep : Type 0 where
-  pub link : (c : Caller) → IsLinked c.x → IsLinked (called c).x
-  pub outside : (c : Caller) → LeavesOutside c.x (called c).x
+  pub link : (upper : Bool) (c : Caller) → IsLinked c.x → IsLinked (called upper c).x
+  pub outside : (upper : Bool) (c : Caller) → LeavesOutside c.x (called upper c).x

@@ -1,5 +1,6 @@
--- Upper memory blocks (XMS 3.0, functions 10h to 12h).
-use Rattle.std.specs.Prelude.{Result, Ok, Err}
+-- Upper memory blocks (XMS 3.0, functions 10h to 12h). Where DOS has upper memory in its arena, the driver has none: no paragraph is free, and
+-- no block begins anywhere.
+use Rattle.std.specs.Prelude.{Bool, if◌then◌else◌, Result, Ok, Err}
 use Rattle.dm_exec.specs.declared.cpu.Cpu.{Cpu}
 use Rattle.dm_xms.specs.declared.tables.Upper.{Upper}
 use Rattle.dm_xms.specs.declared.uppers.UpperRefusal.{UpperRefusal}
@@ -24,13 +25,13 @@ abbrev pub after : {A : Type 0} → Caller → Result (A × Tables) UpperRefusal
 after c r set = record { cpu = settled c.cpu (answer r) set; x = extended (left c.x.xms r) c.x.memory }
 
 -- 10h: a block of DX paragraphs; BX is its segment, DX its size
-unfoldable pub request : Caller → Caller
-request c = after c (rows.request_upper c.x.xms c.cpu.dx) (λ (u : Upper). record c.cpu { bx = u.segment; dx = u.paragraphs })
+unfoldable pub request : Bool → Caller → Caller
+request upper c = after c (if upper then Err refusal.NoneFree else rows.request_upper c.x.xms c.cpu.dx) (λ (u : Upper). record c.cpu { bx = u.segment; dx = u.paragraphs })
 
 -- 11h: the block at segment DX is freed
-unfoldable pub release : Caller → Caller
-release c = after c (rows.release_upper c.x.xms c.cpu.dx) (λ done. c.cpu)
+unfoldable pub release : Bool → Caller → Caller
+release upper c = after c (if upper then Err refusal.Unknown else rows.release_upper c.x.xms c.cpu.dx) (λ done. c.cpu)
 
 -- 12h: the block at segment DX gets BX paragraphs
-unfoldable pub resize : Caller → Caller
-resize c = after c (rows.resize_upper c.x.xms c.cpu.dx c.cpu.bx) (λ done. c.cpu)
+unfoldable pub resize : Bool → Caller → Caller
+resize upper c = after c (if upper then Err refusal.Unknown else rows.resize_upper c.x.xms c.cpu.dx c.cpu.bx) (λ done. c.cpu)

@@ -95,9 +95,9 @@ fn function_of(number: u8) -> Function
 
 /// Does what a call asks for.
 #[tactic(auto, unfolding(crate::specs::Functions::no_function))]
-fn call(cpu: &mut Cpu, xms: &mut Xms, space: &mut Space, function: Function)
+fn call(cpu: &mut Cpu, xms: &mut Xms, space: &mut Space, upper: bool, function: Function)
     requires { IsLinked (extended xms.old space.old.memory) }
-    ensures { caller cpu.new xms.new space.new.memory ≡ call (caller cpu.old xms.old space.old.memory) function }
+    ensures { caller cpu.new xms.new space.new.memory ≡ call upper (caller cpu.old xms.old space.old.memory) function }
 {
     match function {
         Function::Version => tell_version(cpu),
@@ -116,19 +116,20 @@ fn call(cpu: &mut Cpu, xms: &mut Xms, space: &mut Space, function: Function)
         Function::Unlock => unlock(cpu, xms, space),
         Function::Information => tell_information(cpu, xms, space),
         Function::Reallocate => reallocate(cpu, xms, space),
-        Function::RequestUpper => request(cpu, xms, space),
-        Function::ReleaseUpper => release(cpu, xms, space),
-        Function::ResizeUpper => resize(cpu, xms, space),
+        Function::RequestUpper => request(cpu, xms, space, upper),
+        Function::ReleaseUpper => release(cpu, xms, space, upper),
+        Function::ResizeUpper => resize(cpu, xms, space, upper),
         Function::Unknown => refuse(cpu, NO_FUNCTION),
     }
 }
 
 /// Does the function that AH names, on the registers of the program that calls, the tables of extended memory and the memory, which go
 /// together. AX is then 1, or 0 where the call was refused, and BL tells why; functions 00h and 08h answer otherwise.
-pub fn extended_memory_call(cpu: &mut Cpu, xms: &mut Xms, space: &mut Space)
+/// `upper` is whether DOS has upper memory in its arena: then the driver gives no upper memory blocks.
+pub fn extended_memory_call(cpu: &mut Cpu, xms: &mut Xms, space: &mut Space, upper: bool)
     requires { IsLinked (extended xms.old space.old.memory) }
-    ensures { caller cpu.new xms.new space.new.memory ≡ called (caller cpu.old xms.old space.old.memory) }
+    ensures { caller cpu.new xms.new space.new.memory ≡ called upper (caller cpu.old xms.old space.old.memory) }
 {
     let function = function_of(cpu.byte(ByteRegister::Ah));
-    call(cpu, xms, space, function);
+    call(cpu, xms, space, upper, function);
 }

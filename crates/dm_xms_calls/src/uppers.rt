@@ -1,4 +1,4 @@
-//! Upper memory blocks (XMS 3.0, functions 10h to 12h).
+//! Upper memory blocks (XMS 3.0, functions 10h to 12h). Where DOS has upper memory in its arena, `upper`, the driver has none.
 ghost use Rattle.std.specs.Prelude.{◌≡◌};
 ghost use Rattle.dm_xms_calls.specs.Caller.{caller};
 ghost use Rattle.dm_xms_calls.specs.Uppers.{request, release, resize};
@@ -6,31 +6,43 @@ ghost use Rattle.dm_xms_calls.specs.Uppers.{request, release, resize};
 use crate::answers::{settle_upper, settle_uppers};
 use dm_exec::Cpu;
 use dm_space::Space;
-use dm_xms::Xms;
+use dm_xms::{UpperRefusal, Xms};
 
 /// 10h: makes a block of DX paragraphs; BX becomes its segment, DX its size.
 #[tactic(auto, unfolding(crate::specs::Uppers::request))]
-pub(crate) fn request(cpu: &mut Cpu, xms: &mut Xms, space: &Space)
-    ensures { caller cpu.new xms.new space.now.memory ≡ request (caller cpu.old xms.old space.now.memory) }
+pub(crate) fn request(cpu: &mut Cpu, xms: &mut Xms, space: &Space, upper: bool)
+    ensures { caller cpu.new xms.new space.now.memory ≡ request upper (caller cpu.old xms.old space.now.memory) }
 {
-    let res = xms.request_upper(cpu.dx);
+    let res = if upper {
+        Err(UpperRefusal::NoneFree)
+    } else {
+        xms.request_upper(cpu.dx)
+    };
     settle_upper(cpu, res);
 }
 
 /// 11h: frees the block at segment DX.
 #[tactic(auto, unfolding(crate::specs::Uppers::release))]
-pub(crate) fn release(cpu: &mut Cpu, xms: &mut Xms, space: &Space)
-    ensures { caller cpu.new xms.new space.now.memory ≡ release (caller cpu.old xms.old space.now.memory) }
+pub(crate) fn release(cpu: &mut Cpu, xms: &mut Xms, space: &Space, upper: bool)
+    ensures { caller cpu.new xms.new space.now.memory ≡ release upper (caller cpu.old xms.old space.now.memory) }
 {
-    let res = xms.release_upper(cpu.dx);
+    let res = if upper {
+        Err(UpperRefusal::Unknown)
+    } else {
+        xms.release_upper(cpu.dx)
+    };
     settle_uppers(cpu, res);
 }
 
 /// 12h: the block at segment DX gets BX paragraphs.
 #[tactic(auto, unfolding(crate::specs::Uppers::resize))]
-pub(crate) fn resize(cpu: &mut Cpu, xms: &mut Xms, space: &Space)
-    ensures { caller cpu.new xms.new space.now.memory ≡ resize (caller cpu.old xms.old space.now.memory) }
+pub(crate) fn resize(cpu: &mut Cpu, xms: &mut Xms, space: &Space, upper: bool)
+    ensures { caller cpu.new xms.new space.now.memory ≡ resize upper (caller cpu.old xms.old space.now.memory) }
 {
-    let res = xms.resize_upper(cpu.dx, cpu.bx);
+    let res = if upper {
+        Err(UpperRefusal::Unknown)
+    } else {
+        xms.resize_upper(cpu.dx, cpu.bx)
+    };
     settle_uppers(cpu, res);
 }

@@ -7,18 +7,18 @@ pub loop-entry-init : goal.loop-entry-init
 loop-entry-init c = record {
   there = c.entry_at-entry.ensures.there;
   fits = c.entry_at-entry.ensures.fits;
-  front = λ L s. joining_start _ L _ (c.entry_at-entry.ensures.front L s);
+  front = λ L s. joining_start _ _ L _ (c.entry_at-entry.ensures.front L s);
 }
 
 pub returns-then-entry-clause-front : goal.returns-then-entry-clause-front
 returns-then-entry-clause-front c = λ L s. elim c.then-entry.branch [
-  | then-entry-via-then-entry w ↦ exit_last _ L _ w.if-entry.true (c.loop-entry.invariant.front L s)
-  | then-entry-via-else-entry+then-not-is_free w ↦ exit_taken _ L _ (search rules) (c.loop-entry.invariant.front L s)
+  | then-entry-via-then-entry w ↦ exit_last _ _ L _ w.if-entry.true (c.loop-entry.invariant.front L s)
+  | then-entry-via-else-entry+then-not-is_free w ↦ exit_taken _ _ L _ (search rules) (c.loop-entry.invariant.front L s)
 ]
 
 pub loop-entry-preserved : goal.loop-entry-preserved
 loop-entry-preserved c = record {
   there = c.loop-entry.invariant.there;
   fits = omega arith;
-  front = λ L s. (let j = c.loop-entry.invariant.front L s in joining_more _ L _ c.entry_at-after.result j.0 j.1 c.if-entry.false (search rules) (search rules) (omega arith) _ c.next.ensures c.entry_at-after.ensures.front);
+  front = λ L s. (let j = c.loop-entry.invariant.front L s in joining_more _ _ L _ c.entry_at-after.result j.0 j.1 c.if-entry.false (search rules) (search rules) (omega arith) _ c.next.ensures c.entry_at-after.ensures.front);
 }

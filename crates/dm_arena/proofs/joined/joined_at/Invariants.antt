@@ -1,14 +1,15 @@
 use Rattle.std.proofs.Common.{◌-◌, ◌≡◌, ◌≤◌, List}
-use Rattle.dm_arena.specs.declared.header.Header.{Header}
-use Rattle.dm_arena.specs.Chain.{next}
-use Rattle.dm_arena.specs.Walks.{IsSpelledFrom, IsJoining}
+use Rattle.dm_blocks.specs.declared.header.Header.{Header}
+use Rattle.dm_blocks.specs.Chain.{next}
+use Rattle.dm_blocks.specs.Reading.{IsSpelledFrom}
+use Rattle.dm_arena.specs.Walks.{IsJoining}
 use Rattle.dm_arena.proofs.joined.joined_at.Given as goal
 
 abbrev pub invariant-loop-entry : goal.invariant-loop-entry
 invariant-loop-entry l = record {
   there : l.entry.header.segment ≡ l.segment;
   fits : next l.entry.header ≤ 0xFFFF;
-  front : (L : List Header) → IsSpelledFrom l.space.memory l.segment L → (K : List Header) × IsJoining l.space.memory L l.entry K;
+  front : (L : List Header) → IsSpelledFrom l.space.memory l.segment L → (K : List Header) × IsJoining l.upper l.space.memory L l.entry K;
 }
 
 abbrev pub decreases-loop-entry : goal.decreases-loop-entry

@@ -1,13 +1,13 @@
 use Rattle.std.proofs.Common.{◌-◌, ◌≤◌, List}
-use Rattle.dm_arena.specs.declared.header.Header.{Header}
-use Rattle.dm_arena.specs.Chain.{next}
+use Rattle.dm_blocks.specs.declared.header.Header.{Header}
+use Rattle.dm_blocks.specs.Chain.{next}
 use Rattle.dm_arena.specs.Walks.{IsGrowable, IsGrown}
 use Rattle.dm_arena.proofs.owned.grow.Given as goal
 
 abbrev pub invariant-walk : goal.invariant-walk
 invariant-walk l = record {
   fits : next l.grown.header ≤ 0xFFFF;
-  grown : (K : List Header) → IsGrowable l.space.memory l.fn.entry K → (R : List Header) × (Q : List Header) × IsGrown l.space.memory l.fn.entry K l.grown R Q;
+  grown : (K : List Header) → IsGrowable l.space.memory l.fn.entry K → (R : List Header) × (Q : List Header) × IsGrown l.upper l.space.memory l.fn.entry K l.grown R Q;
 }
 
 abbrev pub decreases-walk : goal.decreases-walk

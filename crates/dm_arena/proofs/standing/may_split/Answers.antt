@@ -1,6 +1,7 @@
 use Rattle.std.specs.Prelude.{◌++◌, option_to_list}
 use Rattle.dm_arena.specs.Blocks.{join}
-use Rattle.dm_arena.proofs.Beside.{place-of, low-stands, page-decides, split-none, new-at, split-at, split-decides}
+use Rattle.dm_blocks.proofs.Stands.{place-of, low-stands, page-decides}
+use Rattle.dm_arena.proofs.Beside.{split-none, new-at, split-at, split-decides}
 use Rattle.dm_arena.proofs.standing.may_split.Goals as goal
 
 pub returns-in_default : goal.returns-in_default
@@ -8,14 +9,14 @@ returns-in_default c = λ L s n. split-none _ _ _ c.in_default.is
 
 pub returns-in-Low : goal.returns-in-Low
 returns-in-Low c = λ L s n.
-    (let M = option_to_list c.args.beside ++ join L in
+    (let M = option_to_list c.args.beside ++ join c.args.upper L in
     let h = c.in-Some.header in
     let e = place-of c.args.space.now.memory h.segment _ _ c.back.ensures c.in-Low.is in
     split-at _ M _ h c.in-Some.is (low-stands _ M h.segment _ e (new-at c.args.space.now.memory M _ h c.in-Some.is n)))
 
 pub returns-in-Page : goal.returns-in-Page
 returns-in-Page c = λ L s n.
-    (let M = option_to_list c.args.beside ++ join L in
+    (let M = option_to_list c.args.beside ++ join c.args.upper L in
     let h = c.in-Some.header in
     let e = place-of c.args.space.now.memory h.segment _ _ c.back.ensures c.in-Page.is in
     split-decides _ M _ h _ c.in-Some.is (page-decides _ M h.segment _ _ _ e (c.is_occupied.ensures L s)))

@@ -1,4 +1,5 @@
-use Rattle.dm_arena.proofs.Beside.{place-of, low-stands, page-decides, split-none, new-at, split-at, split-decides}
+use Rattle.dm_blocks.proofs.Stands.{place-of, low-stands, page-decides}
+use Rattle.dm_arena.proofs.Beside.{split-none, new-at, split-at, split-decides}
 use Rattle.dm_arena.proofs.standing.may_split_outside.Goals as goal
 
 pub returns-in_default : goal.returns-in_default

@@ -2,22 +2,22 @@ use Rattle.dm_arena.proofs.Looking.{looking-start, looked-here, looked-none, loo
 use Rattle.dm_arena.proofs.standing.stands_joined.Goals as goal
 
 pub walk-init : goal.walk-init
-walk-init c = λ L s. (L, looking-start _ _ L _ s)
+walk-init c = λ L s. (L, looking-start _ _ _ L _ s)
 
 pub returns-then-is_on : goal.returns-then-is_on
 returns-then-is_on c = λ L s.
     (let k = c.walk.invariant L s in
     let f = c.joined_at-entry.ensures.front k.0 k.1.spelled in
-    looked-here _ L _ _ k.0 k.1 _ c.joined_at-entry.ensures.there f.0 f.1 c.if-is_on.ensures)
+    looked-here _ _ L _ _ k.0 k.1 _ c.joined_at-entry.ensures.there f.0 f.1 c.if-is_on.ensures)
 
 pub returns-then-entry : goal.returns-then-entry
 returns-then-entry c = λ L s.
     (let k = c.walk.invariant L s in
     let f = c.joined_at-entry.ensures.front k.0 k.1.spelled in
-    looked-none _ L _ _ k.0 k.1 _ c.joined_at-entry.ensures.there f.0 f.1 c.if-is_on.ensures c.if-entry.true)
+    looked-none _ _ L _ _ k.0 k.1 _ c.joined_at-entry.ensures.there f.0 f.1 c.if-is_on.ensures c.if-entry.true)
 
 pub walk-preserved : goal.walk-preserved
 walk-preserved c = λ L s.
     (let k = c.walk.invariant L s in
     let f = c.joined_at-entry.ensures.front k.0 k.1.spelled in
-    looked-more _ L _ _ k.0 k.1 _ c.joined_at-entry.ensures.there f.0 f.1 c.if-is_on.ensures c.if-entry.false _ c.next-segment.ensures)
+    looked-more _ _ L _ _ k.0 k.1 _ c.joined_at-entry.ensures.there f.0 f.1 c.if-is_on.ensures c.if-entry.false _ c.next-segment.ensures)

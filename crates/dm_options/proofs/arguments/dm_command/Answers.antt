@@ -1,10 +1,11 @@
 use Rattle.std.proofs.Common.{◌≡◌, ap, ap₂, rules, ◌∙◌}
 use Rattle.std.proofs.lemmas.Result.{IfOk-weaker}
 use Rattle.clap.specs.Words.{App, app_of, with_subcommand}
-use Rattle.dm_options.specs.Arguments.{named_app}
+use Rattle.dm_options.specs.Arguments.{named_app, dm_app}
 use Rattle.dm_options.proofs.arguments.dm_command.Goals as goal
 
 pub returns : goal.returns
+unfolding dm_app
 returns c =
     let named : app_of c.subcommand_required.result ≡ named_app = search rules in
     let top = λ (a : App). a.top in

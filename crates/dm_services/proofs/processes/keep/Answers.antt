@@ -9,5 +9,5 @@ returns-clause-keeping c = keeping-of _ _ _ _ _ _ _ _ c.parts.view_is c.byte-cod
 
 pub returns-clause-program : goal.returns-clause-program
 returns-clause-program c =
-    let after = keep_loaded.keeping _ _ _ _ _ _ _ _ _ c.keep-ended.ensures (loaded _ _ c.parts.view_is c.requires c.parts.invariant.1) in
+    let after = keep_loaded.keeping _ _ _ _ _ _ _ _ _ _ c.keep-ended.ensures (loaded _ _ c.parts.view_is c.requires c.parts.invariant.1) in
     subst (λ (ps : Processes). 0 < ps.present) (sym c.conclude.ensures.program) after.present

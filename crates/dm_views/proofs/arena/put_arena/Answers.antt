@@ -3,10 +3,10 @@ use Rattle.dm_views.proofs.ArenaTexts.{telling_none, telling_more, telling_neare
 use Rattle.dm_views.proofs.arena.put_arena.Goals as goal
 
 pub walk-init : goal.walk-init
-walk-init c = telling_none _ _ _ c.walk-headers.ensures.memory c.walk-headers.ensures.first c.walk-headers.ensures.at
+walk-init c = telling_none _ _ _ c.walk-headers.ensures.memory c.walk-headers.ensures.second c.walk-headers.ensures.at
 
 pub walk-preserved : goal.walk-preserved
-walk-preserved c = telling_more _ _ _ _ c.walk.headers c.advance.new.self _ c.walk.invariant c.advance.ensures.memory c.advance.ensures.first c.in-Told.ensures.step c.in_ok-put_entry-in-Told.ensures
+walk-preserved c = telling_more _ _ _ _ c.walk.headers c.advance.new.self _ c.walk.invariant c.advance.ensures.memory c.advance.ensures.second c.in-Told.ensures.step c.in_ok-put_entry-in-Told.ensures
 
 pub walk-smaller : goal.walk-smaller
 walk-smaller c = telling_nearer _ _ _ c.walk.headers c.advance.new.self _ c.walk.invariant c.in-Told.ensures.step

@@ -7,4 +7,4 @@ abbrev pub invariant-loop-handle : goal.invariant-loop-handle
 invariant-loop-handle l = l.out.items ≡ l.initial.out.items ++ numbered (handle_text l.ems) l.handle
 
 abbrev pub invariant-loop-window : goal.invariant-loop-window
-invariant-loop-window l = l.out.items ≡ l.initial.out.items ++ numbered (window_text l.ems.pages l.space.memory.windows) l.window
+invariant-loop-window l = l.out.items ≡ l.initial.out.items ++ numbered (window_text l.ems l.space.memory) l.window

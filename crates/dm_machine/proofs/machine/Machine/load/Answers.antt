@@ -20,4 +20,4 @@ returns-in-Ok-loaded-clause-short c = (
 )
 
 pub invariant_of-self : goal.invariant_of-self
-invariant_of-self c = linked-loads _ _ _ _ _ _ _ _ _ (ap the_view c.self-inside.view_is) c.self.invariant c.load-loaded.ensures.loads
+invariant_of-self c = linked-loads _ _ _ _ _ _ _ _ _ _ (ap the_view c.self-inside.view_is) c.self.invariant c.load-loaded.ensures.loads

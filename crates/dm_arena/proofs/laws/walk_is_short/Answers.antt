@@ -1,5 +1,0 @@
-use Rattle.dm_arena.proofs.Unique.{walk_short}
-use Rattle.dm_arena.proofs.laws.walk_is_short.Goals as goal
-
-pub returns : goal.returns
-returns c = walk_short

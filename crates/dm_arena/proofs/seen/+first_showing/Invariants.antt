@@ -1,5 +1,0 @@
-use Rattle.std.proofs.Common.{length}
-use Rattle.dm_arena.proofs.seen.+first_showing.Given as goal
-
-abbrev pub decreases-first_showing : goal.decreases-first_showing
-decreases-first_showing l = length l.windows.now

@@ -1,0 +1,53 @@
+//! Whether the arena goes on in upper memory (function 58h, AL = 2 and 3).
+ghost use Rattle.std.specs.Prelude.{◌≡◌};
+ghost use Rattle.dm_arena.specs.Linking.{Links, TellsLinked};
+
+use crate::refusal::Refusal;
+use crate::writing::write_header;
+use dm_blocks::{Entry, before_link, has_second, is_arena, is_linked};
+use dm_space::Space;
+
+/// Whether the list is linked with that of upper memory: it has the link block's header (MS-DOS
+/// Programmer's Reference, function 5802h).
+///
+/// # Errors
+///
+/// `Destroyed` where memory spells no clear list.
+pub fn linked(space: &Space) -> Result<bool, Refusal>
+    ensures { TellsLinked space.now.memory result }
+{
+    if !is_arena(space) {
+        return Err(Refusal::Destroyed);
+    }
+    Ok(is_linked(space))
+}
+
+/// Links the list with that of upper memory, or parts them (MS-DOS Programmer's Reference, function
+/// 5803h). Where it is so already, nothing changes.
+///
+/// Byte 0 of the header before the link block's is all that changes: `M` linked, `Z` parted.
+///
+/// # Errors
+///
+/// `Destroyed` where memory spells no clear list; or, to link, where its last block doesn't end at
+/// the link block's header, or memory spells no second list there, or the first followed by the
+/// second isn't clear. Then no byte changes.
+pub fn link(space: &mut Space, on: bool) -> Result<(), Refusal>
+    ensures memory { Links space.old.memory on result space.new.memory }
+    ensures scratch { space.new.scratch ≡ space.old.scratch }
+{
+    if !is_arena(space) {
+        return Err(Refusal::Destroyed);
+    }
+    if is_linked(space) == on {
+        return Ok(());
+    }
+    let Some(entry) = before_link(space) else {
+        return Err(Refusal::Destroyed);
+    };
+    if on && !has_second(space) {
+        return Err(Refusal::Destroyed);
+    }
+    write_header(space, Entry { last: !on, ..entry });
+    Ok(())
+}

@@ -1,0 +1,43 @@
+//! A header written: the first five bytes of a paragraph (MS-DOS Programmer's Reference, "Arena
+//! header").
+ghost use Rattle.std.specs.Prelude.{◌≡◌, ◌+◌, ◌*◌, ◌<◌, ◌≤◌};
+ghost use Rattle.dm_space.specs.Memory.{IsHeld};
+ghost use Rattle.dm_space.specs.Places.{IsPoked};
+ghost use Rattle.dm_blocks.specs.Chain.{mark, next};
+ghost use Rattle.dm_arena.specs.Walks.{IsHeaderWritten};
+
+use dm_blocks::Entry;
+use dm_space::Space;
+
+/// Tells a proof how large the memory is: a byte that is written is read back where there is one.
+fn knows_sizes(space: &Space)
+    ensures held { IsHeld space.now }
+{
+    let _a20 = space.a20();
+}
+
+/// Writes a byte of the paragraph at a segment.
+fn set_byte(space: &mut Space, segment: u16, offset: u16, value: u8)
+    requires { offset < 16 }
+    ensures memory { IsPoked space.old.memory (16 * segment + offset) value space.new.memory }
+    ensures scratch { space.new.scratch ≡ space.old.scratch }
+{
+    knows_sizes(space);
+    space.poke(segment, offset, value);
+}
+
+/// Writes a header's five bytes.
+pub(crate) fn write_header(space: &mut Space, entry: Entry)
+    requires { next entry.header ≤ 0xFFFF }
+    ensures memory { IsHeaderWritten space.old.memory entry.header (mark entry.last) space.new.memory }
+    ensures scratch { space.new.scratch ≡ space.old.scratch }
+{
+    let segment = entry.header.segment;
+    let owner = entry.header.owner;
+    let size = entry.header.size;
+    set_byte(space, segment, 0, entry.signature());
+    set_byte(space, segment, 1, (owner % 256) as u8);
+    set_byte(space, segment, 2, (owner / 256) as u8);
+    set_byte(space, segment, 3, (size % 256) as u8);
+    set_byte(space, segment, 4, (size / 256) as u8);
+}

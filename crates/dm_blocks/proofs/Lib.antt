@@ -1,0 +1,11 @@
+pub mod Bytes
+pub mod OneHeader
+pub mod Chains
+pub mod Places
+pub mod Stands
+pub mod Marking
+pub mod Finding
+pub mod Unique
+pub mod Cursors
+pub mod Walks
+pub mod Telling

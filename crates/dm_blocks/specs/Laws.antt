@@ -1,0 +1,16 @@
+-- Laws of the definitions: memory spells at most one list from a segment on, and a short one.
+use Rattle.std.specs.Prelude.{◌≡◌, ℕ, ◌≤◌, ◌<◌, List, [], length}
+use Rattle.dm_space.specs.Memory.{Memory}
+use Rattle.dm_blocks.specs.declared.header.Header.{Header}
+use Rattle.dm_blocks.specs.Chain.{first_header, IsChain}
+use Rattle.dm_blocks.specs.Listing.{Leads}
+
+abbrev pub ChainIsUnique : Type 0
+ChainIsUnique = (S : Memory) (start : ℕ) (L M : List Header) → IsChain S start L → IsChain S start M → L ≡ M
+
+abbrev pub ChainIsShort : Type 0
+ChainIsShort = (S : Memory) (L : List Header) → IsChain S first_header L → length L ≤ 0xFF00
+
+-- nor does a walk meet more, also where it breaks off: fewer lead to the header where it stands
+abbrev pub WalkIsShort : Type 0
+WalkIsShort = (S : Memory) (P : List Header) (t : ℕ) → Leads S [] first_header P t → length P < 0xFF00

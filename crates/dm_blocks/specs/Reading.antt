@@ -1,0 +1,86 @@
+-- What the readers of headers say of each other. No public promise of the arena mentions any of it.
+use Rattle.std.specs.Prelude.{Bool, List, None, Option, Some, [], false, true, ℕ, ◌++◌, ◌+◌, ◌-◌, ◌<◌, ◌∷◌, ◌≡◌, ◌≢◌, ◌≤◌}
+use Rattle.dm_space.specs.Memory.{Memory}
+use Rattle.dm_blocks.specs.declared.header.Header.{Header}
+use Rattle.dm_blocks.specs.declared.header.Entry.{Entry}
+use Rattle.dm_blocks.specs.Chain.{HasHeader, IsHeader, IsNonEmpty, NoBlockAt, Spells, mark, next, signature}
+
+-- what stands at segment h: the header of an entry, or none that a list could have there
+abbrev pub IsEntryAt : Memory → ℕ → Option Entry → Type 0
+IsEntryAt S h None = (b : Header) (L : List Header) → b.segment ≡ h → IsHeader S b (signature L) → ⊥
+IsEntryAt S h (Some e) = (e.header.segment ≡ h) × IsHeader S e.header (mark e.last)
+
+-- the list L is spelled from h on
+pub record IsSpelledFrom (S : Memory) (h : ℕ) (L : List Header) : Type 0 where
+  pub nonempty : IsNonEmpty L
+  pub spells : Spells S h L
+
+abbrev pub is_nil : List Header → Bool
+is_nil [] = true
+is_nil (b ∷ L) = false
+
+-- e is the first header of the list L that memory spells, and K is the rest
+pub record IsFront (S : Memory) (L : List Header) (e : Entry) (K : List Header) : Type 0 where
+  pub is : L ≡ e.header ∷ K
+  pub last : e.last ≡ is_nil K
+  pub rest : Spells S (next e.header) K
+
+-- the walk that looks for a block
+pub record IsFinding (S : Memory) (L : List Header) (segment h : ℕ) (P K : List Header) : Type 0 where
+  pub spelled : IsSpelledFrom S h K
+  pub is : L ≡ P ++ K
+  pub none : NoBlockAt P segment
+
+pub record IsFoundAt (S : Memory) (L : List Header) (segment : ℕ) (e : Entry) (P Q : List Header) : Type 0 where
+  pub is : L ≡ P ++ e.header ∷ Q
+  pub at : e.header.segment + 1 ≡ segment
+  pub last : e.last ≡ is_nil Q
+  pub rest : Spells S (next e.header) Q
+
+abbrev pub FindsBlock : Memory → ℕ → ℕ → Option Entry → Type 0
+FindsBlock S start segment None = (L : List Header) → IsSpelledFrom S start L → NoBlockAt L segment
+FindsBlock S start segment (Some e) = (L : List Header) → IsSpelledFrom S start L → (P : List Header) × (Q : List Header) × IsFoundAt S L segment e P Q
+
+-- no more steps than this are left to a walk
+abbrev pub steps_left : Option ℕ → ℕ
+steps_left None = 0
+steps_left (Some t) = 0x10000 - t
+
+-- from where a cursor stands the headers K are spelled; none are left where it stands nowhere
+abbrev pub AreLeft : Memory → Option ℕ → List Header → Type 0
+AreLeft S None K = K ≡ []
+AreLeft S (Some h) K = IsSpelledFrom S h K
+
+-- a cursor goes over the list F, and all headers that it has passed are below the segment t
+pub record IsCursor (S : Memory) (F : List Header) (cursor : Option ℕ) (t : ℕ) : Type 0 where
+  pub passed : List Header
+  pub rest : List Header
+  pub is : F ≡ passed ++ rest
+  pub below : (g : ℕ) → HasHeader passed g → g < t
+  pub left : AreLeft S cursor rest
+
+-- it has passed all that are
+abbrev pub HasCaughtUp : Option ℕ → ℕ → Type 0
+HasCaughtUp None t = Unit {0}
+HasCaughtUp (Some h) t = t ≤ h
+
+-- no block of L ends at the segment
+abbrev pub NoEndAt : List Header → ℕ → Type 0
+NoEndAt [] segment = Unit {0}
+NoEndAt (b ∷ L) segment = (next b ≢ segment) × NoEndAt L segment
+
+-- the walk that looks for a block by its end
+pub record IsSeeking (S : Memory) (L : List Header) (segment h : ℕ) (P K : List Header) : Type 0 where
+  pub spelled : IsSpelledFrom S h K
+  pub is : L ≡ P ++ K
+  pub none : NoEndAt P segment
+
+pub record IsEndingAt (S : Memory) (L : List Header) (segment : ℕ) (e : Entry) (P Q : List Header) : Type 0 where
+  pub is : L ≡ P ++ e.header ∷ Q
+  pub at : next e.header ≡ segment
+  pub last : e.last ≡ is_nil Q
+  pub rest : Spells S (next e.header) Q
+
+abbrev pub EndsBefore : Memory → ℕ → ℕ → Option Entry → Type 0
+EndsBefore S start segment None = (L : List Header) → IsSpelledFrom S start L → NoEndAt L segment
+EndsBefore S start segment (Some e) = (L : List Header) → IsSpelledFrom S start L → (P : List Header) × (Q : List Header) × IsEndingAt S L segment e P Q

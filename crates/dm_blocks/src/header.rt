@@ -1,0 +1,116 @@
+//! One arena header: the first five bytes of a paragraph.
+//!
+//! MS-DOS Programmer's Reference, "Arena header": the signature `M`, or `Z` in the last header, the
+//! word of the owner (0 for a free block) and the word of the size in paragraphs.
+ghost use Rattle.std.specs.Prelude.{◌≡◌, ℕ, ◌+◌, ◌*◌, ◌<◌, ◌≤◌, ◌==◌};
+ghost use Rattle.dm_blocks.specs.Chain;
+ghost use Rattle.dm_space.specs.Memory.{peek};
+ghost use Rattle.dm_blocks.specs.Chain.{next, word, mark};
+ghost use Rattle.dm_blocks.specs.Reading.{IsEntryAt};
+
+use crate::list::LINK;
+use dm_space::Space;
+
+/// The signature of a header that another one follows.
+const MORE: u8 = b'M';
+/// The signature of the last header.
+const LAST: u8 = b'Z';
+
+/// What an arena header tells of its block.
+#[derive(Clone, Copy, Debug, PartialEq, Eq)]
+pub struct Header {
+    /// The header's own segment; its block begins at the next one.
+    pub segment: u16,
+    /// The owner: the segment of a program's prefix, or 0 where the block is free.
+    pub owner: u16,
+    /// The block's size in paragraphs.
+    pub size: u16,
+}
+
+/// A header as it stands in the list.
+#[derive(Clone, Copy, Debug, PartialEq, Eq)]
+pub struct Entry {
+    pub header: Header,
+    /// Whether it is the list's last header.
+    pub last: bool,
+}
+
+impl Header {
+    /// The segment behind the block, where the next header stands.
+    pub fn next(self) -> u16
+        requires { next self ≤ 0xFFFF }
+        ensures { result ≡ next self }
+    {
+        self.segment + 1 + self.size
+    }
+
+    /// Whether the block is free: it has no owner. Where upper memory belongs to the arena, which
+    /// `upper` tells, the link block counts as taken, whatever its owner.
+    pub fn is_free(self, upper: bool) -> bool
+        ensures { result ≡ Chain.is_free upper self }
+    {
+        if upper && self.segment == LINK {
+            return false;
+        }
+        self.owner == 0
+    }
+}
+
+impl Entry {
+    /// The signature of the header.
+    pub fn signature(self) -> u8
+        ensures { result ≡ mark self.last }
+    {
+        if self.last { LAST } else { MORE }
+    }
+}
+
+/// A byte of the paragraph at a segment.
+fn byte_of(space: &Space, segment: u16, offset: u16) -> u8
+    requires { offset < 16 }
+    ensures { result ≡ peek space.now.memory (16 * segment + offset) }
+{
+    space.peek(segment, offset)
+}
+
+/// A word of the paragraph at a segment, low byte first.
+fn word_of(space: &Space, segment: u16, offset: u16) -> u16
+    requires { offset < 15 }
+    ensures word { result ≡ word space.now.memory (16 * segment + offset) }
+    ensures low { peek space.now.memory (16 * segment + offset) < 256 }
+    ensures high { peek space.now.memory (16 * segment + offset + 1) < 256 }
+{
+    let low = byte_of(space, segment, offset);
+    let high = byte_of(space, segment, offset + 1);
+    u16::from_le_bytes([low, high])
+}
+
+/// Whether the signature at a segment is that of a last header.
+pub fn is_last(space: &Space, segment: u16) -> bool
+    ensures { result ≡ (peek space.now.memory (16 * segment) == 0x5A) }
+{
+    byte_of(space, segment, 0) == LAST
+}
+
+/// The header at a segment. None where it has no signature of a header, or where the header behind
+/// its block would stand past FFFFh.
+pub fn header_at(space: &Space, segment: u16) -> Option<Entry>
+    ensures { IsEntryAt space.now.memory segment result }
+{
+    let last = match byte_of(space, segment, 0) {
+        MORE => false,
+        LAST => true,
+        _ => return None,
+    };
+    let owner = word_of(space, segment, 1);
+    let size = word_of(space, segment, 3);
+    if segment as u32 + 1 + size as u32 > 0xFFFF {
+        return None;
+    }
+    let header = Header {
+        segment,
+        owner,
+        size,
+    };
+    Some(Entry { header, last })
+}

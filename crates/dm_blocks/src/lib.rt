@@ -1,0 +1,18 @@
+//! The headers of the arena, as memory spells them: each is read where it stands, one after the
+//! other (MS-DOS Programmer's Reference, "Arena header").
+//!
+//! A list begins with the header at segment 0100h. Where upper memory belongs to the arena, the
+//! header of the link block at 9FFFh begins a second one, that of upper memory; the first list is
+//! linked with it where it has that header too. Nothing is written here.
+#![tactic(auto)]
+
+mod header;
+mod laws;
+mod list;
+mod listing;
+mod seen;
+
+pub use header::{Entry, Header, header_at, is_last};
+pub use laws::{chain_is_short, chain_is_unique, walk_is_short};
+pub use list::{FIRST, LINK, before_link, entry_at, find, has_second, is_arena, is_linked};
+pub use listing::{Headers, Step, walk};

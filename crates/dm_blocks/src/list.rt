@@ -1,0 +1,135 @@
+//! Walks over the lists of headers.
+ghost use Rattle.std.specs.Prelude.{◌≡◌, ℕ, ◌+◌, ◌≤◌, ◌<◌, List, MatchBool, MatchOption, IfSome, Some};
+ghost use Rattle.dm_blocks.specs.declared.header.Header.{Header};
+ghost use Rattle.dm_blocks.specs.Chain.{first_header, link_header, next, IsArena, IsArenaBehind, NoArena, NoArenaBehind};
+ghost use Rattle.dm_blocks.specs.Chain;
+ghost use Rattle.dm_blocks.specs.Reading.{AreLeft, EndsBefore, FindsBlock, HasCaughtUp, IsCursor, IsFront, IsSpelledFrom};
+ghost use Rattle.dm_blocks.specs.Telling.{HasToldAll};
+
+use crate::header::{Entry, header_at};
+use crate::listing::{Headers, Step, walk};
+use dm_space::Space;
+
+/// The segment of the list's first header.
+pub const FIRST: u16 = 0x100;
+/// The segment of the link block's header, from which the second list is spelled.
+pub const LINK: u16 = 0x9FFF;
+
+/// The header at a segment from which a list is spelled.
+pub fn entry_at(space: &Space, segment: u16) -> Entry
+    requires { (L : List Header) × IsSpelledFrom space.now.memory segment L }
+    ensures there { result.header.segment ≡ segment }
+    ensures fits { next result.header ≤ 0xFFFF }
+    ensures front { (L : List Header) → IsSpelledFrom space.now.memory segment L → (K : List Header) × IsFront space.now.memory L result K }
+{
+    let Some(entry) = header_at(space, segment) else {
+        unreachable!()
+    };
+    entry
+}
+
+/// The walk behind the end of its list; None where the list is broken.
+fn tell_all(headers: Headers<'_>) -> Option<Headers<'_>>
+    requires { (t : ℕ) × (headers.at ≡ Some t) × (t ≤ 0xFFFF) }
+    ensures { HasToldAll headers.entry result }
+{
+    let mut walked = headers;
+    'walk: loop {
+        match walked.advance() {
+            Step::Told(entry) => {
+                if entry.last {
+                    return Some(walked);
+                }
+            }
+            Step::End => return Some(walked),
+            Step::Destroyed(_) => return None,
+        }
+    }
+}
+
+/// Whether memory spells a clear list from the first header on.
+pub fn is_arena(space: &Space) -> bool
+    ensures { MatchBool result ((L : List Header) × IsArena space.now.memory first_header L) (NoArena space.now.memory first_header) }
+{
+    tell_all(walk(space)).is_some()
+}
+
+/// Whether memory spells a second list, from the link block's header on, and the first list followed
+/// by it is clear.
+pub fn has_second(space: &Space) -> bool
+    requires { (L : List Header) × IsArena space.now.memory first_header L }
+    ensures { MatchBool result ((L U : List Header) × IsArena space.now.memory first_header L × IsArenaBehind space.now.memory L link_header U) ((L : List Header) × IsArena space.now.memory first_header L × NoArenaBehind space.now.memory L link_header) }
+{
+    let Some(first) = tell_all(walk(space)) else {
+        unreachable!()
+    };
+    tell_all(first.walk_second()).is_some()
+}
+
+/// The header whose block begins at a segment, if the list has one.
+pub fn find(space: &Space, segment: u16) -> Option<Entry>
+    requires { (L : List Header) × IsSpelledFrom space.now.memory first_header L }
+    ensures found { FindsBlock space.now.memory first_header segment result }
+    ensures fits { MatchOption result (Unit {0}) (λ e. next e.header ≤ 0xFFFF) }
+{
+    let mut here = FIRST;
+    'walk: loop {
+        let entry = entry_at(space, here);
+        if here + 1 == segment {
+            return Some(entry);
+        }
+        if entry.last {
+            return None;
+        }
+        here = entry.header.next();
+    }
+}
+
+/// Whether the list has the link block's header, and so is linked with that of upper memory.
+pub fn is_linked(space: &Space) -> bool
+    requires { (L : List Header) × IsSpelledFrom space.now.memory first_header L }
+    ensures { (L : List Header) → IsSpelledFrom space.now.memory first_header L → result ≡ Chain.is_linked L }
+{
+    find(space, LINK + 1).is_some()
+}
+
+/// The header whose block ends where the link block's header stands, if the list has one.
+pub fn before_link(space: &Space) -> Option<Entry>
+    requires { (L : List Header) × IsSpelledFrom space.now.memory first_header L }
+    ensures found { EndsBefore space.now.memory first_header link_header result }
+    ensures fits { MatchOption result (Unit {0}) (λ e. next e.header ≤ 0xFFFF) }
+{
+    let mut here = FIRST;
+    'walk: loop {
+        let entry = entry_at(space, here);
+        if entry.header.next() == LINK {
+            return Some(entry);
+        }
+        if entry.last {
+            return None;
+        }
+        here = entry.header.next();
+    }
+}
+
+/// A cursor over the first list, moved to the first header that isn't below a segment.
+pub(crate) fn catch_up(space: &Space, cursor: Option<u16>, segment: u16) -> Option<u16>
+    requires { (K : List Header) × AreLeft space.now.memory cursor K }
+    ensures { (F : List Header) → IsCursor space.now.memory F cursor segment → IsCursor space.now.memory F result segment × HasCaughtUp result segment }
+{
+    let mut moved = cursor;
+    'walk: loop {
+        let Some(here) = moved else {
+            return None;
+        };
+        if here >= segment {
+            return Some(here);
+        }
+        let entry = entry_at(space, here);
+        moved = if entry.last {
+            None
+        } else {
+            Some(entry.header.next())
+        };
+    }
+}

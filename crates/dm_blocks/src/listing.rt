@@ -1,0 +1,120 @@
+//! A listing of the arena: its headers one by one.
+ghost use Rattle.std.specs.Prelude.{◌≡◌, ◌≢◌, MatchBool, None, Some, false, true};
+ghost use Rattle.dm_blocks.specs.Chain.{first_header, link_header};
+ghost use Rattle.dm_blocks.specs.Listing.{Steps};
+
+use crate::header::{Entry, header_at};
+use crate::list::{FIRST, LINK, catch_up};
+use crate::seen::Seen;
+use dm_space::Space;
+use std::marker::Model;
+
+/// What a walk over the arena's headers meets.
+#[derive(Clone, Copy, Debug, PartialEq, Eq)]
+pub enum Step {
+    /// The next header of the list.
+    Told(Entry),
+    /// The end: the last header was told before.
+    End,
+    /// No header can stand at the segment, where the list would have its next one: it is the first
+    /// that has no signature, or leads past FFFFh, or stands where a write would be lost, or on the
+    /// place of an earlier header. Earlier ones are those of the list and, for the second list, all
+    /// of the first.
+    Destroyed(u16),
+}
+
+/// A walk over the headers of a list, from the first one on. It takes no memory.
+///
+/// Contracts see the memory, whether the list is the second one, that of upper memory, which is
+/// walked over behind the first, and where the next header has to stand.
+#[derive(Drop)]
+pub struct Headers<'a> {
+    space: &'a Space,
+    second: bool,
+    at: Option<u16>,
+    /// For the second list: the first header of the first list that wasn't passed.
+    beside: Option<u16>,
+    seen: Seen,
+}
+
+impl<'a> Model for Headers<'a> {
+    ghost use Rattle.dm_blocks.specs.Listing.{Walking};
+    ghost use Rattle.dm_blocks.specs.Marks.{IsMarkedWalk};
+
+    ghost Value = { Walking };
+
+    ghost view = { λ w. record { memory = w.space.now.memory; second = w.second; at = w.at } };
+
+    ghost invariant = { λ w. IsMarkedWalk (record { memory = w.space.now.memory; second = w.second; at = w.at }) w.beside w.seen.marks };
+}
+
+/// A walk over the first list that has told no header yet.
+pub fn walk(space: &Space) -> Headers<'_>
+    ensures memory { result.memory ≡ space.now.memory }
+    ensures second { result.second ≡ false }
+    ensures at { result.at ≡ Some first_header }
+{
+    Headers {
+        space,
+        second: false,
+        at: Some(FIRST),
+        beside: None,
+        seen: Seen::new(),
+    }
+}
+
+/// Whether a cursor stands at a segment.
+fn stands_at(cursor: Option<u16>, segment: u16) -> bool
+    ensures { MatchBool result (cursor ≡ Some segment) (cursor ≢ Some segment) }
+{
+    match cursor {
+        Some(here) => here == segment,
+        None => false,
+    }
+}
+
+impl<'a> Headers<'a> {
+    /// Tells the next header, or that the list has ended or is destroyed. Behind the end, and at a
+    /// header that breaks the list, the walk stays and answers the same again.
+    pub fn advance(&mut self) -> Step
+        ensures memory { self.new.memory ≡ self.old.memory }
+        ensures second { self.new.second ≡ self.old.second }
+        ensures step { Steps self.old result self.new.at }
+    {
+        let Some(segment) = self.at else {
+            return Step::End;
+        };
+        let Some(entry) = header_at(self.space, segment) else {
+            return Step::Destroyed(segment);
+        };
+        self.beside = catch_up(self.space, self.beside, segment);
+        if stands_at(self.beside, segment) {
+            return Step::Destroyed(segment);
+        }
+        if !self.seen.admit(self.space, segment) {
+            return Step::Destroyed(segment);
+        }
+        self.at = if entry.last {
+            None
+        } else {
+            Some(entry.header.next())
+        };
+        Step::Told(entry)
+    }
+
+    /// The walk over the second list, behind the first one, which has told all its headers.
+    pub fn walk_second(self) -> Headers<'a>
+        requires first { self.second ≡ false }
+        requires over { self.at ≡ None }
+        ensures memory { result.memory ≡ self.entry.memory }
+        ensures second { result.second ≡ true }
+        ensures at { result.at ≡ Some link_header }
+    {
+        Headers {
+            second: true,
+            at: Some(LINK),
+            beside: Some(FIRST),
+            ..self
+        }
+    }
+}

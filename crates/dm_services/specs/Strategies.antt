@@ -1,0 +1,114 @@
+-- Function 58h of INT 21h: the allocation strategy, and the link with upper memory (MS-DOS Programmer's Reference, function 58h). The values of BX
+-- and what there is without upper memory in the arena are this machine's own.
+use Rattle.std.specs.Prelude.{◌≡◌, ℕ, ◌+◌, ◌==◌, if◌then◌else◌, Bool, true, false, Option, Some, None, Result, Ok, Err}
+use Rattle.dm_space.specs.Memory.{Memory}
+use Rattle.dm_exec.specs.declared.cpu.Cpu.{Cpu}
+use Rattle.dm_exec.specs.Cpu.{with_byte}
+use Rattle.dm_ins.specs.declared.operand.ByteRegister.TheVariants.{Al}
+use Rattle.dm_arena.specs.declared.refusal.Refusal.{Refusal}
+use Rattle.dm_arena.specs.declared.fit.Strategy.{Strategy}
+use Rattle.dm_arena.specs.declared.fit.Area.{Area}
+use Rattle.dm_arena.specs.declared.fit.Area.TheVariants.{All, Upper, UpperFirst}
+use Rattle.dm_arena.specs.declared.fit.Fit.{Fit}
+use Rattle.dm_arena.specs.declared.fit.Fit.TheVariants.{First, Best, Last}
+use Rattle.dm_arena.specs.Linking.{Links, TellsLinked}
+use Rattle.dm_state.specs.State.{State, Answer}
+use Rattle.dm_services.specs.declared.strategies.StrategyFunction.{StrategyFunction}
+use Rattle.dm_services.specs.declared.strategies.StrategyFunction.TheVariants.{TellStrategy, SetStrategy, TellLink, SetLink, Unlisted}
+use Rattle.dm_services.specs.Allocation.{answered, refused, settled}
+
+-- ---- strategies by their numbers: the fit in the low bits, the area in the high ones
+
+abbrev pub number_of_area : Area → ℕ
+number_of_area All = 0
+number_of_area Upper = 0x40
+number_of_area UpperFirst = 0x80
+
+abbrev pub number_of_fit : Fit → ℕ
+number_of_fit First = 0
+number_of_fit Best = 1
+number_of_fit Last = 2
+
+abbrev pub number_of : Strategy → ℕ
+number_of strategy = number_of_area strategy.area + number_of_fit strategy.fit
+
+abbrev pub strategy : Fit → Area → Strategy
+strategy fit area = record { fit = fit; area = area }
+
+abbrev pub upper_strategy_of : ℕ → Option Strategy
+upper_strategy_of number =
+    if number == 0x40 then Some (strategy First Upper) else
+    if number == 0x41 then Some (strategy Best Upper) else
+    if number == 0x42 then Some (strategy Last Upper) else
+    if number == 0x80 then Some (strategy First UpperFirst) else
+    if number == 0x81 then Some (strategy Best UpperFirst) else
+    if number == 0x82 then Some (strategy Last UpperFirst) else None
+
+-- those of upper memory are there where it is in the arena, linked or not
+abbrev pub strategy_of : Bool → ℕ → Option Strategy
+strategy_of upper number =
+    if number == 0 then Some (strategy First All) else
+    if number == 1 then Some (strategy Best All) else
+    if number == 2 then Some (strategy Last All) else
+    if upper then upper_strategy_of number else None
+
+-- ---- the calls
+
+-- the function that AL names
+abbrev pub function_of : ℕ → StrategyFunction
+function_of number =
+    if number == 0 then TellStrategy else
+    if number == 1 then SetStrategy else
+    if number == 2 then TellLink else
+    if number == 3 then SetLink else Unlisted
+
+-- there is no such function, or no such value for it
+abbrev pub unlisted : State → Answer
+unlisted s = answered s (record s.cpu { ax = 1 }) s.memory true
+
+-- AX is the strategy's number
+abbrev pub told : State → Answer
+told s = answered s (record s.cpu { ax = number_of s.strategy }) s.memory false
+
+-- the strategy is the one with the number in BX, if there is one
+abbrev pub set_to : State → Option Strategy → Answer
+set_to s None = unlisted s
+set_to s (Some strategy) = answered (record s { strategy = strategy }) s.cpu s.memory false
+
+-- AL is 1 where the arena is linked, else 0
+abbrev pub link_told : State → Result Bool Refusal → Answer
+link_told s (Ok on) = answered s (with_byte s.cpu Al (if on then 1 else 0)) s.memory false
+link_told s (Err e) = answered s (refused s.cpu e) s.memory true
+
+pub record TellingLink (s : State) (x : Answer) : Type 0 where
+  pub result : Result Bool Refusal
+  pub tells : TellsLinked s.memory result
+  pub answer : x ≡ link_told s result
+
+-- without upper memory in the arena it is not linked, whatever the list
+abbrev pub TellsLink : Bool → State → Answer → Type 0
+TellsLink false s x = x ≡ link_told s (Ok false)
+TellsLink true s x = TellingLink s x
+
+-- what BX asks for, if there is upper memory in the arena and BX is 0 or 1
+abbrev pub wanted : Bool → ℕ → Option Bool
+wanted upper number =
+    if upper then (if number == 0 then Some false else if number == 1 then Some true else None) else None
+
+pub record Linking (on : Bool) (s : State) (x : Answer) : Type 0 where
+  pub result : Result (Unit {0}) Refusal
+  pub memory : Memory
+  pub links : Links s.memory on result memory
+  pub answer : x ≡ settled s result memory
+
+-- the arena is linked, or parted
+abbrev pub SetsLink : Option Bool → State → Answer → Type 0
+SetsLink None s x = x ≡ unlisted s
+SetsLink (Some on) s x = Linking on s x
+
+abbrev pub StrategyCalls : State → StrategyFunction → Answer → Type 0
+StrategyCalls s TellStrategy x = x ≡ told s
+StrategyCalls s SetStrategy x = x ≡ set_to s (strategy_of s.upper s.cpu.bx)
+StrategyCalls s TellLink x = TellsLink s.upper s x
+StrategyCalls s SetLink x = SetsLink (wanted s.upper s.cpu.bx) s x
+StrategyCalls s Unlisted x = x ≡ unlisted s

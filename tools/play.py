@@ -1,0 +1,70 @@
+"""How the scripts of this folder play the program `dm`, and tell what differs."""
+import concurrent.futures
+import os
+import re
+import subprocess
+import sys
+
+ROOT = os.path.dirname(os.path.dirname(os.path.abspath(__file__)))
+SECONDS = 60
+# How much of a difference is told.
+FAULTS, COLUMNS = 20, 200
+STOPS = ("steps", "halted", "unlisted", "input ended", "destroyed")
+STOP = re.compile(rf"stopped: (?:{'|'.join(STOPS)})\n")
+
+
+class Differs(Exception):
+    """What is seen is not what is wanted."""
+
+
+class Played:
+    """What a call of a program left: its status, what it told on standard error, and what it wrote on standard output."""
+
+    def __init__(self, words, folder, given=b"", environment=None, kept=()):
+        try:
+            ran = subprocess.run(words, cwd=folder, input=given, env=environment, pass_fds=kept, capture_output=True, timeout=SECONDS)
+        except subprocess.TimeoutExpired as error:
+            raise Differs(f"no answer after {SECONDS} seconds: {' '.join(words)}") from error
+        self.status, self.told, self.wrote = ran.returncode, ran.stderr.decode("latin-1"), ran.stdout
+
+    def __str__(self):
+        return f"status {self.status}, told {self.told!r}, wrote {self.wrote!r}"
+
+
+def stops_with_a_name(run):
+    """Whether a call of `dm run` ended with the program's code and told nothing, or at a stop that has a name. (Want of memory is not
+    among these: there is enough.)"""
+    if run.status == 125 and STOP.fullmatch(run.told):
+        return True
+    return 0 <= run.status <= 255 and run.told == ""
+
+
+def write_file(folder, name, data):
+    with open(f"{folder}/{name}", "wb") as file:
+        file.write(data)
+
+
+def play_all(call, cases, jobs=None):
+    """Calls each case, as many at a time as there are processors. Yields what differs, each with its case."""
+    with concurrent.futures.ThreadPoolExecutor(jobs or os.cpu_count()) as pool:
+        played = {pool.submit(call, case): case for case in cases}
+        for one in concurrent.futures.as_completed(played):
+            try:
+                one.result()
+            except (Differs, OSError) as error:
+                yield f"{played[one]}: {error}"
+
+
+def tell(title, count, differing):
+    """Tells what differs and how much, and answers the script's status."""
+    for fault in differing[:FAULTS]:
+        print(fault if len(fault) <= 4 * COLUMNS else f"{fault[: 4 * COLUMNS]} ..")
+    print(f"{title}: {count} played, {len(differing)} differ")
+    return 1 if differing or not count else 0
+
+
+def program_named(words):
+    """The path of `dm` that a script was given."""
+    if not words or not os.access(words[0], os.X_OK):
+        sys.exit(f"usage: {os.path.relpath(sys.argv[0], ROOT)} PATH-OF-DM ..")
+    return os.path.abspath(words[0])
