@@ -43,7 +43,7 @@ pub data Shows (s : Debugged) : Command → List ℕ → Type 0 where
   registers : (text : List ℕ) → IsRegistersText s.machine.cpu s.machine.memory text → Shows s c.Registers text
   code : (a : Address) (n : ℕ) (text : List ℕ) → IsCode s.machine.memory a.segment a.offset n text → Shows s (c.Unassemble a n) text
   bytes : (a : Address) (n : ℕ) → Shows s (c.Dump a n) (bytes_text s.machine.memory a.segment a.offset n)
-  arena : (text : List ℕ) → IsArenaText s.machine.memory text → Shows s c.Arena text
+  arena : (text : List ℕ) → IsArenaText s.machine.upper s.machine.memory text → Shows s c.Arena text
   pages : Shows s c.Pages (pages_text s.machine.ems s.machine.memory)
   extended : Shows s c.Extended (extended_text s.machine.xms s.machine.memory)
   points : Shows s c.Breakpoints (points_text s.points)

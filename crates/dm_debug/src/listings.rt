@@ -44,11 +44,11 @@ pub(crate) fn dump(
     put_bytes(out, machine.space(), at.segment, at.offset, count)
 }
 
-/// Puts the headers of the arena.
+/// Puts the headers of the arena, and those of upper memory where they aren't linked with it.
 pub(crate) fn arena(out: &mut Vec<u8>, machine: &Machine) -> Result<(), AllocError>
-    ensures { OnOk result ((text : List ℕ) × (out.new.items ≡ out.old.items ++ text) × IsArenaText machine.now.memory text) }
+    ensures { OnOk result ((text : List ℕ) × (out.new.items ≡ out.old.items ++ text) × IsArenaText machine.now.upper machine.now.memory text) }
 {
-    put_arena(out, machine.space())
+    put_arena(out, machine.space(), machine.upper())
 }
 
 /// Puts the handles and windows of expanded memory.

@@ -1,11 +1,11 @@
 -- The headers of the arena, as lines: segment, signature, owner and size.
 -- Source: MS-DOS Programmer's Reference, "Arena header". The form is this machine's own.
-use Rattle.std.specs.Prelude.{◌≡◌, ℕ, List, [], ◌∷◌, ◌++◌, codes}
+use Rattle.std.specs.Prelude.{◌≡◌, ℕ, Bool, List, [], ◌∷◌, ◌++◌, ◌&&◌, false, true, not, codes}
 use Rattle.dm_space.specs.Memory.{Memory}
 use Rattle.dm_blocks.specs.declared.header.Header.{Header}
 use Rattle.dm_blocks.specs.declared.header.Entry.{Entry}
-use Rattle.dm_blocks.specs.Chain.{first_header, signature, IsArena, IsClear}
-use Rattle.dm_blocks.specs.Listing.{Path, Follows}
+use Rattle.dm_blocks.specs.Chain.{first_header, link_header, signature, is_linked, IsArenaBehind}
+use Rattle.dm_blocks.specs.Listing.{Leads, Follows}
 use Rattle.dm_views.specs.Digits.{four}
 
 abbrev pub header_line : ℕ → Header → List ℕ
@@ -27,7 +27,33 @@ end_line = codes "end" ++ 10 ∷ []
 abbrev pub destroyed_line : ℕ → List ℕ
 destroyed_line segment = codes "destroyed at " ++ four segment ++ 10 ∷ []
 
--- the list that memory spells, and its end; or headers that may stand in a list, up to the place where none can follow, and that place
-pub data IsArenaText (m : Memory) (text : List ℕ) : Type 0 where
-  whole : (L : List Header) → IsArena m first_header L → text ≡ list_text L ++ end_line → IsArenaText m text
-  broken : (P : List Header) (t : ℕ) → Path m first_header P t → IsClear m P → ((e : Entry) → Follows m [] P t e → ⊥) → text ≡ front_text P ++ destroyed_line t → IsArenaText m text
+-- what stands before the second list
+abbrev pub unlinked_line : List ℕ
+unlinked_line = codes "unlinked" ++ 10 ∷ []
+
+-- behind the headers F, memory spells the list L from a segment on: its lines, and its end
+pub record IsWhole (m : Memory) (F : List Header) (start : ℕ) (L : List Header) (text : List ℕ) : Type 0 where
+  pub list : IsArenaBehind m F start L
+  pub is : text ≡ list_text L ++ end_line
+
+-- behind the headers F, headers may stand in a list from a segment on, up to a place where none can follow: their lines, and that place
+pub record IsCutShort (m : Memory) (F : List Header) (start : ℕ) (text : List ℕ) : Type 0 where
+  pub headers : List Header
+  pub at : ℕ
+  pub leads : Leads m F start headers at
+  pub none : (e : Entry) → Follows m F headers at e → ⊥
+  pub is : text ≡ front_text headers ++ destroyed_line at
+
+pub data IsListText (m : Memory) (F : List Header) (start : ℕ) (text : List ℕ) : Type 0 where
+  whole : (L : List Header) → IsWhole m F start L text → IsListText m F start text
+  cut_short : IsCutShort m F start text → IsListText m F start text
+
+-- there is a second list beside the first one: upper memory belongs to the arena, and the first list isn't linked with that of upper memory
+abbrev pub is_parted : Bool → List Header → Bool
+is_parted upper L = upper && not (is_linked L)
+
+-- the first list; and behind it `unlinked` and the second one, where there is a second one
+pub data IsArenaText (upper : Bool) (m : Memory) (text : List ℕ) : Type 0 where
+  destroyed : IsCutShort m [] first_header text → IsArenaText upper m text
+  alone : (L : List Header) → IsWhole m [] first_header L text → is_parted upper L ≡ false → IsArenaText upper m text
+  parted : (L : List Header) (first second : List ℕ) → IsWhole m [] first_header L first → is_parted upper L ≡ true → IsListText m L link_header second → text ≡ first ++ unlinked_line ++ second → IsArenaText upper m text

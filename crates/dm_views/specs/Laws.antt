@@ -1,5 +1,5 @@
 -- What holds of all listings: a listing is one text of one state.
-use Rattle.std.specs.Prelude.{◌≡◌, ℕ, List}
+use Rattle.std.specs.Prelude.{◌≡◌, ℕ, Bool, List}
 use Rattle.dm_space.specs.Memory.{Memory}
 use Rattle.dm_exec.specs.declared.cpu.Cpu.{Cpu}
 use Rattle.dm_views.specs.Registers.{IsRegistersText}
@@ -13,4 +13,4 @@ abbrev pub RegistersHaveOneText : Type 0
 RegistersHaveOneText = (c : Cpu) (m : Memory) (a b : List ℕ) → IsRegistersText c m a → IsRegistersText c m b → a ≡ b
 
 abbrev pub ArenaHasOneText : Type 0
-ArenaHasOneText = (m : Memory) (a b : List ℕ) → IsArenaText m a → IsArenaText m b → a ≡ b
+ArenaHasOneText = (upper : Bool) (m : Memory) (a b : List ℕ) → IsArenaText upper m a → IsArenaText upper m b → a ≡ b

@@ -1,12 +1,15 @@
 //! The headers of the arena, as text (MS-DOS Programmer's Reference, "Arena header").
 
-ghost use Rattle.std.specs.Prelude.{◌≡◌, ◌++◌, ◌∷◌, [], List, ℕ, OnOk};
-ghost use Rattle.dm_blocks.specs.Chain.{mark};
+ghost use Rattle.std.specs.Prelude.{◌≡◌, ◌++◌, ◌∷◌, [], false, IfOk, List, None, OnOk, Some, ℕ};
+ghost use Rattle.dm_blocks.specs.declared.header.Header.{Header};
+ghost use Rattle.dm_blocks.specs.Chain.{first_header, link_header, mark, IsArena};
+ghost use Rattle.dm_blocks.specs.Listing.{start_of};
 ghost use Rattle.dm_views.specs.Digits.{four};
-ghost use Rattle.dm_views.specs.Arena.{header_line, end_line, destroyed_line, IsArenaText};
+ghost use Rattle.dm_views.specs.Arena.{header_line, end_line, destroyed_line, unlinked_line, IsArenaText, IsListText};
+ghost use Rattle.dm_views.specs.Telling.{TellsList};
 
 use crate::digits::word_digits;
-use dm_blocks::{Entry, Step, walk};
+use dm_blocks::{Entry, Headers, Step, is_linked, walk};
 use dm_space::Space;
 use std::alloc::AllocError;
 
@@ -52,21 +55,55 @@ fn put_destroyed(out: &mut Vec<u8>, segment: u16) -> Result<(), AllocError>
     put_word_line(out, segment)
 }
 
+/// Puts the headers that a walk over a list has still to tell, a line each: segment, signature, owner and size; then `end`, or where the
+/// first stands that breaks the list. The walk behind the end of its list; None where the list is broken.
+fn put_list<'a>(out: &mut Vec<u8>, headers: Headers<'a>) -> Result<Option<Headers<'a>>, AllocError>
+    requires { headers.at ≡ Some (start_of headers.second) }
+    ensures { IfOk result (λ rest. TellsList headers.entry rest out.old.items out.new.items) }
+{
+    let mut told = headers;
+    'walk: loop {
+        match told.advance() {
+            Step::Told(entry) => put_entry(out, entry)?,
+            Step::End => {
+                put_end(out)?;
+                return Ok(Some(told));
+            }
+            Step::Destroyed(segment) => {
+                put_destroyed(out, segment)?;
+                return Ok(None);
+            }
+        }
+    }
+}
+
+/// Puts `unlinked`, and the second list behind the first one, which a walk has told.
+fn put_unlinked(out: &mut Vec<u8>, first: Headers<'_>) -> Result<(), AllocError>
+    requires first { first.second ≡ false }
+    requires over { first.at ≡ None }
+    ensures { OnOk result ((text : List ℕ) × (out.new.items ≡ out.old.items ++ (unlinked_line ++ text)) × ((L : List Header) → IsArena first.memory first_header L → IsListText first.memory L link_header text)) }
+{
+    out.extend_from_slice(b"unlinked\n")?;
+    put_list(out, first.walk_second())?;
+    Ok(())
+}
+
 /// Puts the headers of the arena, a line each: segment, signature, owner and size; then `end`, or where the first stands that breaks the
-/// list. There are at most FF00h headers.
+/// list. Where upper memory belongs to the arena, which `upper` tells, and the list ends but isn't linked with that of upper memory,
+/// `unlinked` follows and the second list, from the link block on, in the same form; a header on a place of the first breaks it.
+/// There are at most FF00h headers in a list.
 ///
 /// # Errors
 ///
 /// That memory for the text was refused.
-pub fn put_arena(out: &mut Vec<u8>, space: &Space) -> Result<(), AllocError>
-    ensures { OnOk result ((text : List ℕ) × (out.new.items ≡ out.old.items ++ text) × IsArenaText space.now.memory text) }
+pub fn put_arena(out: &mut Vec<u8>, space: &Space, upper: bool) -> Result<(), AllocError>
+    ensures { OnOk result ((text : List ℕ) × (out.new.items ≡ out.old.items ++ text) × IsArenaText upper space.now.memory text) }
 {
-    let mut headers = walk(space);
-    'walk: loop {
-        match headers.advance() {
-            Step::Told(entry) => put_entry(out, entry)?,
-            Step::End => return put_end(out),
-            Step::Destroyed(segment) => return put_destroyed(out, segment),
-        }
+    let Some(first) = put_list(out, walk(space))? else {
+        return Ok(());
+    };
+    if upper && !is_linked(space) {
+        return put_unlinked(out, first);
     }
+    Ok(())
 }
