@@ -1,5 +1,5 @@
 -- The arena has one text.
-use Rattle.std.proofs.Common.{◌≡◌, ℕ, Bool, List, [], ◌∷◌, ◌++◌, ◌⊎◌, false, true, inl, inr, refl, sym, ◌∙◌, ap, ap₂, subst, append-nil, append_assoc}
+use Rattle.std.proofs.Common.{◌≡◌, ℕ, Bool, List, [], ◌∷◌, ◌++◌, false, true, inl, inr, refl, sym, ◌∙◌, ap, ap₂, subst, append-nil, append_assoc}
 use Rattle.dm_space.specs.Memory.{Memory}
 use Rattle.dm_blocks.specs.declared.header.Header.{Header}
 use Rattle.dm_blocks.specs.declared.header.Entry.{Entry}
@@ -99,8 +99,8 @@ arena_once upper m a b (alone L x off) (alone M y z) = whole_once m [] first_hea
 arena_once upper m a b (alone L x off) (parted M first second y on v e) = absurd (not_both upper L M (one_list m [] first_header L M a first x y) off on)
 arena_once upper m a b (parted L first second x on u e) (destroyed y) = absurd (either m [] first_header L first b x y)
 arena_once upper m a b (parted L first second x on u e) (alone M y off) = absurd (not_both upper M L (one_list m [] first_header M L b first y x) off on)
-arena_once upper m a b (parted L first second x on u e) (parted M other rest y yes v f) =
+arena_once upper m a b (parted L first second x on u e) (parted M other rest y set v f) =
     let F : List Header → Type 0 = λ X. IsListText m X link_header second in
     let below = whole_once m [] first_header L M first other x y in
     let above = list_once m M link_header second rest (subst F (one_list m [] first_header L M first other x y) u) v in
-    e ∙ ap₂ (λ (p q : List ℕ). p ++ unlinked_line ++ q) below above ∙ sym f
+    e ∙ ap₂ (λ (p q : List ℕ). p ++ (unlinked_line ++ q)) below above ∙ sym f

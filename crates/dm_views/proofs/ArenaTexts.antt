@@ -10,7 +10,7 @@ use Rattle.dm_blocks.specs.Chain.{first_header, next, mark, signature, IsHeader,
 use Rattle.dm_blocks.specs.Listing.{Walking, Path, Leads, Follows, Closes, IsBehind, IsStep, IsStepFrom, Steps, start_of}
 use Rattle.dm_blocks.proofs.Unique.{arena_unique}
 use Rattle.dm_views.specs.Arena.{header_line, list_text, front_text, end_line, destroyed_line, IsWhole, IsCutShort}
-use Rattle.dm_views.specs.Telling.{IsWalkText, TellsList}
+use Rattle.dm_views.specs.Telling.{TellsList}
 
 -- ---- texts of more headers
 
@@ -169,8 +169,7 @@ telling_nearer w old out v u e h s =
 
 pub telling_all : (w : Walking) (old out new : List ℕ) (v u : Walking) → Telling w old v out → u.memory ≡ v.memory → u.second ≡ v.second → Steps v step.End u.at → new ≡ out ++ end_line → TellsList w (Some u) old new
 telling_all w old out new v u h same begins s k =
-    let f = front_of w old out v step.End u.at h s in
-    (
+    let f = front_of w old out v step.End u.at h s in (
       h.text ++ end_line,
       k ∙ ap (λ (x : List ℕ). x ++ end_line) h.is ∙ append_assoc old h.text end_line,
       λ F b. (

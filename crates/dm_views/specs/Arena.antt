@@ -56,4 +56,4 @@ is_parted upper L = upper && not (is_linked L)
 pub data IsArenaText (upper : Bool) (m : Memory) (text : List ℕ) : Type 0 where
   destroyed : IsCutShort m [] first_header text → IsArenaText upper m text
   alone : (L : List Header) → IsWhole m [] first_header L text → is_parted upper L ≡ false → IsArenaText upper m text
-  parted : (L : List Header) (first second : List ℕ) → IsWhole m [] first_header L first → is_parted upper L ≡ true → IsListText m L link_header second → text ≡ first ++ unlinked_line ++ second → IsArenaText upper m text
+  parted : (L : List Header) (first second : List ℕ) → IsWhole m [] first_header L first → is_parted upper L ≡ true → IsListText m L link_header second → text ≡ first ++ (unlinked_line ++ second) → IsArenaText upper m text

@@ -2,7 +2,7 @@ use Rattle.dm_views.proofs.ArenaTexts.{Telling, ahead}
 use Rattle.dm_views.proofs.arena.put_list.Given as goal
 
 abbrev pub invariant-walk : goal.invariant-walk
-invariant-walk l = Telling l.initial.headers l.initial.out.items l.told l.out.items
+invariant-walk l = Telling l.initial.told l.initial.out.items l.told l.out.items
 
 abbrev pub decreases-walk : goal.decreases-walk
 decreases-walk l = ahead l.told.at
