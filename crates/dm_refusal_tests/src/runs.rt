@@ -54,7 +54,7 @@ fn reserve(rt: &impl Print, alloc: Global, scene: Scene, bytes: usize) -> Result
     let call = "Machine::reserve_output";
     let mut machine = machine_at(alloc, scene)?;
     if let Err(_) = machine.reserve_output(bytes) {
-        tell_refused(rt, call, are_alike(&machine, &machine_at(alloc, scene)?))?;
+        tell_refused(rt, call, is_at(alloc, &machine, scene)?)?;
         machine.reserve_output(bytes)?;
     }
     println!(rt; "{call}: for {} bytes", machine.room())?;
@@ -102,18 +102,37 @@ pub(crate) fn keep_to_room(rt: &impl Print, alloc: Global) -> Result<()> {
     tell(rt, call, str::from_utf8(machine.output())?)
 }
 
-/// Makes the step in which a service writes.
-fn step(rt: &impl Print, alloc: Global, function: &str, scene: Scene) -> Result<()> {
-    let mut machine = machine_at(alloc, scene)?;
-    let mut stop = machine.step();
-    if stop == Some(Stop::Memory) {
-        let unchanged = are_alike(&machine, &machine_at(alloc, scene)?);
-        tell_refused(rt, function, unchanged)?;
-        stop = machine.step();
-    }
+/// Makes a step.
+fn make_step(machine: &mut Machine) -> Option<Stop>
+    requires { HasProgram machine.old }
+    ensures { HasProgram machine.new }
+{
+    machine.step()
+}
+
+/// Whether a machine shows what one does that has made just a scene's steps.
+fn is_at(alloc: Global, machine: &Machine, scene: Scene) -> Result<bool> {
+    let other = machine_at(alloc, scene)?;
+    Ok(are_alike(machine, &other))
+}
+
+/// Tells what a step answered, and what is seen after it.
+fn tell_step(rt: &impl Print, call: &str, stop: Option<Stop>, machine: &Machine) -> Result<()> {
     let output = str::from_utf8(machine.output())?;
-    println!(rt; "{function}: {stop:?}, {output}, {} steps", machine.steps())?;
+    let steps = machine.steps();
+    println!(rt; "{call}: {stop:?}, {output}, {steps} steps")?;
     Ok(())
+}
+
+/// Makes the step in which a service writes.
+fn step(rt: &impl Print, alloc: Global, call: &str, scene: Scene) -> Result<()> {
+    let mut machine = machine_at(alloc, scene)?;
+    let mut stop = make_step(&mut machine);
+    if let Some(Stop::Memory) = stop {
+        tell_refused(rt, call, is_at(alloc, &machine, scene)?)?;
+        stop = make_step(&mut machine);
+    }
+    tell_step(rt, call, stop, &machine)
 }
 
 /// A step of each service that writes. (Behind three steps of a program, or two: so many lead to its service.)
@@ -154,13 +173,14 @@ pub(crate) fn make_steps(rt: &impl Print, alloc: Global) -> Result<()> {
 
 /// Whether a run that stopped for want of memory is before a service that writes, and has done all before it.
 fn stands_before_output(alloc: Global, machine: &Machine) -> Result<bool> {
+    let steps = machine.steps();
     let scene = Scene {
         program: &TWICE,
         input: b"",
-        steps: machine.steps(),
+        steps,
     };
-    let alike = are_alike(machine, &machine_at(alloc, scene)?);
-    Ok(alike && matches!(machine.steps(), 3 | 8))
+    let is_there = is_at(alloc, machine, scene)?;
+    Ok(is_there && (steps == 3 || steps == 8))
 }
 
 /// A machine with that program loaded.
@@ -175,24 +195,40 @@ fn before_run(alloc: Global) -> Result<Machine>
     machine_at(alloc, scene)
 }
 
+/// Runs that program as far as it goes.
+fn make_run(machine: &mut Machine) -> Stop
+    requires { HasProgram machine.old }
+    ensures { HasProgram machine.new }
+{
+    machine.run(STEPS)
+}
+
+/// Tells how a run stopped, after how many steps and behind how many bytes.
+fn tell_run(
+    rt: &impl Print,
+    call: &str,
+    stop: Stop,
+    machine: &Machine,
+    written: usize,
+) -> Result<()> {
+    let steps = machine.steps();
+    println!(rt; "{call}: {stop:?}, {written} bytes, {steps} steps")?;
+    Ok(())
+}
+
 /// Runs a program that writes twice.
 pub(crate) fn run_whole(rt: &impl Print, alloc: Global) -> Result<()> {
     let call = "Machine::run";
     let mut machine = before_run(alloc)?;
-    let mut stop = machine.run(STEPS);
-    if stop == Stop::Memory {
+    let mut stop = make_run(&mut machine);
+    if let Stop::Memory = stop {
         tell_refused(rt, call, stands_before_output(alloc, &machine)?)?;
-        stop = machine.run(STEPS);
+        stop = make_run(&mut machine);
     }
-    let written = machine.output().len();
-    println!(rt;
-        "{call}: {stop:?} behind {} steps, {written} bytes",
-        machine.steps()
-    )?;
-    Ok(())
+    tell_run(rt, call, stop, &machine, machine.output().len())
 }
 
-/// Runs that program, and writes what it wrote.
+/// Runs that program as far as it goes, and writes its output behind the bytes.
 fn run_into(machine: &mut Machine, taken: &mut Vec<u8>) -> Result<Stop>
     requires { HasProgram machine.old }
     ensures { HasProgram machine.new }
@@ -209,13 +245,12 @@ pub(crate) fn run_and_write(rt: &impl Print, alloc: Global) -> Result<()> {
     let mut taken = Vec::with_capacity(alloc, 256)?;
     let mut machine = before_run(alloc)?;
     let mut stop = run_into(&mut machine, &mut taken)?;
-    if stop == Stop::Memory {
+    if let Stop::Memory = stop {
         let wrote = taken.as_slice() == machine.output();
         let stands = stands_before_output(alloc, &machine)?;
         tell_refused(rt, call, wrote && stands)?;
         taken.clear();
         stop = run_into(&mut machine, &mut taken)?;
     }
-    println!(rt; "{call}: {stop:?}, {} bytes", taken.len())?;
-    Ok(())
+    tell_run(rt, call, stop, &machine, taken.len())
 }

@@ -60,7 +60,7 @@ fn add(
     rt: &impl Print,
     alloc: Global,
     programs: &mut Programs,
-    count: usize,
+    count: u8,
     name: &[u8],
 ) -> Result<()>
     requires { IsName name.now }
@@ -68,11 +68,11 @@ fn add(
     let call = "Programs::add";
     let file = Vec::from_slice(alloc, name)?;
     if let Err(error) = programs.add(alloc, name, file) {
-        let unchanged = has_first(programs, count);
+        let unchanged = has_first(programs, count as usize);
         tell_refused(rt, call, unchanged && error == AddError::Memory)?;
         programs.add(alloc, name, Vec::from_slice(alloc, name)?)?;
     }
-    let added = has_first(programs, count + 1);
+    let added = has_first(programs, count as usize + 1);
     tell(rt, call, if added { "added" } else { "others" })
 }
 
