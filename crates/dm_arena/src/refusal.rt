@@ -12,10 +12,11 @@ pub enum Refusal {
     #[error("not enough memory")]
     Short {
         /// In paragraphs, the largest size that would have been served; of two blocks together, the
-        /// largest free block there is.
+        /// largest free block that the strategy looks at.
         largest: u16,
     },
-    /// No block of the list begins at the segment (DOS error 9, "Invalid memory block").
+    /// No block of the list begins at the segment, or the link block does (DOS error 9, "Invalid memory
+    /// block").
     #[error("no such block")]
     NoBlock,
 }

@@ -47,7 +47,8 @@ impl Procs {
     ///
     /// # Errors
     ///
-    /// `ArenaDestroyed` where memory spells no clear list of blocks. Then nothing has changed.
+    /// `ArenaDestroyed` where memory spells no clear list of blocks or, where that isn't linked with upper
+    /// memory, no second one that is clear with it. Then nothing has changed.
     pub fn terminate(
         &mut self,
         cpu: &mut Cpu,

@@ -30,8 +30,8 @@ pub enum Refusal {
     Short,
 }
 
-/// Memory spells no clear list of blocks; nothing has changed (DOS error 7, "Memory control blocks
-/// destroyed").
+/// Memory spells no clear list of blocks, or no second one that an ending asks for; nothing has changed (DOS error 7,
+/// "Memory control blocks destroyed").
 #[derive(Clone, Copy, Debug, PartialEq, Eq, Error)]
 #[error("arena destroyed")]
 pub struct ArenaDestroyed;
