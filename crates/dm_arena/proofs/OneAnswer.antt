@@ -5,8 +5,8 @@ use Rattle.dm_blocks.specs.declared.header.Header.{Header}
 use Rattle.dm_arena.specs.declared.refusal.Refusal.{Refusal}
 use Rattle.dm_arena.specs.declared.refusal.Refusal.TheVariants.{Destroyed, Short, NoBlock}
 use Rattle.dm_arena.specs.declared.fit.Strategy.{Strategy}
-use Rattle.dm_blocks.specs.Chain.{first_header, link_header, HasHeader, IsArenaBehind, IsChain, IsClear, IsArena, Becomes, DiffersInHeaders}
-use Rattle.dm_arena.specs.Owned.{BlockAt, IsNoBlock, is_link_block, is_parted, ReleasesOne, ReleasesBoth, freed, Frees, FreeRefused, absorb, AllFree, BeginsTaken, BlockRunAt, resized, Resizes, ResizeRefused, released, ReleaseRefused, Releases}
+use Rattle.dm_blocks.specs.Chain.{first_header, link_header, HasHeader, IsArenaBehind, IsChain, IsClear, IsArena, Becomes, DiffersInHeaders, is_parted}
+use Rattle.dm_arena.specs.Owned.{BlockAt, IsNoBlock, is_link_block, ReleasesOne, ReleasesBoth, freed, Frees, FreeRefused, absorb, AllFree, BeginsTaken, BlockRunAt, resized, Resizes, ResizeRefused, released, ReleaseRefused, Releases}
 use Rattle.dm_blocks.specs.Chain.{is_free}
 use Rattle.dm_arena.specs.Blocks.{in_effect, join, largest, fits, prefers, IsIn, cut, cut_low, taken}
 use Rattle.dm_arena.specs.Walks.{Fills}

@@ -6,11 +6,11 @@ use Rattle.dm_space.specs.Memory.{Memory, place, peek, byte_at}
 use Rattle.dm_space.proofs.Places.{paragraph-apart, place-shaped, peek-place, shaped-then}
 use Rattle.dm_blocks.specs.declared.header.Header.{Header}
 use Rattle.dm_blocks.specs.declared.header.Entry.{Entry}
-use Rattle.dm_blocks.specs.Chain.{AreApart, Becomes, DiffersInHeaders, HasHeader, IsArena, IsArenaBehind, IsChain, IsClear, IsHeader, IsNonEmpty, NoArenaBehind, Spells, first_header, is_linked, link_header, mark, next, signature}
+use Rattle.dm_blocks.specs.Chain.{AreApart, Becomes, DiffersInHeaders, HasHeader, IsArena, IsArenaBehind, IsChain, IsClear, IsHeader, IsNonEmpty, NoArenaBehind, Spells, first_header, is_linked, link_header, mark, next, signature, is_parted}
 use Rattle.dm_blocks.specs.Reading.{IsEndingAt, NoEndAt, is_nil}
 use Rattle.dm_blocks.proofs.Chains.{Agrees, clear_map, clear_within, has_either, has_left, has_right, spells_above, spells_below, spells_end, spells_kept, spells_replace}
 use Rattle.dm_blocks.proofs.Unique.{arena_unique}
-use Rattle.dm_arena.specs.Owned.{ReleasesBoth, is_parted, released}
+use Rattle.dm_arena.specs.Owned.{ReleasesBoth, released}
 use Rattle.dm_arena.specs.Linking.{BeginsAt, EndsAt, GoesOn, IsCutOff, LinkRefused, Links}
 use Rattle.dm_arena.specs.Walks.{IsHeaderWritten}
 use Rattle.dm_arena.proofs.Releasing.{released-has}

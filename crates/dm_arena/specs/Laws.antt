@@ -5,10 +5,10 @@ use Rattle.dm_space.specs.Unseen.{IsUnseen}
 use Rattle.dm_arena.specs.declared.refusal.Refusal.{Refusal}
 use Rattle.dm_arena.specs.declared.fit.Strategy.{Strategy}
 use Rattle.dm_arena.specs.Allocation.{Allocates}
-use Rattle.dm_arena.specs.Owned.{Frees, Resizes, Releases, is_link_block, is_parted}
+use Rattle.dm_arena.specs.Owned.{Frees, Resizes, Releases, is_link_block}
 use Rattle.dm_arena.specs.Blocks.{in_effect, is_candidate, prefers, prefers_by}
 use Rattle.dm_blocks.specs.declared.header.Header.{Header}
-use Rattle.dm_blocks.specs.Chain.{is_free}
+use Rattle.dm_blocks.specs.Chain.{is_free, is_parted}
 use Rattle.dm_arena.specs.Pair.{Placed, Pairs}
 use Rattle.dm_arena.specs.Linking.{Links, TellsLinked}
 

@@ -1,11 +1,11 @@
 -- Blocks that are owned: freed, resized, and freed all together.
 -- MS-DOS Programmer's Reference, functions 49h and 4Ah.
-use Rattle.std.specs.Prelude.{Bool, Err, List, Ok, Result, [], false, if◌then◌else◌, not, true, ℕ, ◌&&◌, ◌++◌, ◌+◌, ◌<◌, ◌==◌, ◌∷◌, ◌≡◌, ◌≤◌, ◌⊎◌}
+use Rattle.std.specs.Prelude.{Bool, Err, List, Ok, Result, [], false, if◌then◌else◌, true, ℕ, ◌&&◌, ◌++◌, ◌+◌, ◌<◌, ◌==◌, ◌∷◌, ◌≡◌, ◌≤◌, ◌⊎◌}
 use Rattle.dm_space.specs.Memory.{Memory}
 use Rattle.dm_blocks.specs.declared.header.Header.{Header}
 use Rattle.dm_arena.specs.declared.refusal.Refusal.{Refusal}
 use Rattle.dm_arena.specs.declared.refusal.Refusal.TheVariants.{Destroyed, NoBlock, Short}
-use Rattle.dm_blocks.specs.Chain.{Becomes, DiffersInHeaders, IsArena, IsArenaBehind, IsChain, IsClear, NoArena, NoArenaBehind, NoBlockAt, first_header, is_free, is_linked, link_header}
+use Rattle.dm_blocks.specs.Chain.{Becomes, DiffersInHeaders, IsArena, IsArenaBehind, IsChain, IsClear, NoArena, NoArenaBehind, NoBlockAt, first_header, is_free, is_parted, link_header}
 use Rattle.dm_arena.specs.Blocks.{cut_low, merge}
 
 -- the link block begins at the segment: no program frees or resizes it. There is one only where upper memory belongs to the arena
@@ -89,10 +89,6 @@ released_block owner b = record b { owner = (if b.owner == owner then 0 else b.o
 abbrev pub released : ℕ → List Header → List Header
 released owner [] = []
 released owner (b ∷ L) = released_block owner b ∷ released owner L
-
--- the second list does not go with the first: upper memory belongs to the arena, and the first list isn't linked
-abbrev pub is_parted : Bool → List Header → Bool
-is_parted upper L = if upper then not (is_linked L) else false
 
 -- the owner's blocks of the arena freed
 pub record ReleasesOne (upper : Bool) (S : Memory) (owner : ℕ) (T : Memory) : Type 0 where

@@ -70,6 +70,10 @@ abbrev pub is_linked : List Header → Bool
 is_linked [] = false
 is_linked (b ∷ L) = (b.segment == link_header) || is_linked L
 
+-- the second list does not go with the first: upper memory belongs to the arena, and the first list isn't linked
+abbrev pub is_parted : Bool → List Header → Bool
+is_parted upper L = upper && not (is_linked L)
+
 -- no block of L begins at the segment
 abbrev pub NoBlockAt : List Header → ℕ → Type 0
 NoBlockAt L segment = (h : ℕ) → HasHeader L h → h + 1 ≢ segment

@@ -3,10 +3,10 @@ use Rattle.std.proofs.Common.{◌≡◌, ℕ, Bool, true, false, List, [], ◌++
 use Rattle.std.specs.Prelude.{◌&&◌, not}
 use Rattle.dm_space.specs.Memory.{Memory}
 use Rattle.dm_blocks.specs.declared.header.Header.{Header}
-use Rattle.dm_blocks.specs.Chain.{first_header, link_header, is_linked, IsArena}
+use Rattle.dm_blocks.specs.Chain.{first_header, link_header, is_linked, IsArena, is_parted}
 use Rattle.dm_blocks.specs.Listing.{Walking, IsBehind, start_of}
 use Rattle.dm_blocks.specs.Reading.{IsSpelledFrom}
-use Rattle.dm_views.specs.Arena.{unlinked_line, is_parted, IsWhole, IsListText, whole, cut_short, IsArenaText, destroyed, alone, parted}
+use Rattle.dm_views.specs.Arena.{unlinked_line, IsWhole, IsListText, whole, cut_short, IsArenaText, destroyed, alone, parted}
 use Rattle.dm_views.specs.Telling.{IsWalkText, TellsList}
 
 -- ---- the second list

@@ -3,13 +3,13 @@ use Rattle.std.proofs.Common.{◌≡◌, ℕ, Bool, List, [], ◌∷◌, ◌++�
 use Rattle.dm_space.specs.Memory.{Memory}
 use Rattle.dm_blocks.specs.declared.header.Header.{Header}
 use Rattle.dm_blocks.specs.declared.header.Entry.{Entry}
-use Rattle.dm_blocks.specs.Chain.{first_header, link_header, next, AreApart, HasHeader, IsClear, IsHeader}
+use Rattle.dm_blocks.specs.Chain.{first_header, link_header, next, AreApart, HasHeader, IsClear, IsHeader, is_parted}
 use Rattle.dm_blocks.specs.Listing.{Path, Follows}
 use Rattle.dm_blocks.proofs.Chains.{has_left, has_right, has_either, clear_within}
 use Rattle.dm_blocks.proofs.OneHeader.{header-unique}
 use Rattle.dm_blocks.proofs.Unique.{chain_unique}
 use Rattle.dm_blocks.proofs.Walks.{no_arena}
-use Rattle.dm_views.specs.Arena.{list_text, front_text, end_line, destroyed_line, unlinked_line, is_parted, IsWhole, IsCutShort, IsListText, whole, cut_short, IsArenaText, destroyed, alone, parted}
+use Rattle.dm_views.specs.Arena.{list_text, front_text, end_line, destroyed_line, unlinked_line, IsWhole, IsCutShort, IsListText, whole, cut_short, IsArenaText, destroyed, alone, parted}
 
 -- behind the headers F and those of the list before them, headers after which none can follow
 record IsStuck (m : Memory) (F before : List Header) (h : ℕ) (P : List Header) (t : ℕ) : Type 0 where

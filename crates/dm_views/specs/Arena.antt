@@ -1,10 +1,10 @@
 -- The headers of the arena, as lines: segment, signature, owner and size.
 -- Source: MS-DOS Programmer's Reference, "Arena header". The form is this machine's own.
-use Rattle.std.specs.Prelude.{◌≡◌, ℕ, Bool, List, [], ◌∷◌, ◌++◌, ◌&&◌, false, true, not, codes}
+use Rattle.std.specs.Prelude.{◌≡◌, ℕ, Bool, List, [], ◌∷◌, ◌++◌, false, true, codes}
 use Rattle.dm_space.specs.Memory.{Memory}
 use Rattle.dm_blocks.specs.declared.header.Header.{Header}
 use Rattle.dm_blocks.specs.declared.header.Entry.{Entry}
-use Rattle.dm_blocks.specs.Chain.{first_header, link_header, signature, is_linked, IsArenaBehind}
+use Rattle.dm_blocks.specs.Chain.{first_header, link_header, signature, is_parted, IsArenaBehind}
 use Rattle.dm_blocks.specs.Listing.{Leads, Follows}
 use Rattle.dm_views.specs.Digits.{four}
 
@@ -47,10 +47,6 @@ pub record IsCutShort (m : Memory) (F : List Header) (start : ℕ) (text : List 
 pub data IsListText (m : Memory) (F : List Header) (start : ℕ) (text : List ℕ) : Type 0 where
   whole : (L : List Header) → IsWhole m F start L text → IsListText m F start text
   cut_short : IsCutShort m F start text → IsListText m F start text
-
--- there is a second list beside the first one: upper memory belongs to the arena, and the first list isn't linked with that of upper memory
-abbrev pub is_parted : Bool → List Header → Bool
-is_parted upper L = upper && not (is_linked L)
 
 -- the first list; and behind it `unlinked` and the second one, where there is a second one
 pub data IsArenaText (upper : Bool) (m : Memory) (text : List ℕ) : Type 0 where

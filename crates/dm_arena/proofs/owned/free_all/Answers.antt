@@ -1,7 +1,7 @@
 use Rattle.std.proofs.Common.{◌≡◌, true, inr, refl, sym, ◌∙◌}
 use Rattle.dm_blocks.specs.Chain.{first_header}
 use Rattle.dm_blocks.specs.Reading.{IsSpelledFrom}
-use Rattle.dm_arena.specs.Owned.{is_parted}
+use Rattle.dm_blocks.specs.Chain.{is_parted}
 use Rattle.dm_arena.proofs.Parting.{both_released, second_there}
 use Rattle.dm_arena.proofs.owned.free_all.Goals as goal
 
