@@ -1,19 +1,14 @@
-//! Worked rows of whole runs of the machine: how it starts, and what the calls of INT 21h do that a
-//! program makes. They call what the machine shows to everyone, and nothing else.
+//! What machines answer that no run or session of `dm` shows: which are made and loaded, that a stop
+//! changes nothing, and room for output. They call what the machine shows to everyone, and nothing
+//! else; what a program shows has its rows in `rows/`, at the top.
 //!
 //! They stand apart from the crate that they try, since a crate with tests is proved twice.
 #![tactic(auto)]
 
 #[cfg(test)]
-mod acts;
-#[cfg(test)]
-mod allocation;
-#[cfg(test)]
 mod checks;
-#[cfg(test)]
-mod console;
 pub mod machines;
 #[cfg(test)]
-mod processes;
+mod runs;
 #[cfg(test)]
 mod starts;

@@ -125,13 +125,13 @@ impl<'a> Storage for Files<'a> {
 
 /// Takes one byte a write, and fails or takes nothing once `left` writes were made.
 #[derive(Drop)]
-pub(crate) struct Slow {
-    pub(crate) taken: Vec<u8>,
+pub(crate) struct Slow<'a> {
+    pub(crate) taken: &'a mut Vec<u8>,
     pub(crate) left: usize,
     pub(crate) refuses: bool,
 }
 
-impl Write for Slow {
+impl Write for Slow<'_> {
     fn write(&mut self, buf: &[u8]) -> io::Result<usize> {
         let [first, ..] = buf else {
             return Ok(0);

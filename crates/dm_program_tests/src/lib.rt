@@ -1,17 +1,13 @@
-//! Worked rows of whole programs: short ones on the machine, and the program `dm` over files, readers
-//! and writers in memory. They call what the machine and the program show to everyone, and nothing
-//! else.
+//! What a call in Rattle alone shows of sessions and of the program `dm`: readers and writers that
+//! fail, or take one byte at a time, and paths that are refused. What `dm` shows to everyone stands
+//! in the rows of text.
 #![tactic(auto)]
 
-#[cfg(test)]
-mod assembling;
 #[cfg(test)]
 mod checks;
 #[cfg(test)]
 mod commands;
 #[cfg(test)]
-mod debugging;
-#[cfg(test)]
 mod files;
 #[cfg(test)]
-mod programs;
+mod sessions;

@@ -1,5 +1,5 @@
-//! Worked rows of what lies around the processor: memory, files, console, services, and the
-//! program's words and writers.
+//! Worked rows of what lies around the processor: memory, files, room for output, and the program's
+//! words and writers.
 //!
 //! They stand apart from the crates that they try, since a crate with tests is proved twice.
 #![tactic(auto)]
@@ -16,8 +16,6 @@ mod memory;
 mod options;
 #[cfg(test)]
 mod programs;
-#[cfg(test)]
-mod services;
 #[cfg(test)]
 mod space;
 #[cfg(test)]
