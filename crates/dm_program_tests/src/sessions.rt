@@ -129,6 +129,34 @@ fn answers(
     Ok(())
 }
 
+/// Answers a listing with a writer that fails, or takes nothing, after so many bytes, and compares what is answered and taken.
+fn breaks_off(
+    rt: &impl Abort,
+    alloc: Global,
+    session: &mut Session,
+    (line, text): (&str, &str),
+    (left, refuses): (usize, bool),
+) -> Result<(), Fail> {
+    let mut taken = Vec::new(alloc);
+    let mut sink = Sink::new(Slow {
+        taken: &mut taken,
+        left,
+        refuses,
+    });
+    let answered = session.command(alloc, line.as_bytes(), &mut sink);
+    drop(sink);
+    let text = text.as_bytes();
+    let wanted = if left < text.len() {
+        Err(Refusal::Write)
+    } else {
+        Ok(())
+    };
+    same_of(rt, line, "the answer", answered, wanted);
+    let part = text.get(..left.min(text.len()));
+    same_of(rt, line, "the text", Some(taken.as_slice()), part);
+    Ok(())
+}
+
 /// Answers the lines of a session over a program that has the name HI.COM.
 fn play(rt: &impl Abort, alloc: Global, program: &[u8], rows: &[Row]) -> Result<(), Fail> {
     let machine = loaded_as(alloc, b"HI.COM", program, b"")?;
@@ -152,4 +180,23 @@ fn steps_are_traced(rt: HostRuntime) -> Result<(), Fail> {
 #[test]
 fn a_failed_write_leaves_what_was_changed(rt: HostRuntime) -> Result<(), Fail> {
     play(&rt, rt.alloc(), HALT, &FAILED)
+}
+
+#[test]
+fn writes_fail_at_each_byte(rt: HostRuntime) -> Result<(), Fail> {
+    let machine = loaded_as(rt.alloc(), b"HI.COM", HELLO, b"")?;
+    let mut session = Session::new(machine);
+    let listings = [
+        ("U 103:100 1", "0103:0100 B409 MOV AH,009h\n"),
+        ("M", "0100 M 0103 0001\n0102 Z 0103 9EFD\nend\n"),
+    ];
+    for listing in listings {
+        for left in 0..50 {
+            for refuses in [false, true] {
+                let ending = (left, refuses);
+                breaks_off(&rt, rt.alloc(), &mut session, listing, ending)?;
+            }
+        }
+    }
+    Ok(())
 }
