@@ -2,9 +2,34 @@
 
 use crate::checks::same;
 use crate::memory::new_space;
-use dm_pool::{Sizes, Store};
+use dm_pool::{Block, Sizes, Store};
 use dm_space::Space;
 use std::test::Fail;
+
+/// Marks the first byte of a block, and below 110000h vector 33, the first arena header, a byte behind it, and one in the segment of ROM.
+fn mark(store: &mut Store, block: Block) {
+    if store.has(block) {
+        let bytes = store.bytes_mut(block);
+        if bytes.len() > 0 {
+            bytes[0] = 0x77;
+        }
+    }
+    let low = store.low_mut();
+    if low.len() == 0x11_0000 {
+        for at in [0x84, 0x1000, 0x1005, 0xF_0000] {
+            low[at] = 0x99;
+        }
+    }
+}
+
+/// The first byte of a block.
+fn first_byte(space: &Space, block: Block) -> Option<u8> {
+    if space.has(block) {
+        space.bytes(block).first().copied()
+    } else {
+        None
+    }
+}
 
 #[test]
 fn memory_starts_over_a_used_store(rt: HostRuntime) -> Result<(), Fail> {
@@ -14,19 +39,7 @@ fn memory_starts_over_a_used_store(rt: HostRuntime) -> Result<(), Fail> {
     };
     let mut store = Store::new(rt.alloc(), sizes)?;
     let block = store.take(16).ok_or("no room")?;
-    if store.has(block) {
-        let bytes = store.bytes_mut(block);
-        if bytes.len() > 0 {
-            bytes[0] = 0x77;
-        }
-    }
-    // vector 33, the first arena header, a byte behind it, and one in the segment of ROM
-    let low = store.low_mut();
-    if low.len() == 0x11_0000 {
-        for at in [0x84, 0x1000, 0x1005, 0xF_0000] {
-            low[at] = 0x99;
-        }
-    }
+    mark(&mut store, block);
     let space = Space::new(store);
     // what is laid over memory is as ever, all else is as it was, and no window shows the block
     let bytes = [
@@ -45,15 +58,12 @@ fn memory_starts_over_a_used_store(rt: HostRuntime) -> Result<(), Fail> {
         );
     }
     same(&rt, "A20", space.a20(), false);
-    same(&rt, "the block stays", space.has(block), true);
-    if space.has(block) {
-        same(
-            &rt,
-            "its byte",
-            space.bytes(block).first().copied(),
-            Some(0x77),
-        );
-    }
+    same(
+        &rt,
+        "byte of the block",
+        first_byte(&space, block),
+        Some(0x77),
+    );
     Ok(())
 }
 
