@@ -17,5 +17,3 @@ mod kinds;
 mod memory;
 #[cfg(test)]
 mod rows;
-#[cfg(test)]
-mod windows;

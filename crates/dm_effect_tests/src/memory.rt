@@ -1,6 +1,6 @@
 //! The memory that the tests start with.
 
-use dm_pool::{Block, NewError, Sizes, Store};
+use dm_pool::{NewError, Sizes, Store};
 use dm_space::Space;
 use std::alloc::Global;
 
@@ -11,13 +11,4 @@ pub(crate) fn new_space(alloc: Global) -> Result<Space, NewError> {
         xms_kib: 16,
     };
     Ok(Space::new(Store::new(alloc, sizes)?))
-}
-
-/// Lets a window show a page.
-pub(crate) fn show(space: &mut Space, window: usize, page: Block) {
-    if space.has(page) {
-        if space.bytes(page).len() == 0x4000 {
-            space.set_window(window % 4, Some(page));
-        }
-    }
 }

@@ -279,6 +279,14 @@ fn tells_failing_writes(rt: HostRuntime) -> Result<(), Fail> {
         ("dm run hi.com", 2, (0, "hi", "")),
         ("dm run hi.com", 3, (0, "hi", "")),
         ("dm disasm hi.com", 5, (126, "MOV A", failed)),
+        // a run that is stopped writes its output too, and where that fails the stop is not told
+        ("dm run --steps=6 hi.com", 0, (126, "", failed)),
+        ("dm run --steps=6 hi.com", 1, (126, "h", failed)),
+        (
+            "dm run --steps=6 hi.com",
+            2,
+            (125, "hi", "stopped: steps\n"),
+        ),
     ] {
         for refuses in [false, true] {
             fails(&rt, rt.alloc(), line, (left, refuses), wanted)?;

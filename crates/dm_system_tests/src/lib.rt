@@ -1,5 +1,4 @@
-//! Worked rows of what lies around the processor: memory, files, room for output, and the program's
-//! words and writers.
+//! Worked rows of what lies around the processor: memory, room for output, and the program's writers.
 //!
 //! They stand apart from the crates that they try, since a crate with tests is proved twice.
 #![tactic(auto)]
@@ -9,13 +8,7 @@ mod checks;
 #[cfg(test)]
 mod console;
 #[cfg(test)]
-mod files;
-#[cfg(test)]
 mod memory;
-#[cfg(test)]
-mod options;
-#[cfg(test)]
-mod programs;
 #[cfg(test)]
 mod space;
 #[cfg(test)]

@@ -2,8 +2,60 @@
 
 use crate::checks::same;
 use crate::memory::new_space;
+use dm_pool::{Sizes, Store};
 use dm_space::Space;
 use std::test::Fail;
+
+#[test]
+fn memory_starts_over_a_used_store(rt: HostRuntime) -> Result<(), Fail> {
+    let sizes = Sizes {
+        ems_pages: 2,
+        xms_kib: 16,
+    };
+    let mut store = Store::new(rt.alloc(), sizes)?;
+    let block = store.take(16).ok_or("no room")?;
+    if store.has(block) {
+        let bytes = store.bytes_mut(block);
+        if bytes.len() > 0 {
+            bytes[0] = 0x77;
+        }
+    }
+    // vector 33, the first arena header, a byte behind it, and one in the segment of ROM
+    let low = store.low_mut();
+    if low.len() == 0x11_0000 {
+        for at in [0x84, 0x1000, 0x1005, 0xF_0000] {
+            low[at] = 0x99;
+        }
+    }
+    let space = Space::new(store);
+    // what is laid over memory is as ever, all else is as it was, and no window shows the block
+    let bytes = [
+        (0x0000, 0x0084, 0x84),
+        (0x0100, 0x0000, 0x5A),
+        (0x0100, 0x0005, 0x99),
+        (0xE000, 0x0000, 0xFF),
+        (0xF000, 0x0000, 0xCF),
+    ];
+    for (segment, offset, byte) in bytes {
+        same(
+            &rt,
+            "byte",
+            (segment, offset, space.peek(segment, offset)),
+            (segment, offset, byte),
+        );
+    }
+    same(&rt, "A20", space.a20(), false);
+    same(&rt, "the block stays", space.has(block), true);
+    if space.has(block) {
+        same(
+            &rt,
+            "its byte",
+            space.bytes(block).first().copied(),
+            Some(0x77),
+        );
+    }
+    Ok(())
+}
 
 #[test]
 fn each_part_of_the_map_reads_as_it_starts(rt: HostRuntime) -> Result<(), Fail> {
