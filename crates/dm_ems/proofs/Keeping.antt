@@ -1,9 +1,14 @@
 -- Each call keeps the tables and the memory together.
 use Rattle.std.proofs.Common.{◌≡◌, ℕ, zero, suc, Bool, true, false, cond, List, [], ◌∷◌, Option, Some, None, length, get_or, set, refl, sym, ◌∙◌, ap, subst, replicate, arith}
-use Rattle.std.specs.Prelude.{Result, Ok, Err, ◌==◌, nat_lt, nat_le, is_some, IfSome, slice_get}
+use Rattle.std.specs.Prelude.{Result, Ok, Err, ◌==◌, nat_lt, nat_le, is_some, is_none, IfSome, IsSome, slice_get}
+use Rattle.std.proofs.lemmas.List.{get_or-set_same}
+use Rattle.std.proofs.lemmas.List.Quantifiers.{position-Some}
+use Rattle.std.proofs.lemmas.Option.{none-some}
 use Rattle.std.proofs.lemmas.List.{length-replicate}
 use Rattle.dm_pool.specs.declared.places.Place.{Place}
 use Rattle.dm_pool.specs.Blocks.{no_blocks}
+use Rattle.dm_pool.specs.FreeList.{AreBased}
+use Rattle.dm_pool.proofs.Blocks.{no_place}
 use Rattle.dm_space.specs.Memory.{Memory, IsPage, no_windows}
 use Rattle.dm_space.specs.Places.{IsShaped}
 use Rattle.dm_space.specs.EightBytes.{eight_after}
@@ -12,7 +17,7 @@ use Rattle.dm_ems.specs.declared.status.Status.TheVariants.{NoPages, NoHandleLef
 use Rattle.dm_ems.specs.declared.tables.Handle.{Handle}
 use Rattle.dm_ems.specs.declared.tables.Page.{Page}
 use Rattle.dm_ems.specs.Tables.{Expanded, blank, appended, cut, unallocated, free_handle, blocks_of, with_windows}
-use Rattle.dm_ems.specs.Linked.{block_at, IsOwned, ShowsPages, SavesPages, IsLinked}
+use Rattle.dm_ems.specs.Linked.{block_at, handle_at, IsUsed, IsOwned, ShowsPages, SavesPages, IsLinked}
 use Rattle.dm_ems.specs.Calls.{left, need, slot, with_slot, with_memory}
 use Rattle.dm_ems.specs.Handles.{allocate, deallocate}
 use Rattle.dm_ems.specs.Maps.{map_page, save_map, restore_map, showing}
@@ -20,6 +25,7 @@ use Rattle.dm_ems.specs.Names.{set_name, is_name_of_other}
 use Rattle.dm_ems.specs.Laws.{StartIsLinked, CallsKeepTheLink, WritesKeepTheLink}
 use Rattle.dm_ems.proofs.Owned.{each_block}
 use Rattle.dm_ems.proofs.Linked.{linked_append, linked_appended, linked_cut, linked_slot}
+use Rattle.dm_ems.proofs.HandleBlocks.{none_left}
 
 -- ---- rows
 
@@ -39,6 +45,13 @@ refused x e l = record { kept = l }
 
 -- ---- handles
 
+-- the tables once a new handle is in use
+pub opened : (x : Expanded) (h : ℕ) → IsLinked x → IsLinked (with_slot x h (Some blank))
+opened x h l = linked_slot x h (Some blank) l tt (λ k lt e. refl)
+
+pub opened_used : (x : Expanded) (h : ℕ) → free_handle x.ems ≡ Some h → IsUsed (with_slot x h (Some blank)).ems.handles h
+opened_used x h e = let at = position-Some is_none x.ems.handles h None e in ap is_some (get_or-set_same x.ems.handles h (Some blank) None at.0)
+
 allocate_keeps : (x : Expanded) (n : ℕ) → IsLinked x → Keeps x (allocate x n)
 unfolding allocate
 allocate_keeps x n l =
@@ -46,14 +59,14 @@ allocate_keeps x n l =
     (need_keeps x (free_handle x.ems) NoHandleLeft _ l (λ h e.
     if_keeps x (nat_lt x.ems.total n) (Err OverTotal) _ (refused x OverTotal l)
     (if_keeps x (nat_lt (unallocated x) n) (Err OverFree) (Ok (h, appended (with_slot x h (Some blank)) h n)) (refused x OverFree l)
-    (record { kept = linked_appended (with_slot x h (Some blank)) h n (linked_slot x h (Some blank) l tt) }))))
+    (record { kept = linked_appended (with_slot x h (Some blank)) h n (opened_used x h e) (opened x h l) }))))
 
 freed_slot : (ps : List Page) (b : Bool) → SavesPages ps (cond b (Some blank) None)
 freed_slot ps true = tt
 freed_slot ps false = tt
 
 freed : (x : Expanded) (h : ℕ) → IsLinked x → Keeps {A = Unit {0}} x (Ok (tt, with_slot (cut x h 0) h (cond (h == 0) (Some blank) None)))
-freed x h l = record { kept = linked_slot (cut x h 0) h (cond (h == 0) (Some blank) None) (linked_cut x h 0 l) (freed_slot (cut x h 0).ems.pages (h == 0)) }
+freed x h l = record { kept = linked_slot (cut x h 0) h (cond (h == 0) (Some blank) None) (linked_cut x h 0 l) (freed_slot (cut x h 0).ems.pages (h == 0)) (λ k lt e. absurd (none_left x h k l lt e)) }
 
 deallocate_keeps : (x : Expanded) (h : ℕ) → IsLinked x → Keeps x (deallocate x h)
 unfolding deallocate
@@ -70,7 +83,7 @@ window_set ps (x ∷ ws) (suc k) w h p zero = h 0
 window_set ps (x ∷ ws) (suc k) w h p (suc j) = window_set ps ws k w (λ i. h (suc i)) p j
 
 pub with_shown : (x : Expanded) (windows : List (Option ℕ)) → IsLinked x → ShowsPages x.ems.pages windows → IsLinked (with_memory x (with_windows x.memory windows))
-with_shown x windows l h = record { places = l.places; contents = l.contents; owned = l.owned; apart = l.apart; shown = h; saved = l.saved }
+with_shown x windows l h = record { places = l.places; contents = l.contents; based = l.based; total = l.total; used = l.used; owned = l.owned; apart = l.apart; shown = h; saved = l.saved }
 
 map_keeps : (x : Expanded) (window page h : ℕ) → IsLinked x → Keeps x (map_page x window page h)
 unfolding map_page
@@ -94,14 +107,14 @@ unfolding save_map
 save_keeps x h l =
     need_keeps x (slot x h) UnknownHandle _ l (λ s e.
     if_keeps x (is_some s.saved) (Err SavedAlready) _ (refused x SavedAlready l)
-    (record { kept = linked_slot x h (Some (record s { saved = Some x.memory.windows })) l l.shown }))
+    (record { kept = linked_slot x h (Some (record s { saved = Some x.memory.windows })) l l.shown (λ k lt f. refl) }))
 
 restored : (x : Expanded) (h : ℕ) (s : Handle) (o : Option (List (Option ℕ))) → s.saved ≡ o → slot x h ≡ Some s → IsLinked x
     → Keeps {A = Unit {0}} x (need o NoneSaved (λ windows. Ok (tt, with_slot (with_memory x (with_windows x.memory windows)) h (Some (record s { saved = None })))))
 restored x h s None e f l = refused x NoneSaved l
 restored x h s (Some windows) e f l =
     let shows : ShowsPages x.ems.pages windows = subst (λ (o : Option (List (Option ℕ))). IfSome o (ShowsPages x.ems.pages)) e (saved_at x h s l f) in
-    record { kept = linked_slot (with_memory x (with_windows x.memory windows)) h (Some (record s { saved = None })) (with_shown x windows l shows) tt }
+    record { kept = linked_slot (with_memory x (with_windows x.memory windows)) h (Some (record s { saved = None })) (with_shown x windows l shows) tt (λ k lt g. refl) }
 
 restore_keeps : (x : Expanded) (h : ℕ) → IsLinked x → Keeps x (restore_map x h)
 unfolding restore_map
@@ -114,7 +127,7 @@ unfolding set_name
 name_keeps x h segment offset l =
     need_keeps x (slot x h) UnknownHandle _ l (λ s e.
     if_keeps x (is_name_of_other x.ems h (eight_after x.memory segment offset)) (Err NameTaken) _ (refused x NameTaken l)
-    (record { kept = linked_slot x h (Some (record s { name = eight_after x.memory segment offset })) l (saved_at x h s l e) }))
+    (record { kept = linked_slot x h (Some (record s { name = eight_after x.memory segment offset })) l (saved_at x h s l e) (λ k lt f. refl) }))
 
 -- ---- all calls
 
@@ -139,6 +152,9 @@ pub writes_keep : WritesKeepTheLink
 writes_keep x m s l = record {
   places = ap length s.places ∙ l.places;
   contents = s.page_count ∙ l.contents;
+  based = subst AreBased (sym s.places) l.based;
+  total = l.total;
+  used = l.used;
   owned = λ k h. page_kept x.memory m (block_at x.ems.pages k) s (l.owned k h);
   apart = l.apart;
   shown = subst (ShowsPages x.ems.pages) (sym s.windows) l.shown;
@@ -167,10 +183,17 @@ sizes : (units : ℕ) → (length (no_blocks units).places ≡ 576) × (length (
 unfolding no_blocks
 sizes units = (length-replicate {A = Option Place} 576 None, length-replicate {A = List ℕ} 576 [])
 
+none_based : (units : ℕ) → AreBased (no_blocks units).places
+unfolding no_blocks
+none_based units i b e z = absurd (none-some b (sym (no_place 576 i) ∙ e))
+
 pub start_linked : StartIsLinked
-start_linked total units low = record {
+start_linked total units low few = record {
   places = (sizes units).0;
   contents = (sizes units).1;
+  based = none_based units;
+  total = few;
+  used = λ k h. absurd (omega (arith, h));
   owned = λ k h. absurd (omega (arith, h));
   apart = λ i j d p q. absurd (omega (arith, q));
   shown = none_shown;

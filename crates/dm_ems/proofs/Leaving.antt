@@ -21,21 +21,21 @@ use Rattle.dm_ems.specs.Handles.{allocate, deallocate}
 use Rattle.dm_ems.specs.Maps.{map_page, save_map, restore_map, showing}
 use Rattle.dm_ems.specs.Names.{set_name, is_name_of_other}
 use Rattle.dm_ems.specs.Laws.{CallsLeaveOutside}
-use Rattle.dm_ems.proofs.Owned.{placed, IsPlaced, elsewhere, block_pushed, block_last}
+use Rattle.dm_ems.proofs.Owned.{placed, IsPlaced, elsewhere, owned_pushed, owned_removed, block_pushed, block_last}
 use Rattle.dm_ems.proofs.NewBlock.{IsNew, taken_new}
 
 pub leaves_all : (x : Expanded) → LeavesOutside x x
-leaves_all x = record { blocks = λ b n o. o; line = refl }
+leaves_all x = record { blocks = λ b n o. o; others = λ b live none. (live, none); line = refl }
 
 pub leaves_then : (x y z : Expanded) → LeavesOutside x y → LeavesOutside y z → LeavesOutside x z
-leaves_then x y z f g = record { blocks = λ b n o. g.blocks b n (f.blocks b n o); line = g.line ∙ f.line }
+leaves_then x y z f g = record { blocks = λ b n o. g.blocks b n (f.blocks b n o); others = λ b live none. let o = g.others b live none in f.others b o.0 o.1; line = g.line ∙ f.line }
 
 -- other handles, and other windows
 pub leaves_handles : (x : Expanded) (handles : List (Option Handle)) → LeavesOutside x (record x { ems = record x.ems { handles = handles } })
-leaves_handles x handles = record { blocks = λ b n o. record { live = o.live; size = o.size; apart = o.apart }; line = refl }
+leaves_handles x handles = record { blocks = λ b n o. record { live = o.live; size = o.size; apart = o.apart }; others = λ b live none. (live, none); line = refl }
 
 pub leaves_windows : (x : Expanded) (windows : List (Option ℕ)) → LeavesOutside x (with_memory x (with_windows x.memory windows))
-leaves_windows x windows = record { blocks = λ b n o. record { live = o.live; size = o.size; apart = o.apart }; line = refl }
+leaves_windows x windows = record { blocks = λ b n o. record { live = o.live; size = o.size; apart = o.apart }; others = λ b live none. (live, none); line = refl }
 
 -- a memory of the same map
 pub leaves_shaped : (x : Expanded) (m : Memory) → IsShaped x.memory m → LeavesOutside x (with_memory x m)
@@ -45,6 +45,7 @@ leaves_shaped x m s = record {
     size = s.page_sizes b ∙ o.size;
     apart = o.apart;
   };
+  others = λ b live none. ((live.0, (live.1.0, ap (λ (xs : List (Option Place)). get_or xs b None) (sym s.places) ∙ live.1.1)), none);
   line = s.a20;
 }
 
@@ -73,6 +74,10 @@ pushed_leaves x h i t n = record {
         size = ap length (n.kept b ne) ∙ o.size;
         apart = not_pushed x.ems.pages (record { handle = h; block = i }) b ne o.apart;
       };
+  others = λ b live none.
+      let p : Page = record { handle = h; block = i } in
+      let ne : b ≢ i = λ e. none (length x.ems.pages, omega (arith, length-append x.ems.pages (p ∷ [])), block_last x.ems.pages p ∙ sym e) in
+      ((live.0, (live.1.0, sym (n.others b ne) ∙ live.1.1)), λ o. none (owned_pushed x.ems.pages p b o));
   line = refl;
 }
 
@@ -90,6 +95,11 @@ appended_leaves x h (suc n) = leaves_then x (appended x h n) (appended_page (app
 
 -- ---- a page goes
 
+gone : (ps : List (Option Place)) (k : ℕ) → get_or (set ps k None) k None ≡ None
+gone [] k = refl
+gone (p ∷ ps) zero = refl
+gone (p ∷ ps) (suc k) = gone ps k
+
 removed_leaves : (x : Expanded) (block i : ℕ) → IsPlaced x.ems.pages block i → LeavesOutside x (without_page x block (Some i))
 removed_leaves x block i p = record {
   blocks = λ b size o.
@@ -99,6 +109,9 @@ removed_leaves x block i p = record {
         size = ap length (get_or-set_other x.memory.blocks.contents block b [] [] ne) ∙ o.size;
         apart = λ owned. let there = elsewhere x.ems.pages i owned.0 p.within owned.1 in o.apart (there.0, there.1, sym there.3 ∙ owned.2);
       };
+  others = λ b live none.
+      let ne : b ≢ block = λ e. none-some live.1.0 (sym (ap (λ k. get_or (set x.memory.blocks.places block None) k None) e ∙ gone x.memory.blocks.places block) ∙ live.1.1) in
+      ((live.0, (live.1.0, sym (get_or-set_other x.memory.blocks.places block b None None ne) ∙ live.1.1)), λ o. none (owned_removed x.ems.pages block i p b ne o));
   line = refl;
 }
 

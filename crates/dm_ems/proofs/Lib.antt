@@ -1,7 +1,9 @@
 pub mod Owned
 pub mod NewBlock
 pub mod Linked
+pub mod HandleBlocks
 pub mod Keeping
 pub mod Leaving
 pub mod Turns
 pub mod Others
+pub mod Coming

@@ -13,7 +13,7 @@ pub record IsNew (s : Blocks) (u i : ℕ) (t : Blocks) : Type 0 where
   pub within : i < length s.places
   pub place : Place
   pub at : get_or t.places i None ≡ Some place
-  pub size : i < length s.contents → length (get_or t.contents i []) ≡ u * 1024
+  pub bytes : i < length s.contents → get_or t.contents i [] ≡ zeros u
   pub others : (j : ℕ) → j ≢ i → get_or t.places j None ≡ get_or s.places j None
   pub kept : (j : ℕ) → j ≢ i → get_or t.contents j [] ≡ get_or s.contents j []
   pub places : length t.places ≡ length s.places
@@ -25,7 +25,7 @@ new_block s u i b v = record {
   within = v.0;
   place = b;
   at = get_or-set_same s.places i (Some b) None v.0;
-  size = λ h. ap length (get_or-set_same s.contents i (zeros u) [] h) ∙ length-replicate (u * 1024) 0;
+  bytes = λ h. get_or-set_same s.contents i (zeros u) [] h;
   others = λ j ne. get_or-set_other s.places i j (Some b) None ne;
   kept = λ j ne. get_or-set_other s.contents i j (zeros u) [] ne;
   places = length-set s.places i (Some b);
@@ -42,3 +42,6 @@ placed_new s u (Some k) (Some p) i t e h =
 
 pub taken_new : (s : Blocks) (u i : ℕ) (t : Blocks) → taken s u ≡ Some (i, t) → IsNew s u i t
 taken_new s u i t h = placed_new s u (first_empty s.places) (lowest s.places s.units u) i t refl h
+
+pub new_size : (s : Blocks) (u i : ℕ) (t : Blocks) → IsNew s u i t → i < length s.contents → length (get_or t.contents i []) ≡ u * 1024
+new_size s u i t n h = ap length (n.bytes h) ∙ length-replicate (u * 1024) 0

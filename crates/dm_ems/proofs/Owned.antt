@@ -1,6 +1,6 @@
 -- What windows show, while pages come and go.
 use Rattle.std.proofs.Common.{◌≡◌, ◌≢◌, ℕ, zero, suc, ◌+◌, ◌-◌, ◌<◌, Bool, true, false, ◌==◌, cond, List, [], ◌∷◌, ◌++◌, Option, Some, None, map, length, get_or, set, remove, position, refl, sym, ◌∙◌, ap, subst, arith, inl, inr, length-append}
-use Rattle.std.specs.Prelude.{IfSome, filter, slice_get}
+use Rattle.std.specs.Prelude.{IfSome, IsSome, filter, slice_get}
 use Rattle.std.proofs.lemmas.List.Quantifiers.{position-Some}
 use Rattle.std.proofs.lemmas.List.Edits.{length-remove, get_or-remove_below, get_or-remove_above}
 use Rattle.std.proofs.lemmas.Bool.{cases_lt}
@@ -9,7 +9,7 @@ use Rattle.dm_space.specs.Unseen.{shows}
 use Rattle.dm_ems.specs.declared.tables.Handle.{Handle}
 use Rattle.dm_ems.specs.declared.tables.Page.{Page}
 use Rattle.dm_ems.specs.Tables.{hidden, hidden_saved, hiding, is_block, is_of}
-use Rattle.dm_ems.specs.Linked.{block_at, IsOwned, ShowsPages, SavesPages}
+use Rattle.dm_ems.specs.Linked.{block_at, handle_at, IsUsed, IsOwned, ShowsPages, SavesPages}
 
 -- ---- pages of one list are pages of another
 
@@ -69,7 +69,35 @@ slot_each ps (x ∷ ss) zero s h p (suc k) = h (suc k)
 slot_each ps (x ∷ ss) (suc i) s h p zero = h 0
 slot_each ps (x ∷ ss) (suc i) s h p (suc k) = slot_each ps ss i s (λ j. h (suc j)) p k
 
+-- ---- handles in use
+
+-- another entry, or none where no page has the handle
+pub used_set : (hs : List (Option Handle)) (i : ℕ) (s : Option Handle) (h : ℕ) → IsUsed hs h → (h ≡ i → IsSome s) → IsUsed (set hs i s) h
+used_set [] i s h u q = u
+used_set (x ∷ hs) zero s zero u q = q refl
+used_set (x ∷ hs) zero s (suc h) u q = u
+used_set (x ∷ hs) (suc i) s zero u q = u
+used_set (x ∷ hs) (suc i) s (suc h) u q = used_set hs i s h u (λ e. q (ap suc e))
+
+hiding_used : (block : ℕ) (s : Option Handle) → IsSome s → IsSome (hiding block s)
+hiding_used block None u = u
+hiding_used block (Some handle) u = refl
+
+pub used_hiding : (block : ℕ) (hs : List (Option Handle)) (h : ℕ) → IsUsed hs h → IsUsed (map (hiding block) hs) h
+used_hiding block [] h u = u
+used_hiding block (s ∷ hs) zero u = hiding_used block s u
+used_hiding block (s ∷ hs) (suc h) u = used_hiding block hs h u
+
 -- ---- a page comes
+
+pub handle_pushed : (ps : List Page) (p : Page) (k : ℕ) → k < length ps → handle_at (ps ++ p ∷ []) k ≡ handle_at ps k
+handle_pushed [] p k h = absurd (omega arith)
+handle_pushed (q ∷ ps) p zero h = refl
+handle_pushed (q ∷ ps) p (suc k) h = handle_pushed ps p k (omega arith)
+
+pub handle_last : (ps : List Page) (p : Page) → handle_at (ps ++ p ∷ []) (length ps) ≡ p.handle
+handle_last [] p = refl
+handle_last (q ∷ ps) p = handle_last ps p
 
 pub block_pushed : (ps : List Page) (p : Page) (k : ℕ) → k < length ps → block_at (ps ++ p ∷ []) k ≡ block_at ps k
 block_pushed [] p k h = absurd (omega arith)
@@ -97,14 +125,14 @@ placed ps block i e =
 
 -- where another page stands once it is gone
 abbrev pub IsElsewhere : List Page → ℕ → ℕ → Type 0
-IsElsewhere ps i k = (j : ℕ) × (j < length ps) × (j ≢ i) × (block_at (remove ps i) k ≡ block_at ps j)
+IsElsewhere ps i k = (j : ℕ) × (j < length ps) × (j ≢ i) × (block_at (remove ps i) k ≡ block_at ps j) × (handle_at (remove ps i) k ≡ handle_at ps j)
 
 pub elsewhere : (ps : List Page) (i k : ℕ) → i < length ps → k < length (remove ps i) → IsElsewhere ps i k
 elsewhere ps i k within h =
     let n = length-remove ps i within in
     elim (cases_lt k i) [
-      | inl below ↦ (k, omega arith, (λ s. omega (arith, s)), ap (λ (p : Page). p.block) (get_or-remove_below ps i (record { handle = 0; block = 0 }) k below within))
-      | inr above ↦ (k + 1, omega (arith, n), (λ s. omega (arith, s)), ap (λ (p : Page). p.block) (get_or-remove_above ps i (record { handle = 0; block = 0 }) k above within))
+      | inl below ↦ let same = get_or-remove_below ps i (record { handle = 0; block = 0 }) k below within in (k, omega arith, (λ s. omega (arith, s)), ap (λ (p : Page). p.block) same, ap (λ (p : Page). p.handle) same)
+      | inr above ↦ let same = get_or-remove_above ps i (record { handle = 0; block = 0 }) k above within in (k + 1, omega (arith, n), (λ s. omega (arith, s)), ap (λ (p : Page). p.block) same, ap (λ (p : Page). p.handle) same)
     ]
 
 pub owned_removed : (ps : List Page) (block i : ℕ) → IsPlaced ps block i → (b : ℕ) → b ≢ block → IsOwned ps b → IsOwned (remove ps i) b

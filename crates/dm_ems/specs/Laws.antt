@@ -1,11 +1,12 @@
--- That tables and memory stay together: at the start, through each call, and while a program writes. And that calls leave the blocks that
--- are no pages.
-use Rattle.std.specs.Prelude.{ℕ, List}
+-- That tables and memory stay together: at the start, through each call, and while a program writes. That calls leave the blocks that
+-- are no pages. And that pages which are promised come.
+use Rattle.std.specs.Prelude.{ℕ, ◌≤◌, ◌≡◌, List, Ok}
 use Rattle.dm_pool.specs.Blocks.{no_blocks}
 use Rattle.dm_space.specs.Memory.{Memory, of_ram}
 use Rattle.dm_space.specs.Places.{IsShaped}
 use Rattle.dm_ems.specs.Tables.{Expanded, expanded, new_tables, appended_page, cut}
-use Rattle.dm_ems.specs.Linked.{IsLinked}
+use Rattle.dm_ems.specs.Linked.{IsUsed, IsLinked, HasNumbers}
+use Rattle.dm_ems.specs.Coming.{HasPages}
 use Rattle.dm_ems.specs.Outside.{LeavesOutside}
 use Rattle.dm_ems.specs.Calls.{left, with_memory}
 use Rattle.dm_ems.specs.Handles.{allocate, deallocate}
@@ -14,7 +15,7 @@ use Rattle.dm_ems.specs.Names.{set_name}
 
 -- with a pool of no block, and no window
 abbrev pub StartIsLinked : Type 0
-StartIsLinked = (total units : ℕ) (low : List ℕ) → IsLinked (expanded (new_tables total) (of_ram low (no_blocks units)))
+StartIsLinked = (total units : ℕ) (low : List ℕ) → total ≤ 512 → IsLinked (expanded (new_tables total) (of_ram low (no_blocks units)))
 
 pub record CallsKeepTheLink : Type 0 where
   pub allocating : (x : Expanded) (n : ℕ) → IsLinked x → IsLinked (left x (allocate x n))
@@ -23,7 +24,7 @@ pub record CallsKeepTheLink : Type 0 where
   pub saving : (x : Expanded) (handle : ℕ) → IsLinked x → IsLinked (left x (save_map x handle))
   pub restoring : (x : Expanded) (handle : ℕ) → IsLinked x → IsLinked (left x (restore_map x handle))
   pub naming : (x : Expanded) (handle segment offset : ℕ) → IsLinked x → IsLinked (left x (set_name x handle segment offset))
-  pub appending : (x : Expanded) (handle : ℕ) → IsLinked x → IsLinked (appended_page x handle)
+  pub appending : (x : Expanded) (handle : ℕ) → IsUsed x.ems.handles handle → IsLinked x → IsLinked (appended_page x handle)
   pub cutting : (x : Expanded) (handle count : ℕ) → IsLinked x → IsLinked (cut x handle count)
 
 -- a memory of the same map, as a write leaves it
@@ -40,3 +41,7 @@ pub record CallsLeaveOutside : Type 0 where
   pub appending : (x : Expanded) (handle : ℕ) → LeavesOutside x (appended_page x handle)
   pub cutting : (x : Expanded) (handle count : ℕ) → LeavesOutside x (cut x handle count)
   pub writing : (x : Expanded) (m : Memory) → IsShaped x.memory m → LeavesOutside x (with_memory x m)
+
+-- a new handle has as many pages as were asked for
+abbrev pub PagesCome : Type 0
+PagesCome = (x y : Expanded) (n handle : ℕ) → IsLinked x → HasNumbers x → allocate x n ≡ Ok (handle, y) → HasPages x y handle n

@@ -2,6 +2,7 @@ pub mod Status
 pub mod Tables
 pub mod Linked
 pub mod Outside
+pub mod Coming
 pub mod Calls
 pub mod Handles
 pub mod Maps

@@ -1,6 +1,7 @@
--- That the tables of expanded memory and the memory go together: each page is a block of its own, and windows, saved ones too,
--- show pages alone.
-use Rattle.std.specs.Prelude.{ℕ, ◌<◌, ◌≡◌, ◌≢◌, List, length, slice_index_or, AllPairs, Option, Some, None, IfSome}
+-- That the tables of expanded memory and the memory go together: each page is a block of its own and has a handle in use, and windows,
+-- saved ones too, show pages alone.
+use Rattle.std.specs.Prelude.{ℕ, ◌+◌, ◌<◌, ◌≤◌, ◌≡◌, ◌≢◌, List, length, slice_index_or, AllPairs, count_by, is_some, Option, Some, None, IfSome, IsSome}
+use Rattle.dm_pool.specs.FreeList.{AreBased}
 use Rattle.dm_space.specs.Memory.{IsPage}
 use Rattle.dm_ems.specs.declared.tables.Handle.{Handle}
 use Rattle.dm_ems.specs.declared.tables.Page.{Page}
@@ -8,6 +9,12 @@ use Rattle.dm_ems.specs.Tables.{Expanded}
 
 abbrev pub block_at : List Page → ℕ → ℕ
 block_at pages k = (slice_index_or pages k (record { handle = 0; block = 0 })).block
+
+abbrev pub handle_at : List Page → ℕ → ℕ
+handle_at pages k = (slice_index_or pages k (record { handle = 0; block = 0 })).handle
+
+abbrev pub IsUsed : List (Option Handle) → ℕ → Type 0
+IsUsed handles handle = IsSome (slice_index_or handles handle None)
 
 -- the block is that of a page
 abbrev pub IsOwned : List Page → ℕ → Type 0
@@ -27,7 +34,14 @@ SavesPages pages (Some handle) = IfSome handle.saved (ShowsPages pages)
 pub record IsLinked (x : Expanded) : Type 0 where
   pub places : length x.memory.blocks.places ≡ 576
   pub contents : length x.memory.blocks.contents ≡ 576
+  pub based : AreBased x.memory.blocks.places
+  pub total : x.ems.total ≤ 512
+  pub used : (k : ℕ) → k < length x.ems.pages → IsUsed x.ems.handles (handle_at x.ems.pages k)
   pub owned : (k : ℕ) → k < length x.ems.pages → IsPage x.memory (block_at x.ems.pages k)
   pub apart : AllPairs HasOtherBlock x.ems.pages
   pub shown : ShowsPages x.ems.pages x.memory.windows
   pub saved : (handle : ℕ) → SavesPages x.ems.pages (slice_index_or x.ems.handles handle None)
+
+-- at most 64 of the 576 blocks that can be are no pages, so there is a number for each page that may come
+abbrev pub HasNumbers : Expanded → Type 0
+HasNumbers x = count_by is_some x.memory.blocks.places ≤ length x.ems.pages + 64

@@ -1,10 +1,10 @@
 -- Each call keeps the tables and the memory together.
-use Rattle.std.proofs.Common.{◌≡◌, ℕ, ◌-◌, Bool, true, false, cond, Some, None, refl}
-use Rattle.std.specs.Prelude.{Result, Ok, Err, ◌==◌, nat_lt}
+use Rattle.std.proofs.Common.{◌≡◌, ℕ, ◌-◌, Bool, true, false, cond, Some, None, refl, ap}
+use Rattle.std.specs.Prelude.{Result, Ok, Err, ◌==◌, nat_lt, is_some}
 use Rattle.dm_ems.specs.declared.status.Status.{Status}
 use Rattle.dm_ems.specs.declared.status.Status.TheVariants.{OverTotal, OverFree, UnknownHandle, NoSubfunction, BadMap, KindsOverlap, TooLong, ExchangeOverlaps}
 use Rattle.dm_ems.specs.Tables.{Expanded, page_count, unallocated, blocks_of, cut, appended}
-use Rattle.dm_ems.specs.Linked.{IsLinked}
+use Rattle.dm_ems.specs.Linked.{IsUsed, IsLinked}
 use Rattle.dm_ems.specs.Calls.{slot, with_memory}
 use Rattle.dm_space.specs.Memory.{Memory}
 use Rattle.dm_space.specs.Places.{IsShaped}
@@ -32,9 +32,9 @@ if_linked : (b : Bool) (y z : Expanded) → IsLinked y → IsLinked z → IsLink
 if_linked true y z p q = p
 if_linked false y z p q = q
 
-count_linked : (x : Expanded) (h n : ℕ) → IsLinked x → IsLinked (with_count x h n)
-count_linked x h n l =
-    if_linked (nat_lt n (page_count x.ems h)) (cut x h n) (appended x h (n - page_count x.ems h)) (linked_cut x h n l) (linked_appended x h (n - page_count x.ems h) l)
+count_linked : (x : Expanded) (h n : ℕ) → IsUsed x.ems.handles h → IsLinked x → IsLinked (with_count x h n)
+count_linked x h n u l =
+    if_linked (nat_lt n (page_count x.ems h)) (cut x h n) (appended x h (n - page_count x.ems h)) (linked_cut x h n l) (linked_appended x h (n - page_count x.ems h) u l)
 
 reallocate_keeps : (x : Expanded) (h n : ℕ) → IsLinked x → Keeps x (reallocate x h n)
 unfolding reallocate
@@ -42,7 +42,7 @@ reallocate_keeps x h n l =
     need_keeps x (slot x h) UnknownHandle _ l (λ s e.
     if_keeps x (nat_lt x.ems.total n) (Ok (reallocated (page_count x.ems h) (Some OverTotal), x)) _ (record { kept = l })
     (if_keeps x (nat_lt (unallocated x) (n - page_count x.ems h)) (Ok (reallocated (page_count x.ems h) (Some OverFree), x)) (Ok (reallocated n None, with_count x h n)) (record { kept = l })
-    (record { kept = count_linked x h n l })))
+    (record { kept = count_linked x h n (ap is_some e) l })))
 
 -- ---- windows
 

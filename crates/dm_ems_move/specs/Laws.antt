@@ -1,9 +1,11 @@
--- That tables and memory stay together through each call, and what is outside stays.
-use Rattle.std.specs.Prelude.{ℕ}
+-- That tables and memory stay together through each call, that what is outside stays, and that pages which are promised come.
+use Rattle.std.specs.Prelude.{ℕ, ◌≡◌, None, Ok}
 use Rattle.dm_ems.specs.Tables.{Expanded}
-use Rattle.dm_ems.specs.Linked.{IsLinked}
+use Rattle.dm_ems.specs.Linked.{IsLinked, HasNumbers}
+use Rattle.dm_ems.specs.Coming.{HasPages}
 use Rattle.dm_ems.specs.Outside.{LeavesOutside}
 use Rattle.dm_ems.specs.Calls.{left}
+use Rattle.dm_ems_move.specs.declared.reallocation.Reallocated.{Reallocated}
 use Rattle.dm_ems_move.specs.Reallocation.{reallocate}
 use Rattle.dm_ems_move.specs.Many.{map_many}
 use Rattle.dm_ems_move.specs.Maps.{whole_map}
@@ -22,3 +24,7 @@ pub record MovesLeaveOutside : Type 0 where
   pub setting : (x : Expanded) (mode to_segment to_offset from_segment from_offset : ℕ) → LeavesOutside x (left x (whole_map x mode to_segment to_offset from_segment from_offset))
   pub moving : (x : Expanded) (segment offset : ℕ) → LeavesOutside x (left x (move_region x segment offset))
   pub exchanging : (x : Expanded) (segment offset : ℕ) → LeavesOutside x (left x (exchange_region x segment offset))
+
+-- a handle has as many pages as were asked for, if that was not refused
+abbrev pub PagesCome : Type 0
+PagesCome = (x y : Expanded) (handle n : ℕ) (r : Reallocated) → IsLinked x → HasNumbers x → reallocate x handle n ≡ Ok (r, y) → r.refused ≡ None → HasPages x y handle n

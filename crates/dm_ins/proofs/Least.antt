@@ -2,8 +2,7 @@
 use Rattle.std.proofs.Common.{◌≡◌, ℕ, ◌<◌, Bool, true, false, List, [], ◌∷◌, ◌++◌, get_or, Option, Some, None, refl, sym, ap, subst, ◌∙◌, arith, inl, inr, ◌&&◌}
 use Rattle.std.specs.Prelude.{cond, if◌then◌else◌}
 use Rattle.std.specs.List.{list_all}
-use Rattle.std.proofs.lemmas.List.{length-append, get_or_past}
-use Rattle.std.proofs.lemmas.Bool.{cases_lt}
+use Rattle.std.proofs.lemmas.List.{length-append}
 use Rattle.dm_ins.specs.declared.fields.Fields.{Fields}
 use Rattle.dm_ins.specs.declared.action.Action.{Action}
 use Rattle.dm_ins.specs.declared.fill.Choice.{Choice}
@@ -64,7 +63,6 @@ none_of false false x e = refl
 
 record Chosen (e : Entry) (b : ℕ) (m : Fields) (r : Row) (behind : List ℕ) : Type 0 where
   g : ℕ
-  fits : g < 8
   choice : Choice
   is_choice : choice_at e b g ≡ Some choice
   is_row : choice.row ≡ r
@@ -76,7 +74,6 @@ plain_chosen true p b m behind t h =
     let u = both_true _ _ t in
     record {
       g = 0;
-      fits = omega arith;
       choice = record { opcode = b; row = p; register = None; second = None };
       is_choice = refl;
       is_row = refl;
@@ -87,7 +84,6 @@ plain_chosen false p b m behind t h =
     let u = both_true _ _ t in
     record {
       g = 0;
-      fits = omega arith;
       choice = record { opcode = b; row = p; register = None; second = None };
       is_choice = refl;
       is_row = refl;
@@ -102,7 +98,6 @@ chosen (Group g) b m r behind t h =
     let v = both_true _ _ (ap regular_member (sym h.0) ∙ group_regular g m.register) in
     record {
       g = m.register;
-      fits = h.1.register_fits;
       choice = record { opcode = b; row = r; register = Some m.register; second = None };
       is_choice = rw h.0 refl;
       is_row = refl;
@@ -114,7 +109,6 @@ chosen (Second c p) b m r behind t h =
     subst (λ q. Chosen (Second c p) b m q behind) (sym h.0)
     (record {
       g = 0;
-      fits = omega arith;
       choice = record { opcode = b; row = p; register = None; second = Some c };
       is_choice = refl;
       is_row = refl;
@@ -131,8 +125,6 @@ at_most_within b x y t (inr lt) = inr (omega (arith, length-append x t, length-a
 pub record ActionLeast (a : Action) (bytes : List ℕ) : Type 0 where
   pub b : ℕ
   pub g : ℕ
-  pub b_fits : b < 256
-  pub g_fits : g < 8
   pub choice : Choice
   pub is_choice : choice_at (entry_of b) b g ≡ Some choice
   pub mnemonic : choice.row.mnemonic ≡ a.mnemonic
@@ -150,10 +142,6 @@ row_fits (Plain p) m d r h = by (has_fields p) h.1
 row_fits (Group g) m d r h = (h.1.register_fits, h.1.rm_fits)
 row_fits (Second c p) m d r h = (rw h.1 (omega arith), rw h.1 (omega arith))
 
-listed_below : (b : ℕ) (m : Fields) (d : List ℕ) (r : Row) → HasRow (entry_of b) m d r → b < 256
-unfolding entry_of
-listed_below b m d r h = elim (cases_lt b 256) [ inl lt ↦ lt | inr le ↦ absurd (let e : entry_of b ≡ Unlisted = get_or_past entries b Unlisted le in subst (λ t. HasRow t m d r) e h) ]
-
 pub action_least : (a : Action) (bytes : List ℕ) → SpellsAction a bytes → ActionLeast a bytes
 unfolding bytes_of
 action_least a bytes h =
@@ -166,8 +154,6 @@ action_least a bytes h =
     record {
       b = h.first_byte;
       g = ch.g;
-      b_fits = listed_below h.first_byte h.fields h.behind h.row h.has_row;
-      g_fits = ch.fits;
       choice = ch.choice;
       is_choice = ch.is_choice;
       mnemonic = ap (λ (r : Row). r.mnemonic) ch.is_row ∙ sym h.mnemonic;

@@ -6,5 +6,6 @@ mod Order
 mod KeptPrefixes
 mod Sound
 mod Rows
+mod NoneLeftOut
 pub mod Shortest
 pub mod Preferred

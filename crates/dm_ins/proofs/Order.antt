@@ -1,19 +1,18 @@
 -- Spellings in order, and the least of several.
-use Rattle.std.proofs.Common.{◌*◌, ◌≡◌, ℕ, ◌+◌, ◌<◌, ◌≤◌, Bool, true, false, List, [], ◌∷◌, ◌++◌, length, Option, Some, None, refl, sym, ap, subst, ◌∙◌, arith, inl, inr, nat_eq, nat_lt}
+use Rattle.std.proofs.Common.{◌≡◌, ℕ, ◌+◌, ◌<◌, ◌≤◌, Bool, true, false, List, [], ◌∷◌, ◌++◌, length, Option, Some, None, refl, sym, ap, subst, ◌∙◌, arith, inl, inr, nat_lt}
 use Rattle.std.specs.Prelude.{◌⊎◌, cond, IfSome, IfNone}
 use Rattle.std.specs.Ordering.{is_lt, nat_cmp, ordering_reverse, ordering_then}
 use Rattle.std.specs.declared.cmp.Ordering.{Ordering}
 use Rattle.std.specs.declared.cmp.Ordering.TheVariants.{Less, Equal, Greater}
 use Rattle.std.specs.Cmp.Lexicographic.{slice_cmp, nat_list_cmp_total}
 use Rattle.std.proofs.lemmas.List.{length-append}
-use Rattle.std.proofs.lemmas.Bool.{cases_lt, eqb-true, ltb-true, ltb-false, lt-ltb, le-ltb}
+use Rattle.std.proofs.lemmas.Bool.{cases_lt, ltb-true, ltb-false, lt-ltb, le-ltb}
 use Rattle.dm_ins.specs.declared.action.Action.{Action}
 use Rattle.dm_ins.specs.declared.fill.Choice.{Choice}
-use Rattle.dm_ins.specs.declared.table.Entry.{Entry}
-use Rattle.dm_ins.specs.declared.table.Entry.TheVariants.{Unlisted, Plain, Group, Second}
-use Rattle.dm_ins.specs.Table.{entry_of}
+use Rattle.dm_ins.specs.declared.keys.Key.{Key}
+use Rattle.dm_ins.specs.Keys.{key_at}
 use Rattle.dm_ins.specs.Order.{before}
-use Rattle.dm_ins.specs.Search.{better_of, Best, CandidateAt, HasNoMnemonic, bytes_of, choice_at, has_group}
+use Rattle.dm_ins.specs.Search.{better_of, Best, CandidateAt, Under, bytes_of}
 
 abbrev Before : List ℕ → List ℕ → Type 0
 Before a b = (length a < length b) ⊎ ((length a ≡ length b) × (slice_cmp nat_cmp a b ≡ Less))
@@ -73,91 +72,56 @@ one_candidate b g a c d p q =
     let e = choice_one p.choice q.choice (sym p.is_choice ∙ q.is_choice) in
     list_one c d (sym p.is_bytes ∙ ap (λ (x : Choice). bytes_of x a.first a.second) e ∙ q.is_bytes)
 
-pub best_none : (a : Action) → Best 0 a None
-best_none a = record { found = tt; least = λ b g c fits lt h. absurd (omega arith) }
+pub best_none : (ks : List Key) (a : Action) → Best 0 ks a None
+best_none ks a = record { found = tt; least = λ k c lt h. absurd (omega arith) }
 
--- a row is the one of b and g or stands before it
-last_or_before : (i k b g : ℕ) → k < 8 → g < 8 → 8 * i + k < 8 * b + g + 1 → (8 * i + k < 8 * b + g) ⊎ ((i ≡ b) × (k ≡ g))
-last_or_before i k b g fits fits' lt = elim (cases_lt (8 * i + k) (8 * b + g)) [ inl below ↦ inl below | inr le ↦ inr (omega arith, omega arith) ]
+last_or_before : (i n : ℕ) → i < n + 1 → (i < n) ⊎ (i ≡ n)
+last_or_before i n lt = elim (cases_lt i n) [ inl below ↦ inl below | inr le ↦ inr (omega arith) ]
 
-module _ (a : Action) (b g : ℕ) (fits : g < 8) where
-  here : (i k : ℕ) (c : List ℕ) → (i ≡ b) × (k ≡ g) → CandidateAt i k a c → CandidateAt b g a c
-  here i k c e h = subst (λ x. CandidateAt x g a c) e.0 (subst (λ x. CandidateAt i x a c) e.1 h)
+module _ (ks : List Key) (a : Action) (n : ℕ) where
+  here : (i : ℕ) (c : List ℕ) → i ≡ n → Under ks i a c → Under ks n a c
+  here i c e h = subst (λ (j : ℕ). Under ks j a c) e h
 
-  kept_best : (s : Bool) (old new : List ℕ) → before new old ≡ s → Best (8 * b + g) a (Some old) → CandidateAt b g a new → Best (8 * b + g + 1) a (cond s (Some new) (Some old))
+  same : (c d : List ℕ) → Under ks n a c → Under ks n a d → c ≡ d
+  same c d p q = one_candidate (key_at ks n).opcode (key_at ks n).register a c d p q
+
+  kept_best : (s : Bool) (old new : List ℕ) → before new old ≡ s → Best n ks a (Some old) → Under ks n a new → Best (n + 1) ks a (cond s (Some new) (Some old))
   kept_best true old new e best h = record {
-    found = (b, g, fits, h);
-    least = λ i k c f lt x. elim (last_or_before i k b g f fits lt) [
-      | inl below ↦ not_before c old new (best.least i k c f below x) e
-      | inr same ↦ (let d = one_candidate b g a c new (here i k c same x) h in rw d (not_before_itself new))
+    found = ((key_at ks n).opcode, (key_at ks n).register, h);
+    least = λ i c lt x. elim (last_or_before i n lt) [
+      | inl below ↦ not_before c old new (best.least i c below x) e
+      | inr is ↦ (let d = same c new (here i c is x) h in rw d (not_before_itself new))
     ];
   }
   kept_best false old new e best h = record {
     found = best.found;
-    least = λ i k c f lt x. elim (last_or_before i k b g f fits lt) [
-      | inl below ↦ best.least i k c f below x
-      | inr same ↦ (let d = one_candidate b g a c new (here i k c same x) h in rw d e)
+    least = λ i c lt x. elim (last_or_before i n lt) [
+      | inl below ↦ best.least i c below x
+      | inr is ↦ (let d = same c new (here i c is x) h in rw d e)
     ];
   }
 
   -- with one row more
-  pub best_more : (o new : Option (List ℕ)) → Best (8 * b + g) a o → IfSome new (λ v. CandidateAt b g a v) → IfNone new ((c : List ℕ) → CandidateAt b g a c → ⊥) → Best (8 * b + g + 1) a (better_of o new)
+  pub best_more : (o new : Option (List ℕ)) → Best n ks a o → IfSome new (λ v. Under ks n a v) → IfNone new ((c : List ℕ) → Under ks n a c → ⊥) → Best (n + 1) ks a (better_of o new)
   best_more None None best some none = record {
     found = tt;
-    least = λ i k c f lt x. elim (last_or_before i k b g f fits lt) [ inl below ↦ best.least i k c f below x | inr same ↦ absurd (none c (here i k c same x)) ];
+    least = λ i c lt x. elim (last_or_before i n lt) [ inl below ↦ best.least i c below x | inr is ↦ absurd (none c (here i c is x)) ];
   }
   best_more None (Some new) best some none = record {
-    found = (b, g, fits, some);
-    least = λ i k c f lt x. elim (last_or_before i k b g f fits lt) [
-      | inl below ↦ absurd (best.least i k c f below x)
-      | inr same ↦ (let d = one_candidate b g a c new (here i k c same x) some in rw d (not_before_itself new))
+    found = ((key_at ks n).opcode, (key_at ks n).register, some);
+    least = λ i c lt x. elim (last_or_before i n lt) [
+      | inl below ↦ absurd (best.least i c below x)
+      | inr is ↦ (let d = same c new (here i c is x) some in rw d (not_before_itself new))
     ];
   }
   best_more (Some old) None best some none = record {
     found = best.found;
-    least = λ i k c f lt x. elim (last_or_before i k b g f fits lt) [ inl below ↦ best.least i k c f below x | inr same ↦ absurd (none c (here i k c same x)) ];
+    least = λ i c lt x. elim (last_or_before i n lt) [ inl below ↦ best.least i c below x | inr is ↦ absurd (none c (here i c is x)) ];
   }
   best_more (Some old) (Some new) best some none = kept_best (before new old) old new refl best some
 
--- a row of another mnemonic has no bytes
-pub best_without : (a : Action) (b g : ℕ) → g < 8 → (o : Option (List ℕ)) → Best (8 * b + g) a o → HasNoMnemonic b g a.mnemonic → Best (8 * b + g + 1) a o
-best_without a b g lt o best none = subst (Best (8 * b + g + 1) a) (same o) (best_more a b g lt o None best tt (λ c x. none x.choice x.is_choice x.mnemonic))
-  where
-    same : (o : Option (List ℕ)) → better_of o None ≡ o
-    same None = refl
-    same (Some v) = refl
-
-pub best_at : (m n : ℕ) (a : Action) (o : Option (List ℕ)) → m ≡ n → Best m a o → Best n a o
-best_at m n a o e best = subst (λ k. Best k a o) e best
-
--- ---- a first byte with no group
-
-not_zero : (k : ℕ) → 0 < k → nat_eq k 0 ≡ false
-not_zero k lt = by (nat_eq k 0) refl
-  where
-    by : (z : Bool) → nat_eq k 0 ≡ z → nat_eq k 0 ≡ false
-    by true e = absurd (omega (arith, eqb-true k 0 e))
-    by false e = e
-
-no_choice : {A : Type 0} (x y : A) (z : Bool) → z ≡ false → cond z (Some x) None ≡ Some y → ⊥
-no_choice x y true e h = absurd cc
-no_choice x y false e h = absurd cc
-
-no_other : (e : Entry) (b k : ℕ) (x : Choice) → has_group e ≡ false → 0 < k → choice_at e b k ≡ Some x → ⊥
-no_other Unlisted b k x n lt e = absurd cc
-no_other (Plain p) b k x n lt e = no_choice _ x (nat_eq k 0) (not_zero k lt) e
-no_other (Group g) b k x n lt e = absurd cc
-no_other (Second c p) b k x n lt e = no_choice _ x (nat_eq k 0) (not_zero k lt) e
-
--- the row under the reg field 0 is the only one
-pub best_alone : (a : Action) (b : ℕ) → has_group (entry_of b) ≡ false → (o : Option (List ℕ)) → Best (8 * b + 0 + 1) a o → Best (8 * b + 8) a o
-best_alone a b n o best = record {
-  found = best.found;
-  least = λ i k c f lt x. elim (cases_lt (8 * i + k) (8 * b + 1)) [
-    | inl below ↦ best.least i k c f (omega arith) x
-    | inr le ↦ (let e : i ≡ b = omega arith in let more : 0 < k = omega arith in absurd (no_other (entry_of b) b k x.choice n more (rw e at x.is_choice)))
-  ];
-}
+pub best_at : (m n : ℕ) (ks : List Key) (a : Action) (o : Option (List ℕ)) → m ≡ n → Best m ks a o → Best n ks a o
+best_at m n ks a o e best = subst (λ (k : ℕ). Best k ks a o) e best
 
 -- ---- lists one behind the other
 

@@ -1,5 +1,5 @@
 -- Each instruction of the table has preferred bytes, and no others; they are sixteen at most.
-use Rattle.std.proofs.Common.{◌≡◌, ℕ, zero, suc, ◌+◌, ◌*◌, ◌<◌, ◌≤◌, Bool, true, false, List, length, Option, Some, None, IfSome, IfNone, refl, sym, ap, subst, ◌∙◌, arith, inl, inr, nat_lt, length-append}
+use Rattle.std.proofs.Common.{◌≡◌, ℕ, zero, suc, ◌+◌, ◌≤◌, Bool, true, false, List, length, Option, Some, None, IfSome, IfNone, refl, sym, ap, subst, ◌∙◌, arith, inl, inr, nat_lt, length-append}
 use Rattle.std.specs.Prelude.{cond}
 use Rattle.std.specs.Ordering.{is_lt, is_eq, nat_cmp, ordering_reverse}
 use Rattle.std.specs.declared.cmp.Ordering.{Ordering}
@@ -19,6 +19,7 @@ use Rattle.dm_ins.specs.declared.operand.Address.{Address}
 use Rattle.dm_ins.specs.declared.operand.Operand.{Operand}
 use Rattle.dm_ins.specs.declared.table.Entry.{Entry}
 use Rattle.dm_ins.specs.declared.table.Entry.TheVariants.{Unlisted, Plain, Group, Second}
+use Rattle.dm_ins.specs.declared.keys.Key.{Key}
 use Rattle.dm_ins.specs.declared.table.Kind.{Kind}
 use Rattle.dm_ins.specs.declared.table.Kind.TheVariants as is
 use Rattle.dm_ins.specs.declared.table.Row.{Row}
@@ -27,7 +28,8 @@ use Rattle.dm_ins.specs.Spelling.{SpellsMemory, SpellsFields, Fills, has_fields,
 use Rattle.dm_ins.specs.Ins.{Spells}
 use Rattle.dm_ins.specs.Order.{before}
 use Rattle.dm_ins.specs.Preferred.{IsPreferred}
-use Rattle.dm_ins.specs.Search.{OperandFits, Best, CandidateAt, better_of, bytes_of, choice_at}
+use Rattle.dm_ins.specs.Keys.{keyed, key_at}
+use Rattle.dm_ins.specs.Search.{OperandFits, Best, IsLeast, CandidateAt, better_of, bytes_of, choice_at}
 use Rattle.dm_ins.proofs.Order.{best_none, best_more, best_at}
 use Rattle.dm_ins.proofs.Shortest.{action_fits, encode_least, encode_spells, none_best}
 
@@ -108,25 +110,16 @@ module _ (b g : ℕ) (a : Action) (first : OperandFits a.first) (second : Operan
   tried : Tried b g a
   tried = of_row (choice_at (entry_of b) b g) refl
 
-record HasBest (n : ℕ) (a : Action) : Type 0 where
+record HasBest (n : ℕ) (ks : List Key) (a : Action) : Type 0 where
   bytes : Option (List ℕ)
-  best : Best n a bytes
+  best : Best n ks a bytes
 
-has_at : (m n : ℕ) (a : Action) → m ≡ n → HasBest m a → HasBest n a
-has_at m n a e x = record { bytes = x.bytes; best = best_at m n a x.bytes e x.best }
-
-module _ (a : Action) (first : OperandFits a.first) (second : OperandFits a.second) where
-  of_fields : (b k : ℕ) → k ≤ 8 → HasBest (8 * b) a → HasBest (8 * b + k) a
-  of_fields b zero le x = has_at (8 * b) (8 * b + zero) a (omega arith) x
-  of_fields b (suc k) le x =
-      let lt : k < 8 = omega (arith, le) in
-      let y = of_fields b k (omega (arith, le)) x in
-      let t = tried b k a first second in
-      has_at (8 * b + k + 1) (8 * b + suc k) a (omega arith) (record { bytes = better_of y.bytes t.bytes; best = best_more a b k lt y.bytes t.bytes y.best t.found t.none })
-
-  of_all : (b : ℕ) → HasBest (8 * b) a
-  of_all zero = has_at 0 (8 * zero) a (omega arith) (record { bytes = None; best = best_none a })
-  of_all (suc b) = has_at (8 * b + 8) (8 * suc b) a (omega arith) (of_fields b 8 (omega arith) (of_all b))
+has_best : (n : ℕ) (ks : List Key) (a : Action) → OperandFits a.first → OperandFits a.second → HasBest n ks a
+has_best zero ks a first second = record { bytes = None; best = best_none ks a }
+has_best (suc n) ks a first second =
+    let y = has_best n ks a first second in
+    let t = tried (key_at ks n).opcode (key_at ks n).register a first second in
+    record { bytes = better_of y.bytes t.bytes; best = best_at (n + 1) (suc n) ks a (better_of y.bytes t.bytes) (omega arith) (best_more ks a n y.bytes t.bytes y.best t.found t.none) }
 
 -- an instruction of these parts, and its preferred bytes
 pub record HasPreferred (p : Prefixes) (a : Action) : Type 0 where
@@ -137,9 +130,9 @@ pub record HasPreferred (p : Prefixes) (a : Action) : Type 0 where
   pub preferred : IsPreferred ins bytes
 
 pub has_preferred : (p : Prefixes) (a : Action) (bytes : List ℕ) → SpellsAction a bytes → HasPreferred p a
-has_preferred p a bytes s = let f = action_fits a bytes s in by (of_all a f.0 f.1 256)
+has_preferred p a bytes s = let f = action_fits a bytes s in by (has_best (length (keyed a.mnemonic)) (keyed a.mnemonic) a f.0 f.1)
   where
-    by_best : (o : Option (List ℕ)) → Best 2048 a o → HasPreferred p a
+    by_best : (o : Option (List ℕ)) → IsLeast a o → HasPreferred p a
     by_best None best = absurd (none_best a bytes best s)
     by_best (Some c) best = record {
       ins = record { prefixes = p; action = a; has_spelling = ∣ (bytes, s) ∣₁ };
@@ -149,7 +142,7 @@ has_preferred p a bytes s = let f = action_fits a bytes s in by (of_all a f.0 f.
       preferred = record { spells = encode_spells p a c best; least = λ other t. encode_least p a c other best t };
     }
 
-    by : HasBest (8 * 256) a → HasPreferred p a
+    by : HasBest (length (keyed a.mnemonic)) (keyed a.mnemonic) a → HasPreferred p a
     by x = by_best x.bytes x.best
 
 -- ---- it is short

@@ -1,6 +1,6 @@
 -- The kept prefixes and the least row's bytes are the least spelling.
 use Rattle.std.proofs.Common.{◌≡◌, ℕ, ◌^◌, ◌<◌, ◌≤◌, Bool, true, false, List, ◌++◌, length, Option, Some, None, refl, sym, subst, arith, inl, inr}
-use Rattle.std.specs.Prelude.{map, IfSome}
+use Rattle.std.specs.Prelude.{map, IfSome, IsSomeAnd}
 use Rattle.std.proofs.lemmas.Bool.{cases_lt, lt-ltb, le-ltb}
 use Rattle.dm_ins.specs.declared.operand.Width.{Width}
 use Rattle.dm_ins.specs.declared.operand.Width.TheVariants.{Byte, Word}
@@ -12,6 +12,7 @@ use Rattle.dm_ins.specs.declared.fields.Fields.{Fields}
 use Rattle.dm_ins.specs.declared.action.Action.{Action}
 use Rattle.std.proofs.Math.Logic.{∥∥₁_elim}
 use Rattle.dm_ins.specs.declared.operand.Operand.{Operand}
+use Rattle.dm_ins.specs.declared.keys.Key.{Key}
 use Rattle.dm_ins.specs.declared.table.Kind.{Kind}
 use Rattle.dm_ins.specs.declared.table.Kind.TheVariants as is
 use Rattle.dm_ins.specs.declared.table.Row.{Row}
@@ -20,12 +21,13 @@ use Rattle.dm_ins.specs.declared.table.Entry.TheVariants.{Unlisted, Plain, Group
 use Rattle.dm_ins.specs.Table.{entry_of}
 use Rattle.dm_ins.specs.Spelling.{extended, SpellsMemory, Fills, has_fields, MaySpellFields, HasRow, SpellsAction, prefix_byte, no_prefix, kept, SpellsPrefixed, register, at_place}
 use Rattle.dm_ins.specs.Order.{before}
-use Rattle.dm_ins.specs.Search.{OperandFits, Best, CandidateAt, prefix_list, segment_list, lock_list, repeat_list}
+use Rattle.dm_ins.specs.Search.{OperandFits, IsLeast, CandidateAt, prefix_list, segment_list, lock_list, repeat_list}
 use Rattle.dm_ins.proofs.Order.{not_longer, not_shorter, not_before_append}
 use Rattle.dm_ins.proofs.KeptPrefixes.{prefixes_least}
 use Rattle.dm_ins.proofs.Demands.{AtMost}
 use Rattle.dm_ins.proofs.Least.{action_least, row_fits}
 use Rattle.dm_ins.proofs.Rows.{action_sound}
+use Rattle.dm_ins.proofs.NoneLeftOut.{choice_fits, none_left_out}
 
 -- ---- what is spelled has numbers that fit
 
@@ -111,8 +113,6 @@ few_by (Some s) true (Some r) = omega arith
 record Candidate (a : Action) (d : List ℕ) : Type 0 where
   b : ℕ
   g : ℕ
-  b_fits : b < 256
-  g_fits : g < 8
   bytes : List ℕ
   is_candidate : CandidateAt b g a bytes
   least : AtMost bytes d
@@ -124,31 +124,35 @@ candidate_of a d s =
     record {
       b = l.b;
       g = l.g;
-      b_fits = l.b_fits;
-      g_fits = l.g_fits;
       bytes = l.c;
       least = l.least;
       is_candidate = record { choice = l.choice; is_choice = l.is_choice; mnemonic = l.mnemonic; is_bytes = l.is_bytes; first_fits = f.0; second_fits = f.1 };
     }
 
-candidate_not_before : (a : Action) (c d : List ℕ) → Best 2048 a (Some c) → SpellsAction a d → before d c ≡ false
+-- the least bytes are no more than those of any row
+covers : (a : Action) (o : Option (List ℕ)) (b g : ℕ) (c : List ℕ) → IsLeast a o → CandidateAt b g a c → IsSomeAnd o (λ v. before c v ≡ false)
+covers a o b g c best h =
+    let s = none_left_out a.mnemonic b g h.choice h.is_choice h.mnemonic in
+    best.least s.place c s.within (subst (λ (k : Key). CandidateAt k.opcode k.register a c) (sym s.is) h)
+
+candidate_not_before : (a : Action) (c d : List ℕ) → IsLeast a (Some c) → SpellsAction a d → before d c ≡ false
 candidate_not_before a c d best s =
     let k = candidate_of a d s in
-    by k.bytes (best.least k.b k.g k.bytes k.g_fits (omega (arith, k.b_fits, k.g_fits)) k.is_candidate) k.least
+    by k.bytes (covers a (Some c) k.b k.g k.bytes best k.is_candidate) k.least
   where
     by : (x : List ℕ) → before x c ≡ false → AtMost x d → before d c ≡ false
     by x f (inl e) = rw (← e) f
     by x f (inr lt) = not_shorter c d (omega (arith, not_longer c x f))
 
-pub encode_least : (p : Prefixes) (a : Action) (c b : List ℕ) → Best 2048 a (Some c) → SpellsPrefixed p a b → before b (map prefix_byte (prefix_list p) ++ c) ≡ false
+pub encode_least : (p : Prefixes) (a : Action) (c b : List ℕ) → IsLeast a (Some c) → SpellsPrefixed p a b → before b (map prefix_byte (prefix_list p) ++ c) ≡ false
 encode_least p a c b best s =
     let q : before (map prefix_byte s.prefixes) (map prefix_byte (prefix_list p)) ≡ false = rw s.keeps (prefixes_least s.prefixes s.few) in
     rw s.parts (not_before_append (map prefix_byte s.prefixes) (map prefix_byte (prefix_list p)) s.rest c q (candidate_not_before a c s.rest best s.action))
 
-pub best_spells : (a : Action) (c : List ℕ) → Best 2048 a (Some c) → SpellsAction a c
-best_spells a c best = action_sound best.found.0 best.found.1 a c best.found.2 best.found.3
+pub best_spells : (a : Action) (c : List ℕ) → IsLeast a (Some c) → SpellsAction a c
+best_spells a c best = let h = best.found.2 in action_sound best.found.0 best.found.1 a c (choice_fits (entry_of best.found.0) best.found.0 best.found.1 h.choice h.is_choice) h
 
-pub encode_spells : (p : Prefixes) (a : Action) (c : List ℕ) → Best 2048 a (Some c) → SpellsPrefixed p a (map prefix_byte (prefix_list p) ++ c)
+pub encode_spells : (p : Prefixes) (a : Action) (c : List ℕ) → IsLeast a (Some c) → SpellsPrefixed p a (map prefix_byte (prefix_list p) ++ c)
 encode_spells p a c best = record {
   prefixes = prefix_list p;
   rest = c;
@@ -158,11 +162,11 @@ encode_spells p a c best = record {
   parts = refl;
 }
 
-pub none_best : (a : Action) (d : List ℕ) → Best 2048 a None → SpellsAction a d → ⊥
-none_best a d best s = let k = candidate_of a d s in best.least k.b k.g k.bytes k.g_fits (omega (arith, k.b_fits, k.g_fits)) k.is_candidate
+pub none_best : (a : Action) (d : List ℕ) → IsLeast a None → SpellsAction a d → ⊥
+none_best a d best s = let k = candidate_of a d s in covers a None k.b k.g k.bytes best k.is_candidate
 
 -- an action that some bytes spell has a least candidate
-pub no_best : (a : Action) → ∥ ((bytes : List ℕ) × SpellsAction a bytes) ∥₁ → Best 2048 a None → ⊥
+pub no_best : (a : Action) → ∥ ((bytes : List ℕ) × SpellsAction a bytes) ∥₁ → IsLeast a None → ⊥
 no_best a h best =
     let none : ((bytes : List ℕ) × SpellsAction a bytes) → ⊥ = λ s. none_best a s.0 best s.1 in
     let one : IsProp ⊥ = hlevel in

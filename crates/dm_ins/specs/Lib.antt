@@ -4,5 +4,6 @@ pub mod Spelling
 pub mod Ins
 pub mod Order
 pub mod Walks
+pub mod Keys
 pub mod Search
 pub mod Preferred

@@ -1,7 +1,7 @@
 -- Only for the search of the rows that finds the least spelling, and no part of what is promised: the contracts of
 -- `encode` and `Ins::new` speak of the spelling alone (Spelling.antt, Ins.antt). Which bytes each row has for some
 -- operands, with the shortest displacement, and which of several is the least.
-use Rattle.std.specs.Prelude.{◌^◌, ◌≡◌, ℕ, ◌+◌, ◌*◌, ◌/◌, ◌%◌, ◌<◌, Bool, true, false, List, [], ◌∷◌, ◌++◌, Option, Some, None, IfSome, IsSomeAnd, ◌==◌, if◌then◌else◌}
+use Rattle.std.specs.Prelude.{◌^◌, ◌≡◌, ℕ, ◌+◌, ◌*◌, ◌/◌, ◌%◌, ◌<◌, Bool, true, false, List, [], ◌∷◌, ◌++◌, Option, Some, None, IfSome, IsSomeAnd, ◌==◌, if◌then◌else◌, length}
 use Rattle.dm_ins.specs.declared.operand.Width.{Width}
 use Rattle.dm_ins.specs.declared.operand.Width.TheVariants.{Byte, Word}
 use Rattle.dm_ins.specs.declared.operand.SegmentRegister.{SegmentRegister}
@@ -15,7 +15,6 @@ use Rattle.dm_ins.specs.declared.demand.Place.TheVariants as place
 use Rattle.dm_ins.specs.declared.demand.Data.{Data}
 use Rattle.dm_ins.specs.declared.demand.Data.TheVariants as data_is
 use Rattle.arrayvec.specs.ArrayVec.{ArrayVec}
-use Rattle.dm_ins.specs.declared.action.Mnemonic.{Mnemonic}
 use Rattle.dm_ins.specs.declared.action.Action.{Action}
 use Rattle.dm_ins.specs.declared.prefix.Repeat.{Repeat}
 use Rattle.dm_ins.specs.declared.prefix.Prefix.{Prefix}
@@ -23,6 +22,7 @@ use Rattle.dm_ins.specs.declared.prefix.Prefix.TheVariants as prefix
 use Rattle.dm_ins.specs.declared.prefix.Prefixes.{Prefixes}
 use Rattle.dm_ins.specs.declared.demand.Demand.{Demand}
 use Rattle.dm_ins.specs.declared.fill.Choice.{Choice}
+use Rattle.dm_ins.specs.declared.keys.Key.{Key}
 use Rattle.dm_ins.specs.declared.table.Kind.{Kind}
 use Rattle.dm_ins.specs.declared.table.Kind.TheVariants as is
 use Rattle.dm_ins.specs.declared.table.Entry.{Entry}
@@ -32,6 +32,7 @@ use Rattle.dm_ins.specs.Table.{entry_of, member_of}
 use Rattle.dm_ins.specs.Spelling.{word, extended}
 use Rattle.dm_ins.specs.Order.{before}
 use Rattle.dm_ins.specs.Walks.{◌>>=◌}
+use Rattle.dm_ins.specs.Keys.{keyed, key_at}
 
 -- the r/m field of an address (6 for a direct one)
 abbrev pub rm_of : Base → ℕ
@@ -158,11 +159,6 @@ choice_at (Group g) b r = do
   Some (record { opcode = b; row = p; register = Some r; second = None })
 choice_at (Second c p) b r = if r == 0 then Some (record { opcode = b; row = p; register = None; second = Some c }) else None
 
--- whether the reg field chooses among the rows of an entry
-abbrev pub has_group : Entry → Bool
-has_group (Group g) = true
-has_group _ = false
-
 abbrev pub PlaceFits : Place → Type 0
 PlaceFits (place.Register n) = n < 8
 PlaceFits (place.Memory a) = Unit {0}
@@ -192,20 +188,23 @@ pub record CandidateAt (b g : ℕ) (a : Action) (c : List ℕ) : Type 0 where
   pub first_fits : OperandFits a.first
   pub second_fits : OperandFits a.second
 
--- the row under the first byte b and the reg field g, if there is one, has another mnemonic
-abbrev pub HasNoMnemonic : ℕ → ℕ → Mnemonic → Type 0
-HasNoMnemonic b g m = (c : Choice) → choice_at (entry_of b) b g ≡ Some c → c.row.mnemonic ≡ m → ⊥
-
 abbrev pub better_of : Option (List ℕ) → Option (List ℕ) → Option (List ℕ)
 better_of None new = new
 better_of (Some a) None = Some a
 better_of (Some a) (Some b) = if before b a then Some b else Some a
 
--- of the first n rows, in the order of first byte and reg field, the least bytes for the action, if
--- there are any
-pub record Best (n : ℕ) (a : Action) (o : Option (List ℕ)) : Type 0 where
-  pub found : IfSome o (λ v. (b g : ℕ) × (g < 8) × CandidateAt b g a v)
-  pub least : (b g : ℕ) (c : List ℕ) → g < 8 → 8 * b + g < n → CandidateAt b g a c → IsSomeAnd o (λ v. before c v ≡ false)
+-- the bytes that the row under the key at a place of a list has for an action
+abbrev pub Under : List Key → ℕ → Action → List ℕ → Type 0
+Under ks n a c = CandidateAt (key_at ks n).opcode (key_at ks n).register a c
+
+-- of the rows under the first n keys of a list, the least bytes for the action, if there are any
+pub record Best (n : ℕ) (ks : List Key) (a : Action) (o : Option (List ℕ)) : Type 0 where
+  pub found : IfSome o (λ v. (b g : ℕ) × CandidateAt b g a v)
+  pub least : (k : ℕ) (c : List ℕ) → k < n → Under ks k a c → IsSomeAnd o (λ v. before c v ≡ false)
+
+-- of all rows of its mnemonic, the least bytes for the action, if there are any
+abbrev pub IsLeast : Action → Option (List ℕ) → Type 0
+IsLeast a o = Best (length (keyed a.mnemonic)) (keyed a.mnemonic) a o
 
 -- the prefixes that are kept, in the order of their bytes
 abbrev pub segment_list : Option SegmentRegister → List Prefix

@@ -1,6 +1,6 @@
 //! What an operand asks of an instruction's bytes.
 
-ghost use Rattle.std.specs.Prelude.{◌≡◌, ◌<◌, IfSome, IsSome};
+ghost use Rattle.std.specs.Prelude.{◌≡◌, ◌<◌, IfSome, IsSome, IsFalse, None};
 ghost use Rattle.dm_ins.specs.Spelling.{extended};
 ghost use Rattle.dm_ins.specs.Search.{DemandFits, OperandFits, as_signed, asks_data, asks_place, asks_register, demand_of, is_direct, numbered, same_width};
 
@@ -110,6 +110,55 @@ fn signed(n: u16) -> Option<Demand>
         Some(Demand::for_data(Data::Byte(low)))
     } else {
         None
+    }
+}
+
+/// Whether an operand is a register of the width.
+#[inline(always)]
+fn is_register(width: Width, operand: Operand) -> bool
+    ensures { IsFalse result → numbered width operand ≡ None }
+{
+    match width {
+        Width::Byte => matches!(operand, Operand::ByteRegister(_)),
+        Width::Word => matches!(operand, Operand::WordRegister(_)),
+    }
+}
+
+/// Whether an operand can be of the kind. It is asked of each row of a mnemonic, and most rows have other kinds.
+#[inline(always)]
+#[tactic(auto, unfolding(crate::specs::Search::demand_of))]
+pub fn may_be(kind: Kind, operand: Operand) -> bool
+    ensures { IsFalse result → demand_of kind operand ≡ None }
+{
+    match kind {
+        Kind::Nothing => matches!(operand, Operand::Nothing),
+        Kind::Place(width) => match operand {
+            Operand::Memory(other, _) => is_as_wide(width, other),
+            _ => is_register(width, operand),
+        },
+        Kind::Register(width) => is_register(width, operand),
+        Kind::Memory => matches!(operand, Operand::Memory(Width::Word, _)),
+        Kind::ByteValue | Kind::Escape(_) => matches!(operand, Operand::ByteValue(_)),
+        Kind::WordValue | Kind::SignedValue => matches!(operand, Operand::WordValue(_)),
+        Kind::Short | Kind::Near => matches!(operand, Operand::Target(_)),
+        Kind::Direct(width) => match operand {
+            Operand::Memory(other, _) => is_as_wide(width, other),
+            _ => false,
+        },
+        Kind::Far => matches!(operand, Operand::FarTarget(..)),
+        Kind::Byte(r) => match operand {
+            Operand::ByteRegister(s) => r.number() == s.number(),
+            _ => false,
+        },
+        Kind::Word(r) => match operand {
+            Operand::WordRegister(s) => r.number() == s.number(),
+            _ => false,
+        },
+        Kind::TheSegment(r) => match operand {
+            Operand::SegmentRegister(s) => r.number() == s.number(),
+            _ => false,
+        },
+        Kind::One => matches!(operand, Operand::One),
     }
 }
 

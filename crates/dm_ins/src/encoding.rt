@@ -1,11 +1,12 @@
 //! The bytes that an instruction is written as.
 
-ghost use Rattle.std.specs.Prelude.{◌≡◌, ◌+◌, ◌≤◌, ◌++◌, map};
+ghost use Rattle.std.specs.Prelude.{◌≡◌, ◌+◌, ◌≤◌, ◌++◌, map, IfSome, IfNone, List, ℕ};
 ghost use Rattle.arrayvec.specs.ArrayVec.{array_vec_len};
-ghost use Rattle.dm_ins.specs.Spelling.{prefix_byte};
+ghost use Rattle.dm_ins.specs.Spelling.{SpellsAction, prefix_byte};
 ghost use Rattle.dm_ins.specs.Preferred.{IsPreferred};
 ghost use Rattle.dm_ins.specs.Search.{prefix_list};
 
+use crate::action::Action;
 use crate::fill::RowBytes;
 use crate::ins::Ins;
 use crate::operand::SegmentRegister;
@@ -45,16 +46,37 @@ fn append(out: &mut ArrayVec<u8, 16>, bytes: &RowBytes)
     let _ = out.try_extend_from_slice(bytes.as_slice());
 }
 
+/// The kept prefixes, and behind them the bytes of the action.
+fn whole(prefixes: Prefixes, bytes: &RowBytes) -> ArrayVec<u8, 16>
+    ensures { result.items ≡ map prefix_byte (prefix_list prefixes) ++ bytes.now.items }
+{
+    let mut out = ArrayVec::new();
+    put_prefixes(&mut out, prefixes);
+    append(&mut out, bytes);
+    out
+}
+
 /// The bytes of the instruction: of its spellings the shortest, and of those the one that is least
 /// byte by byte from the left.
 pub fn encode(ins: &Ins) -> ArrayVec<u8, 16>
     ensures { IsPreferred ins.now result.items }
 {
-    let mut out = ArrayVec::new();
-    put_prefixes(&mut out, ins.prefixes);
-    // Some bytes spell the action, so there are least ones.
-    if let Some(bytes) = least(&ins.action) {
-        append(&mut out, &bytes);
+    match least(&ins.action) {
+        Some(bytes) => whole(ins.prefixes, &bytes),
+        // Some bytes spell the action, so there are least ones.
+        None => ArrayVec::new(),
     }
-    out
+}
+
+/// The instruction of these parts, as `Ins::new` makes it, with its bytes, as `encode` chooses them; None exactly where no row of
+/// the table has the action. The rows are searched once for both.
+pub fn new_encoded(prefixes: Prefixes, action: Action) -> Option<(Ins, ArrayVec<u8, 16>)>
+    ensures parts { IfSome result (λ r. (r.0.prefixes ≡ prefixes) × (r.0.action ≡ action)) }
+    ensures bytes { IfSome result (λ r. IsPreferred r.0 r.1.items) }
+    ensures none { IfNone result ((bytes : List ℕ) → SpellsAction action bytes → ⊥) }
+{
+    match least(&action) {
+        None => None,
+        Some(bytes) => Some((Ins { prefixes, action }, whole(prefixes, &bytes))),
+    }
 }

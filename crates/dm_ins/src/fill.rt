@@ -1,11 +1,11 @@
 //! The bytes of a row filled with its operands, with the shortest displacement.
 
-ghost use Rattle.std.specs.Prelude.{◌≡◌, ◌+◌, ◌<◌, ◌≤◌, ◌++◌, IfSome, IsSome};
+ghost use Rattle.std.specs.Prelude.{◌≡◌, ◌+◌, ◌<◌, ◌≤◌, ◌++◌, IfSome, IsSome, IsFalse, None};
 ghost use Rattle.arrayvec.specs.ArrayVec.{array_vec_len};
 ghost use Rattle.dm_ins.specs.Spelling.{word};
 ghost use Rattle.dm_ins.specs.Search.{OperandFits, PlaceFits, behind_bytes, bytes_of, data_bytes, either, fields_bytes, memory_bytes, rm_of, seen_bytes, with_displacement};
 
-use crate::demand::{Data, Place, demand_for, has_no_base};
+use crate::demand::{Data, Place, demand_for, has_no_base, may_be};
 use crate::operand::{Address, Base, Operand, extend};
 use crate::table::Row;
 use arrayvec::ArrayVec;
@@ -161,7 +161,16 @@ fn put_behind(out: &mut RowBytes, register: Option<u8>, place: Option<Place>, se
     }
 }
 
+/// Whether the operands can be of the row's kinds: asked before any bytes are made.
+#[inline(always)]
+pub fn may_fill(choice: &Choice, first: Operand, second: Operand) -> bool
+    ensures { IsFalse result → bytes_of choice.now first second ≡ None }
+{
+    may_be(choice.row.first, first) && may_be(choice.row.second, second)
+}
+
 /// The bytes of the row with these operands, if they are of its kinds.
+#[inline(never)]
 #[tactic(auto, unfolding(crate::specs::Search::bytes_of))]
 pub fn fill(choice: Choice, first: Operand, second: Operand) -> Option<RowBytes>
     requires { IfSome choice.register (λ n. n < 8) }

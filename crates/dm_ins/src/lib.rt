@@ -7,13 +7,14 @@ mod encoding;
 pub mod fields;
 mod fill;
 pub mod ins;
+mod keys;
 pub mod operand;
 pub mod prefix;
 mod search;
 pub mod table;
 
 pub use action::{Action, Mnemonic};
-pub use encoding::encode;
+pub use encoding::{encode, new_encoded};
 pub use ins::Ins;
 pub use operand::{Address, Base, ByteRegister, Operand, SegmentRegister, Width, WordRegister};
 pub use prefix::{Prefixes, Repeat};

@@ -12,7 +12,6 @@ use Rattle.dm_ins.specs.Walks.{◌>>=◌}
 use Rattle.dm_read.specs.declared.written.Size.{Size}
 use Rattle.dm_read.specs.declared.written.Size.TheVariants.{Absent}
 use Rattle.dm_text.specs.Names.{named}
-use Rattle.dm_lines.specs.declared.words.TheConstants.{RESERVED}
 use Rattle.dm_lines.specs.declared.words.Keyword.{Keyword}
 use Rattle.dm_lines.specs.declared.words.Keyword.TheVariants.{Nop}
 use Rattle.dm_lines.specs.declared.words.Reserved.{Reserved}
@@ -26,7 +25,7 @@ use Rattle.dm_lines.specs.declared.term.Value.{Value}
 use Rattle.dm_lines.specs.declared.term.Term.{Term}
 use Rattle.dm_lines.specs.declared.term.Term.TheVariants as term
 use Rattle.dm_lines.specs.declared.statement.Instruction.{Instruction}
-use Rattle.dm_lines.specs.Words.{spelling_of, meaning_of, keyword_token, reserved}
+use Rattle.dm_lines.specs.Words.{all_words, spelling_of, meaning_of, keyword_token, reserved}
 use Rattle.dm_lines.specs.Tokens.{upper, is_word_byte, digit_of, magnitude_of, number_of, padded_of, or_name, word_token, closed, with_front, then_tokens, marked, inside_quotes, lexed, tokens_of}
 use Rattle.dm_lines.specs.Operands.{minus, amount_of, added_of, plain, value_of, word_of, base_at, based, onto, is_close, inside, memory_of, far_of, from_number, term_of, begin, is_comma, parts, term_pair, terms_of}
 use Rattle.dm_lines.specs.Statements as line
@@ -88,7 +87,7 @@ meaning_fits (reserved_word.Keyword k) = keyword_fits k
 
 reserved_fits : (w : List ℕ) → Holds TokenFits (reserved w)
 unfolding reserved
-reserved_fits w = by (named spelling_of RESERVED w)
+reserved_fits w = by (named spelling_of all_words w)
   where
     by : (o : Option Reserved) → Holds TokenFits (option_map meaning_of o)
     by None = tt

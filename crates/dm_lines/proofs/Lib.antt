@@ -9,3 +9,4 @@ pub mod InTable
 pub mod TextRead
 pub mod Data
 pub mod Fitting
+mod Reserved

@@ -1,19 +1,19 @@
 -- The words that no label may be, and the tokens that they are.
 -- Source: Intel 8086 Family User's Manual, section 2.7 (mnemonics, prefixes, and in table 2-15 the other names of the conditional
 -- jumps) and section 2.9 (NEAR, FAR, SHORT, BYTE, WORD, DB and DW of ASM-86). How NEAR, BYTE and WORD are used is this machine's own.
-use Rattle.std.specs.Prelude.{ℕ, List, Option, option_map, codes}
+use Rattle.std.specs.Prelude.{ℕ, Bool, true, false, ◌==◌, List, [], ◌∷◌, ◌++◌, map, Option, option_map, codes, slice_index}
 use Rattle.dm_ins.specs.declared.action.Mnemonic.{Mnemonic}
 use Rattle.dm_ins.specs.declared.action.Mnemonic.TheVariants as op
 use Rattle.dm_ins.specs.declared.prefix.Repeat.TheVariants.{NotEqual, Equal}
 use Rattle.dm_read.specs.declared.written.Size.TheVariants as size
-use Rattle.dm_text.specs.Names.{byte_name, word_name, segment_name, name_of, named}
+use Rattle.dm_ins.specs.Registers.{byte_registers, word_registers}
+use Rattle.dm_text.specs.Names.{byte_name, word_name, segment_name, segment_registers, name_of, mnemonics, named}
 use Rattle.dm_lines.specs.declared.words.Alias.{Alias}
 use Rattle.dm_lines.specs.declared.words.Alias.TheVariants as alias
 use Rattle.dm_lines.specs.declared.words.Keyword.{Keyword}
 use Rattle.dm_lines.specs.declared.words.Keyword.TheVariants as keyword
 use Rattle.dm_lines.specs.declared.words.Reserved.{Reserved}
 use Rattle.dm_lines.specs.declared.words.Reserved.TheVariants as word
-use Rattle.dm_lines.specs.declared.words.TheConstants.{RESERVED}
 use Rattle.dm_lines.specs.declared.token.Token.{Token}
 use Rattle.dm_lines.specs.declared.token.Token.TheVariants as t
 
@@ -108,6 +108,40 @@ meaning_of (word.Mnemonic m) = t.Mnemonic m
 meaning_of (word.Alias a) = t.Mnemonic (alias_mnemonic a)
 meaning_of (word.Keyword k) = keyword_token k
 
+-- ---- which there are
+
+abbrev pub onto : {A : Type 0} → Bool → A → List A → List A
+onto true x xs = x ∷ xs
+onto false x xs = xs
+
+-- the elements at which a test is true
+abbrev pub those : {A : Type 0} → (A → Bool) → List A → List A
+those p [] = []
+those p (x ∷ xs) = onto (p x) x (those p xs)
+
+abbrev pub aliases : List Alias
+aliases = alias.Jc ∷ alias.Jnae ∷ alias.Jnc ∷ alias.Jnb ∷ alias.Je ∷ alias.Jne ∷ alias.Jna ∷ alias.Jnbe ∷ alias.Jpe ∷ alias.Jpo ∷ alias.Jnge ∷ alias.Jnl ∷ alias.Jng ∷ alias.Jnle ∷ alias.Loopz ∷ alias.Loopnz ∷ alias.Sal ∷ []
+
+abbrev pub keywords : List Keyword
+keywords = keyword.Nop ∷ keyword.Lock ∷ keyword.Rep ∷ keyword.Repe ∷ keyword.Repz ∷ keyword.Repne ∷ keyword.Repnz ∷ keyword.Far ∷ keyword.Short ∷ keyword.Byte ∷ keyword.Word ∷ keyword.Near ∷ keyword.Db ∷ keyword.Dw ∷ []
+
+-- whether the name of a mnemonic is one word
+abbrev pub is_one_word : Mnemonic → Bool
+is_one_word op.CallFar = false
+is_one_word op.JmpFar = false
+is_one_word op.JmpShort = false
+is_one_word _ = true
+
+-- the names of registers, the mnemonics of one word, their other names, and the words that are neither
+abbrev pub all_words : List Reserved
+all_words =
+    map word.Byte byte_registers ++ map word.Word word_registers ++ map word.Segment segment_registers
+    ++ map word.Mnemonic (those is_one_word mnemonics) ++ map word.Alias aliases ++ map word.Keyword keywords
+
+-- whether a reserved word begins with a byte
+abbrev pub begins : ℕ → Reserved → Bool
+begins b r = slice_index (spelling_of r) 0 == b
+
 -- the token of a word in upper case, where it is reserved
 unfoldable pub reserved : List ℕ → Option Token
-reserved w = option_map meaning_of (named spelling_of RESERVED w)
+reserved w = option_map meaning_of (named spelling_of all_words w)

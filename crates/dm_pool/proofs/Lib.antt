@@ -14,3 +14,4 @@ pub mod Order
 pub mod Parts
 pub mod Spelled
 pub mod Stored
+pub mod Coming

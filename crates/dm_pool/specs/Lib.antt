@@ -5,3 +5,4 @@ pub mod Order
 pub mod Stored
 pub mod Lending
 pub mod Parts
+pub mod Laws

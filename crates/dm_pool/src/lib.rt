@@ -2,6 +2,7 @@
 #![tactic(auto)]
 
 mod block;
+mod laws;
 mod part;
 mod places;
 mod pool;
@@ -11,7 +12,9 @@ mod store;
 mod table;
 
 pub use block::Block;
+pub use laws::blocks_come;
 pub use part::Part;
 pub use places::{Place, UNIT};
+pub use runs::RunList;
 pub use sizes::Sizes;
 pub use store::{NewError, Store};

@@ -13,6 +13,16 @@ use byteorder::{ByteOrder, LittleEndian};
 /// Where no run is.
 const NOWHERE: u32 = u32::MAX;
 
+/// The free runs of a pool, as its bytes tell them: the first four bytes of a run are its length in units, the next four the unit where the
+/// next run begins, low byte first.
+#[derive(Clone, Copy)]
+pub struct RunList<'a> {
+    /// The bytes of the pool, those of its blocks among them.
+    pub bytes: &'a [u8],
+    /// The unit where the first run begins; FFFFFFFFh where there is none.
+    pub first: u32,
+}
+
 /// A run of free units.
 #[derive(Clone, Copy)]
 pub(crate) struct FreeRun {

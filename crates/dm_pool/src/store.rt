@@ -2,7 +2,8 @@
 ghost use Rattle.std.specs.Prelude.{◌≡◌, ◌↔◌, IsTrue, ◌+◌, ◌*◌, ◌^◌, ◌<◌, ◌≤◌, Some, None, [], get_or, length, IfOk, IfSome, IsErrOf, MatchOption};
 ghost use Rattle.std.specs.Borrow.{sem};
 ghost use Rattle.std.specs.Bool.{MatchBool};
-ghost use Rattle.dm_pool.specs.Blocks.{no_blocks, taken, resized, without, moved_bytes, IsAt, IsLive};
+ghost use Rattle.dm_pool.specs.Blocks.{no_blocks, taken, resized, without, moved_bytes, contents_of, IsAt, IsLive, IsPool};
+ghost use Rattle.dm_pool.specs.FreeList.{AreBased, Spells};
 ghost use Rattle.dm_pool.specs.Gaps.{gaps, free_units, largest, count_fitting};
 ghost use Rattle.dm_pool.specs.Stored.{zeros_of, units_of, IsTooLarge};
 ghost use Rattle.dm_pool.specs.Lending.{LendsLow, LendsScratch, LendsBlock};
@@ -11,6 +12,7 @@ ghost use Rattle.dm_pool.specs.Parts.{HasPart, IsLaidOut, IsSpan, part_bytes, co
 use crate::block::Block;
 use crate::part::Part;
 use crate::places::{Place, UNIT};
+use crate::runs::RunList;
 use crate::sizes::Sizes;
 use crate::table::Table;
 use crate::{pool, runs};
@@ -307,6 +309,21 @@ impl Store {
     {
         let len = pool_len(&self.table);
         runs::free_units(&self.table, self.region.part(POOL, len))
+    }
+
+    /// The bytes of the pool, with its free runs. In them blocks lie apart, and the free ones tell the gaps, rising, from the first run on.
+    pub fn free_list(&self) -> RunList<'_>
+        ensures blocks { IsPool self.now.blocks.units self.now.blocks.places result.bytes.now }
+        ensures based { AreBased self.now.blocks.places }
+        ensures contents { contents_of self.now.blocks.places result.bytes.now ≡ self.now.blocks.contents }
+        ensures free { Spells result.bytes.now result.first (gaps self.now.blocks.places self.now.blocks.units) }
+    {
+        self.table.recall();
+        let len = pool_len(&self.table);
+        RunList {
+            bytes: self.region.part(POOL, len),
+            first: self.table.first(),
+        }
     }
 
     /// How many blocks of so many units fit into the gaps, one after the other.

@@ -5,7 +5,6 @@ use Rattle.std.proofs.lemmas.Bool.{eqb-true, eqb-false}
 use Rattle.dm_ins.specs.declared.operand.Operand.{Operand}
 use Rattle.dm_ins.specs.declared.operand.Operand.TheVariants as operand
 use Rattle.dm_ins.specs.declared.action.Action.{Action}
-use Rattle.dm_ins.specs.declared.ins.Ins.{Ins}
 use Rattle.dm_ins.specs.Spelling.{SpellsAction}
 use Rattle.dm_read.specs.declared.written.Numeral.{Numeral}
 use Rattle.dm_read.specs.declared.written.Written.{Written}
@@ -108,7 +107,7 @@ abbrev pub Never : Words → Action → Type 0
 Never words a = HaveWords words a → (b : List ℕ) → SpellsAction a b → ⊥
 
 -- where the operands that are so taken make none
-pub no_spelled : (words : Words) (way other : Way) (f s : Operand) (o : Option Ins) → taken way words.first ≡ Some f → taken other words.second ≡ Some s → IfNone o (Never words (action_of words f s)) → IfNone o (IsNot words way other)
+pub no_spelled : {A : Type 0} (words : Words) (way other : Way) (f s : Operand) (o : Option A) → taken way words.first ≡ Some f → taken other words.second ≡ Some s → IfNone o (Never words (action_of words f s)) → IfNone o (IsNot words way other)
 no_spelled words way other f s None p q h = λ a b t sp. let e = same_action words way other f s a p q t in h (subst (HaveWords words) e t.have) b (subst (λ (x : Action). SpellsAction x b) e sp)
 no_spelled words way other f s (Some i) p q h = tt
 

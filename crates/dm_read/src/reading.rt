@@ -1,14 +1,16 @@
 //! From written words to the instruction of the table that they are. There is no second table: each way to take the operands is
-//! asked of `Ins::new`.
+//! asked of the table.
 
 ghost use Rattle.std.specs.Prelude.{◌≡◌, ◌↔◌, ℕ, IsTrue, List, IfSome, IfNone};
 ghost use Rattle.dm_ins.specs.declared.action.Action.{Action};
+ghost use Rattle.dm_ins.specs.Preferred.{IsPreferred};
 ghost use Rattle.dm_ins.specs.Spelling.{SpellsAction};
 ghost use Rattle.dm_read.specs.Words.{AreWords, size_word, word_before, word_written};
 ghost use Rattle.dm_read.specs.Search.{FirstWays, HaveWords, IsNot, Taken, action_of, first_way, taken};
 
 use crate::written::{Size, Words, Written};
-use dm_ins::{Action, Ins, Mnemonic, Operand, Prefixes, Width};
+use arrayvec::ArrayVec;
+use dm_ins::{Action, Ins, Mnemonic, Operand, Prefixes, Width, new_encoded};
 use dm_text::size_is_given;
 
 /// A way to take a written operand. What can be taken in one way only is taken in the first.
@@ -113,9 +115,13 @@ fn is_same(a: Size, b: Size) -> bool
     a == b
 }
 
-/// The instruction of these operands, if the words before memory are right and the table has it.
-fn spelled(prefixes: Prefixes, words: &Words, first: Operand, second: Operand) -> Option<Ins>
-    ensures found { IfSome result (λ i. (i.prefixes ≡ prefixes) × (i.action ≡ action_of words.now first second) × HaveWords words.now i.action) }
+/// An instruction, and its bytes as `encode` chooses them.
+pub type Encoded = (Ins, ArrayVec<u8, 16>);
+
+/// The instruction of these operands with its bytes, if the words before memory are right and the table has it.
+fn spelled(prefixes: Prefixes, words: &Words, first: Operand, second: Operand) -> Option<Encoded>
+    ensures found { IfSome result (λ r. (r.0.prefixes ≡ prefixes) × (r.0.action ≡ action_of words.now first second) × HaveWords words.now r.0.action) }
+    ensures bytes { IfSome result (λ r. IsPreferred r.0 r.1.items) }
     ensures none { IfNone result (HaveWords words.now (action_of words.now first second) → (b : List ℕ) → SpellsAction (action_of words.now first second) b → ⊥) }
 {
     let action = Action {
@@ -129,12 +135,13 @@ fn spelled(prefixes: Prefixes, words: &Words, first: Operand, second: Operand) -
     if !is_same(size_written(words.second), size_before(&action, second)) {
         return None;
     }
-    Ins::new(prefixes, action)
+    new_encoded(prefixes, action)
 }
 
 /// The instruction that the words are where the operands are taken in these ways.
-fn taken_so(prefixes: Prefixes, words: &Words, way: Way, other: Way) -> Option<Ins>
-    ensures found { IfSome result (λ i. (i.prefixes ≡ prefixes) × Taken words.now way other i.action) }
+fn taken_so(prefixes: Prefixes, words: &Words, way: Way, other: Way) -> Option<Encoded>
+    ensures found { IfSome result (λ r. (r.0.prefixes ≡ prefixes) × Taken words.now way other r.0.action) }
+    ensures bytes { IfSome result (λ r. IsPreferred r.0 r.1.items) }
     ensures none { IfNone result (IsNot words.now way other) }
 {
     let first = take_as(way, words.first)?;
@@ -143,29 +150,42 @@ fn taken_so(prefixes: Prefixes, words: &Words, way: Way, other: Way) -> Option<I
 }
 
 /// The instruction that the words are where the first operand is taken in this way.
-fn taken_first(prefixes: Prefixes, words: &Words, way: Way) -> Option<Ins>
-    ensures found { IfSome result (λ i. (i.prefixes ≡ prefixes) × (other : Way) × Taken words.now way other i.action) }
+fn taken_first(prefixes: Prefixes, words: &Words, way: Way) -> Option<Encoded>
+    ensures found { IfSome result (λ r. (r.0.prefixes ≡ prefixes) × (other : Way) × Taken words.now way other r.0.action) }
+    ensures bytes { IfSome result (λ r. IsPreferred r.0 r.1.items) }
     ensures none { IfNone result (FirstWays 4 (IsNot words.now way)) }
 {
     for other in &WAYS {
-        if let Some(ins) = taken_so(prefixes, words, way, *other) {
-            return Some(ins);
+        if let Some(encoded) = taken_so(prefixes, words, way, *other) {
+            return Some(encoded);
         }
     }
     None
 }
 
-/// The instruction of the table that the words are, with the prefixes, or None exactly where they are none. Each operand is
-/// taken in any of its ways: memory as a byte's or a word's, a number as a byte, a word, a target or a shift's 1; BYTE, WORD or
-/// NEAR has to stand before memory exactly where the text of the instruction has it.
+/// The instruction of the table that the words are, with the prefixes, and its bytes as `encode` chooses them; None exactly where
+/// they are none. Each operand is taken in any of its ways: memory as a byte's or a word's, a number as a byte, a word, a target or
+/// a shift's 1; BYTE, WORD or NEAR has to stand before memory exactly where the text of the instruction has it.
+pub fn read_encoded(prefixes: Prefixes, words: &Words) -> Option<Encoded>
+    ensures found { IfSome result (λ r. (r.0.prefixes ≡ prefixes) × AreWords words.now r.0.action) }
+    ensures bytes { IfSome result (λ r. IsPreferred r.0 r.1.items) }
+    ensures none { IfNone result ((a : Action) (b : List ℕ) → AreWords words.now a → SpellsAction a b → ⊥) }
+{
+    for way in &WAYS {
+        if let Some(encoded) = taken_first(prefixes, words, *way) {
+            return Some(encoded);
+        }
+    }
+    None
+}
+
+/// The instruction of `read_encoded`, without its bytes.
 pub fn read_words(prefixes: Prefixes, words: &Words) -> Option<Ins>
     ensures found { IfSome result (λ i. (i.prefixes ≡ prefixes) × AreWords words.now i.action) }
     ensures none { IfNone result ((a : Action) (b : List ℕ) → AreWords words.now a → SpellsAction a b → ⊥) }
 {
-    for way in &WAYS {
-        if let Some(ins) = taken_first(prefixes, words, *way) {
-            return Some(ins);
-        }
+    match read_encoded(prefixes, words) {
+        Some((ins, _)) => Some(ins),
+        None => None,
     }
-    None
 }

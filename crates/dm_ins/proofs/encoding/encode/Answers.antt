@@ -3,11 +3,11 @@ use Rattle.dm_ins.proofs.encoding.encode.Goals as goal
 
 pub returns-in-Some : goal.returns-in-Some
 returns-in-Some c =
-    rw (c.append.ensures, c.put_prefixes.ensures.items, c.new-out.ensures)
+    rw (c.whole.ensures)
     (record {
       spells = encode_spells c.args.ins.now.prefixes c.args.ins.now.action c.in-Some.bytes.items c.in-Some.ensures;
       least = λ b s. encode_least c.args.ins.now.prefixes c.args.ins.now.action c.in-Some.bytes.items b c.in-Some.ensures s;
     })
 
-pub returns-in_default : goal.returns-in_default
-returns-in_default c = absurd (no_best c.args.ins.now.action c.args.ins.now.has_spelling c.in_default.ensures)
+pub returns-in-None : goal.returns-in-None
+returns-in-None c = absurd (no_best c.args.ins.now.action c.args.ins.now.has_spelling c.in-None.ensures)

@@ -1,9 +1,20 @@
-use Rattle.std.proofs.Common.{◌+◌, ◌*◌, arith}
-use Rattle.dm_ins.proofs.Order.{best_at, best_none}
+use Rattle.std.proofs.Common.{arith, length, subst, List}
+use Rattle.dm_ins.specs.declared.keys.Key.{Key}
+use Rattle.dm_ins.specs.Search.{Best, seen_bytes}
+use Rattle.dm_ins.proofs.Order.{best_at, best_more, best_none}
+use Rattle.dm_ins.proofs.NoneLeftOut.{all_fit}
 use Rattle.dm_ins.proofs.search.least.Goals as goal
 
-pub loop-opcode-init : goal.loop-opcode-init
-loop-opcode-init c = best_none c.args.action.now
+pub loop-key-init : goal.loop-key-init
+loop-key-init c = best_none c.keys_of-keys.result.now c.args.action.now
 
-pub loop-opcode-preserved : goal.loop-opcode-preserved
-loop-opcode-preserved c = best_at (8 * c.loop-opcode.opcode + 8) (8 * (c.loop-opcode.opcode + 1)) c.args.action.now _ (omega arith) c.improve_under.ensures
+pub candidate-requires : goal.candidate-requires
+candidate-requires c = all_fit c.keys_of-keys.result.now c.loop-key.key-index c.keys_of-keys.ensures.fits
+
+pub loop-key-preserved : goal.loop-key-preserved
+loop-key-preserved c = rw c.better-best.ensures (best_more c.keys_of-keys.result.now c.args.action.now c.loop-key.key-index _ _ c.loop-key.invariant c.candidate.ensures.found c.candidate.ensures.none)
+
+pub returns : goal.returns
+returns c =
+    let best = best_at c.loop-key.key-index (length c.keys_of-keys.result.now) c.keys_of-keys.result.now c.args.action.now (seen_bytes c.loop-key.best) (omega arith) c.loop-key.invariant in
+    subst (λ (ks : List Key). Best (length ks) ks c.args.action.now (seen_bytes c.loop-key.best)) c.keys_of-keys.ensures.keys best

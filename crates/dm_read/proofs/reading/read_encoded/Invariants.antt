@@ -1,5 +1,5 @@
 use Rattle.dm_read.specs.Search.{FirstWays, IsNot}
-use Rattle.dm_read.proofs.reading.read_words.Given as goal
+use Rattle.dm_read.proofs.reading.read_encoded.Given as goal
 
 -- none so far
 abbrev pub invariant-loop-way : goal.invariant-loop-way

@@ -1,0 +1,20 @@
+-- That pages which are promised come.
+use Rattle.std.specs.Prelude.{ℕ, ◌≡◌, List, ◌++◌, take, All}
+use Rattle.dm_pool.specs.Blocks.{IsLive, zeros}
+use Rattle.dm_space.specs.Memory.{page_bytes}
+use Rattle.dm_ems.specs.Tables.{Expanded, blocks_of, page_count}
+use Rattle.dm_ems.specs.Linked.{IsLinked}
+
+-- a block that was not there before is there, a page of zeros
+pub record IsNewPage (x y : Expanded) (block : ℕ) : Type 0 where
+  pub before : IsLive x.memory.blocks block → ⊥
+  pub live : IsLive y.memory.blocks block
+  pub bytes : page_bytes y.memory block ≡ zeros 16
+
+-- the handle has n pages: the first ones that it had, and behind them new ones. Each page is still a block of its own
+pub record HasPages (x y : Expanded) (handle n : ℕ) : Type 0 where
+  pub count : page_count y.ems handle ≡ n
+  pub new : List ℕ
+  pub blocks : blocks_of y.ems handle ≡ take n (blocks_of x.ems handle) ++ new
+  pub zeros : All (IsNewPage x y) new
+  pub link : IsLinked y

@@ -1,0 +1,28 @@
+-- Blocks that are promised come.
+use Rattle.std.specs.Prelude.{ℕ, zero, suc, ◌<◌, ◌≤◌, ◌↔◌, IsSome, is_none, count_by, Option, Some, None}
+use Rattle.dm_pool.specs.Blocks.{Blocks, taken}
+use Rattle.dm_pool.specs.FreeList.{AreBased}
+use Rattle.dm_pool.specs.Gaps.{gaps, count_fitting}
+
+-- how many numbers have no block
+abbrev pub free_numbers : Blocks → ℕ
+free_numbers s = count_by is_none s.places
+
+-- the pool with the new block, if there is one
+abbrev pub with_new : Option (ℕ × Blocks) → Option Blocks
+with_new None = None
+with_new (Some p) = Some p.1
+
+abbrev pub and_taken : Option Blocks → ℕ → Option Blocks
+and_taken None u = None
+and_taken (Some s) u = with_new (taken s u)
+
+-- the pool with n new blocks of u units, taken one after the other, if all of them come
+abbrev pub taken_in_turn : Blocks → ℕ → ℕ → Option Blocks
+taken_in_turn s u zero = Some s
+taken_in_turn s u (suc n) = and_taken (taken_in_turn s u n) u
+
+-- all of them come where there are numbers for them and each gap counts as its units divided by u, rounded down; else one of them doesn't
+abbrev pub BlocksCome : Type 0
+BlocksCome = (s : Blocks) (u n : ℕ) → AreBased s.places → 0 < u →
+    IsSome (taken_in_turn s u n) ↔ ((n ≤ free_numbers s) × (n ≤ count_fitting u (gaps s.places s.units)))
