@@ -1,14 +1,23 @@
-//! Worked rows of what lies around the processor: memory, room for output, and the program's writers.
+//! Worked rows of what lies around the processor: regions of bytes, blocks of a pool, memory as a program meets it, room for output, the
+//! program's writers, and the lines of the debugger.
 //!
 //! They stand apart from the crates that they try, since a crate with tests is proved twice.
 #![tactic(auto)]
 
 #[cfg(test)]
+mod blocks;
+#[cfg(test)]
 mod checks;
 #[cfg(test)]
 mod console;
 #[cfg(test)]
+mod lines;
+#[cfg(test)]
 mod memory;
+#[cfg(test)]
+mod regions;
+#[cfg(test)]
+mod rows;
 #[cfg(test)]
 mod space;
 #[cfg(test)]
