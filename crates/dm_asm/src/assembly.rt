@@ -44,15 +44,14 @@ fn add_label(
     ensures added { OnOk result ((list : List Label) → AreKept labels.old list → IsFree label list × AreKept labels.new (list ++ labelled label place)) }
     ensures refused { IfErr result (λ e. (e ≡ OutOfMemory) ⊎ ((e ≡ IsTwice number) × ((list : List Label) → AreKept labels.old list → IsFree label list → ⊥))) }
 {
-    if let Some(name) = label {
-        if labels.find(&name).is_some() {
-            return Err(Refusal::Twice(number));
-        }
-        if labels.add(&name, place).is_err() {
-            return Err(Refusal::Memory);
-        }
+    let Some(name) = label else {
+        return Ok(());
+    };
+    match labels.add(&name, place) {
+        Ok(true) => Ok(()),
+        Ok(false) => Err(Refusal::Twice(number)),
+        Err(_) => Err(Refusal::Memory),
     }
-    Ok(())
 }
 
 /// The labels of a text, and what is known of its lines, where all lines read and have room.
