@@ -89,6 +89,17 @@ fn lay(alloc: Global, text: &[u8]) -> Result<(Labels, Known), Refusal>
     Ok((labels, known))
 }
 
+/// Appends bytes to those so far.
+fn append(bytes: &mut Vec<u8>, code: &[u8]) -> Result<(), Refusal>
+    ensures added { OnOk result (bytes.new.items ≡ bytes.old.items ++ code.now) }
+    ensures refused { IfErr result (λ e. e ≡ OutOfMemory) }
+{
+    match bytes.extend_from_slice(code) {
+        Ok(()) => Ok(()),
+        Err(_) => Err(Refusal::Memory),
+    }
+}
+
 /// The bytes of a text whose labels have these places.
 fn emit(alloc: Global, text: &[u8], labels: &Labels, known: &Known) -> Result<Vec<u8>, Refusal>
     requires { AreLaid text.now labels.now known.now }
@@ -114,9 +125,7 @@ fn emit(alloc: Global, text: &[u8], labels: &Labels, known: &Known) -> Result<Ve
         match kept {
             Line::Known(length) => {
                 let (code, left) = codes.split_at(length as usize);
-                if bytes.extend_from_slice(code).is_err() {
-                    return Err(Refusal::Memory);
-                }
+                append(&mut bytes, code)?;
                 codes = left;
                 continue;
             }
@@ -128,11 +137,7 @@ fn emit(alloc: Global, text: &[u8], labels: &Labels, known: &Known) -> Result<Ve
         };
         let at = START + bytes.len();
         match code_of(labels, at as u16, length, statement.item, &items) {
-            Ok(code) => {
-                if bytes.extend_from_slice(code.as_slice()).is_err() {
-                    return Err(Refusal::Memory);
-                }
-            }
+            Ok(code) => append(&mut bytes, code.as_slice())?,
             Err(Problem::Unknown) => return Err(Refusal::Unknown(number)),
             Err(Problem::Range) => return Err(Refusal::Range(number)),
         }

@@ -39,7 +39,7 @@ loop-line-preserved c =
     let k = subst (λ (a : ℕ). Codes ls a (seen_item c.read.new.items c.in-Some-read.statement.item) c.in-Ok.code.items) e (c.in-Ok.ensures.code ls c.loop-line.invariant.emitting.are.keeps) in
     record {
       few = omega (arith, c.loop-line.invariant.few, c.in-Some.ensures.shorter);
-      emitting = emitting_more c.words_are_one_instruction.ensures c.args.text.now c.loop-line.rest.now c.in-Some.behind.now c.in-Some.line.now c.loop-line.number c.args.labels.now c.args.known.now c.loop-line.lines.now c.loop-line.codes.now c.loop-line.bytes.items c.in-Ok.code.items c.extend_from_slice-in-Ok.new.self.items _ c.loop-line.invariant.emitting c.in-Some.ensures.line c.in-Some-read.ensures.found k (grind (arith, c.extend_from_slice-in-Ok.ensures.items, c.if-is_err-2.false, c.is_err-in-Ok.ensures.negation, c.is_err-in-Ok.ensures.value, c.as_slice.ensures.value)) c.in-Some-first_line.others.now c.loop-line.codes.now
+      emitting = emitting_more c.words_are_one_instruction.ensures c.args.text.now c.loop-line.rest.now c.in-Some.behind.now c.in-Some.line.now c.loop-line.number c.args.labels.now c.args.known.now c.loop-line.lines.now c.loop-line.codes.now c.loop-line.bytes.items c.in-Ok.code.items c.append-in-Ok.new.bytes.items _ c.loop-line.invariant.emitting c.in-Some.ensures.line c.in-Some-read.ensures.found k (grind (arith, c.in_ok-append-in-Ok.ensures.added, c.as_slice.ensures.value)) c.in-Some-first_line.others.now c.loop-line.codes.now
           (λ xs f. open_behind c.loop-line.invariant.emitting.left c.loop-line.lines.now c.in-Some-first_line.others.now c.loop-line.codes.now c.loop-line.invariant.emitting.knows c.in-Some-first_line.kept c.in-Some-first_line.ensures c.in-Open.is _ xs f);
     }
 
@@ -48,7 +48,7 @@ loop-line-preserved-in-Known c =
     let n = known_next c.words_are_one_instruction.ensures c.args.text.now c.loop-line.rest.now c.in-Some.behind.now c.in-Some.line.now c.loop-line.number c.args.labels.now c.args.known.now c.loop-line.lines.now c.in-Some-first_line.others.now c.loop-line.codes.now c.loop-line.bytes.items c.in-Known.length c.loop-line.invariant.emitting c.in-Some.ensures.line c.in-Some-first_line.kept c.in-Some-first_line.ensures c.in-Known.is in
     record {
       few = omega (arith, c.loop-line.invariant.few, c.in-Some.ensures.shorter);
-      emitting = n.more c.split_at.result.0.now c.split_at.result.1.now c.extend_from_slice.new.self.items c.split_at.ensures.front c.split_at.ensures.back (grind (arith, c.extend_from_slice.ensures.items, c.if-is_err.false, c.is_err.ensures.negation, c.is_err.ensures.value));
+      emitting = n.more c.split_at.result.0.now c.split_at.result.1.now c.append.new.bytes.items c.split_at.ensures.front c.split_at.ensures.back c.in_ok-append-in-Known.ensures.added;
     }
 
 pub split_at-requires : goal.split_at-requires
