@@ -1,5 +1,6 @@
 -- Labels in lists.
 use Rattle.std.proofs.Common.{◌≡◌, ℕ, Bool, true, false, List, [], ◌∷◌, ◌++◌, Option, Some, None, refl, sym, ap, ◌∙◌, if◌then◌else◌}
+use Rattle.std.specs.Prelude.{is_some}
 use Rattle.std.specs.Str.{bytes_eq}
 use Rattle.std.proofs.lemmas.Slice.Eq.{bytes_eq-Decides}
 use Rattle.std.proofs.lemmas.Bool.{false_from_ne_true}
@@ -60,3 +61,12 @@ once_more [] l o h = (refl, tt)
 once_more (x ∷ xs) l o h =
     let s = split_none (bytes_eq x.name.bytes l.name.bytes) x.place (find l.name xs) h in
     (find_more x.name l.name l.place xs s.1 ∙ rw (other_way x.name.bytes l.name.bytes s.0) o.0, once_more xs l o.1 s.1)
+
+-- what a map had under a name, and so what a list has
+pub is_new : (old stood found : Option ℕ) → is_some old ≡ false → old ≡ stood → stood ≡ found → found ≡ None
+is_new None stood found t e f = sym (e ∙ f)
+is_new (Some x) stood found t e f = absurd cc
+
+pub is_old : (old stood found : Option ℕ) → is_some old ≡ true → old ≡ stood → stood ≡ found → found ≡ None → ⊥
+is_old None stood found t e f g = let h : false ≡ true = t in cc
+is_old (Some x) stood found t e f g = let h : Some x ≡ None = e ∙ f ∙ g in cc

@@ -8,3 +8,5 @@ pub mod Passes
 pub mod OneAnswer
 pub mod Listed
 pub mod Spelled
+mod Anywhere
+mod Remembered

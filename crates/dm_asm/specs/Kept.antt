@@ -12,6 +12,8 @@ use Rattle.dm_asm.specs.Lines.{lines_of}
 use Rattle.dm_asm.specs.Programs.{Sized, Laid, total, most, labels_of}
 use Rattle.dm_asm.specs.Labels.{Label, find}
 use Rattle.dm_asm.specs.Codes.{Codes, Knows}
+use Rattle.dm_asm.specs.declared.known.Known.{Known}
+use Rattle.dm_asm.specs.Fixed.{AreKnown}
 
 -- the map has each name's first place in the list
 abbrev pub AreKept : Labels → List Label → Type 0
@@ -26,9 +28,10 @@ abbrev pub IsProblem : List Label → ℕ → Item → Problem → Type 0
 IsProblem labels at item problem.Unknown = Knows labels item → ⊥
 IsProblem labels at item problem.Range = Knows labels item × ((code : List ℕ) → Codes labels at item code → ⊥)
 
--- all lines read, with no label twice, and have room together; the map keeps their labels
-pub record AreLaid (text : List ℕ) (kept : Labels) : Type 0 where
+-- all lines read, with no label twice, and have room together; the map keeps their labels, and what is known of them is kept
+pub record AreLaid (text : List ℕ) (kept : Labels) (known : Known) : Type 0 where
   pub statements : List Sized
   pub laid : Laid (lines_of text) statements
   pub room : total statements ≤ most
   pub keeps : AreKept kept (labels_of statements)
+  pub knows : AreKnown statements known.lines.items known.bytes.items

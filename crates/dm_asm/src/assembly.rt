@@ -8,6 +8,7 @@ ghost use Rattle.dm_asm.specs.Kept.{AreKept, AreLaid};
 ghost use Rattle.dm_asm.specs.Programs.{Sized, Reads, labelled, Assembles, Refuses};
 
 use crate::codes::{Problem, code_of};
+use crate::known::{Known, Line, first_line};
 use crate::labels::Labels;
 use crate::lines::next_line;
 use crate::refusal::Refusal;
@@ -43,32 +44,37 @@ fn add_label(
     ensures added { OnOk result ((list : List Label) → AreKept labels.old list → IsFree label list × AreKept labels.new (list ++ labelled label place)) }
     ensures refused { IfErr result (λ e. (e ≡ OutOfMemory) ⊎ ((e ≡ IsTwice number) × ((list : List Label) → AreKept labels.old list → IsFree label list → ⊥))) }
 {
-    if let Some(name) = label {
-        if labels.find(&name).is_some() {
-            return Err(Refusal::Twice(number));
-        }
-        if labels.add(&name, place).is_err() {
-            return Err(Refusal::Memory);
-        }
+    let Some(name) = label else {
+        return Ok(());
+    };
+    match labels.add(&name, place) {
+        Ok(true) => Ok(()),
+        Ok(false) => Err(Refusal::Twice(number)),
+        Err(_) => Err(Refusal::Memory),
     }
-    Ok(())
 }
 
-/// The labels of a text, where all lines read and have room.
-fn lay(alloc: Global, text: &[u8]) -> Result<Labels, Refusal>
-    ensures laid { IfOk result (λ labels. AreLaid text.now labels) }
+/// The labels of a text, and what is known of its lines, where all lines read and have room.
+fn lay(alloc: Global, text: &[u8]) -> Result<(Labels, Known), Refusal>
+    ensures laid { IfOk result (λ r. AreLaid text.now r.0 r.1) }
     ensures refused { IfErr result (λ e. (e ≡ OutOfMemory) ⊎ Refuses text.now e) }
 {
     let mut tokens = Tokens::new();
     let mut items = Items::new();
     let mut labels = Labels::new(alloc);
+    let mut known = Known::new(alloc);
     let mut number = 0;
     let mut at = START as u128;
     let mut rest = text;
     while let Some((line, behind)) = next_line(rest) {
         number += 1;
-        let Some((statement, length)) = read(line, &mut tokens, &mut items) else {
+        let Some(statement) = read_line(line, &mut tokens, &mut items) else {
             return Err(Refusal::Syntax(number));
+        };
+        let length = match known.put(statement.item, &items) {
+            Ok(Some(length)) => length,
+            Ok(None) => return Err(Refusal::Syntax(number)),
+            Err(_) => return Err(Refusal::Memory),
         };
         match add_label(&mut labels, statement.label, at, number) {
             Ok(()) => {}
@@ -80,12 +86,23 @@ fn lay(alloc: Global, text: &[u8]) -> Result<Labels, Refusal>
     if at > START as u128 + MOST {
         return Err(Refusal::TooLong);
     }
-    Ok(labels)
+    Ok((labels, known))
+}
+
+/// Appends bytes to those so far.
+fn append(bytes: &mut Vec<u8>, code: &[u8]) -> Result<(), Refusal>
+    ensures added { OnOk result (bytes.new.items ≡ bytes.old.items ++ code.now) }
+    ensures refused { IfErr result (λ e. e ≡ OutOfMemory) }
+{
+    match bytes.extend_from_slice(code) {
+        Ok(()) => Ok(()),
+        Err(_) => Err(Refusal::Memory),
+    }
 }
 
 /// The bytes of a text whose labels have these places.
-fn emit(alloc: Global, text: &[u8], labels: &Labels) -> Result<Vec<u8>, Refusal>
-    requires { AreLaid text.now labels.now }
+fn emit(alloc: Global, text: &[u8], labels: &Labels, known: &Known) -> Result<Vec<u8>, Refusal>
+    requires { AreLaid text.now labels.now known.now }
     ensures assembled { IfOk result (λ v. Assembles text.now v.items) }
     ensures refused { IfErr result (λ e. (e ≡ OutOfMemory) ⊎ Refuses text.now e) }
 {
@@ -93,25 +110,37 @@ fn emit(alloc: Global, text: &[u8], labels: &Labels) -> Result<Vec<u8>, Refusal>
     let mut tokens = Tokens::new();
     let mut items = Items::new();
     let mut bytes = Vec::new(alloc);
+    let mut lines = known.lines.as_slice();
+    let mut codes = known.bytes.as_slice();
     let mut number = 0;
     let mut rest = text;
     while let Some((line, behind)) = next_line(rest) {
         number += 1;
+        // Something is kept of each line.
+        let Some((kept, others)) = first_line(lines) else {
+            return Err(Refusal::Syntax(number));
+        };
+        lines = others;
+        rest = behind;
+        match kept {
+            Line::Known(length) => {
+                let (code, left) = codes.split_at(length as usize);
+                append(&mut bytes, code)?;
+                codes = left;
+                continue;
+            }
+            Line::Open => {}
+        }
         // The first pass has read it.
         let Some((statement, length)) = read(line, &mut tokens, &mut items) else {
             return Err(Refusal::Syntax(number));
         };
         let at = START + bytes.len();
         match code_of(labels, at as u16, length, statement.item, &items) {
-            Ok(code) => {
-                if bytes.extend_from_slice(code.as_slice()).is_err() {
-                    return Err(Refusal::Memory);
-                }
-            }
+            Ok(code) => append(&mut bytes, code.as_slice())?,
             Err(Problem::Unknown) => return Err(Refusal::Unknown(number)),
             Err(Problem::Range) => return Err(Refusal::Range(number)),
         }
-        rest = behind;
     }
     Ok(bytes)
 }
@@ -128,6 +157,6 @@ pub fn assemble(alloc: Global, text: &[u8]) -> Result<Vec<u8>, Refusal>
     // This is first wrong with the text, unless memory was refused.
     ensures refused { IfErr result (λ e. (e ≡ OutOfMemory) ⊎ Refuses text.now e) }
 {
-    let labels = lay(alloc, text)?;
-    emit(alloc, text, &labels)
+    let (labels, known) = lay(alloc, text)?;
+    emit(alloc, text, &labels, &known)
 }

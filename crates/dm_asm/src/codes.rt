@@ -13,11 +13,10 @@ ghost use Rattle.dm_asm.specs.Codes.{placed as placed_of, placed_words as words_
 
 use crate::labels::Labels;
 use arrayvec::ArrayVec;
-use dm_ins::encode;
 use dm_lines::{
     Amount, Instruction, Item, Items, Term, Value, byte, outlines_stand, word_at, written,
 };
-use dm_read::{Words, Written, read_words, stand_ins_have_the_length, words_are_one_instruction};
+use dm_read::{Words, Written, read_encoded, stand_ins_have_the_length, words_are_one_instruction};
 
 /// The bytes of one line.
 pub(crate) type Code = ArrayVec<u8, 256>;
@@ -65,7 +64,7 @@ fn address_fits(segment: u16, offset: u16)
 {}
 
 /// The numbers in an operand fit their types. It does nothing when called.
-fn term_fits(term: &Term)
+pub(crate) fn term_fits(term: &Term)
     ensures { TermFits term.now }
 {
     match term {
@@ -96,12 +95,12 @@ fn instruction_code(
     term_fits(&instruction.second);
     let next = at + length as u16;
     let words = placed_words(labels, instruction, next)?;
-    let ins = read_words(instruction.prefixes, &words)?;
-    Some(encode(&ins))
+    let encoded = read_encoded(instruction.prefixes, &words)?;
+    Some(encoded.1)
 }
 
 /// The bytes of a DB.
-fn bytes_code(amounts: &[Amount]) -> Option<Code>
+pub(crate) fn bytes_code(amounts: &[Amount]) -> Option<Code>
     requires { length amounts.now ≤ 255 }
     ensures found { IfSome result (λ code. map byte_of amounts.now ≡ map Some code.items) }
     ensures none { IfNone result ((code : List ℕ) → map byte_of amounts.now ≡ map Some code → ⊥) }

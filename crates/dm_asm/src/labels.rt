@@ -1,6 +1,6 @@
 //! Labels and their places.
 
-ghost use Rattle.std.specs.Prelude.{◌≡◌, ◌++◌, ◌∷◌, [], None, IfSome, OnOk, ◌<◌, ◌^◌};
+ghost use Rattle.std.specs.Prelude.{◌≡◌, ◌++◌, ◌∷◌, [], None, IfSome, IfOk, true, false, ◌<◌, ◌^◌};
 ghost use Rattle.dm_asm.specs.Labels.{find as find_of, place_of as place_at, term_place as term_at};
 ghost use Rattle.dm_asm.specs.Kept.{AreKept, AreNear};
 ghost use Rattle.dm_asm.specs.Labels.{Label};
@@ -34,12 +34,13 @@ impl Labels {
         self.places.get(&name.bytes).copied()
     }
 
-    /// Adds a label that no line had.
-    pub(crate) fn add(&mut self, name: &Name, place: u128) -> Result<(), AllocError>
-        ensures { OnOk result ((labels : List Label) → AreKept self.old labels → find_of name.now labels ≡ None → AreKept self.new (labels ++ record { name = name.now; place = place } ∷ [])) }
+    /// Adds a label, where no line had it; answers whether that is so.
+    pub(crate) fn add(&mut self, name: &Name, place: u128) -> Result<bool, AllocError>
+        ensures added { IfOk result (λ added. added ≡ true → (labels : List Label) → AreKept self.old labels → (find_of name.now labels ≡ None) × AreKept self.new (labels ++ record { name = name.now; place = place } ∷ [])) }
+        ensures had { IfOk result (λ added. added ≡ false → (labels : List Label) → AreKept self.old labels → find_of name.now labels ≡ None → ⊥) }
     {
         match self.places.insert(name.bytes, place) {
-            Ok(_) => Ok(()),
+            Ok(old) => Ok(old.is_none()),
             Err(_) => Err(AllocError),
         }
     }

@@ -3,6 +3,8 @@
 
 mod assembly;
 mod codes;
+mod fixed;
+mod known;
 mod labels;
 mod laws;
 mod lines;

@@ -4,9 +4,8 @@ ghost use Rattle.std.specs.Prelude.{◌≡◌, ◌≤◌, ℕ, Some, IfSome, len
 ghost use Rattle.dm_lines.specs.Statements.{seen_item};
 ghost use Rattle.dm_asm.specs.Codes.{outlined, HasShape, HasLength};
 
-use dm_ins::encode;
 use dm_lines::{Instruction, Item, Items, outline};
-use dm_read::{Words, read_words, words_are_one_instruction};
+use dm_read::{Words, read_encoded, words_are_one_instruction};
 
 /// What is written in an instruction, before labels have places.
 fn outlines(instruction: &Instruction) -> Words
@@ -28,8 +27,8 @@ pub(crate) fn instruction_length(instruction: &Instruction) -> Option<usize>
 {
     words_are_one_instruction();
     let words = outlines(instruction);
-    let ins = read_words(instruction.prefixes, &words)?;
-    Some(encode(&ins).len())
+    let encoded = read_encoded(instruction.prefixes, &words)?;
+    Some(encoded.1.len())
 }
 
 /// How many bytes an item has, whose data lies in `items`.

@@ -1,0 +1,64 @@
+-- Only for the passes, and no part of what is promised: the bytes that the first pass knows already, because they are the same
+-- wherever a statement stands.
+use Rattle.std.specs.Prelude.{◌≡◌, ℕ, ◌≤◌, Bool, true, false, List, [], ◌∷◌, ◌++◌, length, Option, Some, None, is_none}
+use Rattle.dm_ins.specs.declared.operand.Operand.{Operand}
+use Rattle.dm_ins.specs.declared.operand.Operand.TheVariants as operand
+use Rattle.dm_read.specs.declared.written.Words.{Words}
+use Rattle.dm_lines.specs.declared.term.Term.{Term}
+use Rattle.dm_lines.specs.declared.term.Term.TheVariants as term
+use Rattle.dm_lines.specs.declared.statement.Instruction.{Instruction}
+use Rattle.dm_lines.specs.Placing.{written_of}
+use Rattle.dm_lines.specs.Statements.{Item}
+use Rattle.dm_asm.specs.declared.known.Line.{Line}
+use Rattle.dm_asm.specs.declared.known.Line.TheVariants as line
+use Rattle.dm_asm.specs.declared.known.Known.{Known}
+use Rattle.dm_asm.specs.Labels.{Label}
+use Rattle.dm_asm.specs.Codes.{Codes, HasLength}
+use Rattle.dm_asm.specs.Programs.{Sized}
+
+-- whether an operand names no label
+abbrev pub names_none : Term → Bool
+names_none (term.Address s v) = is_none v.label
+names_none (term.Number v) = is_none v.label
+names_none _ = true
+
+-- whether an operand counts from the next instruction
+abbrev pub targets : Operand → Bool
+targets (operand.Target n) = true
+targets _ = false
+
+-- what is written in an instruction that names no label, where a target counts from 0
+pub record AreFixed (i : Instruction) (words : Words) : Type 0 where
+  pub mnemonic : words.mnemonic ≡ i.mnemonic
+  pub first_free : names_none i.first ≡ true
+  pub second_free : names_none i.second ≡ true
+  pub first : written_of i.mnemonic i.first 0 0 ≡ Some words.first
+  pub second : written_of i.mnemonic i.second 0 0 ≡ Some words.second
+
+-- these are the bytes of an item, wherever it stands and wherever labels do
+abbrev pub IsFixed : Item → List ℕ → Type 0
+IsFixed item code = (labels : List Label) (at : ℕ) → Codes labels at item code
+
+-- the bytes of one known line lie in front of the others
+pub record IsKnown (x : Sized) (n : ℕ) (bytes rest : List ℕ) : Type 0 where
+  pub code : List ℕ
+  pub is : IsFixed x.statement.item code
+  pub long : n ≡ length code
+  pub parts : bytes ≡ code ++ rest
+
+-- of each statement its bytes are kept, or nothing
+abbrev pub AreKnown : List Sized → List Line → List ℕ → Type 0
+AreKnown [] [] bytes = bytes ≡ []
+AreKnown [] (l ∷ ls) bytes = ⊥
+AreKnown (x ∷ xs) [] bytes = ⊥
+AreKnown (x ∷ xs) (line.Open ∷ ls) bytes = AreKnown xs ls bytes
+AreKnown (x ∷ xs) (line.Known n ∷ ls) bytes = (rest : List ℕ) × IsKnown x n bytes rest × AreKnown xs ls rest
+
+-- one more statement of an item is kept
+abbrev pub Keeps : Known → Known → Item → Type 0
+Keeps old new item = (xs : List Sized) (x : Sized) → x.statement.item ≡ item → AreKnown xs old.lines.items old.bytes.items → AreKnown (xs ++ x ∷ []) new.lines.items new.bytes.items
+
+-- an item of a length is kept, or has none
+abbrev pub KeepsOf : Known → Known → Item → Option ℕ → Type 0
+KeepsOf old new item None = (n : ℕ) → HasLength item n → ⊥
+KeepsOf old new item (Some n) = HasLength item n × (n ≤ 256) × Keeps old new item

@@ -1,0 +1,73 @@
+//! The bytes of instructions that have the same ones wherever they stand.
+
+ghost use Rattle.std.specs.Prelude.{◌≡◌, ℕ, List, true, Some, IfSome};
+ghost use Rattle.dm_lines.specs.Placing.{written_of};
+ghost use Rattle.dm_asm.specs.Labels.{Label};
+ghost use Rattle.dm_asm.specs.Codes.{IsCoded};
+ghost use Rattle.dm_asm.specs.Fixed.{AreFixed, names_none, targets};
+
+use crate::codes::term_fits;
+use arrayvec::ArrayVec;
+use dm_ins::{Mnemonic, Operand};
+use dm_lines::{Instruction, Term, outlines_stand, written};
+use dm_read::{Words, Written, read_encoded, stand_ins_have_the_length};
+
+/// Whether an operand names no label.
+fn is_free(term: &Term) -> bool
+    ensures { result ≡ names_none term.now }
+{
+    match term {
+        Term::Address(_, value) => value.label.is_none(),
+        Term::Number(value) => value.label.is_none(),
+        _ => true,
+    }
+}
+
+/// What is written where an operand stands that names no label, where a target counts from 0.
+fn fixed(mnemonic: Mnemonic, term: &Term) -> Option<Written>
+    ensures { IfSome result (λ w. (names_none term.now ≡ true) × (written_of mnemonic term.now 0 0 ≡ Some w)) }
+{
+    if is_free(term) {
+        written(mnemonic, term, 0, 0)
+    } else {
+        None
+    }
+}
+
+/// What is written in an instruction that names no label.
+fn fixed_words(instruction: &Instruction) -> Option<Words>
+    ensures { IfSome result (λ words. AreFixed instruction.now words) }
+{
+    let mnemonic = instruction.mnemonic;
+    let first = fixed(mnemonic, &instruction.first)?;
+    let second = fixed(mnemonic, &instruction.second)?;
+    Some(Words {
+        mnemonic,
+        first,
+        second,
+    })
+}
+
+/// Whether an operand counts from the next instruction.
+fn is_target(operand: Operand) -> bool
+    ensures { result ≡ targets operand }
+{
+    matches!(operand, Operand::Target(_))
+}
+
+/// The bytes of an instruction that names no label and has no target, so that they are the same wherever it stands; None for any
+/// other one, and where the table has none.
+pub(crate) fn fixed_code(instruction: &Instruction) -> Option<ArrayVec<u8, 16>>
+    ensures { IfSome result (λ code. (list : List Label) (at : ℕ) → IsCoded list at instruction.now code.items) }
+{
+    outlines_stand();
+    stand_ins_have_the_length();
+    term_fits(&instruction.first);
+    term_fits(&instruction.second);
+    let words = fixed_words(instruction)?;
+    let (ins, code) = read_encoded(instruction.prefixes, &words)?;
+    if is_target(ins.action.first) || is_target(ins.action.second) {
+        return None;
+    }
+    Some(code)
+}

@@ -1,0 +1,115 @@
+//! What the first pass keeps of the lines, so that the second one need not read them again.
+
+ghost use Rattle.std.specs.Prelude.{◌≡◌, ◌≤◌, [], ◌∷◌, IfOk, MatchOption, OnOk, length};
+ghost use Rattle.dm_lines.specs.Statements.{Item as Stated, seen_item, bytes as data_bytes, instruction as encoded};
+ghost use Rattle.dm_asm.specs.Fixed.{AreKnown, IsFixed, Keeps, KeepsOf};
+
+use crate::codes::bytes_code;
+use crate::fixed::fixed_code;
+use crate::shapes::instruction_length;
+use dm_lines::{Amount, Instruction, Item, Items};
+use std::alloc::{AllocError, Global};
+
+/// What is kept of one line.
+#[derive(Clone, Copy, Debug, PartialEq, Eq)]
+pub(crate) enum Line {
+    /// Its bytes are kept, so many of them.
+    Known(u8),
+    /// Nothing: it is read again when labels have their places.
+    Open,
+}
+
+/// What is kept of the first of some lines, and what of those behind it.
+pub(crate) fn first_line(lines: &[Line]) -> Option<(Line, &[Line])>
+    ensures { MatchOption result (lines.now ≡ []) (λ r. lines.now ≡ r.0 ∷ r.1.now) }
+{
+    match lines {
+        [line, others @ ..] => Some((*line, others)),
+        [] => None,
+    }
+}
+
+/// What is kept of the lines so far.
+#[derive(Drop)]
+pub(crate) struct Known {
+    pub(crate) lines: Vec<Line>,
+    /// The bytes of the lines that are known, one behind the other.
+    pub(crate) bytes: Vec<u8>,
+}
+
+impl Known {
+    /// No lines.
+    pub(crate) fn new(alloc: Global) -> Known
+        ensures { AreKnown [] result.lines.items result.bytes.items }
+    {
+        Known {
+            lines: Vec::new(alloc),
+            bytes: Vec::new(alloc),
+        }
+    }
+
+    /// One more line, whose bytes are these.
+    fn put_bytes(&mut self, code: &[u8]) -> Result<(), AllocError>
+        requires { length code.now ≤ 255 }
+        ensures { OnOk result ((item : Stated) → IsFixed item code.now → Keeps self.old self.new item) }
+    {
+        self.lines.push(Line::Known(code.len() as u8))?;
+        self.bytes.extend_from_slice(code)?;
+        Ok(())
+    }
+
+    /// One more line, which is read again.
+    fn put_open(&mut self) -> Result<(), AllocError>
+        ensures { OnOk result ((item : Stated) → Keeps self.old self.new item) }
+    {
+        self.lines.push(Line::Open)?;
+        Ok(())
+    }
+
+    /// One more line, an instruction; answers how many bytes it has, or None where the table has none such.
+    fn put_instruction(&mut self, instruction: &Instruction) -> Result<Option<usize>, AllocError>
+        ensures { IfOk result (λ n. KeepsOf self.old self.new (encoded instruction.now) n) }
+    {
+        match fixed_code(instruction) {
+            Some(code) => {
+                self.put_bytes(code.as_slice())?;
+                Ok(Some(code.len()))
+            }
+            None => {
+                self.put_open()?;
+                Ok(instruction_length(instruction))
+            }
+        }
+    }
+
+    /// One more line, a DB; answers how many bytes it has.
+    fn put_data(&mut self, amounts: &[Amount]) -> Result<Option<usize>, AllocError>
+        requires { length amounts.now ≤ 255 }
+        ensures { IfOk result (λ n. KeepsOf self.old self.new (data_bytes amounts.now) n) }
+    {
+        match bytes_code(amounts) {
+            Some(code) => self.put_bytes(code.as_slice())?,
+            None => self.put_open()?,
+        }
+        Ok(Some(amounts.len()))
+    }
+
+    /// One more line with this item, whose data lies in `items`; answers how many bytes it has, or None where the table has no such
+    /// instruction.
+    pub(crate) fn put(&mut self, item: Item, items: &Items) -> Result<Option<usize>, AllocError>
+        ensures { IfOk result (λ n. KeepsOf self.old self.new (seen_item items.now item) n) }
+    {
+        match item {
+            Item::Nothing => {
+                self.put_bytes(&[])?;
+                Ok(Some(0))
+            }
+            Item::Instruction(instruction) => self.put_instruction(&instruction),
+            Item::Bytes => self.put_data(items.bytes.as_slice()),
+            Item::Words => {
+                self.put_open()?;
+                Ok(Some(2 * items.words.len()))
+            }
+        }
+    }
+}
