@@ -1,5 +1,5 @@
 -- Tables and memory go together after each call that a test makes.
-use Rattle.std.proofs.Common.{◌≡◌, ℕ, sym, subst}
+use Rattle.std.proofs.Common.{◌≡◌, ℕ, ◌≤◌, sym, subst}
 use Rattle.dm_pool.specs.Blocks.{Blocks, no_blocks}
 use Rattle.dm_space.specs.Memory.{Memory, of_ram, poke}
 use Rattle.dm_space.proofs.Places.{poke-shaped}
@@ -18,10 +18,10 @@ use Rattle.dm_ems_move.proofs.Keeping.{moves_keep}
 same : (x y : Expanded) → y ≡ x → IsLinked x → IsLinked y
 same x y e l = subst IsLinked (sym e) l
 
-pub starting : (total units : ℕ) (ems : Tables) (blocks : Blocks) (m : Memory) → ems ≡ new_tables total → blocks ≡ no_blocks units → m ≡ of_ram m.low blocks → IsLinked (expanded ems m)
-starting total units ems blocks m t e f =
+pub starting : (total units : ℕ) (ems : Tables) (blocks : Blocks) (m : Memory) → total ≤ 512 → ems ≡ new_tables total → blocks ≡ no_blocks units → m ≡ of_ram m.low blocks → IsLinked (expanded ems m)
+starting total units ems blocks m few t e f =
     subst (λ x. IsLinked (expanded x m)) (sym t)
-    (subst (λ n. IsLinked (expanded (new_tables total) n)) (sym f) (subst (λ b. IsLinked (expanded (new_tables total) (of_ram m.low b))) (sym e) (start_linked total units m.low)))
+    (subst (λ n. IsLinked (expanded (new_tables total) n)) (sym f) (subst (λ b. IsLinked (expanded (new_tables total) (of_ram m.low b))) (sym e) (start_linked total units m.low few)))
 
 pub poking : (x : Expanded) (m : Memory) (a v : ℕ) → m ≡ poke x.memory a v → IsLinked x → IsLinked (expanded x.ems m)
 poking x m a v e l = subst (λ n. IsLinked (expanded x.ems n)) (sym e) (writes_keep x _ (poke-shaped x.memory a v) l)

@@ -35,7 +35,7 @@ impl Expanded {
             xms_kib: 0,
         };
         let space = Space::new(Store::new(alloc, sizes)?);
-        let total = if pages <= 512 { pages } else { 0 };
+        let total = pages.min(512);
         Ok(Expanded {
             ems: Ems::new(total),
             space,

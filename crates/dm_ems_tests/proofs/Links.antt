@@ -1,5 +1,5 @@
 -- Tables and memory go together after each call that a test makes.
-use Rattle.std.proofs.Common.{◌≡◌, ℕ, suc, ◌%◌, List, [], ◌∷◌, Option, Some, None, Result, Ok, Err, sym, subst}
+use Rattle.std.proofs.Common.{◌≡◌, ℕ, ◌≤◌, suc, ◌%◌, List, [], ◌∷◌, Option, Some, None, Result, Ok, Err, sym, subst}
 use Rattle.dm_pool.specs.Blocks.{Blocks, no_blocks}
 use Rattle.dm_space.specs.Memory.{Memory, of_ram, poke, linear}
 use Rattle.dm_space.specs.Buffers.{with_bytes}
@@ -8,7 +8,7 @@ use Rattle.dm_space.proofs.Places.{shaped-same, shaped-then, poke-shaped}
 use Rattle.dm_ems.specs.declared.status.Status.TheVariants.{UnknownHandle}
 use Rattle.dm_ems.specs.declared.tables.Handle.{Handle}
 use Rattle.dm_ems.specs.Tables.{Tables, Expanded, expanded, new_tables, appended_page, cut}
-use Rattle.dm_ems.specs.Linked.{IsLinked}
+use Rattle.dm_ems.specs.Linked.{IsUsed, IsLinked}
 use Rattle.dm_ems.specs.Calls.{left, with_memory, need, slot}
 use Rattle.dm_ems.specs.Handles.{allocate, deallocate}
 use Rattle.dm_ems.specs.Maps.{map_page, save_map, restore_map}
@@ -19,10 +19,10 @@ use Rattle.dm_ems.proofs.Keeping.{calls_keep, writes_keep, start_linked}
 same : (x y : Expanded) → y ≡ x → IsLinked x → IsLinked y
 same x y e l = subst IsLinked (sym e) l
 
-pub starting : (total units : ℕ) (ems : Tables) (blocks : Blocks) (m : Memory) → ems ≡ new_tables total → blocks ≡ no_blocks units → m ≡ of_ram m.low blocks → IsLinked (expanded ems m)
-starting total units ems blocks m t e f =
+pub starting : (total units : ℕ) (ems : Tables) (blocks : Blocks) (m : Memory) → total ≤ 512 → ems ≡ new_tables total → blocks ≡ no_blocks units → m ≡ of_ram m.low blocks → IsLinked (expanded ems m)
+starting total units ems blocks m few t e f =
     subst (λ x. IsLinked (expanded x m)) (sym t)
-    (subst (λ n. IsLinked (expanded (new_tables total) n)) (sym f) (subst (λ b. IsLinked (expanded (new_tables total) (of_ram m.low b))) (sym e) (start_linked total units m.low)))
+    (subst (λ n. IsLinked (expanded (new_tables total) n)) (sym f) (subst (λ b. IsLinked (expanded (new_tables total) (of_ram m.low b))) (sym e) (start_linked total units m.low few)))
 
 pub allocating : (x y : Expanded) (n : ℕ) → y ≡ left x (allocate x n) → IsLinked x → IsLinked y
 allocating x y n e l = same _ y e (calls_keep.allocating x n l)
@@ -42,8 +42,8 @@ restoring x y h e l = same _ y e (calls_keep.restoring x h l)
 pub naming : (x y : Expanded) (h s o : ℕ) → y ≡ left x (set_name x h s o) → IsLinked x → IsLinked y
 naming x y h s o e l = same _ y e (calls_keep.naming x h s o l)
 
-pub appending : (x y : Expanded) (h : ℕ) → y ≡ appended_page x h → IsLinked x → IsLinked y
-appending x y h e l = same _ y e (calls_keep.appending x h l)
+pub appending : (x y : Expanded) (h : ℕ) → IsUsed x.ems.handles h → y ≡ appended_page x h → IsLinked x → IsLinked y
+appending x y h u e l = same _ y e (calls_keep.appending x h u l)
 
 pub cutting : (x y : Expanded) (h n : ℕ) → y ≡ cut x h n → IsLinked x → IsLinked y
 cutting x y h n e l = same _ y e (calls_keep.cutting x h n l)

@@ -32,7 +32,7 @@ impl Expanded {
             xms_kib: kib,
         };
         let space = Space::new(Store::new(alloc, sizes)?);
-        let total = if pages <= 512 { pages } else { 0 };
+        let total = pages.min(512);
         Ok(Expanded {
             ems: Ems::new(total),
             space,
@@ -67,9 +67,9 @@ impl Expanded {
         self.ems.restore_map(&mut self.space, handle)
     }
 
-    /// Adds a page, where the total has room for one.
+    /// Adds a page, where the handle is in use and the total has room for one.
     pub(crate) fn append(&mut self, handle: u16) {
-        if self.ems.pages_in_use() < self.ems.total() {
+        if self.ems.slot(handle).is_some() && self.ems.pages_in_use() < self.ems.total() {
             self.ems.append(&mut self.space, handle);
         }
     }

@@ -76,8 +76,7 @@ handle_owner : (ps : List Page) (hs : List (Option Handle)) (b : ℕ) → length
 handle_owner ps hs b all h =
     let k = length ps + h.0 in
     let short = there_at hs h.0 h.1 h.2 in
-    let back : k - length ps ≡ h.0 = omega arith in
-    (
+    let back : k - length ps ≡ h.0 = omega arith in (
       k,
       omega (arith, short, all),
       ap (λ t. cond t (block_at ps k) (block_or (handle_at hs (k - length ps)))) (le-ltb k (length ps) (omega arith)) ∙ ap (λ j. block_or (handle_at hs j)) back ∙ ap block_or h.2 ∙ h.3,
