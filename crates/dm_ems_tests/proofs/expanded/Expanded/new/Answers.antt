@@ -1,4 +1,4 @@
-use Rattle.std.proofs.Common.{ap, ◌∙◌}
+use Rattle.std.proofs.Common.{ap, ◌∙◌, arith}
 use Rattle.dm_space.specs.Memory.{Held}
 use Rattle.dm_ems_tests.proofs.Links.{starting}
 use Rattle.dm_ems_tests.proofs.expanded.Expanded.new.Goals as goal
