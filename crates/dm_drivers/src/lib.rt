@@ -14,4 +14,4 @@ mod regions;
 mod windows;
 
 pub use drivers::{Driver, drive, driver_at};
-pub use laws::drivers_keep;
+pub use laws::{drivers_keep, pages_come};

@@ -1,6 +1,6 @@
 //! Regions of memory that are moved or exchanged (LIM EMS 4.0, function 24; INT 67h, 57h).
 
-ghost use Rattle.std.specs.Prelude.{◌≡◌, ◌≤◌, ◌+◌, IfOk};
+ghost use Rattle.std.specs.Prelude.{◌≡◌, ◌≤◌, ◌+◌, IfOk, OnErr};
 ghost use Rattle.dm_ems.specs.Tables.{expanded};
 ghost use Rattle.dm_ems.specs.Linked.{IsLinked};
 ghost use Rattle.dm_ems.specs.Calls.{answer, left};
@@ -149,6 +149,7 @@ fn move_between(
     requires to { IsInside space.old.memory to.now len }
     ensures answer { result ≡ answer (move_between (expanded ems.now space.old.memory) len from.now to.now) }
     ensures left { expanded ems.now space.new.memory ≡ left (expanded ems.now space.old.memory) (move_between (expanded ems.now space.old.memory) len from.now to.now) }
+    ensures refused { OnErr result (space.new ≡ space.old) }
 {
     if !overlap(space, from, to, len) {
         move_bytes(space, from, to, len);
@@ -174,6 +175,7 @@ fn exchange_between(
     requires to { IsInside space.old.memory to.now len }
     ensures answer { result ≡ answer (exchange_between (expanded ems.now space.old.memory) len from.now to.now) }
     ensures left { expanded ems.now space.new.memory ≡ left (expanded ems.now space.old.memory) (exchange_between (expanded ems.now space.old.memory) len from.now to.now) }
+    ensures refused { OnErr result (space.new ≡ space.old) }
 {
     if !overlap(space, from, to, len) {
         exchange_bytes(space, from, to, len);
@@ -197,12 +199,14 @@ fn exchange_between(
 ///
 /// In this order: `TooLong` over 1 MiB; for the source and then the destination `UnknownKind` for another type, `PastMemory` where
 /// conventional memory is left, `UnknownHandle`, `OffsetPastPage`, `NoSuchPage`, `PastPages` where the handle's pages are left;
-/// `KindsOverlap` where a region of conventional memory shares a byte with one of pages. Then memory has not changed.
+/// `KindsOverlap` where a region of conventional memory shares a byte with one of pages. Then neither memory nor the scratch bytes have
+/// changed.
 #[tactic(auto, unfolding(crate::specs::RegionMoves::move_region))]
 pub fn move_region(ems: &Ems, space: &mut Space, segment: u16, offset: u16) -> Result<Moved, Status>
     requires { IsLinked (expanded ems.now space.old.memory) }
     ensures answer { result ≡ answer (move_region (expanded ems.now space.old.memory) segment offset) }
     ensures left { expanded ems.now space.new.memory ≡ left (expanded ems.now space.old.memory) (move_region (expanded ems.now space.old.memory) segment offset) }
+    ensures refused { OnErr result (space.new ≡ space.old) }
 {
     let len = length_at(space, segment, offset);
     if len == 0 {
@@ -224,7 +228,8 @@ pub fn move_region(ems: &Ems, space: &mut Space, segment: u16, offset: u16) -> R
 ///
 /// # Errors
 ///
-/// Those of [`move_region`] in their order; then `ExchangeOverlaps` where the regions share a byte. Then memory has not changed.
+/// Those of [`move_region`] in their order; then `ExchangeOverlaps` where the regions share a byte. Then neither memory nor the scratch bytes
+/// have changed.
 #[tactic(auto, unfolding(crate::specs::RegionMoves::exchange_region))]
 pub fn exchange_region(
     ems: &Ems,
@@ -235,6 +240,7 @@ pub fn exchange_region(
     requires { IsLinked (expanded ems.now space.old.memory) }
     ensures answer { result ≡ answer (exchange_region (expanded ems.now space.old.memory) segment offset) }
     ensures left { expanded ems.now space.new.memory ≡ left (expanded ems.now space.old.memory) (exchange_region (expanded ems.now space.old.memory) segment offset) }
+    ensures refused { OnErr result (space.new ≡ space.old) }
 {
     let len = length_at(space, segment, offset);
     if len == 0 {

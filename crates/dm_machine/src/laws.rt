@@ -1,5 +1,17 @@
 //! Laws of steps and runs, each the contract of a function that does nothing.
 ghost use Rattle.dm_machine.specs.Laws.{StepHasOneAnswer, ThereIsOneRun, RunHasOneStop, UnseenBytesChangeNoStep, UnseenBytesChangeNoRun, UnseenBlocksChangeNoRun, RunLeavesUnseen, RoomIsEnoughForRuns, RoomIsEnoughForSteps};
+ghost use Rattle.dm_state.specs.State.{AreLinked};
+
+use crate::machine::Machine;
+
+/// In each machine the tables of expanded and of extended memory and the memory go together: each page is a block of its own and has a
+/// handle in use; each handle of extended memory has a block of its own, as large as it says, that no window shows; there is no other block;
+/// and windows, saved ones too, show pages alone. So pages that are promised come (`dm_drivers::pages_come`).
+pub fn tables_and_memory_go_together(machine: &Machine)
+    ensures { AreLinked machine.now }
+{
+    let _steps = machine.parts.steps;
+}
 
 /// A step is a function of the state: no two answers of one step differ.
 pub fn a_step_has_one_answer()

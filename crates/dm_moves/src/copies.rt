@@ -99,7 +99,8 @@ pub fn move_blocks(space: &mut Space, from: &Region, to: &Region, len: usize)
     requires blocks { (from.now.kind ≡ Kind.Single) × (to.now.kind ≡ Kind.Single) }
     requires from { IsInside space.old.memory from.now len }
     requires to { IsInside space.old.memory to.now len }
-    ensures { space.new.memory ≡ moved space.old.memory from.now to.now len }
+    ensures memory { space.new.memory ≡ moved space.old.memory from.now to.now len }
+    ensures scratch { space.new.scratch ≡ space.old.scratch }
 {
     if len == 0 {
         return;

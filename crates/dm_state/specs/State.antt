@@ -1,5 +1,6 @@
 -- The state of the machine, and what a step answers.
-use Rattle.std.specs.Prelude.{ℕ, ◌+◌, ◌-◌, ◌^◌, ◌<◌, min, Bool, All, List, Option, Some, None, IfSome}
+use Rattle.std.specs.Prelude.{◌≡◌, ◌⊎◌, ℕ, ◌+◌, ◌-◌, ◌^◌, ◌<◌, min, Bool, All, List, Option, Some, None, IfSome}
+use Rattle.dm_pool.specs.Blocks.{IsLive}
 use Rattle.dm_space.specs.Memory.{Memory}
 use Rattle.dm_ems.specs.Tables.{Tables, expanded}
 use Rattle.dm_ems.specs.Linked.{IsOwned, IsLinked}
@@ -7,6 +8,7 @@ use Rattle.dm_xms.specs.Tables as xms
 use Rattle.dm_xms.specs.Tables.{extended}
 use Rattle.dm_xms.specs.Linked as extended_memory
 use Rattle.dm_xms.specs.Linked.{handle_at}
+use Rattle.dm_xms.specs.declared.tables.Handle.{Handle}
 use Rattle.dm_exec.specs.declared.cpu.Cpu.{Cpu}
 use Rattle.dm_exec.specs.Guest.{Guest, guest}
 use Rattle.dm_exec.specs.Stack.{interrupt_return}
@@ -48,11 +50,17 @@ HaveSegments parents = All (λ p. 0 < p.segment) parents
 abbrev pub HasProgram : State → Type 0
 HasProgram s = 0 < s.processes.present
 
--- the tables of expanded and of extended memory and the memory go together, and no block is a page and a handle's at once
+-- the block is that of a handle of extended memory
+abbrev pub IsHandled : List (Option Handle) → ℕ → Type 0
+IsHandled handles block = (k : ℕ) × (h : Handle) × (handle_at handles k ≡ Some h) × (h.block ≡ block)
+
+-- the tables of expanded and of extended memory and the memory go together, no block is a page and a handle's at once, and each that is
+-- there is one of them
 pub record GoTogether (pages : Tables) (blocks : xms.Tables) (m : Memory) : Type 0 where
   pub ems : IsLinked (expanded pages m)
   pub xms : extended_memory.IsLinked (extended blocks m)
   pub apart : (k : ℕ) → IfSome (handle_at blocks.handles k) (λ h. IsOwned pages.pages h.block → ⊥)
+  pub whole : (block : ℕ) → IsLive m.blocks block → IsOwned pages.pages block ⊎ IsHandled blocks.handles block
 
 abbrev pub AreLinked : State → Type 0
 AreLinked s = GoTogether s.ems s.xms s.memory

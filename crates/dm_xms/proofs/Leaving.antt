@@ -1,5 +1,5 @@
 -- Calls leave what is outside of extended memory.
-use Rattle.std.proofs.Common.{◌≡◌, ◌≢◌, ℕ, ◌+◌, ◌-◌, ◌%◌, ◌<◌, ◌==◌, Bool, true, false, cond, List, [], Option, Some, None, length, get_or, set, position, refl, sym, ◌∙◌, ap, subst, inl, inr, arith}
+use Rattle.std.proofs.Common.{◌≡◌, ◌≢◌, ℕ, zero, suc, ◌+◌, ◌-◌, ◌%◌, ◌<◌, ◌==◌, Bool, true, false, cond, List, [], ◌∷◌, Option, Some, None, length, get_or, set, position, refl, sym, ◌∙◌, ap, subst, inl, inr, arith}
 use Rattle.std.specs.Prelude.{Result, Ok, Err, IfSome, is_none, nat_lt, ◌||◌}
 use Rattle.std.proofs.lemmas.Bool.{cases_eq}
 use Rattle.std.proofs.lemmas.List.Quantifiers.{position-Some}
@@ -27,12 +27,13 @@ use Rattle.dm_moves.proofs.Shapes.{moves_keep}
 use Rattle.dm_xms.proofs.Linked.{IsChanged, changed_block, live_stays, if_handle, turned, set_at, set_beside, slot_at, there_at, taken_new, not_live, same_pool, at_sized}
 
 pub leaves_all : (x : Extended) → LeavesOutside x x
-leaves_all x = record { blocks = λ b n o. o; windows = refl }
+leaves_all x = record { blocks = λ b n o. o; others = λ b live none. (live, none); windows = refl }
 
 -- the same handles, and the same pool
 leaves_tables : (x : Extended) (xms : Tables) → xms.handles ≡ x.xms.handles → LeavesOutside x (extended xms x.memory)
 leaves_tables x xms e = record {
   blocks = λ b n o. record { live = o.live; size = o.size; apart = λ k. subst (λ (hs : List (Option Handle)). IfSome (handle_at hs k) (λ h. h.block ≢ b)) (sym e) (o.apart k) };
+  others = λ b live none. (live, λ k. subst (λ (hs : List (Option Handle)). IfSome (handle_at hs k) (λ h. h.block ≢ b)) e (none k));
   windows = refl;
 }
 
@@ -44,17 +45,37 @@ leaves_shaped x m s = record {
     size = s.page_sizes b ∙ o.size;
     apart = o.apart;
   };
+  others = λ b live none. ((live.0, (live.1.0, ap (λ (xs : List (Option Place)). get_or xs b None) (sym s.places) ∙ live.1.1)), none);
   windows = s.windows;
 }
 
 -- ---- a handle and its block change together
 
--- the pool changes at the block i, which the slot k has from now on, if any, and which is not outside
+-- the pool changes at the block i, which the slot k had, if any, and has from now on, or which is gone; it is not outside
 record IsChange (x : Extended) (k i : ℕ) (new : Option Handle) (t : Blocks) : Type 0 where
   pub within : k < length x.xms.handles
   pub changed : IsChanged x.memory.blocks t i
+  pub old : IfSome (handle_at x.xms.handles k) (λ h. h.block ≡ i)
   pub same : IfSome new (λ h. h.block ≡ i)
+  pub gone : new ≡ None → get_or t.places i None ≡ None
   pub inside : (b size : ℕ) → IsOutside x b size → i ≢ b
+
+-- a block that is there and is not the new handle's is another one
+other_block : (t : Blocks) (i b : ℕ) (new : Option Handle) → IfSome new (λ h. h.block ≡ i) → (new ≡ None → get_or t.places i None ≡ None) → IsLive t b → IfSome new (λ h. h.block ≢ b) → b ≢ i
+other_block t i b None same gone live ne e = not_live t i (gone refl) (subst (IsLive t) e live)
+other_block t i b (Some h) same gone live ne e = ne (same ∙ sym e)
+
+was_live : (s t : Blocks) (i b : ℕ) → IsChanged s t i → b ≢ i → IsLive t b → IsLive s b
+was_live s t i b c ne live = (live.0, (live.1.0, sym (c.others b ne) ∙ live.1.1))
+
+none_before : (x : Extended) (k i b : ℕ) (new : Option Handle) → IfSome (handle_at x.xms.handles k) (λ h. h.block ≡ i) → b ≢ i → ((j : ℕ) → IfSome (handle_at (set x.xms.handles k new) j) (λ h. h.block ≢ b))
+    → (j : ℕ) → IfSome (handle_at x.xms.handles j) (λ h. h.block ≢ b)
+none_before x k i b new old ne none j =
+    let P : Option Handle → Type 0 = λ o. IfSome o (λ h. h.block ≢ b) in
+    elim (cases_eq j k) [
+      | inl e ↦ subst P (sym (ap (handle_at x.xms.handles) e)) (if_handle (handle_at x.xms.handles k) (λ h. h.block ≡ i) (λ h. h.block ≢ b) (λ h p q. ne (sym q ∙ p)) old)
+      | inr f ↦ subst P (set_beside x k j new f) (none j)
+    ]
 
 still_apart : (x : Extended) (k i b : ℕ) (new : Option Handle) → k < length x.xms.handles → IfSome new (λ h. h.block ≡ i) → i ≢ b → ((j : ℕ) → IfSome (handle_at x.xms.handles j) (λ h. h.block ≢ b))
     → (j : ℕ) → IfSome (handle_at (set x.xms.handles k new) j) (λ h. h.block ≢ b)
@@ -77,12 +98,28 @@ change_leaves x k i new t c = record {
         size = ap length (c.changed.kept b other) ∙ o.size;
         apart = still_apart x k i b new c.within c.same ne o.apart;
       };
+  others = λ b live none.
+      let P : Option Handle → Type 0 = λ o. IfSome o (λ h. h.block ≢ b) in
+      let ne = other_block t i b new c.same c.gone live (subst P (set_at x k new c.within) (none k)) in
+      (was_live x.memory.blocks t i b c.changed ne live, none_before x k i b new c.old ne none);
   windows = refl;
 }
 
 -- the block of a handle is not outside
 handled : (x : Extended) (k : ℕ) (s : Handle) → handle_at x.xms.handles k ≡ Some s → (b size : ℕ) → IsOutside x b size → s.block ≢ b
 handled x k s e b size o = subst (λ (t : Option Handle). IfSome t (λ h. h.block ≢ b)) e (o.apart k)
+
+its_block : (x : Extended) (k : ℕ) (s : Handle) → handle_at x.xms.handles k ≡ Some s → IfSome (handle_at x.xms.handles k) (λ h. h.block ≡ s.block)
+its_block x k s e = subst (λ (t : Option Handle). IfSome t (λ h. h.block ≡ s.block)) (sym e) refl
+
+if_none : (o : Option Handle) (i : ℕ) → is_none o ≡ true → IfSome o (λ h. h.block ≡ i)
+if_none None i e = tt
+if_none (Some h) i e = cc
+
+no_block : (ps : List (Option Place)) (i : ℕ) → get_or (set ps i None) i None ≡ None
+no_block [] i = refl
+no_block (p ∷ ps) zero = refl
+no_block (p ∷ ps) (suc i) = no_block ps i
 
 -- ---- rows
 
@@ -159,7 +196,9 @@ allocate_leaves x kib =
     let made : LeavesOutside x (turned x k h p.1) = change_leaves x k p.0 h p.1 (record {
       within = there.0;
       changed = n.changed;
+      old = if_none (handle_at x.xms.handles k) p.0 there.1;
       same = refl;
+      gone = λ e. cc;
       inside = λ b size o e. not_live x.memory.blocks p.0 n.free (subst (IsLive x.memory.blocks) (sym e) o.live);
     }) in
     record { kept = subst (λ j. LeavesOutside x (turned x j h p.1)) same made }))
@@ -174,7 +213,9 @@ deallocate_leaves x n =
       kept = change_leaves x (n - 1) s.block None (without x.memory.blocks s.block) (record {
         within = there_at x.xms.handles (n - 1) s at;
         changed = changed_block x.memory.blocks s.block None [];
+        old = its_block x (n - 1) s at;
         same = tt;
+        gone = λ e. no_block x.memory.blocks.places s.block;
         inside = handled x (n - 1) s at;
       });
     }))
@@ -184,7 +225,9 @@ locks_leave : (x : Extended) (k locks : ℕ) (s : Handle) → handle_at x.xms.ha
 locks_leave x k locks s at = change_leaves x k s.block (Some (record s { locks = locks })) x.memory.blocks (record {
   within = there_at x.xms.handles k s at;
   changed = same_pool x.memory.blocks s.block;
+  old = its_block x k s at;
   same = refl;
+  gone = λ e. cc;
   inside = handled x k s at;
 })
 
@@ -220,7 +263,9 @@ reallocate_leaves x n kib =
       kept = change_leaves x (n - 1) s.block (Some (record s { kib = kib })) t (record {
         within = there_at x.xms.handles (n - 1) s at;
         changed = z.changed;
+        old = its_block x (n - 1) s at;
         same = refl;
+        gone = λ e. cc;
         inside = handled x (n - 1) s at;
       });
     })))
@@ -228,7 +273,7 @@ reallocate_leaves x n kib =
 -- ---- A20
 
 switched_leaves : (x : Extended) (global : Bool) (local : ℕ) → LeavesOutside x (switched x global local)
-switched_leaves x global local = record { blocks = λ b n o. record { live = o.live; size = o.size; apart = o.apart }; windows = refl }
+switched_leaves x global local = record { blocks = λ b n o. record { live = o.live; size = o.size; apart = o.apart }; others = λ b live none. (live, none); windows = refl }
 
 enable_leaves : (x : Extended) → LeavesOutside x (enable_globally x)
 unfolding enable_globally

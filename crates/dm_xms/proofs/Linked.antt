@@ -9,7 +9,9 @@ use Rattle.std.proofs.lemmas.Option.{none-some, same_Some}
 use Rattle.dm_pool.specs.declared.places.Place.{Place}
 use Rattle.dm_pool.specs.Gaps.{first_empty, lowest}
 use Rattle.dm_pool.specs.Blocks.{Blocks, IsLive, taken, placed, without, resized, moved, at_place, new_base, with_block, zeros, fitted, no_blocks}
-use Rattle.dm_pool.proofs.Blocks.{vacant}
+use Rattle.dm_pool.specs.FreeList.{AreBased}
+use Rattle.dm_pool.proofs.Blocks.{vacant, no_place}
+use Rattle.dm_pool.proofs.Coming.{taken_based, without_based, resized_based}
 use Rattle.dm_space.specs.Memory.{Memory, with_blocks, with_a20}
 use Rattle.dm_space.specs.Places.{IsShaped}
 use Rattle.dm_space.specs.Unseen.{shows}
@@ -74,6 +76,7 @@ pub record IsTurn (x : Extended) (k i : ℕ) (new : Option Handle) (t : Blocks) 
   pub others : (j : ℕ) → j ≢ k → IfSome (handle_at x.xms.handles j) (λ h. h.block ≢ i)
   pub new_block : HasBlock x.memory t i new
   pub hidden : shows x.memory.windows i ≡ false
+  pub based : AreBased t.places
 
 abbrev pub turned : Extended → ℕ → Option Handle → Blocks → Extended
 turned x k new t = record { xms = record x.xms { handles = set x.xms.handles k new }; memory = with_blocks x.memory t }
@@ -133,6 +136,8 @@ turn_linked : (x : Extended) (k i : ℕ) (new : Option Handle) (t : Blocks) → 
 turn_linked x k i new t l u = record {
   places = u.changed.places ∙ l.places;
   contents = u.changed.contents ∙ l.contents;
+  based = u.based;
+  handles = length-set x.xms.handles k new ∙ l.handles;
   blocks = blocks_turned x k i new t l u;
   apart = apart_turned x k i new t l u;
   shown = shown_turned x t i l u.changed u.hidden;
@@ -174,10 +179,10 @@ refused_tables x e l = record { kept = l }
 -- ---- the high memory area and upper memory
 
 with_area : (x : Extended) (b : Bool) → IsLinked x → IsLinked (extended (record x.xms { area = b }) x.memory)
-with_area x b l = record { places = l.places; contents = l.contents; blocks = l.blocks; apart = l.apart; shown = l.shown; line = l.line }
+with_area x b l = record { places = l.places; contents = l.contents; based = l.based; handles = l.handles; blocks = l.blocks; apart = l.apart; shown = l.shown; line = l.line }
 
 with_blocks_above : (x : Extended) (us : List Upper) → IsLinked x → IsLinked (extended (with_uppers x.xms us) x.memory)
-with_blocks_above x us l = record { places = l.places; contents = l.contents; blocks = l.blocks; apart = l.apart; shown = l.shown; line = l.line }
+with_blocks_above x us l = record { places = l.places; contents = l.contents; based = l.based; handles = l.handles; blocks = l.blocks; apart = l.apart; shown = l.shown; line = l.line }
 
 take_keeps : (x : Extended) → IsLinked x → KeepsTables x (take_area x.xms)
 unfolding take_area
@@ -270,8 +275,8 @@ not_shown : (x : Extended) (i : ℕ) (b : Bool) → shows x.memory.windows i ≡
 not_shown x i true e l free = absurd (not_live x.memory.blocks i free (l.shown i e))
 not_shown x i false e l free = e
 
-comes : (x : Extended) (k kib i : ℕ) (t : Blocks) → IsLinked x → k < length x.xms.handles → IsNew x.memory.blocks kib i t → IsTurn x k i (Some (record { block = i; kib = kib; locks = 0 })) t
-comes x k kib i t l within n =
+comes : (x : Extended) (k kib i : ℕ) (t : Blocks) → IsLinked x → k < length x.xms.handles → AreBased t.places → IsNew x.memory.blocks kib i t → IsTurn x k i (Some (record { block = i; kib = kib; locks = 0 })) t
+comes x k kib i t l within based n =
     let hidden = not_shown x i (shows x.memory.windows i) refl l n.free in
     record {
       within = within;
@@ -286,6 +291,7 @@ comes x k kib i t l within n =
         },
       );
       hidden = hidden;
+      based = based;
     }
 
 allocate_keeps : (x : Extended) (kib : ℕ) → IsLinked x → Keeps x (allocate x kib)
@@ -296,7 +302,7 @@ allocate_keeps x kib l =
     let h : Option Handle = Some (record { block = p.0; kib = kib; locks = 0 }) in
     let there = position-Some is_none x.xms.handles k None at in
     let same : k ≡ k + 1 - 1 = omega arith in
-    let made : IsLinked (turned x k h p.1) = turn_linked x k p.0 h p.1 l (comes x k kib p.0 p.1 l there.0 (taken_new x.memory.blocks kib p.0 p.1 is)) in
+    let made : IsLinked (turned x k h p.1) = turn_linked x k p.0 h p.1 l (comes x k kib p.0 p.1 l there.0 (taken_based x.memory.blocks kib p.0 p.1 is l.based) (taken_new x.memory.blocks kib p.0 p.1 is)) in
     record { kept = subst (λ j. IsLinked (turned x j h p.1)) same made }))
 
 -- ---- a block goes
@@ -308,6 +314,7 @@ goes x k s l e = record {
   others = others_at x k s l e;
   new_block = tt;
   hidden = (extended_at x k s l e).hidden;
+  based = without_based x.memory.blocks s.block l.based;
 }
 
 deallocate_keeps : (x : Extended) (n : ℕ) → IsLinked x → Keeps x (deallocate x n)
@@ -332,6 +339,7 @@ locks_change x k locks s l e =
       others = others_at x k s l e;
       new_block = (refl, record { live = old.live; size = old.size; hidden = old.hidden });
       hidden = old.hidden;
+      based = l.based;
     })
 
 lock_keeps : (x : Extended) (n : ℕ) → IsLinked x → Keeps x (lock x n)
@@ -395,6 +403,7 @@ grows x k kib s t l e r =
         },
       );
       hidden = old.hidden;
+      based = resized_based x.memory.blocks s.block kib t r l.based;
     }
 
 reallocate_keeps : (x : Extended) (n kib : ℕ) → IsLinked x → Keeps x (reallocate x n kib)
@@ -411,6 +420,8 @@ switched_keeps : (x : Extended) (global : Bool) (local : ℕ) → IsLinked x →
 switched_keeps x global local l = record {
   places = l.places;
   contents = l.contents;
+  based = l.based;
+  handles = l.handles;
   blocks = λ k. if_handle (handle_at x.xms.handles k) (IsExtended x.memory) (IsExtended (with_a20 x.memory (is_on global local))) (λ h p. record { live = p.live; size = p.size; hidden = p.hidden }) (l.blocks k);
   apart = l.apart;
   shown = l.shown;
@@ -457,6 +468,8 @@ pub writes_keep : WritesKeepTheLink
 writes_keep x m s l = record {
   places = ap length s.places ∙ l.places;
   contents = s.page_count ∙ l.contents;
+  based = subst AreBased (sym s.places) l.based;
+  handles = l.handles;
   blocks = λ k. if_handle (handle_at x.xms.handles k) (IsExtended x.memory) (IsExtended m) (λ h. extended_kept x.memory m h s) (l.blocks k);
   apart = l.apart;
   shown = λ b e. let live = l.shown b (ap (λ (ws : List (Option ℕ)). shows ws b) (sym s.windows) ∙ e) in (live.0, (live.1.0, ap (λ (xs : List (Option Place)). get_or xs b None) s.places ∙ live.1.1));
@@ -515,10 +528,16 @@ sizes : (units : ℕ) → (length (no_blocks units).places ≡ 576) × (length (
 unfolding no_blocks
 sizes units = (length-replicate {A = Option Place} 576 None, length-replicate {A = List ℕ} 576 [])
 
+none_based : (units : ℕ) → AreBased (no_blocks units).places
+unfolding no_blocks
+none_based units i b e z = absurd (none-some b (sym (no_place 576 i) ∙ e))
+
 pub start_linked : StartIsLinked
 start_linked units low = record {
   places = (sizes units).0;
   contents = (sizes units).1;
+  based = none_based units;
+  handles = length-replicate {A = Option Handle} 64 None;
   blocks = λ k. none_used 64 k _;
   apart = λ j k ne. none_used 64 j _;
   shown = λ b e. absurd (true≢false (sym e));

@@ -2,6 +2,7 @@
 -- window shows, and A20 is as the tables say. Windows show blocks that are there.
 use Rattle.std.specs.Prelude.{ℕ, ◌*◌, ◌≡◌, ◌≢◌, true, false, List, length, slice_index_or, Option, None, IfSome}
 use Rattle.dm_pool.specs.Blocks.{IsLive}
+use Rattle.dm_pool.specs.FreeList.{AreBased}
 use Rattle.dm_space.specs.Memory.{Memory, page_bytes}
 use Rattle.dm_space.specs.Unseen.{shows}
 use Rattle.dm_xms.specs.declared.tables.Handle.{Handle}
@@ -23,6 +24,8 @@ handle_at handles k = slice_index_or handles k None
 pub record IsLinked (x : Extended) : Type 0 where
   pub places : length x.memory.blocks.places ≡ 576
   pub contents : length x.memory.blocks.contents ≡ 576
+  pub based : AreBased x.memory.blocks.places
+  pub handles : length x.xms.handles ≡ 64
   pub blocks : (k : ℕ) → IfSome (handle_at x.xms.handles k) (IsExtended x.memory)
   pub apart : (j k : ℕ) → j ≢ k → IfSome (handle_at x.xms.handles j) (λ s. HasOther s (handle_at x.xms.handles k))
   pub shown : (block : ℕ) → shows x.memory.windows block ≡ true → IsLive x.memory.blocks block

@@ -5,13 +5,18 @@ use Rattle.dm_space.specs.Memory.{page_bytes}
 use Rattle.dm_xms.specs.Tables.{Extended}
 use Rattle.dm_xms.specs.Linked.{handle_at}
 
+-- the block is no handle's
+abbrev pub IsNoHandles : Extended → ℕ → Type 0
+IsNoHandles x block = (k : ℕ) → IfSome (handle_at x.xms.handles k) (λ s. s.block ≢ block)
+
 -- there is such a block, with so many bytes, and it is no handle's
 pub record IsOutside (x : Extended) (block bytes : ℕ) : Type 0 where
   pub live : IsLive x.memory.blocks block
   pub size : length (page_bytes x.memory block) ≡ bytes
-  pub apart : (k : ℕ) → IfSome (handle_at x.xms.handles k) (λ s. s.block ≢ block)
+  pub apart : IsNoHandles x block
 
--- such blocks stay, and so do the windows
+-- such blocks stay, no other one is there that is no handle's, and the windows stay
 pub record LeavesOutside (x y : Extended) : Type 0 where
   pub blocks : (block bytes : ℕ) → IsOutside x block bytes → IsOutside y block bytes
+  pub others : (block : ℕ) → IsLive y.memory.blocks block → IsNoHandles y block → IsLive x.memory.blocks block × IsNoHandles x block
   pub windows : y.memory.windows ≡ x.memory.windows

@@ -130,7 +130,6 @@ impl Xms {
     /// In this order: `UnknownHandle`; `TooManyLocks` where it is locked 255 times. Then nothing has changed.
     #[tactic(auto, unfolding(crate::specs::Blocks::lock))]
     pub fn lock(&mut self, space: &Space, handle: u16) -> Result<usize, Status>
-        requires { IsLinked (extended self.old space.now.memory) }
         ensures answer { result ≡ answer (lock (extended self.old space.now.memory) handle) }
         ensures left { extended self.new space.now.memory ≡ left (extended self.old space.now.memory) (lock (extended self.old space.now.memory) handle) }
     {

@@ -14,8 +14,8 @@ pub fn writes_keep_the_link()
     ensures { WritesKeepTheLink }
 {}
 
-/// The law that calls leave the blocks of the pool that are no handle's: each is still there, with as many bytes, and still no handle's; and
-/// that none touches the windows. It does nothing when called.
+/// The law that calls leave the blocks of the pool that are no handle's: each is still there, with as many bytes, and still no handle's, and
+/// no block is there beside them and those of handles; and that none touches the windows. It does nothing when called.
 pub fn calls_leave_outside()
     ensures { CallsLeaveOutside }
 {}

@@ -1,6 +1,6 @@
 //! Moves of extended memory blocks (XMS 3.0, function 0Bh).
 
-ghost use Rattle.std.specs.Prelude.{◌≡◌, ◌<◌, ◌≤◌, ◌+◌, ◌^◌, IfOk};
+ghost use Rattle.std.specs.Prelude.{◌≡◌, ◌<◌, ◌≤◌, ◌+◌, ◌^◌, IfOk, OnErr};
 ghost use Rattle.dm_xms.specs.Tables.{extended};
 ghost use Rattle.dm_xms.specs.Calls.{answer, left};
 ghost use Rattle.dm_xms.specs.Linked.{IsLinked};
@@ -88,6 +88,7 @@ fn move_between(
     requires to { Reaches space.old.memory to.now }
     ensures answer { result ≡ answer (move_between (extended xms.now space.old.memory) len from.now to.now) }
     ensures left { extended xms.now space.new.memory ≡ left (extended xms.now space.old.memory) (move_between (extended xms.now space.old.memory) len from.now to.now) }
+    ensures refused { OnErr result (space.new ≡ space.old) }
 {
     if from.end < from.region.at(len) || to.end < to.region.at(len) {
         return Err(Status::BadLength);
@@ -140,12 +141,13 @@ impl Xms {
     /// # Errors
     ///
     /// In this order: `BadLength` for an odd number; `UnknownSource`, `PastSource`; `UnknownDestination`, `PastDestination`; `BadLength`
-    /// where the source or the destination has not so many bytes. Then memory has not changed.
+    /// where the source or the destination has not so many bytes. Then neither memory nor the scratch bytes have changed.
     #[tactic(auto, unfolding(crate::specs::Moves::move_memory))]
     pub fn move_memory(&self, space: &mut Space, segment: u16, offset: u16) -> Result<(), Status>
         requires { IsLinked (extended self.now space.old.memory) }
         ensures answer { result ≡ answer (move_memory (extended self.now space.old.memory) segment offset) }
         ensures left { extended self.now space.new.memory ≡ left (extended self.now space.old.memory) (move_memory (extended self.now space.old.memory) segment offset) }
+        ensures refused { OnErr result (space.new ≡ space.old) }
     {
         let len = double_after(space, segment, offset, 0) as usize;
         if len % 2 == 1 {

@@ -5,8 +5,8 @@ use Rattle.dm_moves.proofs.Inside.{single-of}
 use Rattle.dm_moves.proofs.Runs.{indexed, blocks-done}
 use Rattle.dm_moves.proofs.copies.move_blocks.Goals as goal
 
-pub returns : goal.returns
-returns c =
+pub returns-clause-memory : goal.returns-clause-memory
+returns-clause-memory c =
     let a = c.args in let h = a.space.now in let m = h.memory in
     let p = indexed c.index-blocks-0.is c.blocks-2.ensures refl (omega (arith, (single-of m a.from.now a.len c.requires.from c.requires.blocks.0).0)) in
     let q = indexed c.index-blocks-0-2.is c.blocks-3.ensures refl (omega (arith, (single-of m a.to.now a.len c.requires.to c.requires.blocks.1).0)) in

@@ -13,4 +13,4 @@ pub returns-clause-ok : goal.returns-clause-ok
 returns-clause-ok c = record { memory = c.in_ok-space.ensures.start; others = rw (c.clear_registers.ensures, c.new-2.ensures, c.new-3.ensures, c.new-4.ensures, c.new-5.ensures) refl }
 
 pub invariant_of-result : goal.invariant_of-result
-invariant_of-result c = linked-start _ _ _ _ _ _ c.new-2.ensures c.new-3.ensures c.in_ok-space.ensures.start
+invariant_of-result c = linked-start _ _ _ _ _ _ (omega (arith, c.in_ok-space.ensures.few)) c.new-2.ensures c.new-3.ensures c.in_ok-space.ensures.start

@@ -1,0 +1,91 @@
+-- There is a number for each page that may come: all other blocks are those of handles of extended memory, 64 at most.
+use Rattle.std.proofs.Common.{◌≡◌, ◌≢◌, ℕ, zero, suc, ◌+◌, ◌-◌, ◌<◌, ◌≤◌, Bool, true, false, cond, List, [], ◌∷◌, Option, Some, None, length, get_or, set, refl, sym, ◌∙◌, ap, subst, inl, inr, ◌⊎◌, arith}
+use Rattle.std.specs.Prelude.{nat_lt, is_some, count_by}
+use Rattle.std.proofs.lemmas.Bool.{cases_lt, lt-ltb, le-ltb}
+use Rattle.std.proofs.lemmas.List.{get_or-set_other}
+use Rattle.std.proofs.lemmas.List.Sums.{sum_by-cons}
+use Rattle.std.proofs.lemmas.Option.{none-some}
+use Rattle.dm_pool.specs.declared.places.Place.{Place}
+use Rattle.dm_pool.proofs.FreeRuns.{below_length}
+use Rattle.dm_ems.specs.declared.tables.Page.{Page}
+use Rattle.dm_ems.specs.Tables.{expanded}
+use Rattle.dm_ems.specs.Linked.{block_at, IsOwned, HasNumbers}
+use Rattle.dm_xms.specs.declared.tables.Handle.{Handle}
+use Rattle.dm_xms.specs.Linked.{handle_at}
+use Rattle.dm_xms.proofs.Linked.{there_at}
+use Rattle.dm_state.specs.State.{State, IsHandled, AreLinked}
+
+-- ---- blocks whose numbers are n numbers are n at most
+
+one : Option Place → ℕ
+one o = cond (is_some o) 1 0
+
+counted : (p : Option Place) (ps : List (Option Place)) → count_by is_some (p ∷ ps) ≡ one p + count_by is_some ps
+unfolding one
+counted p ps = sum_by-cons (λ (o : Option Place). cond (is_some o) 1 0) p ps
+
+one_most : (p : Option Place) → one p ≤ 1
+unfolding one
+one_most None = omega arith
+one_most (Some b) = omega arith
+
+nothing_counts : one None ≡ 0
+unfolding one
+nothing_counts = refl
+
+one_gone : (ps : List (Option Place)) (i : ℕ) → count_by is_some ps ≤ count_by is_some (set ps i None) + 1
+one_gone [] i = omega arith
+one_gone (p ∷ ps) zero = omega (arith, counted p ps, counted None ps, one_most p, nothing_counts)
+one_gone (p ∷ ps) (suc i) = let rest = one_gone ps i in omega (arith, counted p ps, counted p (set ps i None), rest)
+
+none_there : (ps : List (Option Place)) → ((i : ℕ) (b : Place) → get_or ps i None ≡ Some b → ⊥) → count_by is_some ps ≡ 0
+none_there [] h = refl
+none_there (None ∷ ps) h = let rest = none_there ps (λ i. h (suc i)) in omega (arith, counted None ps, nothing_counts, rest)
+none_there (Some c ∷ ps) h = absurd (h 0 c refl)
+
+gone : (ps : List (Option Place)) (i : ℕ) → get_or (set ps i None) i None ≡ None
+gone [] i = refl
+gone (p ∷ ps) zero = refl
+gone (p ∷ ps) (suc i) = gone ps i
+
+covered : (n : ℕ) (at : ℕ → ℕ) (ps : List (Option Place)) → ((i : ℕ) (b : Place) → get_or ps i None ≡ Some b → (k : ℕ) × (k < n) × (at k ≡ i)) → count_by is_some ps ≤ n
+covered zero at ps h = omega (arith, none_there ps (λ i b e. let lt = (h i b e).1 in omega (arith, lt)))
+covered (suc m) at ps h =
+    let less : List (Option Place) = set ps (at m) None in
+    let other : (i : ℕ) (b : Place) → get_or less i None ≡ Some b → i ≢ at m = λ i b e f. none-some b (sym (gone ps (at m)) ∙ ap (λ k. get_or less k None) (sym f) ∙ e) in
+    let rest = covered m at less (λ i b e.
+    let ne = other i b e in
+    let k = h i b (sym (get_or-set_other ps (at m) i None None ne) ∙ e) in
+    let below : k.0 < m = elim (cases_lt k.0 m) [ inl lt ↦ lt | inr le ↦ let lt = k.1 in let last : k.0 ≡ m = omega (arith, le, lt) in absurd (ne (sym k.2 ∙ ap at last)) ] in
+    (k.0, below, k.2)) in
+    omega (arith, one_gone ps (at m), rest)
+
+-- ---- the blocks of pages, and behind them those of handles
+
+abbrev block_or : Option Handle → ℕ
+block_or None = 0
+block_or (Some h) = h.block
+
+abbrev owner : List Page → List (Option Handle) → ℕ → ℕ
+owner ps hs k = cond (nat_lt k (length ps)) (block_at ps k) (block_or (handle_at hs (k - length ps)))
+
+page_owner : (ps : List Page) (hs : List (Option Handle)) (b : ℕ) → IsOwned ps b → (k : ℕ) × (k < length ps + 64) × (owner ps hs k ≡ b)
+page_owner ps hs b o = let lt = o.1 in (o.0, omega (arith, lt), ap (λ t. cond t (block_at ps o.0) (block_or (handle_at hs (o.0 - length ps)))) (lt-ltb o.0 (length ps) lt) ∙ o.2)
+
+handle_owner : (ps : List Page) (hs : List (Option Handle)) (b : ℕ) → length hs ≡ 64 → IsHandled hs b → (k : ℕ) × (k < length ps + 64) × (owner ps hs k ≡ b)
+handle_owner ps hs b all h =
+    let k = length ps + h.0 in
+    let short = there_at hs h.0 h.1 h.2 in
+    let back : k - length ps ≡ h.0 = omega arith in (
+      k,
+      omega (arith, short, all),
+      ap (λ t. cond t (block_at ps k) (block_or (handle_at hs (k - length ps)))) (le-ltb k (length ps) (omega arith)) ∙ ap (λ j. block_or (handle_at hs j)) back ∙ ap block_or h.2 ∙ h.3,
+    )
+
+pub numbers : (s : State) → AreLinked s → HasNumbers (expanded s.ems s.memory)
+numbers s l = covered (length s.ems.pages + 64) (owner s.ems.pages s.xms.handles) s.memory.blocks.places (λ i b e.
+    let short : i < 576 = omega (arith, below_length s.memory.blocks.places i b e, l.ems.places) in
+    elim (l.whole i (short, (b, e))) [
+      | inl o ↦ page_owner s.ems.pages s.xms.handles i o
+      | inr h ↦ handle_owner s.ems.pages s.xms.handles i l.xms.handles h
+    ])
