@@ -1,2 +1,4 @@
 pub mod Cuts
 pub mod Starts
+pub mod Lines
+pub mod Conversations
