@@ -627,7 +627,7 @@ CLI | FA | FL=FFD7 | FL=FDD7
 STI | FB |         | FL=F202";
 
 /// All rows.
-const ALL: [&str; 19] = [
+pub(crate) const ALL: [&str; 19] = [
     MOVES,
     ADDRESSES,
     WORDS,

@@ -1,4 +1,4 @@
-//! Worked rows of the effects of instructions.
+//! Worked rows of the effects of instructions, each played as `dm_exec` does it and by its form.
 //!
 //! They stand apart from the crates that they try, since a crate with tests is proved twice.
 #![tactic(auto)]
@@ -9,6 +9,10 @@ mod checks;
 mod edges;
 #[cfg(test)]
 mod effects;
+#[cfg(test)]
+mod forms;
+#[cfg(test)]
+mod kinds;
 #[cfg(test)]
 mod memory;
 #[cfg(test)]

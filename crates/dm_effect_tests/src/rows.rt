@@ -4,16 +4,22 @@
 //!
 //!     XCHG [BX],CX | 87 0F | BX=0010 2000:0010=1234 | CX=1234 2000:0010=3344
 //!
+//! It is done by its form and, from the same state, as `dm_exec` does it: both have to change that and
+//! nothing else.
+//!
 //! Registers go by their names, the flags' word by `FL`, memory by segment and offset: two digits
 //! are a byte, four a word with its low byte first. What a row does not name is as in `START`, and
 //! has to stay, but for IP, which goes on by the number of the bytes. The bytes that rows
 //! name are 0 before. A line with `#` is a comment.
 
 use crate::checks::same;
+use crate::kinds::{FORMS, number_of};
 use crate::memory::new_space;
 use dm_decode::decode;
 use dm_exec::{Cpu, Flags, Next, exec};
+use dm_forms::{form_of, perform};
 use dm_ins::{Ins, Mnemonic};
+use dm_registers::Registers;
 use dm_space::Space;
 use std::alloc::Global;
 use std::process::Abort;
@@ -207,50 +213,87 @@ fn is_row(line: &str) -> bool {
     !line.starts_with('#')
 }
 
-/// Tries a row of a text. Both memories are as all rows find them, and are so again afterwards but for
-/// bytes that no row of the text names.
-fn check_row(
-    rt: &impl Abort,
-    row: &str,
-    rows: &str,
-    space: &mut Space,
-    wanted_space: &mut Space,
-) -> Result<(), Fail> {
+/// The memories of a text: that of `exec`, that of the forms, and the wanted one.
+#[derive(Drop)]
+struct Memories {
+    plain: Space,
+    formed: Space,
+    wanted: Space,
+}
+
+/// Makes the changes in each memory, and one of the registers.
+fn set_everywhere(memories: &mut Memories, cpu: &mut Cpu, changes: &str) -> Result<(), Fail> {
+    let mut other = *cpu;
+    let mut third = *cpu;
+    set_all(&mut other, &mut memories.plain, changes)?;
+    set_all(&mut third, &mut memories.formed, changes)?;
+    set_all(cpu, &mut memories.wanted, changes)
+}
+
+/// Gives the bytes that a row names the value 0 again in each memory.
+fn clear_everywhere(memories: &mut Memories, changes: &str) -> Result<(), Fail> {
+    clear(&mut memories.plain, changes)?;
+    clear(&mut memories.formed, changes)?;
+    clear(&mut memories.wanted, changes)
+}
+
+/// Tries a row of a text by `exec` and by its form. The memories are as all rows find them, and are so
+/// again afterwards but for bytes that no row of the text names.
+fn check_row(rt: &impl Abort, row: &str, rows: &str, memories: &mut Memories) -> Result<(), Fail> {
     let (bytes, before, after) = (part(row, 1)?, part(row, 2)?, part(row, 3)?);
     let (ins, length) = instruction(bytes)?;
     same(rt, row, length as usize, bytes.split_whitespace().count());
-    let (mut cpu, mut wanted) = (START, START);
-    set_all(&mut cpu, space, before)?;
-    set_all(&mut wanted, wanted_space, before)?;
+    let mut wanted = START;
+    set_everywhere(memories, &mut wanted, before)?;
+    let mut plain = wanted;
+    let mut formed = Registers::from_cpu(&wanted);
     wanted.ip = wanted.ip.wrapping_add(length as u16);
-    set_all(&mut wanted, wanted_space, after)?;
-    let goes_on = exec(&mut cpu, space, &ins, length) == Next::Go;
+    set_all(&mut wanted, &mut memories.wanted, after)?;
+    let goes_on = exec(&mut plain, &mut memories.plain, &ins, length) == Next::Go;
+    perform(
+        &form_of(&ins),
+        &ins,
+        &mut formed,
+        &mut memories.formed,
+        length,
+    );
     same(rt, row, goes_on, ins.action.mnemonic != Mnemonic::Hlt);
-    same(rt, row, cpu, wanted);
-    compare_all(rt, row, rows, space, wanted_space)?;
-    for changes in [before, after] {
-        clear(space, changes)?;
-        clear(wanted_space, changes)?;
-    }
-    Ok(())
+    same(rt, row, plain, wanted);
+    same(rt, row, formed.to_cpu(), wanted);
+    compare_all(rt, row, rows, &memories.plain, &memories.wanted)?;
+    compare_all(rt, row, rows, &memories.formed, &memories.wanted)?;
+    clear_everywhere(memories, before)?;
+    clear_everywhere(memories, after)
 }
 
 /// Tries each row of a text. Bytes that a row names are compared behind each row, all others at the
 /// end.
 pub(crate) fn check(rt: &impl Abort, alloc: Global, rows: &str) -> Result<(), Fail> {
-    let mut space = new_space(alloc)?;
-    let mut wanted = new_space(alloc)?;
+    let mut memories = Memories {
+        plain: new_space(alloc)?,
+        formed: new_space(alloc)?,
+        wanted: new_space(alloc)?,
+    };
     for row in rows.lines() {
         if is_row(row) {
-            check_row(rt, row, rows, &mut space, &mut wanted)?;
+            check_row(rt, row, rows, &mut memories)?;
         }
     }
-    same(
-        rt,
-        "memory that no row names",
-        difference(&space, &wanted),
-        None,
-    );
+    for space in [&memories.plain, &memories.formed] {
+        let first = difference(space, &memories.wanted);
+        same(rt, "memory that no row names", first, None);
+    }
+    Ok(())
+}
+
+/// Notes the form of each row of a text.
+pub(crate) fn note_forms(seen: &mut [bool; FORMS], rows: &str) -> Result<(), Fail> {
+    for row in rows.lines() {
+        if is_row(row) {
+            let (ins, _) = instruction(part(row, 1)?)?;
+            seen[number_of(&form_of(&ins))] = true;
+        }
+    }
     Ok(())
 }
 

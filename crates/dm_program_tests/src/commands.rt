@@ -1,5 +1,5 @@
 //! The program `dm` over files, readers and writers in memory: what each line writes and tells, and its status.
-use crate::checks::same;
+use crate::checks::same_of;
 use crate::files::{Slow, Source, failing, filled, just, new_files};
 use dm_cli::dm_main;
 use std::alloc::Global;
@@ -184,13 +184,13 @@ fn tells(
     let files = new_files(alloc, &known, &REFUSED);
     let words = words.as_slice();
     let got = dm_main(alloc, &files, words, input, &mut output, &mut error);
-    same(rt, line, "told", error.as_slice(), told.as_bytes());
-    same(rt, line, "output", output.as_slice(), put_out);
+    same_of(rt, line, "told", error.as_slice(), told.as_bytes());
+    same_of(rt, line, "output", output.as_slice(), put_out);
     let Ok(found) = files.saved.try_borrow() else {
         return Err(Fail::from("saved bytes are in use"));
     };
-    same(rt, line, "saved", found.as_slice(), saved);
-    same(rt, line, "status", got, status);
+    same_of(rt, line, "saved", found.as_slice(), saved);
+    same_of(rt, line, "status", got, status);
     Ok(())
 }
 
@@ -264,9 +264,9 @@ fn fails(
     let files = new_files(alloc, &known, &REFUSED);
     let words = words.as_slice();
     let got = dm_main(alloc, &files, words, just(b""), &mut output, &mut error);
-    same(rt, line, "status", got, status);
-    same(rt, line, "told", error.as_slice(), told.as_bytes());
-    same(rt, line, "output", taken.as_slice(), put_out.as_bytes());
+    same_of(rt, line, "status", got, status);
+    same_of(rt, line, "told", error.as_slice(), told.as_bytes());
+    same_of(rt, line, "output", taken.as_slice(), put_out.as_bytes());
     Ok(())
 }
 

@@ -1,8 +1,8 @@
 //! Sessions whose writer takes one byte at a time, and fails at some write. The figures are worked by hand from the manuals.
-use crate::checks::same;
+use crate::checks::same_of;
 use crate::files::Slow;
+use crate::machines::loaded_as;
 use dm_debug::{Refusal, Session};
-use dm_machine_tests::machines::loaded_as;
 use dm_out::Sink;
 use std::alloc::Global;
 use std::process::Abort;
@@ -124,8 +124,8 @@ fn answers(
     });
     let answered = session.command(alloc, line.as_bytes(), &mut sink);
     drop(sink);
-    same(rt, line, "the answer", answered, wanted);
-    same(rt, line, "the text", taken.as_slice(), text.as_bytes());
+    same_of(rt, line, "the answer", answered, wanted);
+    same_of(rt, line, "the text", taken.as_slice(), text.as_bytes());
     Ok(())
 }
 
