@@ -2,3 +2,4 @@ pub mod Cuts
 pub mod Starts
 pub mod Lines
 pub mod Conversations
+pub mod Told

@@ -1,15 +1,16 @@
-use Rattle.std.proofs.Common.{◌≡◌, ◌≢◌, ◌∙◌, ℕ, zero, suc, ◌+◌, ◌-◌, ◌<◌, ◌≤◌, Bool, true, false, ◌&&◌, List, [], ◌∷◌, ◌++◌, Option, Some, None, IfSome, All, ap, sym, subst, refl, arith, append-nil, append_assoc, length, length-append, take, drop, cond, eqb, get_or}
+use Rattle.std.proofs.Common.{◌≡◌, ◌≢◌, ◌∙◌, ℕ, zero, suc, ◌+◌, ◌-◌, ◌<◌, ◌≤◌, Bool, true, false, ◌&&◌, List, [], ◌∷◌, ◌++◌, Option, Some, None, IfSome, OnSome, All, ap, sym, subst, refl, arith, append-nil, append_assoc, length, length-append, take, drop, cond, eqb, get_or}
 use Rattle.std.proofs.lemmas.Bool.{eqb-true, eq-eqb}
 use Rattle.std.proofs.lemmas.Bool.Decides.{nat_tests}
 use Rattle.std.proofs.lemmas.List.{take_all}
 use Rattle.std.proofs.lemmas.List.{get_or_default}
-use Rattle.std.proofs.lemmas.List.Elements.{All-nil}
+use Rattle.std.proofs.lemmas.List.Elements.{All-nil, All-head, All-tail}
 use Rattle.std.proofs.Transfers.{All-of_StopsAt}
 use Rattle.std.proofs.BufReadLemmas.{through_part, take_through-append, drop_through-append}
 use Rattle.std.proofs.lemmas.Grind.{common_steps}
 use Rattle.std.specs.Prelude.{nat_lt, slice_index}
 use Rattle.std.specs.Io.{StopsAt, IsEmptyOrEndsWith}
-use Rattle.std.specs.Io.BufRead.{take_through, drop_through, ends_with_byte, first_piece, strip_last}
+use Rattle.std.specs.Io.BufRead.{take_through, drop_through, ends_with_byte, DropsThrough}
+use Rattle.std.specs.Io.KnownBytes.{IsAtEnd}
 
 ends_of : (p : List ℕ) → ends_with_byte 10 p ≡ true → IsEmptyOrEndsWith p 10
 ends_of p h some = both (nat_lt 0 (length p)) _ h
@@ -76,3 +77,23 @@ first_cut_short (suc m) (x ∷ xs) = at (first_cut_short m xs) (eqb x 10)
     at : length (take_through 10 (take m xs)) ≤ length (take_through 10 xs) → (b : Bool) → length (cond b (x ∷ []) (x ∷ take_through 10 (take m xs))) ≤ length (cond b (x ∷ []) (x ∷ take_through 10 xs))
     at h true = omega arith
     at h false = omega (arith, h)
+
+-- ---- a line that a reader gave
+
+-- a text with no line end is one line
+none_through : (xs : List ℕ) → All (λ x. x ≢ 10) (take_through 10 xs) → drop_through 10 xs ≡ []
+none_through [] none = refl
+none_through (x ∷ xs) none = at (none_through xs) (eqb x 10) refl none
+  where
+    at : (All (λ y. y ≢ 10) (take_through 10 xs) → drop_through 10 xs ≡ []) → (b : Bool) → eqb x 10 ≡ b
+        → All (λ y. y ≢ 10) (cond b (x ∷ []) (x ∷ take_through 10 xs)) → cond b xs (drop_through 10 xs) ≡ []
+    at step true e all = absurd (All-head (λ y. y ≢ 10) x [] all (eqb-true x 10 e))
+    at step false e all = step (All-tail (λ y. y ≢ 10) x (take_through 10 xs) all)
+
+-- without its end it is the last one
+pub last_of_all : (a b : Option (List ℕ)) (line : List ℕ) → IfSome a (λ xs. line ≡ take_through 10 xs) → DropsThrough a b 10 → StopsAt line 10
+    → ends_with_byte 10 line ≡ false → OnSome a (IsAtEnd b)
+last_of_all None b line is drops stops none = tt
+last_of_all (Some xs) b line is drops stops none =
+    let all : All (λ x. x ≢ 10) (take_through 10 xs) = none_of (take_through 10 xs) (rw (← is) stops) (rw (← is) none) in
+    rw drops (none_through xs all)

@@ -1,5 +1,5 @@
 -- What `dm debug` does with the lines of its standard input.
-use Rattle.std.specs.Prelude.{ℕ, ◌≡◌, ◌≢◌, ◌-◌, ◌<◌, ◌≤◌, ◌++◌, ◌⊎◌, Bool, true, false, List, [], ◌∷◌, Option, Some, None, IfSome, option_map, codes, length, take}
+use Rattle.std.specs.Prelude.{ℕ, ◌≡◌, ◌≢◌, ◌-◌, ◌<◌, ◌≤◌, ◌++◌, ◌⊎◌, Bool, true, false, List, [], ◌∷◌, Option, Some, None, IfSome, OnSome, option_map, codes, length, take}
 use Rattle.std.specs.Io.{StopsAt}
 use Rattle.std.specs.Io.BufRead.{take_through, drop_through, ends_with_byte, first_piece}
 use Rattle.std.specs.Io.KnownBytes.{Appends, Consumes, IsAtEnd, Keeps}
@@ -15,11 +15,11 @@ use Rattle.dm_cli.specs.Starting.{IsStartedBy, IsStartFault, typed_in}
 use Rattle.dm_cli.specs.declared.fault.Fault.{Fault}
 use Rattle.dm_cli.specs.declared.fault.Fault.TheVariants.{InputTooLong, OutOfMemory}
 
--- a reader gave the next line: bytes of which none but the last is a line end, and that one unless nothing is left
+-- a reader gave the next line: bytes of which none but the last is a line end, and that one is unless nothing is left, where that is known
 pub record Reads (before after : Option (List ℕ)) (line : List ℕ) : Type 0 where
   pub consumes : Consumes before after line
   pub stops : StopsAt line 10
-  pub last : ends_with_byte 10 line ≡ false → IsAtEnd after
+  pub last : ends_with_byte 10 line ≡ false → OnSome before (IsAtEnd after)
 
 -- ---- one line
 

@@ -139,10 +139,11 @@ fn converse<R: BufRead, W: Out>(
     while has_more {
         let count = next_line(commands, &mut line, left)?;
         has_more = drop_end(&mut line);
-        if count == 0 || is_quit(line.as_slice()) {
+        let text = line.as_slice();
+        if count == 0 || is_quit(text) {
             return Ok(());
         }
-        answer_at_once(alloc, session, line.as_slice(), out)?;
+        answer_at_once(alloc, session, text, out)?;
         left -= count;
     }
     Ok(())
