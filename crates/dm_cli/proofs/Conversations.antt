@@ -1,12 +1,10 @@
 -- The lines of a reader that were answered so far, and what the next one adds.
-use Rattle.std.proofs.Common.{◌≡◌, ◌≢◌, ◌∙◌, ℕ, ◌+◌, ◌-◌, ◌<◌, ◌≤◌, Bool, true, false, List, [], ◌∷◌, ◌++◌, Option, Some, None, IfSome, OnSome, ◌⊎◌, inl, inr, ap, sym, subst, refl, arith, append-nil, append_assoc, length, take, drop}
+use Rattle.std.proofs.Common.{◌≡◌, ◌≢◌, ◌∙◌, ℕ, ◌-◌, ◌<◌, ◌≤◌, Bool, true, false, List, [], ◌∷◌, ◌++◌, Option, Some, None, IfSome, OnSome, ◌⊎◌, inl, inr, ap, sym, refl, arith, append-nil, append_assoc, length, take}
 use Rattle.std.proofs.KnownBytes.{Consumes-trans, Consumes-nil, Appends-trans, Appends-nil, Appends-kept}
 use Rattle.std.specs.Io.{StopsAt, appended_bytes}
-use Rattle.std.specs.Io.BufRead.{take_through, drop_through, ends_with_byte, first_piece, strip_last, DropsThrough}
-use Rattle.std.specs.Io.KnownBytes.{Appends, Consumes, IsAtEnd, Keeps}
+use Rattle.std.specs.Io.BufRead.{take_through, drop_through, ends_with_byte, strip_last, DropsThrough}
+use Rattle.std.specs.Io.KnownBytes.{Appends, Consumes, IsAtEnd}
 use Rattle.dm_debug.specs.Debugged.{Debugged}
-use Rattle.dm_debug.specs.Sessions.{IsCutOff}
-use Rattle.dm_out.specs.Out.{AppendsPart}
 use Rattle.dm_cli.specs.declared.fault.Fault.{Fault}
 use Rattle.dm_cli.specs.declared.fault.Fault.TheVariants.{InputTooLong, OutOfMemory}
 use Rattle.dm_cli.specs.Faults.{IsReadFault}

@@ -3,3 +3,5 @@ pub mod Starts
 pub mod Lines
 pub mod Conversations
 pub mod Told
+pub mod Begins
+pub mod Ends

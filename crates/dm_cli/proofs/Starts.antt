@@ -1,5 +1,5 @@
 -- The faults of one file, and the first of some files.
-use Rattle.std.proofs.Common.{◌≡◌, ◌⊎◌, inl, inr, ◌<◌, ◌∷◌, [], ℕ, List, Option, Some, None, IfSome, ap, sym, subst, refl, length, map, take, drop, get_or, ◌+◌, ◌++◌, ◌∙◌, suc, true, take-append-drop, drop-cons}
+use Rattle.std.proofs.Common.{◌≡◌, ◌⊎◌, inl, inr, ◌<◌, ◌∷◌, [], ℕ, List, Option, Some, None, ap, sym, subst, refl, length, map, take, drop, get_or, ◌+◌, ◌++◌, ◌∙◌, suc, true, take-append-drop, drop-cons}
 use Rattle.std.proofs.lemmas.List.{map-append, map_more}
 use Rattle.std.proofs.lemmas.Option.{none-some}
 use Rattle.std.specs.List.{slice_get}

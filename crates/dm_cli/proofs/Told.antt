@@ -1,5 +1,5 @@
 -- What is written for one line.
-use Rattle.std.proofs.Common.{◌≡◌, ◌++◌, ℕ, Bool, true, false, List, [], ◌∷◌, Option, Some, ap, sym, subst, refl, codes, length, take, arith}
+use Rattle.std.proofs.Common.{◌≡◌, ℕ, Bool, true, false, List, Option, sym, subst, refl, length, arith}
 use Rattle.std.proofs.KnownBytes.{Appends-kept, Keeps-refl}
 use Rattle.std.proofs.lemmas.List.{take_all}
 use Rattle.std.specs.Io.KnownBytes.{Appends, Keeps}
@@ -10,7 +10,7 @@ use Rattle.dm_out.specs.Out.{AppendsPart}
 use Rattle.dm_cli.specs.declared.fault.Fault.{Fault}
 use Rattle.dm_cli.specs.declared.fault.Fault.TheVariants.{OutOfMemory}
 use Rattle.dm_cli.specs.Faults.{IsWriteFault}
-use Rattle.dm_cli.specs.Debugging.{IsAnsweredBy, IsUnanswered, Tells, answered, no_command, no_room, cut_short, partly}
+use Rattle.dm_cli.specs.Debugging.{IsAnsweredBy, IsUnanswered, Tells, answered, cut_short, partly}
 
 not_true : (b : Bool) → ¬ (b ≡ true) → b ≡ false
 not_true true h = absurd (h refl)

@@ -1,5 +1,5 @@
 -- What `dm asm` and `dm disasm` write, where it is known what the file holds that they read.
-use Rattle.std.specs.Prelude.{ℕ, ◌≡◌, ◌<◌, ◌≤◌, List, Option, Some, None, length}
+use Rattle.std.specs.Prelude.{ℕ, ◌≡◌, ◌<◌, ◌≤◌, ◌⊎◌, List, Option, Some, None, length}
 use Rattle.std.specs.Io.KnownBytes.{Appends, Keeps}
 use Rattle.dm_asm.specs.declared.refusal.Refusal.{Refusal}
 use Rattle.dm_asm.specs.Programs.{Refuses}
@@ -8,7 +8,7 @@ use Rattle.dm_options.specs.declared.command_line.AsmOptions.{AsmOptions}
 use Rattle.dm_out.specs.Out.{AppendsPart}
 use Rattle.dm_cli.specs.declared.fault.Fault.{Fault}
 use Rattle.dm_cli.specs.declared.fault.Fault.TheVariants.{OutOfMemory, TooLong}
-use Rattle.dm_cli.specs.Faults.{IsWriteFault, refusal_fault}
+use Rattle.dm_cli.specs.Faults.{IsUnwritten, IsWriteFault, refusal_fault}
 use Rattle.dm_cli.specs.Saving.{Saves}
 use Rattle.dm_listing.specs.Listing.{IsListing}
 use Rattle.dm_cli.specs.Stores.{IsInputFault, IsRead}
@@ -35,7 +35,7 @@ pub data IsAsmFault (known : Option (List ℕ)) (path : List ℕ) : Fault → Ty
 -- `dm asm`: the bytes of the text are written to a file; or the text has a fault, and no file is written. (What a write leaves that fails isn't known.)
 pub data Assembles (files : List ℕ → Option (List ℕ)) (o : AsmOptions) (before after : Option (List (List ℕ × List ℕ))) : Option Fault → Type 0 where
   saved : (bytes : List ℕ) → IsAssembled (files o.input.now) bytes → Saves before after o.output.now bytes → Assembles files o before after None
-  unsaved : (bytes : List ℕ) (fault : Fault) → IsAssembled (files o.input.now) bytes → Assembles files o before after (Some fault)
+  unsaved : (bytes : List ℕ) (fault : Fault) → IsAssembled (files o.input.now) bytes → IsUnwritten o.output.now fault ⊎ (fault ≡ OutOfMemory) → Assembles files o before after (Some fault)
   not_assembled : (fault : Fault) → IsAsmFault (files o.input.now) o.input.now fault → after ≡ before → Assembles files o before after (Some fault)
 
 -- the fault of bytes that have no lines: they can't be read, they are too many, or memory was refused

@@ -1,5 +1,5 @@
 -- The machine that a command begins with, and the first fault that keeps it from its start.
-use Rattle.std.specs.Prelude.{ℕ, ◌≡◌, ◌<◌, ◌≤◌, ◌++◌, List, [], ◌∷◌, Option, Some, None, IfSome, map, option_map, length}
+use Rattle.std.specs.Prelude.{ℕ, ◌≡◌, ◌<◌, ◌≤◌, ◌++◌, List, [], ◌∷◌, Option, None, IfSome, map, option_map, length}
 use Rattle.dm_options.specs.declared.command_line.DebugOptions.{DebugOptions}
 use Rattle.dm_options.specs.declared.command_line.MachineOptions.{MachineOptions}
 use Rattle.dm_pool.specs.declared.sizes.Sizes.{Sizes}

@@ -1,7 +1,7 @@
 //! Reading whole files and standard input.
 ghost use Rattle.std.specs.Prelude.{◌≡◌, ◌⊎◌, ℕ, List, Option, Some, None, IfErr, IfOk, IfSome, OnOk};
 ghost use Rattle.dm_cli.specs.Saving.{Saves};
-ghost use Rattle.dm_cli.specs.Faults.{IsUnread};
+ghost use Rattle.dm_cli.specs.Faults.{IsUnread, IsUnwritten};
 ghost use Rattle.dm_cli.specs.Stores.{IsInputFault, IsRead};
 
 use crate::fault::Fault;
@@ -61,7 +61,7 @@ pub(crate) fn read_fault<'a>(error: &io::Error, name: &'a str) -> Fault<'a>
 
 /// The fault of what was not written.
 pub(crate) fn write_fault<'a>(error: &io::Error, name: &'a str) -> Fault<'a>
-    ensures { (result ≡ Fault.CannotWrite name.entry) ⊎ (result ≡ Fault.OutOfMemory) }
+    ensures { IsUnwritten name.now result ⊎ (result ≡ Fault.OutOfMemory) }
 {
     match error.kind() {
         io::ErrorKind::OutOfMemory => Fault::OutOfMemory,

@@ -98,7 +98,9 @@ fn run_command<'a>(alloc: Global) -> Result<Command<'a>, AllocError>
     ensures local { IfOk result (λ c. (fields_of c).has_globals ≡ false) }
 {
     let command = Command::new(alloc, "run")
-        .about("Run a program: standard input is its console input, and its output is printed when it ends")
+        .about(
+            "Run a program: standard input is its console input, and its output is printed when it ends",
+        )
         .after_help("Example: dm run --tail ' /q' PROGRAM.COM CHILD.EXE <input.txt");
     with_machine_args(alloc, command)
 }
@@ -147,7 +149,12 @@ fn asm_command<'a>(alloc: Global) -> Result<Command<'a>, AllocError>
         .about("Assemble a text to a COM program")
         .after_help("Example: dm asm hello.asm hello.com")
         .arg(path_arg(alloc, "in", "IN", "The text, at most 16 MiB"))?
-        .arg(path_arg(alloc, "out", "OUT", "The COM file, at most 65278 bytes; written only if the text has no error"))
+        .arg(path_arg(
+            alloc,
+            "out",
+            "OUT",
+            "The COM file, at most 65278 bytes; written only if the text has no error",
+        ))
 }
 
 fn disasm_command<'a>(alloc: Global) -> Result<Command<'a>, AllocError>
@@ -165,7 +172,9 @@ pub(crate) fn dm_command<'a>(alloc: Global) -> Result<Command<'a>, AllocError>
     ensures { IfOk result (λ c. app_of c ≡ dm_app) }
 {
     Command::new(alloc, "dm")
-        .about("Runs, debugs, assembles and disassembles MS-DOS programs on an emulated Intel 8086 PC with EMS and XMS memory")
+        .about(
+            "Runs, debugs, assembles and disassembles MS-DOS programs on an emulated Intel 8086 PC with EMS and XMS memory",
+        )
         .version(VERSION)
         .after_help("Example: dm run HELLO.COM")
         .subcommand_required(true)

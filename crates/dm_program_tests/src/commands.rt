@@ -275,7 +275,14 @@ fn fails(
     let known = known_files();
     let mut files = new_files(alloc, &known, &REFUSED);
     let words = words.as_slice();
-    let got = dm_main(alloc, &mut files, words, just(b"M\n"), &mut sink, &mut error);
+    let got = dm_main(
+        alloc,
+        &mut files,
+        words,
+        just(b"M\n"),
+        &mut sink,
+        &mut error,
+    );
     same_of(rt, line, "status", got, status);
     same_of(rt, line, "told", error.as_slice(), told.as_bytes());
     same_of(rt, line, "output", taken.as_slice(), put_out.as_bytes());

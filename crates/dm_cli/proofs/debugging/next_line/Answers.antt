@@ -1,4 +1,4 @@
-use Rattle.std.proofs.Common.{rules, inr, refl, length, arith, ◌≡◌, ℕ}
+use Rattle.std.proofs.Common.{rules, inr, refl, arith}
 use Rattle.dm_cli.proofs.Conversations.{line_read}
 use Rattle.dm_cli.proofs.debugging.next_line.Goals as goal
 
