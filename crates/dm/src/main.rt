@@ -3,7 +3,7 @@
 
 ghost use Rattle.std.specs.Prelude.{map};
 ghost use Rattle.std.specs.Process.{exit_status};
-ghost use Rattle.dm_cli.specs.Program.{Does, ends_with, unknown};
+ghost use Rattle.dm_cli.specs.Program.{EndsWith};
 
 use dm_cli::{Sink, System, dm_main, refuse_words};
 use std::convert::AsStr;
@@ -16,7 +16,7 @@ use std::{env, io};
 /// What the operating system gives and takes is not known to a contract: that of `dm_main` says more, over files, readers and writers whose bytes
 /// are known.
 fn call<S: AsStr>(rt: &HostRuntime, words: &[S]) -> ExitCode
-    ensures { Does unknown (map S.text words.now) (ends_with (exit_status result)) }
+    ensures { EndsWith (map S.text words.now) (exit_status result) }
 {
     ExitCode::from(dm_main(
         rt.alloc(),

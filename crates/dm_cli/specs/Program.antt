@@ -47,14 +47,6 @@ pub record Left : Type 0 where
   pub saved : Option (List (List ℕ × List ℕ))
   pub status : ℕ
 
--- nothing is known
-abbrev pub unknown : Given
-unknown = record { files = λ _. None; typed = None; output = None; saved = None }
-
--- the exit status alone is known
-abbrev pub ends_with : ℕ → Left
-ends_with status = record { output = None; saved = None; status = status }
-
 -- the words are a right command line, and these are its options
 pub record Asks (words : List Text) (o : Options) : Type 0 where
   pub right : fault_of dm_app words ≡ []
@@ -72,3 +64,10 @@ pub data Does (g : Given) (words : List Text) (l : Left) : Type 0 where
       → Keeps g.output l.output → l.status ≡ status_after end → Does g words l
   disassembles : (path : Bor (List ℕ)) (end : Option Fault) → Asks words (command.Disasm path) → Disassembles g.files path.now g.output l.output end
       → l.saved ≡ g.saved → l.status ≡ status_after end → Does g words l
+
+-- the exit status of the program over files and streams of which nothing is known
+pub record EndsWith (words : List Text) (status : ℕ) : Type 0 where
+  pub given : Given
+  pub left : Left
+  pub does : Does given words left
+  pub is : status ≡ left.status
