@@ -3,25 +3,27 @@
 
 ghost use Rattle.std.specs.Prelude.{map};
 ghost use Rattle.std.specs.Process.{exit_status};
-ghost use Rattle.dm_cli.specs.Statuses.{TellsWrongLine};
+ghost use Rattle.dm_cli.specs.Program.{EndsWith};
 
-use dm_cli::{System, dm_main};
+use dm_cli::{Sink, System, dm_main, refuse_words};
 use std::convert::AsStr;
 use std::io::Lock;
 use std::process::ExitCode;
 use std::{env, io};
 
-/// Hands the words, the files and the standard streams to the library, and answers its status: 2 for a wrong line, or
-/// 126 where memory was refused.
+/// Hands the words, the files and the standard streams to the library, and returns its status.
+///
+/// What the operating system gives and takes is not known to a contract: that of `dm_main` says more, over files, readers and writers whose bytes
+/// are known.
 fn call<S: AsStr>(rt: &HostRuntime, words: &[S]) -> ExitCode
-    ensures wrong_line { TellsWrongLine (map S.text words.now) (exit_status result) }
+    ensures { EndsWith (map S.text words.now) (exit_status result) }
 {
     ExitCode::from(dm_main(
         rt.alloc(),
-        &System(rt),
+        &mut System(rt),
         words,
         rt.reader(),
-        &mut io::writer(rt),
+        &mut Sink::new(io::writer(rt)),
         &mut rt.stderr().lock(),
     ))
 }
@@ -38,7 +40,7 @@ fn main(rt: HostRuntime) -> ExitCode {
             let _ = rt.eprintln("dm: out of memory");
             ExitCode::from(126)
         }
-        // A word that is no text makes a wrong command line, as none at all does.
-        Err(_) => call(&rt, ["dm"].as_slice()),
+        // A word is not UTF-8.
+        Err(_) => ExitCode::from(refuse_words(rt.alloc(), &mut rt.stderr().lock())),
     }
 }

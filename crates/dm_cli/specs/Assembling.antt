@@ -1,14 +1,23 @@
 -- What `dm asm` and `dm disasm` write, where it is known what the file holds that they read.
-use Rattle.std.specs.Prelude.{ℕ, ◌≤◌, List, Option, length}
-use Rattle.dm_asm.specs.Programs.{Assembles}
+use Rattle.std.specs.Prelude.{ℕ, ◌≡◌, ◌<◌, ◌≤◌, ◌⊎◌, List, Option, Some, None, length}
+use Rattle.std.specs.Io.KnownBytes.{Appends, Keeps}
+use Rattle.dm_asm.specs.declared.refusal.Refusal.{Refusal}
+use Rattle.dm_asm.specs.Programs.{Refuses}
+use Rattle.dm_asm.specs.Programs as asm
+use Rattle.dm_options.specs.declared.command_line.AsmOptions.{AsmOptions}
+use Rattle.dm_out.specs.Out.{AppendsPart}
+use Rattle.dm_cli.specs.declared.fault.Fault.{Fault}
+use Rattle.dm_cli.specs.declared.fault.Fault.TheVariants.{OutOfMemory, TooLong}
+use Rattle.dm_cli.specs.Faults.{IsUnwritten, IsWriteFault, refusal_fault}
+use Rattle.dm_cli.specs.Saving.{Saves}
 use Rattle.dm_listing.specs.Listing.{IsListing}
-use Rattle.dm_cli.specs.Stores.{IsRead}
+use Rattle.dm_cli.specs.Stores.{IsInputFault, IsRead}
 
 -- the bytes of the file's text
 pub record IsAssembled (known : Option (List ℕ)) (bytes : List ℕ) : Type 0 where
   pub text : List ℕ
   pub read : IsRead known text
-  pub assembles : Assembles text bytes
+  pub assembles : asm.Assembles text bytes
 
 -- the lines of the file's bytes
 pub record IsDisassembled (known : Option (List ℕ)) (text : List ℕ) : Type 0 where
@@ -16,3 +25,28 @@ pub record IsDisassembled (known : Option (List ℕ)) (text : List ℕ) : Type 0
   pub read : IsRead known bytes
   pub few : length bytes ≤ 65278
   pub lists : IsListing bytes text
+
+-- the fault of a text that has no bytes: it can't be read, what is first wrong with it, or memory was refused
+pub data IsAsmFault (known : Option (List ℕ)) (path : List ℕ) : Fault → Type 0 where
+  text_unread : (fault : Fault) → IsInputFault known path fault → IsAsmFault known path fault
+  text_refused : (text : List ℕ) (why : Refusal) → IsRead known text → Refuses text why → IsAsmFault known path (refusal_fault why)
+  text_no_memory : IsAsmFault known path OutOfMemory
+
+-- `dm asm`: the bytes of the text are written to a file; or the text has a fault, and no file is written. (What a write leaves that fails isn't known.)
+pub data Assembles (files : List ℕ → Option (List ℕ)) (o : AsmOptions) (before after : Option (List (List ℕ × List ℕ))) : Option Fault → Type 0 where
+  saved : (bytes : List ℕ) → IsAssembled (files o.input.now) bytes → Saves before after o.output.now bytes → Assembles files o before after None
+  unsaved : (bytes : List ℕ) (fault : Fault) → IsAssembled (files o.input.now) bytes → IsUnwritten o.output.now fault ⊎ (fault ≡ OutOfMemory) → Assembles files o before after (Some fault)
+  not_assembled : (fault : Fault) → IsAsmFault (files o.input.now) o.input.now fault → after ≡ before → Assembles files o before after (Some fault)
+
+-- the fault of bytes that have no lines: they can't be read, they are too many, or memory was refused
+pub data IsDisasmFault (known : Option (List ℕ)) (path : List ℕ) : Fault → Type 0 where
+  bytes_unread : (fault : Fault) → IsInputFault known path fault → IsDisasmFault known path fault
+  bytes_too_long : (bytes : List ℕ) → IsRead known bytes → 65278 < length bytes → IsDisasmFault known path TooLong
+  bytes_no_memory : IsDisasmFault known path OutOfMemory
+
+-- `dm disasm`: the lines of the bytes; or a first part of them, where a write failed; or nothing
+pub data Disassembles (files : List ℕ → Option (List ℕ)) (path : List ℕ) (before after : Option (List ℕ)) : Option Fault → Type 0 where
+  listed : (text : List ℕ) → IsDisassembled (files path) text → Appends before after text → Disassembles files path before after None
+  partly_listed : (text : List ℕ) (fault : Fault) → IsDisassembled (files path) text → AppendsPart before after text → IsWriteFault fault
+      → Disassembles files path before after (Some fault)
+  not_listed : (fault : Fault) → IsDisasmFault (files path) path fault → Keeps before after → Disassembles files path before after (Some fault)

@@ -1,12 +1,83 @@
--- What `dm debug` answers to a line.
-use Rattle.std.specs.Prelude.{ℕ, ◌≡◌, ◌++◌, true, List, [], ◌∷◌, Option, codes}
-use Rattle.std.specs.Io.KnownBytes.{Appends}
+-- What `dm debug` does with the lines of its standard input.
+use Rattle.std.specs.Prelude.{ℕ, ◌≡◌, ◌≢◌, ◌-◌, ◌<◌, ◌≤◌, ◌++◌, ◌⊎◌, true, false, List, [], ◌∷◌, Option, Some, None, IfSome, OnSome, option_map, codes, length, take}
+use Rattle.std.specs.Io.{StopsAt}
+use Rattle.std.specs.Io.BufRead.{take_through, drop_through, ends_with_byte, first_piece}
+use Rattle.std.specs.Io.KnownBytes.{Appends, Consumes, IsAtEnd, Keeps}
+use Rattle.dm_command.specs.declared.command.Command.{Command}
 use Rattle.dm_command.specs.Commands.{command_of}
 use Rattle.dm_debug.specs.Debugged.{Debugged}
-use Rattle.dm_debug.specs.Sessions.{IsAnswered, is_syntax, is_full}
+use Rattle.dm_debug.specs.Sessions.{Does, IsCutOff, is_syntax, is_full, new_session}
+use Rattle.dm_options.specs.declared.command_line.DebugOptions.{DebugOptions}
+use Rattle.dm_state.specs.State.{State}
+use Rattle.dm_out.specs.Out.{AppendsPart}
+use Rattle.dm_cli.specs.Faults.{IsReadFault, IsWriteFault}
+use Rattle.dm_cli.specs.Starting.{IsStartedBy, IsStartFault, typed_in}
+use Rattle.dm_cli.specs.declared.fault.Fault.{Fault}
+use Rattle.dm_cli.specs.declared.fault.Fault.TheVariants.{InputTooLong, OutOfMemory}
 
--- the command's answer; or a line that tells why it is refused, and nothing has changed
-pub data IsLineAnswered (s : Debugged) (line : List ℕ) (t : Debugged) (before after : Option (List ℕ)) : Type 0 where
-  answered : IsAnswered s line t before after → IsLineAnswered s line t before after
-  no_command : is_syntax s (command_of line) ≡ true → t ≡ s → Appends before after (codes "? syntax" ++ 10 ∷ []) → IsLineAnswered s line t before after
-  no_room : is_full s (command_of line) ≡ true → t ≡ s → Appends before after (codes "? full" ++ 10 ∷ []) → IsLineAnswered s line t before after
+-- a reader gave the next line: bytes of which none but the last is a line end, and that one is unless nothing is left, where that is known
+pub record Reads (before after : Option (List ℕ)) (line : List ℕ) : Type 0 where
+  pub consumes : Consumes before after line
+  pub stops : StopsAt line 10
+  pub last : ends_with_byte 10 line ≡ false → OnSome before (IsAtEnd after)
+
+-- ---- one line
+
+-- the line that ends a session
+abbrev pub IsQuit : List ℕ → Type 0
+IsQuit line = (line ≡ 81 ∷ []) ⊎ (line ≡ 113 ∷ [])
+
+-- what is written for a line, and the session after it: the command's answer, or why the line is refused, and then nothing has changed
+pub data Tells (s : Debugged) (line : List ℕ) : Debugged → List ℕ → Type 0 where
+  answered : (command : Command) (t : Debugged) (text : List ℕ) → command_of line ≡ Some command → is_syntax s (Some command) ≡ false → is_full s (Some command) ≡ false → Does s command text t → Tells s line t text
+  no_command : is_syntax s (command_of line) ≡ true → Tells s line s (codes "? syntax" ++ 10 ∷ [])
+  no_room : is_full s (command_of line) ≡ true → Tells s line s (codes "? full" ++ 10 ∷ [])
+
+-- the line was answered
+pub record IsAnsweredBy (s : Debugged) (line : List ℕ) (t : Debugged) (before after : Option (List ℕ)) : Type 0 where
+  pub text : List ℕ
+  pub tells : Tells s line t text
+  pub written : Appends before after text
+
+-- it was not: memory for its answer was refused, and nothing was written; or a first part of its answer was written
+pub data IsUnanswered (s : Debugged) (line : List ℕ) (t : Debugged) (before after : Option (List ℕ)) : Fault → Type 0 where
+  cut_short : IsCutOff s line t → Keeps before after → IsUnanswered s line t before after OutOfMemory
+  partly : (text : List ℕ) (fault : Fault) → Tells s line t text → AppendsPart before after text → IsWriteFault fault → IsUnanswered s line t before after fault
+
+-- ---- the lines of a text
+
+-- The lines of a text are answered one after the other, up to its end or a line that ends the session: what is written, the session after that,
+-- and the fault that ends them before, if one does. A line ends with 0Ah, or with the text; the lines may have n bytes in all, their ends among
+-- them.
+pub data Converses : ℕ → Debugged → List ℕ → List ℕ → Debugged → Option Fault → Type 0 where
+  ended : (n : ℕ) (s : Debugged) → Converses n s [] [] s None
+  quits : (n : ℕ) (s : Debugged) (text : List ℕ) → length (take_through 10 text) ≤ n → IsQuit (first_piece 10 text) → Converses n s text [] s None
+  answers : (n : ℕ) (s t u : Debugged) (text told more : List ℕ) (end : Option Fault) → text ≢ [] → length (take_through 10 text) ≤ n
+      → ¬ IsQuit (first_piece 10 text) → Tells s (first_piece 10 text) t told
+      → Converses (n - length (take_through 10 text)) t (drop_through 10 text) more u end → Converses n s text (told ++ more) u end
+  too_long : (n : ℕ) (s : Debugged) (text : List ℕ) → n < length (take_through 10 text) → Converses n s text [] s (Some InputTooLong)
+  unread : (n : ℕ) (s : Debugged) (text : List ℕ) (fault : Fault) → IsReadFault fault → Converses n s text [] s (Some fault)
+  no_memory : (n : ℕ) (s : Debugged) (text : List ℕ) → Converses n s text [] s (Some OutOfMemory)
+  cut_off : (n : ℕ) (s t : Debugged) (text : List ℕ) → text ≢ [] → length (take_through 10 text) ≤ n → ¬ IsQuit (first_piece 10 text)
+      → IsCutOff s (first_piece 10 text) t → Converses n s text [] t (Some OutOfMemory)
+  unwritten : (n : ℕ) (s t : Debugged) (text told : List ℕ) (k : ℕ) (fault : Fault) → text ≢ [] → length (take_through 10 text) ≤ n
+      → ¬ IsQuit (first_piece 10 text) → Tells s (first_piece 10 text) t told → k ≤ length told → IsWriteFault fault
+      → Converses n s text (take k told) t (Some fault)
+
+-- the lines of a reader, whose bytes are known or not, and what was appended to a writer
+pub record IsConversation (n : ℕ) (known : Option (List ℕ)) (s t : Debugged) (before after : Option (List ℕ)) (end : Option Fault) : Type 0 where
+  pub text : List ℕ
+  pub told : List ℕ
+  pub read : IfSome known (λ xs. text ≡ xs)
+  pub converses : Converses n s text told t end
+  pub written : Appends before after told
+
+-- ---- the command
+
+-- `dm debug`: the answers to the lines of standard input, which may have 16 MiB in all, up to a fault if there is one; or nothing
+pub data Debugs (files : List ℕ → Option (List ℕ)) (typed : Option (List ℕ)) (o : DebugOptions) (before after : Option (List ℕ)) : Option Fault → Type 0 where
+  conversed : (m : State) (t : Debugged) (end : Option Fault) → IsStartedBy files (typed_in files o) o.machine m
+      → IsConversation 16777216 typed (new_session m) t before after end → Debugs files typed o before after end
+  not_begun : (fault : Fault) → IsStartFault files (typed_in files o) (option_map (λ path. path.now) o.input) o.machine fault → Keeps before after
+      → Debugs files typed o before after (Some fault)
+  no_buffer : Keeps before after → Debugs files typed o before after (Some OutOfMemory)

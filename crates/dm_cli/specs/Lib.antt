@@ -2,5 +2,8 @@ pub mod Faults
 pub mod Names
 pub mod Statuses
 pub mod Stores
+pub mod Saving
+pub mod Starting
 pub mod Assembling
 pub mod Debugging
+pub mod Program

@@ -1,7 +1,5 @@
 -- The exit statuses of `dm`.
-use Rattle.std.specs.Prelude.{ℕ, Result, Ok, Err, ◌≡◌, ◌≢◌, ◌⊎◌, List, []}
-use Rattle.clap.specs.Words.{Text, fault_of}
-use Rattle.dm_options.specs.Arguments.{dm_app}
+use Rattle.std.specs.Prelude.{ℕ, Result, Ok, Err, Option, Some, None}
 use Rattle.dm_state.specs.declared.stop.Stop.{Stop}
 use Rattle.dm_state.specs.declared.stop.Stop.TheVariants.{Exited}
 
@@ -12,10 +10,11 @@ status_of (Ok _) = 125
 status_of (Err _) = 126
 
 -- 0, or 126 at a fault
-abbrev pub told_status : {A E : Type 0} → Result A E → ℕ
-told_status (Ok _) = 0
-told_status (Err _) = 126
+abbrev pub status_after : {E : Type 0} → Option E → ℕ
+status_after None = 0
+status_after (Some _) = 126
 
--- the status for the words of a command line: a wrong one is told with 2, or with 126 where memory was refused
-abbrev pub TellsWrongLine : List Text → ℕ → Type 0
-TellsWrongLine words status = fault_of dm_app words ≢ [] → (status ≡ 2) ⊎ (status ≡ 126)
+-- the fault of an outcome, if it is one
+abbrev pub end_of : {A E : Type 0} → Result A E → Option E
+end_of (Ok _) = None
+end_of (Err fault) = Some fault

@@ -1,7 +1,8 @@
 -- What a run starts with: the store of the files, standard input, and the machine with its first program loaded.
-use Rattle.std.specs.Prelude.{ℕ, ◌≡◌, ◌<◌, ◌≤◌, ◌++◌, List, [], ◌∷◌, Option, Some, None, IfSome, length, Bool, true, false}
+use Rattle.std.specs.Prelude.{ℕ, ◌≡◌, ◌<◌, ◌≤◌, ◌++◌, ◌⊎◌, List, [], ◌∷◌, Option, Some, None, IfSome, length, Bool, true, false}
 use Rattle.dm_cli.specs.declared.fault.Fault.{Fault}
 use Rattle.dm_cli.specs.declared.fault.Fault.TheVariants.{InputTooLong, NameTooLong, NameTwice, OutOfMemory}
+use Rattle.dm_cli.specs.Faults.{IsUnread}
 use Rattle.dm_cli.specs.Names.{last_part}
 use Rattle.dm_machine.specs.Start.{IsNew, IsLoaded}
 use Rattle.dm_proc.specs.Programs.{IsName, has_name}
@@ -26,14 +27,17 @@ pub data Stores (known : List ℕ → Option (List ℕ)) : List (List ℕ) → L
   none : Stores known [] []
   more : (paths : List (List ℕ)) (path : List ℕ) (s t : List (List ℕ × List ℕ)) → Stores known paths s → AddsFile (known path) s path t → Stores known (paths ++ path ∷ []) t
 
--- the faults that one file may have: its path names no file, or it was not opened or not read; it is too long; its name is; its
--- name stands in the store already; or memory was refused. The last but one comes only once it was read
-pub data IsFaultOf (unread : Fault) (known : Option (List ℕ)) (store : List (List ℕ × List ℕ)) (path : List ℕ) : Fault → Type 0 where
-  not_read : IsFaultOf unread known store path unread
-  too_long : IfSome known (λ xs. 16777216 < length xs) → IsFaultOf unread known store path InputTooLong
-  long_name : (bytes : List ℕ) → IsRead known bytes → 64 < length (last_part path) → IsFaultOf unread known store path NameTooLong
-  twice : (bytes : List ℕ) → IsRead known bytes → IsName (last_part path) → has_name store (last_part path) ≡ true → IsFaultOf unread known store path NameTwice
-  no_memory : IsFaultOf unread known store path OutOfMemory
+-- the faults of an input with this name: it can't be read, memory was refused, or it is too long
+abbrev pub IsInputFault : Option (List ℕ) → List ℕ → Fault → Type 0
+IsInputFault known name fault = IsUnread name fault ⊎ (fault ≡ OutOfMemory) ⊎ ((fault ≡ InputTooLong) × IfSome known (λ xs. 16777216 < length xs))
+
+-- the faults that one file may have: its path names no file, or it can't be read; it is too long; its name is; its name stands in the store
+-- already; or memory was refused. Those of its name come only once it was read
+pub data IsFaultOf (known : Option (List ℕ)) (store : List (List ℕ × List ℕ)) (path : List ℕ) : Fault → Type 0 where
+  not_read : (fault : Fault) → IsInputFault known path fault → IsFaultOf known store path fault
+  long_name : (bytes : List ℕ) → IsRead known bytes → 64 < length (last_part path) → IsFaultOf known store path NameTooLong
+  twice : (bytes : List ℕ) → IsRead known bytes → IsName (last_part path) → has_name store (last_part path) ≡ true → IsFaultOf known store path NameTwice
+  no_memory : IsFaultOf known store path OutOfMemory
 
 -- a new machine of these sizes, with upper memory in its arena or not, with no variables, over a store and an input, and its first program loaded with a tail of at most 126
 -- bytes

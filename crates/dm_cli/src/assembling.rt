@@ -1,13 +1,15 @@
 //! `dm asm` and `dm disasm`: a file's text to bytes, and a file's bytes to text.
-ghost use Rattle.std.specs.Prelude.{IfOk};
-ghost use Rattle.dm_cli.specs.Assembling.{IsAssembled, IsDisassembled};
+ghost use Rattle.std.specs.Prelude.{◌≡◌, IfErr, IfOk};
+ghost use Rattle.dm_cli.specs.Assembling.{Assembles, Disassembles, IsAsmFault, IsAssembled, IsDisasmFault, IsDisassembled};
+ghost use Rattle.dm_cli.specs.Statuses.{end_of};
 
 use crate::fault::Fault;
 use crate::files::{Storage, read_file, write_fault};
 use dm_asm::{assemble, disassemble};
+use dm_machine::Out;
 use dm_options::command_line::AsmOptions;
+use dm_out::write_all;
 use std::alloc::Global;
-use std::io::Write;
 
 /// The most bytes of a program that is disassembled.
 const MOST_PROGRAM_BYTES: usize = 65_278;
@@ -18,7 +20,8 @@ fn assembled<'a, F: Storage>(
     storage: &F,
     path: &'a str,
 ) -> Result<Vec<u8>, Fault<'a>>
-    ensures { IfOk result (λ bytes. IsAssembled (F.contents storage.now path.now) bytes.items) }
+    ensures bytes { IfOk result (λ bytes. IsAssembled (F.contents storage.now path.now) bytes.items) }
+    ensures fault { IfErr result (IsAsmFault (F.contents storage.now path.now) path.now) }
 {
     let text = read_file(alloc, storage, path)?;
     let bytes = assemble(alloc, text.as_slice())?;
@@ -31,7 +34,8 @@ fn disassembled<'a, F: Storage>(
     storage: &F,
     path: &'a str,
 ) -> Result<Vec<u8>, Fault<'a>>
-    ensures { IfOk result (λ text. IsDisassembled (F.contents storage.now path.now) text.items) }
+    ensures lines { IfOk result (λ text. IsDisassembled (F.contents storage.now path.now) text.items) }
+    ensures fault { IfErr result (IsDisasmFault (F.contents storage.now path.now) path.now) }
 {
     let bytes = read_file(alloc, storage, path)?;
     if bytes.len() > MOST_PROGRAM_BYTES {
@@ -46,9 +50,11 @@ fn disassembled<'a, F: Storage>(
 /// `dm asm`: assembles one file to another, which is written only where the whole text was assembled.
 pub(crate) fn asm<'a, F: Storage>(
     alloc: Global,
-    storage: &F,
+    storage: &mut F,
     options: &AsmOptions<'a>,
-) -> Result<(), Fault<'a>> {
+) -> Result<(), Fault<'a>>
+    ensures { Assembles (F.contents storage.old) options.now (F.saved storage.old) (F.saved storage.new) (end_of result) }
+{
     let bytes = assembled(alloc, storage, options.input)?;
     match storage.save(options.output, bytes.as_slice()) {
         Ok(()) => Ok(()),
@@ -57,15 +63,17 @@ pub(crate) fn asm<'a, F: Storage>(
 }
 
 /// `dm disasm`: writes the lines of a file.
-pub(crate) fn disasm<'a, F: Storage, O: Write>(
+pub(crate) fn disasm<'a, F: Storage, W: Out>(
     alloc: Global,
     storage: &F,
     path: &'a str,
-    output: &mut O,
-) -> Result<(), Fault<'a>> {
+    out: &mut W,
+) -> Result<(), Fault<'a>>
+    ensures { Disassembles (F.contents storage.now) path.now (W.taken out.old) (W.taken out.new) (end_of result) }
+{
     let text = disassembled(alloc, storage, path)?;
-    match output.write_all(text.as_slice()) {
+    match write_all(out, text.as_slice()) {
         Ok(()) => Ok(()),
-        Err(error) => Err(write_fault(&error, "standard output")),
+        Err(_) => Err(Fault::CannotWrite("standard output")),
     }
 }

@@ -1,6 +1,7 @@
 //! The commands of `dm`, with their fault texts and statuses.
-ghost use Rattle.std.specs.Prelude.{◌≡◌, map};
-ghost use Rattle.dm_cli.specs.Statuses.{status_of, told_status, TellsWrongLine};
+ghost use Rattle.std.specs.Prelude.{◌≡◌, ◌⊎◌, map};
+ghost use Rattle.dm_cli.specs.Program.{Does, Runs};
+ghost use Rattle.dm_cli.specs.Statuses.{end_of, status_after, status_of};
 
 use crate::assembling::{asm, disasm};
 use crate::debugging::debug;
@@ -8,10 +9,9 @@ use crate::fault::Fault;
 use crate::files::Storage;
 use crate::loading::loaded;
 use crate::output::run_program;
-use dm_machine::Stop;
+use dm_machine::{Out, Stop};
 use dm_options::command_line::{MachineOptions, Options, OptionsError};
-use dm_options::options;
-use dm_out::Sink;
+use dm_options::{not_unicode, options};
 use std::alloc::Global;
 use std::convert::AsStr;
 use std::io::{Read, Write};
@@ -26,18 +26,20 @@ const STOPPED: u8 = 125;
 const USAGE: u8 = 2;
 
 /// `dm run`: runs the first file, and writes its output at the end.
-fn run<'a, F: Storage, I: Read + Drop, O: Write>(
+fn run<'a, F: Storage, I: Read + Drop, W: Out>(
     alloc: Global,
     storage: &F,
     options: &MachineOptions<'a>,
     input: I,
-    output: &mut O,
-) -> Result<Stop, Fault<'a>> {
+    out: &mut W,
+) -> Result<Stop, Fault<'a>>
+    ensures { Runs (F.contents storage.now) (I.remaining input) options.now (W.taken out.old) (W.taken out.new) result }
+{
     let mut machine = loaded(alloc, storage, options, input)?;
-    let mut sink = Sink::new(output);
-    run_program(&mut machine, options.steps, &mut sink).map_err(|_| Fault::CannotWrite(
-        "standard output",
-    ))
+    match run_program(&mut machine, options.steps, out) {
+        Ok(stop) => Ok(stop),
+        Err(_) => Err(Fault::CannotWrite("standard output")),
+    }
 }
 
 /// The word that tells a stop which is no exit.
@@ -73,7 +75,7 @@ pub(crate) fn report<E: Write>(outcome: Result<Stop, Fault<'_>>, error: &mut E) 
 
 /// Tells the fault of a command that has one, and answers the status. That the telling fails changes nothing.
 fn told<E: Write>(outcome: Result<(), Fault<'_>>, error: &mut E) -> u8
-    ensures { result ≡ told_status outcome.entry }
+    ensures { result ≡ status_after (end_of outcome.entry) }
 {
     match outcome {
         Ok(()) => 0,
@@ -85,7 +87,7 @@ fn told<E: Write>(outcome: Result<(), Fault<'_>>, error: &mut E) -> u8
 }
 
 /// The program `dm` over what it is given: the words of its command line, of which the first is the program's name,
-/// where files are opened, standard input, standard output and standard error. It answers the status.
+/// where files are opened and written, standard input, standard output and standard error. It returns the exit status.
 ///
 /// `dm run` exits with the program's code. At another stop it tells `stopped: ` and the stop, with status 125, and at
 /// a fault `dm: ` and the fault, with status 126. It finds them in this order: of each file in turn `cannot read NAME`,
@@ -94,34 +96,49 @@ fn told<E: Write>(outcome: Result<(), Fault<'_>>, error: &mut E) -> u8
 /// `cannot write standard output`.
 ///
 /// `dm debug` exits with status 0, also where the program has ended, or tells a fault with status 126, in the same order: the console's input
-/// is the file of `--input`, and none without it, and the commands are read behind `short`.
+/// is the file of `--input`, and none without it. The commands are read after `short`, a line at a time, and each is answered before the next is
+/// read; where they have more than 16 MiB, `input too long` comes after the answers so far.
 ///
 /// `dm asm` and `dm disasm` exit with status 0, or tell a fault with status 126: `cannot read NAME` or `input too long` of the file that
 /// they read, then `too long` (over 65,278 bytes of program) or `line N: ` and `syntax`, `unknown`, `range` or `twice`, then `cannot write
 /// NAME`. A text that is refused leaves the file of its bytes as it was.
 ///
 /// `out of memory` stands where memory was refused. A wrong command line or a call for help is told by `clap`'s text, with status 2.
-pub fn dm_main<S: AsStr, F: Storage, I: Read + Drop, O: Write, E: Write>(
+pub fn dm_main<S: AsStr, F: Storage, I: Read + Drop, W: Out, E: Write>(
     alloc: Global,
-    storage: &F,
+    storage: &mut F,
     words: &[S],
     input: I,
-    output: &mut O,
+    out: &mut W,
     error: &mut E,
 ) -> u8
-    ensures wrong_line { TellsWrongLine (map S.text words.now) result }
+    ensures { Does
+        (record { files = F.contents storage.old; typed = I.remaining input; output = W.taken out.old; saved = F.saved storage.old })
+        (map S.text words.now)
+        (record { output = W.taken out.new; saved = F.saved storage.new; status = result }) }
 {
     match options(alloc, words) {
-        Ok(Options::Run(options)) => report(run(alloc, storage, &options, input, output), error),
-        Ok(Options::Debug(options)) => {
-            told(debug(alloc, storage, &options, input, output), error)
-        }
+        Ok(Options::Run(options)) => report(run(alloc, storage, &options, input, out), error),
+        Ok(Options::Debug(options)) => told(debug(alloc, storage, &options, input, out), error),
         Ok(Options::Asm(options)) => told(asm(alloc, storage, &options), error),
-        Ok(Options::Disasm(path)) => told(disasm(alloc, storage, path, output), error),
+        Ok(Options::Disasm(path)) => told(disasm(alloc, storage, path, out), error),
         Err(OptionsError::Usage(text)) => {
             let _ = write!(error, "{text}");
             USAGE
         }
         Err(OptionsError::Memory) => report(Err(Fault::OutOfMemory), error),
+    }
+}
+
+/// Prints that a word of the command line is not UTF-8, and returns the status of a wrong line: 2, or 126 where memory was refused.
+pub fn refuse_words<E: Write>(alloc: Global, error: &mut E) -> u8
+    ensures { (result ≡ 2) ⊎ (result ≡ 126) }
+{
+    match not_unicode(alloc) {
+        Ok(text) => {
+            let _ = write!(error, "{text}");
+            USAGE
+        }
+        Err(_) => report(Err(Fault::OutOfMemory), error),
     }
 }

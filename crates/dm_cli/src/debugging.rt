@@ -1,45 +1,38 @@
-//! `dm debug`: commands that are read from standard input, and their answers.
-ghost use Rattle.std.specs.Prelude.{◌<◌, ◌≡◌, IfSome, OnOk, length};
+//! `dm debug`: commands that are read from standard input, a line at a time, and their answers.
+ghost use Rattle.std.specs.Prelude.{◌≡◌, ◌<◌, ◌≤◌, ◌⊎◌, ◌↔◌, Some, None, IfErr, IfOk, IsTrue, OnOk, length};
+ghost use Rattle.std.specs.Io.BufRead.{ends_with_byte, strip_last};
 ghost use Rattle.std.specs.Io.KnownBytes.{Appends};
-ghost use Rattle.dm_cli.specs.Debugging.{IsLineAnswered};
+ghost use Rattle.dm_out.specs.Out.{AppendsPart};
+ghost use Rattle.dm_cli.specs.Statuses.{end_of};
+ghost use Rattle.dm_cli.specs.Debugging.{Debugs, IsAnsweredBy, IsConversation, IsQuit, IsUnanswered, Reads};
+ghost use Rattle.dm_cli.specs.Faults.{IsReadFault, IsWriteFault};
 
 use crate::fault::Fault;
-use crate::files::{Storage, read_whole};
+use crate::files::{MOST_BYTES, Storage, read_fault};
 use crate::loading::loaded_for_debug;
 use dm_debug::{Refusal, Session};
 use dm_machine::Out;
 use dm_options::command_line::DebugOptions;
-use dm_out::{Sink, write_all};
+use dm_out::write_all;
 use std::alloc::Global;
-use std::io::{Read, Write};
+use std::io::{BufRead, BufReader, Read};
 
-/// What is told of a line that is no command.
+/// What is written for a line that is no command.
 const SYNTAX: &[u8] = b"? syntax\n";
 
-/// What is told of a seventeenth breakpoint.
+/// What is written for a seventeenth breakpoint.
 const FULL: &[u8] = b"? full\n";
+
+/// The name of what commands are read from.
+const INPUT: &str = "standard input";
 
 /// The name of what answers are written to.
 const OUTPUT: &str = "standard output";
 
-/// The first line of a text, without its end, and the text behind it. A line ends with 0Ah, or with the text.
-fn next_line(text: &[u8]) -> Option<(&[u8], &[u8])>
-    ensures shorter { IfSome result (λ x. length x.1.now < length text.now) }
+/// Whether a line ends the session.
+fn is_quit(line: &[u8]) -> bool
+    ensures { IsTrue result ↔ IsQuit line.now }
 {
-    for (at, byte) in text.iter().enumerate() {
-        if *byte == b'\n' {
-            return Some((&text[..at], &text[at + 1..]));
-        }
-    }
-    if text.is_empty() {
-        None
-    } else {
-        Some((text, &text[..0]))
-    }
-}
-
-/// Whether a line ends the commands.
-fn is_last(line: &[u8]) -> bool {
     match line {
         [b'Q'] => true,
         [b'q'] => true,
@@ -47,9 +40,46 @@ fn is_last(line: &[u8]) -> bool {
     }
 }
 
+/// Drops the end of a line, and returns whether it had one.
+fn drop_end(line: &mut Vec<u8>) -> bool
+    ensures had { result ≡ ends_with_byte 10 line.old.items }
+    ensures dropped { line.new.items ≡ strip_last 10 line.old.items }
+{
+    let count = line.len();
+    if count == 0 {
+        return false;
+    }
+    if line[count - 1] != b'\n' {
+        return false;
+    }
+    line.truncate(count - 1);
+    true
+}
+
+/// Reads a line with its end, of at most `left` bytes. Returns how many it has: 0 where no byte is left.
+///
+/// `CannotRead` where a read failed, `InputTooLong` where the line has more than `left` bytes, `OutOfMemory`.
+fn next_line<R: BufRead>(
+    commands: &mut R,
+    line: &mut Vec<u8>,
+    left: usize,
+) -> Result<usize, Fault<'static>>
+    ensures line { IfOk result (λ n. (n ≤ left) × (n ≡ length line.new.items) × Reads (R.remaining commands.old) (R.remaining commands.new) line.new.items) }
+    ensures fault { IfErr result (λ e. IsReadFault e ⊎ (e ≡ Fault.OutOfMemory)
+        ⊎ ((e ≡ Fault.InputTooLong) × (left < length line.new.items) × Reads (R.remaining commands.old) (R.remaining commands.new) line.new.items)) }
+{
+    line.clear();
+    match commands.read_until(b'\n', line) {
+        Ok(count) if count <= left => Ok(count),
+        Ok(_) => Err(Fault::InputTooLong),
+        Err(error) => Err(read_fault(&error, INPUT)),
+    }
+}
+
 /// Writes a line that refuses another.
 fn refuse<W: Out>(out: &mut W, told: &[u8]) -> Result<(), Fault<'static>>
-    ensures { OnOk result (Appends (W.taken out.old) (W.taken out.new) told.now) }
+    ensures ok { OnOk result (Appends (W.taken out.old) (W.taken out.new) told.now) }
+    ensures err { IfErr result (λ e. IsWriteFault e × AppendsPart (W.taken out.old) (W.taken out.new) told.now) }
 {
     match write_all(out, told) {
         Ok(()) => Ok(()),
@@ -57,14 +87,15 @@ fn refuse<W: Out>(out: &mut W, told: &[u8]) -> Result<(), Fault<'static>>
     }
 }
 
-/// Answers a line: by its command's answer, or by why it is refused.
+/// Writes what a line's command prints, or why the line is refused.
 fn answer<W: Out>(
     alloc: Global,
     session: &mut Session,
     line: &[u8],
     out: &mut W,
 ) -> Result<(), Fault<'static>>
-    ensures { OnOk result (IsLineAnswered session.old line.now session.new (W.taken out.old) (W.taken out.new)) }
+    ensures ok { OnOk result (IsAnsweredBy session.old line.now session.new (W.taken out.old) (W.taken out.new)) }
+    ensures err { IfErr result (IsUnanswered session.old line.now session.new (W.taken out.old) (W.taken out.new)) }
 {
     match session.command(alloc, line, out) {
         Ok(()) => Ok(()),
@@ -75,35 +106,63 @@ fn answer<W: Out>(
     }
 }
 
-/// Answers the lines of a text one after the other, up to its end or a line that ends the commands.
-fn converse<W: Out>(
+/// Answers a line, and hands the answer on before anything else is read.
+fn answer_at_once<W: Out>(
     alloc: Global,
     session: &mut Session,
-    commands: &[u8],
+    line: &[u8],
     out: &mut W,
-) -> Result<(), Fault<'static>> {
-    let mut rest = commands;
-    while let Some((line, behind)) = next_line(rest) {
-        if is_last(line) {
+) -> Result<(), Fault<'static>>
+    ensures ok { OnOk result (IsAnsweredBy session.old line.now session.new (W.taken out.old) (W.taken out.new)) }
+    ensures err { IfErr result (IsUnanswered session.old line.now session.new (W.taken out.old) (W.taken out.new)) }
+{
+    answer(alloc, session, line, out)?;
+    match out.flush() {
+        Ok(()) => Ok(()),
+        Err(_) => Err(Fault::CannotWrite(OUTPUT)),
+    }
+}
+
+/// Answers the lines of the commands as they are read, up to their end or a line that ends the session. They may have 16 MiB in all.
+fn converse<R: BufRead, W: Out>(
+    alloc: Global,
+    session: &mut Session,
+    commands: &mut R,
+    out: &mut W,
+) -> Result<(), Fault<'static>>
+    ensures ok { OnOk result (IsConversation 16777216 (R.remaining commands.old) session.old session.new (W.taken out.old) (W.taken out.new) None) }
+    ensures err { IfErr result (λ e. IsConversation 16777216 (R.remaining commands.old) session.old session.new (W.taken out.old) (W.taken out.new) (Some e)) }
+{
+    let mut line = Vec::new(alloc);
+    let mut left = MOST_BYTES;
+    let mut has_more = true;
+    while has_more {
+        let count = next_line(commands, &mut line, left)?;
+        has_more = drop_end(&mut line);
+        let text = line.as_slice();
+        if count == 0 || is_quit(text) {
             return Ok(());
         }
-        answer(alloc, session, line, out)?;
-        rest = behind;
+        answer_at_once(alloc, session, text, out)?;
+        left -= count;
     }
     Ok(())
 }
 
-/// `dm debug`: loads the first file, and answers the commands.
-pub(crate) fn debug<'a, F: Storage, I: Read + Drop, O: Write>(
+/// `dm debug`: loads the first file, and answers the commands as they are read.
+pub(crate) fn debug<'a, F: Storage, I: Read + Drop, W: Out>(
     alloc: Global,
     storage: &F,
     options: &DebugOptions<'a>,
     commands: I,
-    output: &mut O,
-) -> Result<(), Fault<'a>> {
+    out: &mut W,
+) -> Result<(), Fault<'a>>
+    ensures { Debugs (F.contents storage.now) (I.remaining commands) options.now (W.taken out.old) (W.taken out.new) (end_of result) }
+{
     let machine = loaded_for_debug(alloc, storage, options)?;
-    let commands = read_whole(alloc, commands, "standard input")?;
     let mut session = Session::new(machine);
-    let mut sink = Sink::new(output);
-    converse(alloc, &mut session, commands.as_slice(), &mut sink)
+    let Ok(mut commands) = BufReader::new(alloc, commands.take(MOST_BYTES as u64 + 1)) else {
+        return Err(Fault::OutOfMemory);
+    };
+    converse(alloc, &mut session, &mut commands, out)
 }

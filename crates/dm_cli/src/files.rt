@@ -1,6 +1,8 @@
 //! Reading whole files and standard input.
-ghost use Rattle.std.specs.Prelude.{◌≡◌, ◌<◌, ◌⊎◌, ℕ, List, Option, Some, None, IfErr, IfOk, IfSome, length};
-ghost use Rattle.dm_cli.specs.Stores.{IsRead};
+ghost use Rattle.std.specs.Prelude.{◌≡◌, ◌⊎◌, ℕ, List, Option, Some, None, IfErr, IfOk, IfSome, OnOk};
+ghost use Rattle.dm_cli.specs.Saving.{Saves};
+ghost use Rattle.dm_cli.specs.Faults.{IsUnread, IsUnwritten};
+ghost use Rattle.dm_cli.specs.Stores.{IsInputFault, IsRead};
 
 use crate::fault::Fault;
 use std::alloc::Global;
@@ -19,8 +21,12 @@ pub trait Storage {
     // The bytes of the file at a path, where the storage can tell them.
     ghost contents: { Self → List ℕ → Option (List ℕ) } = { λ _ _. None };
 
+    // The files that were written, by their paths, in their order, where the storage can tell them.
+    ghost saved: { Self → Option (List (List ℕ × List ℕ)) } = { λ _. None };
+
     /// Writes a file whole, in the place of what it held.
-    fn save(&self, path: &str, bytes: &[u8]) -> io::Result<()>;
+    fn save(&mut self, path: &str, bytes: &[u8]) -> io::Result<()>
+        ensures saved { OnOk result (Saves (saved self.old) (saved self.new) path.now bytes.now) };
 
     /// Opens a file for reading.
     fn open(&self, path: &str) -> io::Result<Self::File>
@@ -34,7 +40,7 @@ pub struct System<'a, R>(pub &'a R);
 impl<R: Files> Storage for System<'_, R> {
     type File = R::File;
 
-    fn save(&self, path: &str, bytes: &[u8]) -> io::Result<()> {
+    fn save(&mut self, path: &str, bytes: &[u8]) -> io::Result<()> {
         fs::write(self.0, path, bytes)
     }
 
@@ -44,8 +50,8 @@ impl<R: Files> Storage for System<'_, R> {
 }
 
 /// The fault of an input that was not opened or not read.
-fn read_fault<'a>(error: &io::Error, name: &'a str) -> Fault<'a>
-    ensures { (result ≡ Fault.CannotRead name.entry) ⊎ (result ≡ Fault.OutOfMemory) }
+pub(crate) fn read_fault<'a>(error: &io::Error, name: &'a str) -> Fault<'a>
+    ensures { IsUnread name.now result ⊎ (result ≡ Fault.OutOfMemory) }
 {
     match error.kind() {
         io::ErrorKind::OutOfMemory => Fault::OutOfMemory,
@@ -55,7 +61,7 @@ fn read_fault<'a>(error: &io::Error, name: &'a str) -> Fault<'a>
 
 /// The fault of what was not written.
 pub(crate) fn write_fault<'a>(error: &io::Error, name: &'a str) -> Fault<'a>
-    ensures { (result ≡ Fault.CannotWrite name.entry) ⊎ (result ≡ Fault.OutOfMemory) }
+    ensures { IsUnwritten name.now result ⊎ (result ≡ Fault.OutOfMemory) }
 {
     match error.kind() {
         io::ErrorKind::OutOfMemory => Fault::OutOfMemory,
@@ -72,8 +78,7 @@ pub(crate) fn read_whole<'a, R: Read + Drop>(
     name: &'a str,
 ) -> Result<Vec<u8>, Fault<'a>>
     ensures bytes { IfOk result (λ v. IsRead (R.remaining reader) v.items) }
-    ensures faults { IfErr result (λ e. (e ≡ Fault.CannotRead name.entry) ⊎ (e ≡ Fault.OutOfMemory)
-        ⊎ ((e ≡ Fault.InputTooLong) × IfSome (R.remaining reader) (λ xs. 16777216 < length xs))) }
+    ensures fault { IfErr result (IsInputFault (R.remaining reader) name.now) }
 {
     let mut bytes = Vec::new(alloc);
     let mut limited = reader.take(MOST_BYTES as u64 + 1);
@@ -91,8 +96,7 @@ pub(crate) fn read_file<'a, F: Storage>(
     path: &'a str,
 ) -> Result<Vec<u8>, Fault<'a>>
     ensures bytes { IfOk result (λ v. IsRead (F.contents storage.now path.now) v.items) }
-    ensures faults { IfErr result (λ e. (e ≡ Fault.CannotRead path.entry) ⊎ (e ≡ Fault.OutOfMemory)
-        ⊎ ((e ≡ Fault.InputTooLong) × IfSome (F.contents storage.now path.now) (λ xs. 16777216 < length xs))) }
+    ensures fault { IfErr result (IsInputFault (F.contents storage.now path.now) path.now) }
 {
     match storage.open(path) {
         Ok(file) => read_whole(alloc, file, path),

@@ -10,7 +10,8 @@ mod loading;
 mod names;
 mod output;
 
-pub use commands::dm_main;
+pub use commands::{dm_main, refuse_words};
 pub use dm_options::{command_line, options};
+pub use dm_out::Sink;
 pub use files::{Storage, System};
 pub use output::{WriteFault, run_program};

@@ -1,6 +1,7 @@
 //! The machine that a command begins with.
-ghost use Rattle.std.specs.Prelude.{◌≡◌, IfErr, IfOk, OnOk, map, option_map};
-ghost use Rattle.dm_cli.specs.Stores.{AddsFile, IsBegun, IsFaultOf, IsRead, IsStarted, Stores, bytes_if_any};
+ghost use Rattle.std.specs.Prelude.{Some, IfErr, IfOk, IfSome, OnOk, codes, map, option_map};
+ghost use Rattle.dm_cli.specs.Starting.{IsFileFault, IsMachineFault, IsStartFault, IsStartedBy, paths_of, sizes_of, typed_in};
+ghost use Rattle.dm_cli.specs.Stores.{AddsFile, IsBegun, IsFaultOf, IsInputFault, IsRead, Stores, bytes_if_any};
 ghost use Rattle.dm_state.specs.State.{HasProgram};
 
 use crate::fault::Fault;
@@ -22,7 +23,7 @@ fn add_file<'a, F: Storage>(
     path: &'a str,
 ) -> Result<(), Fault<'a>>
     ensures ok { OnOk result (AddsFile (F.contents storage.now path.now) programs.old path.now programs.new) }
-    ensures fault { IfErr result (λ e. IsFaultOf (Fault.CannotRead path.entry) (F.contents storage.now path.now) programs.old path.now e) }
+    ensures fault { IfErr result (IsFaultOf (F.contents storage.now path.now) programs.old path.now) }
 {
     if !names_file(path) {
         return Err(Fault::CannotRead(path));
@@ -42,6 +43,7 @@ fn read_programs<'a, F: Storage>(
     paths: &[&'a str],
 ) -> Result<Programs, Fault<'a>>
     ensures store { IfOk result (λ store. Stores (F.contents storage.now) (map (λ path. path.now) paths.now) store) }
+    ensures fault { IfErr result (IsFileFault (F.contents storage.now) (map (λ path. path.now) paths.now)) }
 {
     let mut programs = Programs::new(alloc);
     for path in paths {
@@ -57,9 +59,8 @@ fn begun<'a>(
     programs: Programs,
     input: Vec<u8>,
 ) -> Result<Machine, Fault<'a>>
-    ensures begun { IfOk result (IsBegun programs input.items
-        (record { ems_pages = options.now.ems_pages; xms_kib = options.now.xms_kib }) options.now.upper
-        (map (λ path. path.now) options.now.files.items) options.now.tail.now) }
+    ensures begun { IfOk result (IsBegun programs input.items (sizes_of options.now) options.now.upper (paths_of options.now) options.now.tail.now) }
+    ensures fault { IfErr result (IsMachineFault programs input.items options.now) }
     ensures loaded { IfOk result (λ machine. HasProgram machine) }
 {
     let config = Config {
@@ -87,9 +88,8 @@ pub(crate) fn loaded<'a, F: Storage, I: Read + Drop>(
     options: &MachineOptions<'a>,
     input: I,
 ) -> Result<Machine, Fault<'a>>
-    ensures started { IfOk result (IsStarted (F.contents storage.now) (I.remaining input)
-        (record { ems_pages = options.now.ems_pages; xms_kib = options.now.xms_kib }) options.now.upper
-        (map (λ path. path.now) options.now.files.items) options.now.tail.now) }
+    ensures started { IfOk result (IsStartedBy (F.contents storage.now) (I.remaining input) options.now) }
+    ensures fault { IfErr result (IsStartFault (F.contents storage.now) (I.remaining input) (Some (codes "standard input")) options.now) }
     ensures loaded { IfOk result (λ machine. HasProgram machine) }
 {
     let programs = read_programs(alloc, storage, options.files.as_slice())?;
@@ -103,7 +103,9 @@ fn read_if_any<'a, F: Storage>(
     storage: &F,
     path: Option<&'a str>,
 ) -> Result<Vec<u8>, Fault<'a>>
-    ensures { IfOk result (λ v. IsRead (bytes_if_any (F.contents storage.now) (option_map (λ s. s.now) path.entry)) v.items) }
+    ensures bytes { IfOk result (λ v. IsRead (bytes_if_any (F.contents storage.now) (option_map (λ path. path.now) path.entry)) v.items) }
+    ensures fault { IfErr result (λ e. IfSome (option_map (λ path. path.now) path.entry)
+        (λ name. IsInputFault (bytes_if_any (F.contents storage.now) (Some name)) name e)) }
 {
     match path {
         Some(path) => read_file(alloc, storage, path),
@@ -117,9 +119,9 @@ pub(crate) fn loaded_for_debug<'a, F: Storage>(
     storage: &F,
     options: &DebugOptions<'a>,
 ) -> Result<Machine, Fault<'a>>
-    ensures started { IfOk result (IsStarted (F.contents storage.now) (bytes_if_any (F.contents storage.now) (option_map (λ s. s.now) options.now.input))
-        (record { ems_pages = options.now.machine.ems_pages; xms_kib = options.now.machine.xms_kib }) options.now.machine.upper
-        (map (λ path. path.now) options.now.machine.files.items) options.now.machine.tail.now) }
+    ensures started { IfOk result (IsStartedBy (F.contents storage.now) (typed_in (F.contents storage.now) options.now) options.now.machine) }
+    ensures fault { IfErr result (IsStartFault (F.contents storage.now) (typed_in (F.contents storage.now) options.now)
+        (option_map (λ path. path.now) options.now.input) options.now.machine) }
     ensures loaded { IfOk result (λ machine. HasProgram machine) }
 {
     let programs = read_programs(alloc, storage, options.machine.files.as_slice())?;

@@ -66,7 +66,7 @@ abbrev pub disasm_app : App
 disasm_app = with_rule (new_app (codes "disasm")) (path_rule (codes "in"))
 
 abbrev pub named_app : App
-named_app = let empty = new_app (codes "dm") in record empty { top = record empty.top { subcommand_required = true } }
+named_app = let empty = new_app (codes "dm") in record empty { top = record empty.top { has_version = true; subcommand_required = true } }
 
 -- `dm` with its subcommands
 unfoldable pub dm_app : App

@@ -8,6 +8,9 @@ use clap::builder::ValueParser;
 use clap::{Arg, ArgAction, Command, value_parser};
 use std::alloc::{AllocError, Global};
 
+/// The version of the program.
+const VERSION: &str = "1.0.0";
+
 fn steps_arg<'a>(alloc: Global) -> Arg<'a>
     ensures rule { rule_of result ≡ steps_rule }
     ensures local { result.global ≡ false }
@@ -17,7 +20,7 @@ fn steps_arg<'a>(alloc: Global) -> Arg<'a>
         .value_name("N")
         .value_parser(value_parser!(u64))
         .default_value("100000000")
-        .help("run at most N steps")
+        .help("Stop after N steps: instructions, repetitions of a string instruction, services")
 }
 
 fn ems_arg<'a>(alloc: Global) -> Arg<'a>
@@ -29,7 +32,7 @@ fn ems_arg<'a>(alloc: Global) -> Arg<'a>
         .value_name("PAGES")
         .value_parser(ValueParser::unsigned(0, 4294967295))
         .default_value("64")
-        .help("pages of expanded memory")
+        .help("Pages of expanded memory, 16 KiB each; at most 512")
 }
 
 fn xms_arg<'a>(alloc: Global) -> Arg<'a>
@@ -41,7 +44,7 @@ fn xms_arg<'a>(alloc: Global) -> Arg<'a>
         .value_name("KIB")
         .value_parser(ValueParser::unsigned(0, 4294967295))
         .default_value("1024")
-        .help("KiB of extended memory")
+        .help("KiB of extended memory; at most 15360")
 }
 
 fn upper_arg<'a>(alloc: Global) -> Arg<'a>
@@ -51,7 +54,7 @@ fn upper_arg<'a>(alloc: Global) -> Arg<'a>
     Arg::new(alloc, "upper")
         .long("upper")
         .action(ArgAction::SetTrue)
-        .help("let the arena go on in upper memory")
+        .help("Add an upper memory block, D000h to DFFFh, to the DOS arena")
 }
 
 fn tail_arg<'a>(alloc: Global) -> Arg<'a>
@@ -62,7 +65,7 @@ fn tail_arg<'a>(alloc: Global) -> Arg<'a>
         .long("tail")
         .value_name("TEXT")
         .default_value("")
-        .help("the tail of the program's command line")
+        .help("The command tail, with the space that DOS puts before it; at most 126 bytes")
 }
 
 fn files_arg<'a>(alloc: Global) -> Arg<'a>
@@ -73,7 +76,7 @@ fn files_arg<'a>(alloc: Global) -> Arg<'a>
         .value_name("FILES")
         .num_args(1..)
         .required(true)
-        .help("the program to run, and other programs")
+        .help("The program, COM or EXE, then files that it can start; at most 16 MiB each")
 }
 
 /// Adds the options and files of a command that makes a machine.
@@ -94,7 +97,11 @@ fn run_command<'a>(alloc: Global) -> Result<Command<'a>, AllocError>
     ensures app { IfOk result (λ c. app_of c ≡ run_app) }
     ensures local { IfOk result (λ c. (fields_of c).has_globals ≡ false) }
 {
-    let command = Command::new(alloc, "run").about("run a program");
+    let command = Command::new(alloc, "run")
+        .about(
+            "Run a program: standard input is its console input, and its output is printed when it ends",
+        )
+        .after_help("Example: dm run --tail ' /q' PROGRAM.COM CHILD.EXE <input.txt");
     with_machine_args(alloc, command)
 }
 
@@ -105,14 +112,16 @@ fn input_arg<'a>(alloc: Global) -> Arg<'a>
     Arg::new(alloc, "input")
         .long("input")
         .value_name("FILE")
-        .help("the file of the program's input")
+        .help("The file that the program reads as its console input; none without it")
 }
 
 fn debug_command<'a>(alloc: Global) -> Result<Command<'a>, AllocError>
     ensures app { IfOk result (λ c. app_of c ≡ debug_app) }
     ensures local { IfOk result (λ c. (fields_of c).has_globals ≡ false) }
 {
-    let command = Command::new(alloc, "debug").about("debug a program");
+    let command = Command::new(alloc, "debug")
+        .about("Debug a program: each line of standard input is a command, Q ends the session")
+        .after_help("Example: printf 'R\nU 0103:0100\nG\n' | dm debug PROGRAM.COM");
     with_machine_args(alloc, command)?.arg(input_arg(alloc))
 }
 
@@ -137,9 +146,15 @@ fn asm_command<'a>(alloc: Global) -> Result<Command<'a>, AllocError>
     ensures local { IfOk result (λ c. (fields_of c).has_globals ≡ false) }
 {
     Command::new(alloc, "asm")
-        .about("assemble a program")
-        .arg(path_arg(alloc, "in", "IN", "the text of the program"))?
-        .arg(path_arg(alloc, "out", "OUT", "the file of its bytes"))
+        .about("Assemble a text to a COM program")
+        .after_help("Example: dm asm hello.asm hello.com")
+        .arg(path_arg(alloc, "in", "IN", "The text, at most 16 MiB"))?
+        .arg(path_arg(
+            alloc,
+            "out",
+            "OUT",
+            "The COM file, at most 65278 bytes; written only if the text has no error",
+        ))
 }
 
 fn disasm_command<'a>(alloc: Global) -> Result<Command<'a>, AllocError>
@@ -147,8 +162,9 @@ fn disasm_command<'a>(alloc: Global) -> Result<Command<'a>, AllocError>
     ensures local { IfOk result (λ c. (fields_of c).has_globals ≡ false) }
 {
     Command::new(alloc, "disasm")
-        .about("disassemble a program")
-        .arg(path_arg(alloc, "in", "IN", "the file of the program's bytes"))
+        .about("Disassemble a COM program to a text that asm takes")
+        .after_help("Example: dm disasm hello.com >hello.asm")
+        .arg(path_arg(alloc, "in", "IN", "The COM file, at most 65278 bytes"))
 }
 
 /// The command `dm` with its subcommands, of which a line must name one.
@@ -156,7 +172,11 @@ pub(crate) fn dm_command<'a>(alloc: Global) -> Result<Command<'a>, AllocError>
     ensures { IfOk result (λ c. app_of c ≡ dm_app) }
 {
     Command::new(alloc, "dm")
-        .about("a DOS real-mode machine")
+        .about(
+            "Runs, debugs, assembles and disassembles MS-DOS programs on an emulated Intel 8086 PC with EMS and XMS memory",
+        )
+        .version(VERSION)
+        .after_help("Example: dm run HELLO.COM")
         .subcommand_required(true)
         .subcommand(run_command(alloc)?)?
         .subcommand(debug_command(alloc)?)?

@@ -5,4 +5,4 @@ mod arguments;
 pub mod command_line;
 pub mod parse;
 
-pub use parse::options;
+pub use parse::{not_unicode, options};

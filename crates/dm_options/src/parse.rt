@@ -153,3 +153,16 @@ pub fn options<'a, S: AsStr>(alloc: Global, words: &'a [S]) -> Result<Options<'a
         Err(_) => Err(OptionsError::Memory),
     }
 }
+
+/// The error of a command line that has a word which is not UTF-8, and so can't be read, in `clap`'s words.
+///
+/// # Errors
+///
+/// `AllocError` where memory was refused.
+pub fn not_unicode(alloc: Global) -> Result<clap::Error, AllocError> {
+    let mut command = dm_command(alloc)?;
+    command.error(
+        ErrorKind::ValueValidation,
+        "invalid UTF-8 was detected in one or more arguments",
+    )
+}

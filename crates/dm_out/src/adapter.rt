@@ -59,4 +59,12 @@ impl<W: io::Write + Drop> Out for Sink<W> {
             }
         }
     }
+
+    /// One flush of the standard writer. Any of its errors is `Failed`, and is not counted.
+    fn flush(&mut self) -> Result<(), Failed> {
+        match self.writer.flush() {
+            Ok(()) => Ok(()),
+            Err(_) => Err(Failed),
+        }
+    }
 }

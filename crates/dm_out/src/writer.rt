@@ -1,6 +1,6 @@
 //! What output is written to: the shape of the standard `Write`, with the bytes taken and the failures counted.
 ghost use Rattle.std.specs.Prelude.{◌≡◌, ℕ, List, [], ◌≤◌, ◌<◌, Option, IsOk, IfOk, OnOk, OnErr, length, take};
-ghost use Rattle.std.specs.Io.KnownBytes.{Appends, WriteAppends};
+ghost use Rattle.std.specs.Io.KnownBytes.{Appends, Keeps, WriteAppends};
 ghost use Rattle.dm_out.specs.Out.{AppendsPart, HasFailed, count_after};
 
 use thiserror::Error;
@@ -25,6 +25,11 @@ pub trait Out {
         ensures bound { IfOk result (λ n. n ≤ length bytes.now) }
         ensures bytes { WriteAppends (taken self.old) (taken self.new) result bytes.now }
         ensures failures { failures self.new ≡ count_after (failures self.old) bytes.now result };
+
+    /// Hands on what the writer holds back, so that whoever waits for it has it.
+    fn flush(&mut self) -> Result<(), Failed>
+        ensures bytes { Keeps (taken self.old) (taken self.new) }
+        ensures failures { failures self.new ≡ failures self.old };
 }
 
 /// Writes all of `bytes`, by as many writes as it takes. An empty text makes no write.

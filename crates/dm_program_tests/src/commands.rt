@@ -1,7 +1,7 @@
 //! The program `dm` over files, readers and writers in memory: what each line writes and tells, and its status.
 use crate::checks::same_of;
 use crate::files::{Slow, Source, failing, filled, just, new_files};
-use dm_cli::dm_main;
+use dm_cli::{Sink, dm_main};
 use std::alloc::Global;
 use std::io::ErrorKind;
 use std::process::Abort;
@@ -181,15 +181,13 @@ fn tells(
     let mut output = Vec::new(alloc);
     let mut error = Vec::new(alloc);
     let known = known_files();
-    let files = new_files(alloc, &known, &REFUSED);
+    let mut files = new_files(alloc, &known, &REFUSED);
     let words = words.as_slice();
-    let got = dm_main(alloc, &files, words, input, &mut output, &mut error);
+    let mut sink = Sink::new(&mut output);
+    let got = dm_main(alloc, &mut files, words, input, &mut sink, &mut error);
     same_of(rt, line, "told", error.as_slice(), told.as_bytes());
     same_of(rt, line, "output", output.as_slice(), put_out);
-    let Ok(found) = files.saved.try_borrow() else {
-        return Err(Fail::from("saved bytes are in use"));
-    };
-    same_of(rt, line, "saved", found.as_slice(), saved);
+    same_of(rt, line, "saved", files.saved.as_slice(), saved);
     same_of(rt, line, "status", got, status);
     Ok(())
 }
@@ -235,6 +233,20 @@ fn tells_faults_of_the_input(rt: HostRuntime) -> Result<(), Fail> {
     tells(&rt, rt.alloc(), most, ("dm run hi.com", 0, b"", b"hi", ""))
 }
 
+/// The lines before the read that fails are answered, and a line that was cut is none.
+#[test]
+fn lines_before_a_failing_read_are_answered(rt: HostRuntime) -> Result<(), Fail> {
+    let blocks = b"0100 M 0103 0001\n0102 Z 0103 9EFD\nend\n";
+    for (kind, told) in [
+        (ErrorKind::BrokenPipe, "dm: cannot read standard input\n"),
+        (ErrorKind::OutOfMemory, "dm: out of memory\n"),
+    ] {
+        let row: Row = ("dm debug hi.com", 126, b"", blocks, told);
+        tells(&rt, rt.alloc(), failing(b"M\nM", kind), row)?;
+    }
+    Ok(())
+}
+
 #[test]
 fn a_long_input_is_copied(rt: HostRuntime) -> Result<(), Fail> {
     let mut wanted = Vec::from_slice(rt.alloc(), b"typed")?;
@@ -254,16 +266,23 @@ fn fails(
 ) -> Result<(), Fail> {
     let words: Vec<&str> = line.split(' ').collect(alloc)?;
     let mut taken = Vec::new(alloc);
-    let mut output = Slow {
+    let mut sink = Sink::new(Slow {
         taken: &mut taken,
         left,
         refuses,
-    };
+    });
     let mut error = Vec::new(alloc);
     let known = known_files();
-    let files = new_files(alloc, &known, &REFUSED);
+    let mut files = new_files(alloc, &known, &REFUSED);
     let words = words.as_slice();
-    let got = dm_main(alloc, &files, words, just(b""), &mut output, &mut error);
+    let got = dm_main(
+        alloc,
+        &mut files,
+        words,
+        just(b"M\n"),
+        &mut sink,
+        &mut error,
+    );
     same_of(rt, line, "status", got, status);
     same_of(rt, line, "told", error.as_slice(), told.as_bytes());
     same_of(rt, line, "output", taken.as_slice(), put_out.as_bytes());
@@ -287,6 +306,8 @@ fn tells_failing_writes(rt: HostRuntime) -> Result<(), Fail> {
             2,
             (125, "hi", "stopped: steps\n"),
         ),
+        ("dm debug hi.com", 0, (126, "", failed)),
+        ("dm debug hi.com", 7, (126, "0100 M ", failed)),
     ] {
         for refuses in [false, true] {
             fails(&rt, rt.alloc(), line, (left, refuses), wanted)?;

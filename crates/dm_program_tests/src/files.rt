@@ -1,7 +1,6 @@
 //! Files, readers and writers in memory.
 use dm_cli::Storage;
 use std::alloc::Global;
-use std::cell::RefCell;
 use std::io;
 use std::io::{ErrorKind, Read, Write};
 
@@ -69,7 +68,7 @@ pub(crate) struct Files<'a> {
     pub(crate) known: &'a [(&'a str, Source<'a>)],
     pub(crate) refused: &'a [(&'a str, ErrorKind)],
     /// The path of the file that was written, a space, and its bytes.
-    pub(crate) saved: RefCell<Vec<u8>>,
+    pub(crate) saved: Vec<u8>,
 }
 
 /// Files of which none was written yet.
@@ -78,11 +77,10 @@ pub(crate) fn new_files<'a>(
     known: &'a [(&'a str, Source<'a>)],
     refused: &'a [(&'a str, ErrorKind)],
 ) -> Files<'a> {
-    let saved = RefCell::new(Vec::new(alloc));
     Files {
         known,
         refused,
-        saved,
+        saved: Vec::new(alloc),
     }
 }
 
@@ -99,16 +97,13 @@ fn refusal(refused: &[(&str, ErrorKind)], path: &str) -> Option<ErrorKind> {
 impl<'a> Storage for Files<'a> {
     type File = Source<'a>;
 
-    fn save(&self, path: &str, bytes: &[u8]) -> io::Result<()> {
+    fn save(&mut self, path: &str, bytes: &[u8]) -> io::Result<()> {
         if let Some(kind) = refusal(self.refused, path) {
             return Err(io::Error::from(kind));
         }
-        let Ok(mut saved) = self.saved.try_borrow_mut() else {
-            return Err(io::Error::from(ErrorKind::Other));
-        };
-        saved.extend_from_slice(path.as_bytes())?;
-        saved.push(b' ')?;
-        saved.extend_from_slice(bytes)?;
+        self.saved.extend_from_slice(path.as_bytes())?;
+        self.saved.push(b' ')?;
+        self.saved.extend_from_slice(bytes)?;
         Ok(())
     }
 

@@ -1,8 +1,10 @@
-use Rattle.std.proofs.Common.{length}
+use Rattle.dm_cli.proofs.Conversations.{Spoken}
 use Rattle.dm_cli.proofs.debugging.converse.Given as goal
 
-abbrev pub invariant-loop-line : goal.invariant-loop-line
-invariant-loop-line g l = Unit {0}
+-- the lines so far were answered
+abbrev pub invariant-loop-has_more : goal.invariant-loop-has_more
+invariant-loop-has_more g l =
+    Spoken 16777216 l.fn.session (g.R.Read.remaining l.fn.commands) (g.W.Out.taken l.fn.out) l.left l.session (g.R.Read.remaining l.commands) (g.W.Out.taken l.out) l.has_more
 
-abbrev pub decreases-loop-line : goal.decreases-loop-line
-decreases-loop-line g l = length l.rest
+abbrev pub decreases-loop-has_more : goal.decreases-loop-has_more
+decreases-loop-has_more g l = l.left

@@ -1,23 +1,23 @@
-use Rattle.std.proofs.Common.{Err, ap}
+use Rattle.std.proofs.Common.{Err, ap, inl, refl}
 use Rattle.std.proofs.lemmas.Result.{err_from_is_err_and}
 use Rattle.dm_cli.specs.Stores.{not_read}
-use Rattle.dm_cli.proofs.Starts.{fault_of_reading, fault_of_name, fault_of_store}
+use Rattle.dm_cli.proofs.Starts.{fault_of_name, fault_of_store}
 use Rattle.dm_cli.proofs.loading.add_file.Goals as goal
-
-pub returns-then-not-names_file-clause-fault : goal.returns-then-not-names_file-clause-fault
-returns-then-not-names_file-clause-fault g c = not_read
 
 pub returns-in_err-bytes-clause-fault : goal.returns-in_err-bytes-clause-fault
 returns-in_err-bytes-clause-fault g c =
     let p = err_from_is_err_and c.from_residual.result c.from_residual.ensures.1 in
-    rw (p.1, p.2) (fault_of_reading _ _ _ _ _ c.in_err-bytes.ensures.faults)
+    rw (p.1, p.2) (not_read _ c.in_err-bytes.ensures.fault)
 
 pub returns-in_err-name-clause-fault : goal.returns-in_err-name-clause-fault
 returns-in_err-name-clause-fault g c =
     let p = err_from_is_err_and c.from_residual-in_err-name.result c.from_residual-in_err-name.ensures.1 in
-    rw (p.1, p.2) (fault_of_name _ _ _ _ _ _ c.in_ok-bytes.ensures.bytes c.in_err-name.ensures.faults)
+    rw (p.1, p.2) (fault_of_name _ _ _ _ _ c.in_ok-bytes.ensures.bytes c.in_err-name.ensures.fault)
 
 pub returns-in-Err-clause-fault : goal.returns-in-Err-clause-fault
 returns-in-Err-clause-fault g c =
-    rw c.from.ensures (fault_of_store c.in-Err.refusal _ _ _ _ _ _ c.in_ok-bytes.ensures.bytes c.in_ok-name.ensures.name.0 c.in_ok-name.ensures.name.1
+    rw c.from.ensures (fault_of_store c.in-Err.refusal _ _ _ _ _ c.in_ok-bytes.ensures.bytes c.in_ok-name.ensures.name.0 c.in_ok-name.ensures.name.1
     (λ e. c.in-Err.ensures.twice.0 (ap Err e)))
+
+pub returns-then-not-names_file-clause-fault : goal.returns-then-not-names_file-clause-fault
+returns-then-not-names_file-clause-fault g c = not_read _ (inl refl)

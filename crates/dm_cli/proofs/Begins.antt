@@ -1,0 +1,69 @@
+-- The faults that keep a machine from its start.
+use Rattle.std.proofs.Common.{◌≡◌, ◌⊎◌, inl, inr, ◌<◌, ◌∷◌, [], ℕ, List, Option, Some, None, Err, IfSome, refl, length, map}
+use Rattle.std.proofs.lemmas.Option.{none-some}
+use Rattle.std.specs.List.{slice_get}
+use Rattle.std.specs.Option.{ok_or}
+use Rattle.dm_machine.specs.declared.machine.NewError.{NewError}
+use Rattle.dm_machine.specs.declared.machine.NewError.TheVariants as new
+use Rattle.dm_machine.specs.declared.loading.LoadError.{LoadError}
+use Rattle.dm_machine.specs.declared.loading.LoadError.TheVariants as load
+use Rattle.dm_machine.specs.Start.{IsBadProgram, HasNoRoom}
+use Rattle.dm_options.specs.declared.command_line.MachineOptions.{MachineOptions}
+use Rattle.dm_pool.specs.Stored.{IsTooLarge}
+use Rattle.dm_proc.specs.Programs.{IsName, program_of}
+use Rattle.dm_state.specs.State.{State}
+use Rattle.dm_cli.specs.declared.fault.Fault.{Fault}
+use Rattle.dm_cli.specs.declared.fault.Fault.TheVariants as fault
+use Rattle.dm_cli.specs.Faults.{IsUnread, new_fault, load_fault}
+use Rattle.dm_cli.specs.Stores.{IsInputFault, bytes_if_any}
+use Rattle.dm_cli.specs.Starting.{IsLoadFault, IsMachineFault, sizes_of, too_large, no_memory}
+
+-- a machine of these sizes was refused
+pub new_refused : (e : NewError) (store : List (List ℕ × List ℕ)) (input : List ℕ) (o : MachineOptions) → (e ≡ new.TooLarge → IsTooLarge (sizes_of o)) → IsMachineFault store input o (new_fault e)
+new_refused new.TooLarge store input o h = too_large (h refl)
+new_refused new.Memory store input o h = no_memory
+
+-- there is no first one of some paths
+pub none_first : {A : Type 0} (f : A → List ℕ) (xs : List A) → None ≡ slice_get xs 0 → map f xs ≡ []
+none_first f [] h = refl
+none_first f (x ∷ xs) h = absurd (none-some x h)
+
+-- the first program's name is none that a file of a store has
+pub bad_name : (e : Fault) (path name : List ℕ) (fresh : State) → IsUnread path e ⊎ ((e ≡ fault.NameTooLong) × (64 < length name)) → ¬ IsName name → IsLoadFault fresh name e
+bad_name fault.NotFound path name fresh (inl h) none = absurd h
+bad_name fault.NotFound path name fresh (inr h) none = absurd (let e = h.0 in cc)
+bad_name fault.BadFormat path name fresh (inl h) none = absurd h
+bad_name fault.BadFormat path name fresh (inr h) none = absurd (let e = h.0 in cc)
+bad_name fault.Short path name fresh (inl h) none = absurd h
+bad_name fault.Short path name fresh (inr h) none = absurd (let e = h.0 in cc)
+bad_name (fault.CannotRead n) path name fresh h none = none
+bad_name (fault.CannotWrite n) path name fresh h none = none
+bad_name fault.TooLarge path name fresh h none = none
+bad_name fault.TailTooLong path name fresh h none = none
+bad_name fault.NameTooLong path name fresh h none = none
+bad_name fault.NameTwice path name fresh h none = none
+bad_name fault.InputTooLong path name fresh h none = none
+bad_name fault.TooLong path name fresh h none = none
+bad_name (fault.Syntax n) path name fresh h none = none
+bad_name (fault.Unknown n) path name fresh h none = none
+bad_name (fault.Range n) path name fresh h none = none
+bad_name (fault.Twice n) path name fresh h none = none
+bad_name fault.OutOfMemory path name fresh h none = none
+
+-- the first program was refused
+pub load_refused : (e : LoadError) (fresh : State) (name : List ℕ) → (e ≡ load.NotFound → program_of fresh.programs name ≡ None) → (e ≡ load.BadFormat → IsBadProgram fresh name)
+    → (e ≡ load.Short → HasNoRoom fresh name) → IsLoadFault fresh name (load_fault e)
+load_refused load.NotFound fresh name missing bad short = missing refl
+load_refused load.BadFormat fresh name missing bad short = bad refl
+load_refused load.Short fresh name missing bad short = short refl
+
+-- the console's input in a session, if it has a file
+pub input_of_session : (files : List ℕ → Option (List ℕ)) (o : Option (List ℕ)) (e : Fault) → IfSome o (λ name. IsInputFault (bytes_if_any files (Some name)) name e)
+    → IfSome o (λ name. IsInputFault (bytes_if_any files o) name e)
+input_of_session files None e h = tt
+input_of_session files (Some name) e h = h
+
+-- the error that stands for nothing
+pub error_of_none : {A : Type 0} (o : Option A) (err e : Fault) → ok_or o err ≡ Err e → e ≡ err
+error_of_none None err e h = cc
+error_of_none (Some x) err e h = absurd (cc)

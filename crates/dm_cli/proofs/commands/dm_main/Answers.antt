@@ -1,0 +1,20 @@
+use Rattle.std.proofs.Common.{refl}
+use Rattle.std.proofs.KnownBytes.{Keeps-refl}
+use Rattle.dm_cli.specs.Program.{runs, debugs, assembles, disassembles}
+use Rattle.dm_cli.proofs.commands.dm_main.Goals as goal
+
+pub returns-in-Ok-Run : goal.returns-in-Ok-Run
+returns-in-Ok-Run g c =
+    runs _ _ (record { right = c.in-Ok-Run.ensures.no_fault; says = rw c.in-Ok-Run.field-0-is at c.in-Ok-Run.ensures.ok }) c.run.ensures refl c.report.ensures
+
+pub returns-in-Ok-Debug : goal.returns-in-Ok-Debug
+returns-in-Ok-Debug g c =
+    debugs _ _ (record { right = c.in-Ok-Debug.ensures.no_fault; says = rw c.in-Ok-Debug.field-0-is at c.in-Ok-Debug.ensures.ok }) c.debug.ensures refl c.told.ensures
+
+pub returns-in-Ok-Asm : goal.returns-in-Ok-Asm
+returns-in-Ok-Asm g c =
+    assembles _ _ (record { right = c.in-Ok-Asm.ensures.no_fault; says = rw c.in-Ok-Asm.field-0-is at c.in-Ok-Asm.ensures.ok }) c.asm.ensures (Keeps-refl _) c.told-in-Ok-Asm.ensures
+
+pub returns-in-Ok-Disasm : goal.returns-in-Ok-Disasm
+returns-in-Ok-Disasm g c =
+    disassembles c.in-Ok-Disasm.path _ (record { right = c.in-Ok-Disasm.ensures.no_fault; says = rw c.in-Ok-Disasm.field-0-is at c.in-Ok-Disasm.ensures.ok }) c.disasm.ensures refl c.told-in-Ok-Disasm.ensures

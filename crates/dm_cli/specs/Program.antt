@@ -1,0 +1,73 @@
+-- What `dm` does for the words of its command line, from their reading to its exit status.
+use Rattle.std.specs.Prelude.{ℕ, ◌≡◌, ◌≢◌, List, [], Option, Some, None, IsSomeAnd, Result, Ok, Err, codes}
+use Rattle.std.specs.Io.KnownBytes.{Appends, Keeps}
+use denote.Ref.{Bor}
+use Rattle.clap.specs.Words.{Text, fault_of, subcommand_of}
+use Rattle.dm_options.specs.Arguments.{dm_app}
+use Rattle.dm_options.specs.Options.{HasOptions}
+use Rattle.dm_options.specs.declared.command_line.AsmOptions.{AsmOptions}
+use Rattle.dm_options.specs.declared.command_line.DebugOptions.{DebugOptions}
+use Rattle.dm_options.specs.declared.command_line.MachineOptions.{MachineOptions}
+use Rattle.dm_options.specs.declared.command_line.Options.{Options}
+use Rattle.dm_options.specs.declared.command_line.Options.TheVariants as command
+use Rattle.dm_out.specs.Out.{AppendsPart}
+use Rattle.dm_state.specs.declared.stop.Stop.{Stop}
+use Rattle.dm_state.specs.State.{State}
+use Rattle.dm_machine.specs.Run.{IsRun}
+use Rattle.dm_cli.specs.declared.fault.Fault.{Fault}
+use Rattle.dm_cli.specs.Assembling.{Assembles, Disassembles}
+use Rattle.dm_cli.specs.Debugging.{Debugs}
+use Rattle.dm_cli.specs.Faults.{IsWriteFault}
+use Rattle.dm_cli.specs.Starting.{IsStartedBy, IsStartFault}
+use Rattle.dm_cli.specs.Statuses.{status_of, status_after}
+
+-- ---- the commands
+
+-- `dm run`: the whole output of the run, behind what was written before; or a first part of it, where a write failed; or nothing
+pub data Runs (files : List ℕ → Option (List ℕ)) (typed : Option (List ℕ)) (o : MachineOptions) (before after : Option (List ℕ)) : Result Stop Fault → Type 0 where
+  ran : (m t : State) (stop : Stop) → IsStartedBy files typed o m → IsRun m o.steps stop t → Appends before after t.console.output
+      → Runs files typed o before after (Ok stop)
+  partly_written : (m t : State) (stop : Stop) (fault : Fault) → IsStartedBy files typed o m → IsRun m o.steps stop t → AppendsPart before after t.console.output
+      → IsWriteFault fault → Runs files typed o before after (Err fault)
+  not_started : (fault : Fault) → IsStartFault files typed (Some (codes "standard input")) o fault → Keeps before after → Runs files typed o before after (Err fault)
+
+-- ---- the program
+
+-- the bytes of files by their paths and of standard input, what stands on standard output before, and which files were written before: each where
+-- it is known
+pub record Given : Type 0 where
+  pub files : List ℕ → Option (List ℕ)
+  pub typed : Option (List ℕ)
+  pub output : Option (List ℕ)
+  pub saved : Option (List (List ℕ × List ℕ))
+
+-- what is there afterwards, and the exit status
+pub record Left : Type 0 where
+  pub output : Option (List ℕ)
+  pub saved : Option (List (List ℕ × List ℕ))
+  pub status : ℕ
+
+-- the words are a right command line, and these are its options
+pub record Asks (words : List Text) (o : Options) : Type 0 where
+  pub right : fault_of dm_app words ≡ []
+  pub says : IsSomeAnd (subcommand_of dm_app words) (λ given. HasOptions given o)
+
+-- a wrong line, or a call for help, does nothing; a right one does what its command does; memory may be refused while the words are read
+pub data Does (g : Given) (words : List Text) (l : Left) : Type 0 where
+  usage : fault_of dm_app words ≢ [] → Keeps g.output l.output → l.saved ≡ g.saved → l.status ≡ 2 → Does g words l
+  no_memory : Keeps g.output l.output → l.saved ≡ g.saved → l.status ≡ 126 → Does g words l
+  runs : (o : MachineOptions) (outcome : Result Stop Fault) → Asks words (command.Run o) → Runs g.files g.typed o g.output l.output outcome
+      → l.saved ≡ g.saved → l.status ≡ status_of outcome → Does g words l
+  debugs : (o : DebugOptions) (end : Option Fault) → Asks words (command.Debug o) → Debugs g.files g.typed o g.output l.output end
+      → l.saved ≡ g.saved → l.status ≡ status_after end → Does g words l
+  assembles : (o : AsmOptions) (end : Option Fault) → Asks words (command.Asm o) → Assembles g.files o g.saved l.saved end
+      → Keeps g.output l.output → l.status ≡ status_after end → Does g words l
+  disassembles : (path : Bor (List ℕ)) (end : Option Fault) → Asks words (command.Disasm path) → Disassembles g.files path.now g.output l.output end
+      → l.saved ≡ g.saved → l.status ≡ status_after end → Does g words l
+
+-- the exit status of the program over files and streams of which nothing is known
+pub record EndsWith (words : List Text) (status : ℕ) : Type 0 where
+  pub given : Given
+  pub left : Left
+  pub does : Does given words left
+  pub is : status ≡ left.status
