@@ -20,7 +20,9 @@ fn steps_arg<'a>(alloc: Global) -> Arg<'a>
         .value_name("N")
         .value_parser(value_parser!(u64))
         .default_value("100000000")
-        .help("Stop after N steps: instructions, repetitions of a string instruction, services")
+        .help(
+            "For run: stop after N steps (instructions, repetitions of string instructions, services)",
+        )
 }
 
 fn ems_arg<'a>(alloc: Global) -> Arg<'a>
