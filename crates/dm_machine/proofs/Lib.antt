@@ -1,11 +1,13 @@
 mod StepLaws
-mod OneRun
-mod OneStop
+pub mod OneRun
+pub mod OneStop
 mod Memos
 mod Confined
 mod Kept
+mod Extended
 mod NoRoom
 mod Rooms
 mod Links
 mod UntilLaws
 mod UntilRuns
+pub mod OneUntil

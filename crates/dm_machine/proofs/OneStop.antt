@@ -10,13 +10,13 @@ use Rattle.dm_machine.specs.Laws.{RunHasOneStop}
 use Rattle.dm_machine.proofs.OneRun.{steps-one, goes-one}
 
 -- a step within a run
-record Within (s : State) (k : ℕ) : Type 0 where
-  before : State
-  next : State
-  goes : Goes s k before
-  steps : Steps before (record { stop = None; state = next })
+pub record Within (s : State) (k : ℕ) : Type 0 where
+  pub before : State
+  pub next : State
+  pub goes : Goes s k before
+  pub steps : Steps before (record { stop = None; state = next })
 
-within : (s t : State) (n k : ℕ) → Goes s n t → k < n → Within s k
+pub within : (s t : State) (n k : ℕ) → Goes s n t → k < n → Within s k
 within s t n k here less = absurd (omega (arith, less))
 within s t n k (further m u v goes h) less = elim (cases_lt k m) [
   | inl under ↦ within s u m k goes under
@@ -25,18 +25,18 @@ within s t n k (further m u v goes h) less = elim (cases_lt k m) [
       record { before = u; next = v; goes = subst (λ j. Goes s j u) same goes; steps = h })
 ]
 
-answers-stop : (s : State) (stop : Stop) (t : State) → stop ≢ NoMemory → Answers s (Some stop) t → Steps s (record { stop = Some stop; state = t })
+pub answers-stop : (s : State) (stop : Stop) (t : State) → stop ≢ NoMemory → Answers s (Some stop) t → Steps s (record { stop = Some stop; state = t })
 answers-stop s NoMemory t p h = absurd (p refl)
 answers-stop s stop t p h = h
 
-some-none : {A : Type 0} (o : Option A) (a : A) → o ≡ Some a → o ≡ None → ⊥
+pub some-none : {A : Type 0} (o : Option A) (a : A) → o ≡ Some a → o ≡ None → ⊥
 some-none o a e f = cc
 
-stop-same : (a b : Stop) (o : Option Stop) → Some a ≡ o → o ≡ Some b → a ≡ b
+pub stop-same : (a b : Stop) (o : Option Stop) → Some a ≡ o → o ≡ Some b → a ≡ b
 stop-same a b o e f = cc
 
 -- no run goes on beyond the step at which another one stops
-not_beyond : (s t u : State) (n : ℕ) (stop : Stop) → stop ≢ NoMemory → Goes s n t → StopsWithin s n stop u → ⊥
+pub not_beyond : (s t u : State) (n : ℕ) (stop : Stop) → stop ≢ NoMemory → Goes s n t → StopsWithin s n stop u → ⊥
 not_beyond s t u n stop p goes w =
     let v = within s t n w.made goes w.fewer in
     let same : v.before ≡ w.before = goes-one s v.before w.before w.made v.goes w.goes in
@@ -63,7 +63,7 @@ both-cut s t u n a b p q w v = elim (cases_lt w.made v.made) [
       ]
 ]
 
-code-same : (o : Option ℕ) (c d : ℕ) → o ≡ Some c → o ≡ Some d → c ≡ d
+pub code-same : (o : Option ℕ) (c d : ℕ) → o ≡ Some c → o ≡ Some d → c ≡ d
 code-same o c d e f = cc
 
 pub run-one : RunHasOneStop

@@ -1,10 +1,11 @@
 -- Laws of steps and runs.
-use Rattle.std.specs.Prelude.{◌≡◌, ◌≢◌, ℕ, ◌+◌, ◌≤◌, ◌<◌, max, false, List, length, Option, Some, None}
-use Rattle.dm_space.specs.Memory.{Memory, page_bytes}
-use Rattle.dm_space.specs.Unseen.{shows, unseen_as, IsUnseen}
+use Rattle.std.specs.Prelude.{◌≡◌, ◌≢◌, ℕ, ◌+◌, ◌≤◌, ◌<◌, ◌==◌, ◌||◌, not, max, Bool, true, false, List, [], ◌∷◌, length, Option, Some, None}
+use Rattle.dm_space.specs.Memory.{Memory, page_bytes, with_blocks}
+use Rattle.dm_space.specs.Unseen.{shows, mixed, unseen_as, IsUnseen}
+use Rattle.dm_xms.specs.declared.tables.Handle.{Handle}
 use Rattle.dm_state.specs.declared.stop.Stop.{Stop}
 use Rattle.dm_state.specs.declared.stop.Stop.TheVariants.{Memory as NoMemory}
-use Rattle.dm_state.specs.State.{State, Answer}
+use Rattle.dm_state.specs.State.{State, Answer, AreLinked}
 use Rattle.dm_services.specs.Laws.{with_change}
 use Rattle.dm_drivers.specs.declared.drivers.Driver.{Driver}
 use Rattle.dm_drivers.specs.declared.drivers.Driver.TheVariants.{ExpandedMemory, Multiplex, ExtendedMemory}
@@ -64,6 +65,35 @@ pub record LeavesUnseen (m n : Memory) : Type 0 where
 
 abbrev pub RunLeavesUnseen : Type 0
 RunLeavesUnseen = (s t : State) (n : ℕ) (stop : Stop) → StaysQuiet s n → IsRun s n stop t → LeavesUnseen s.memory t.memory
+
+-- the block is that of a handle of extended memory
+abbrev pub is_extended : List (Option Handle) → ℕ → Bool
+is_extended [] block = false
+is_extended (None ∷ handles) block = is_extended handles block
+is_extended (Some handle ∷ handles) block = (handle.block == block) || is_extended handles block
+
+-- the memory with other bytes in those blocks
+abbrev pub extended_as : List (Option Handle) → (ℕ → List ℕ) → Memory → Memory
+extended_as handles other m = with_blocks m (record m.blocks { contents = mixed (λ block. not (is_extended handles block)) other 0 m.blocks.contents })
+
+-- the state with other bytes in all blocks of extended memory
+abbrev pub with_extended_blocks : (ℕ → List ℕ) → State → State
+with_extended_blocks other s = record s { memory = extended_as s.xms.handles other s.memory }
+
+-- where tables and memory go together, as they do in each machine, a run doesn't depend on the bytes of any block of extended memory
+abbrev pub ExtendedBlocksChangeNoRun : Type 0
+ExtendedBlocksChangeNoRun =
+    (other : ℕ → List ℕ) (s t : State) (n : ℕ) (stop : Stop) → AreLinked s → StaysQuiet s n →
+    IsRun s n stop t → IsRun (with_extended_blocks other s) n stop (with_extended_blocks other t)
+
+-- what it leaves: the tables of expanded and of extended memory, and the bytes of each block of extended memory
+pub record LeavesExtended (s t : State) : Type 0 where
+  pub expanded : t.ems ≡ s.ems
+  pub extended : t.xms ≡ s.xms
+  pub bytes : (block : ℕ) → is_extended s.xms.handles block ≡ true → page_bytes t.memory block ≡ page_bytes s.memory block
+
+abbrev pub RunLeavesExtended : Type 0
+RunLeavesExtended = (s t : State) (n : ℕ) (stop : Stop) → AreLinked s → StaysQuiet s n → IsRun s n stop t → LeavesExtended s t
 
 -- steps and runs one after another, and between them changes of memory from outside, and more room
 pub data Follows (s : State) : State → Type 0 where

@@ -1,5 +1,6 @@
 //! Laws of steps and runs, each the contract of a function that does nothing.
-ghost use Rattle.dm_machine.specs.Laws.{StepHasOneAnswer, ThereIsOneRun, RunHasOneStop, UnseenBytesChangeNoStep, UnseenBytesChangeNoRun, UnseenBlocksChangeNoRun, RunLeavesUnseen, RoomIsEnoughForRuns, RoomIsEnoughForSteps};
+ghost use Rattle.dm_machine.specs.Laws.{StepHasOneAnswer, ThereIsOneRun, RunHasOneStop, UnseenBytesChangeNoStep, UnseenBytesChangeNoRun, UnseenBlocksChangeNoRun, RunLeavesUnseen, ExtendedBlocksChangeNoRun, RunLeavesExtended, RoomIsEnoughForRuns, RoomIsEnoughForSteps};
+ghost use Rattle.dm_machine.specs.Until.{UntilHasOneStop};
 ghost use Rattle.dm_state.specs.State.{AreLinked};
 
 use crate::machine::Machine;
@@ -25,17 +26,28 @@ pub fn there_is_one_run()
     ensures stops { RunHasOneStop }
 {}
 
+/// There is one run up to breakpoints: from one state, such runs of at most as many steps, up to the same breakpoints, end for one reason in
+/// one state, unless one of them wants memory. That a run ends at the first breakpoint to which a step leads is the law
+/// `a_run_until_is_a_run`.
+pub fn there_is_one_run_until()
+    ensures { UntilHasOneStop }
+{}
+
 /// Bytes that no address shows neither matter nor change in a run in which neither INT 67h nor the extended memory driver acts: with
 /// others of them, the run makes the same steps, stops for the same reason, and leaves the same state, with those other bytes kept.
 ///
 /// In particular this holds for the pages of expanded memory that no window shows (LIM EMS 4.0, section 2) and for all blocks of
 /// extended memory (XMS 3.0). Such a run leaves the windows as they are, each block where it lies, and the bytes of each block that no
-/// window shows. The two drivers may map, move, give or free such bytes.
+/// window shows. Where tables and memory go together, as in each machine (`tables_and_memory_go_together`), it leaves the tables of both
+/// drivers and the bytes of all blocks of extended memory, and with other bytes in all of these it is the same run. The two drivers may
+/// map, move, give or free such bytes.
 pub fn unseen_bytes_change_nothing()
     ensures steps { UnseenBytesChangeNoStep }
     ensures runs { UnseenBytesChangeNoRun }
     ensures blocks { UnseenBlocksChangeNoRun }
     ensures kept { RunLeavesUnseen }
+    ensures extended { ExtendedBlocksChangeNoRun }
+    ensures extended_kept { RunLeavesExtended }
 {}
 
 /// Room that was made beforehand is enough: over any list of steps and runs, with changes of memory

@@ -17,7 +17,7 @@ pub use dm_space::Space;
 pub use dm_state::{Config, Stop};
 pub use laws::{
     a_step_has_one_answer, room_is_enough, tables_and_memory_go_together, there_is_one_run,
-    unseen_bytes_change_nothing,
+    there_is_one_run_until, unseen_bytes_change_nothing,
 };
 pub use loading::LoadError;
 pub use machine::{Machine, NewError};
