@@ -2,3 +2,4 @@ pub mod Debugged
 pub mod Points
 pub mod Runs
 pub mod Sessions
+pub mod Laws

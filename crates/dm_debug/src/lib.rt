@@ -1,11 +1,13 @@
 //! A debugger over a machine: a session answers the commands that lines ask for.
 #![tactic(auto)]
 
+mod laws;
 mod listings;
 mod points;
 mod refusal;
 mod runs;
 mod session;
 
+pub use laws::runs_have_one_answer;
 pub use refusal::Refusal;
 pub use session::Session;
