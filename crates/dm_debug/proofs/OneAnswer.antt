@@ -7,12 +7,12 @@ use Rattle.dm_state.specs.State.{State, Answer}
 use Rattle.dm_machine.specs.Step.{Steps}
 use Rattle.dm_machine.specs.Run.{Answers, Goes, StopsWithin}
 use Rattle.dm_machine.specs.Run as run
-use Rattle.dm_machine.proofs.OneRun.{steps-one, goes-one}
+use Rattle.dm_machine.proofs.OneRun.{steps-one}
 use Rattle.dm_machine.proofs.OneStop.{answers-stop, stop-same, not_beyond}
 use Rattle.dm_machine.proofs.OneUntil.{until_one}
 use Rattle.dm_views.specs.Registers.{IsRegistersText}
 use Rattle.dm_views.proofs.CodeOnce.{registers_once}
-use Rattle.dm_debug.specs.Runs.{stop_line, Traces, none, more, IsTrace, whole, cut}
+use Rattle.dm_debug.specs.Runs.{stop_line, Traces, none, more, whole, cut}
 use Rattle.dm_debug.specs.Laws.{GoHasOneAnswer, TraceHasOneAnswer}
 
 -- equal states show one text of their registers
