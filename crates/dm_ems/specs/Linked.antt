@@ -31,7 +31,6 @@ abbrev pub SavesPages : List Page → Option Handle → Type 0
 SavesPages pages None = Unit {0}
 SavesPages pages (Some handle) = IfSome handle.saved (ShowsPages pages)
 
--- the pool has 576 numbers and is one that a store can have, the pages are 512 at most, and tables and memory go together
 pub record IsLinked (x : Expanded) : Type 0 where
   pub places : length x.memory.blocks.places ≡ 576
   pub contents : length x.memory.blocks.contents ≡ 576

@@ -21,7 +21,6 @@ HasOther s t = IfSome t (λ other. other.block ≢ s.block)
 abbrev pub handle_at : List (Option Handle) → ℕ → Option Handle
 handle_at handles k = slice_index_or handles k None
 
--- the pool has 576 numbers and is one that a store can have, there are 64 handles, and tables and memory go together
 pub record IsLinked (x : Extended) : Type 0 where
   pub places : length x.memory.blocks.places ≡ 576
   pub contents : length x.memory.blocks.contents ≡ 576
