@@ -1,5 +1,5 @@
 -- The faults that keep a machine from its start.
-use Rattle.std.proofs.Common.{◌≡◌, ◌⊎◌, inl, inr, ◌<◌, ◌∷◌, [], ℕ, List, Option, Some, None, Err, IfSome, refl, length, map}
+use Rattle.std.proofs.Common.{◌≡◌, ◌⊎◌, inl, inr, ◌<◌, ◌∷◌, [], ℕ, List, Option, Some, None, Err, IsSomeAnd, refl, length, map}
 use Rattle.std.proofs.lemmas.Option.{none-some}
 use Rattle.std.specs.List.{slice_get}
 use Rattle.std.specs.Option.{ok_or}
@@ -58,9 +58,9 @@ load_refused load.BadFormat fresh name missing bad short = bad refl
 load_refused load.Short fresh name missing bad short = short refl
 
 -- the console's input in a session, if it has a file
-pub input_of_session : (files : List ℕ → Option (List ℕ)) (o : Option (List ℕ)) (e : Fault) → IfSome o (λ name. IsInputFault (bytes_if_any files (Some name)) name e)
-    → IfSome o (λ name. IsInputFault (bytes_if_any files o) name e)
-input_of_session files None e h = tt
+pub input_of_session : (files : List ℕ → Option (List ℕ)) (o : Option (List ℕ)) (e : Fault) → IsSomeAnd o (λ name. IsInputFault (bytes_if_any files (Some name)) name e)
+    → IsSomeAnd o (λ name. IsInputFault (bytes_if_any files o) name e)
+input_of_session files None e h = absurd h
 input_of_session files (Some name) e h = h
 
 -- the error that stands for nothing

@@ -8,7 +8,7 @@ use Rattle.dm_debug.specs.Debugged.{Debugged}
 use Rattle.dm_cli.specs.declared.fault.Fault.{Fault}
 use Rattle.dm_cli.specs.declared.fault.Fault.TheVariants.{InputTooLong, OutOfMemory}
 use Rattle.dm_cli.specs.Faults.{IsReadFault}
-use Rattle.dm_cli.specs.Debugging.{Converses, IsAnsweredBy, IsConversation, IsQuit, IsUnanswered, Reads, Tells, cut_short, partly, ended, quits, answers, too_long, unread, no_memory, cut_off, unwritten}
+use Rattle.dm_cli.specs.Debugging.{Converses, IsAnsweredBy, IsConversation, IsQuit, IsUnanswered, Reads, Tells, cut_short, partly, unflushed, ended, quits, answers, too_long, unread, no_memory, cut_off, unwritten, not_handed_on}
 use Rattle.dm_cli.proofs.Lines.{first_ended, first_last, first_long, last_of_all}
 
 -- what a reader has left, where that is known
@@ -70,8 +70,8 @@ pub record Spoken (n : ℕ) (s : Debugged) (known before : Option (List ℕ)) (l
   pub read : Consumes known rest consumed
   pub written : Appends before after told
   pub over : more ≡ false → OnSome known (IsAtEnd rest)
-  pub goes_on : (ys further : List ℕ) (u : Debugged) (end : Option Fault) → (more ≡ false → ys ≡ []) → Converses left t ys further u end
-      → Converses n s (consumed ++ ys) (told ++ further) u end
+  pub goes_on : (ys further : List ℕ) (u : Debugged) (end : Option Fault) (whole : Bool) → (more ≡ false → ys ≡ []) → Converses left t ys further u end whole
+      → Converses n s (consumed ++ ys) (told ++ further) u end whole
 
 pub begun : (n : ℕ) (s : Debugged) (known before : Option (List ℕ)) → Spoken n s known before n s known before true
 begun n s known before = record {
@@ -80,18 +80,20 @@ begun n s known before = record {
   read = Consumes-nil known;
   written = Appends-nil before;
   over = λ e. absurd (let u : true ≡ false = e in cc);
-  goes_on = λ ys further u end none h. h;
+  goes_on = λ ys further u end whole none h. h;
 }
 
 -- what becomes of the rest, if it is all that is left
 concludes : {n left : ℕ} {s t : Debugged} {known before rest after : Option (List ℕ)} {more : Bool} → Spoken n s known before left t rest after more
-    → (ys further : List ℕ) (u : Debugged) (end : Option Fault) (final : Option (List ℕ)) → (more ≡ false → ys ≡ []) → IfSome rest (λ xs. ys ≡ xs)
-    → Converses left t ys further u end → Appends after final further → IsConversation n known s u before final end
-concludes {known} {before} {rest} {after} spoken ys further u end final none is h appends = record {
+    → (ys further : List ℕ) (u : Debugged) (end : Option Fault) (whole : Bool) (final : Option (List ℕ)) (failures : ℕ) → (more ≡ false → ys ≡ []) → IfSome rest (λ xs. ys ≡ xs)
+    → Converses left t ys further u end whole → Appends after final further → (whole ≡ false → 0 < failures) → IsConversation n known s u before final failures end
+concludes {known} {before} {rest} {after} spoken ys further u end is_whole final failures none is h appends failed = record {
+  whole = is_whole;
+  failed = failed;
   text = spoken.consumed ++ ys;
   told = spoken.told ++ further;
   read = whole known rest spoken.read is;
-  converses = spoken.goes_on ys further u end none h;
+  converses = spoken.goes_on ys further u end is_whole none h;
   written = Appends-trans _ _ _ spoken.told further spoken.written appends;
 }
   where
@@ -103,13 +105,13 @@ concludes {known} {before} {rest} {after} spoken ys further u end final none is 
 -- ---- one line more
 
 -- a line with its answer, before what comes next
-answers_first : (left : ℕ) (t u v : Debugged) (line ys text further : List ℕ) (end : Option Fault)
+answers_first : (left : ℕ) (t u v : Debugged) (line ys text further : List ℕ) (end : Option Fault) (whole : Bool)
     → (take_through 10 (line ++ ys) ≡ line) × (drop_through 10 (line ++ ys) ≡ ys) → 0 < length line → length line ≤ left
-    → ¬ IsQuit (strip_last 10 line) → Tells t (strip_last 10 line) u text → Converses (left - length line) u ys further v end
-    → Converses left t (line ++ ys) (text ++ further) v end
-answers_first left t u v line ys text further end first some fits other tells h =
+    → ¬ IsQuit (strip_last 10 line) → Tells t (strip_last 10 line) u text → Converses (left - length line) u ys further v end whole
+    → Converses left t (line ++ ys) (text ++ further) v end whole
+answers_first left t u v line ys text further end whole first some fits other tells h =
     let is = first.0 in
-    answers left t u v (line ++ ys) text further end (not_empty line ys some) (rw is fits)
+    answers left t u v (line ++ ys) text further end whole (not_empty line ys some) (rw is fits)
     (rw is other) (rw is tells) (rw (is, first.1) h)
 
 pub step : {n left : ℕ} {s t : Debugged} {known before rest after : Option (List ℕ)} → Spoken n s known before left t rest after true
@@ -122,10 +124,10 @@ step {n} {left} {s} {t} {known} {before} {rest} spoken line u rest' after' reads
   read = Consumes-trans _ _ _ spoken.consumed line spoken.read reads.consumes;
   written = Appends-trans _ _ _ spoken.told answered.text spoken.written answered.written;
   over = λ e. known_end known rest rest' spoken.read (reads.last e);
-  goes_on = λ ys further v end none h.
-      let all : Converses n s (spoken.consumed ++ (line ++ ys)) (spoken.told ++ (answered.text ++ further)) v end =
-      spoken.goes_on (line ++ ys) (answered.text ++ further) v end (λ e. absurd (let c : true ≡ false = e in cc))
-      (answers_first left t u v line ys answered.text further end (first (ends_with_byte 10 line) refl ys none) some fits other answered.tells h) in
+  goes_on = λ ys further v end whole none h.
+      let all : Converses n s (spoken.consumed ++ (line ++ ys)) (spoken.told ++ (answered.text ++ further)) v end whole =
+      spoken.goes_on (line ++ ys) (answered.text ++ further) v end whole (λ e. absurd (let c : true ≡ false = e in cc))
+      (answers_first left t u v line ys answered.text further end whole (first (ends_with_byte 10 line) refl ys none) some fits other answered.tells h) in
       rw (append_assoc, append_assoc) all;
 }
   where
@@ -145,17 +147,22 @@ step {n} {left} {s} {t} {known} {before} {rest} spoken line u rest' after' reads
 abbrev pub Counts : ℕ → Option (List ℕ) → List ℕ → Option (List ℕ) → ℕ → Type 0
 Counts left rest line rest' count = (count ≤ left) × (count ≡ length line) × Reads rest rest' line
 
+never : {P : Type 0} → true ≡ false → P
+never e = absurd (let c : true ≡ false = e in cc)
+
 going : {ys : List ℕ} → true ≡ false → ys ≡ []
 going e = absurd (let c : true ≡ false = e in cc)
 
-module _ {n left : ℕ} {s t : Debugged} {known before rest after : Option (List ℕ)} where
+module _ {n left : ℕ} {s t : Debugged} {known before rest after : Option (List ℕ)} (failures : ℕ) where
   -- no line is left
-  pub ends : Spoken n s known before left t rest after false → IsConversation n known s t before after None
+  pub ends : Spoken n s known before left t rest after false → IsConversation n known s t before after failures None
   ends spoken = record {
     text = spoken.consumed ++ [];
     told = spoken.told ++ [];
     read = all known rest spoken.read (spoken.over refl);
-    converses = spoken.goes_on [] [] t None (λ e. refl) (ended left t);
+    whole = true;
+    converses = spoken.goes_on [] [] t None true (λ e. refl) (ended left t);
+    failed = λ e. absurd (let u : true ≡ false = e in cc);
     written = rw append-nil spoken.written;
   }
     where
@@ -165,9 +172,9 @@ module _ {n left : ℕ} {s t : Debugged} {known before rest after : Option (List
       all (Some x) (Some y) h e = ap (λ l. spoken.consumed ++ l) (sym e) ∙ sym h
 
   -- a line of no byte was read
-  pub ends_at : Spoken n s known before left t rest after true → (rest' : Option (List ℕ)) → Reads rest rest' [] → IsConversation n known s t before after None
+  pub ends_at : Spoken n s known before left t rest after true → (rest' : Option (List ℕ)) → Reads rest rest' [] → IsConversation n known s t before after failures None
   ends_at spoken rest' reads =
-      concludes spoken [] [] t None after going (nothing rest rest' reads.consumes (reads.last refl)) (ended left t) (Appends-nil after)
+      concludes spoken [] [] t None true after failures going (nothing rest rest' reads.consumes (reads.last refl)) (ended left t) (Appends-nil after) never
     where
       nothing : (a b : Option (List ℕ)) → Consumes a b [] → OnSome a (IsAtEnd b) → IfSome a (λ xs. [] ≡ xs)
       nothing None b h e = tt
@@ -176,63 +183,68 @@ module _ {n left : ℕ} {s t : Debugged} {known before rest after : Option (List
 
   -- the line ends the session
   pub quitted : Spoken n s known before left t rest after true → (line : List ℕ) (rest' : Option (List ℕ)) → Reads rest rest' line → length line ≤ left
-      → IsQuit (strip_last 10 line) → IsConversation n known s t before after None
+      → IsQuit (strip_last 10 line) → IsConversation n known s t before after failures None
   quitted spoken line rest' reads fits quit =
       let first = first_read rest rest' line reads in
-      concludes spoken (line ++ behind_of rest rest') [] t None after going (whole_read rest rest' line reads.consumes)
-      (quits left t (line ++ behind_of rest rest') (rw (first.0) fits) (rw (first.0) quit)) (Appends-nil after)
+      concludes spoken (line ++ behind_of rest rest') [] t None true after failures going (whole_read rest rest' line reads.consumes)
+      (quits left t (line ++ behind_of rest rest') (rw (first.0) fits) (rw (first.0) quit)) (Appends-nil after) never
 
   -- standard input can't be read
-  pub broken : Spoken n s known before left t rest after true → (fault : Fault) → IsReadFault fault → IsConversation n known s t before after (Some fault)
+  pub broken : Spoken n s known before left t rest after true → (fault : Fault) → IsReadFault fault → IsConversation n known s t before after failures (Some fault)
   broken spoken fault is =
-      concludes spoken (left_of rest) [] t (Some fault) after going (left_is rest) (unread left t (left_of rest) fault is) (Appends-nil after)
+      concludes spoken (left_of rest) [] t (Some fault) true after failures going (left_is rest) (unread left t (left_of rest) fault is) (Appends-nil after) never
 
   -- memory for the line was refused
-  pub lacking : Spoken n s known before left t rest after true → IsConversation n known s t before after (Some OutOfMemory)
-  lacking spoken = concludes spoken (left_of rest) [] t (Some OutOfMemory) after going (left_is rest) (no_memory left t (left_of rest)) (Appends-nil after)
+  pub lacking : Spoken n s known before left t rest after true → IsConversation n known s t before after failures (Some OutOfMemory)
+  lacking spoken = concludes spoken (left_of rest) [] t (Some OutOfMemory) true after failures going (left_is rest) (no_memory left t (left_of rest)) (Appends-nil after) never
 
   -- the line is too long
   pub exceeded : Spoken n s known before left t rest after true → (line : List ℕ) (rest' : Option (List ℕ)) → Reads rest rest' line → left < length line
-      → IsConversation n known s t before after (Some InputTooLong)
+      → IsConversation n known s t before after failures (Some InputTooLong)
   exceeded spoken line rest' reads long =
       let more = first_long line (behind_of rest rest') reads.stops in
-      concludes spoken (line ++ behind_of rest rest') [] t (Some InputTooLong) after going (whole_read rest rest' line reads.consumes)
-      (too_long left t (line ++ behind_of rest rest') (omega (arith, long, more))) (Appends-nil after)
+      concludes spoken (line ++ behind_of rest rest') [] t (Some InputTooLong) true after failures going (whole_read rest rest' line reads.consumes)
+      (too_long left t (line ++ behind_of rest rest') (omega (arith, long, more))) (Appends-nil after) never
 
   -- the line was not answered
   pub unanswered : Spoken n s known before left t rest after true → (line : List ℕ) (u : Debugged) (rest' after' : Option (List ℕ)) (fault : Fault) → Reads rest rest' line
-      → 0 < length line → length line ≤ left → ¬ IsQuit (strip_last 10 line) → IsUnanswered t (strip_last 10 line) u after after' fault
-      → IsConversation n known s u before after' (Some fault)
+      → 0 < length line → length line ≤ left → ¬ IsQuit (strip_last 10 line) → IsUnanswered t (strip_last 10 line) u after after' failures fault
+      → IsConversation n known s u before after' failures (Some fault)
   unanswered spoken line u rest' after' fault reads some fits other (cut_short cut kept) =
       let first = first_read rest rest' line reads in
-      concludes spoken (line ++ behind_of rest rest') [] u (Some OutOfMemory) after' going (whole_read rest rest' line reads.consumes)
-      (cut_off left t u (line ++ behind_of rest rest') (not_empty line _ some) (rw (first.0) fits) (rw (first.0) other) (rw (first.0) cut)) (Appends-kept _ _ _ [] (Appends-nil after) kept)
-  unanswered spoken line u rest' after' fault reads some fits other (partly text f tells part is) =
+      concludes spoken (line ++ behind_of rest rest') [] u (Some OutOfMemory) true after' failures going (whole_read rest rest' line reads.consumes)
+      (cut_off left t u (line ++ behind_of rest rest') (not_empty line _ some) (rw (first.0) fits) (rw (first.0) other) (rw (first.0) cut)) (Appends-kept _ _ _ [] (Appends-nil after) kept) never
+  unanswered spoken line u rest' after' fault reads some fits other (partly text f tells part failed is) =
       let first = first_read rest rest' line reads in
-      concludes spoken (line ++ behind_of rest rest') (take part.0 text) u (Some fault) after' going (whole_read rest rest' line reads.consumes)
+      concludes spoken (line ++ behind_of rest rest') (take part.0 text) u (Some fault) false after' failures going (whole_read rest rest' line reads.consumes)
       (unwritten left t u (line ++ behind_of rest rest') text part.0 fault (not_empty line _ some) (rw (first.0) fits) (rw (first.0) other) (rw (first.0) tells) part.1 is) part.2
+      (λ e. failed)
+  unanswered spoken line u rest' after' fault reads some fits other (unflushed text f tells all is) =
+      let first = first_read rest rest' line reads in
+      concludes spoken (line ++ behind_of rest rest') text u (Some fault) true after' failures going (whole_read rest rest' line reads.consumes)
+      (not_handed_on left t u (line ++ behind_of rest rest') text fault (not_empty line _ some) (rw (first.0) fits) (rw (first.0) other) (rw (first.0) tells) is) all never
 
   -- ---- as the loop has them
 
   pub at_nothing : Spoken n s known before left t rest after true → (line : List ℕ) (rest' : Option (List ℕ)) (count : ℕ) → Counts left rest line rest' count → count ≡ 0
-      → IsConversation n known s t before after None
+      → IsConversation n known s t before after failures None
   at_nothing spoken [] rest' count read none = ends_at spoken rest' read.2
   at_nothing spoken (x ∷ xs) rest' count read none = absurd (let e = read.1 in omega (arith, e, none))
 
   pub at_quit : Spoken n s known before left t rest after true → (line shown : List ℕ) (rest' : Option (List ℕ)) (count : ℕ) → Counts left rest line rest' count
-      → shown ≡ strip_last 10 line → IsQuit shown → IsConversation n known s t before after None
+      → shown ≡ strip_last 10 line → IsQuit shown → IsConversation n known s t before after failures None
   at_quit spoken line shown rest' count read is quit = quitted spoken line rest' read.2 (rw read.1 at read.0) (rw is at quit)
 
   pub at_fault : Spoken n s known before left t rest after true → (line : List ℕ) (rest' : Option (List ℕ)) (fault : Fault)
       → IsReadFault fault ⊎ (fault ≡ OutOfMemory) ⊎ ((fault ≡ InputTooLong) × (left < length line) × Reads rest rest' line)
-      → IsConversation n known s t before after (Some fault)
+      → IsConversation n known s t before after failures (Some fault)
   at_fault spoken line rest' fault (inl why) = broken spoken fault why
   at_fault spoken line rest' fault (inr (inl is)) = rw is (lacking spoken)
   at_fault spoken line rest' fault (inr (inr long)) = rw (long.0) (exceeded spoken line rest' long.2 long.1)
 
   pub at_unanswered : Spoken n s known before left t rest after true → (line shown : List ℕ) (u : Debugged) (rest' after' : Option (List ℕ)) (count : ℕ) (fault : Fault)
-      → Counts left rest line rest' count → (0 < count) → shown ≡ strip_last 10 line → ¬ IsQuit shown → IsUnanswered t shown u after after' fault
-      → IsConversation n known s u before after' (Some fault)
+      → Counts left rest line rest' count → (0 < count) → shown ≡ strip_last 10 line → ¬ IsQuit shown → IsUnanswered t shown u after after' failures fault
+      → IsConversation n known s u before after' failures (Some fault)
   at_unanswered spoken line shown u rest' after' count fault read some is other h =
       unanswered spoken line u rest' after' fault read.2 (rw read.1 at some) (rw read.1 at read.0) (rw is at other) (rw is at h)
 

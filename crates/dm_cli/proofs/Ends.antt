@@ -1,5 +1,5 @@
 -- How commands end.
-use Rattle.std.proofs.Common.{◌≡◌, ◌≢◌, ◌⊎◌, ◌∙◌, inl, inr, ℕ, suc, ◌-◌, ◌<◌, ◌≤◌, List, [], ◌∷◌, Option, Some, None, Result, Ok, Err, OnOk, IfErr, ap, sym, subst, refl, arith, length, take, option_map}
+use Rattle.std.proofs.Common.{◌≡◌, ◌≢◌, ◌⊎◌, ◌∙◌, inl, inr, ℕ, suc, Bool, true, ◌-◌, ◌<◌, ◌≤◌, List, [], ◌∷◌, Option, Some, None, Result, Ok, Err, OnOk, IfErr, ap, sym, subst, refl, arith, length, take, option_map}
 use Rattle.std.specs.Prelude.{◌==◌, if◌then◌else◌}
 use Rattle.std.specs.Io.BufRead.{take_through, drop_through}
 use Rattle.std.specs.Io.Buffered.{reader_buffer, reader_capacity, reader_inner, reader_remaining}
@@ -13,7 +13,7 @@ use Rattle.dm_asm.specs.Programs.{Refuses}
 use Rattle.dm_debug.specs.Debugged.{Debugged}
 use Rattle.dm_cli.specs.declared.fault.Fault.{Fault}
 use Rattle.dm_cli.specs.Assembling.{IsAsmFault, text_refused, text_no_memory}
-use Rattle.dm_cli.specs.Debugging.{Converses, IsConversation, ended, quits, answers, too_long, unread, no_memory, cut_off, unwritten}
+use Rattle.dm_cli.specs.Debugging.{Converses, IsConversation, ended, quits, answers, too_long, unread, no_memory, cut_off, unwritten, not_handed_on}
 use Rattle.dm_cli.specs.Faults.{refusal_fault}
 use Rattle.dm_cli.specs.Statuses.{end_of}
 use Rattle.dm_cli.specs.Stores.{IsRead}
@@ -40,39 +40,43 @@ same : (n : ℕ) (ys xs : List ℕ) → ys ≡ take (suc n) xs → length (take_
 same n ys xs e fits = rw e (first_cut (suc n) xs (rw e at (let h : length (take_through 10 ys) < suc n = omega (arith, fits) in h)))
 
 -- what becomes of commands of n bytes and one more at most, becomes of all
-pub uncut : (n : ℕ) (s : Debugged) (ys told : List ℕ) (t : Debugged) (end : Option Fault) → Converses n s ys told t end → (xs : List ℕ) → ys ≡ take (suc n) xs → Converses n s xs told t end
-uncut _ _ _ _ _ _ (ended n s) xs e = subst (λ l. Converses n s l [] s None) (sym (nothing n xs e)) (ended n s)
-uncut _ _ _ _ _ _ (quits n s ys fits quit) xs e =
+pub uncut : (n : ℕ) (s : Debugged) (ys told : List ℕ) (t : Debugged) (end : Option Fault) (whole : Bool) → Converses n s ys told t end whole → (xs : List ℕ) → ys ≡ take (suc n) xs → Converses n s xs told t end whole
+uncut _ _ _ _ _ _ _ (ended n s) xs e = subst (λ l. Converses n s l [] s None true) (sym (nothing n xs e)) (ended n s)
+uncut _ _ _ _ _ _ _ (quits n s ys fits quit) xs e =
     let is = (same n ys xs e fits).0 in quits n s xs (rw is at fits) (rw is at quit)
-uncut _ _ _ _ _ _ (answers n s t u ys told more end h fits other tells rest) xs e =
+uncut _ _ _ _ _ _ _ (answers n s t u ys told more end whole h fits other tells rest) xs e =
     let is = same n ys xs e fits in
     let left : suc n - length (take_through 10 xs) ≡ suc (n - length (take_through 10 ys)) = omega (arith, ap length is.0, fits) in
-    let next = uncut _ _ _ _ _ _ rest (drop_through 10 xs) (is.1 ∙ ap (λ k. take k (drop_through 10 xs)) left) in
-    answers n s t u xs told more end (some n ys xs h e) (rw is.0 at fits) (rw is.0 at other) (rw is.0 at tells) (rw is.0 at next)
-uncut _ _ _ _ _ _ (too_long n s ys long) xs e =
+    let next = uncut _ _ _ _ _ _ _ rest (drop_through 10 xs) (is.1 ∙ ap (λ k. take k (drop_through 10 xs)) left) in
+    answers n s t u xs told more end whole (some n ys xs h e) (rw is.0 at fits) (rw is.0 at other) (rw is.0 at tells) (rw is.0 at next)
+uncut _ _ _ _ _ _ _ (too_long n s ys long) xs e =
     too_long n s xs (let h = first_cut_short (suc n) xs in let l : n < length (take_through 10 (take (suc n) xs)) = rw e at long in omega (arith, h, l))
-uncut _ _ _ _ _ _ (unread n s ys fault is) xs e = unread n s xs fault is
-uncut _ _ _ _ _ _ (no_memory n s ys) xs e = no_memory n s xs
-uncut _ _ _ _ _ _ (cut_off n s t ys h fits other cut) xs e =
+uncut _ _ _ _ _ _ _ (unread n s ys fault is) xs e = unread n s xs fault is
+uncut _ _ _ _ _ _ _ (no_memory n s ys) xs e = no_memory n s xs
+uncut _ _ _ _ _ _ _ (cut_off n s t ys h fits other cut) xs e =
     let is = (same n ys xs e fits).0 in cut_off n s t xs (some n ys xs h e) (rw is at fits) (rw is at other) (rw is at cut)
-uncut _ _ _ _ _ _ (unwritten n s t ys told k fault h fits other tells within is_fault) xs e =
+uncut _ _ _ _ _ _ _ (unwritten n s t ys told k fault h fits other tells within is_fault) xs e =
     let is = (same n ys xs e fits).0 in unwritten n s t xs told k fault (some n ys xs h e) (rw is at fits) (rw is at other) (rw is at tells) within is_fault
+uncut _ _ _ _ _ _ _ (not_handed_on n s t ys told fault h fits other tells is_fault) xs e =
+    let is = (same n ys xs e fits).0 in not_handed_on n s t xs told fault (some n ys xs h e) (rw is at fits) (rw is at other) (rw is at tells) is_fault
 
-pub whole_conversation : (n : ℕ) (known : Option (List ℕ)) (s t : Debugged) (a b : Option (List ℕ)) (end : Option Fault) → IsConversation n (option_map (take (suc n)) known) s t a b end
-    → IsConversation n known s t a b end
-whole_conversation n None s t a b end h = record { text = h.text; told = h.told; read = tt; converses = h.converses; written = h.written }
-whole_conversation n (Some xs) s t a b end h = record {
+pub whole_conversation : (n : ℕ) (known : Option (List ℕ)) (s t : Debugged) (a b : Option (List ℕ)) (failures : ℕ) (end : Option Fault) → IsConversation n (option_map (take (suc n)) known) s t a b failures end
+    → IsConversation n known s t a b failures end
+whole_conversation n None s t a b failures end h = record { text = h.text; told = h.told; whole = h.whole; read = tt; converses = h.converses; written = h.written; failed = h.failed }
+whole_conversation n (Some xs) s t a b failures end h = record {
+  whole = h.whole;
+  failed = h.failed;
   text = xs;
   told = h.told;
   read = refl;
-  converses = uncut _ _ _ _ _ _ h.converses xs h.read;
+  converses = uncut _ _ _ _ _ _ _ h.converses xs h.read;
   written = h.written;
 }
 
-pub session_end : {A : Type 0} (r : Result A Fault) (n : ℕ) (known : Option (List ℕ)) (s t : Debugged) (a b : Option (List ℕ)) → OnOk r (IsConversation n known s t a b None)
-    → IfErr r (λ e. IsConversation n known s t a b (Some e)) → IsConversation n known s t a b (end_of r)
-session_end (Ok x) n known s t a b ok err = ok
-session_end (Err e) n known s t a b ok err = err
+pub session_end : {A : Type 0} (r : Result A Fault) (n : ℕ) (known : Option (List ℕ)) (s t : Debugged) (a b : Option (List ℕ)) (failures : ℕ) → OnOk r (IsConversation n known s t a b failures None)
+    → IfErr r (λ e. IsConversation n known s t a b failures (Some e)) → IsConversation n known s t a b failures (end_of r)
+session_end (Ok x) n known s t a b failures ok err = ok
+session_end (Err e) n known s t a b failures ok err = err
 
 -- ---- the reader of a session
 

@@ -32,10 +32,11 @@ pub data IsAsmFault (known : Option (List ℕ)) (path : List ℕ) : Fault → Ty
   text_refused : (text : List ℕ) (why : Refusal) → IsRead known text → Refuses text why → IsAsmFault known path (refusal_fault why)
   text_no_memory : IsAsmFault known path OutOfMemory
 
--- `dm asm`: the bytes of the text are written to a file; or the text has a fault, and no file is written. (What a write leaves that fails isn't known.)
+-- `dm asm`: the bytes of the text are written to a file; or they can't be written, or the text has a fault, and then no file was written
 pub data Assembles (files : List ℕ → Option (List ℕ)) (o : AsmOptions) (before after : Option (List (List ℕ × List ℕ))) : Option Fault → Type 0 where
   saved : (bytes : List ℕ) → IsAssembled (files o.input.now) bytes → Saves before after o.output.now bytes → Assembles files o before after None
-  unsaved : (bytes : List ℕ) (fault : Fault) → IsAssembled (files o.input.now) bytes → IsUnwritten o.output.now fault ⊎ (fault ≡ OutOfMemory) → Assembles files o before after (Some fault)
+  unsaved : (bytes : List ℕ) (fault : Fault) → IsAssembled (files o.input.now) bytes → IsUnwritten o.output.now fault ⊎ (fault ≡ OutOfMemory)
+      → after ≡ before → Assembles files o before after (Some fault)
   not_assembled : (fault : Fault) → IsAsmFault (files o.input.now) o.input.now fault → after ≡ before → Assembles files o before after (Some fault)
 
 -- the fault of bytes that have no lines: they can't be read, they are too many, or memory was refused
@@ -45,8 +46,8 @@ pub data IsDisasmFault (known : Option (List ℕ)) (path : List ℕ) : Fault →
   bytes_no_memory : IsDisasmFault known path OutOfMemory
 
 -- `dm disasm`: the lines of the bytes; or a first part of them, where a write failed; or nothing
-pub data Disassembles (files : List ℕ → Option (List ℕ)) (path : List ℕ) (before after : Option (List ℕ)) : Option Fault → Type 0 where
-  listed : (text : List ℕ) → IsDisassembled (files path) text → Appends before after text → Disassembles files path before after None
-  partly_listed : (text : List ℕ) (fault : Fault) → IsDisassembled (files path) text → AppendsPart before after text → IsWriteFault fault
-      → Disassembles files path before after (Some fault)
-  not_listed : (fault : Fault) → IsDisasmFault (files path) path fault → Keeps before after → Disassembles files path before after (Some fault)
+pub data Disassembles (files : List ℕ → Option (List ℕ)) (path : List ℕ) (before after : Option (List ℕ)) (failures : ℕ) : Option Fault → Type 0 where
+  listed : (text : List ℕ) → IsDisassembled (files path) text → Appends before after text → Disassembles files path before after failures None
+  partly_listed : (text : List ℕ) (fault : Fault) → IsDisassembled (files path) text → AppendsPart before after text → 0 < failures → IsWriteFault fault
+      → Disassembles files path before after failures (Some fault)
+  not_listed : (fault : Fault) → IsDisasmFault (files path) path fault → Keeps before after → Disassembles files path before after failures (Some fault)

@@ -1,5 +1,5 @@
 -- What `dm debug` does with the lines of its standard input.
-use Rattle.std.specs.Prelude.{ℕ, ◌≡◌, ◌≢◌, ◌-◌, ◌<◌, ◌≤◌, ◌++◌, ◌⊎◌, true, false, List, [], ◌∷◌, Option, Some, None, IfSome, OnSome, option_map, codes, length, take}
+use Rattle.std.specs.Prelude.{Bool, ℕ, ◌≡◌, ◌≢◌, ◌-◌, ◌<◌, ◌≤◌, ◌++◌, ◌⊎◌, true, false, List, [], ◌∷◌, Option, Some, None, IfSome, OnSome, option_map, codes, length, take}
 use Rattle.std.specs.Io.{StopsAt}
 use Rattle.std.specs.Io.BufRead.{take_through, drop_through, ends_with_byte, first_piece}
 use Rattle.std.specs.Io.KnownBytes.{Appends, Consumes, IsAtEnd, Keeps}
@@ -39,45 +39,51 @@ pub record IsAnsweredBy (s : Debugged) (line : List ℕ) (t : Debugged) (before 
   pub tells : Tells s line t text
   pub written : Appends before after text
 
--- it was not: memory for its answer was refused, and nothing was written; or a first part of its answer was written
-pub data IsUnanswered (s : Debugged) (line : List ℕ) (t : Debugged) (before after : Option (List ℕ)) : Fault → Type 0 where
-  cut_short : IsCutOff s line t → Keeps before after → IsUnanswered s line t before after OutOfMemory
-  partly : (text : List ℕ) (fault : Fault) → Tells s line t text → AppendsPart before after text → IsWriteFault fault → IsUnanswered s line t before after fault
+-- it was not: memory for its answer was refused, and nothing was written; or a first part of its answer was written, and a write failed; or all of it,
+-- and it could not be handed on
+pub data IsUnanswered (s : Debugged) (line : List ℕ) (t : Debugged) (before after : Option (List ℕ)) (failures : ℕ) : Fault → Type 0 where
+  cut_short : IsCutOff s line t → Keeps before after → IsUnanswered s line t before after failures OutOfMemory
+  partly : (text : List ℕ) (fault : Fault) → Tells s line t text → AppendsPart before after text → 0 < failures → IsWriteFault fault → IsUnanswered s line t before after failures fault
+  unflushed : (text : List ℕ) (fault : Fault) → Tells s line t text → Appends before after text → IsWriteFault fault → IsUnanswered s line t before after failures fault
 
 -- ---- the lines of a text
 
 -- The lines of a text are answered one after the other, up to its end or a line that ends the session: what is written, the session after that,
--- and the fault that ends them before, if one does. A line ends with 0Ah, or with the text; the lines may have n bytes in all, their ends among
--- them.
-pub data Converses : ℕ → Debugged → List ℕ → List ℕ → Debugged → Option Fault → Type 0 where
-  ended : (n : ℕ) (s : Debugged) → Converses n s [] [] s None
-  quits : (n : ℕ) (s : Debugged) (text : List ℕ) → length (take_through 10 text) ≤ n → IsQuit (first_piece 10 text) → Converses n s text [] s None
-  answers : (n : ℕ) (s t u : Debugged) (text told more : List ℕ) (end : Option Fault) → text ≢ [] → length (take_through 10 text) ≤ n
+-- the fault that ends them before, if one does, and whether what is written is whole answers. A line ends with 0Ah, or with the text; the lines may
+-- have n bytes in all, their ends among them.
+pub data Converses : ℕ → Debugged → List ℕ → List ℕ → Debugged → Option Fault → Bool → Type 0 where
+  ended : (n : ℕ) (s : Debugged) → Converses n s [] [] s None true
+  quits : (n : ℕ) (s : Debugged) (text : List ℕ) → length (take_through 10 text) ≤ n → IsQuit (first_piece 10 text) → Converses n s text [] s None true
+  answers : (n : ℕ) (s t u : Debugged) (text told more : List ℕ) (end : Option Fault) (whole : Bool) → text ≢ [] → length (take_through 10 text) ≤ n
       → ¬ IsQuit (first_piece 10 text) → Tells s (first_piece 10 text) t told
-      → Converses (n - length (take_through 10 text)) t (drop_through 10 text) more u end → Converses n s text (told ++ more) u end
-  too_long : (n : ℕ) (s : Debugged) (text : List ℕ) → n < length (take_through 10 text) → Converses n s text [] s (Some InputTooLong)
-  unread : (n : ℕ) (s : Debugged) (text : List ℕ) (fault : Fault) → IsReadFault fault → Converses n s text [] s (Some fault)
-  no_memory : (n : ℕ) (s : Debugged) (text : List ℕ) → Converses n s text [] s (Some OutOfMemory)
+      → Converses (n - length (take_through 10 text)) t (drop_through 10 text) more u end whole → Converses n s text (told ++ more) u end whole
+  too_long : (n : ℕ) (s : Debugged) (text : List ℕ) → n < length (take_through 10 text) → Converses n s text [] s (Some InputTooLong) true
+  unread : (n : ℕ) (s : Debugged) (text : List ℕ) (fault : Fault) → IsReadFault fault → Converses n s text [] s (Some fault) true
+  no_memory : (n : ℕ) (s : Debugged) (text : List ℕ) → Converses n s text [] s (Some OutOfMemory) true
   cut_off : (n : ℕ) (s t : Debugged) (text : List ℕ) → text ≢ [] → length (take_through 10 text) ≤ n → ¬ IsQuit (first_piece 10 text)
-      → IsCutOff s (first_piece 10 text) t → Converses n s text [] t (Some OutOfMemory)
+      → IsCutOff s (first_piece 10 text) t → Converses n s text [] t (Some OutOfMemory) true
   unwritten : (n : ℕ) (s t : Debugged) (text told : List ℕ) (k : ℕ) (fault : Fault) → text ≢ [] → length (take_through 10 text) ≤ n
       → ¬ IsQuit (first_piece 10 text) → Tells s (first_piece 10 text) t told → k ≤ length told → IsWriteFault fault
-      → Converses n s text (take k told) t (Some fault)
+      → Converses n s text (take k told) t (Some fault) false
+  not_handed_on : (n : ℕ) (s t : Debugged) (text told : List ℕ) (fault : Fault) → text ≢ [] → length (take_through 10 text) ≤ n
+      → ¬ IsQuit (first_piece 10 text) → Tells s (first_piece 10 text) t told → IsWriteFault fault → Converses n s text told t (Some fault) true
 
--- the lines of a reader, whose bytes are known or not, and what was appended to a writer
-pub record IsConversation (n : ℕ) (known : Option (List ℕ)) (s t : Debugged) (before after : Option (List ℕ)) (end : Option Fault) : Type 0 where
+-- the lines of a reader, whose bytes are known or not, and what was appended to a writer: less than whole answers only where a write failed
+pub record IsConversation (n : ℕ) (known : Option (List ℕ)) (s t : Debugged) (before after : Option (List ℕ)) (failures : ℕ) (end : Option Fault) : Type 0 where
   pub text : List ℕ
   pub told : List ℕ
+  pub whole : Bool
   pub read : IfSome known (λ xs. text ≡ xs)
-  pub converses : Converses n s text told t end
+  pub converses : Converses n s text told t end whole
   pub written : Appends before after told
+  pub failed : whole ≡ false → 0 < failures
 
 -- ---- the command
 
 -- `dm debug`: the answers to the lines of standard input, which may have 16 MiB in all, up to a fault if there is one; or nothing
-pub data Debugs (files : List ℕ → Option (List ℕ)) (typed : Option (List ℕ)) (o : DebugOptions) (before after : Option (List ℕ)) : Option Fault → Type 0 where
+pub data Debugs (files : List ℕ → Option (List ℕ)) (typed : Option (List ℕ)) (o : DebugOptions) (before after : Option (List ℕ)) (failures : ℕ) : Option Fault → Type 0 where
   conversed : (m : State) (t : Debugged) (end : Option Fault) → IsStartedBy files (typed_in files o) o.machine m
-      → IsConversation 16777216 typed (new_session m) t before after end → Debugs files typed o before after end
+      → IsConversation 16777216 typed (new_session m) t before after failures end → Debugs files typed o before after failures end
   not_begun : (fault : Fault) → IsStartFault files (typed_in files o) (option_map (λ path. path.now) o.input) o.machine fault → Keeps before after
-      → Debugs files typed o before after (Some fault)
-  no_buffer : Keeps before after → Debugs files typed o before after (Some OutOfMemory)
+      → Debugs files typed o before after failures (Some fault)
+  no_buffer : Keeps before after → Debugs files typed o before after failures (Some OutOfMemory)

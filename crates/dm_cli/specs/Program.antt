@@ -1,5 +1,5 @@
 -- What `dm` does for the words of its command line, from their reading to its exit status.
-use Rattle.std.specs.Prelude.{ℕ, ◌≡◌, ◌≢◌, List, [], Option, Some, None, IsSomeAnd, Result, Ok, Err, codes}
+use Rattle.std.specs.Prelude.{ℕ, ◌≡◌, ◌≢◌, ◌<◌, List, [], Option, Some, IsSomeAnd, Result, Ok, Err, codes}
 use Rattle.std.specs.Io.KnownBytes.{Appends, Keeps}
 use denote.Ref.{Bor}
 use Rattle.clap.specs.Words.{Text, fault_of, subcommand_of}
@@ -24,12 +24,12 @@ use Rattle.dm_cli.specs.Statuses.{status_of, status_after}
 -- ---- the commands
 
 -- `dm run`: the whole output of the run, behind what was written before; or a first part of it, where a write failed; or nothing
-pub data Runs (files : List ℕ → Option (List ℕ)) (typed : Option (List ℕ)) (o : MachineOptions) (before after : Option (List ℕ)) : Result Stop Fault → Type 0 where
+pub data Runs (files : List ℕ → Option (List ℕ)) (typed : Option (List ℕ)) (o : MachineOptions) (before after : Option (List ℕ)) (failures : ℕ) : Result Stop Fault → Type 0 where
   ran : (m t : State) (stop : Stop) → IsStartedBy files typed o m → IsRun m o.steps stop t → Appends before after t.console.output
-      → Runs files typed o before after (Ok stop)
+      → Runs files typed o before after failures (Ok stop)
   partly_written : (m t : State) (stop : Stop) (fault : Fault) → IsStartedBy files typed o m → IsRun m o.steps stop t → AppendsPart before after t.console.output
-      → IsWriteFault fault → Runs files typed o before after (Err fault)
-  not_started : (fault : Fault) → IsStartFault files typed (Some (codes "standard input")) o fault → Keeps before after → Runs files typed o before after (Err fault)
+      → 0 < failures → IsWriteFault fault → Runs files typed o before after failures (Err fault)
+  not_started : (fault : Fault) → IsStartFault files typed (Some (codes "standard input")) o fault → Keeps before after → Runs files typed o before after failures (Err fault)
 
 -- ---- the program
 
@@ -41,9 +41,10 @@ pub record Given : Type 0 where
   pub output : Option (List ℕ)
   pub saved : Option (List (List ℕ × List ℕ))
 
--- what is there afterwards, and the exit status
+-- what is there afterwards, how many writes to standard output have failed, and the exit status
 pub record Left : Type 0 where
   pub output : Option (List ℕ)
+  pub failures : ℕ
   pub saved : Option (List (List ℕ × List ℕ))
   pub status : ℕ
 
@@ -56,13 +57,13 @@ pub record Asks (words : List Text) (o : Options) : Type 0 where
 pub data Does (g : Given) (words : List Text) (l : Left) : Type 0 where
   usage : fault_of dm_app words ≢ [] → Keeps g.output l.output → l.saved ≡ g.saved → l.status ≡ 2 → Does g words l
   no_memory : Keeps g.output l.output → l.saved ≡ g.saved → l.status ≡ 126 → Does g words l
-  runs : (o : MachineOptions) (outcome : Result Stop Fault) → Asks words (command.Run o) → Runs g.files g.typed o g.output l.output outcome
+  runs : (o : MachineOptions) (outcome : Result Stop Fault) → Asks words (command.Run o) → Runs g.files g.typed o g.output l.output l.failures outcome
       → l.saved ≡ g.saved → l.status ≡ status_of outcome → Does g words l
-  debugs : (o : DebugOptions) (end : Option Fault) → Asks words (command.Debug o) → Debugs g.files g.typed o g.output l.output end
+  debugs : (o : DebugOptions) (end : Option Fault) → Asks words (command.Debug o) → Debugs g.files g.typed o g.output l.output l.failures end
       → l.saved ≡ g.saved → l.status ≡ status_after end → Does g words l
   assembles : (o : AsmOptions) (end : Option Fault) → Asks words (command.Asm o) → Assembles g.files o g.saved l.saved end
       → Keeps g.output l.output → l.status ≡ status_after end → Does g words l
-  disassembles : (path : Bor (List ℕ)) (end : Option Fault) → Asks words (command.Disasm path) → Disassembles g.files path.now g.output l.output end
+  disassembles : (path : Bor (List ℕ)) (end : Option Fault) → Asks words (command.Disasm path) → Disassembles g.files path.now g.output l.output l.failures end
       → l.saved ≡ g.saved → l.status ≡ status_after end → Does g words l
 
 -- the exit status of the program over files and streams of which nothing is known

@@ -1,5 +1,5 @@
 -- The machine that a command begins with, and the first fault that keeps it from its start.
-use Rattle.std.specs.Prelude.{ℕ, ◌≡◌, ◌<◌, ◌≤◌, ◌++◌, List, [], ◌∷◌, Option, None, IfSome, map, option_map, length}
+use Rattle.std.specs.Prelude.{ℕ, ◌≡◌, ◌<◌, ◌≤◌, ◌++◌, List, [], ◌∷◌, Option, None, IsSomeAnd, map, option_map, length}
 use Rattle.dm_options.specs.declared.command_line.DebugOptions.{DebugOptions}
 use Rattle.dm_options.specs.declared.command_line.MachineOptions.{MachineOptions}
 use Rattle.dm_pool.specs.declared.sizes.Sizes.{Sizes}
@@ -58,7 +58,7 @@ pub record IsFileFault (files : List ℕ → Option (List ℕ)) (paths : List (L
 -- the first fault that keeps a machine from its start: of the files in turn, of the console's input (which has that name, if it is read), of the machine
 pub data IsStartFault (files : List ℕ → Option (List ℕ)) (typed : Option (List ℕ)) (name : Option (List ℕ)) (o : MachineOptions) : Fault → Type 0 where
   of_file : (fault : Fault) → IsFileFault files (paths_of o) fault → IsStartFault files typed name o fault
-  of_input : (store : List (List ℕ × List ℕ)) (fault : Fault) → Stores files (paths_of o) store → IfSome name (λ input. IsInputFault typed input fault)
+  of_input : (store : List (List ℕ × List ℕ)) (fault : Fault) → Stores files (paths_of o) store → IsSomeAnd name (λ input. IsInputFault typed input fault)
       → IsStartFault files typed name o fault
   of_machine : (store : List (List ℕ × List ℕ)) (input : List ℕ) (fault : Fault) → Stores files (paths_of o) store → IsRead typed input
       → IsMachineFault store input o fault → IsStartFault files typed name o fault

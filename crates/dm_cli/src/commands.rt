@@ -33,7 +33,7 @@ fn run<'a, F: Storage, I: Read + Drop, W: Out>(
     input: I,
     out: &mut W,
 ) -> Result<Stop, Fault<'a>>
-    ensures { Runs (F.contents storage.now) (I.remaining input) options.now (W.taken out.old) (W.taken out.new) result }
+    ensures { Runs (F.contents storage.now) (I.remaining input) options.now (W.taken out.old) (W.taken out.new) (W.failures out.new) result }
 {
     let mut machine = loaded(alloc, storage, options, input)?;
     match run_program(&mut machine, options.steps, out) {
@@ -115,7 +115,7 @@ pub fn dm_main<S: AsStr, F: Storage, I: Read + Drop, W: Out, E: Write>(
     ensures { Does
         (record { files = F.contents storage.old; typed = I.remaining input; output = W.taken out.old; saved = F.saved storage.old })
         (map S.text words.now)
-        (record { output = W.taken out.new; saved = F.saved storage.new; status = result }) }
+        (record { output = W.taken out.new; failures = W.failures out.new; saved = F.saved storage.new; status = result }) }
 {
     match options(alloc, words) {
         Ok(Options::Run(options)) => report(run(alloc, storage, &options, input, out), error),

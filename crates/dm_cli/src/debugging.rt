@@ -79,7 +79,7 @@ fn next_line<R: BufRead>(
 /// Writes a line that refuses another.
 fn refuse<W: Out>(out: &mut W, told: &[u8]) -> Result<(), Fault<'static>>
     ensures ok { OnOk result (Appends (W.taken out.old) (W.taken out.new) told.now) }
-    ensures err { IfErr result (λ e. IsWriteFault e × AppendsPart (W.taken out.old) (W.taken out.new) told.now) }
+    ensures err { IfErr result (λ e. IsWriteFault e × AppendsPart (W.taken out.old) (W.taken out.new) told.now × (0 < W.failures out.new)) }
 {
     match write_all(out, told) {
         Ok(()) => Ok(()),
@@ -95,7 +95,7 @@ fn answer<W: Out>(
     out: &mut W,
 ) -> Result<(), Fault<'static>>
     ensures ok { OnOk result (IsAnsweredBy session.old line.now session.new (W.taken out.old) (W.taken out.new)) }
-    ensures err { IfErr result (IsUnanswered session.old line.now session.new (W.taken out.old) (W.taken out.new)) }
+    ensures err { IfErr result (IsUnanswered session.old line.now session.new (W.taken out.old) (W.taken out.new) (W.failures out.new)) }
 {
     match session.command(alloc, line, out) {
         Ok(()) => Ok(()),
@@ -114,7 +114,7 @@ fn answer_at_once<W: Out>(
     out: &mut W,
 ) -> Result<(), Fault<'static>>
     ensures ok { OnOk result (IsAnsweredBy session.old line.now session.new (W.taken out.old) (W.taken out.new)) }
-    ensures err { IfErr result (IsUnanswered session.old line.now session.new (W.taken out.old) (W.taken out.new)) }
+    ensures err { IfErr result (IsUnanswered session.old line.now session.new (W.taken out.old) (W.taken out.new) (W.failures out.new)) }
 {
     answer(alloc, session, line, out)?;
     match out.flush() {
@@ -130,8 +130,8 @@ fn converse<R: BufRead, W: Out>(
     commands: &mut R,
     out: &mut W,
 ) -> Result<(), Fault<'static>>
-    ensures ok { OnOk result (IsConversation 16777216 (R.remaining commands.old) session.old session.new (W.taken out.old) (W.taken out.new) None) }
-    ensures err { IfErr result (λ e. IsConversation 16777216 (R.remaining commands.old) session.old session.new (W.taken out.old) (W.taken out.new) (Some e)) }
+    ensures ok { OnOk result (IsConversation 16777216 (R.remaining commands.old) session.old session.new (W.taken out.old) (W.taken out.new) (W.failures out.new) None) }
+    ensures err { IfErr result (λ e. IsConversation 16777216 (R.remaining commands.old) session.old session.new (W.taken out.old) (W.taken out.new) (W.failures out.new) (Some e)) }
 {
     let mut line = Vec::new(alloc);
     let mut left = MOST_BYTES;
@@ -157,7 +157,7 @@ pub(crate) fn debug<'a, F: Storage, I: Read + Drop, W: Out>(
     commands: I,
     out: &mut W,
 ) -> Result<(), Fault<'a>>
-    ensures { Debugs (F.contents storage.now) (I.remaining commands) options.now (W.taken out.old) (W.taken out.new) (end_of result) }
+    ensures { Debugs (F.contents storage.now) (I.remaining commands) options.now (W.taken out.old) (W.taken out.new) (W.failures out.new) (end_of result) }
 {
     let machine = loaded_for_debug(alloc, storage, options)?;
     let mut session = Session::new(machine);

@@ -1,5 +1,5 @@
 //! Reading whole files and standard input.
-ghost use Rattle.std.specs.Prelude.{◌≡◌, ◌⊎◌, ℕ, List, Option, Some, None, IfErr, IfOk, IfSome, OnOk};
+ghost use Rattle.std.specs.Prelude.{◌≡◌, ◌⊎◌, ℕ, List, Option, Some, None, IfErr, IfOk, IfSome, OnErr, OnOk};
 ghost use Rattle.dm_cli.specs.Saving.{Saves};
 ghost use Rattle.dm_cli.specs.Faults.{IsUnread, IsUnwritten};
 ghost use Rattle.dm_cli.specs.Stores.{IsInputFault, IsRead};
@@ -26,7 +26,8 @@ pub trait Storage {
 
     /// Writes a file whole, in the place of what it held.
     fn save(&mut self, path: &str, bytes: &[u8]) -> io::Result<()>
-        ensures saved { OnOk result (Saves (saved self.old) (saved self.new) path.now bytes.now) };
+        ensures saved { OnOk result (Saves (saved self.old) (saved self.new) path.now bytes.now) }
+        ensures refused { OnErr result (saved self.new ≡ saved self.old) };
 
     /// Opens a file for reading.
     fn open(&self, path: &str) -> io::Result<Self::File>

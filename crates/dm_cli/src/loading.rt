@@ -1,5 +1,5 @@
 //! The machine that a command begins with.
-ghost use Rattle.std.specs.Prelude.{Some, IfErr, IfOk, IfSome, OnOk, codes, map, option_map};
+ghost use Rattle.std.specs.Prelude.{Some, IfErr, IfOk, IsSomeAnd, OnOk, codes, map, option_map};
 ghost use Rattle.dm_cli.specs.Starting.{IsFileFault, IsMachineFault, IsStartFault, IsStartedBy, paths_of, sizes_of, typed_in};
 ghost use Rattle.dm_cli.specs.Stores.{AddsFile, IsBegun, IsFaultOf, IsInputFault, IsRead, Stores, bytes_if_any};
 ghost use Rattle.dm_state.specs.State.{HasProgram};
@@ -104,7 +104,7 @@ fn read_if_any<'a, F: Storage>(
     path: Option<&'a str>,
 ) -> Result<Vec<u8>, Fault<'a>>
     ensures bytes { IfOk result (λ v. IsRead (bytes_if_any (F.contents storage.now) (option_map (λ path. path.now) path.entry)) v.items) }
-    ensures fault { IfErr result (λ e. IfSome (option_map (λ path. path.now) path.entry)
+    ensures fault { IfErr result (λ e. IsSomeAnd (option_map (λ path. path.now) path.entry)
         (λ name. IsInputFault (bytes_if_any (F.contents storage.now) (Some name)) name e)) }
 {
     match path {

@@ -12,4 +12,4 @@ pub returns-in-Ok : goal.returns-in-Ok
 returns-in-Ok g c = saved _ c.in_ok-bytes.ensures.bytes (rw c.as_slice.ensures.value at c.in-Ok.ensures.saved)
 
 pub returns : goal.returns
-returns g c = unsaved _ _ c.in_ok-bytes.ensures.bytes c.write_fault.ensures
+returns g c = unsaved _ _ c.in_ok-bytes.ensures.bytes c.write_fault.ensures c.in-Err.ensures.refused
