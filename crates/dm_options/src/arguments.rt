@@ -123,7 +123,7 @@ fn debug_command<'a>(alloc: Global) -> Result<Command<'a>, AllocError>
 {
     let command = Command::new(alloc, "debug")
         .about("Debug a program: each line of standard input is a command, Q ends the session")
-        .after_help("Example: printf 'R\nU 0103:0100\nG\n' | dm debug PROGRAM.COM");
+        .after_help("Example: printf 'R\\nU 0103:0100\\nG\\n' | dm debug PROGRAM.COM");
     with_machine_args(alloc, command)?.arg(input_arg(alloc))
 }
 
