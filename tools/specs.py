@@ -1,0 +1,329 @@
+"""Reads the definitions of the crates, the contracts of their public functions, and which of them reach which."""
+import glob
+import os
+import re
+
+ROOT = os.path.dirname(os.path.dirname(os.path.abspath(__file__)))
+# What begins a definition: its words, and its name.
+BEGINS = re.compile(r"^(\s*)((?:pub |abbrev |unfoldable |record |data )+)(\S+)")
+KINDS = ("abbrev", "unfoldable", "record", "data")
+USE = re.compile(r"^\s*(?:ghost )?use Rattle\.([\w.]+?)(?:\.\{([^}]*)\})?(?: as (\w+))?;?$")
+PATH = re.compile(r"Rattle\.([\w.]+)")
+# A name, and the names after its dots: `rows.allocate`, `s.cpu.bx`.
+WORD = re.compile(r"[A-Za-z_][\w'>=-]*(?:\.[A-Za-z_][\w'-]*)*|◌[^\s◌]+◌")
+CLAUSE = re.compile(r"^\s+(?:requires|ensures)\b")
+FUNCTION = re.compile(r"^\s*(pub(?:\(crate\))? )?fn (\w+)")
+TRIED = re.compile(r"^\s*(?:#|///) Definitions: (.*)$")
+BLOCK = re.compile(r"^impl(?:<[^>]*>)? (?:(\w+)(?:<[^>]*>)? for )?(\w+)")
+TYPE = re.compile(r"^(?:pub(?:\(crate\))? )?(struct|enum) (\w+)")
+
+
+def text_of(path):
+    with open(f"{ROOT}/{path}", encoding="utf-8") as file:
+        return file.read()
+
+
+def crate_names():
+    """The crates that are no tests, and their groups, in the order of crates.txt."""
+    group, found = "", []
+    for line in text_of("crates.txt").split("\n")[1:]:
+        if line.startswith("#"):
+            group = line[2:].split(":")[0]
+        elif ":" in line and not group.startswith("Tests"):
+            found.append((line.split(":")[0], group))
+    return found
+
+
+class Definition:
+    """A definition of specs/, or a type of src/ that definitions see."""
+
+    def __init__(self, crate, module, name, kind, comment, path, line):
+        self.crate, self.module, self.name, self.kind, self.comment = crate, module, name, kind, comment
+        self.path, self.line, self.lines, self.refs = path, line, [], []
+
+    @property
+    def key(self):
+        return f"{self.crate}.{self.module}.{self.name}"
+
+    @property
+    def is_inner(self):
+        return "/specs/inner/" in self.path
+
+    def size(self):
+        """Its lines, with those of its comment."""
+        return len(self.lines) + len(self.comment)
+
+
+class Contract:
+    """What the clauses of a function say."""
+
+    def __init__(self, crate, path, name, is_public, line):
+        self.crate, self.path, self.name, self.is_public, self.line = crate, path, name, is_public, line
+        self.clauses, self.refs, self.docs, self.head = [], [], [], []
+
+
+class Specs:
+    """The definitions by their keys, the contracts, and the head comment of each file."""
+
+    def __init__(self):
+        self.definitions, self.contracts, self.heads, self.imports, self.groups = {}, [], {}, {}, {}
+        self.files, self.abouts = {}, {}
+        for crate, group in crate_names():
+            self.groups[crate] = group
+            self.read_specs(crate)
+            self.read_sources(crate)
+        self.resolve()
+
+    def read_specs(self, crate):
+        for at, folders, names in sorted(os.walk(f"{ROOT}/crates/{crate}/specs")):
+            folders.sort()
+            for name in sorted(names):
+                path = os.path.relpath(f"{at}/{name}", ROOT)
+                if name.endswith(".antt") and name != "Lib.antt":
+                    module = os.path.relpath(path, f"crates/{crate}/specs")[: -len(".antt")].replace("/", ".")
+                    self.read_file(crate, module, path)
+
+    def read_file(self, crate, module, path):
+        lines = text_of(path).split("\n")
+        end = next((at for at, line in enumerate(lines) if not line.startswith("--")), len(lines))
+        self.heads[path] = [line[2:].strip() for line in lines[:end]]
+        self.files[path] = found = []
+        imports, comment, current = {}, [], None
+        for number, line in enumerate(lines[end:], end + 1):
+            used, begun = USE.match(line), BEGINS.match(line)
+            if used:
+                imports.update(imported(used))
+            elif line.lstrip().startswith("-- "):
+                comment.append(line.strip()[3:])
+            elif begun and any(it in begun[2] for it in KINDS):
+                kind = next(it for it in KINDS if it in begun[2])
+                current = Definition(crate, module, begun[3], kind, comment, path, number)
+                current.lines.append(line)
+                found.append(current)
+                self.definitions[current.key] = current
+                comment = []
+            elif not line.strip():
+                comment = []
+            elif current and not line.startswith("module "):
+                current.lines.append(line)
+        for it in found:
+            while it.lines and not it.lines[-1].strip():
+                it.lines.pop()
+            self.imports[it.key] = imports
+
+    def read_sources(self, crate):
+        root = next(it for it in ("lib.rt", "main.rt") if os.path.exists(f"{ROOT}/crates/{crate}/src/{it}"))
+        self.abouts[crate] = [it[3:].strip() for it in text_of(f"crates/{crate}/src/{root}").split("\n") if it.startswith("//!")]
+        for at, folders, names in sorted(os.walk(f"{ROOT}/crates/{crate}/src")):
+            folders.sort()
+            for name in sorted(names):
+                if name.endswith(".rt") and name != "tests.rt":
+                    self.read_source(crate, os.path.relpath(f"{at}/{name}", ROOT))
+
+    def read_source(self, crate, path):
+        module = os.path.relpath(path, f"crates/{crate}/src")[: -len(".rt")].replace("/", ".")
+        lines = text_of(path).split("\n")
+        whole, inner, block, function, docs = {}, {}, None, None, []
+        for number, line in enumerate(lines, 1):
+            used, begun, impl, kind = USE.match(line), FUNCTION.match(line), BLOCK.match(line), TYPE.match(line)
+            if line.startswith("}"):
+                block, inner = None, {}
+            if used:
+                (inner if line.startswith(" ") else whole).update(imported(used))
+            elif impl:
+                block, inner = impl, {}
+            elif kind:
+                self.read_type(crate, module, path, number, kind[2], docs, lines, whole)
+            elif begun:
+                outer = f"{block[2]}::" if block else ""
+                # (a method of a trait is as public as the trait)
+                is_public = begun[1] == "pub " or bool(block and block[1])
+                function = Contract(crate, path, outer + begun[2], is_public, number)
+                self.contracts.append(function)
+                self.imports[id(function)] = (whole, inner)
+                function.docs = [it[3:].strip() for it in docs if it.startswith("///")]
+                function.head = head_of(lines[number - 1 :])
+            elif CLAUSE.match(line) and function:
+                function.clauses.append(line.strip())
+            elif block and block[1] == "Model" and line.strip().startswith("ghost Value"):
+                self.read_value(crate, path, block[2], line, whole, inner)
+            docs = docs + [line.strip()] if line.strip().startswith("///") else docs if line.strip().startswith("#[") else []
+
+    def read_type(self, crate, module, path, number, name, docs, lines, imports):
+        made = Definition(crate, f"declared.{module}", name, "type", [it[3:].strip() for it in docs], path, number)
+        for line in lines[number - 1 :]:
+            made.lines.append(line)
+            if line.startswith("}") or line.endswith(";"):
+                break
+        self.definitions[made.key] = made
+        self.imports[made.key] = {**code_imports(crate, lines), **imports}
+
+    def read_value(self, crate, path, name, line, whole, inner):
+        """What a contract sees of a type: the value that its model names."""
+        key = next((it for it in self.definitions if self.definitions[it].path == path and self.definitions[it].name == name), None)
+        if key:
+            self.definitions[key].lines = [line.strip()]
+            self.imports[key] = {**whole, **inner}
+
+    def resolve(self):
+        types = {}
+        for key, it in self.definitions.items():
+            if it.kind == "type":
+                types.setdefault(it.name, []).append(key)
+        for names in (self.imports[key] for key in self.definitions):
+            for word, path in names.items():
+                if ".?." in path:
+                    crate, name = path.split(".?.")
+                    found = types.get(name, [])
+                    own = [key for key in found if key.startswith(f"{crate}.")]
+                    names[word] = (own or found or [path])[0]
+        for it in self.definitions.values():
+            text = "\n".join(self.shown(it))
+            it.refs = [key for key in self.named(it.crate, it.module, self.imports[it.key], text) if key != it.key]
+        for it in self.contracts:
+            whole, inner = self.imports[id(it)]
+            it.refs = self.named(it.crate, None, {**whole, **inner}, "\n".join(it.clauses))
+
+    def shown(self, it):
+        """The lines of a definition without comments."""
+        return [line.split(" -- ")[0] for line in it.lines if not line.strip().startswith(("//", "--"))]
+
+    def named(self, crate, module, imports, text):
+        """The keys of the definitions that a text names, in the order in which they stand."""
+        found = []
+        for word in WORD.findall(re.sub(r'"[^"]*"', "", text)):
+            for path in self.paths(crate, module, imports, word):
+                if path in self.definitions:
+                    found.append(path)
+                    break
+        return list(dict.fromkeys(found))
+
+    def paths(self, crate, module, imports, word):
+        """What a word may name, the longest first."""
+        parts = word.split(".")
+        if parts[0] == "Rattle" and len(parts) > 3:
+            yield type_path(parts[1:])
+            yield type_path(parts[1:-1])
+            return
+        if len(parts) > 1 and imports.get(parts[0]):
+            yield type_path([*imports[parts[0]].split("."), parts[1]])
+        if imports.get(parts[0]):
+            yield type_path(imports[parts[0]].split("."))
+        elif module:
+            yield f"{crate}.{module}.{parts[0]}"
+
+    def reached(self, keys):
+        """The definitions that these reach."""
+        found, left = {}, list(keys)
+        while left:
+            key = left.pop()
+            if key not in found:
+                found[key] = self.definitions[key]
+                left += self.definitions[key].refs
+        return found
+
+    def naming(self):
+        """By the key of a definition, the public contracts that name it."""
+        found = {}
+        for it in self.public():
+            for key in it.refs:
+                found.setdefault(key, []).append(it)
+        return found
+
+    def users(self):
+        """By the key of a definition, the reached definitions that name it."""
+        found = {}
+        for it in self.reached(self.promised()).values():
+            for key in it.refs:
+                found.setdefault(key, []).append(it)
+        return found
+
+    def promised(self, crate=None):
+        """The definitions that public contracts name."""
+        return [key for it in self.public(crate) for key in it.refs]
+
+    def rows(self):
+        """By the key of a definition, the rows and tests that name it: a line `Definitions: CRATE FILE NAME..; ..` at a row's head, or in the
+        comment of a test."""
+        found = {}
+        for path in sorted(glob.glob(f"{ROOT}/rows/*/*.row")):
+            path = os.path.relpath(path, ROOT)
+            for line in text_of(path).split("\n"):
+                for key in tried(line):
+                    found.setdefault(key, []).append(path)
+        for path in sorted(glob.glob(f"{ROOT}/crates/*/src/**/*.rt", recursive=True)):
+            path, keys = os.path.relpath(path, ROOT), []
+            for line in text_of(path).split("\n"):
+                keys += tried(line)
+                function = FUNCTION.match(line)
+                for key in keys if function else []:
+                    found.setdefault(key, []).append(f"{path.split('/')[1]}::{function[2]}")
+                if function or not line.strip():
+                    keys = []
+        return {key: list(dict.fromkeys(names)) for key, names in found.items()}
+
+    def public(self, crate=None):
+        return [it for it in self.contracts if it.is_public and it.clauses and (crate is None or it.crate == crate)]
+
+
+def tried(line):
+    """The keys of the definitions that a line of a row's head, or of a test's comment, says are tried there."""
+    found = TRIED.match(line)
+    for part in found[1].split(";") if found else []:
+        crate, module, *names = part.split()
+        yield from (f"{crate}.{module}.{name}" for name in names)
+
+
+def head_of(lines):
+    """The lines of a function's head, up to its clauses or its body."""
+    found = []
+    for line in lines:
+        if CLAUSE.match(line) or line.strip() in ("{", "{}"):
+            break
+        found.append(line)
+        if line.rstrip().endswith(("{", "{}", ";")):
+            break
+    return found
+
+
+def imported(used):
+    """The words that a line `use` brings in, and what each names."""
+    path, names, other = used[1], used[2], used[3]
+    if names is None:
+        return {other or path.split(".")[-1]: path}
+    found = {}
+    for name in re.split(r",\s*", names.strip()):
+        one, _, renamed = name.strip().partition(" as ")
+        found[renamed or one] = f"{path}.{one}"
+    return found
+
+
+def type_path(parts):
+    """The key of a definition by its path; a variant is part of its type."""
+    parts = [it for it in parts]
+    if "TheVariants" in parts:
+        parts = parts[: parts.index("TheVariants")]
+    if len(parts) > 2 and parts[1] == "specs":
+        parts = [parts[0], *parts[2:]]
+    # (a declared type has a module of its own, with its name)
+    if len(parts) > 3 and parts[1] == "declared" and parts[-1] == parts[-2]:
+        parts = parts[:-1]
+    return ".".join(parts)
+
+
+def code_imports(crate, lines):
+    """The types of crates that the lines `use` of some code bring in, as far as their modules' names tell."""
+    found = {}
+    for line in lines:
+        used = re.match(r"^use (crate|dm_\w+)::(?:(\w+)::)?\{?([\w, ]+)\}?;$", line)
+        if used:
+            for name in re.split(r",\s*", used[3]):
+                found[name.strip()] = f"{crate if used[1] == 'crate' else used[1]}.?.{name.strip()}"
+    return found
+
+
+def some_of(names, most):
+    """Some names as text, and how many more there are."""
+    names = list(dict.fromkeys(names))
+    more = f" and {len(names) - most} more" if len(names) > most else ""
+    return ", ".join(names[:most]) + more
