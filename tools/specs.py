@@ -5,8 +5,7 @@ import re
 
 ROOT = os.path.dirname(os.path.dirname(os.path.abspath(__file__)))
 # What begins a definition: its words, and its name.
-BEGINS = re.compile(r"^(\s*)((?:pub |abbrev |unfoldable |record |data )+)(\S+)")
-KINDS = ("abbrev", "unfoldable", "record", "data")
+BEGINS = re.compile(r"^(\s*)(abbrev|unfoldable|pub record|pub data)(?: pub)? ([^\s{]+)")
 USE = re.compile(r"^\s*(?:ghost )?use Rattle\.([\w.]+?)(?:\.\{([^}]*)\})?(?: as (\w+))?;?$")
 PATH = re.compile(r"Rattle\.([\w.]+)")
 # A name, and the names after its dots: `rows.allocate`, `s.cpu.bx`.
@@ -15,6 +14,7 @@ CLAUSE = re.compile(r"^\s+(?:requires|ensures)\b")
 FUNCTION = re.compile(r"^\s*(pub(?:\(crate\))? )?fn (\w+)")
 TRIED = re.compile(r"^\s*(?:#|///) Definitions: (.*)$")
 BLOCK = re.compile(r"^impl(?:<[^>]*>)? (?:(\w+)(?:<[^>]*>)? for )?(\w+)")
+TRAIT = re.compile(r"^pub trait (\w+)")
 TYPE = re.compile(r"^(?:pub(?:\(crate\))? )?(struct|enum) (\w+)")
 
 
@@ -59,7 +59,7 @@ class Contract:
 
     def __init__(self, crate, path, name, is_public, line):
         self.crate, self.path, self.name, self.is_public, self.line = crate, path, name, is_public, line
-        self.clauses, self.refs, self.docs, self.head = [], [], [], []
+        self.clauses, self.refs, self.docs, self.head, self.types = [], [], [], [], []
 
 
 class Specs:
@@ -67,7 +67,7 @@ class Specs:
 
     def __init__(self):
         self.definitions, self.contracts, self.heads, self.imports, self.groups = {}, [], {}, {}, {}
-        self.files, self.abouts = {}, {}
+        self.files, self.abouts, self.values = {}, {}, set()
         for crate, group in crate_names():
             self.groups[crate] = group
             self.read_specs(crate)
@@ -95,9 +95,8 @@ class Specs:
                 imports.update(imported(used))
             elif line.lstrip().startswith("-- "):
                 comment.append(line.strip()[3:])
-            elif begun and any(it in begun[2] for it in KINDS):
-                kind = next(it for it in KINDS if it in begun[2])
-                current = Definition(crate, module, begun[3], kind, comment, path, number)
+            elif begun:
+                current = Definition(crate, module, begun[3], begun[2], comment, path, number)
                 current.lines.append(line)
                 found.append(current)
                 self.definitions[current.key] = current
@@ -123,26 +122,29 @@ class Specs:
     def read_source(self, crate, path):
         module = os.path.relpath(path, f"crates/{crate}/src")[: -len(".rt")].replace("/", ".")
         lines = text_of(path).split("\n")
-        whole, inner, block, function, docs = {}, {}, None, None, []
+        whole, inner, block, trait, function, docs = {}, {}, None, None, None, []
         for number, line in enumerate(lines, 1):
             used, begun, impl, kind = USE.match(line), FUNCTION.match(line), BLOCK.match(line), TYPE.match(line)
             if line.startswith("}"):
-                block, inner = None, {}
+                block, trait, inner = None, None, {}
             if used:
                 (inner if line.startswith(" ") else whole).update(imported(used))
             elif impl:
                 block, inner = impl, {}
+            elif TRAIT.match(line):
+                trait = TRAIT.match(line)[1]
             elif kind:
                 self.read_type(crate, module, path, number, kind[2], docs, lines, whole)
             elif begun:
-                outer = f"{block[2]}::" if block else ""
+                outer = f"{block[2]}::" if block else f"{trait}::" if trait else ""
                 # (a method of a trait is as public as the trait)
-                is_public = begun[1] == "pub " or bool(block and block[1])
+                is_public = begun[1] == "pub " or bool(trait or block and block[1])
                 function = Contract(crate, path, outer + begun[2], is_public, number)
                 self.contracts.append(function)
                 self.imports[id(function)] = (whole, inner)
                 function.docs = [it[3:].strip() for it in docs if it.startswith("///")]
                 function.head = head_of(lines[number - 1 :])
+                function.types = [block[2]] if block else []
             elif CLAUSE.match(line) and function:
                 function.clauses.append(line.strip())
             elif block and block[1] == "Model" and line.strip().startswith("ghost Value"):
@@ -163,6 +165,7 @@ class Specs:
         key = next((it for it in self.definitions if self.definitions[it].path == path and self.definitions[it].name == name), None)
         if key:
             self.definitions[key].lines = [line.strip()]
+            self.values.add(key)
             self.imports[key] = {**whole, **inner}
 
     def resolve(self):
@@ -183,6 +186,14 @@ class Specs:
         for it in self.contracts:
             whole, inner = self.imports[id(it)]
             it.refs = self.named(it.crate, None, {**whole, **inner}, "\n".join(it.clauses))
+            it.refs += [key for key in self.seen(it, types) if key not in it.refs]
+
+    def seen(self, it, types):
+        """The types of a function's head that contracts see as another value."""
+        for name in [*it.types, *re.findall(r"[A-Z]\w+", "\n".join(it.head))]:
+            for key in types.get(name, []):
+                if key in self.values:
+                    yield key
 
     def shown(self, it):
         """The lines of a definition without comments."""
