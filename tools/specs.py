@@ -120,6 +120,8 @@ class Specs:
                     self.read_source(crate, os.path.relpath(f"{at}/{name}", ROOT))
 
     def read_source(self, crate, path):
+        # (a program has no public functions: what its contracts say is what it promises)
+        is_program = os.path.exists(f"{ROOT}/crates/{crate}/src/main.rt")
         module = os.path.relpath(path, f"crates/{crate}/src")[: -len(".rt")].replace("/", ".")
         lines = text_of(path).split("\n")
         whole, inner, block, trait, function, docs = {}, {}, None, None, None, []
@@ -133,12 +135,17 @@ class Specs:
                 block, inner = impl, {}
             elif TRAIT.match(line):
                 trait = TRAIT.match(line)[1]
+                function = Contract(crate, path, trait, True, number)
+                self.contracts.append(function)
+                self.imports[id(function)] = (whole, inner)
+            elif trait and re.match(r"^\s+ghost (?!use)\w+:", line):
+                function.clauses.append(line.strip())
             elif kind:
                 self.read_type(crate, module, path, number, kind[2], docs, lines, whole)
             elif begun:
                 outer = f"{block[2]}::" if block else f"{trait}::" if trait else ""
                 # (a method of a trait is as public as the trait)
-                is_public = begun[1] == "pub " or bool(trait or block and block[1])
+                is_public = begun[1] == "pub " or is_program or bool(trait or block and block[1])
                 function = Contract(crate, path, outer + begun[2], is_public, number)
                 self.contracts.append(function)
                 self.imports[id(function)] = (whole, inner)
