@@ -1,11 +1,11 @@
 -- At most one list has a chain, and a list leaves one memory.
-use Rattle.std.proofs.Common.{◌≡◌, ◌≢◌, ℕ, suc, zero, ◌+◌, ◌*◌, ◌<◌, ◌≤◌, List, [], ◌∷◌, length, ◌⊎◌, inl, inr, refl, sym, ◌∙◌, ap, ap₂, subst, arith}
+use Rattle.std.proofs.Common.{◌≡◌, ◌≢◌, Bool, false, true, ℕ, suc, zero, ◌+◌, ◌*◌, ◌<◌, ◌≤◌, List, [], ◌∷◌, length, ◌⊎◌, inl, inr, refl, sym, ◌∙◌, ap, ap₂, subst, arith}
 use Rattle.dm_space.specs.declared.place.Place.{Place}
 use Rattle.dm_space.specs.Memory.{Memory, place, peek, byte_at}
 use Rattle.dm_space.proofs.Places.{place-decide, place-shaped, peek-place, memory-same}
 use Rattle.dm_blocks.specs.declared.header.Header.{Header}
 use Rattle.dm_blocks.specs.Chain.{word, Spells, HasHeader, IsChain, IsHeader, IsArena, Becomes, DiffersInHeaders, next}
-use Rattle.dm_blocks.specs.Listing.{Path, Leads}
+use Rattle.dm_blocks.specs.Listing.{Path, Leads, start_of}
 use Rattle.dm_blocks.proofs.OneHeader.{header-unique}
 
 spells_unique : (S : Memory) (h : ℕ) (b : Header) (L : List Header) (c : Header) (M : List Header) → Spells S h (b ∷ L) → Spells S h (c ∷ M) → b ∷ L ≡ c ∷ M
@@ -36,8 +36,9 @@ path_short : (S : Memory) (h : ℕ) (P : List Header) (t : ℕ) → h ≤ 0xFFFF
 path_short S h [] t low p = omega arith
 path_short S h (b ∷ P) t low p = (let x = p.0 in let f = p.1.fits in let r = path_short S (next b) P t f p.2 in omega arith)
 
-pub walk_short : (S : Memory) (P : List Header) (t : ℕ) → Leads S [] 0x100 P t → length P < 0xFF00
-walk_short S P t w = (let r = path_short S 0x100 P t (omega arith) w.path in omega arith)
+pub walk_short : (S : Memory) (second : Bool) (F P : List Header) (t : ℕ) → Leads S F (start_of second) P t → length P < 0xFF00
+walk_short S false F P t w = (let r = path_short S 0x100 P t (omega arith) w.path in omega arith)
+walk_short S true F P t w = (let r = path_short S 0x9FFF P t (omega arith) w.path in omega arith)
 
 pub each_of_five : (P : ℕ → Type 0) → P 0 → P 1 → P 2 → P 3 → P 4 → (k : ℕ) → k < 5 → P k
 each_of_five P a b c d e zero h = a

@@ -1,9 +1,9 @@
 -- Laws of the definitions: memory spells at most one list from a segment on, and a short one.
-use Rattle.std.specs.Prelude.{◌≡◌, ℕ, ◌≤◌, ◌<◌, List, [], length}
+use Rattle.std.specs.Prelude.{◌≡◌, ℕ, ◌≤◌, ◌<◌, Bool, List, length}
 use Rattle.dm_space.specs.Memory.{Memory}
 use Rattle.dm_blocks.specs.declared.header.Header.{Header}
 use Rattle.dm_blocks.specs.Chain.{first_header, IsChain}
-use Rattle.dm_blocks.specs.Listing.{Leads}
+use Rattle.dm_blocks.specs.Listing.{Leads, start_of}
 
 abbrev pub ChainIsUnique : Type 0
 ChainIsUnique = (S : Memory) (start : ℕ) (L M : List Header) → IsChain S start L → IsChain S start M → L ≡ M
@@ -11,6 +11,8 @@ ChainIsUnique = (S : Memory) (start : ℕ) (L M : List Header) → IsChain S sta
 abbrev pub ChainIsShort : Type 0
 ChainIsShort = (S : Memory) (L : List Header) → IsChain S first_header L → length L ≤ 0xFF00
 
--- nor does a walk meet more, also where it breaks off: fewer lead to the header where it stands
+-- a walk over the first list, or over the second one after the headers F of the first, meets no more, also where it breaks
+-- off: fewer lead to the header where it stands
 abbrev pub WalkIsShort : Type 0
-WalkIsShort = (S : Memory) (P : List Header) (t : ℕ) → Leads S [] first_header P t → length P < 0xFF00
+WalkIsShort =
+    (S : Memory) (second : Bool) (F P : List Header) (t : ℕ) → Leads S F (start_of second) P t → length P < 0xFF00

@@ -11,7 +11,7 @@ pub fn chain_is_short()
     ensures { ChainIsShort }
 {}
 
-/// A walk meets at most FF00h headers, also where the list is broken.
+/// A walk over either list meets at most FF00h headers, also where the list is broken.
 pub fn walk_is_short()
     ensures { WalkIsShort }
 {}
