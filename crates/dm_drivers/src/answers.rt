@@ -7,7 +7,7 @@ ghost use Rattle.dm_drivers.specs.Windows.{numbered};
 
 use dm_ems::Status;
 use dm_ems_move::{Moved, Reallocated};
-use dm_exec::Cpu;
+use dm_cpu::Cpu;
 use dm_ins::ByteRegister;
 
 /// Success: AH is 0.

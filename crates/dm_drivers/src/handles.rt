@@ -7,7 +7,7 @@ ghost use Rattle.dm_drivers.specs.Handles.{tell_pages, allocate, deallocate, cou
 
 use crate::answers::{settle, settle_bx, settle_dx, settle_pages, succeed};
 use dm_ems::Ems;
-use dm_exec::Cpu;
+use dm_cpu::Cpu;
 use dm_space::Space;
 
 /// 42h: BX becomes the pages that no handle has, DX all pages.

@@ -5,7 +5,7 @@ ghost use Rattle.dm_drivers.specs.Names.{get_name, set_name, handle_name, list_n
 
 use crate::answers::{refuse, settle, settle_dx, succeed};
 use dm_ems::{Ems, Status};
-use dm_exec::Cpu;
+use dm_cpu::Cpu;
 use dm_ins::ByteRegister;
 use dm_space::Space;
 

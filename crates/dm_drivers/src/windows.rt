@@ -7,7 +7,7 @@ ghost use Rattle.dm_drivers.specs.Windows.{map_page, save_map, restore_map, whol
 
 use crate::answers::{settle, settle_al};
 use dm_ems::Ems;
-use dm_exec::Cpu;
+use dm_cpu::Cpu;
 use dm_ins::ByteRegister;
 use dm_space::Space;
 

@@ -1,0 +1,4 @@
+pub mod Cpu
+pub mod Guest
+pub mod Stack
+pub mod Unseen
