@@ -33,8 +33,8 @@ use Rattle.dm_exec.specs.declared.operation.InterruptOperation.TheVariants.{Numb
 use Rattle.dm_exec.specs.declared.operation.StringOperation.{StringOperation}
 use Rattle.dm_exec.specs.declared.operation.StringOperation.TheVariants as string
 use Rattle.dm_cpu.specs.Guest.{Guest, at_ip, up, on_cpu}
-use Rattle.dm_exec.specs.Operands.{value_of, with_operand, far_segment_of}
-use Rattle.dm_exec.specs.Values.{value_in, read_in, written_in}
+use Rattle.dm_cpu.specs.Operands.{value_of, with_operand, far_segment_of}
+use Rattle.dm_cpu.specs.Values.{value_in, read_in, written_in}
 use Rattle.dm_exec.specs.Operation.{operation_of}
 use Rattle.dm_cpu.specs.Stack.{push, popped, top, interrupt_return, far_returned}
 use Rattle.dm_exec.specs.Stack.{through_vector, interrupt, pushed_value, popped_into, flags_popped, stack_effect, interrupt_effect}
@@ -47,55 +47,8 @@ use Rattle.dm_exec.specs.Strings.{source, destination, once, counted, string_eff
 use Rattle.dm_exec.specs.Effect.{act, effect}
 use Rattle.dm_space.specs.Unseen.{IsUnseen}
 use Rattle.dm_cpu.specs.Unseen.{changed}
-use Rattle.dm_cpu.proofs.Unseen.{push-unseen, interrupt_return-unseen, far_returned-unseen}
+use Rattle.dm_cpu.proofs.Unseen.{value_of-unseen, with_operand-unseen, far_segment_of-unseen, value_in-unseen, read_in-unseen, written_in-unseen, push-unseen, interrupt_return-unseen, far_returned-unseen}
 use Rattle.dm_exec.specs.Unseen.{IgnoresUnseen}
-
-value_of-unseen : (f : Memory → Memory) (u : IsUnseen f) (g : Guest) (override : Option SegmentRegister) (o : Operand) → value_of (changed f g) override o ≡ value_of g override o
-unfolding value_of
-value_of-unseen f u g override operand.Nothing = refl
-value_of-unseen f u g override (operand.ByteRegister r) = refl
-value_of-unseen f u g override (operand.WordRegister r) = refl
-value_of-unseen f u g override (operand.SegmentRegister r) = refl
-value_of-unseen f u g override (operand.Memory memory.Byte a) = simp (u.a20, u.peek_same)
-value_of-unseen f u g override (operand.Memory memory.Word a) = simp (u.a20, u.peek_same)
-value_of-unseen f u g override (operand.ByteValue n) = refl
-value_of-unseen f u g override (operand.WordValue n) = refl
-value_of-unseen f u g override operand.One = refl
-value_of-unseen f u g override (operand.Target n) = refl
-value_of-unseen f u g override (operand.FarTarget n s) = refl
-
-with_operand-unseen : (f : Memory → Memory) (u : IsUnseen f) (g : Guest) (override : Option SegmentRegister) (o : Operand) (v : ℕ) → with_operand (changed f g) override o v ≡ changed f (with_operand g override o v)
-unfolding with_operand
-with_operand-unseen f u g override operand.Nothing v = refl
-with_operand-unseen f u g override (operand.ByteRegister r) v = refl
-with_operand-unseen f u g override (operand.WordRegister r) v = refl
-with_operand-unseen f u g override (operand.SegmentRegister r) v = refl
-with_operand-unseen f u g override (operand.Memory memory.Byte a) v = simp (u.a20, u.poke_same)
-with_operand-unseen f u g override (operand.Memory memory.Word a) v = simp (u.a20, u.poke_same)
-with_operand-unseen f u g override (operand.ByteValue n) v = refl
-with_operand-unseen f u g override (operand.WordValue n) v = refl
-with_operand-unseen f u g override operand.One v = refl
-with_operand-unseen f u g override (operand.Target n) v = refl
-with_operand-unseen f u g override (operand.FarTarget n s) v = refl
-
-far_segment_of-unseen : (f : Memory → Memory) (u : IsUnseen f) (g : Guest) (override : Option SegmentRegister) (o : Operand) → far_segment_of (changed f g) override o ≡ far_segment_of g override o
-unfolding far_segment_of
-far_segment_of-unseen f u g override (operand.Memory w a) = simp (u.a20, u.peek_same)
-far_segment_of-unseen f u g override _ = refl
-
-value_in-unseen : (f : Memory → Memory) (u : IsUnseen f) (w : Width) (g : Guest) (override : Option SegmentRegister) (o : Operand) → value_in w (changed f g) override o ≡ value_in w g override o
-unfolding value_in
-value_in-unseen f u w g override o = simp (value_of-unseen f u)
-
-read_in-unseen : (f : Memory → Memory) (u : IsUnseen f) (w : Width) (m : Memory) (s o : ℕ) → read_in w (f m) s o ≡ read_in w m s o
-unfolding read_in
-read_in-unseen f u Byte m s o = simp (u.a20, u.peek_same)
-read_in-unseen f u Word m s o = simp (u.a20, u.peek_same)
-
-written_in-unseen : (f : Memory → Memory) (u : IsUnseen f) (w : Width) (m : Memory) (s o v : ℕ) → written_in w (f m) s o v ≡ f (written_in w m s o v)
-unfolding written_in
-written_in-unseen f u Byte m s o v = simp (u.a20, u.poke_same)
-written_in-unseen f u Word m s o v = simp (u.a20, u.poke_same)
 
 through_vector-unseen : (f : Memory → Memory) (u : IsUnseen f) (g : Guest) (n : ℕ) → through_vector (changed f g) n ≡ changed f (through_vector g n)
 unfolding through_vector

@@ -1,5 +1,3 @@
-pub mod Operands
-pub mod Values
 pub mod Operation
 pub mod Moves
 pub mod Stack

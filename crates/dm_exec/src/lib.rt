@@ -8,13 +8,11 @@ mod effect;
 mod jumps;
 mod laws;
 mod moves;
-mod operands;
 mod operation;
 mod products;
 mod shifts;
 mod stack;
 mod strings;
-mod values;
 mod widths;
 
 pub use dm_cpu::{Cpu, Flags, far_return, interrupt_return};
