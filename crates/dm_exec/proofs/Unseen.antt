@@ -2,12 +2,10 @@
 use Rattle.std.proofs.Common.{◌≡◌, ℕ, ◌==◌, Bool, true, false, cond, Option, Some, None, refl}
 use Rattle.dm_space.specs.Memory.{Memory}
 use Rattle.dm_alu.specs.declared.width.Width.{Width}
-use Rattle.dm_alu.specs.declared.width.Width.TheVariants.{Byte, Word}
 use Rattle.dm_alu.specs.declared.products.Division.{Division}
 use Rattle.dm_alu.specs.declared.products.Sign.{Sign}
 use Rattle.dm_alu.specs.declared.bitwise.LogicOperation.{LogicOperation}
 use Rattle.dm_alu.specs.declared.shifts.ShiftOperation.{ShiftOperation}
-use Rattle.dm_ins.specs.declared.operand.Width.TheVariants as memory
 use Rattle.dm_ins.specs.declared.operand.Operand.{Operand}
 use Rattle.dm_ins.specs.declared.operand.Operand.TheVariants as operand
 use Rattle.dm_ins.specs.declared.operand.SegmentRegister.{SegmentRegister}
@@ -33,10 +31,8 @@ use Rattle.dm_exec.specs.declared.operation.InterruptOperation.TheVariants.{Numb
 use Rattle.dm_exec.specs.declared.operation.StringOperation.{StringOperation}
 use Rattle.dm_exec.specs.declared.operation.StringOperation.TheVariants as string
 use Rattle.dm_cpu.specs.Guest.{Guest, at_ip, up, on_cpu}
-use Rattle.dm_cpu.specs.Operands.{value_of, with_operand, far_segment_of}
-use Rattle.dm_cpu.specs.Values.{value_in, read_in, written_in}
 use Rattle.dm_exec.specs.Operation.{operation_of}
-use Rattle.dm_cpu.specs.Stack.{push, popped, top, interrupt_return, far_returned}
+use Rattle.dm_cpu.specs.Stack.{popped, top}
 use Rattle.dm_exec.specs.Stack.{through_vector, interrupt, pushed_value, popped_into, flags_popped, stack_effect, interrupt_effect}
 use Rattle.dm_exec.specs.Moves.{moved, exchanged, pointer_loaded, translated, input, move_effect}
 use Rattle.dm_exec.specs.Arithmetic.{sum_into, difference_into, compared, logic_into, tested, incremented, decremented, negated, complemented, arithmetic}
