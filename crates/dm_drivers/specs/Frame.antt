@@ -1,8 +1,8 @@
 -- The driver and its frame (LIM EMS 4.0, functions 2, 7 and 25; INT 67h, 41h, 46h and 58h).
 use Rattle.std.specs.Prelude.{◌==◌, if◌then◌else◌}
 use Rattle.dm_ins.specs.declared.operand.ByteRegister.TheVariants.{Al}
-use Rattle.dm_exec.specs.declared.cpu.Cpu.{Cpu}
-use Rattle.dm_exec.specs.Cpu.{byte_of, with_byte}
+use Rattle.dm_cpu.specs.declared.cpu.Cpu.{Cpu}
+use Rattle.dm_cpu.specs.Cpu.{byte_of, with_byte}
 use Rattle.dm_ems.specs.declared.status.Status.TheVariants.{NoSubfunction}
 use Rattle.dm_ems.specs.Frame as rows
 use Rattle.dm_drivers.specs.Client.{Client, on_cpu, succeeded, refused}

@@ -1,8 +1,8 @@
 -- The functions of INT 67h: LIM EMS 4.0, section 3.
 use Rattle.std.specs.Prelude.{ℕ, ◌==◌, if◌then◌else◌}
 use Rattle.dm_ins.specs.declared.operand.ByteRegister.TheVariants.{Ah}
-use Rattle.dm_exec.specs.declared.cpu.Cpu.{Cpu}
-use Rattle.dm_exec.specs.Cpu.{byte_of}
+use Rattle.dm_cpu.specs.declared.cpu.Cpu.{Cpu}
+use Rattle.dm_cpu.specs.Cpu.{byte_of}
 use Rattle.dm_drivers.specs.declared.functions.Function.{Function}
 use Rattle.dm_drivers.specs.declared.functions.Function.TheVariants.{Status, Frame, Pages, Allocate, MapPage, Deallocate, Version, SaveMap, RestoreMap, HandleCount, PageCount, PageList, WholeMap, MapMany, Reallocate, HandleName, Directory, Regions, Mappable, Unknown}
 use Rattle.dm_drivers.specs.Client.{Client, with_status, on_cpu, succeeded}

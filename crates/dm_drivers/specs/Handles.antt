@@ -1,7 +1,7 @@
 -- Handles and their pages (LIM EMS 4.0, functions 3, 4, 6, 12, 13, 14 and 18; INT 67h, 42h, 43h,
 -- 45h, 4Bh to 4Dh and 51h).
 use Rattle.std.specs.Prelude.{ℕ, Option, Some, None}
-use Rattle.dm_exec.specs.declared.cpu.Cpu.{Cpu}
+use Rattle.dm_cpu.specs.declared.cpu.Cpu.{Cpu}
 use Rattle.dm_ems.specs.declared.status.Status.{Status}
 use Rattle.dm_ems.specs.Status.{code_of}
 use Rattle.dm_ems.specs.Tables.{unallocated}

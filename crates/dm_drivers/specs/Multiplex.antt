@@ -1,8 +1,8 @@
 -- INT 2Fh (XMS 3.0, section "Accessing the extended memory manager").
 use Rattle.std.specs.Prelude.{◌==◌, if◌then◌else◌}
 use Rattle.dm_ins.specs.declared.operand.ByteRegister.TheVariants.{Al}
-use Rattle.dm_exec.specs.declared.cpu.Cpu.{Cpu}
-use Rattle.dm_exec.specs.Cpu.{with_byte}
+use Rattle.dm_cpu.specs.declared.cpu.Cpu.{Cpu}
+use Rattle.dm_cpu.specs.Cpu.{with_byte}
 
 -- 4300h: AL is 80h, since extended memory is there; 4310h: ES:BX is where it is called; else nothing changes
 unfoldable pub told : Cpu → Cpu

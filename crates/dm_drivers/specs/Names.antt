@@ -1,8 +1,8 @@
 -- The names of handles (LIM EMS 4.0, functions 20 and 21; INT 67h, 53h and 54h): AL says which part of a function is asked for.
 use Rattle.std.specs.Prelude.{◌==◌, if◌then◌else◌}
 use Rattle.dm_ins.specs.declared.operand.ByteRegister.TheVariants.{Al}
-use Rattle.dm_exec.specs.declared.cpu.Cpu.{Cpu}
-use Rattle.dm_exec.specs.Cpu.{byte_of, with_byte}
+use Rattle.dm_cpu.specs.declared.cpu.Cpu.{Cpu}
+use Rattle.dm_cpu.specs.Cpu.{byte_of, with_byte}
 use Rattle.dm_ems.specs.declared.status.Status.TheVariants.{NoSubfunction}
 use Rattle.dm_ems.specs.Names as rows
 use Rattle.dm_drivers.specs.Client.{Client, on_cpu, succeeded, refused, settled, after}

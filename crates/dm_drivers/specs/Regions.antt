@@ -1,7 +1,7 @@
 -- Regions of memory that are moved or exchanged (LIM EMS 4.0, function 24; INT 67h, 57h), as the structure at DS:SI describes them.
 use Rattle.std.specs.Prelude.{◌==◌, if◌then◌else◌}
 use Rattle.dm_ins.specs.declared.operand.ByteRegister.TheVariants.{Al}
-use Rattle.dm_exec.specs.Cpu.{byte_of}
+use Rattle.dm_cpu.specs.Cpu.{byte_of}
 use Rattle.dm_ems.specs.declared.status.Status.TheVariants.{NoSubfunction}
 use Rattle.dm_ems.specs.Calls.{answer, left}
 use Rattle.dm_ems_move.specs.RegionMoves as rows

@@ -1,8 +1,8 @@
 -- The windows of the frame (LIM EMS 4.0, functions 5, 8, 9, 15 and 17; INT 67h, 44h, 47h, 48h, 4Eh and 50h).
 use Rattle.std.specs.Prelude.{ℕ, Option, Some, None}
 use Rattle.dm_ins.specs.declared.operand.ByteRegister.TheVariants.{Al}
-use Rattle.dm_exec.specs.declared.cpu.Cpu.{Cpu}
-use Rattle.dm_exec.specs.Cpu.{byte_of, with_byte}
+use Rattle.dm_cpu.specs.declared.cpu.Cpu.{Cpu}
+use Rattle.dm_cpu.specs.Cpu.{byte_of, with_byte}
 use Rattle.dm_ems.specs.Maps as rows
 use Rattle.dm_ems_move.specs.Maps as maps
 use Rattle.dm_ems_move.specs.Many as many

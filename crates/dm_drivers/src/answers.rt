@@ -5,9 +5,9 @@ ghost use Rattle.dm_drivers.specs.Client.{with_status, succeeded, refused, settl
 ghost use Rattle.dm_drivers.specs.Handles.{recounted};
 ghost use Rattle.dm_drivers.specs.Windows.{numbered};
 
+use dm_cpu::Cpu;
 use dm_ems::Status;
 use dm_ems_move::{Moved, Reallocated};
-use dm_exec::Cpu;
 use dm_ins::ByteRegister;
 
 /// Success: AH is 0.

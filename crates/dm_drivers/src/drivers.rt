@@ -5,7 +5,7 @@ ghost use Rattle.dm_drivers.specs.Drivers.{driver_at, driven, acted, given_back}
 
 use crate::functions::expanded_memory_call;
 use crate::multiplex::multiplex_call;
-use dm_exec::Cpu;
+use dm_cpu::Cpu;
 use dm_state::Parts;
 use dm_xms_calls::extended_memory_call;
 

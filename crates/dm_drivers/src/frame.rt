@@ -4,8 +4,8 @@ ghost use Rattle.dm_drivers.specs.Client.{client};
 ghost use Rattle.dm_drivers.specs.Frame.{tell_frame, tell_version, list_frame, count_windows, mappable};
 
 use crate::answers::{refuse, succeed};
+use dm_cpu::Cpu;
 use dm_ems::{Ems, Status};
-use dm_exec::Cpu;
 use dm_ins::ByteRegister;
 use dm_space::Space;
 

@@ -13,8 +13,8 @@ use crate::handles::{
 use crate::names::{directory, handle_name};
 use crate::regions::move_or_exchange;
 use crate::windows::{map_many, map_page, restore_map, save_map, whole_map};
+use dm_cpu::Cpu;
 use dm_ems::Ems;
-use dm_exec::Cpu;
 use dm_ins::ByteRegister;
 use dm_space::Space;
 

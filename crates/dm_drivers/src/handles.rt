@@ -6,8 +6,8 @@ ghost use Rattle.dm_drivers.specs.Client.{client};
 ghost use Rattle.dm_drivers.specs.Handles.{tell_pages, allocate, deallocate, count_handles, count_pages, list_pages, reallocate};
 
 use crate::answers::{settle, settle_bx, settle_dx, settle_pages, succeed};
+use dm_cpu::Cpu;
 use dm_ems::Ems;
-use dm_exec::Cpu;
 use dm_space::Space;
 
 /// 42h: BX becomes the pages that no handle has, DX all pages.

@@ -2,7 +2,7 @@
 ghost use Rattle.std.specs.Prelude.{◌≡◌};
 ghost use Rattle.dm_drivers.specs.Multiplex.{told};
 
-use dm_exec::Cpu;
+use dm_cpu::Cpu;
 use dm_ins::ByteRegister;
 
 /// AX where a program asks whether extended memory is there.

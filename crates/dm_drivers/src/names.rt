@@ -4,8 +4,8 @@ ghost use Rattle.dm_drivers.specs.Client.{client};
 ghost use Rattle.dm_drivers.specs.Names.{get_name, set_name, handle_name, list_names, find_name, tell_handles, directory};
 
 use crate::answers::{refuse, settle, settle_dx, succeed};
+use dm_cpu::Cpu;
 use dm_ems::{Ems, Status};
-use dm_exec::Cpu;
 use dm_ins::ByteRegister;
 use dm_space::Space;
 

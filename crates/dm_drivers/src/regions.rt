@@ -6,8 +6,8 @@ ghost use Rattle.dm_drivers.specs.Client.{client};
 ghost use Rattle.dm_drivers.specs.Regions.{move_region, exchange_region, regions};
 
 use crate::answers::{refuse, settle, settle_move};
+use dm_cpu::Cpu;
 use dm_ems::{Ems, Status};
-use dm_exec::Cpu;
 use dm_ins::ByteRegister;
 use dm_space::Space;
 

@@ -6,8 +6,8 @@ ghost use Rattle.dm_drivers.specs.Client.{client};
 ghost use Rattle.dm_drivers.specs.Windows.{map_page, save_map, restore_map, whole_map, map_many};
 
 use crate::answers::{settle, settle_al};
+use dm_cpu::Cpu;
 use dm_ems::Ems;
-use dm_exec::Cpu;
 use dm_ins::ByteRegister;
 use dm_space::Space;
 

@@ -2,12 +2,10 @@
 use Rattle.std.proofs.Common.{◌≡◌, ℕ, ◌==◌, Bool, true, false, cond, Option, Some, None, refl}
 use Rattle.dm_space.specs.Memory.{Memory}
 use Rattle.dm_alu.specs.declared.width.Width.{Width}
-use Rattle.dm_alu.specs.declared.width.Width.TheVariants.{Byte, Word}
 use Rattle.dm_alu.specs.declared.products.Division.{Division}
 use Rattle.dm_alu.specs.declared.products.Sign.{Sign}
 use Rattle.dm_alu.specs.declared.bitwise.LogicOperation.{LogicOperation}
 use Rattle.dm_alu.specs.declared.shifts.ShiftOperation.{ShiftOperation}
-use Rattle.dm_ins.specs.declared.operand.Width.TheVariants as memory
 use Rattle.dm_ins.specs.declared.operand.Operand.{Operand}
 use Rattle.dm_ins.specs.declared.operand.Operand.TheVariants as operand
 use Rattle.dm_ins.specs.declared.operand.SegmentRegister.{SegmentRegister}
@@ -32,71 +30,21 @@ use Rattle.dm_exec.specs.declared.operation.InterruptOperation.TheVariants as in
 use Rattle.dm_exec.specs.declared.operation.InterruptOperation.TheVariants.{Numbered, Breakpoint, OnOverflow}
 use Rattle.dm_exec.specs.declared.operation.StringOperation.{StringOperation}
 use Rattle.dm_exec.specs.declared.operation.StringOperation.TheVariants as string
-use Rattle.dm_exec.specs.Guest.{Guest, at_ip, up, on_cpu}
-use Rattle.dm_exec.specs.Operands.{value_of, with_operand, far_segment_of}
-use Rattle.dm_exec.specs.Values.{value_in, read_in, written_in}
+use Rattle.dm_cpu.specs.Guest.{Guest, at_ip, up, on_cpu}
 use Rattle.dm_exec.specs.Operation.{operation_of}
-use Rattle.dm_exec.specs.Stack.{push, popped, top, through_vector, interrupt, interrupt_return, pushed_value, popped_into, flags_popped, stack_effect, interrupt_effect}
+use Rattle.dm_cpu.specs.Stack.{popped, top}
+use Rattle.dm_exec.specs.Stack.{through_vector, interrupt, pushed_value, popped_into, flags_popped, stack_effect, interrupt_effect}
 use Rattle.dm_exec.specs.Moves.{moved, exchanged, pointer_loaded, translated, input, move_effect}
 use Rattle.dm_exec.specs.Arithmetic.{sum_into, difference_into, compared, logic_into, tested, incremented, decremented, negated, complemented, arithmetic}
 use Rattle.dm_exec.specs.Shifts.{shifted}
 use Rattle.dm_exec.specs.Products.{multiplied, after_division, divided}
-use Rattle.dm_exec.specs.Jumps.{target_of, jumped, jumped_where, jumped_if, counted_down, looped, far_jumped, called, far_called, returned, far_returned, transferred}
+use Rattle.dm_exec.specs.Jumps.{target_of, jumped, jumped_where, jumped_if, counted_down, looped, far_jumped, called, far_called, returned, transferred}
 use Rattle.dm_exec.specs.Strings.{source, destination, once, counted, string_effect}
 use Rattle.dm_exec.specs.Effect.{act, effect}
 use Rattle.dm_space.specs.Unseen.{IsUnseen}
-use Rattle.dm_exec.specs.Unseen.{changed, IgnoresUnseen}
-
-value_of-unseen : (f : Memory → Memory) (u : IsUnseen f) (g : Guest) (override : Option SegmentRegister) (o : Operand) → value_of (changed f g) override o ≡ value_of g override o
-unfolding value_of
-value_of-unseen f u g override operand.Nothing = refl
-value_of-unseen f u g override (operand.ByteRegister r) = refl
-value_of-unseen f u g override (operand.WordRegister r) = refl
-value_of-unseen f u g override (operand.SegmentRegister r) = refl
-value_of-unseen f u g override (operand.Memory memory.Byte a) = simp (u.a20, u.peek_same)
-value_of-unseen f u g override (operand.Memory memory.Word a) = simp (u.a20, u.peek_same)
-value_of-unseen f u g override (operand.ByteValue n) = refl
-value_of-unseen f u g override (operand.WordValue n) = refl
-value_of-unseen f u g override operand.One = refl
-value_of-unseen f u g override (operand.Target n) = refl
-value_of-unseen f u g override (operand.FarTarget n s) = refl
-
-with_operand-unseen : (f : Memory → Memory) (u : IsUnseen f) (g : Guest) (override : Option SegmentRegister) (o : Operand) (v : ℕ) → with_operand (changed f g) override o v ≡ changed f (with_operand g override o v)
-unfolding with_operand
-with_operand-unseen f u g override operand.Nothing v = refl
-with_operand-unseen f u g override (operand.ByteRegister r) v = refl
-with_operand-unseen f u g override (operand.WordRegister r) v = refl
-with_operand-unseen f u g override (operand.SegmentRegister r) v = refl
-with_operand-unseen f u g override (operand.Memory memory.Byte a) v = simp (u.a20, u.poke_same)
-with_operand-unseen f u g override (operand.Memory memory.Word a) v = simp (u.a20, u.poke_same)
-with_operand-unseen f u g override (operand.ByteValue n) v = refl
-with_operand-unseen f u g override (operand.WordValue n) v = refl
-with_operand-unseen f u g override operand.One v = refl
-with_operand-unseen f u g override (operand.Target n) v = refl
-with_operand-unseen f u g override (operand.FarTarget n s) v = refl
-
-far_segment_of-unseen : (f : Memory → Memory) (u : IsUnseen f) (g : Guest) (override : Option SegmentRegister) (o : Operand) → far_segment_of (changed f g) override o ≡ far_segment_of g override o
-unfolding far_segment_of
-far_segment_of-unseen f u g override (operand.Memory w a) = simp (u.a20, u.peek_same)
-far_segment_of-unseen f u g override _ = refl
-
-value_in-unseen : (f : Memory → Memory) (u : IsUnseen f) (w : Width) (g : Guest) (override : Option SegmentRegister) (o : Operand) → value_in w (changed f g) override o ≡ value_in w g override o
-unfolding value_in
-value_in-unseen f u w g override o = simp (value_of-unseen f u)
-
-read_in-unseen : (f : Memory → Memory) (u : IsUnseen f) (w : Width) (m : Memory) (s o : ℕ) → read_in w (f m) s o ≡ read_in w m s o
-unfolding read_in
-read_in-unseen f u Byte m s o = simp (u.a20, u.peek_same)
-read_in-unseen f u Word m s o = simp (u.a20, u.peek_same)
-
-written_in-unseen : (f : Memory → Memory) (u : IsUnseen f) (w : Width) (m : Memory) (s o v : ℕ) → written_in w (f m) s o v ≡ f (written_in w m s o v)
-unfolding written_in
-written_in-unseen f u Byte m s o v = simp (u.a20, u.poke_same)
-written_in-unseen f u Word m s o v = simp (u.a20, u.poke_same)
-
-push-unseen : (f : Memory → Memory) (u : IsUnseen f) (g : Guest) (v : ℕ) → push (changed f g) v ≡ changed f (push g v)
-unfolding push
-push-unseen f u g v = simp (u.a20, u.poke_same)
+use Rattle.dm_cpu.specs.Unseen.{changed}
+use Rattle.dm_cpu.proofs.Unseen.{value_of-unseen, with_operand-unseen, far_segment_of-unseen, value_in-unseen, read_in-unseen, written_in-unseen, push-unseen, interrupt_return-unseen, far_returned-unseen}
+use Rattle.dm_exec.specs.Unseen.{IgnoresUnseen}
 
 through_vector-unseen : (f : Memory → Memory) (u : IsUnseen f) (g : Guest) (n : ℕ) → through_vector (changed f g) n ≡ changed f (through_vector g n)
 unfolding through_vector
@@ -105,10 +53,6 @@ through_vector-unseen f u g n = simp (u.a20, u.peek_same)
 interrupt-unseen : (f : Memory → Memory) (u : IsUnseen f) (g : Guest) (n : ℕ) → interrupt (changed f g) n ≡ changed f (interrupt g n)
 unfolding interrupt
 interrupt-unseen f u g n = simp (push-unseen f u, through_vector-unseen f u)
-
-pub interrupt_return-unseen : (f : Memory → Memory) (u : IsUnseen f) (g : Guest) → interrupt_return (changed f g) ≡ changed f (interrupt_return g)
-unfolding interrupt_return
-interrupt_return-unseen f u g = simp (u.a20, u.peek_same)
 
 pushed_value-unseen : (f : Memory → Memory) (u : IsUnseen f) (g : Guest) (override : Option SegmentRegister) (o : Operand) → pushed_value (changed f g) override o ≡ pushed_value g override o
 unfolding pushed_value
@@ -278,10 +222,6 @@ far_called-unseen f u g override o = simp (value_of-unseen f u, far_segment_of-u
 returned-unseen : (f : Memory → Memory) (u : IsUnseen f) (g : Guest) (n : ℕ) → returned (changed f g) n ≡ changed f (returned g n)
 unfolding returned
 returned-unseen f u g n = simp (u.a20, u.peek_same)
-
-far_returned-unseen : (f : Memory → Memory) (u : IsUnseen f) (g : Guest) (n : ℕ) → far_returned (changed f g) n ≡ changed f (far_returned g n)
-unfolding far_returned
-far_returned-unseen f u g n = simp (u.a20, u.peek_same)
 
 transferred-unseen : (f : Memory → Memory) (u : IsUnseen f) (g : Guest) (override : Option SegmentRegister) (x : TransferOperation) (o : Operand) → transferred (changed f g) override x o ≡ changed f (transferred g override x o)
 unfolding transferred

@@ -1,7 +1,3 @@
-pub mod Cpu
-pub mod Guest
-pub mod Operands
-pub mod Values
 pub mod Operation
 pub mod Moves
 pub mod Stack

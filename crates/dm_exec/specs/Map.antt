@@ -2,7 +2,7 @@
 use Rattle.std.specs.Prelude.{ℕ}
 use Rattle.dm_space.specs.Places.{IsShaped}
 use Rattle.dm_ins.specs.declared.ins.Ins.{Ins}
-use Rattle.dm_exec.specs.Guest.{Guest}
+use Rattle.dm_cpu.specs.Guest.{Guest}
 use Rattle.dm_exec.specs.Effect.{effect}
 
 -- A20, the windows, and which blocks there are, where they lie and how large they are: each instruction keeps them

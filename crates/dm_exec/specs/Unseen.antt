@@ -3,11 +3,9 @@ use Rattle.std.specs.Prelude.{◌≡◌, ℕ}
 use Rattle.dm_space.specs.Memory.{Memory}
 use Rattle.dm_space.specs.Unseen.{IsUnseen}
 use Rattle.dm_ins.specs.declared.ins.Ins.{Ins}
-use Rattle.dm_exec.specs.Guest.{Guest}
+use Rattle.dm_cpu.specs.Guest.{Guest}
+use Rattle.dm_cpu.specs.Unseen.{changed}
 use Rattle.dm_exec.specs.Effect.{effect}
-
-abbrev pub changed : (Memory → Memory) → Guest → Guest
-changed change g = record g { memory = change g.memory }
 
 -- no instruction depends on what is unseen, or changes it
 abbrev pub IgnoresUnseen : Type 0

@@ -2,8 +2,8 @@
 ghost use Rattle.std.specs.Prelude.{◌≡◌};
 ghost use Rattle.dm_exec.specs.Adjustments.{adjusted};
 
-use crate::cpu::Cpu;
 use dm_alu::{Adjustment, adjust};
+use dm_cpu::Cpu;
 
 /// Adjusts the accumulator.
 #[inline(never)]

@@ -2,9 +2,9 @@
 ghost use Rattle.std.specs.Prelude.{◌≡◌};
 ghost use Rattle.dm_exec.specs.Control.{flags_changed};
 
-use crate::cpu::Cpu;
 use crate::operation::FlagOperation;
 use dm_alu::Flags;
+use dm_cpu::Cpu;
 
 /// The flags after an instruction that changes one of them.
 #[tactic(auto, unfolding(crate::specs::Control::flags_changed))]

@@ -1,12 +1,12 @@
 //! One instruction.
 ghost use Rattle.std.specs.Prelude.{◌≡◌};
-ghost use Rattle.dm_exec.specs.Guest.{guest};
+ghost use Rattle.dm_cpu.specs.Guest.{guest};
 ghost use Rattle.dm_exec.specs.Effect.{act, effect, next_of};
 ghost use Rattle.dm_exec.specs.Operation.{operation_of};
 
-use crate::cpu::Cpu;
 use crate::operation::{Operation, operation_of};
 use crate::{adjustments, arithmetic, control, jumps, moves, products, shifts, stack, strings};
+use dm_cpu::Cpu;
 use dm_ins::{Ins, Mnemonic};
 use dm_space::Space;
 

@@ -1,26 +1,20 @@
-//! The processor: registers, and what each instruction does to them and to memory.
+//! What each instruction does to registers and memory.
 #![tactic(auto)]
 
 mod adjustments;
 mod arithmetic;
 mod control;
-mod cpu;
 mod effect;
 mod jumps;
 mod laws;
 mod moves;
-mod operands;
 mod operation;
 mod products;
 mod shifts;
 mod stack;
 mod strings;
-mod values;
 mod widths;
 
-pub use cpu::Cpu;
-pub use dm_alu::Flags;
+pub use dm_cpu::{Cpu, Flags, far_return, interrupt_return};
 pub use effect::{Next, exec};
-pub use jumps::far_return;
 pub use laws::{halt_changes_nothing, ignores_unseen, keeps_the_map};
-pub use stack::interrupt_return;

@@ -1,12 +1,12 @@
 //! MUL, IMUL, DIV and IDIV.
 ghost use Rattle.std.specs.Prelude.{◌≡◌, ◌<◌, ◌*◌};
 ghost use Rattle.dm_alu.specs.Width.{size};
-ghost use Rattle.dm_exec.specs.Guest.{guest};
+ghost use Rattle.dm_cpu.specs.Guest.{guest};
 ghost use Rattle.dm_exec.specs.Products.{double_of, with_double, multiplied, with_division, after_division, divided};
 
-use crate::cpu::Cpu;
-use crate::{stack, values};
+use crate::stack;
 use dm_alu::{Division, Sign, Width, div, mul};
+use dm_cpu::{Cpu, values};
 use dm_ins::Ins;
 use dm_space::Space;
 

@@ -3,13 +3,14 @@ use Rattle.std.proofs.Common.{◌≡◌, ℕ, ◌+◌, ◌≤◌, arith, Option,
 use Rattle.dm_space.specs.Memory.{Memory}
 use Rattle.dm_space.specs.Unseen.{unseen_as, IsUnseen}
 use Rattle.dm_ins.specs.declared.ins.Ins.{Ins}
-use Rattle.dm_exec.specs.declared.cpu.Cpu.{Cpu}
+use Rattle.dm_cpu.specs.declared.cpu.Cpu.{Cpu}
 use Rattle.dm_exec.specs.declared.effect.Next.{Next}
 use Rattle.dm_exec.specs.declared.effect.Next.TheVariants.{Go, Halt}
-use Rattle.dm_exec.specs.Guest.{Guest, guest}
+use Rattle.dm_cpu.specs.Guest.{Guest, guest}
 use Rattle.dm_exec.specs.Effect.{effect, next_of}
-use Rattle.dm_exec.specs.Unseen.{changed}
-use Rattle.dm_exec.proofs.Unseen.{effect-unseen, interrupt_return-unseen}
+use Rattle.dm_cpu.specs.Unseen.{changed}
+use Rattle.dm_cpu.proofs.Unseen.{interrupt_return-unseen}
+use Rattle.dm_exec.proofs.Unseen.{effect-unseen}
 use Rattle.dm_space.proofs.Unseen.{pages-unseen}
 use Rattle.dm_state.specs.declared.stop.Stop.{Stop}
 use Rattle.dm_state.specs.declared.stop.Stop.TheVariants.{Memory as NoMemory}

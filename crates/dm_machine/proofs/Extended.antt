@@ -6,7 +6,7 @@ use Rattle.dm_space.specs.Unseen.{shows, mixed, unseen_as}
 use Rattle.dm_space.proofs.Unseen.{pages-unseen}
 use Rattle.dm_exec.specs.declared.effect.Next.{Next}
 use Rattle.dm_exec.specs.declared.effect.Next.TheVariants.{Go, Halt}
-use Rattle.dm_exec.specs.Guest.{Guest}
+use Rattle.dm_cpu.specs.Guest.{Guest}
 use Rattle.dm_exec.specs.Effect.{next_of}
 use Rattle.dm_xms.specs.declared.tables.Handle.{Handle}
 use Rattle.dm_xms.specs.Linked.{handle_at}

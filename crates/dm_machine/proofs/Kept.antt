@@ -9,9 +9,9 @@ use Rattle.dm_space.proofs.Places.{shaped-same, shaped-then}
 use Rattle.dm_space.proofs.Unseen.{pages-unseen}
 use Rattle.dm_exec.specs.declared.effect.Next.{Next}
 use Rattle.dm_exec.specs.declared.effect.Next.TheVariants.{Go, Halt}
-use Rattle.dm_exec.specs.Guest.{Guest, guest}
+use Rattle.dm_cpu.specs.Guest.{Guest, guest}
 use Rattle.dm_exec.specs.Effect.{next_of}
-use Rattle.dm_exec.specs.Stack.{interrupt_return}
+use Rattle.dm_cpu.specs.Stack.{interrupt_return}
 use Rattle.dm_exec.proofs.Map.{effect-kept}
 use Rattle.dm_state.specs.declared.stop.Stop.{Stop}
 use Rattle.dm_state.specs.declared.stop.Stop.TheVariants.{Memory as NoMemory}

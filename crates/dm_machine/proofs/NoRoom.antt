@@ -3,7 +3,7 @@ use Rattle.std.proofs.Common.{◌≡◌, List, ℕ, length, Option, Some, refl, 
 use Rattle.dm_space.specs.Memory.{Memory}
 use Rattle.dm_load.specs.Image.{IsGood}
 use Rattle.dm_proc.specs.declared.refusal.Refusal.{Refusal}
-use Rattle.dm_exec.specs.declared.cpu.Cpu.{Cpu}
+use Rattle.dm_cpu.specs.declared.cpu.Cpu.{Cpu}
 use Rattle.dm_proc.specs.Programs.{program_of}
 use Rattle.dm_proc.specs.Request.{Passed}
 use Rattle.dm_proc.specs.Environment.{environment}

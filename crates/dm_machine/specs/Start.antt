@@ -9,7 +9,7 @@ use Rattle.dm_space.specs.Start.{IsStart}
 use Rattle.dm_ems.specs.Tables.{new_tables}
 use Rattle.dm_xms.specs.Tables as xms
 use Rattle.dm_alu.specs.declared.flags.Flags.{Flags}
-use Rattle.dm_exec.specs.declared.cpu.Cpu.{Cpu}
+use Rattle.dm_cpu.specs.declared.cpu.Cpu.{Cpu}
 use Rattle.dm_arena.specs.declared.fit.Area.TheVariants.{All}
 use Rattle.dm_arena.specs.declared.fit.Fit.TheVariants.{First}
 use Rattle.dm_load.specs.Image.{IsGood}

@@ -9,7 +9,7 @@ mod quick;
 mod steps;
 mod until;
 
-pub use dm_exec::{Cpu, Flags};
+pub use dm_cpu::{Cpu, Flags};
 pub use dm_out::{Failed, Out};
 pub use dm_pool::Sizes;
 pub use dm_proc::{AddError, Programs};

@@ -10,7 +10,7 @@ use Rattle.dm_arena.specs.Pair.{Placed}
 use Rattle.dm_arena.proofs.OneAnswer.{resizing_unique, releasing_unique}
 use Rattle.dm_arena.proofs.OnePair.{pairing_unique, pair_refused}
 use Rattle.dm_load.specs.Image.{IsGood, relocated}
-use Rattle.dm_exec.specs.declared.cpu.Cpu.{Cpu}
+use Rattle.dm_cpu.specs.declared.cpu.Cpu.{Cpu}
 use Rattle.dm_proc.specs.declared.parent.Parent.{Parent}
 use Rattle.dm_proc.specs.declared.parent.Ending.{Ending}
 use Rattle.dm_proc.specs.declared.parent.Ending.TheVariants.{Returned, Exited}

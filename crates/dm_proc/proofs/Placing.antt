@@ -7,7 +7,7 @@ use Rattle.dm_arena.specs.Pair.{Planned, IsPair, IsPlannedOn}
 use Rattle.dm_load.specs.Image.{is_mz}
 use Rattle.dm_proc.specs.Request.{action, NamesGood, Passed, environment_segment}
 use Rattle.dm_proc.specs.Environment.{AreVariables, IsMade, environment}
-use Rattle.dm_exec.specs.declared.cpu.Cpu.{Cpu}
+use Rattle.dm_cpu.specs.declared.cpu.Cpu.{Cpu}
 use Rattle.dm_proc.specs.Room.{paragraphs, least, most}
 use Rattle.dm_proc.specs.declared.refusal.Refusal.{Refusal}
 use Rattle.dm_arena.specs.Pair.{Placed, placed_of}

@@ -9,9 +9,9 @@ use Rattle.dm_arena.specs.Pair.{Placed}
 use Rattle.dm_arena.proofs.Unseen.{pair-unseen, pairing-unseen, releasing-unseen, resizing-unseen}
 use Rattle.dm_load.specs.declared.format.FarPointer.{FarPointer}
 use Rattle.dm_load.specs.Image.{relocated}
-use Rattle.dm_exec.specs.declared.cpu.Cpu.{Cpu}
-use Rattle.dm_exec.specs.Guest.{Guest, guest}
-use Rattle.dm_exec.proofs.Unseen.{interrupt_return-unseen}
+use Rattle.dm_cpu.specs.declared.cpu.Cpu.{Cpu}
+use Rattle.dm_cpu.specs.Guest.{Guest, guest}
+use Rattle.dm_cpu.proofs.Unseen.{interrupt_return-unseen}
 use Rattle.dm_proc.specs.declared.parent.Ending.{Ending}
 use Rattle.dm_proc.specs.declared.refusal.Refusal.{Refusal}
 use Rattle.dm_proc.specs.declared.refusal.Refusal.TheVariants.{Function, NotFound, BadFormat, Environment, Destroyed, Short}

@@ -9,9 +9,9 @@ use Rattle.dm_blocks.specs.Chain.{first_header, Becomes}
 use Rattle.dm_arena.specs.Pair.{Planned, IsPair, IsPlannedOn, paired}
 use Rattle.dm_arena.specs.Owned.{Releases, Resizes}
 use Rattle.dm_load.specs.Image.{relocated}
-use Rattle.dm_exec.specs.declared.cpu.Cpu.{Cpu}
-use Rattle.dm_exec.specs.Guest.{guest}
-use Rattle.dm_exec.specs.Stack.{interrupt_return}
+use Rattle.dm_cpu.specs.declared.cpu.Cpu.{Cpu}
+use Rattle.dm_cpu.specs.Guest.{guest}
+use Rattle.dm_cpu.specs.Stack.{interrupt_return}
 use Rattle.dm_proc.specs.declared.parent.Parent.{Parent}
 use Rattle.dm_proc.specs.declared.refusal.Refusal.{Refusal}
 use Rattle.dm_proc.specs.declared.refusal.Refusal.TheVariants.{Function, NotFound, BadFormat, Environment, Destroyed, Short}

@@ -5,7 +5,7 @@ use Rattle.dm_space.specs.Memory.{Memory, linear, peek, peek16}
 use Rattle.dm_space.specs.EightBytes.{byte_after}
 use Rattle.dm_load.specs.declared.format.FarPointer.{FarPointer}
 use Rattle.dm_load.specs.Image.{IsGood}
-use Rattle.dm_exec.specs.declared.cpu.Cpu.{Cpu}
+use Rattle.dm_cpu.specs.declared.cpu.Cpu.{Cpu}
 use Rattle.dm_proc.specs.declared.refusal.Refusal.{Refusal}
 use Rattle.dm_proc.specs.declared.refusal.Refusal.TheVariants.{NotFound, BadFormat}
 use Rattle.dm_proc.specs.Programs.{program_of}

@@ -3,7 +3,7 @@
 use Rattle.std.specs.Prelude.{ℕ, ◌+◌, ◌-◌, ◌*◌, ◌/◌, ◌%◌, min, Bool, true, false, if◌then◌else◌, List, [], ◌∷◌, ◌++◌, length, replicate}
 use Rattle.dm_space.specs.Memory.{Memory, linear}
 use Rattle.dm_load.specs.declared.format.FarPointer.{FarPointer}
-use Rattle.dm_exec.specs.declared.cpu.Cpu.{Cpu}
+use Rattle.dm_cpu.specs.declared.cpu.Cpu.{Cpu}
 use Rattle.dm_alu.specs.declared.flags.Flags.{Flags}
 use Rattle.dm_load.specs.Image.{is_mz, relocated, code, stack}
 use Rattle.dm_arena.specs.Pair.{Placed}

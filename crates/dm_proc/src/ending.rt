@@ -9,7 +9,7 @@ use crate::refusal::ArenaDestroyed;
 use crate::writes::write_from;
 use arrayvec::ArrayVec;
 use dm_arena::{Refusal, free_all, resize};
-use dm_exec::Cpu;
+use dm_cpu::Cpu;
 use dm_space::Space;
 
 /// Puts the vectors 22h to 24h back that a process's prefix keeps.

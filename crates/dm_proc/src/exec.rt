@@ -12,7 +12,7 @@ use crate::programs::Programs;
 use crate::refusal::Refusal;
 use crate::request::{arguments_at, asked_program, environment_segment};
 use dm_arena::Strategy;
-use dm_exec::{Cpu, interrupt_return};
+use dm_cpu::{Cpu, interrupt_return};
 use dm_load::Image;
 use dm_space::Space;
 

@@ -20,7 +20,7 @@ use crate::refusal::Refusal;
 use crate::room::{least, most};
 use crate::writes::{write_bytes, write_from, write_scratch};
 use dm_arena::{Pair, Strategy, plan_pair, write_pair};
-use dm_exec::{Cpu, Flags};
+use dm_cpu::{Cpu, Flags};
 use dm_load::{FarPointer, Image, Kind};
 use dm_space::Space;
 

@@ -6,7 +6,7 @@ use crate::launch::write_image;
 use crate::programs::Programs;
 use crate::refusal::Refusal;
 use crate::request::asked_program;
-use dm_exec::Cpu;
+use dm_cpu::Cpu;
 use dm_space::Space;
 
 /// Loads an overlay (function 4Bh, AL = 3): the image of the program named at DS:DX is written from

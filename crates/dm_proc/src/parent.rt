@@ -1,6 +1,6 @@
 //! Processes that wait for a child.
 
-use dm_exec::{Cpu, Flags};
+use dm_cpu::{Cpu, Flags};
 
 /// A process that waits for its child: the segment of its program segment prefix, and the registers
 /// that it goes on with, as the call that started the child leaves them.

@@ -4,7 +4,7 @@ ghost use Rattle.dm_proc.specs.Processes.{GoesOn};
 
 use crate::parent::{Ending, Parent};
 use arrayvec::ArrayVec;
-use dm_exec::Cpu;
+use dm_cpu::Cpu;
 use std::marker::Model;
 
 /// The processes that are alive: at most sixteen.

@@ -8,7 +8,7 @@ use crate::programs::Programs;
 use crate::psp::push_guest;
 use crate::refusal::Refusal;
 use arrayvec::ArrayVec;
-use dm_exec::Cpu;
+use dm_cpu::Cpu;
 use dm_load::{BadFormat, FarPointer, Image};
 use dm_space::Space;
 

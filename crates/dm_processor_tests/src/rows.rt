@@ -15,11 +15,11 @@
 use crate::checks::same;
 use crate::kinds::{FORMS, number_of};
 use crate::memory::new_space;
+use dm_cpu::Registers;
 use dm_decode::decode;
 use dm_exec::{Cpu, Flags, Next, exec};
 use dm_forms::{form_of, perform};
 use dm_ins::{Ins, Mnemonic};
-use dm_registers::Registers;
 use dm_space::Space;
 use std::alloc::Global;
 use std::process::Abort;

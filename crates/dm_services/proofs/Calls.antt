@@ -1,7 +1,7 @@
 -- The calls that allocate, from what the arena answers
 use Rattle.std.proofs.Common.{◌≡◌, ℕ, Bool, None, Ok, Err, true, false, ◌∙◌, ap, subst}
 use Rattle.dm_space.specs.Memory.{Memory}
-use Rattle.dm_exec.specs.declared.cpu.Cpu.{Cpu}
+use Rattle.dm_cpu.specs.declared.cpu.Cpu.{Cpu}
 use Rattle.dm_arena.specs.declared.refusal.Refusal.{Refusal}
 use Rattle.dm_arena.specs.Allocation.{Allocates}
 use Rattle.dm_arena.specs.Owned.{Frees, Resizes}

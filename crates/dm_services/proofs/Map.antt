@@ -6,8 +6,8 @@ use Rattle.dm_space.proofs.Places.{shaped-same}
 use Rattle.dm_ins.specs.declared.operand.ByteRegister.TheVariants.{Al, Dl, Ah}
 use Rattle.dm_arena.specs.declared.refusal.Refusal.{Refusal}
 use Rattle.dm_arena.specs.declared.fit.Strategy.{Strategy}
-use Rattle.dm_exec.specs.declared.cpu.Cpu.{Cpu}
-use Rattle.dm_exec.specs.Cpu.{byte_of}
+use Rattle.dm_cpu.specs.declared.cpu.Cpu.{Cpu}
+use Rattle.dm_cpu.specs.Cpu.{byte_of}
 use Rattle.dm_services.specs.declared.services.Service.{Service}
 use Rattle.dm_services.specs.declared.services.Service.TheVariants as service
 use Rattle.dm_services.specs.declared.services.Service.TheVariants.{DivideError, Dos}

@@ -4,9 +4,9 @@ use Rattle.dm_space.specs.Memory.{Memory, poke, poke16, linear}
 use Rattle.dm_space.specs.Buffers.{with_bytes}
 use Rattle.dm_space.specs.Places.{IsShaped}
 use Rattle.dm_space.proofs.Places.{shaped-same, shaped-then, poke-shaped}
-use Rattle.dm_exec.specs.declared.cpu.Cpu.{Cpu}
-use Rattle.dm_exec.specs.Guest.{guest}
-use Rattle.dm_exec.specs.Stack.{interrupt_return}
+use Rattle.dm_cpu.specs.declared.cpu.Cpu.{Cpu}
+use Rattle.dm_cpu.specs.Guest.{guest}
+use Rattle.dm_cpu.specs.Stack.{interrupt_return}
 use Rattle.dm_arena.specs.declared.fit.Strategy.{Strategy}
 use Rattle.dm_arena.specs.declared.refusal.Refusal.{Refusal as ArenaRefusal}
 use Rattle.dm_arena.specs.Allocation.{Allocates}

@@ -3,8 +3,8 @@ use Rattle.std.proofs.Common.{◌≡◌, ℕ, Bool, true, false, Option, Some, N
 use Rattle.dm_space.specs.Memory.{Memory}
 use Rattle.dm_space.specs.Unseen.{IsUnseen}
 use Rattle.dm_ins.specs.declared.operand.ByteRegister.TheVariants.{Al, Ah}
-use Rattle.dm_exec.specs.declared.cpu.Cpu.{Cpu}
-use Rattle.dm_exec.specs.Cpu.{byte_of}
+use Rattle.dm_cpu.specs.declared.cpu.Cpu.{Cpu}
+use Rattle.dm_cpu.specs.Cpu.{byte_of}
 use Rattle.dm_services.specs.declared.services.Service.{Service}
 use Rattle.dm_services.specs.declared.services.Service.TheVariants as service
 use Rattle.dm_services.specs.declared.services.Service.TheVariants.{DivideError, Dos}

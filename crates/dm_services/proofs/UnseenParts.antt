@@ -2,10 +2,10 @@
 use Rattle.std.proofs.Common.{◌≡◌, ℕ, suc, zero, ◌%◌, Bool, true, false, cond, List, [], ◌∷◌, refl, ◌∙◌, ap}
 use Rattle.dm_space.specs.Memory.{Memory, peek, poke, linear}
 use Rattle.dm_space.specs.Unseen.{IsUnseen}
-use Rattle.dm_exec.specs.declared.cpu.Cpu.{Cpu}
-use Rattle.dm_exec.specs.Guest.{guest}
-use Rattle.dm_exec.specs.Stack.{interrupt_return}
-use Rattle.dm_exec.proofs.Unseen.{interrupt_return-unseen}
+use Rattle.dm_cpu.specs.declared.cpu.Cpu.{Cpu}
+use Rattle.dm_cpu.specs.Guest.{guest}
+use Rattle.dm_cpu.specs.Stack.{interrupt_return}
+use Rattle.dm_cpu.proofs.Unseen.{interrupt_return-unseen}
 use Rattle.dm_proc.specs.Writes.{bytes_from}
 use Rattle.dm_state.specs.State.{Answer}
 use Rattle.dm_space.specs.Buffers.{with_bytes}

@@ -3,7 +3,7 @@
 -- Input and output are redirected byte streams: there is no Ctrl-C check. What comes where no input is left is this
 -- machine's own: 01h, 07h and 08h stop it.
 use Rattle.std.specs.Prelude.{ℕ, ◌==◌, Bool, true, false, if◌then◌else◌, List, [], ◌∷◌}
-use Rattle.dm_exec.specs.Cpu.{byte_of, with_byte}
+use Rattle.dm_cpu.specs.Cpu.{byte_of, with_byte}
 use Rattle.dm_ins.specs.declared.operand.ByteRegister.TheVariants.{Al, Dl}
 use Rattle.dm_state.specs.declared.stop.Stop.TheVariants.{InputEnded}
 use Rattle.dm_state.specs.State.{State, Answer, go, stop_at, returned}

@@ -1,7 +1,7 @@
 -- INT 21h function 0Ch: MS-DOS Programmer's Reference, "Flush Buffer, Read Keyboard". Input is a redirected byte stream:
 -- there is nothing to flush.
 use Rattle.std.specs.Prelude.{ℕ, ◌==◌, if◌then◌else◌}
-use Rattle.dm_exec.specs.Cpu.{byte_of}
+use Rattle.dm_cpu.specs.Cpu.{byte_of}
 use Rattle.dm_ins.specs.declared.operand.ByteRegister.TheVariants.{Al}
 use Rattle.dm_state.specs.State.{State, Answer, go, returned}
 use Rattle.dm_services.specs.Characters.{with_al, echo_character, direct_character, read_character}

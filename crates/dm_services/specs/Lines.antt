@@ -3,7 +3,7 @@
 use Rattle.std.specs.Prelude.{ℕ, ◌+◌, ◌-◌, ◌==◌, not, if◌then◌else◌, List, [], ◌∷◌, ◌++◌, take, drop, length, Option, Some, None}
 use Rattle.std.specs.List.{filter, position}
 use Rattle.dm_space.specs.Memory.{Memory, linear, peek}
-use Rattle.dm_exec.specs.Guest.{up}
+use Rattle.dm_cpu.specs.Guest.{up}
 use Rattle.dm_state.specs.declared.stop.Stop.TheVariants.{InputEnded}
 use Rattle.dm_state.specs.State.{State, Answer, go, stop_at, returned}
 use Rattle.dm_space.specs.Buffers.{with_bytes}

@@ -3,8 +3,8 @@
 -- environment) and 11 (bad format).
 use Rattle.std.specs.Prelude.{◌≡◌, ℕ, ◌==◌, Bool, true, false, Some, Result, Ok, Err}
 use Rattle.dm_space.specs.Memory.{Memory}
-use Rattle.dm_exec.specs.declared.cpu.Cpu.{Cpu}
-use Rattle.dm_exec.specs.Cpu.{byte_of}
+use Rattle.dm_cpu.specs.declared.cpu.Cpu.{Cpu}
+use Rattle.dm_cpu.specs.Cpu.{byte_of}
 use Rattle.dm_ins.specs.declared.operand.ByteRegister.TheVariants.{Al}
 use Rattle.dm_proc.specs.declared.refusal.Refusal.{Refusal}
 use Rattle.dm_proc.specs.declared.refusal.Refusal.TheVariants.{Function, NotFound, BadFormat, Environment, Destroyed, Short}

@@ -1,8 +1,8 @@
 -- The services, and where they act: MS-DOS Programmer's Reference, "System Calls"; Intel 8086 Family User's Manual,
 -- section 2.6 (interrupt 0). The addresses are this machine's own.
 use Rattle.std.specs.Prelude.{ℕ, ◌==◌, if◌then◌else◌, Option, Some, None}
-use Rattle.dm_exec.specs.declared.cpu.Cpu.{Cpu}
-use Rattle.dm_exec.specs.Cpu.{byte_of}
+use Rattle.dm_cpu.specs.declared.cpu.Cpu.{Cpu}
+use Rattle.dm_cpu.specs.Cpu.{byte_of}
 use Rattle.dm_ins.specs.declared.operand.ByteRegister.TheVariants.{Ah}
 use Rattle.dm_services.specs.declared.services.Service.{Service}
 use Rattle.dm_services.specs.declared.services.Service.TheVariants.{DivideError, Terminate, Dos}

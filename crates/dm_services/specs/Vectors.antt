@@ -2,7 +2,7 @@
 -- Vector n is the words offset and segment at 0000:4n (Intel 8086 Family User's Manual, section 2.6).
 use Rattle.std.specs.Prelude.{ℕ, ◌+◌, ◌*◌}
 use Rattle.dm_space.specs.Memory.{Memory, peek16, poke16}
-use Rattle.dm_exec.specs.Cpu.{byte_of}
+use Rattle.dm_cpu.specs.Cpu.{byte_of}
 use Rattle.dm_ins.specs.declared.operand.ByteRegister.TheVariants.{Al}
 use Rattle.dm_state.specs.State.{State, Answer, go, returned}
 

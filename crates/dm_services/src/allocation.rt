@@ -4,7 +4,7 @@ ghost use Rattle.std.specs.Prelude.{◌≡◌};
 ghost use Rattle.dm_services.specs.Allocation.{answered, refused, Allocation, Freeing, Resizing};
 
 use dm_arena::Refusal;
-use dm_exec::Cpu;
+use dm_cpu::Cpu;
 use dm_state::Parts;
 
 /// Puts the error into AX and, where there is not enough memory, how many paragraphs there are into

@@ -1,6 +1,6 @@
 //! The functions of INT 21h (MS-DOS Programmer's Reference, "System Calls").
 ghost use Rattle.std.specs.Prelude.{◌≡◌};
-ghost use Rattle.dm_exec.specs.Cpu.{byte_of};
+ghost use Rattle.dm_cpu.specs.Cpu.{byte_of};
 ghost use Rattle.dm_ins.specs.declared.operand.ByteRegister.TheVariants.{Ah};
 ghost use Rattle.dm_state.specs.State.{HasProgram};
 ghost use Rattle.dm_services.specs.Functions.{function_of, no_function, Calls};

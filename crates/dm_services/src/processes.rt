@@ -1,7 +1,7 @@
 //! INT 21h functions 00h, 31h, 4Bh, 4Ch and 4Dh: programs that start programs, and end
 //! (MS-DOS Programmer's Reference, "System Calls").
 ghost use Rattle.std.specs.Prelude.{◌≡◌, ◌<◌};
-ghost use Rattle.dm_exec.specs.Cpu.{byte_of};
+ghost use Rattle.dm_cpu.specs.Cpu.{byte_of};
 ghost use Rattle.dm_ins.specs.declared.operand.ByteRegister.TheVariants.{Al};
 ghost use Rattle.dm_state.specs.State.{HasProgram};
 ghost use Rattle.dm_services.specs.Processes.{concluded, not_loaded, Executing, Overlaying, Loading, Terminating, Keeping, tell_code};

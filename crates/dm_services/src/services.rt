@@ -6,7 +6,7 @@ ghost use Rattle.dm_services.specs.Wanting.{OrWants};
 
 use crate::functions::dos_call;
 use crate::processes::terminate;
-use dm_exec::Cpu;
+use dm_cpu::Cpu;
 use dm_state::{Parts, Stop};
 
 /// What acts in place of the code at a CS:IP pair.

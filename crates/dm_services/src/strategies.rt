@@ -1,7 +1,7 @@
 //! INT 21h function 58h: the allocation strategy, and the link with upper memory (MS-DOS Programmer's
 //! Reference, function 58h).
 ghost use Rattle.std.specs.Prelude.{◌≡◌, None};
-ghost use Rattle.dm_exec.specs.Cpu.{byte_of};
+ghost use Rattle.dm_cpu.specs.Cpu.{byte_of};
 ghost use Rattle.dm_ins.specs.declared.operand.ByteRegister.TheVariants.{Al};
 ghost use Rattle.dm_services.specs.Strategies;
 ghost use Rattle.dm_services.specs.Strategies.{Linking, SetsLink, StrategyCalls, TellsLink};

@@ -9,10 +9,10 @@ use Rattle.dm_xms.specs.Tables.{extended}
 use Rattle.dm_xms.specs.Linked as extended_memory
 use Rattle.dm_xms.specs.Linked.{handle_at}
 use Rattle.dm_xms.specs.declared.tables.Handle.{Handle}
-use Rattle.dm_exec.specs.declared.cpu.Cpu.{Cpu}
-use Rattle.dm_exec.specs.Guest.{Guest, guest}
-use Rattle.dm_exec.specs.Stack.{interrupt_return}
-use Rattle.dm_exec.specs.Jumps as jumps
+use Rattle.dm_cpu.specs.declared.cpu.Cpu.{Cpu}
+use Rattle.dm_cpu.specs.Guest.{Guest, guest}
+use Rattle.dm_cpu.specs.Stack.{interrupt_return}
+use Rattle.dm_cpu.specs.Stack as stack
 use Rattle.dm_console.specs.Streams.{Streams}
 use Rattle.dm_arena.specs.declared.fit.Strategy.{Strategy}
 use Rattle.dm_proc.specs.declared.parent.Parent.{Parent}
@@ -86,7 +86,7 @@ returned s = with_guest s (interrupt_return (guest s.cpu s.memory))
 
 -- IP and CS are popped
 abbrev pub far_returned : State → State
-far_returned s = with_guest s (jumps.far_returned (guest s.cpu s.memory) 0)
+far_returned s = with_guest s (stack.far_returned (guest s.cpu s.memory) 0)
 
 abbrev pub with_carry : State → Bool → State
 with_carry s b = record s { cpu = record s.cpu { flags = record s.cpu.flags { carry = b } } }

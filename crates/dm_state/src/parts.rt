@@ -4,8 +4,8 @@ ghost use Rattle.dm_state.specs.State.{go, returned, far_returned};
 
 use dm_arena::Strategy;
 use dm_console::Console;
+use dm_cpu::{Cpu, far_return, interrupt_return};
 use dm_ems::Ems;
-use dm_exec::{Cpu, far_return, interrupt_return};
 use dm_pool::Sizes;
 use dm_proc::{Procs, Programs};
 use dm_space::Space;

@@ -5,7 +5,7 @@ use Rattle.std.proofs.lemmas.List.{take-append-drop, length-take, take-take}
 use Rattle.dm_space.specs.Memory.{Memory}
 use Rattle.dm_ins.specs.declared.ins.Ins.{Ins}
 use Rattle.dm_decode.proofs.Exact.{no_front}
-use Rattle.dm_exec.specs.declared.cpu.Cpu.{Cpu}
+use Rattle.dm_cpu.specs.declared.cpu.Cpu.{Cpu}
 use Rattle.dm_views.specs.Code.{up, sixteen, listed_line, Stands, IsLine, listed, unlisted, AreLines, none, more, IsCode}
 use Rattle.dm_views.specs.Registers.{fields_text, general, special, IsRegistersText}
 

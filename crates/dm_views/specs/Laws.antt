@@ -1,7 +1,7 @@
 -- What holds of all listings: a listing is one text of one state.
 use Rattle.std.specs.Prelude.{◌≡◌, ℕ, Bool, List}
 use Rattle.dm_space.specs.Memory.{Memory}
-use Rattle.dm_exec.specs.declared.cpu.Cpu.{Cpu}
+use Rattle.dm_cpu.specs.declared.cpu.Cpu.{Cpu}
 use Rattle.dm_views.specs.Registers.{IsRegistersText}
 use Rattle.dm_views.specs.Code.{IsCode}
 use Rattle.dm_views.specs.Arena.{IsArenaText}

@@ -4,7 +4,7 @@ use Rattle.std.specs.Prelude.{◌≡◌, ℕ, List, [], ◌∷◌, ◌++◌, cod
 use Rattle.std.specs.List.{flat_map}
 use Rattle.dm_space.specs.Memory.{Memory}
 use Rattle.dm_alu.specs.Flags.{word_of}
-use Rattle.dm_exec.specs.declared.cpu.Cpu.{Cpu}
+use Rattle.dm_cpu.specs.declared.cpu.Cpu.{Cpu}
 use Rattle.dm_views.specs.declared.registers.Field.{Field}
 use Rattle.dm_views.specs.Digits.{four}
 use Rattle.dm_views.specs.Code.{IsLine}

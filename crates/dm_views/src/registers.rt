@@ -5,7 +5,7 @@ ghost use Rattle.dm_views.specs.Registers.{field_text, fields_text, IsRegistersT
 
 use crate::code::put_line;
 use crate::digits::word_digits;
-use dm_exec::Cpu;
+use dm_cpu::Cpu;
 use dm_space::Space;
 use std::alloc::AllocError;
 

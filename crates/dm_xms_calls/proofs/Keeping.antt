@@ -1,7 +1,7 @@
 -- Calls keep the tables and the memory together, and leave what is outside.
 use Rattle.std.proofs.Common.{Bool, true, false}
 use Rattle.dm_ins.specs.declared.operand.ByteRegister.TheVariants.{Ah}
-use Rattle.dm_exec.specs.Cpu.{byte_of}
+use Rattle.dm_cpu.specs.Cpu.{byte_of}
 use Rattle.dm_xms.specs.Tables.{Extended}
 use Rattle.dm_xms.specs.Linked.{IsLinked}
 use Rattle.dm_xms.specs.Outside.{LeavesOutside}

@@ -1,5 +1,5 @@
 -- The driver and the high memory area (XMS 3.0, functions 00h to 02h).
-use Rattle.dm_exec.specs.declared.cpu.Cpu.{Cpu}
+use Rattle.dm_cpu.specs.declared.cpu.Cpu.{Cpu}
 use Rattle.dm_xms.specs.Area as rows
 use Rattle.dm_xms_calls.specs.Caller.{Caller, after_tables}
 

@@ -1,8 +1,8 @@
 -- Extended memory blocks (XMS 3.0, functions 08h to 0Fh).
 use Rattle.std.specs.Prelude.{ℕ, ◌+◌, ◌*◌, ◌/◌, ◌%◌, Result, Ok, Err}
 use Rattle.dm_ins.specs.declared.operand.ByteRegister.TheVariants.{Bl}
-use Rattle.dm_exec.specs.declared.cpu.Cpu.{Cpu}
-use Rattle.dm_exec.specs.Cpu.{with_byte}
+use Rattle.dm_cpu.specs.declared.cpu.Cpu.{Cpu}
+use Rattle.dm_cpu.specs.Cpu.{with_byte}
 use Rattle.dm_xms.specs.declared.status.Status.{Status}
 use Rattle.dm_xms.specs.declared.blocks.FreeMemory.{FreeMemory}
 use Rattle.dm_xms.specs.declared.blocks.HandleInformation.{HandleInformation}

@@ -2,8 +2,8 @@
 use Rattle.std.specs.Prelude.{ℕ, Result, Ok, Err}
 use Rattle.dm_space.specs.Memory.{Memory}
 use Rattle.dm_ins.specs.declared.operand.ByteRegister.TheVariants.{Bl}
-use Rattle.dm_exec.specs.declared.cpu.Cpu.{Cpu}
-use Rattle.dm_exec.specs.Cpu.{with_byte}
+use Rattle.dm_cpu.specs.declared.cpu.Cpu.{Cpu}
+use Rattle.dm_cpu.specs.Cpu.{with_byte}
 use Rattle.dm_xms.specs.declared.status.Status.{Status}
 use Rattle.dm_xms.specs.Status.{code_of}
 use Rattle.dm_xms.specs.Tables.{Tables, Extended, extended}

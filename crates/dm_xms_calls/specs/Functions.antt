@@ -1,8 +1,8 @@
 -- The functions of the driver: XMS 3.0, functions 00h to 12h.
 use Rattle.std.specs.Prelude.{ℕ, Bool, ◌==◌, if◌then◌else◌}
 use Rattle.dm_ins.specs.declared.operand.ByteRegister.TheVariants.{Ah}
-use Rattle.dm_exec.specs.declared.cpu.Cpu.{Cpu}
-use Rattle.dm_exec.specs.Cpu.{byte_of}
+use Rattle.dm_cpu.specs.declared.cpu.Cpu.{Cpu}
+use Rattle.dm_cpu.specs.Cpu.{byte_of}
 use Rattle.dm_xms_calls.specs.declared.functions.Function.{Function}
 use Rattle.dm_xms_calls.specs.declared.functions.Function.TheVariants.{Version, TakeArea, ReleaseArea, EnableGlobally, DisableGlobally, EnableLocally, DisableLocally, Line, FreeMemory, Allocate, Deallocate, Move, Lock, Unlock, Information, Reallocate, RequestUpper, ReleaseUpper, ResizeUpper, Unknown}
 use Rattle.dm_xms_calls.specs.Caller.{Caller, on_cpu, refused}

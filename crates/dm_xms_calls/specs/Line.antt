@@ -1,6 +1,6 @@
 -- Address line A20 (XMS 3.0, functions 03h to 07h).
 use Rattle.std.specs.Prelude.{if◌then◌else◌}
-use Rattle.dm_exec.specs.declared.cpu.Cpu.{Cpu}
+use Rattle.dm_cpu.specs.declared.cpu.Cpu.{Cpu}
 use Rattle.dm_space.specs.Memory.{Memory}
 use Rattle.dm_xms.specs.Line as rows
 use Rattle.dm_xms_calls.specs.Caller.{Caller, succeeded, refused, after, after_act}

@@ -5,7 +5,7 @@ ghost use Rattle.dm_xms_calls.specs.Caller.{succeeded, refused, settled};
 ghost use Rattle.dm_xms_calls.specs.Blocks.{with_free, with_address, with_information};
 ghost use Rattle.dm_xms_calls.specs.Uppers as uppers;
 
-use dm_exec::Cpu;
+use dm_cpu::Cpu;
 use dm_ins::ByteRegister;
 use dm_xms::{FreeMemory, HandleInformation, Status, Upper, UpperRefusal};
 

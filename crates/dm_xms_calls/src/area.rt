@@ -4,7 +4,7 @@ ghost use Rattle.dm_xms_calls.specs.Caller.{caller};
 ghost use Rattle.dm_xms_calls.specs.Area.{tell_version, take_area, release_area};
 
 use crate::answers::settle;
-use dm_exec::Cpu;
+use dm_cpu::Cpu;
 use dm_space::Space;
 use dm_xms::Xms;
 

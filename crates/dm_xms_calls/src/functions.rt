@@ -12,7 +12,7 @@ use crate::blocks::{
 };
 use crate::line::{disable_globally, disable_locally, enable_globally, enable_locally, tell_line};
 use crate::uppers::{release, request, resize};
-use dm_exec::Cpu;
+use dm_cpu::Cpu;
 use dm_ins::ByteRegister;
 use dm_space::Space;
 use dm_xms::Xms;

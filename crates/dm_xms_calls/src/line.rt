@@ -4,7 +4,7 @@ ghost use Rattle.dm_xms_calls.specs.Caller.{caller};
 ghost use Rattle.dm_xms_calls.specs.Line.{enable_globally, disable_globally, enable_locally, disable_locally, tell_line};
 
 use crate::answers::{refuse, settle, succeed};
-use dm_exec::Cpu;
+use dm_cpu::Cpu;
 use dm_space::Space;
 use dm_xms::Xms;
 

@@ -4,7 +4,7 @@ ghost use Rattle.dm_xms_calls.specs.Caller.{caller};
 ghost use Rattle.dm_xms_calls.specs.Uppers.{request, release, resize};
 
 use crate::answers::{settle_upper, settle_uppers};
-use dm_exec::Cpu;
+use dm_cpu::Cpu;
 use dm_space::Space;
 use dm_xms::{UpperRefusal, Xms};
 

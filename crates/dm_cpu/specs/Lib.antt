@@ -1,0 +1,8 @@
+pub mod Cpu
+pub mod Guest
+pub mod EffectiveAddress
+pub mod Operands
+pub mod Values
+pub mod Registers
+pub mod Stack
+pub mod Unseen

@@ -1,0 +1,6 @@
+-- A change of memory that no address shows, with the registers as they are.
+use Rattle.dm_space.specs.Memory.{Memory}
+use Rattle.dm_cpu.specs.Guest.{Guest}
+
+abbrev pub changed : (Memory → Memory) → Guest → Guest
+changed change g = record g { memory = change g.memory }

@@ -1,0 +1,20 @@
+//! What a program sees of the processor, its registers and flags, and what instructions are built of: operands with their values and
+//! addresses, and the stack with the two returns.
+//!
+//! The registers stand in a record with a field for each, [`Cpu`], or as the emulation's inner loop keeps them, [`Registers`]: in arrays,
+//! where the number of a register finds it without a jump. Contracts see the same [`Cpu`] of both.
+#![tactic(auto)]
+
+mod cpu;
+mod effective_address;
+mod named;
+pub mod operands;
+mod registers;
+pub mod stack;
+pub mod values;
+
+pub use cpu::Cpu;
+pub use dm_alu::Flags;
+pub use effective_address::EffectiveAddress;
+pub use registers::Registers;
+pub use stack::{far_return, interrupt_return};
