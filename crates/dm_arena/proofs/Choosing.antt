@@ -85,9 +85,3 @@ module _ (up : Bool) where
 
   pub room : (s t : Strategy) (L : List Header) (m : ℕ) → s ≡ t → m ≡ largest up s (left_of None (join up L)) → m ≡ largest up t (join up L)
   room s t L m is e = e ∙ ap (largest up s) (left-all (join up L)) ∙ ap (λ x. largest up x (join up L)) is
-
-  pub as_pick : (s t : Strategy) (n : ℕ) (X : List Header) (d : Option Header) → s ≡ t → pick up s n None X ≡ d → pick up t n None X ≡ d
-  as_pick s t n X d is e = ap (λ x. pick up x n None X) (sym is) ∙ e
-
-  pub as_largest : (s t : Strategy) (X : List Header) (m : ℕ) → s ≡ t → m ≡ largest up s X → m ≡ largest up t X
-  as_largest s t X m is e = e ∙ ap (λ x. largest up x X) is

@@ -14,6 +14,7 @@ pub mod Growing
 pub mod Releasing
 pub mod Parting
 pub mod OneAnswer
+pub mod Effect
 pub mod Pairs
 pub mod OnePair
 pub mod OneLink

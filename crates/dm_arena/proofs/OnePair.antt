@@ -9,13 +9,14 @@ use Rattle.dm_arena.specs.declared.fit.Strategy.{Strategy}
 use Rattle.dm_blocks.specs.Chain.{first_header, IsArena, IsClear, Becomes}
 use Rattle.dm_arena.specs.Blocks.{in_effect, join, largest, fits, IsFit, IsIn, cut, taken}
 use Rattle.dm_arena.specs.Walks.{pick, left_of, rest_of, Fills}
-use Rattle.dm_arena.specs.Allocation.{changed}
+use Rattle.dm_arena.specs.Allocation.{Taking, changed}
 use Rattle.dm_arena.specs.Pair.{Pairing, Planned, paired, IsPair, Placed, placed_of, Pairs, PairRefused}
 use Rattle.dm_arena.proofs.Allocating.{taking_of, in_middle, changed_fills}
 use Rattle.dm_blocks.proofs.Unique.{arena_unique, becomes_unique}
 use Rattle.dm_arena.proofs.Ends.{split_unique}
 use Rattle.dm_arena.proofs.Fitting.{prefers-same}
-use Rattle.dm_arena.proofs.OneAnswer.{changed-same, effect-same, taken-same}
+use Rattle.dm_arena.proofs.OneAnswer.{changed-same, taken-same}
+use Rattle.dm_arena.proofs.Effect.{effect-owner}
 use Rattle.dm_arena.proofs.Pairs.{size_same, second_fit, none_second, none_first}
 
 -- where the second block is and how large
@@ -26,41 +27,50 @@ record IsSecond (o m v w : ℕ) : Type 0 where
 module _ (up : Bool) where
   module _ (S : Memory) (start : ℕ) (st : Strategy) (n least most : ℕ) where
     -- with the same first block, the search finds the second one of each pairing
-    found_second : (L : List Header) (b : Header) (a : IsArena S start L) (e : pick up (in_effect up L st) n None (join up L) ≡ Some b) (m : ℕ) (w : Header) → m ≡ min most (largest up (in_effect up L st) (left_of (Some (record { segment = b.segment; rest = rest_of st.fit n b })) (join up L))) →
-        pick up (in_effect up L st) m None (left_of (Some (record { segment = b.segment; rest = rest_of st.fit n b })) (join up L)) ≡ Some w →
-        (o k : ℕ) (p : Pairing up S start st n least most o k) → IsSecond o k (taken st.fit m w + 1) m
-    found_second L b a e m w is chosen o k p =
-        let s : Spoken = record { segment = b.segment; rest = rest_of st.fit n b } in
-        let size : k ≡ m = size_same up S start st n L b a e s refl refl least most (largest up (in_effect up L st) (left_of (Some s) (join up L))) m refl is o k p in
-        let h : 0 < o = (let y = p.owner_is in omega arith) in
-        let t = taking_of up S start st n L b a e in
-        let f = second_fit up S start st n L b a e s refl refl m w chosen o h in
-        let same : changed p.first o ≡ changed t o = changed-same up S start st n p.first t o in
-        let lists : p.before ++ p.block ∷ p.after ≡ f.1.0 ++ w ∷ f.1.1 = sym p.split ∙ same ∙ f.1.2 in
-        let fills = changed_fills up S start st n o p.first in
-        let F : List Header → Type 0 = λ X. Fills fills.0 X fills.1 in
-        let I : List Header → Type 0 = λ X. IsIn w X in
-        let J : List Header → Type 0 = λ X. IsIn p.block X in
-        let E : Strategy = in_effect up L st in
-        let P : Strategy → Type 0 = λ x. IsFit up x k (changed p.first o) p.block in
-        let fit : IsFit up E k (changed p.first o) p.block = subst P (effect-same up S start st n L a p.first) p.fit in
-        let G : ℕ → Type 0 = λ x. IsTrue (fits up E x w) in
-        let H : ℕ → Type 0 = λ x. IsTrue (fits up E x p.block) in
-        let iw : IsIn w (changed p.first o) = subst I (sym (same ∙ f.1.2)) (in_middle f.1.0 w f.1.1) in
-        let ip : IsIn p.block (changed t o) = subst J (sym p.split ∙ same) (in_middle p.before p.block p.after) in
-        let at : p.block.segment ≡ w.segment = prefers-same E p.block w (fit.preferred w iw (subst G (sym size) f.0.fit)) (f.0.preferred p.block ip (subst H size fit.fit)) in
-        let u = split_unique fills.0 fills.1 p.before p.block p.after f.1.0 w f.1.1 (subst F p.split fills.2) lists at in
-        record { owner = p.owner_is ∙ ap₂ (λ x c. taken st.fit x c + 1) size u.1; size = size }
+    module _ (L : List Header) (b : Header) (a : IsArena S start L) (e : pick up (in_effect up L st) n None (join up L) ≡ Some b) where
+      abbrev first : Taking up S start st n
+      first = taking_of up S start st n L b a e
 
-    by_second : (L : List Header) (b : Header) (a : IsArena S start L) (e : pick up (in_effect up L st) n None (join up L) ≡ Some b) (m : ℕ) (r : Option Header) → m ≡ min most (largest up (in_effect up L st) (left_of (Some (record { segment = b.segment; rest = rest_of st.fit n b })) (join up L))) →
-        pick up (in_effect up L st) m None (left_of (Some (record { segment = b.segment; rest = rest_of st.fit n b })) (join up L)) ≡ r →
-        (o k v w : ℕ) → Pairing up S start st n least most o k → Pairing up S start st n least most v w → IsSecond o k v w
-    by_second L b a e m None is none o k v w p q =
-        absurd (none_second up S start st n L b a e (record { segment = b.segment; rest = rest_of st.fit n b }) refl refl least most (largest up (in_effect up L st) (left_of (Some (record { segment = b.segment; rest = rest_of st.fit n b })) (join up L))) m refl is none o k p)
-    by_second L b a e m (Some c) is some o k v w p q =
-        let x = found_second L b a e m c is some o k p in
-        let y = found_second L b a e m c is some v w q in
-        record { owner = x.owner ∙ sym y.owner; size = x.size ∙ sym y.size }
+      abbrev spoken : Spoken
+      spoken = record { segment = b.segment; rest = rest_of st.fit n b }
+
+      -- the strategy that is in effect for the second block, whoever owns the first
+      abbrev effect : Strategy
+      effect = in_effect up (changed first 0) st
+
+      effect-is : (o : ℕ) → effect ≡ in_effect up (changed first o) st
+      effect-is o = effect-owner up S start st n first 0 o
+
+      found_second : (m : ℕ) (w : Header) → m ≡ min most (largest up effect (left_of (Some spoken) (join up L))) → pick up effect m None (left_of (Some spoken) (join up L)) ≡ Some w →
+          (o k : ℕ) (p : Pairing up S start st n least most o k) → IsSecond o k (taken st.fit m w + 1) m
+      found_second m w is chosen o k p =
+          let size : k ≡ m = size_same up S start st n L b a e spoken refl refl effect effect-is least most (largest up effect (left_of (Some spoken) (join up L))) m refl is o k p in
+          let h : 0 < o = (let y = p.owner_is in omega arith) in
+          let f = second_fit up S start st n L b a e spoken refl refl effect m w chosen o h in
+          let same : changed p.first o ≡ changed first o = changed-same up S start st n p.first first o in
+          let lists : p.before ++ p.block ∷ p.after ≡ f.1.0 ++ w ∷ f.1.1 = sym p.split ∙ same ∙ f.1.2 in
+          let fills = changed_fills up S start st n o p.first in
+          let F : List Header → Type 0 = λ X. Fills fills.0 X fills.1 in
+          let I : List Header → Type 0 = λ X. IsIn w X in
+          let J : List Header → Type 0 = λ X. IsIn p.block X in
+          let P : Strategy → Type 0 = λ x. IsFit up x k (changed p.first o) p.block in
+          let fit : IsFit up effect k (changed p.first o) p.block = subst P (ap (λ X. in_effect up X st) same ∙ sym (effect-is o)) p.fit in
+          let G : ℕ → Type 0 = λ x. IsTrue (fits up effect x w) in
+          let H : ℕ → Type 0 = λ x. IsTrue (fits up effect x p.block) in
+          let iw : IsIn w (changed p.first o) = subst I (sym (same ∙ f.1.2)) (in_middle f.1.0 w f.1.1) in
+          let ip : IsIn p.block (changed first o) = subst J (sym p.split ∙ same) (in_middle p.before p.block p.after) in
+          let at : p.block.segment ≡ w.segment = prefers-same effect p.block w (fit.preferred w iw (subst G (sym size) f.0.fit)) (f.0.preferred p.block ip (subst H size fit.fit)) in
+          let u = split_unique fills.0 fills.1 p.before p.block p.after f.1.0 w f.1.1 (subst F p.split fills.2) lists at in
+          record { owner = p.owner_is ∙ ap₂ (λ x c. taken st.fit x c + 1) size u.1; size = size }
+
+      by_second : (m : ℕ) (r : Option Header) → m ≡ min most (largest up effect (left_of (Some spoken) (join up L))) → pick up effect m None (left_of (Some spoken) (join up L)) ≡ r →
+          (o k v w : ℕ) → Pairing up S start st n least most o k → Pairing up S start st n least most v w → IsSecond o k v w
+      by_second m None is none o k v w p q =
+          absurd (none_second up S start st n L b a e spoken refl refl effect effect-is least most (largest up effect (left_of (Some spoken) (join up L))) m refl is none o k p)
+      by_second m (Some c) is some o k v w p q =
+          let x = found_second m c is some o k p in
+          let y = found_second m c is some v w q in
+          record { owner = x.owner ∙ sym y.owner; size = x.size ∙ sym y.size }
 
     by_first : (L : List Header) (a : IsArena S start L) (r : Option Header) → pick up (in_effect up L st) n None (join up L) ≡ r → (o k v w : ℕ) → Pairing up S start st n least most o k → Pairing up S start st n least most v w → IsSecond o k v w
     by_first L a None e o k v w p q = absurd (none_first up S start st n least most L a e o k p)
@@ -81,9 +91,9 @@ module _ (up : Bool) where
           let I : List Header → Type 0 = λ X. IsIn q.block X in
           let J : List Header → Type 0 = λ X. IsIn p.block X in
           let size = (second_unique o k v w p q).size in
-          let E : Strategy = in_effect up p.first.list st in
+          let E : Strategy = in_effect up (changed p.first o) st in
           let Q : Strategy → Type 0 = λ x. IsFit up x w (changed q.first v) q.block in
-          let fit : IsFit up E w (changed q.first v) q.block = subst Q (effect-same up S start st n p.first.list p.first.arena q.first) q.fit in
+          let fit : IsFit up E w (changed q.first v) q.block = subst Q (ap (λ X. in_effect up X st) (q.split ∙ sym lists ∙ sym p.split)) q.fit in
           let G : ℕ → Type 0 = λ x. IsTrue (fits up E x q.block) in
           let H : ℕ → Type 0 = λ x. IsTrue (fits up E x p.block) in
           let iq : IsIn q.block (changed p.first o) = subst I (sym (p.split ∙ lists)) (in_middle q.before q.block q.after) in

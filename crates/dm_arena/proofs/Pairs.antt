@@ -23,7 +23,7 @@ use Rattle.dm_arena.proofs.Fitting.{fit_found, none_found}
 use Rattle.dm_arena.proofs.Choosing.{pick-append, largest-append}
 use Rattle.dm_arena.proofs.Allocating.{taking_of, in_middle, fits_size, cut_fills, join_after-fits, changed_fills, is_new, clear_changed, unclear_changed, changed_either, changed_has, placing_of, replaceable, becomes, signature-last}
 use Rattle.dm_arena.proofs.Ends.{fills_above, fills_left, fills_right, fills_ends, join_fills}
-use Rattle.dm_arena.proofs.OneAnswer.{changed-same, effect-same, none_taken}
+use Rattle.dm_arena.proofs.OneAnswer.{changed-same, none_taken}
 
 -- what is left of a list in which one block is spoken for
 left-append : (o : Option Spoken) (X Y : List Header) → left_of o (X ++ Y) ≡ left_of o X ++ left_of o Y
@@ -143,29 +143,29 @@ module _ (up : Bool) where
         let F : List Header → Type 0 = λ X. Fills r.1 X r.0 in
         ap (left_of (Some s)) t.joined ∙ left-split r.1 r.0 t.before b t.after s (subst F t.joined r.2) ss ∙ ap (λ z. t.before ++ (option_to_list z ++ t.after)) sr
 
-    pub left-pick : (o : ℕ) → 0 < o → (m : ℕ) → pick up (in_effect up L st) m None (changed (taking_of up S start st n L b a e) o) ≡ pick up (in_effect up L st) m None (left_of (Some s) (join up L))
-    left-pick o h m =
+    pub left-pick : (E : Strategy) (o : ℕ) → 0 < o → (m : ℕ) → pick up E m None (changed (taking_of up S start st n L b a e) o) ≡ pick up E m None (left_of (Some s) (join up L))
+    left-pick E o h m =
         let t = taking_of up S start st n L b a e in
         let P = t.before in
         let Q = t.after in
         let R : List Header = option_to_list (rest_of st.fit n b) in
-        pick-append up (in_effect up L st) m None P (cut st.fit n o b ++ Q)
-        ∙ pick-append up (in_effect up L st) m (pick up (in_effect up L st) m None P) (cut st.fit n o b) Q
-        ∙ ap (λ x. pick up (in_effect up L st) m x Q) (cut-pick st.fit (in_effect up L st) m n o (pick up (in_effect up L st) m None P) b h)
-        ∙ sym (pick-append up (in_effect up L st) m (pick up (in_effect up L st) m None P) R Q)
-        ∙ sym (pick-append up (in_effect up L st) m None P (R ++ Q))
-        ∙ ap (pick up (in_effect up L st) m None) (sym (left-is o))
+        pick-append up E m None P (cut st.fit n o b ++ Q)
+        ∙ pick-append up E m (pick up E m None P) (cut st.fit n o b) Q
+        ∙ ap (λ x. pick up E m x Q) (cut-pick st.fit E m n o (pick up E m None P) b h)
+        ∙ sym (pick-append up E m (pick up E m None P) R Q)
+        ∙ sym (pick-append up E m None P (R ++ Q))
+        ∙ ap (pick up E m None) (sym (left-is o))
 
-    pub left-largest : (o : ℕ) → 0 < o → largest up (in_effect up L st) (changed (taking_of up S start st n L b a e) o) ≡ largest up (in_effect up L st) (left_of (Some s) (join up L))
-    left-largest o h =
+    pub left-largest : (E : Strategy) (o : ℕ) → 0 < o → largest up E (changed (taking_of up S start st n L b a e) o) ≡ largest up E (left_of (Some s) (join up L))
+    left-largest E o h =
         let t = taking_of up S start st n L b a e in
         let P = t.before in
         let Q = t.after in
         let R : List Header = option_to_list (rest_of st.fit n b) in
-        largest-append up (in_effect up L st) P (cut st.fit n o b ++ Q)
-        ∙ ap (max (largest up (in_effect up L st) P)) (largest-append up (in_effect up L st) (cut st.fit n o b) Q ∙ ap (λ x. max x (largest up (in_effect up L st) Q)) (cut-largest (in_effect up L st) st.fit n o b h) ∙ sym (largest-append up (in_effect up L st) R Q))
-        ∙ sym (largest-append up (in_effect up L st) P (R ++ Q))
-        ∙ ap (largest up (in_effect up L st)) (sym (left-is o))
+        largest-append up E P (cut st.fit n o b ++ Q)
+        ∙ ap (max (largest up E P)) (largest-append up E (cut st.fit n o b) Q ∙ ap (λ x. max x (largest up E Q)) (cut-largest E st.fit n o b h) ∙ sym (largest-append up E R Q))
+        ∙ sym (largest-append up E P (R ++ Q))
+        ∙ ap (largest up E) (sym (left-is o))
 
     left-fits : (o : ℕ) (c : Header) → IsIn c (changed (taking_of up S start st n L b a e) o) → next c ≤ 0xFFFF
     left-fits o c i =
@@ -181,13 +181,13 @@ module _ (up : Bool) where
           ]
         ]
 
-    -- the second block
-    module _ (m : ℕ) (w : Header) (chosen : pick up (in_effect up L st) m None (left_of (Some s) (join up L)) ≡ Some w) where
-      pub second_fit : (o : ℕ) → 0 < o → IsFit up (in_effect up L st) m (changed (taking_of up S start st n L b a e) o) w × ((P : List Header) × (Q : List Header) × (changed (taking_of up S start st n L b a e) o ≡ P ++ w ∷ Q))
-      second_fit o h = fit_found up (in_effect up L st) m (changed (taking_of up S start st n L b a e) o) w (left-pick o h m ∙ chosen)
+    -- the second block, by the strategy E
+    module _ (E : Strategy) (m : ℕ) (w : Header) (chosen : pick up E m None (left_of (Some s) (join up L)) ≡ Some w) where
+      pub second_fit : (o : ℕ) → 0 < o → IsFit up E m (changed (taking_of up S start st n L b a e) o) w × ((P : List Header) × (Q : List Header) × (changed (taking_of up S start st n L b a e) o ≡ P ++ w ∷ Q))
+      second_fit o h = fit_found up E m (changed (taking_of up S start st n L b a e) o) w (left-pick E o h m ∙ chosen)
 
       pub second_within : m ≤ w.size
-      second_within = fits_size up (in_effect up L st) m w (second_fit 1 (omega arith)).0.fit
+      second_within = fits_size up E m w (second_fit 1 (omega arith)).0.fit
 
       pub second_ends : next w ≤ 0xFFFF
       second_ends =
@@ -195,21 +195,23 @@ module _ (up : Bool) where
           let F : List Header → Type 0 = λ X. IsIn w X in
           left-fits 1 w (subst F (sym f.1.2) (in_middle f.1.0 w f.1.1))
 
-      module _ (least most left o : ℕ) (left-of : left ≡ largest up (in_effect up L st) (left_of (Some s) (join up L))) (size-of : m ≡ min most left) (enough : least ≤ m) (owner-of : o ≡ taken st.fit m w + 1) where
+      module _ (E-is : (o : ℕ) → E ≡ in_effect up (changed (taking_of up S start st n L b a e) o) st) (least most left o : ℕ) (left-of : left ≡ largest up E (left_of (Some s) (join up L))) (size-of : m ≡ min most left) (enough : least ≤ m) (owner-of : o ≡ taken st.fit m w + 1) where
         pub owned : 0 < o
         owned = omega arith
 
         abbrev pub pairing : Pairing up S start st n least most o m
         pairing =
             let f = second_fit o owned in
+            let t = taking_of up S start st n L b a e in
+            let F : Strategy → Type 0 = λ x. IsFit up x m (changed t o) w in
             record {
               first = taking_of up S start st n L b a e;
               before = f.1.0;
               block = w;
               after = f.1.1;
               split = f.1.2;
-              fit = f.0;
-              size_is = size-of ∙ ap (min most) (left-of ∙ sym (left-largest o owned));
+              fit = subst F (E-is o) f.0;
+              size_is = size-of ∙ ap (min most) (left-of ∙ sym (left-largest E o owned) ∙ ap (λ x. largest up x (changed t o)) (E-is o));
               enough = enough;
               owner_is = owner-of;
             }
@@ -263,23 +265,26 @@ module _ (up : Bool) where
               ]
 
     -- no room for the second block
-    module _ (least most left m : ℕ) (left-of : left ≡ largest up (in_effect up L st) (left_of (Some s) (join up L))) (size-of : m ≡ min most left) where
+    module _ (E : Strategy) (E-is : (o : ℕ) → E ≡ in_effect up (changed (taking_of up S start st n L b a e) o) st) (least most left m : ℕ) (left-of : left ≡ largest up E (left_of (Some s) (join up L))) (size-of : m ≡ min most left) where
       pub size_same : (o k : ℕ) → Pairing up S start st n least most o k → k ≡ m
       size_same o k p =
           let h : 0 < o = (let y = p.owner_is in omega arith) in
-          p.size_is ∙ ap (λ x. min most (largest up x (changed p.first o))) (effect-same up S start st n L a p.first) ∙ ap (min most) (ap (largest up (in_effect up L st)) (changed-same up S start st n p.first (taking_of up S start st n L b a e) o) ∙ left-largest o h ∙ sym left-of) ∙ sym size-of
+          let t = taking_of up S start st n L b a e in
+          p.size_is ∙ ap (λ X. min most (largest up (in_effect up X st) X)) (changed-same up S start st n p.first t o) ∙ ap (λ x. min most (largest up x (changed t o))) (sym (E-is o)) ∙ ap (min most) (left-largest E o h ∙ sym left-of) ∙ sym size-of
 
       pub too_small : m < least → (o k : ℕ) → Pairing up S start st n least most o k → ⊥
       too_small h o k p = (let x = size_same o k p in let y = p.enough in omega arith)
 
-      pub none_second : pick up (in_effect up L st) m None (left_of (Some s) (join up L)) ≡ None → (o k : ℕ) → Pairing up S start st n least most o k → ⊥
+      pub none_second : pick up E m None (left_of (Some s) (join up L)) ≡ None → (o k : ℕ) → Pairing up S start st n least most o k → ⊥
       none_second is o k p =
           let h : 0 < o = (let y = p.owner_is in omega arith) in
+          let t = taking_of up S start st n L b a e in
+          let same : changed p.first o ≡ changed t o = changed-same up S start st n p.first t o in
           let F : List Header → Type 0 = λ X. IsIn p.block X in
-          let G : ℕ → Type 0 = λ x. IsTrue (fits up (in_effect up L st) x p.block) in
-          let i : IsIn p.block (changed (taking_of up S start st n L b a e) o) = subst F (changed-same up S start st n p.first (taking_of up S start st n L b a e) o) (subst F (sym p.split) (in_middle p.before p.block p.after)) in
+          let G : ℕ → Type 0 = λ x. IsTrue (fits up E x p.block) in
           let H : Strategy → Type 0 = λ x. IsTrue (fits up x k p.block) in
-          none_found up (in_effect up L st) m (changed (taking_of up S start st n L b a e) o) (left-pick o h m ∙ is) p.block i (subst G (size_same o k p) (subst H (effect-same up S start st n L a p.first) p.fit.fit))
+          let i : IsIn p.block (changed t o) = subst F same (subst F (sym p.split) (in_middle p.before p.block p.after)) in
+          none_found up E m (changed t o) (left-pick E o h m ∙ is) p.block i (subst G (size_same o k p) (subst H (ap (λ X. in_effect up X st) same ∙ sym (E-is o)) p.fit.fit))
 
   pub none_first : (S : Memory) (start : ℕ) (st : Strategy) (n least most : ℕ) (L : List Header) → IsArena S start L → pick up (in_effect up L st) n None (join up L) ≡ None → (o k : ℕ) → Pairing up S start st n least most o k → ⊥
   none_first S start st n least most L a is o k p = none_taken up S start st n L a (none_found up (in_effect up L st) n (join up L) is) p.first
@@ -292,7 +297,7 @@ module _ (up : Bool) where
     d-cut = d-is ∙ p.second_is
 
     new_fills : Fills p.pairing.block.segment (cut_list d) (next p.pairing.block)
-    new_fills = (let F : List Header → Type 0 = λ X. Fills p.pairing.block.segment X (next p.pairing.block) in subst F (sym d-cut) (cut_fills st.fit pair.size pair.program p.pairing.block (fits_size up (in_effect up p.pairing.first.list st) pair.size p.pairing.block p.pairing.fit.fit)))
+    new_fills = (let F : List Header → Type 0 = λ X. Fills p.pairing.block.segment X (next p.pairing.block) in subst F (sym d-cut) (cut_fills st.fit pair.size pair.program p.pairing.block (fits_size up (in_effect up (changed p.pairing.first pair.program) st) pair.size p.pairing.block p.pairing.fit.fit)))
 
     has_last : (g : ℕ) → HasHeader (changed p.pairing.first pair.program) g → HasHeader (p.pairing.before ++ (cut_list d ++ p.pairing.after)) g
     has_last g h =

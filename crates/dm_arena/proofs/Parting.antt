@@ -65,11 +65,11 @@ linked-by : (b : Header) (L : List Header) (r : Bool) → nat_eq b.segment 0x9FF
 linked-by b L true e l f = inl (grind (arith, nat_tests))
 linked-by b L false e l f = inr (f l)
 
-linked-at : (L : List Header) → is_linked L ≡ true → HasHeader L 0x9FFF
+pub linked-at : (L : List Header) → is_linked L ≡ true → HasHeader L 0x9FFF
 linked-at [] l = absurd (let x : false ≡ true = l in cc)
 linked-at (b ∷ L) l = linked-by b L (nat_eq b.segment 0x9FFF) refl l (linked-at L)
 
-at-linked : (L : List Header) → HasHeader L 0x9FFF → is_linked L ≡ true
+pub at-linked : (L : List Header) → HasHeader L 0x9FFF → is_linked L ≡ true
 at-linked [] w = absurd w
 at-linked (b ∷ L) (inl e) = (let t : nat_eq b.segment 0x9FFF ≡ true = grind (arith, nat_tests) in rw t refl)
 at-linked (b ∷ L) (inr w) = either (nat_eq b.segment 0x9FFF) (is_linked L) (at-linked L w)

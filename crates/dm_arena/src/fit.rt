@@ -1,5 +1,5 @@
 //! Which free block an allocation takes.
-ghost use Rattle.std.specs.Prelude.{◌≡◌, List, None, max, option_to_list};
+ghost use Rattle.std.specs.Prelude.{◌≡◌, ◌++◌, List, None, max, option_to_list};
 ghost use Rattle.dm_blocks.specs.declared.header.Header.{Header};
 ghost use Rattle.dm_blocks.specs.Chain.{first_header};
 ghost use Rattle.dm_blocks.specs.Reading.{IsSpelledFrom};
@@ -74,6 +74,25 @@ pub(crate) fn in_effect(space: &Space, strategy: Strategy, upper: bool) -> Strat
         return strategy;
     }
     Strategy::everywhere(strategy.fit)
+}
+
+/// The strategy that is in effect once a new header stands in the list too.
+pub(crate) fn in_effect_beside(
+    space: &Space,
+    strategy: Strategy,
+    new: Option<Header>,
+    upper: bool,
+) -> Strategy
+    requires { (L : List Header) × IsSpelledFrom space.now.memory first_header L }
+    ensures { (L : List Header) → IsSpelledFrom space.now.memory first_header L → result ≡ Blocks.in_effect upper (option_to_list new ++ L) strategy }
+{
+    let Some(header) = new else {
+        return in_effect(space, strategy, upper);
+    };
+    if upper && header.segment == LINK {
+        return strategy;
+    }
+    in_effect(space, strategy, upper)
 }
 
 /// Whether the block is one of upper memory.

@@ -9,7 +9,7 @@ ghost use Rattle.dm_arena.specs.Standing.{IsNew, MaySplit};
 ghost use Rattle.dm_arena.specs.Pair.{paired, IsPair, IsPlannedOn, PairRefused};
 
 use crate::cut::{Cut, cut_of, taken_of, write_cut};
-use crate::fit::{Fit, Spoken, Strategy, choose, in_effect};
+use crate::fit::{Fit, Spoken, Strategy, choose, in_effect, in_effect_beside};
 use crate::joined::join_all;
 use crate::refusal::Refusal;
 use crate::standing::may_split;
@@ -124,13 +124,15 @@ fn are_clear(space: &Space, first: Cut, second: Cut, upper: bool) -> bool
 /// smaller of `most` paragraphs and the largest free block. Nothing is written.
 ///
 /// Both are chosen by the strategy, as by an allocation of each in turn, once runs of free blocks
-/// are joined. `upper` tells whether upper memory belongs to the arena.
+/// are joined. `upper` tells whether upper memory belongs to the arena: then the strategy's area counts where
+/// the list is linked, for the second block also where the first one makes the link block's header.
 ///
 /// # Errors
 ///
 /// `Destroyed` where memory spells no clear list; else `Short` where the first block has no room,
 /// or the second would have less than `least` paragraphs, with the size of the largest free block
-/// that the strategy looks at once runs are joined; else `Destroyed` where the last list would not be clear.
+/// that the strategy looks at for the first one once runs are joined; else `Destroyed` where the last list
+/// would not be clear.
 pub fn plan_pair(
     space: &Space,
     strategy: Strategy,
@@ -153,12 +155,14 @@ pub fn plan_pair(
         return Err(short);
     };
     let spoken = spoken_of(strategy.fit, environment_paragraphs, block);
-    let left = choose(space, searched, 0, Some(spoken), upper).largest;
+    let taken = cut_of(strategy.fit, environment_paragraphs, 0, block);
+    let searched_then = in_effect_beside(space, strategy, taken.second, upper);
+    let left = choose(space, searched_then, 0, Some(spoken), upper).largest;
     let size = smaller(most, left);
     if (size as u32) < least {
         return Err(short);
     }
-    let Some(whole) = choose(space, searched, size, Some(spoken), upper).block else {
+    let Some(whole) = choose(space, searched_then, size, Some(spoken), upper).block else {
         return Err(short);
     };
     let environment_segment = taken_of(strategy.fit, environment_paragraphs, block) + 1;
