@@ -122,6 +122,7 @@ class Specs:
     def read_source(self, crate, path):
         # (a program has no public functions: what its contracts say is what it promises)
         is_program = os.path.exists(f"{ROOT}/crates/{crate}/src/main.rt")
+        exported = exports(crate)
         module = os.path.relpath(path, f"crates/{crate}/src")[: -len(".rt")].replace("/", ".")
         lines = text_of(path).split("\n")
         whole, inner, block, trait, function, docs = {}, {}, None, None, None, []
@@ -135,7 +136,7 @@ class Specs:
                 block, inner = impl, {}
             elif TRAIT.match(line):
                 trait = TRAIT.match(line)[1]
-                function = Contract(crate, path, trait, True, number)
+                function = Contract(crate, path, trait, trait in exported or module.split(".")[0] in exported, number)
                 self.contracts.append(function)
                 self.imports[id(function)] = (whole, inner)
             elif trait and re.match(r"^\s+ghost (?!use)\w+:", line):
@@ -145,7 +146,8 @@ class Specs:
             elif begun:
                 outer = f"{block[2]}::" if block else f"{trait}::" if trait else ""
                 # (a method of a trait is as public as the trait)
-                is_public = begun[1] == "pub " or is_program or bool(trait or block and block[1])
+                is_shown = (block[2] if block else trait or begun[2]) in exported or module.split(".")[0] in exported
+                is_public = is_program or is_shown and (begun[1] == "pub " or bool(trait or block and block[1]))
                 function = Contract(crate, path, outer + begun[2], is_public, number)
                 self.contracts.append(function)
                 self.imports[id(function)] = (whole, inner)
@@ -290,6 +292,18 @@ def tried(line):
     for part in found[1].split(";") if found else []:
         crate, module, *names = part.split()
         yield from (f"{crate}.{module}.{name}" for name in names)
+
+
+def exports(crate):
+    """The names that a library hands on: of functions, types and modules."""
+    found = set()
+    path = f"crates/{crate}/src/lib.rt"
+    if os.path.exists(f"{ROOT}/{path}"):
+        text = text_of(path)
+        found.update(re.findall(r"^pub mod (\w+);", text, re.M))
+        for names in re.findall(r"^pub use (?:\w+::)+\{?([^;{}]+)\}?;", text, re.M):
+            found.update(name.strip().split(" as ")[0] for name in names.split(",") if name.strip())
+    return found
 
 
 def head_of(lines):

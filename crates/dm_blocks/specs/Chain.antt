@@ -78,7 +78,8 @@ is_parted upper L = upper && not (is_linked L)
 abbrev pub NoBlockAt : List Header → ℕ → Type 0
 NoBlockAt L segment = (h : ℕ) → HasHeader L h → h + 1 ≢ segment
 
--- each header of L has a place that keeps what is written, and no two have the same
+-- each header of L has a place that keeps what is written, and no two have the same. Segments are compared, not entries: a list
+-- has one header at a segment, and the segment alone decides the place
 pub record IsClear (S : Memory) (L : List Header) : Type 0 where
   pub writable : (h : ℕ) → HasHeader L h → IsWritable (place S (16 * h))
   pub apart : (h g : ℕ) → HasHeader L h → HasHeader L g → place S (16 * h) ≡ place S (16 * g) → h ≡ g

@@ -1,4 +1,4 @@
-//! Handles and their pages (LIM EMS 4.0, functions 3 to 6, 12 and 13; INT 67h, 42h, 43h, 45h, 4Bh and 4Ch).
+//! Handles and their pages (LIM EMS 4.0, functions 3, 4, 6, 12 and 13; INT 67h, 42h, 43h, 45h, 4Bh and 4Ch).
 
 ghost use Rattle.std.specs.Prelude.{◌≡◌};
 ghost use Rattle.dm_ems.specs.Tables.{expanded};

@@ -91,6 +91,7 @@ written_of m (term.Far s o) place next = Some (w.Far s o)
 
 -- ---- before any label has a place: each byte is in range, each target is near
 
+-- a byte counts modulo 64: it is in range then, and the number of ESC, which decides its first byte, is below 64
 abbrev pub number_outline : Amount → Numeral
 number_outline n = record { byte = Some (word_of n % 64); word = Some (word_of n); distance = 0; is_one = is_one_of n }
 

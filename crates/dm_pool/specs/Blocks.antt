@@ -53,7 +53,7 @@ content bytes (Some b) = part bytes (b.base * 1024) (b.units * 1024)
 abbrev pub contents_of : List (Option Place) → List ℕ → List (List ℕ)
 contents_of places bytes = map (content bytes) places
 
--- two places share no unit
+-- two places share no unit. A place of no unit at unit 0 is apart from each
 abbrev pub Apart : Place → Place → Type 0
 Apart b d = (b.base + b.units ≤ d.base) ⊎ (d.base + d.units ≤ b.base)
 

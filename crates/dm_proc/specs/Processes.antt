@@ -93,7 +93,8 @@ pub record Execs (upper : Bool) (ps : Processes) (c : Cpu) (m : Memory) (store :
     parents = ps.parents ++ record { segment = ps.present; cpu = returned c m } ∷ [];
   }
 
--- why none is
+-- why none is, in the order in which the errors are tried: AL is not 0 (1), no such name (2), a bad file (11), no end of the
+-- environment (10), no block list (7), no room (8), a new list that is not clear (7), sixteen processes alive (8)
 abbrev pub ExecRefused : Bool → Processes → Cpu → Memory → List (List ℕ × List ℕ) → Strategy → Refusal → Type 0
 ExecRefused upper ps c m store strategy Function = action c ≢ 0
 ExecRefused upper ps c m store strategy NotFound = (action c ≡ 0) × NameRefused c m store NotFound

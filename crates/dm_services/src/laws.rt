@@ -12,7 +12,7 @@ pub fn services_ignore_unseen()
 {}
 
 /// No service changes A20, what the windows show, or which blocks there are, where they lie and how large they are: all that it
-/// writes are bytes. Nor does one change the handles and pages of expanded memory.
+/// writes are bytes. Nor does one change the tables of expanded and extended memory.
 pub fn services_keep_the_map()
     ensures map { ServicesKeepTheMap }
     ensures tables { ServicesKeepTheTables }

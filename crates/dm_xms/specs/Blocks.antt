@@ -19,7 +19,7 @@ largest_gap x = largest (gaps x.memory.blocks.places x.memory.blocks.units)
 abbrev pub all_free : Extended → ℕ
 all_free x = free_units (gaps x.memory.blocks.places x.memory.blocks.units)
 
--- what is free, in KiB; each is a word
+-- what is free, in KiB; each is returned in a word register, so at most FFFFh
 unfoldable pub free_memory : Extended → Result FreeMemory Status
 free_memory x = if largest_gap x == 0 then Err NoMemory else Ok (record { largest = min 0xFFFF (largest_gap x); total = min 0xFFFF (all_free x) })
 
