@@ -11,11 +11,12 @@ use Rattle.dm_arena.specs.declared.fit.Fit.{Fit}
 use Rattle.dm_arena.specs.declared.fit.Fit.TheVariants.{First, Best, Last}
 use Rattle.dm_blocks.specs.Chain.{IsHeader, signature, Spells, HasHeader, IsNonEmpty, next, IsClear, IsArena, Becomes}
 use Rattle.dm_blocks.specs.Reading.{is_nil}
-use Rattle.dm_arena.specs.Walks.{pick, Fills, IsReplaceable, IsReplaced, IsJoined, Placing, IsPlan}
+use Rattle.dm_arena.specs.inner.Walks.{pick, Fills, IsReplaceable, IsReplaced, IsJoined, Placing, IsPlan}
 use Rattle.dm_blocks.specs.Chain.{is_free}
-use Rattle.dm_arena.specs.Blocks.{in_effect, is_candidate, merge, join, join_after, fits, cut, cut_low, cut_high, taken, IsIn, cut_list}
+use Rattle.dm_arena.specs.Blocks.{in_effect, is_candidate, merge, join, join_after, fits, cut, cut_low, cut_high, taken, IsIn}
+use Rattle.dm_arena.specs.inner.Blocks.{cut_list}
 use Rattle.dm_arena.specs.Allocation.{Taking, changed}
-use Rattle.dm_arena.specs.Standing.{MaySplit, IsNew}
+use Rattle.dm_arena.specs.inner.Standing.{MaySplit, IsNew}
 use Rattle.dm_blocks.proofs.Chains.{has_left, has_right, has_either, spells_end, clear_map, clear_within}
 use Rattle.dm_arena.proofs.Beside.{cut-either, cut-has, cut-new, clear-cut, unclear-cut, new-cut}
 use Rattle.dm_arena.proofs.Ends.{bool_cases, join_after-cond, fills_left, fills_right, fills_above, fills_replaced, join_fills}

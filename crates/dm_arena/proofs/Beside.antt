@@ -5,9 +5,9 @@ use Rattle.dm_space.specs.declared.place.Place.{Place}
 use Rattle.dm_space.specs.Memory.{Memory, place}
 use Rattle.dm_blocks.specs.declared.header.Header.{Header}
 use Rattle.dm_blocks.specs.Chain.{HasHeader, IsClear}
-use Rattle.dm_arena.specs.Walks.{Fills}
-use Rattle.dm_blocks.specs.Standing.{MayStand, Occupies}
-use Rattle.dm_arena.specs.Standing.{MaySplit, IsNew}
+use Rattle.dm_arena.specs.inner.Walks.{Fills}
+use Rattle.dm_blocks.specs.inner.Standing.{MayStand, Occupies}
+use Rattle.dm_arena.specs.inner.Standing.{MaySplit, IsNew}
 use Rattle.dm_blocks.proofs.Chains.{has_left, has_right, has_either}
 use Rattle.dm_blocks.proofs.Stands.{clear-with, unclear-with}
 

@@ -5,7 +5,7 @@ use Rattle.dm_blocks.specs.declared.header.Header.{Header}
 use Rattle.dm_blocks.specs.declared.header.Entry.{Entry}
 use Rattle.dm_blocks.specs.Chain.{Spells, HasHeader, IsNonEmpty, next, IsClear, IsArena, Becomes}
 use Rattle.dm_blocks.specs.Reading.{IsFoundAt}
-use Rattle.dm_arena.specs.Walks.{IsReplaceable, IsReplaced}
+use Rattle.dm_arena.specs.inner.Walks.{IsReplaceable, IsReplaced}
 use Rattle.dm_arena.specs.Owned.{BlockAt, freed, is_link_block}
 use Rattle.dm_blocks.proofs.Chains.{has_left, has_right, has_either, clear_within}
 

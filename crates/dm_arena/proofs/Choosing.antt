@@ -9,7 +9,7 @@ use Rattle.dm_arena.specs.declared.fit.Spoken.{Spoken}
 use Rattle.dm_arena.specs.declared.fit.Choice.{Choice}
 use Rattle.dm_blocks.specs.Chain.{Spells, IsNonEmpty, next}
 use Rattle.dm_blocks.specs.Reading.{is_nil, IsSpelledFrom}
-use Rattle.dm_arena.specs.Walks.{pick, better, left_of, left_part, IsChoosing, IsJoinedFront}
+use Rattle.dm_arena.specs.inner.Walks.{pick, better, left_of, left_part, IsChoosing, IsJoinedFront}
 use Rattle.dm_arena.specs.Blocks.{join, largest, free_size}
 
 max-assoc : (a b c : ℕ) → max a (max b c) ≡ max (max a b) c

@@ -12,8 +12,9 @@ use Rattle.dm_arena.specs.declared.fit.Fit.TheVariants.{First, Best, Last}
 use Rattle.dm_arena.specs.declared.fit.Area.TheVariants.{All}
 use Rattle.dm_arena.specs.declared.fit.Strategy.{Strategy}
 use Rattle.dm_arena.specs.Allocation.{Taking, changed}
-use Rattle.dm_arena.specs.Blocks.{cut, cut_high, cut_list, cut_low, in_effect, join, join_after, merge}
-use Rattle.dm_arena.specs.Walks.{pick}
+use Rattle.dm_arena.specs.Blocks.{cut, cut_high, cut_low, in_effect, join, join_after, merge}
+use Rattle.dm_arena.specs.inner.Blocks.{cut_list}
+use Rattle.dm_arena.specs.inner.Walks.{pick}
 use Rattle.dm_arena.proofs.Allocating.{changed_either, changed_has, join-within, taking_of}
 use Rattle.dm_arena.proofs.Ends.{bool_cases, join_after-cond}
 use Rattle.dm_arena.proofs.Parting.{at-linked, linked-at}

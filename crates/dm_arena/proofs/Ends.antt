@@ -5,7 +5,7 @@ use Rattle.dm_blocks.specs.declared.header.Header.{Header}
 use Rattle.dm_blocks.specs.Chain.{Spells, HasHeader, next}
 use Rattle.dm_blocks.specs.Chain.{is_free}
 use Rattle.dm_arena.specs.Blocks.{merge, join, join_after}
-use Rattle.dm_arena.specs.Walks.{Fills}
+use Rattle.dm_arena.specs.inner.Walks.{Fills}
 use Rattle.dm_blocks.proofs.Chains.{has_right}
 
 pub bool_cases : (b : Bool) → (b ≡ true) ⊎ (b ≡ false)

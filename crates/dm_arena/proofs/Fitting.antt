@@ -8,7 +8,7 @@ use Rattle.dm_arena.specs.declared.fit.Fit.TheVariants.{First, Best, Last}
 use Rattle.dm_arena.specs.declared.fit.Area.{Area}
 use Rattle.dm_arena.specs.declared.fit.Area.TheVariants.{All, Upper, UpperFirst}
 use Rattle.dm_arena.specs.Blocks.{before_or, fits, is_upper, prefers, prefers_by, prefers_in, IsIn, IsFit}
-use Rattle.dm_arena.specs.Walks.{pick, better}
+use Rattle.dm_arena.specs.inner.Walks.{pick, better}
 
 -- by the fit alone
 by-trans : (f : Fit) (a b c : Header) → IsTrue (prefers_by f a b) → IsTrue (prefers_by f b c) → IsTrue (prefers_by f a c)

@@ -8,11 +8,12 @@ use Rattle.dm_arena.specs.declared.cut.Cut.{Cut}
 use Rattle.dm_arena.specs.declared.fit.Fit.TheVariants.{First}
 use Rattle.dm_blocks.specs.Chain.{Spells, HasHeader, IsNonEmpty, next, IsClear, IsArena, Becomes}
 use Rattle.dm_blocks.specs.Reading.{IsSpelledFrom, IsFront, IsFoundAt}
-use Rattle.dm_arena.specs.Walks.{Fills, IsReplaceable, IsReplaced, IsGrown, IsGrowable}
+use Rattle.dm_arena.specs.inner.Walks.{Fills, IsReplaceable, IsReplaced, IsGrown, IsGrowable}
 use Rattle.dm_blocks.specs.Chain.{is_free}
-use Rattle.dm_arena.specs.Blocks.{merge, cut, cut_low, cut_list}
+use Rattle.dm_arena.specs.Blocks.{merge, cut, cut_low}
+use Rattle.dm_arena.specs.inner.Blocks.{cut_list}
 use Rattle.dm_arena.specs.Owned.{BlockRunAt, absorb, AllFree, BeginsTaken, is_link_block, resized}
-use Rattle.dm_arena.specs.Standing.{AreOutside, IsNew, MaySplit}
+use Rattle.dm_arena.specs.inner.Standing.{AreOutside, IsNew, MaySplit}
 use Rattle.dm_blocks.proofs.Chains.{has_left, has_right, has_either, spells_end, spells_above, spells_below, clear_within}
 use Rattle.dm_arena.proofs.Ends.{fills_above, fills_below}
 use Rattle.dm_arena.proofs.Beside.{clear-cut, unclear-cut, new-cut}

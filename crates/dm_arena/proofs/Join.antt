@@ -6,7 +6,7 @@ use Rattle.dm_blocks.specs.declared.header.Header.{Header}
 use Rattle.dm_blocks.specs.declared.header.Entry.{Entry}
 use Rattle.dm_blocks.specs.Chain.{IsHeader, signature, Spells, HasHeader, IsNonEmpty, next, IsClear, IsArena, mark}
 use Rattle.dm_blocks.specs.Reading.{is_nil}
-use Rattle.dm_arena.specs.Walks.{IsHeaderWritten, IsJoiningAll, IsJoinedFront, IsJoined}
+use Rattle.dm_arena.specs.inner.Walks.{IsHeaderWritten, IsJoiningAll, IsJoinedFront, IsJoined}
 use Rattle.dm_arena.specs.Blocks.{join}
 use Rattle.dm_blocks.proofs.Chains.{Agrees, spells_kept, spells_replace, spells_above, spells_below, has_left, has_right, has_either, clear_within, clear_map, mark-signature}
 use Rattle.dm_arena.proofs.Written.{agrees_written}

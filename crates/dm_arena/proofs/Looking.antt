@@ -6,10 +6,10 @@ use Rattle.dm_blocks.specs.declared.header.Header.{Header}
 use Rattle.dm_blocks.specs.declared.header.Entry.{Entry}
 use Rattle.dm_blocks.specs.Chain.{IsNonEmpty, Spells, next}
 use Rattle.dm_arena.specs.Blocks.{join}
-use Rattle.dm_blocks.specs.Standing.{Occupies}
-use Rattle.dm_arena.specs.Standing.{AreOutside, OccupiesOutside}
+use Rattle.dm_blocks.specs.inner.Standing.{Occupies}
+use Rattle.dm_arena.specs.inner.Standing.{AreOutside, OccupiesOutside}
 use Rattle.dm_blocks.specs.Reading.{is_nil, IsFront, IsSpelledFrom}
-use Rattle.dm_arena.specs.Walks.{IsJoinedFront, IsLooking, IsLookingOutside}
+use Rattle.dm_arena.specs.inner.Walks.{IsJoinedFront, IsLooking, IsLookingOutside}
 
 nil_of : (X : List Header) → is_nil X ≡ true → X ≡ []
 nil_of [] e = refl

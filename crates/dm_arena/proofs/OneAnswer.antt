@@ -9,7 +9,7 @@ use Rattle.dm_blocks.specs.Chain.{first_header, link_header, HasHeader, IsArenaB
 use Rattle.dm_arena.specs.Owned.{BlockAt, IsNoBlock, is_link_block, ReleasesOne, ReleasesBoth, freed, Frees, FreeRefused, absorb, AllFree, BeginsTaken, BlockRunAt, resized, Resizes, ResizeRefused, released, ReleaseRefused, Releases}
 use Rattle.dm_blocks.specs.Chain.{is_free}
 use Rattle.dm_arena.specs.Blocks.{in_effect, join, largest, fits, prefers, IsIn, cut, cut_low, taken}
-use Rattle.dm_arena.specs.Walks.{Fills}
+use Rattle.dm_arena.specs.inner.Walks.{Fills}
 use Rattle.dm_arena.specs.Allocation.{Taking, changed, Allocates, AllocateRefused}
 use Rattle.dm_blocks.proofs.Chains.{has_either, has_right}
 use Rattle.dm_arena.proofs.Allocating.{in_middle}

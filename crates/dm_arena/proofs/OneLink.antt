@@ -6,7 +6,7 @@ use Rattle.dm_blocks.specs.Chain.{Becomes, IsArena, IsArenaBehind, first_header,
 use Rattle.dm_blocks.proofs.Unique.{arena_unique, becomes_unique, chain_unique}
 use Rattle.dm_arena.specs.declared.refusal.Refusal.{Refusal}
 use Rattle.dm_arena.specs.Linking.{BeginsAt, EndsAt, GoesOn, IsCutOff, IsSo, LinkRefused, Links}
-use Rattle.dm_arena.specs.Walks.{Fills}
+use Rattle.dm_arena.specs.inner.Walks.{Fills}
 use Rattle.dm_arena.proofs.Ends.{fills_of, split_unique}
 use Rattle.dm_arena.proofs.Parting.{begins-linked}
 

@@ -8,7 +8,7 @@ use Rattle.dm_arena.specs.declared.fit.Spoken.{Spoken}
 use Rattle.dm_arena.specs.declared.fit.Strategy.{Strategy}
 use Rattle.dm_blocks.specs.Chain.{first_header, IsArena, IsClear, Becomes}
 use Rattle.dm_arena.specs.Blocks.{in_effect, join, largest, fits, IsFit, IsIn, cut, taken}
-use Rattle.dm_arena.specs.Walks.{pick, left_of, rest_of, Fills}
+use Rattle.dm_arena.specs.inner.Walks.{pick, left_of, rest_of, Fills}
 use Rattle.dm_arena.specs.Allocation.{Taking, changed}
 use Rattle.dm_arena.specs.Pair.{Pairing, Planned, paired, IsPair, Placed, placed_of, Pairs, PairRefused}
 use Rattle.dm_arena.proofs.Allocating.{taking_of, in_middle, changed_fills}

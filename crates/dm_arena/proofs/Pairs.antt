@@ -12,9 +12,10 @@ use Rattle.dm_arena.specs.declared.fit.Fit.{Fit}
 use Rattle.dm_arena.specs.declared.fit.Fit.TheVariants.{First, Best, Last}
 use Rattle.dm_blocks.specs.Chain.{HasHeader, IsClear, IsArena, IsNonEmpty, Spells, Becomes, next}
 use Rattle.dm_blocks.specs.Chain.{is_free, is_link}
-use Rattle.dm_arena.specs.Blocks.{in_effect, join, fits, largest, free_size, cut, cut_low, cut_high, taken, IsIn, IsFit, cut_list}
-use Rattle.dm_arena.specs.Standing.{MaySplit, IsNew}
-use Rattle.dm_arena.specs.Walks.{pick, better, left_of, left_part, rest_of, Fills, IsJoined, IsReplaceable, IsReplaced}
+use Rattle.dm_arena.specs.Blocks.{in_effect, join, fits, largest, free_size, cut, cut_low, cut_high, taken, IsIn, IsFit}
+use Rattle.dm_arena.specs.inner.Blocks.{cut_list}
+use Rattle.dm_arena.specs.inner.Standing.{MaySplit, IsNew}
+use Rattle.dm_arena.specs.inner.Walks.{pick, better, left_of, left_part, rest_of, Fills, IsJoined, IsReplaceable, IsReplaced}
 use Rattle.dm_arena.specs.Allocation.{changed}
 use Rattle.dm_arena.specs.Pair.{Pairing, Planned, IsPair, paired}
 use Rattle.dm_blocks.proofs.Chains.{has_left, has_right, has_either, spells_end, clear_within, clear_map}

@@ -12,7 +12,7 @@ use Rattle.dm_blocks.proofs.Chains.{Agrees, clear_map, clear_within, has_either,
 use Rattle.dm_blocks.proofs.Unique.{arena_unique}
 use Rattle.dm_arena.specs.Owned.{ReleasesBoth, released}
 use Rattle.dm_arena.specs.Linking.{BeginsAt, EndsAt, GoesOn, IsCutOff, LinkRefused, Links}
-use Rattle.dm_arena.specs.Walks.{IsHeaderWritten}
+use Rattle.dm_arena.specs.inner.Walks.{IsHeaderWritten}
 use Rattle.dm_arena.proofs.Releasing.{released-has}
 use Rattle.dm_arena.proofs.Written.{agrees_written}
 

@@ -5,7 +5,7 @@ use Rattle.dm_blocks.specs.declared.header.Header.{Header}
 use Rattle.dm_blocks.specs.declared.header.Entry.{Entry}
 use Rattle.dm_blocks.specs.Chain.{word, IsHeader, Spells, HasHeader, next}
 use Rattle.dm_blocks.specs.Reading.{IsFront, IsSpelledFrom}
-use Rattle.dm_arena.specs.Walks.{IsJoining, IsJoinedFront}
+use Rattle.dm_arena.specs.inner.Walks.{IsJoining, IsJoinedFront}
 use Rattle.dm_blocks.specs.Chain.{is_free}
 use Rattle.dm_arena.specs.Blocks.{merge, join, join_after}
 

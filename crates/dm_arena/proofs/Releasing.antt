@@ -6,7 +6,7 @@ use Rattle.dm_blocks.specs.declared.header.Header.{Header}
 use Rattle.dm_blocks.specs.declared.header.Entry.{Entry}
 use Rattle.dm_blocks.specs.Chain.{Spells, HasHeader, IsNonEmpty, next, IsArena, Becomes, DiffersInHeaders}
 use Rattle.dm_blocks.specs.Reading.{is_nil, IsFront}
-use Rattle.dm_arena.specs.Walks.{IsReplaceable, IsReplaced, IsReleasing}
+use Rattle.dm_arena.specs.inner.Walks.{IsReplaceable, IsReplaced, IsReleasing}
 use Rattle.dm_arena.specs.Owned.{released, released_block}
 use Rattle.dm_blocks.proofs.Chains.{has_left, has_right, has_either, spells_end, clear_within, clear_map}
 

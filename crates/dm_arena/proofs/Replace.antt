@@ -4,7 +4,7 @@ use Rattle.dm_space.specs.Memory.{Memory}
 use Rattle.dm_space.proofs.Places.{place-shaped, shaped-then}
 use Rattle.dm_blocks.specs.declared.header.Header.{Header}
 use Rattle.dm_blocks.specs.Chain.{IsHeader, signature, Spells, HasHeader, next, IsClear, mark}
-use Rattle.dm_arena.specs.Walks.{IsHeaderWritten, Fills, IsReplaceable, IsReplaced}
+use Rattle.dm_arena.specs.inner.Walks.{IsHeaderWritten, Fills, IsReplaceable, IsReplaced}
 use Rattle.dm_blocks.proofs.Chains.{Agrees, spells_kept, spells_replace, spells_above, spells_below, spells_end, header_kept, has_left, has_right, clear_map, mark-signature}
 use Rattle.dm_arena.proofs.Written.{agrees_written, byte_kept}
 

@@ -2,7 +2,8 @@
 use Rattle.std.proofs.Common.{◌≡◌, ◌≢◌, ℕ, suc, zero, ◌+◌, ◌*◌, ◌<◌, ◌≤◌, refl, sym, ◌∙◌, ap₂, subst, arith}
 use Rattle.dm_space.specs.declared.place.Place.{Place}
 use Rattle.dm_space.specs.Memory.{Memory, place, peek, byte_at}
-use Rattle.dm_space.specs.Places.{IsWritable, IsShaped, IsPoked}
+use Rattle.dm_space.specs.Places.{IsWritable, IsShaped}
+use Rattle.dm_space.specs.inner.Places.{IsPoked}
 use Rattle.dm_space.proofs.Places.{paragraph-writable, paragraph-apart, place-shaped, shaped-then, poked-read, poked-kept}
 use Rattle.dm_blocks.specs.Chain.{IsHeader}
 use Rattle.dm_blocks.proofs.Unique.{each_of_five}

@@ -4,7 +4,7 @@ use Rattle.dm_space.specs.Memory.{Memory, peek, byte_at}
 use Rattle.dm_space.proofs.Places.{paragraph-apart, place-shaped, peek-place}
 use Rattle.dm_blocks.specs.declared.header.Header.{Header}
 use Rattle.dm_blocks.specs.Chain.{HasHeader, IsClear}
-use Rattle.dm_arena.specs.Walks.{IsHeaderWritten}
+use Rattle.dm_arena.specs.inner.Walks.{IsHeaderWritten}
 use Rattle.dm_blocks.proofs.Chains.{Agrees}
 
 -- a header written at b leaves the bytes of each other header of a clear list

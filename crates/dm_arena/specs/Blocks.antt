@@ -1,6 +1,6 @@
 -- Lists of blocks: joined, chosen from and cut.
 -- MS-DOS Programmer's Reference, functions 48h, 4Ah and 58h: which free block is taken, and which end of it.
-use Rattle.std.specs.Prelude.{Bool, IsTrue, List, [], cond, max, nat_le, nat_lt, not, option_to_list, true, ℕ, if◌then◌else◌, ◌&&◌, ◌+◌, ◌-◌, ◌==◌, ◌||◌, ◌∷◌, ◌≡◌, ◌⊎◌}
+use Rattle.std.specs.Prelude.{Bool, IsTrue, List, [], cond, max, nat_le, nat_lt, not, true, ℕ, if◌then◌else◌, ◌&&◌, ◌+◌, ◌-◌, ◌==◌, ◌||◌, ◌∷◌, ◌≡◌, ◌⊎◌}
 use Rattle.dm_blocks.specs.declared.header.Header.{Header}
 use Rattle.dm_blocks.specs.Chain.{is_free, is_linked, link_header}
 use Rattle.dm_arena.specs.declared.fit.Area.{Area}
@@ -8,7 +8,6 @@ use Rattle.dm_arena.specs.declared.fit.Area.TheVariants.{All, Upper, UpperFirst}
 use Rattle.dm_arena.specs.declared.fit.Fit.{Fit}
 use Rattle.dm_arena.specs.declared.fit.Fit.TheVariants.{Best, First, Last}
 use Rattle.dm_arena.specs.declared.fit.Strategy.{Strategy}
-use Rattle.dm_arena.specs.declared.cut.Cut.{Cut}
 
 -- b with the block c after it taken in
 abbrev pub merge : Header → Header → Header
@@ -101,6 +100,3 @@ abbrev pub taken : Fit → ℕ → Header → ℕ
 taken First n b = b.segment
 taken Best n b = b.segment
 taken Last n b = b.segment + b.size - n
-
-abbrev pub cut_list : Cut → List Header
-cut_list c = c.first ∷ option_to_list c.second

@@ -4,5 +4,4 @@ pub mod Owned
 pub mod Pair
 pub mod Linking
 pub mod Laws
-pub mod Walks
-pub mod Standing
+pub mod inner

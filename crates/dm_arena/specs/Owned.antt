@@ -72,6 +72,7 @@ pub record BlockRunAt (upper : Bool) (S : Memory) (start : ℕ) (segment : ℕ) 
 abbrev pub resized : {upper : Bool} {S : Memory} {start : ℕ} {segment : ℕ} → BlockRunAt upper S start segment → ℕ → List Header
 resized {upper} {S} {start} {segment} r n = r.before ++ (cut_low n r.block.owner (absorb r.block r.run) ++ r.after)
 
+-- destroyed, no such block, or short with the size of the block and its run; nothing changes
 abbrev pub ResizeRefused : Bool → Memory → ℕ → ℕ → ℕ → Refusal → Type 0
 ResizeRefused upper S start segment n Destroyed = NoArena S start ⊎ ((r : BlockRunAt upper S start segment) × (n ≤ (absorb r.block r.run).size) × (IsClear S (resized r n) → ⊥))
 ResizeRefused upper S start segment n (Short most) = (r : BlockRunAt upper S start segment) × (most ≡ (absorb r.block r.run).size) × (most < n)

@@ -1,13 +1,12 @@
 -- Two blocks planned together and written together: the environment of a program, and the program's own block.
 -- MS-DOS Programmer's Reference, function 4Bh.
-use Rattle.std.specs.Prelude.{Bool, ◌≡◌, ℕ, ◌+◌, ◌≤◌, ◌⊎◌, min, List, ◌∷◌, ◌++◌, MatchOption, Result, Ok, Err}
+use Rattle.std.specs.Prelude.{Bool, ◌≡◌, ℕ, ◌+◌, ◌≤◌, ◌⊎◌, min, List, ◌∷◌, ◌++◌, Result, Ok, Err}
 use Rattle.dm_space.specs.Memory.{Memory}
 use Rattle.dm_blocks.specs.declared.header.Header.{Header}
 use Rattle.dm_arena.specs.declared.fit.Strategy.{Strategy}
-use Rattle.dm_arena.specs.declared.cut.Cut.{Cut}
 use Rattle.dm_arena.specs.declared.refusal.Refusal.{Refusal}
 use Rattle.dm_arena.specs.declared.refusal.Refusal.TheVariants.{Destroyed, Short, NoBlock}
-use Rattle.dm_blocks.specs.Chain.{first_header, next, IsArena, NoArena, IsClear, Becomes}
+use Rattle.dm_blocks.specs.Chain.{first_header, IsArena, NoArena, IsClear, Becomes}
 use Rattle.dm_arena.specs.Blocks.{in_effect, join, largest, IsFit, cut, taken}
 use Rattle.dm_arena.specs.Allocation.{Taking, changed}
 
@@ -80,7 +79,3 @@ pub record IsPlannedOn (upper : Bool) (S : Memory) (pair : Planned) : Type 0 whe
   pub least : ℕ
   pub most : ℕ
   pub planned : IsPair upper S first_header strategy environment least most pair
-
--- the headers of a cut lead to no segment past FFFFh
-abbrev pub IsCutFitting : Cut → Type 0
-IsCutFitting c = (next c.first ≤ 0xFFFF) × MatchOption c.second (Unit {0}) (λ d. next d ≤ 0xFFFF)

@@ -1,9 +1,9 @@
 //! Allocation (function 48h).
 ghost use Rattle.std.specs.Prelude.{◌≡◌, ◌≤◌, ◌++◌, MatchOption, MatchResult, IfOk};
 ghost use Rattle.dm_blocks.specs.Chain.{first_header, next, Becomes};
-ghost use Rattle.dm_arena.specs.Blocks.{cut_list};
+ghost use Rattle.dm_arena.specs.inner.Blocks.{cut_list};
 ghost use Rattle.dm_arena.specs.Allocation.{AllocateRefused, Allocates};
-ghost use Rattle.dm_arena.specs.Walks.{IsPlan, Placing};
+ghost use Rattle.dm_arena.specs.inner.Walks.{IsPlan, Placing};
 
 use crate::cut::{Cut, cut_of, taken_of, write_cut};
 use crate::fit::{Strategy, choose, in_effect};

@@ -2,8 +2,9 @@
 ghost use Rattle.std.specs.Prelude.{◌≡◌, ℕ, ◌+◌, ◌<◌, ◌≤◌, List, MatchOption};
 ghost use Rattle.dm_blocks.specs.declared.header.Header.{Header};
 ghost use Rattle.dm_blocks.specs.Chain.{next};
-ghost use Rattle.dm_arena.specs.Blocks.{cut, taken, cut_list};
-ghost use Rattle.dm_arena.specs.Walks.{IsReplaceable, IsReplaced};
+ghost use Rattle.dm_arena.specs.Blocks.{cut, taken};
+ghost use Rattle.dm_arena.specs.inner.Blocks.{cut_list};
+ghost use Rattle.dm_arena.specs.inner.Walks.{IsReplaceable, IsReplaced};
 
 use crate::fit::Fit;
 use crate::writing::write_header;

@@ -3,8 +3,8 @@ ghost use Rattle.std.specs.Prelude.{◌≡◌, ◌++◌, List, None, max, option
 ghost use Rattle.dm_blocks.specs.declared.header.Header.{Header};
 ghost use Rattle.dm_blocks.specs.Chain.{first_header};
 ghost use Rattle.dm_blocks.specs.Reading.{IsSpelledFrom};
-ghost use Rattle.dm_arena.specs.Walks.{better, left_of, pick};
-ghost use Rattle.dm_arena.specs.Walks;
+ghost use Rattle.dm_arena.specs.inner.Walks.{better, left_of, pick};
+ghost use Rattle.dm_arena.specs.inner.Walks;
 ghost use Rattle.dm_arena.specs.Blocks;
 ghost use Rattle.dm_arena.specs.declared.fit.Area.TheVariants.{All};
 ghost use Rattle.dm_arena.specs.Blocks.{join, largest};

@@ -3,7 +3,7 @@ ghost use Rattle.std.specs.Prelude.{◌≡◌, ℕ, ◌+◌, ◌≤◌, List};
 ghost use Rattle.dm_blocks.specs.declared.header.Header.{Header};
 ghost use Rattle.dm_blocks.specs.Chain.{first_header, next, IsArena};
 ghost use Rattle.dm_blocks.specs.Reading.{IsSpelledFrom};
-ghost use Rattle.dm_arena.specs.Walks.{IsJoinedFront, IsJoined};
+ghost use Rattle.dm_arena.specs.inner.Walks.{IsJoinedFront, IsJoined};
 
 use crate::writing::write_header;
 use dm_blocks::{Entry, FIRST, entry_at};

@@ -4,7 +4,7 @@ ghost use Rattle.dm_blocks.specs.declared.header.Header.{Header};
 ghost use Rattle.dm_blocks.specs.Chain.{first_header, next, Becomes, IsArena};
 ghost use Rattle.dm_arena.specs.Owned.{released, released_block, BeginsTaken, Frees, Releases, Resizes};
 ghost use Rattle.dm_blocks.specs.Reading.{IsSpelledFrom};
-ghost use Rattle.dm_arena.specs.Walks.{FindsOther, IsGrowable, IsGrown};
+ghost use Rattle.dm_arena.specs.inner.Walks.{FindsOther, IsGrowable, IsGrown};
 
 use crate::cut::{Cut, cut_of, write_cut};
 use crate::fit::Fit;

@@ -4,8 +4,8 @@ ghost use Rattle.dm_blocks.specs.declared.header.Header.{Header};
 ghost use Rattle.dm_blocks.specs.Chain.{first_header, next, Becomes};
 ghost use Rattle.dm_arena.specs.Blocks.{join};
 ghost use Rattle.dm_blocks.specs.Reading.{IsSpelledFrom};
-ghost use Rattle.dm_arena.specs.Walks.{rest_of};
-ghost use Rattle.dm_arena.specs.Standing.{IsNew, MaySplit};
+ghost use Rattle.dm_arena.specs.inner.Walks.{rest_of};
+ghost use Rattle.dm_arena.specs.inner.Standing.{IsNew, MaySplit};
 ghost use Rattle.dm_arena.specs.Pair.{paired, IsPair, IsPlannedOn, PairRefused};
 
 use crate::cut::{Cut, cut_of, taken_of, write_cut};
@@ -31,8 +31,9 @@ pub struct Pair {
 }
 
 impl Model for Pair {
-    ghost use Rattle.dm_arena.specs.Blocks.{cut_list};
-    ghost use Rattle.dm_arena.specs.Pair.{Planned, IsCutFitting};
+    ghost use Rattle.dm_arena.specs.inner.Blocks.{cut_list};
+    ghost use Rattle.dm_arena.specs.Pair.{Planned};
+    ghost use Rattle.dm_arena.specs.inner.Pair.{IsCutFitting};
 
     ghost Value = { Planned };
 

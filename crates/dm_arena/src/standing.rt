@@ -8,8 +8,8 @@ ghost use Rattle.dm_space.specs.Memory.{place};
 ghost use Rattle.dm_blocks.specs.declared.header.Header.{Header};
 ghost use Rattle.dm_arena.specs.Blocks.{join};
 ghost use Rattle.dm_blocks.specs.Reading.{IsSpelledFrom};
-ghost use Rattle.dm_blocks.specs.Standing.{Occupies};
-ghost use Rattle.dm_arena.specs.Standing.{AreOutside, IsNew, MaySplit};
+ghost use Rattle.dm_blocks.specs.inner.Standing.{Occupies};
+ghost use Rattle.dm_arena.specs.inner.Standing.{AreOutside, IsNew, MaySplit};
 
 use crate::joined::joined_at;
 use dm_blocks::{Header, entry_at};

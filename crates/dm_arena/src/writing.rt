@@ -2,9 +2,9 @@
 //! header").
 ghost use Rattle.std.specs.Prelude.{◌≡◌, ◌+◌, ◌*◌, ◌<◌, ◌≤◌};
 ghost use Rattle.dm_space.specs.Memory.{IsHeld};
-ghost use Rattle.dm_space.specs.Places.{IsPoked};
+ghost use Rattle.dm_space.specs.inner.Places.{IsPoked};
 ghost use Rattle.dm_blocks.specs.Chain.{mark, next};
-ghost use Rattle.dm_arena.specs.Walks.{IsHeaderWritten};
+ghost use Rattle.dm_arena.specs.inner.Walks.{IsHeaderWritten};
 
 use dm_blocks::Entry;
 use dm_space::Space;

@@ -51,6 +51,7 @@ fn shrunk(space: &mut Space) -> Result<(), Refusal> {
     resize(space, OWNER, 0x1000, false)
 }
 
+/// Definitions: dm_blocks Chain IsHeader word next signature mark
 #[test]
 fn first_header_holds_all_of_memory(rt: HostRuntime) -> Result<(), Fail> {
     let space = new_space(rt.alloc())?;
@@ -58,6 +59,10 @@ fn first_header_holds_all_of_memory(rt: HostRuntime) -> Result<(), Fail> {
     Ok(())
 }
 
+/// Definitions: dm_blocks Chain IsChain Spells IsNonEmpty
+/// Definitions: dm_arena Blocks IsFit fits is_candidate prefers prefers_in prefers_by largest
+/// Definitions: dm_arena Allocation AllocateRefused
+/// Definitions: dm_arena Owned Resizes BlockRunAt resized absorb AllFree BeginsTaken
 #[test]
 fn resized_block_leaves_the_rest_free(rt: HostRuntime) -> Result<(), Fail> {
     let mut space = new_space(rt.alloc())?;
@@ -96,6 +101,7 @@ fn resized_block_leaves_the_rest_free(rt: HostRuntime) -> Result<(), Fail> {
     Ok(())
 }
 
+/// Definitions: dm_arena Owned Resizes BlockRunAt resized absorb AllFree BeginsTaken ResizeRefused
 #[test]
 fn block_grows_back_over_the_rest(rt: HostRuntime) -> Result<(), Fail> {
     let mut space = new_space(rt.alloc())?;
@@ -117,6 +123,8 @@ fn block_grows_back_over_the_rest(rt: HostRuntime) -> Result<(), Fail> {
     Ok(())
 }
 
+/// Definitions: dm_blocks Chain IsClear HasHeader; dm_arena Blocks cut cut_low cut_high taken
+/// Definitions: dm_arena Allocation Allocates Taking changed
 #[test]
 fn rest_of_a_block_may_be_empty(rt: HostRuntime) -> Result<(), Fail> {
     // paragraphs asked for, the header that is then the last one
@@ -145,6 +153,9 @@ fn rest_of_a_block_may_be_empty(rt: HostRuntime) -> Result<(), Fail> {
     Ok(())
 }
 
+/// Definitions: dm_blocks Chain Becomes DiffersInHeaders
+/// Definitions: dm_arena Blocks IsFit fits is_candidate prefers prefers_in prefers_by largest cut cut_low cut_high taken
+/// Definitions: dm_arena Allocation Allocates Taking changed
 #[test]
 fn strategies_take_other_blocks(rt: HostRuntime) -> Result<(), Fail> {
     let rows = [
@@ -187,6 +198,7 @@ fn strategies_take_other_blocks(rt: HostRuntime) -> Result<(), Fail> {
     Ok(())
 }
 
+/// Definitions: dm_blocks Chain NoBlockAt; dm_arena Owned Frees BlockAt freed FreeRefused IsNoBlock is_link_block
 #[test]
 fn nothing_is_freed_inside_a_block(rt: HostRuntime) -> Result<(), Fail> {
     let mut space = new_space(rt.alloc())?;
@@ -219,6 +231,10 @@ fn nothing_is_freed_inside_a_block(rt: HostRuntime) -> Result<(), Fail> {
     Ok(())
 }
 
+/// Definitions: dm_blocks Chain IsArena NoArena first_header
+/// Definitions: dm_blocks Listing Steps IsStep IsStepFrom Follows Closes AreTold
+/// Definitions: dm_arena Allocation AllocateRefused
+/// Definitions: dm_arena Owned Frees BlockAt freed FreeRefused IsNoBlock is_link_block ResizeRefused Releases ReleasesOne ReleasesBoth ReleaseRefused released released_block
 #[test]
 fn broken_signature_destroys_the_arena(rt: HostRuntime) -> Result<(), Fail> {
     let mut space = new_space(rt.alloc())?;
@@ -267,6 +283,9 @@ fn broken_signature_destroys_the_arena(rt: HostRuntime) -> Result<(), Fail> {
     Ok(())
 }
 
+/// Definitions: dm_blocks Chain Becomes DiffersInHeaders
+/// Definitions: dm_blocks Listing Walking Path Leads IsBehind start_of Steps IsStep IsStepFrom Follows Closes AreTold
+/// Definitions: dm_arena Owned Releases ReleasesOne ReleasesBoth ReleaseRefused released released_block
 #[test]
 fn ended_program_leaves_free_blocks(rt: HostRuntime) -> Result<(), Fail> {
     let mut space = new_space(rt.alloc())?;
@@ -319,6 +338,8 @@ fn write_two(rt: &impl Abort, space: &mut Space) {
     write_pair(space, pair, false);
 }
 
+/// Definitions: dm_blocks Chain Becomes DiffersInHeaders
+/// Definitions: dm_arena Pair IsPair Planned Pairing paired PairRefused IsPlannedOn Pairs Placed placed_of
 #[test]
 fn two_blocks_share_what_is_left(rt: HostRuntime) -> Result<(), Fail> {
     let mut space = new_space(rt.alloc())?;

@@ -126,6 +126,8 @@ fn leaves(
 
 type Row<'a> = (&'a [(u16, u16)], Call, &'a [(u16, u16)]);
 
+/// Definitions: dm_blocks Chain Becomes DiffersInHeaders
+/// Definitions: dm_arena Owned Frees BlockAt freed FreeRefused IsNoBlock is_link_block Resizes BlockRunAt resized absorb AllFree BeginsTaken Releases ReleasesOne ReleasesBoth ReleaseRefused released released_block
 #[test]
 fn blocks_are_resized_and_freed(rt: HostRuntime) -> Result<(), Fail> {
     let rows: [Row; 15] = [
@@ -205,6 +207,9 @@ fn blocks_are_resized_and_freed(rt: HostRuntime) -> Result<(), Fail> {
     Ok(())
 }
 
+/// Definitions: dm_blocks Chain Becomes DiffersInHeaders
+/// Definitions: dm_arena Blocks join join_after merge IsFit fits is_candidate prefers prefers_in prefers_by largest cut cut_low cut_high taken
+/// Definitions: dm_arena Allocation Allocates Taking changed
 #[test]
 fn strategies_choose_and_cut(rt: HostRuntime) -> Result<(), Fail> {
     let [first, best, last] = [
@@ -334,6 +339,7 @@ fn strategies_choose_and_cut(rt: HostRuntime) -> Result<(), Fail> {
     Ok(())
 }
 
+/// Definitions: dm_arena Pair IsPair Planned Pairing paired PairRefused IsPlannedOn Pairs Placed placed_of
 #[test]
 fn two_blocks_are_chosen_in_turn(rt: HostRuntime) -> Result<(), Fail> {
     let [first, best, last] = [
@@ -442,6 +448,10 @@ fn two_blocks_are_chosen_in_turn(rt: HostRuntime) -> Result<(), Fail> {
     Ok(())
 }
 
+/// Definitions: dm_blocks Chain IsClear HasHeader NoBlockAt; dm_arena Blocks join join_after merge
+/// Definitions: dm_arena Allocation AllocateRefused
+/// Definitions: dm_arena Owned Frees BlockAt freed FreeRefused IsNoBlock is_link_block ResizeRefused
+/// Definitions: dm_arena Pair IsPair Planned Pairing paired PairRefused IsPlannedOn
 #[test]
 fn refused_calls_leave_the_list(rt: HostRuntime) -> Result<(), Fail> {
     let [first, best, last] = [
@@ -495,6 +505,7 @@ fn refused_calls_leave_the_list(rt: HostRuntime) -> Result<(), Fail> {
     Ok(())
 }
 
+/// Definitions: dm_blocks Chain IsHeader word next signature IsChain Spells IsNonEmpty IsClear HasHeader IsArena NoArena first_header
 #[test]
 fn bytes_that_spell_no_list(rt: HostRuntime) -> Result<(), Fail> {
     // the list, and the byte at 0100h:offset that breaks it

@@ -114,6 +114,8 @@ fn play(rt: &impl Abort, space: &mut Space, acts: &[Act]) {
     }
 }
 
+/// Definitions: dm_blocks Chain is_linked is_parted IsArenaBehind NoArenaBehind AreApart
+/// Definitions: dm_arena Linking TellsLinked Links GoesOn IsCutOff IsSo LinkRefused EndsAt BeginsAt
 #[test]
 fn upper_memory_is_linked_and_parted(rt: HostRuntime) -> Result<(), Fail> {
     let first = Strategy::everywhere(Fit::First);
@@ -146,6 +148,7 @@ fn upper_memory_is_linked_and_parted(rt: HostRuntime) -> Result<(), Fail> {
     Ok(())
 }
 
+/// Definitions: dm_arena Blocks in_effect is_in is_upper
 #[test]
 fn strategies_look_at_upper_memory(rt: HostRuntime) -> Result<(), Fail> {
     let [first, last] = [Fit::First, Fit::Last];
@@ -174,6 +177,7 @@ fn strategies_look_at_upper_memory(rt: HostRuntime) -> Result<(), Fail> {
     Ok(())
 }
 
+/// Definitions: dm_arena Blocks in_effect is_in is_upper
 #[test]
 fn parted_lists_have_no_areas(rt: HostRuntime) -> Result<(), Fail> {
     let mut space = new_space(rt.alloc())?;
@@ -189,6 +193,7 @@ fn parted_lists_have_no_areas(rt: HostRuntime) -> Result<(), Fail> {
     Ok(())
 }
 
+/// Definitions: dm_arena Blocks in_effect is_in is_upper
 #[test]
 fn pairs_are_loaded_high(rt: HostRuntime) -> Result<(), Fail> {
     let first = Fit::First;
@@ -205,6 +210,7 @@ fn pairs_are_loaded_high(rt: HostRuntime) -> Result<(), Fail> {
     Ok(())
 }
 
+/// Definitions: dm_blocks Chain is_free is_link link_header; dm_arena Blocks join join_after merge
 #[test]
 fn link_block_is_never_joined(rt: HostRuntime) -> Result<(), Fail> {
     let first = Strategy::everywhere(Fit::First);
@@ -225,6 +231,7 @@ fn link_block_is_never_joined(rt: HostRuntime) -> Result<(), Fail> {
     Ok(())
 }
 
+/// Definitions: dm_arena Owned Releases ReleasesOne ReleasesBoth ReleaseRefused released released_block
 #[test]
 fn endings_free_in_both_lists(rt: HostRuntime) -> Result<(), Fail> {
     for on in [false, true] {
@@ -247,6 +254,7 @@ fn endings_free_in_both_lists(rt: HostRuntime) -> Result<(), Fail> {
     Ok(())
 }
 
+/// Definitions: dm_arena Linking TellsLinked Links GoesOn IsCutOff IsSo LinkRefused EndsAt BeginsAt
 #[test]
 fn broken_upper_memory_destroys_what_it_is_linked_with(rt: HostRuntime) -> Result<(), Fail> {
     let first = Strategy::everywhere(Fit::First);
@@ -283,6 +291,8 @@ fn broken_upper_memory_destroys_what_it_is_linked_with(rt: HostRuntime) -> Resul
     Ok(())
 }
 
+/// Definitions: dm_blocks Chain is_linked is_parted IsArenaBehind NoArenaBehind AreApart
+/// Definitions: dm_arena Owned Releases ReleasesOne ReleasesBoth ReleaseRefused released released_block
 #[test]
 fn lists_have_no_header_together(rt: HostRuntime) -> Result<(), Fail> {
     let mut space = new_space(rt.alloc())?;
@@ -326,6 +336,8 @@ fn framed(alloc: Global, aliased: bool) -> Result<Space, NewError> {
     Ok(space)
 }
 
+/// Definitions: dm_blocks Chain is_linked is_parted IsArenaBehind NoArenaBehind AreApart
+/// Definitions: dm_arena Linking TellsLinked Links GoesOn IsCutOff IsSo LinkRefused EndsAt BeginsAt
 #[test]
 fn second_list_needs_places_of_its_own(rt: HostRuntime) -> Result<(), Fail> {
     for aliased in [false, true] {

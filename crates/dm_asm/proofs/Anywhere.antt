@@ -24,7 +24,7 @@ use Rattle.dm_lines.specs.Placing.{number_at, written_of}
 use Rattle.dm_lines.specs.Laws.{TermFits, OutlinesStand}
 use Rattle.dm_asm.specs.Labels.{Label}
 use Rattle.dm_asm.specs.Codes.{placed, placed_words, outlined, IsCoded}
-use Rattle.dm_asm.specs.Fixed.{AreFixed, names_none, targets}
+use Rattle.dm_asm.specs.inner.Fixed.{AreFixed, names_none, targets}
 use Rattle.dm_asm.proofs.Placed.{some_same, stands}
 
 -- ---- operands

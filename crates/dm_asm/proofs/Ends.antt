@@ -2,7 +2,8 @@
 use Rattle.std.proofs.Common.{◌≡◌, ◌&&◌, ℕ, Bool, subst, suc, ◌<◌, ◌+◌, ◌-◌, List, [], ◌∷◌, ◌++◌, take, drop, refl, ap, sym, ◌∙◌, get_or, length, true, false, eqb, arith, add-one, if◌then◌else◌}
 use Rattle.std.proofs.Math.Seq.{drop-cons, take-suc, take-length}
 use Rattle.std.proofs.lemmas.List.{take_rest, take-append-drop}
-use Rattle.dm_asm.specs.Lines.{onto, ends_line, trim, lines_of}
+use Rattle.dm_asm.specs.Lines.{onto, ends_line, lines_of}
+use Rattle.dm_asm.specs.inner.Lines.{trim}
 
 -- no byte ends a line
 abbrev pub IsOpen : List ℕ → Type 0

@@ -11,7 +11,7 @@ use Rattle.dm_ins.specs.declared.operand.Operand.{Operand}
 use Rattle.dm_ins.specs.declared.operand.Operand.TheVariants as operand
 use Rattle.dm_ins.specs.declared.action.Action.{Action}
 use Rattle.dm_ins.specs.declared.ins.Ins.{Ins}
-use Rattle.dm_ins.specs.Search.{OperandFits}
+use Rattle.dm_ins.specs.inner.Search.{OperandFits}
 use Rattle.dm_ins.specs.Preferred.{IsPreferred}
 use Rattle.dm_ins.specs.Spelling.{SpellsAction}
 use Rattle.dm_ins.proofs.Shortest.{action_fits}
@@ -38,7 +38,8 @@ use Rattle.dm_listing.proofs.Once.{bytes_long}
 use Rattle.dm_lines.specs.declared.token.Name as Name'
 use Rattle.dm_asm.specs.Labels.{Label, term_place}
 use Rattle.dm_asm.specs.Codes.{Codes, HasLength, HasShape, IsCoded, outlined, placed, placed_words}
-use Rattle.dm_asm.specs.Lines.{lines_of, trim}
+use Rattle.dm_asm.specs.Lines.{lines_of}
+use Rattle.dm_asm.specs.inner.Lines.{trim}
 use Rattle.dm_asm.specs.Programs.{Sized, AreRead, AreOnce, AreCoded, joined, total, labelled, labels_of, most, Assembles}
 use Rattle.dm_asm.proofs.Ends.{IsOpen, line_found}
 use Rattle.dm_asm.proofs.Placed.{stands}

@@ -5,7 +5,7 @@ use Rattle.dm_asm.specs.declared.labels.Labels.{Labels}
 use Rattle.dm_asm.specs.declared.refusal.Refusal.TheVariants as refusal
 use Rattle.dm_asm.specs.Lines.{lines_of}
 use Rattle.dm_asm.specs.Labels.{IsFree, find}
-use Rattle.dm_asm.specs.Kept.{AreKept, AreNear, AreLaid}
+use Rattle.dm_asm.specs.inner.Kept.{AreKept, AreNear, AreLaid}
 use Rattle.dm_asm.specs.Programs.{Sized, Reads, total, labelled, labels_of, AreRead, AreCoded, joined, Laid, most, IsBehindGood, IsBehindCoded, Assembles, Refuses, syntax, twice, too_long, unknown, range}
 use Rattle.dm_read.specs.Laws.{WordsAreOne}
 use Rattle.dm_asm.specs.Codes.{Codes, HasLength, Knows}
@@ -13,7 +13,7 @@ use Rattle.dm_asm.specs.declared.known.Line.{Line}
 use Rattle.dm_asm.specs.declared.known.Line.TheVariants as line
 use Rattle.dm_asm.specs.declared.known.Known.{Known}
 use Rattle.dm_lines.specs.Statements.{Statement, line_of}
-use Rattle.dm_asm.specs.Fixed.{AreKnown, Keeps}
+use Rattle.dm_asm.specs.inner.Fixed.{AreKnown, Keeps}
 use Rattle.dm_asm.proofs.Placed.{not_none, some_same}
 use Rattle.dm_asm.proofs.Remembered.{first_known}
 use Rattle.dm_asm.proofs.Stated.{total_append, labels_more, laid_more, first_read, reads_once, place_fits, coded_more, joined_more, code_long}

@@ -7,7 +7,7 @@ use Rattle.dm_asm.specs.declared.known.Line.TheVariants as line
 use Rattle.dm_asm.specs.declared.known.Known.{Known}
 use Rattle.dm_asm.specs.Codes.{HasLength}
 use Rattle.dm_asm.specs.Programs.{Sized}
-use Rattle.dm_asm.specs.Fixed.{AreKnown, IsFixed, Keeps, KeepsOf}
+use Rattle.dm_asm.specs.inner.Fixed.{AreKnown, IsFixed, Keeps, KeepsOf}
 
 -- ---- one line more
 

@@ -96,6 +96,7 @@ Codes labels at (words vs) code = AreWordsOf labels vs code
 abbrev pub KnowsTerm : List Label → Term → Type 0
 KnowsTerm labels term = IsSome (term_place labels term)
 
+-- each label that a statement names is there
 abbrev pub Knows : List Label → Item → Type 0
 Knows labels nothing = Unit {0}
 Knows labels (instruction i) = KnowsTerm labels i.first × KnowsTerm labels i.second

@@ -2,6 +2,5 @@ pub mod Lines
 pub mod Labels
 pub mod Codes
 pub mod Programs
-pub mod Fixed
-pub mod Kept
 pub mod Laws
+pub mod inner

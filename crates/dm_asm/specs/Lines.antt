@@ -18,9 +18,3 @@ lines_of (b ∷ bs) =
     if b == 10 then [] ∷ lines_of bs
     else if (b == 13) && ends_line bs then lines_of bs
     else onto b (lines_of bs)
-
--- some bytes without the 0Dh at their end
-abbrev pub trim : List ℕ → List ℕ
-trim [] = []
-trim (b ∷ []) = if b == 13 then [] else b ∷ []
-trim (b ∷ c ∷ bs) = b ∷ trim (c ∷ bs)

@@ -4,7 +4,7 @@ ghost use Rattle.std.specs.Prelude.{◌≡◌, ◌≤◌, ◌++◌, ◌⊎◌, L
 ghost use Rattle.dm_lines.specs.Statements.{seen_statement};
 ghost use Rattle.dm_asm.specs.declared.refusal.Refusal.TheVariants.{Memory as OutOfMemory, Twice as IsTwice};
 ghost use Rattle.dm_asm.specs.Labels.{Label, IsFree};
-ghost use Rattle.dm_asm.specs.Kept.{AreKept, AreLaid};
+ghost use Rattle.dm_asm.specs.inner.Kept.{AreKept, AreLaid};
 ghost use Rattle.dm_asm.specs.Programs.{Sized, Reads, labelled, Assembles, Refuses};
 
 use crate::codes::{Problem, code_of};

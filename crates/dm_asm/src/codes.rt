@@ -2,13 +2,13 @@
 
 ghost use Rattle.std.specs.Prelude.{◌≡◌, ◌+◌, ◌<◌, ◌≤◌, ◌^◌, ◌↔◌, ℕ, List, Some, IfSome, IfNone, IfOk, IfErr, IsTrue, IsSome, length, map};
 ghost use Rattle.std.specs.List.{AllByRecursion};
-ghost use Rattle.dm_asm.specs.Kept.{IsProblem};
+ghost use Rattle.dm_asm.specs.inner.Kept.{IsProblem};
 ghost use Rattle.dm_asm.specs.Labels.{place_of};
 ghost use Rattle.dm_lines.specs.Statements.{seen_item};
 ghost use Rattle.dm_lines.specs.Placing.{byte_of};
 ghost use Rattle.dm_lines.specs.Laws.{AmountFits, TermFits};
 ghost use Rattle.dm_asm.specs.Labels.{Label};
-ghost use Rattle.dm_asm.specs.Kept.{AreKept, AreNear};
+ghost use Rattle.dm_asm.specs.inner.Kept.{AreKept, AreNear};
 ghost use Rattle.dm_asm.specs.Codes.{placed as placed_of, placed_words as words_of, word_of as value_of, IsCoded, AreWordsOf, HasShape, HasLength, Codes, Knows};
 
 use crate::labels::Labels;

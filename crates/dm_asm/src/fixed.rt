@@ -4,7 +4,7 @@ ghost use Rattle.std.specs.Prelude.{◌≡◌, ℕ, List, true, Some, IfSome};
 ghost use Rattle.dm_lines.specs.Placing.{written_of};
 ghost use Rattle.dm_asm.specs.Labels.{Label};
 ghost use Rattle.dm_asm.specs.Codes.{IsCoded};
-ghost use Rattle.dm_asm.specs.Fixed.{AreFixed, names_none, targets};
+ghost use Rattle.dm_asm.specs.inner.Fixed.{AreFixed, names_none, targets};
 
 use crate::codes::term_fits;
 use arrayvec::ArrayVec;

@@ -2,7 +2,7 @@
 
 ghost use Rattle.std.specs.Prelude.{◌≡◌, ◌≤◌, [], ◌∷◌, IfOk, MatchOption, OnOk, length};
 ghost use Rattle.dm_lines.specs.Statements.{Item as Stated, seen_item, bytes as data_bytes, instruction as encoded};
-ghost use Rattle.dm_asm.specs.Fixed.{AreKnown, IsFixed, Keeps, KeepsOf};
+ghost use Rattle.dm_asm.specs.inner.Fixed.{AreKnown, IsFixed, Keeps, KeepsOf};
 
 use crate::codes::bytes_code;
 use crate::fixed::fixed_code;

@@ -1,7 +1,8 @@
 //! The lines of a text.
 
 ghost use Rattle.std.specs.Prelude.{◌≡◌, ◌<◌, ◌∷◌, [], MatchOption, IfSome, length};
-ghost use Rattle.dm_asm.specs.Lines.{lines_of, trim};
+ghost use Rattle.dm_asm.specs.Lines.{lines_of};
+ghost use Rattle.dm_asm.specs.inner.Lines.{trim};
 
 /// A line without the 0Dh at its end.
 #[tactic(auto, using(crate::proofs::Ends::trimmed_end, crate::proofs::Ends::trimmed_other))]

@@ -42,6 +42,7 @@ fn check_row(rt: &impl Abort, alloc: Global, row: &str) -> Result<(), Fail> {
     Ok(())
 }
 
+/// Definitions: dm_listing Listing IsListing Lists Shows instruction_text data_text Stands bytes_at
 #[test]
 fn bytes_have_lines(rt: HostRuntime) -> Result<(), Fail> {
     for row in LISTINGS.split('\n') {
@@ -63,6 +64,7 @@ fn check_again(rt: &impl Abort, alloc: Global, bytes: &[u8]) -> Result<(), Fail>
     Ok(())
 }
 
+/// Definitions: dm_asm Laws ListingsAssemble ListingsAreAnswered
 #[test]
 fn long_listings_are_assembled_again(rt: HostRuntime) -> Result<(), Fail> {
     let mut bytes = Vec::new(rt.alloc());
@@ -72,6 +74,7 @@ fn long_listings_are_assembled_again(rt: HostRuntime) -> Result<(), Fail> {
     check_again(&rt, rt.alloc(), bytes.as_slice())
 }
 
+/// Definitions: dm_asm Laws ListingsAssemble ListingsAreAnswered
 #[test]
 fn listings_behind_each_first_byte_are_assembled_again(rt: HostRuntime) -> Result<(), Fail> {
     for first in 0..256u32 {

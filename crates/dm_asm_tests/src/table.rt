@@ -375,6 +375,7 @@ fn check_program(rt: &impl Abort, alloc: Global, text: &str, bytes: &[u8]) -> Re
     Ok(())
 }
 
+/// Definitions: dm_asm Laws ListingsAssemble ListingsAreAnswered TextsAreSpelled IsSpelled
 #[test]
 fn each_row_of_the_table_is_assembled_and_listed(rt: HostRuntime) -> Result<(), Fail> {
     let mut text = String::new(rt.alloc());

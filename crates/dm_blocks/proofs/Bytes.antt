@@ -1,7 +1,7 @@
 -- The bytes of a paragraph: A20 and the wrap of offsets never matter there.
 use Rattle.std.proofs.Common.{◌≡◌, ℕ, ◌+◌, ◌*◌, ◌<◌, ◌≤◌, sym, ◌∙◌, ap, subst, arith}
 use Rattle.dm_space.specs.Memory.{Memory, Held, IsHeld, linear, peek, poke}
-use Rattle.dm_space.specs.Places.{IsPoked}
+use Rattle.dm_space.specs.inner.Places.{IsPoked}
 use Rattle.dm_space.proofs.Places.{linear-low, poke-poked}
 
 linear-of : (m : Memory) (segment offset : ℕ) → segment ≤ 0xFFFF → offset < 16 → linear m.a20 segment offset ≡ 16 * segment + offset

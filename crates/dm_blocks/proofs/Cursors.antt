@@ -5,7 +5,8 @@ use Rattle.dm_space.specs.Memory.{Memory}
 use Rattle.dm_blocks.specs.declared.header.Header.{Header}
 use Rattle.dm_blocks.specs.declared.header.Entry.{Entry}
 use Rattle.dm_blocks.specs.Chain.{HasHeader, Spells, next}
-use Rattle.dm_blocks.specs.Reading.{AreLeft, HasCaughtUp, IsCursor, IsFront, IsSpelledFrom, is_nil}
+use Rattle.dm_blocks.specs.Reading.{IsFront, IsSpelledFrom, is_nil}
+use Rattle.dm_blocks.specs.inner.Reading.{AreLeft, HasCaughtUp, IsCursor}
 use Rattle.dm_blocks.proofs.Chains.{has_either, has_right, spells_above}
 
 left_by : (S : Memory) (e : Entry) (N : List Header) (r q : Bool) → e.last ≡ r → r ≡ is_nil N → Spells S (next e.header) N → (n : ℕ) → n ≡ next e.header → AreLeft S (if r then None else Some n) N

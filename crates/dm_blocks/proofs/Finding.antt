@@ -6,7 +6,8 @@ use Rattle.dm_space.specs.Memory.{Memory}
 use Rattle.dm_blocks.specs.declared.header.Header.{Header}
 use Rattle.dm_blocks.specs.declared.header.Entry.{Entry}
 use Rattle.dm_blocks.specs.Chain.{Spells, NoBlockAt, is_linked, next}
-use Rattle.dm_blocks.specs.Reading.{is_nil, IsFront, FindsBlock, IsFinding, IsFoundAt, IsSeeking, IsEndingAt, IsSpelledFrom, NoEndAt}
+use Rattle.dm_blocks.specs.Reading.{is_nil, IsFront, FindsBlock, IsFoundAt, IsEndingAt, IsSpelledFrom, NoEndAt}
+use Rattle.dm_blocks.specs.inner.Reading.{IsFinding, IsSeeking}
 use Rattle.dm_blocks.proofs.Chains.{has_either}
 
 module _ (S : Memory) (L : List Header) (segment h : ℕ) (e : Entry) (there : e.header.segment ≡ h) (P K : List Header) (f : IsFinding S L segment h P K) (N : List Header) (g : IsFront S K e N) where

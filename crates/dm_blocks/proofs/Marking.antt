@@ -6,8 +6,8 @@ use Rattle.dm_space.specs.declared.place.Place.TheVariants.{Low, Page}
 use Rattle.dm_space.specs.Memory.{Memory, place}
 use Rattle.dm_blocks.specs.declared.header.Header.{Header}
 use Rattle.dm_blocks.specs.Chain.{HasHeader}
-use Rattle.dm_blocks.specs.Marks.{slot, AreMarked, IsMarkOf}
-use Rattle.dm_blocks.specs.Standing.{MayStand}
+use Rattle.dm_blocks.specs.inner.Marks.{slot, AreMarked, IsMarkOf}
+use Rattle.dm_blocks.specs.inner.Standing.{MayStand}
 use Rattle.dm_blocks.proofs.Chains.{has_left, has_right, has_either}
 use Rattle.dm_blocks.proofs.Places.{page-framed, slot-small, slot-apart, page-first, page-second, low≢page}
 use Rattle.dm_blocks.proofs.Stands.{page-stands, occupied-stands}

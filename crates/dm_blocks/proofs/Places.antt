@@ -5,7 +5,7 @@ use Rattle.std.specs.Prelude.{if◌then◌else◌, slice_index_or}
 use Rattle.dm_space.specs.declared.place.Place.{Place}
 use Rattle.dm_space.specs.declared.place.Place.TheVariants.{Low, Page, Rom, Nothing}
 use Rattle.dm_space.specs.Memory.{Memory, place, shown}
-use Rattle.dm_blocks.specs.Marks.{is_shown, first_showing, slot}
+use Rattle.dm_blocks.specs.inner.Marks.{is_shown, first_showing, slot}
 
 bool_cases : (b : Bool) → (b ≡ true) ⊎ (b ≡ false)
 bool_cases true = inl refl

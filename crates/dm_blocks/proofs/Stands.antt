@@ -6,7 +6,7 @@ use Rattle.dm_space.specs.Memory.{Memory, place}
 use Rattle.dm_space.specs.Places.{IsWritable}
 use Rattle.dm_blocks.specs.declared.header.Header.{Header}
 use Rattle.dm_blocks.specs.Chain.{HasHeader, IsClear}
-use Rattle.dm_blocks.specs.Standing.{MayStand, Occupies}
+use Rattle.dm_blocks.specs.inner.Standing.{MayStand, Occupies}
 use Rattle.dm_blocks.proofs.Places.{low-own}
 
 -- a segment's place, as it is asked for

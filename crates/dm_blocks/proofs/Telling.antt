@@ -8,8 +8,8 @@ use Rattle.dm_blocks.specs.declared.listing.Step.{Step}
 use Rattle.dm_blocks.specs.declared.listing.Step.TheVariants.{Told, End, Destroyed}
 use Rattle.dm_blocks.specs.Chain.{IsArena, IsArenaBehind, NoArena, NoArenaBehind, first_header, link_header, next}
 use Rattle.dm_blocks.specs.Listing.{AreTold, IsBehind, IsStep, IsStepFrom, Steps, Walking, start_of}
-use Rattle.dm_blocks.specs.Reading.{steps_left}
-use Rattle.dm_blocks.specs.Telling.{HasToldAll, IsBroken, IsToldAll}
+use Rattle.dm_blocks.specs.inner.Reading.{steps_left}
+use Rattle.dm_blocks.specs.inner.Telling.{HasToldAll, IsBroken, IsToldAll}
 
 -- v is a later state of the walk w, which has told nothing that breaks the list
 module _ (w v : Walking) (memory : v.memory ≡ w.memory) (second : v.second ≡ w.second) (stands : (t : ℕ) × (v.at ≡ Some t) × (t ≤ 0xFFFF)) (s : Step) (o : Option ℕ) (x : Steps v s o) where

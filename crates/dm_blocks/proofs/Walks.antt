@@ -6,13 +6,14 @@ use Rattle.dm_space.specs.Places.{IsWritable}
 use Rattle.dm_blocks.specs.declared.header.Header.{Header}
 use Rattle.dm_blocks.specs.declared.header.Entry.{Entry}
 use Rattle.dm_blocks.specs.Chain.{IsHeader, signature, Spells, HasHeader, IsNonEmpty, next, IsClear, IsArena, IsArenaBehind, NoArenaBehind, AreApart, first_header, mark}
-use Rattle.dm_blocks.specs.Reading.{is_nil, HasCaughtUp, IsCursor}
+use Rattle.dm_blocks.specs.Reading.{is_nil}
+use Rattle.dm_blocks.specs.inner.Reading.{HasCaughtUp, IsCursor}
 use Rattle.dm_blocks.specs.declared.listing.Step.{Step}
 use Rattle.dm_blocks.specs.declared.listing.Step.TheVariants.{Told, End, Destroyed}
 use Rattle.dm_blocks.specs.Listing.{Walking, Path, Leads, Follows, Closes, IsBehind, IsStep, IsStepFrom, Steps, start_of}
 use Rattle.dm_blocks.proofs.Chains.{has_left, has_right, has_either, clear_within}
-use Rattle.dm_blocks.specs.Marks.{AreMarked, IsMarked, IsMarkedWalk}
-use Rattle.dm_blocks.specs.Standing.{MayStand}
+use Rattle.dm_blocks.specs.inner.Marks.{AreMarked, IsMarked, IsMarkedWalk}
+use Rattle.dm_blocks.specs.inner.Standing.{MayStand}
 use Rattle.dm_blocks.proofs.OneHeader.{header-unique}
 use Rattle.dm_blocks.proofs.Stands.{clear-with}
 use Rattle.dm_blocks.proofs.Cursors.{cursor-later, cursor-start, met, not-met}

@@ -2,6 +2,4 @@ pub mod Chain
 pub mod Listing
 pub mod Laws
 pub mod Reading
-pub mod Telling
-pub mod Standing
-pub mod Marks
+pub mod inner

@@ -1,9 +1,9 @@
--- What the readers of headers say of each other. No public promise of the arena mentions any of it.
+-- What the readers of headers find.
 use Rattle.std.specs.Prelude.{Bool, List, None, Option, Some, [], false, true, ℕ, ◌++◌, ◌+◌, ◌-◌, ◌<◌, ◌∷◌, ◌≡◌, ◌≢◌, ◌≤◌}
 use Rattle.dm_space.specs.Memory.{Memory}
 use Rattle.dm_blocks.specs.declared.header.Header.{Header}
 use Rattle.dm_blocks.specs.declared.header.Entry.{Entry}
-use Rattle.dm_blocks.specs.Chain.{HasHeader, IsHeader, IsNonEmpty, NoBlockAt, Spells, mark, next, signature}
+use Rattle.dm_blocks.specs.Chain.{IsHeader, IsNonEmpty, NoBlockAt, Spells, mark, next, signature}
 
 -- what stands at segment h: the header of an entry, or none that a list could have there
 abbrev pub IsEntryAt : Memory → ℕ → Option Entry → Type 0
@@ -25,12 +25,6 @@ pub record IsFront (S : Memory) (L : List Header) (e : Entry) (K : List Header) 
   pub last : e.last ≡ is_nil K
   pub rest : Spells S (next e.header) K
 
--- the walk that looks for a block
-pub record IsFinding (S : Memory) (L : List Header) (segment h : ℕ) (P K : List Header) : Type 0 where
-  pub spelled : IsSpelledFrom S h K
-  pub is : L ≡ P ++ K
-  pub none : NoBlockAt P segment
-
 pub record IsFoundAt (S : Memory) (L : List Header) (segment : ℕ) (e : Entry) (P Q : List Header) : Type 0 where
   pub is : L ≡ P ++ e.header ∷ Q
   pub at : e.header.segment + 1 ≡ segment
@@ -41,39 +35,10 @@ abbrev pub FindsBlock : Memory → ℕ → ℕ → Option Entry → Type 0
 FindsBlock S start segment None = (L : List Header) → IsSpelledFrom S start L → NoBlockAt L segment
 FindsBlock S start segment (Some e) = (L : List Header) → IsSpelledFrom S start L → (P : List Header) × (Q : List Header) × IsFoundAt S L segment e P Q
 
--- no more steps than this are left to a walk
-abbrev pub steps_left : Option ℕ → ℕ
-steps_left None = 0
-steps_left (Some t) = 0x10000 - t
-
--- from where a cursor stands the headers K are spelled; none are left where it stands nowhere
-abbrev pub AreLeft : Memory → Option ℕ → List Header → Type 0
-AreLeft S None K = K ≡ []
-AreLeft S (Some h) K = IsSpelledFrom S h K
-
--- a cursor goes over the list F, and all headers that it has passed are below the segment t
-pub record IsCursor (S : Memory) (F : List Header) (cursor : Option ℕ) (t : ℕ) : Type 0 where
-  pub passed : List Header
-  pub rest : List Header
-  pub is : F ≡ passed ++ rest
-  pub below : (g : ℕ) → HasHeader passed g → g < t
-  pub left : AreLeft S cursor rest
-
--- it has passed all that are
-abbrev pub HasCaughtUp : Option ℕ → ℕ → Type 0
-HasCaughtUp None t = Unit {0}
-HasCaughtUp (Some h) t = t ≤ h
-
 -- no block of L ends at the segment
 abbrev pub NoEndAt : List Header → ℕ → Type 0
 NoEndAt [] segment = Unit {0}
 NoEndAt (b ∷ L) segment = (next b ≢ segment) × NoEndAt L segment
-
--- the walk that looks for a block by its end
-pub record IsSeeking (S : Memory) (L : List Header) (segment h : ℕ) (P K : List Header) : Type 0 where
-  pub spelled : IsSpelledFrom S h K
-  pub is : L ≡ P ++ K
-  pub none : NoEndAt P segment
 
 pub record IsEndingAt (S : Memory) (L : List Header) (segment : ℕ) (e : Entry) (P Q : List Header) : Type 0 where
   pub is : L ≡ P ++ e.header ∷ Q

@@ -3,8 +3,9 @@ ghost use Rattle.std.specs.Prelude.{◌≡◌, ℕ, ◌+◌, ◌≤◌, ◌<◌,
 ghost use Rattle.dm_blocks.specs.declared.header.Header.{Header};
 ghost use Rattle.dm_blocks.specs.Chain.{first_header, link_header, next, IsArena, IsArenaBehind, NoArena, NoArenaBehind};
 ghost use Rattle.dm_blocks.specs.Chain;
-ghost use Rattle.dm_blocks.specs.Reading.{AreLeft, EndsBefore, FindsBlock, HasCaughtUp, IsCursor, IsFront, IsSpelledFrom};
-ghost use Rattle.dm_blocks.specs.Telling.{HasToldAll};
+ghost use Rattle.dm_blocks.specs.Reading.{EndsBefore, FindsBlock, IsFront, IsSpelledFrom};
+ghost use Rattle.dm_blocks.specs.inner.Reading.{AreLeft, HasCaughtUp, IsCursor};
+ghost use Rattle.dm_blocks.specs.inner.Telling.{HasToldAll};
 
 use crate::header::{Entry, header_at};
 use crate::listing::{Headers, Step, walk};

@@ -39,7 +39,7 @@ pub struct Headers<'a> {
 
 impl<'a> Model for Headers<'a> {
     ghost use Rattle.dm_blocks.specs.Listing.{Walking};
-    ghost use Rattle.dm_blocks.specs.Marks.{IsMarkedWalk};
+    ghost use Rattle.dm_blocks.specs.inner.Marks.{IsMarkedWalk};
 
     ghost Value = { Walking };
 

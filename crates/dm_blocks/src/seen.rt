@@ -6,8 +6,8 @@
 //! kept, and a list is looked through once.
 ghost use Rattle.std.specs.Prelude.{◌≡◌, ◌<◌, ◌≤◌, [], false, length, slice_index_or, slice_set, true, MatchBool};
 ghost use Rattle.dm_space.specs.Memory.{Memory};
-ghost use Rattle.dm_blocks.specs.Marks;
-ghost use Rattle.dm_blocks.specs.Marks.{Admits, AreMarked};
+ghost use Rattle.dm_blocks.specs.inner.Marks;
+ghost use Rattle.dm_blocks.specs.inner.Marks.{Admits, AreMarked};
 
 use dm_pool::Block;
 use dm_space::{Place, Space};

@@ -11,6 +11,7 @@ use Rattle.dm_asm.specs.declared.refusal.Refusal.TheVariants as refusal
 use Rattle.dm_cli.specs.declared.fault.Fault.{Fault}
 use Rattle.dm_cli.specs.declared.fault.Fault.TheVariants as fault
 
+-- the fault that tells a refusal of the store, of the machine's start, of loading and of the assembler
 abbrev pub add_fault : AddError → Fault
 add_fault add.Twice = fault.NameTwice
 add_fault add.Memory = fault.OutOfMemory

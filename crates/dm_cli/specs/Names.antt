@@ -6,5 +6,6 @@ use Rattle.std.specs.List.{after_last}
 abbrev pub last_part : List ℕ → List ℕ
 last_part path = after_last (λ b. b == 47) path
 
+-- a file's name is not empty and has no zero byte
 abbrev pub IsFileName : List ℕ → Type 0
 IsFileName name = (0 < length name) × (¬ Contains name 0)

@@ -3,6 +3,6 @@ pub mod Guest
 pub mod EffectiveAddress
 pub mod Operands
 pub mod Values
-pub mod Registers
 pub mod Stack
 pub mod Unseen
+pub mod inner

@@ -3,3 +3,4 @@ pub mod Points
 pub mod Runs
 pub mod Sessions
 pub mod Laws
+pub mod inner

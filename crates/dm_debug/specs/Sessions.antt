@@ -21,6 +21,7 @@ use Rattle.dm_debug.specs.Debugged.{Debugged}
 use Rattle.dm_debug.specs.Points.{is_set, with_point, without_point, points_text}
 use Rattle.dm_debug.specs.Runs.{entered, GoesTo, IsTrace, TracesPart}
 
+-- no breakpoints, over a machine
 abbrev pub new_session : State → Debugged
 new_session m = record { machine = m; points = [] }
 

@@ -32,7 +32,8 @@ pub struct Session {
 }
 
 impl Model for Session {
-    ghost use Rattle.dm_debug.specs.Debugged.{Debugged, IsDebugged};
+    ghost use Rattle.dm_debug.specs.Debugged.{Debugged};
+    ghost use Rattle.dm_debug.specs.inner.Debugged.{IsDebugged};
 
     ghost Value = { Debugged };
 

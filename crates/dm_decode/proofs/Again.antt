@@ -21,7 +21,7 @@ use Rattle.dm_ins.specs.declared.table.Kind.{Kind}
 use Rattle.dm_ins.specs.declared.table.Kind.TheVariants as is
 use Rattle.dm_ins.specs.Spelling.{word, SpellsMemory, SpellsFields, Fills, has_fields, no_fields, MaySpellFields, HasRow, SpellsAction, prefix_byte, no_prefix, with_prefix, kept, SpellsPrefixed}
 use Rattle.dm_ins.specs.Walks.{◌>>=◌}
-use Rattle.dm_decode.specs.Reading.{word_at, memory_at, fields_at, operand_at, row_at, action_at, prefix_of, without, stripped, strips, prefixed_at}
+use Rattle.dm_decode.specs.inner.Reading.{word_at, memory_at, fields_at, operand_at, row_at, action_at, prefix_of, without, stripped, strips, prefixed_at}
 
 pub word_again : (n : ℕ) (rest : List ℕ) → word_at (word n ++ rest) ≡ Some (n, rest)
 unfolding word_at

@@ -3,7 +3,7 @@ use Rattle.std.proofs.Common.{◌≡◌, ℕ, zero, suc, ◌-◌, ◌%◌, List,
 use Rattle.dm_ins.specs.declared.prefix.Prefixes.{Prefixes}
 use Rattle.dm_ins.specs.declared.action.Action.{Action}
 use Rattle.dm_ins.specs.declared.ins.Ins.{Ins}
-use Rattle.dm_decode.specs.Reading.{prefixed_at}
+use Rattle.dm_decode.specs.inner.Reading.{prefixed_at}
 use Rattle.dm_decode.specs.Decoded.{Decodes}
 use Rattle.dm_decode.proofs.Found.{IsBytes, rest_bytes}
 use Rattle.dm_decode.proofs.Exact.{exact_none, exact_some, read_spelled}

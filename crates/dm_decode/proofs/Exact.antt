@@ -6,7 +6,7 @@ use Rattle.dm_ins.specs.declared.action.Action.{Action}
 use Rattle.dm_ins.specs.declared.ins.Ins.{Ins}
 use Rattle.dm_ins.specs.Spelling.{SpellsAction}
 use Rattle.dm_ins.specs.Ins.{Spells}
-use Rattle.dm_decode.specs.Reading.{prefixed_at}
+use Rattle.dm_decode.specs.inner.Reading.{prefixed_at}
 use Rattle.dm_decode.proofs.Again.{prefixed_again}
 use Rattle.dm_decode.specs.Decoded.{Decodes}
 use Rattle.dm_decode.proofs.Found.{IsBytes, prefixed_found}

@@ -18,7 +18,7 @@ use Rattle.dm_ins.specs.declared.table.Entry.TheVariants.{Unlisted, Plain, Group
 use Rattle.dm_ins.specs.Table.{entry_of, member_of}
 use Rattle.dm_ins.specs.Spelling.{word, SpellsMemory, SpellsFields, Fills, has_fields, no_fields, MaySpellFields, HasRow, SpellsAction, prefix_byte, no_prefix, with_prefix, kept, SpellsPrefixed}
 use Rattle.dm_ins.specs.Walks.{◌>>=◌}
-use Rattle.dm_decode.specs.Reading.{byte_at, word_at, memory_at, fields_at, operand_at, row_at, action_at, prefix_of, without, stripped, strips, prefixed_at}
+use Rattle.dm_decode.specs.inner.Reading.{byte_at, word_at, memory_at, fields_at, operand_at, row_at, action_at, prefix_of, without, stripped, strips, prefixed_at}
 use Rattle.dm_ins.proofs.Walks.{bind_some}
 use Rattle.dm_decode.proofs.Again.{with_row, prefix_found}
 

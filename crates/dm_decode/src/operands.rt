@@ -3,7 +3,7 @@
 
 ghost use Rattle.std.specs.Prelude.{◌≡◌, ◌<◌, IfSome};
 ghost use Rattle.dm_ins.specs.Spelling.{at_place, based, direct, register};
-ghost use Rattle.dm_decode.specs.Reading.{fields_at, memory_at, operand_at, seen};
+ghost use Rattle.dm_decode.specs.inner.Reading.{fields_at, memory_at, operand_at, seen};
 
 use crate::reading::{byte_of, word_of};
 use dm_ins::fields::Fields;
@@ -42,7 +42,7 @@ fn on_nothing(displacement: u16) -> Address
 
 /// The memory operand that the mod and r/m fields name, if they name one, and the bytes behind its
 /// displacement.
-#[tactic(auto, unfolding(crate::specs::Reading::memory_at))]
+#[tactic(auto, unfolding(crate::specs::inner::Reading::memory_at))]
 fn memory_of(mode: u8, rm: u8, bytes: &[u8]) -> Option<(Option<Address>, &[u8])>
     requires { rm < 8 }
     ensures { seen result ≡ memory_at mode rm bytes.now }
@@ -66,7 +66,7 @@ fn memory_of(mode: u8, rm: u8, bytes: &[u8]) -> Option<(Option<Address>, &[u8])>
 }
 
 /// The fields of the mod r/m byte with the displacement, and the bytes behind them.
-#[tactic(auto, unfolding(crate::specs::Reading::fields_at))]
+#[tactic(auto, unfolding(crate::specs::inner::Reading::fields_at))]
 pub fn fields_of(bytes: &[u8]) -> Option<(Fields, &[u8])>
     ensures reads { seen result ≡ fields_at bytes.now }
     ensures fits { IfSome result (λ x. (x.0.register < 8) × (x.0.rm < 8)) }
@@ -94,7 +94,7 @@ fn place(width: Width, fields: Fields) -> Operand
 }
 
 /// The operand of the kind, where the mod r/m byte has these fields, and the bytes behind it.
-#[tactic(auto, unfolding(crate::specs::Reading::operand_at))]
+#[tactic(auto, unfolding(crate::specs::inner::Reading::operand_at))]
 pub fn operand_of(kind: Kind, fields: Fields, bytes: &[u8]) -> Option<(Operand, &[u8])>
     requires register { fields.register < 8 }
     requires rm { fields.rm < 8 }

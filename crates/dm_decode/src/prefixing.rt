@@ -2,7 +2,7 @@
 
 ghost use Rattle.std.specs.Prelude.{◌≡◌};
 ghost use Rattle.dm_ins.specs.Spelling.{with_prefix};
-ghost use Rattle.dm_decode.specs.Reading.{prefix_of, prefixed_at, seen, stripped};
+ghost use Rattle.dm_decode.specs.inner.Reading.{prefix_of, prefixed_at, seen, stripped};
 
 use crate::reading::byte_of;
 use crate::rows::action_of;
@@ -10,7 +10,7 @@ use dm_ins::prefix::Prefix;
 use dm_ins::{Action, Prefixes, Repeat, SegmentRegister};
 
 /// The prefix that the byte is, if it is one.
-#[tactic(auto, unfolding(crate::specs::Reading::prefix_of))]
+#[tactic(auto, unfolding(crate::specs::inner::Reading::prefix_of))]
 fn as_prefix(byte: u8) -> Option<Prefix>
     ensures { result ≡ prefix_of byte }
 {
@@ -39,7 +39,7 @@ fn add_prefix(mut prefixes: Prefixes, prefix: Prefix) -> Prefixes
 }
 
 /// Takes one prefix from the front, if there is one.
-#[tactic(auto, unfolding(crate::specs::Reading::stripped))]
+#[tactic(auto, unfolding(crate::specs::inner::Reading::stripped))]
 fn strip(prefixes: Prefixes, bytes: &[u8]) -> (Prefixes, &[u8])
     ensures { (result.0, result.1.now) ≡ stripped prefixes bytes.now }
 {
@@ -53,7 +53,7 @@ fn strip(prefixes: Prefixes, bytes: &[u8]) -> (Prefixes, &[u8])
 }
 
 /// At most four prefixes and the action behind them, and the bytes behind that.
-#[tactic(auto, unfolding(crate::specs::Reading::prefixed_at))]
+#[tactic(auto, unfolding(crate::specs::inner::Reading::prefixed_at))]
 pub fn prefixed_of(bytes: &[u8]) -> Option<((Prefixes, Action), &[u8])>
     ensures { seen result ≡ prefixed_at bytes.now }
 {

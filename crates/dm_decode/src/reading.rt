@@ -1,7 +1,7 @@
 //! Bytes and words from the front of a slice.
 
 ghost use Rattle.std.specs.Prelude.{◌≡◌};
-ghost use Rattle.dm_decode.specs.Reading.{byte_at, seen, word_at};
+ghost use Rattle.dm_decode.specs.inner.Reading.{byte_at, seen, word_at};
 
 /// The first byte, and the bytes behind it.
 pub fn byte_of(bytes: &[u8]) -> Option<(u8, &[u8])>
@@ -12,7 +12,7 @@ pub fn byte_of(bytes: &[u8]) -> Option<(u8, &[u8])>
 }
 
 /// The first word, its low byte first, and the bytes behind it.
-#[tactic(auto, unfolding(crate::specs::Reading::word_at))]
+#[tactic(auto, unfolding(crate::specs::inner::Reading::word_at))]
 pub fn word_of(bytes: &[u8]) -> Option<(u16, &[u8])>
     ensures { seen result ≡ word_at bytes.now }
 {

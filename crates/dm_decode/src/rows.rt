@@ -3,7 +3,7 @@
 ghost use Rattle.std.specs.Prelude.{◌≡◌, ◌<◌, IfSome};
 ghost use Rattle.dm_ins.specs.Table.{IfGroup};
 ghost use Rattle.dm_ins.specs.Spelling.{uses_fields};
-ghost use Rattle.dm_decode.specs.Reading.{action_at, row_at, seen};
+ghost use Rattle.dm_decode.specs.inner.Reading.{action_at, row_at, seen};
 
 use crate::operands::{fields_of, operand_of};
 use crate::reading::byte_of;
@@ -22,7 +22,7 @@ fn needs_fields(kind: Kind) -> bool
 
 /// The row under the first byte's entry with the fields of its mod r/m byte, if it has one, and the
 /// bytes behind them.
-#[tactic(auto, unfolding(crate::specs::Reading::row_at))]
+#[tactic(auto, unfolding(crate::specs::inner::Reading::row_at))]
 fn row_of(entry: Entry, bytes: &[u8]) -> Option<((Row, Fields), &[u8])>
     requires { IfGroup entry (λ g. g < 17) }
     ensures reads { seen result ≡ row_at entry bytes.now }
@@ -60,7 +60,7 @@ fn row_of(entry: Entry, bytes: &[u8]) -> Option<((Row, Fields), &[u8])>
 }
 
 /// The action that the bytes begin with, and the bytes behind it.
-#[tactic(auto, unfolding(crate::specs::Reading::action_at))]
+#[tactic(auto, unfolding(crate::specs::inner::Reading::action_at))]
 pub fn action_of(bytes: &[u8]) -> Option<(Action, &[u8])>
     ensures { seen result ≡ action_at bytes.now }
 {

@@ -14,6 +14,7 @@ use Rattle.dm_drivers.specs.Drivers.{driven}
 abbrev pub LeavesTheRest : State → Answer → Type 0
 LeavesTheRest s x = x ≡ record { stop = None; state = record s { cpu = x.state.cpu; memory = x.state.memory; ems = x.state.ems; xms = x.state.xms; steps = x.state.steps } }
 
+-- no stop comes, and what is no driver's stays
 pub record DriversKeep : Type 0 where
   pub rest : (s : State) (driver : Driver) → LeavesTheRest s (driven s driver)
   pub link : (s : State) (driver : Driver) → AreLinked s → AreLinked (driven s driver).state

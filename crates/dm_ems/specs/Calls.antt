@@ -6,9 +6,6 @@ use Rattle.dm_ems.specs.declared.status.Status.{Status}
 use Rattle.dm_ems.specs.declared.tables.Handle.{Handle}
 use Rattle.dm_ems.specs.Tables.{Expanded}
 
-abbrev pub Row : Type 0 → Type 0
-Row A = Result (A × Expanded) Status
-
 abbrev pub answer : {A : Type 0} → Result (A × Expanded) Status → Result A Status
 answer (Ok w) = Ok w.0
 answer (Err e) = Err e

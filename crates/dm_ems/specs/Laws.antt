@@ -31,6 +31,7 @@ pub record CallsKeepTheLink : Type 0 where
 abbrev pub WritesKeepTheLink : Type 0
 WritesKeepTheLink = (x : Expanded) (m : Memory) → IsShaped x.memory m → IsLinked x → IsLinked (with_memory x m)
 
+-- each call, and a write, leaves what is outside of expanded memory
 pub record CallsLeaveOutside : Type 0 where
   pub allocating : (x : Expanded) (n : ℕ) → LeavesOutside x (left x (allocate x n))
   pub deallocating : (x : Expanded) (handle : ℕ) → LeavesOutside x (left x (deallocate x handle))

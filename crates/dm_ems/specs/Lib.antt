@@ -10,3 +10,4 @@ pub mod Names
 pub mod Frame
 pub mod Readers
 pub mod Laws
+pub mod inner

@@ -3,6 +3,7 @@ use Rattle.std.specs.Prelude.{ℕ}
 use Rattle.dm_ems.specs.declared.status.Status.{Status}
 use Rattle.dm_ems.specs.declared.status.Status.TheVariants as status
 
+-- the status byte of a refusal
 unfoldable pub code_of : Status → ℕ
 code_of status.UnknownHandle = 0x83
 code_of status.NoHandleLeft = 0x85

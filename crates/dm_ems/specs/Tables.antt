@@ -22,12 +22,6 @@ pub record Expanded : Type 0 where
 abbrev pub expanded : Tables → Memory → Expanded
 expanded ems memory = record { ems = ems; memory = memory }
 
--- the table has 64 handles, and no more pages than there are, 512 at most
-pub record IsTables (ems : Tables) : Type 0 where
-  pub handles : length ems.handles ≡ 64
-  pub few : length ems.pages ≤ ems.total
-  pub total : ems.total ≤ 512
-
 abbrev pub no_name : List ℕ
 no_name = 0 ∷ 0 ∷ 0 ∷ 0 ∷ 0 ∷ 0 ∷ 0 ∷ 0 ∷ []
 

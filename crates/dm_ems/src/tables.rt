@@ -40,7 +40,8 @@ pub struct Ems {
 }
 
 impl Model for Ems {
-    ghost use Rattle.dm_ems.specs.Tables.{Tables, IsTables};
+    ghost use Rattle.dm_ems.specs.Tables.{Tables};
+    ghost use Rattle.dm_ems.specs.inner.Tables.{IsTables};
 
     ghost Value = { Tables };
 

@@ -11,6 +11,7 @@ use Rattle.dm_ems_move.specs.Many.{map_many}
 use Rattle.dm_ems_move.specs.Maps.{whole_map}
 use Rattle.dm_ems_move.specs.RegionMoves.{move_region, exchange_region}
 
+-- each of these calls keeps tables and memory together, and leaves what is outside of expanded memory
 pub record MovesKeepTheLink : Type 0 where
   pub reallocating : (x : Expanded) (handle n : ℕ) → IsLinked x → IsLinked (left x (reallocate x handle n))
   pub mapping : (x : Expanded) (mode handle count segment offset : ℕ) → IsLinked x → IsLinked (left x (map_many x mode handle count segment offset))

@@ -11,3 +11,4 @@ pub mod Control
 pub mod Effect
 pub mod Unseen
 pub mod Map
+pub mod inner

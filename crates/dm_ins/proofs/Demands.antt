@@ -19,7 +19,7 @@ use Rattle.dm_ins.specs.declared.table.Kind.{Kind}
 use Rattle.dm_ins.specs.declared.table.Kind.TheVariants as is
 use Rattle.dm_ins.specs.Registers.{word_registers, byte_registers, bases, word_number, byte_number, segment_number}
 use Rattle.dm_ins.specs.Spelling.{word, extended, based, register, at_place, SpellsMemory, SpellsFields, Fills}
-use Rattle.dm_ins.specs.Search.{rm_of, is_direct, same_width, numbered, asks_data, asks_register, asks_place, as_signed, demand_of, data_bytes, with_displacement, memory_bytes, fields_bytes}
+use Rattle.dm_ins.specs.inner.Search.{rm_of, is_direct, same_width, numbered, asks_data, asks_register, asks_place, as_signed, demand_of, data_bytes, with_displacement, memory_bytes, fields_bytes}
 
 abbrev pub asks_for_register : Kind → Bool
 asks_for_register (is.Register w) = true

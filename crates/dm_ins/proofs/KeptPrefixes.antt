@@ -11,7 +11,7 @@ use Rattle.dm_ins.specs.declared.prefix.Prefix.{Prefix}
 use Rattle.dm_ins.specs.declared.prefix.Prefix.TheVariants as prefix
 use Rattle.dm_ins.specs.Spelling.{prefix_byte, segment_byte, repeat_byte, no_prefix, kept}
 use Rattle.dm_ins.specs.Order.{before}
-use Rattle.dm_ins.specs.Search.{prefix_list, segment_list, lock_list, repeat_list}
+use Rattle.dm_ins.specs.inner.Search.{prefix_list, segment_list, lock_list, repeat_list}
 use Rattle.dm_ins.proofs.Order.{not_before_itself, not_shorter, same_first, greater_first}
 
 lock_after_segment : (s : SegmentRegister) → nat_cmp 0xF0 (segment_byte s) ≡ Greater

@@ -11,7 +11,7 @@ use Rattle.dm_ins.specs.declared.table.Entry.{Entry}
 use Rattle.dm_ins.specs.declared.table.Entry.TheVariants.{Unlisted, Plain, Group, Second}
 use Rattle.dm_ins.specs.Table.{entries, entry_of, groups, member_of}
 use Rattle.dm_ins.specs.Spelling.{has_fields, MaySpellFields, HasRow, SpellsAction}
-use Rattle.dm_ins.specs.Search.{either, behind_bytes, bytes_of, choice_at}
+use Rattle.dm_ins.specs.inner.Search.{either, behind_bytes, bytes_of, choice_at}
 use Rattle.dm_ins.proofs.TableRules.{passes, both_true}
 use Rattle.dm_ins.proofs.Demands.{asks_for_register, asks_for_place, asked, named_place, operand_asks, AtMost, fields_least}
 

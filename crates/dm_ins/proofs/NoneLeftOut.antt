@@ -13,8 +13,8 @@ use Rattle.dm_ins.specs.declared.table.Row.{Row}
 use Rattle.dm_ins.specs.declared.table.Entry.{Entry}
 use Rattle.dm_ins.specs.declared.table.Entry.TheVariants.{Unlisted, Plain, Group, Second}
 use Rattle.dm_ins.specs.Table.{entries, entry_of, groups, member_of}
-use Rattle.dm_ins.specs.Keys.{key, has_field, is_of, onto, member_keys, entry_keys, keys_from, keyed, key_at}
-use Rattle.dm_ins.specs.Search.{choice_at}
+use Rattle.dm_ins.specs.inner.Keys.{key, has_field, is_of, onto, member_keys, entry_keys, keys_from, keyed, key_at}
+use Rattle.dm_ins.specs.inner.Search.{choice_at}
 use Rattle.dm_ins.proofs.TableRules.{passes}
 use Rattle.dm_ins.proofs.Sound.{chosen_true, is_some}
 use Rattle.dm_ins.proofs.Walks.{bind_some}

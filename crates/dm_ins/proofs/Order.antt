@@ -10,9 +10,9 @@ use Rattle.std.proofs.lemmas.Bool.{cases_lt, ltb-true, ltb-false, lt-ltb, le-ltb
 use Rattle.dm_ins.specs.declared.action.Action.{Action}
 use Rattle.dm_ins.specs.declared.fill.Choice.{Choice}
 use Rattle.dm_ins.specs.declared.keys.Key.{Key}
-use Rattle.dm_ins.specs.Keys.{key_at}
+use Rattle.dm_ins.specs.inner.Keys.{key_at}
 use Rattle.dm_ins.specs.Order.{before}
-use Rattle.dm_ins.specs.Search.{better_of, Best, CandidateAt, Under, bytes_of}
+use Rattle.dm_ins.specs.inner.Search.{better_of, Best, CandidateAt, Under, bytes_of}
 
 abbrev Before : List ℕ → List ℕ → Type 0
 Before a b = (length a < length b) ⊎ ((length a ≡ length b) × (slice_cmp nat_cmp a b ≡ Less))

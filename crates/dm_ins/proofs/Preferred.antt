@@ -28,8 +28,8 @@ use Rattle.dm_ins.specs.Spelling.{SpellsMemory, SpellsFields, Fills, has_fields,
 use Rattle.dm_ins.specs.Ins.{Spells}
 use Rattle.dm_ins.specs.Order.{before}
 use Rattle.dm_ins.specs.Preferred.{IsPreferred}
-use Rattle.dm_ins.specs.Keys.{keyed, key_at}
-use Rattle.dm_ins.specs.Search.{OperandFits, Best, IsLeast, CandidateAt, better_of, bytes_of, choice_at}
+use Rattle.dm_ins.specs.inner.Keys.{keyed, key_at}
+use Rattle.dm_ins.specs.inner.Search.{OperandFits, Best, IsLeast, CandidateAt, better_of, bytes_of, choice_at}
 use Rattle.dm_ins.proofs.Order.{best_none, best_more, best_at}
 use Rattle.dm_ins.proofs.Shortest.{action_fits, encode_least, encode_spells, none_best}
 

@@ -11,7 +11,7 @@ use Rattle.dm_ins.specs.declared.table.Entry.{Entry}
 use Rattle.dm_ins.specs.declared.table.Entry.TheVariants.{Unlisted, Plain, Group, Second}
 use Rattle.dm_ins.specs.Table.{entry_of, member_of}
 use Rattle.dm_ins.specs.Spelling.{SpellsFields, has_fields, no_fields, MaySpellFields, HasRow, SpellsAction}
-use Rattle.dm_ins.specs.Search.{data_bytes, either, behind_bytes, bytes_of, choice_at, demand_of, CandidateAt}
+use Rattle.dm_ins.specs.inner.Search.{data_bytes, either, behind_bytes, bytes_of, choice_at, demand_of, CandidateAt}
 use Rattle.dm_ins.proofs.TableRules.{both_true}
 use Rattle.dm_ins.proofs.Demands.{asks_for_register, asks_for_place, asked, named_place}
 use Rattle.dm_ins.proofs.Least.{exactly_one, neither, regular, regular_fields, regular_member, no_demand, entry_regular, group_regular}

@@ -21,7 +21,7 @@ use Rattle.dm_ins.specs.declared.table.Entry.TheVariants.{Unlisted, Plain, Group
 use Rattle.dm_ins.specs.Table.{entry_of}
 use Rattle.dm_ins.specs.Spelling.{extended, SpellsMemory, Fills, has_fields, MaySpellFields, HasRow, SpellsAction, prefix_byte, no_prefix, kept, SpellsPrefixed, register, at_place}
 use Rattle.dm_ins.specs.Order.{before}
-use Rattle.dm_ins.specs.Search.{OperandFits, IsLeast, CandidateAt, prefix_list, segment_list, lock_list, repeat_list}
+use Rattle.dm_ins.specs.inner.Search.{OperandFits, IsLeast, CandidateAt, prefix_list, segment_list, lock_list, repeat_list}
 use Rattle.dm_ins.proofs.Order.{not_longer, not_shorter, not_before_append}
 use Rattle.dm_ins.proofs.KeptPrefixes.{prefixes_least}
 use Rattle.dm_ins.proofs.Demands.{AtMost}

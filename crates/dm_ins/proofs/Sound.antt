@@ -25,7 +25,7 @@ use Rattle.dm_ins.specs.declared.table.Kind.{Kind}
 use Rattle.dm_ins.specs.declared.table.Kind.TheVariants as is
 use Rattle.dm_ins.specs.Registers.{word_registers, byte_registers, word_number, byte_number, segment_number}
 use Rattle.dm_ins.specs.Spelling.{word, extended, based, direct, SpellsFields, Fills}
-use Rattle.dm_ins.specs.Search.{OperandFits, rm_of, is_direct, same_width, asks_data, asks_register, asks_place, as_signed, demand_of, data_bytes, with_displacement, memory_bytes, fields_bytes}
+use Rattle.dm_ins.specs.inner.Search.{OperandFits, rm_of, is_direct, same_width, asks_data, asks_register, asks_place, as_signed, demand_of, data_bytes, with_displacement, memory_bytes, fields_bytes}
 use Rattle.dm_ins.proofs.Demands.{asks_for_register, asks_for_place, asked, named_place, base_at}
 
 byte_back : (r : ByteRegister) → get_or byte_registers (byte_number r) Al ≡ r

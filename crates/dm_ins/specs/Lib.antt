@@ -4,6 +4,5 @@ pub mod Spelling
 pub mod Ins
 pub mod Order
 pub mod Walks
-pub mod Keys
-pub mod Search
 pub mod Preferred
+pub mod inner

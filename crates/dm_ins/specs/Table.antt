@@ -23,6 +23,9 @@ use Rattle.dm_ins.specs.Registers.{word_registers, byte_registers}
 -- reg field, M memory, S a segment register, I an immediate, Is a byte that is extended by sign, D a
 -- displacement, O a direct offset, Ap an offset and a segment; b is a byte, w a word
 
+-- the signs of operand kinds: E the operand of mod and r/m, G the register of reg, M memory, I an immediate, Is a byte
+-- extended by sign, D a displacement, O a direct offset, Ap an offset and a segment, S a segment register; b a byte, w
+-- a word
 abbrev pub Eb : Kind
 Eb = is.Place Byte
 
@@ -99,6 +102,7 @@ bare m = one m is.Nothing
 abbrev pub arithmetics : List Mnemonic
 arithmetics = op.Add ∷ op.Or ∷ op.Adc ∷ op.Sbb ∷ op.And ∷ op.Sub ∷ op.Xor ∷ op.Cmp ∷ []
 
+-- family: the conditional jumps 70h to 7Fh; 16 rows
 abbrev pub conditions : List Mnemonic
 conditions = op.Jo ∷ op.Jno ∷ op.Jb ∷ op.Jae ∷ op.Jz ∷ op.Jnz ∷ op.Jbe ∷ op.Ja ∷ op.Js ∷ op.Jns ∷ op.Jp ∷ op.Jnp ∷ op.Jl ∷ op.Jge ∷ op.Jle ∷ op.Jg ∷ []
 
@@ -114,9 +118,11 @@ each_word f = map f word_registers
 abbrev pub immediate : Kind → Kind → List (Option Row)
 immediate a b = (map (λ m. Some (row m a b)) arithmetics)
 
+-- family: shifts and rotates by 1 and by CL, D0h to D3h; 4 groups, 28 rows (/6 is not listed)
 abbrev pub shifts : Kind → Kind → List (Option Row)
 shifts a b = (map (λ m. Some (row m a b)) (op.Rol ∷ op.Ror ∷ op.Rcl ∷ op.Rcr ∷ op.Shl ∷ op.Shr ∷ []) ++ None ∷ Some (row op.Sar a b) ∷ [])
 
+-- family: TEST, NOT, NEG, MUL, IMUL, DIV, IDIV, F6h and F7h; 2 groups, 14 rows (/1 is not listed)
 abbrev pub unary : Kind → Kind → List (Option Row)
 unary e i = (Some (row op.Test e i) ∷ None ∷ map (λ m. Some (row m e is.Nothing)) (op.Not ∷ op.Neg ∷ op.Mul ∷ op.Imul ∷ op.Div ∷ op.Idiv ∷ []))
 

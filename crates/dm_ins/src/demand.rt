@@ -2,7 +2,7 @@
 
 ghost use Rattle.std.specs.Prelude.{◌≡◌, ◌<◌, IfSome, IsSome, IsFalse, None};
 ghost use Rattle.dm_ins.specs.Spelling.{extended};
-ghost use Rattle.dm_ins.specs.Search.{DemandFits, OperandFits, as_signed, asks_data, asks_place, asks_register, demand_of, is_direct, numbered, same_width};
+ghost use Rattle.dm_ins.specs.inner.Search.{DemandFits, OperandFits, as_signed, asks_data, asks_place, asks_register, demand_of, is_direct, numbered, same_width};
 
 use crate::operand::{Address, Base, Operand, Width, extend};
 use crate::table::Kind;
@@ -126,7 +126,7 @@ fn is_register(width: Width, operand: Operand) -> bool
 
 /// Whether an operand can be of the kind. It is asked of each row of a mnemonic, and most rows have other kinds.
 #[inline(always)]
-#[tactic(auto, unfolding(crate::specs::Search::demand_of))]
+#[tactic(auto, unfolding(crate::specs::inner::Search::demand_of))]
 pub fn may_be(kind: Kind, operand: Operand) -> bool
     ensures { IsFalse result → demand_of kind operand ≡ None }
 {
@@ -163,7 +163,7 @@ pub fn may_be(kind: Kind, operand: Operand) -> bool
 }
 
 /// What the operand asks of the bytes where a row has this kind, if it is of the kind.
-#[tactic(auto, unfolding(crate::specs::Search::demand_of))]
+#[tactic(auto, unfolding(crate::specs::inner::Search::demand_of))]
 pub fn demand_for(kind: Kind, operand: Operand) -> Option<Demand>
     ensures value { result ≡ demand_of kind operand }
     ensures fits { IfSome result DemandFits }

@@ -4,7 +4,7 @@ ghost use Rattle.std.specs.Prelude.{◌≡◌, ◌+◌, ◌≤◌, ◌++◌, map
 ghost use Rattle.arrayvec.specs.ArrayVec.{array_vec_len};
 ghost use Rattle.dm_ins.specs.Spelling.{SpellsAction, prefix_byte};
 ghost use Rattle.dm_ins.specs.Preferred.{IsPreferred};
-ghost use Rattle.dm_ins.specs.Search.{prefix_list};
+ghost use Rattle.dm_ins.specs.inner.Search.{prefix_list};
 
 use crate::action::Action;
 use crate::fill::RowBytes;

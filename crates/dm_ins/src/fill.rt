@@ -3,7 +3,7 @@
 ghost use Rattle.std.specs.Prelude.{◌≡◌, ◌+◌, ◌<◌, ◌≤◌, ◌++◌, IfSome, IsSome, IsFalse, None};
 ghost use Rattle.arrayvec.specs.ArrayVec.{array_vec_len};
 ghost use Rattle.dm_ins.specs.Spelling.{word};
-ghost use Rattle.dm_ins.specs.Search.{OperandFits, PlaceFits, behind_bytes, bytes_of, data_bytes, either, fields_bytes, memory_bytes, rm_of, seen_bytes, with_displacement};
+ghost use Rattle.dm_ins.specs.inner.Search.{OperandFits, PlaceFits, behind_bytes, bytes_of, data_bytes, either, fields_bytes, memory_bytes, rm_of, seen_bytes, with_displacement};
 
 use crate::demand::{Data, Place, demand_for, has_no_base, may_be};
 use crate::operand::{Address, Base, Operand, extend};
@@ -107,7 +107,7 @@ fn put_memory(out: &mut RowBytes, register: u8, address: Address)
     }
 }
 
-#[tactic(auto, unfolding(crate::specs::Search::fields_bytes))]
+#[tactic(auto, unfolding(crate::specs::inner::Search::fields_bytes))]
 fn put_fields(out: &mut RowBytes, register: u8, place: Place)
     requires room { array_vec_len out.old + 3 ≤ 12 }
     requires register { register < 8 }
@@ -171,7 +171,7 @@ pub fn may_fill(choice: &Choice, first: Operand, second: Operand) -> bool
 
 /// The bytes of the row with these operands, if they are of its kinds.
 #[inline(never)]
-#[tactic(auto, unfolding(crate::specs::Search::bytes_of))]
+#[tactic(auto, unfolding(crate::specs::inner::Search::bytes_of))]
 pub fn fill(choice: Choice, first: Operand, second: Operand) -> Option<RowBytes>
     requires { IfSome choice.register (λ n. n < 8) }
     ensures bytes { seen_bytes result ≡ bytes_of choice first second }

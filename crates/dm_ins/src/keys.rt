@@ -2,7 +2,7 @@
 
 ghost use Rattle.std.specs.Prelude.{◌≡◌, true};
 ghost use Rattle.std.specs.List.{list_all};
-ghost use Rattle.dm_ins.specs.Keys.{keyed, has_field};
+ghost use Rattle.dm_ins.specs.inner.Keys.{keyed, has_field};
 
 use crate::action::Mnemonic;
 
@@ -21,7 +21,7 @@ macro_rules! keys {
 }
 
 /// The keys of the rows that have the mnemonic, in the order of their bytes.
-#[tactic(auto, unfolding(crate::specs::Keys::keyed))]
+#[tactic(auto, unfolding(crate::specs::inner::Keys::keyed))]
 pub fn keys_of(mnemonic: Mnemonic) -> &'static [Key]
     ensures keys { result.now ≡ keyed mnemonic }
     ensures fits { list_all has_field result.now ≡ true }

@@ -3,7 +3,7 @@
 ghost use Rattle.std.specs.Prelude.{◌≡◌, ◌<◌, ◌↔◌, IsTrue, IfSome, IfNone, List, ℕ};
 ghost use Rattle.dm_ins.specs.Table.{entry_of};
 ghost use Rattle.dm_ins.specs.Order.{before};
-ghost use Rattle.dm_ins.specs.Search.{CandidateAt, IsLeast, better_of, choice_at, seen_bytes};
+ghost use Rattle.dm_ins.specs.inner.Search.{CandidateAt, IsLeast, better_of, choice_at, seen_bytes};
 
 use crate::action::{Action, Mnemonic};
 use crate::fill::{Choice, RowBytes, fill, may_fill};

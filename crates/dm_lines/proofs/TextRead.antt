@@ -22,7 +22,7 @@ use Rattle.dm_ins.specs.declared.prefix.Repeat.{Repeat}
 use Rattle.dm_ins.specs.declared.prefix.Repeat.TheVariants.{NotEqual, Equal}
 use Rattle.dm_ins.specs.declared.prefix.Prefixes.{Prefixes}
 use Rattle.dm_ins.specs.declared.ins.Ins.{Ins}
-use Rattle.dm_ins.specs.Search.{OperandFits}
+use Rattle.dm_ins.specs.inner.Search.{OperandFits}
 use Rattle.dm_ins.specs.Walks.{◌>>=◌}
 use Rattle.dm_ins.proofs.TableRules.{both_true}
 use Rattle.dm_ins.proofs.Shortest.{action_fits}

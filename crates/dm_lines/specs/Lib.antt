@@ -5,3 +5,4 @@ pub mod Statements
 pub mod Placing
 pub mod Own
 pub mod Laws
+pub mod inner

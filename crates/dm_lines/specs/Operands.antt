@@ -2,7 +2,6 @@
 -- Source: Intel 8086 Family User's Manual, section 2.8 (addressing modes) and section 2.9 (how ASM-86 writes them); that parts of
 -- an address stand in one order, and which signs are left out, is this machine's own.
 use Rattle.std.specs.Prelude.{ℕ, ◌-◌, ◌%◌, Bool, true, false, List, [], ◌∷◌, Option, Some, None, nat_le, if◌then◌else◌}
-use Rattle.std.specs.Borrow.{Bor}
 use Rattle.dm_ins.specs.declared.operand.WordRegister.TheVariants.{Bx, Bp, Si, Di}
 use Rattle.dm_ins.specs.declared.operand.Base.{Base}
 use Rattle.dm_ins.specs.declared.operand.Base.TheVariants.{BxSi, BxDi, BpSi, BpDi, OnSi, OnDi, OnBp, OnBx}
@@ -16,15 +15,6 @@ use Rattle.dm_lines.specs.declared.term.Amount.TheVariants.{Plus, Minus}
 use Rattle.dm_lines.specs.declared.term.Value.{Value}
 use Rattle.dm_lines.specs.declared.term.Term.{Term}
 use Rattle.dm_lines.specs.declared.term.Term.TheVariants as term
-
--- what a function found, and the tokens that it left, as lists
-abbrev pub seen : {A : Type 0} → Option (A × Bor (List Token)) → Option (A × List Token)
-seen None = None
-seen (Some x) = Some (x.0, x.1.now)
-
-abbrev pub option_now : Option (Bor (List Token)) → Option (List Token)
-option_now None = None
-option_now (Some x) = Some x.now
 
 -- ---- numbers and labels
 
@@ -141,14 +131,10 @@ abbrev pub is_comma : Token → Bool
 is_comma t.Comma = true
 is_comma _ = false
 
+-- tokens parted at their commas
 abbrev pub parts : List Token → List (List Token)
 parts [] = [] ∷ []
 parts (t ∷ ts) = if is_comma t then [] ∷ parts ts else begin t (parts ts)
-
--- the parts behind a comma, where one stands
-abbrev pub parts_behind : Option (Bor (List Token)) → List (List Token)
-parts_behind None = []
-parts_behind (Some ts) = parts ts.now
 
 -- at most two operands
 abbrev pub term_pair : List (List Token) → Option (Term × Term)

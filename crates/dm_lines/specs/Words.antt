@@ -1,7 +1,7 @@
 -- The words that no label may be, and the tokens that they are.
 -- Source: Intel 8086 Family User's Manual, section 2.7 (mnemonics, prefixes, and in table 2-15 the other names of the conditional
 -- jumps) and section 2.9 (NEAR, FAR, SHORT, BYTE, WORD, DB and DW of ASM-86). How NEAR, BYTE and WORD are used is this machine's own.
-use Rattle.std.specs.Prelude.{ℕ, Bool, true, false, ◌==◌, List, [], ◌∷◌, ◌++◌, map, Option, option_map, codes, slice_index}
+use Rattle.std.specs.Prelude.{ℕ, Bool, true, false, ◌==◌, List, [], ◌∷◌, ◌++◌, map, Option, option_map, codes}
 use Rattle.dm_ins.specs.declared.action.Mnemonic.{Mnemonic}
 use Rattle.dm_ins.specs.declared.action.Mnemonic.TheVariants as op
 use Rattle.dm_ins.specs.declared.prefix.Repeat.TheVariants.{NotEqual, Equal}
@@ -137,10 +137,6 @@ abbrev pub all_words : List Reserved
 all_words =
     map word.Byte byte_registers ++ map word.Word word_registers ++ map word.Segment segment_registers
     ++ map word.Mnemonic (those is_one_word mnemonics) ++ map word.Alias aliases ++ map word.Keyword keywords
-
--- whether a reserved word begins with a byte
-abbrev pub begins : ℕ → Reserved → Bool
-begins b r = slice_index (spelling_of r) 0 == b
 
 -- the token of a word in upper case, where it is reserved
 unfoldable pub reserved : List ℕ → Option Token

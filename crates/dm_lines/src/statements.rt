@@ -2,7 +2,7 @@
 
 ghost use Rattle.std.specs.Prelude.{◌≡◌, ◌<◌, ◌≤◌, length, option_map, IfSome};
 ghost use Rattle.dm_ins.specs.Spelling.{no_prefix};
-ghost use Rattle.dm_lines.specs.Operands.{seen};
+ghost use Rattle.dm_lines.specs.inner.Operands.{seen};
 ghost use Rattle.dm_lines.specs.Statements.{seen_item, seen_statement, short_of, far_of, mnemonic_at, prefixed, is_memory, exchanges, with_terms, operated, action_of, instruction_of, item_of, statement_of, line_of};
 
 use crate::lexing::{Tokens, put_tokens};

@@ -363,52 +363,64 @@ fn lines_of_a_program(rt: HostRuntime) -> Result<(), Fail> {
     check(&rt, rt.alloc(), PROGRAM)
 }
 
+/// Definitions: dm_lines Operands amount_of added_of value_of minus word_of
+/// Definitions: dm_lines Tokens word_token number_of magnitude_of digit_of padded_of upper is_word_byte
 #[test]
 fn numbers_are_decimal_or_hexadecimal(rt: HostRuntime) -> Result<(), Fail> {
     check(&rt, rt.alloc(), NUMBERS)
 }
 
+/// Definitions: dm_lines Tokens word_token number_of magnitude_of digit_of padded_of upper is_word_byte
+/// Definitions: dm_lines Words reserved all_words aliases keywords is_one_word spelling_of meaning_of alias_mnemonic keyword_token
 #[test]
 fn labels_are_no_reserved_words(rt: HostRuntime) -> Result<(), Fail> {
     check(&rt, rt.alloc(), LABELS)
 }
 
+/// Definitions: dm_lines Words reserved all_words aliases keywords is_one_word spelling_of meaning_of alias_mnemonic keyword_token
 #[test]
 fn mnemonics_have_other_names(rt: HostRuntime) -> Result<(), Fail> {
     check(&rt, rt.alloc(), ALIASES)
 }
 
+/// Definitions: dm_lines Statements instruction_of prefixed action_of operated mnemonic_at short_of far_of
 #[test]
 fn prefixes_stand_once_in_any_order(rt: HostRuntime) -> Result<(), Fail> {
     check(&rt, rt.alloc(), PREFIXES)
 }
 
+/// Definitions: dm_lines Operands terms_of term_pair term_of from_number far_of
 #[test]
 fn operands_are_registers_and_values(rt: HostRuntime) -> Result<(), Fail> {
     check(&rt, rt.alloc(), OPERANDS)
 }
 
+/// Definitions: dm_lines Operands memory_of place_of base_at inside
 #[test]
 fn addresses_stand_between_brackets(rt: HostRuntime) -> Result<(), Fail> {
     check(&rt, rt.alloc(), MEMORY)
 }
 
+/// Definitions: dm_lines Statements with_terms exchanges is_memory
 #[test]
 fn memory_comes_first_in_exchanges(rt: HostRuntime) -> Result<(), Fail> {
     check(&rt, rt.alloc(), EXCHANGES)
 }
 
+/// Definitions: dm_lines Statements instruction_of prefixed action_of operated mnemonic_at short_of far_of
 #[test]
 fn jumps_and_calls_have_targets(rt: HostRuntime) -> Result<(), Fail> {
     check(&rt, rt.alloc(), TARGETS)
 }
 
+/// Definitions: dm_lines Statements bytes_of bytes_item letters words_of; dm_lines Operands parts
 #[test]
 fn data_are_numbers_texts_and_labels(rt: HostRuntime) -> Result<(), Fail> {
     check(&rt, rt.alloc(), DATA)
 }
 
 /// 255 bytes and one more, of which some are a comment.
+/// Definitions: dm_lines Statements line_of statement_of item_of
 #[test]
 fn lines_have_255_bytes(rt: HostRuntime) -> Result<(), Fail> {
     let mut reader = Reader::new();
@@ -421,6 +433,7 @@ fn lines_have_255_bytes(rt: HostRuntime) -> Result<(), Fail> {
 }
 
 /// A comment and a quoted text hold any byte; outside them only some can stand.
+/// Definitions: dm_lines Tokens tokens_of lexed closed marked inside_quotes
 #[test]
 fn comments_and_texts_hold_any_byte(rt: HostRuntime) -> Result<(), Fail> {
     let mut reader = Reader::new();

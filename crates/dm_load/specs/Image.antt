@@ -37,6 +37,7 @@ minimum file = word file 0x0A
 abbrev pub maximum : List ℕ → ℕ
 maximum file = word file 0x0C
 
+-- CS:IP from words 16h and 14h, SS:SP from words 0Eh and 10h
 abbrev pub code : List ℕ → FarPointer
 code file = record { segment = word file 0x16; offset = word file 0x14 }
 

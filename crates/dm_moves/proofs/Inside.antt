@@ -5,7 +5,7 @@ use Rattle.dm_pool.specs.declared.places.Place.{Place as Span}
 use Rattle.dm_pool.specs.Blocks.{IsLive}
 use Rattle.dm_space.specs.Memory.{Memory, IsPage, page_bytes}
 use Rattle.dm_space.specs.Places.{IsShaped}
-use Rattle.dm_space.specs.Runs.{shift}
+use Rattle.dm_space.specs.inner.Runs.{shift}
 use Rattle.dm_space.proofs.Copies.{place-run}
 use Rattle.dm_moves.specs.declared.regions.Kind.{Kind}
 use Rattle.dm_moves.specs.declared.regions.Kind.TheVariants.{Linear, Pages, Single}

@@ -5,7 +5,7 @@ use Rattle.dm_space.specs.declared.place.Place.{Place}
 use Rattle.std.specs.Prelude.{◌==◌, ◌&&◌}
 use Rattle.dm_space.specs.declared.place.Place.TheVariants.{Page}
 use Rattle.dm_space.specs.Memory.{Memory}
-use Rattle.dm_space.specs.Runs.{shift}
+use Rattle.dm_space.specs.inner.Runs.{shift}
 use Rattle.dm_moves.specs.Regions.{Region, place_in, IsInside}
 use Rattle.dm_moves.specs.Overlaps.{is_shared, any_two, overlap}
 use Rattle.dm_moves.proofs.Some.{two-true, two-none, none-two, two-found}

@@ -9,12 +9,12 @@ use Rattle.dm_region.proofs.Bytes.{length-with_part}
 use Rattle.dm_space.specs.declared.place.Place.TheVariants.{Page}
 use Rattle.dm_space.specs.Copies.{values, writes, copied_in, copied_out, block_copied_in, block_copied_out}
 use Rattle.dm_space.specs.Memory.{Memory, Held, place, peek, poke, byte_at, page_bytes, with_blocks, with_byte}
-use Rattle.dm_space.specs.Runs.{with_run}
+use Rattle.dm_space.specs.inner.Runs.{with_run}
 use Rattle.dm_space.proofs.Copies.{length-values, values-more, values-part, part-more, none-written, one-more, same-content}
 use Rattle.dm_space.proofs.Places.{peek-place, page-there}
 use Rattle.dm_moves.specs.declared.regions.Kind.TheVariants.{Linear, Pages, Single}
 use Rattle.dm_moves.specs.Regions.{Region, spot, place_in, byte_in, bytes_in, stored, moved, exchanged, IsInside}
-use Rattle.dm_moves.specs.Copying.{read_in, written_out}
+use Rattle.dm_moves.specs.inner.Copying.{read_in, written_out}
 use Rattle.dm_moves.proofs.Inside.{page-of, single-of, inside-shaped}
 use Rattle.dm_moves.proofs.Shapes.{stored-shaped}
 

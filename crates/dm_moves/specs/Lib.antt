@@ -1,5 +1,5 @@
 pub mod Regions
 pub mod Overlaps
-pub mod Copying
 pub mod Laws
 pub mod Buffers
+pub mod inner

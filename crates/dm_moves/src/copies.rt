@@ -1,7 +1,7 @@
 //! Bytes of regions, copied through the scratch bytes.
 
 ghost use Rattle.std.specs.Prelude.{◌≡◌, ◌+◌, ◌%◌, ◌<◌, ◌≤◌};
-ghost use Rattle.dm_moves.specs.Copying.{read_in, written_out};
+ghost use Rattle.dm_moves.specs.inner.Copying.{read_in, written_out};
 ghost use Rattle.dm_moves.specs.Regions.{moved, exchanged, IsInside};
 
 use crate::regions::{Kind, PAGE, Region};

@@ -1,7 +1,7 @@
 //! Whether regions overlap: whether they share a place.
 
 ghost use Rattle.std.specs.Prelude.{◌≡◌, ◌==◌, ◌+◌, ◌<◌};
-ghost use Rattle.dm_space.specs.Runs.{shift};
+ghost use Rattle.dm_space.specs.inner.Runs.{shift};
 ghost use Rattle.dm_moves.specs.Overlaps.{is_shared, any_two, overlap};
 ghost use Rattle.dm_moves.specs.Regions.{place_in, IsInside};
 

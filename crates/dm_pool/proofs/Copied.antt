@@ -5,9 +5,11 @@ use Rattle.dm_region.proofs.Bytes.{length-with_part}
 use Rattle.dm_pool.specs.declared.part.Part.{Part}
 use Rattle.dm_pool.specs.declared.part.Part.TheVariants.{Low, Scratch, Block}
 use Rattle.dm_pool.specs.Blocks.{Blocks, contents_of, with_content}
-use Rattle.dm_pool.specs.Order.{Layout, IsLaid, IsToldIn, blocks_in}
-use Rattle.dm_pool.specs.Parts.{HasPart, IsLaidOut, IsSpan, part_bytes, with_part_bytes, copied}
-use Rattle.dm_pool.specs.Stored.{Stored, IsStore, stored, low_part, scratch_part, pool_part}
+use Rattle.dm_pool.specs.inner.Order.{Layout, IsLaid, IsToldIn, blocks_in}
+use Rattle.dm_pool.specs.Parts.{HasPart, part_bytes, with_part_bytes, copied}
+use Rattle.dm_pool.specs.inner.Parts.{IsLaidOut, IsSpan}
+use Rattle.dm_pool.specs.Stored.{Stored}
+use Rattle.dm_pool.specs.inner.Stored.{IsStore, stored, low_part, scratch_part, pool_part}
 use Rattle.dm_pool.proofs.Blocks.{part_length, refilled, content_of}
 use Rattle.dm_pool.proofs.Parts.{part_in, part_rewritten}
 use Rattle.dm_pool.proofs.Stored.{lent, lent_length, lent_elsewhere, lent_whole, block_left, block_store, block_stored, same_stored}

@@ -5,8 +5,10 @@ use Rattle.std.proofs.Math.Nat.{div-le_self}
 use Rattle.std.proofs.lemmas.Bool.{le-leb}
 use Rattle.std.proofs.lemmas.List.Sums.{sum_by-cons}
 use Rattle.dm_pool.specs.declared.places.Place.{Place}
-use Rattle.dm_pool.specs.Gaps.{Run, AreGaps, gaps, first_fit, free_units, count_fitting}
-use Rattle.dm_pool.specs.FreeList.{word, AreBased, Spells, Tells}
+use Rattle.dm_pool.specs.Gaps.{Run, gaps, free_units, count_fitting}
+use Rattle.dm_pool.specs.inner.Gaps.{AreGaps, first_fit}
+use Rattle.dm_pool.specs.FreeList.{word, AreBased, Spells}
+use Rattle.dm_pool.specs.inner.FreeList.{Tells}
 use Rattle.dm_pool.proofs.Gaps.{past}
 use Rattle.dm_pool.proofs.Maximal.{gaps_are, gaps_are_one}
 

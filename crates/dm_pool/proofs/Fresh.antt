@@ -3,8 +3,9 @@ use Rattle.std.proofs.Common.{◌≡◌, ℕ, zero, suc, ◌+◌, ◌-◌, ◌�
 use Rattle.std.proofs.lemmas.List.{take-replicate}
 use Rattle.dm_region.specs.Parts.{part}
 use Rattle.dm_pool.specs.Blocks.{contents_of, no_blocks}
-use Rattle.dm_pool.specs.Order.{Layout, no_layout, blocks_in}
-use Rattle.dm_pool.specs.Stored.{zeros_of, low_part, scratch_part}
+use Rattle.dm_pool.specs.inner.Order.{Layout, no_layout, blocks_in}
+use Rattle.dm_pool.specs.Stored.{zeros_of}
+use Rattle.dm_pool.specs.inner.Stored.{low_part, scratch_part}
 use Rattle.dm_pool.proofs.Takes.{same_blocks}
 
 drop_zeros : (P T : ℕ) → drop P (replicate {A = ℕ} T 0) ≡ replicate (T - P) 0

@@ -7,7 +7,7 @@ use Rattle.std.proofs.lemmas.List.Folds.{sum_by-replicate}
 use Rattle.dm_pool.specs.declared.places.Place.{Place}
 use Rattle.dm_pool.specs.Gaps.{is_clear}
 use Rattle.dm_pool.specs.Blocks.{Apart, IsPool}
-use Rattle.dm_pool.specs.Order.{has_units, IsOrder, IsLaid}
+use Rattle.dm_pool.specs.inner.Order.{has_units, IsOrder, IsLaid}
 use Rattle.dm_pool.proofs.Blocks.{same_or_not, no_place, clear_apart}
 
 none : (n : ℕ) → 0 ≡ count_by has_units (replicate n None)

@@ -4,7 +4,8 @@ use Rattle.std.specs.Prelude.{if◌then◌else◌}
 use Rattle.std.proofs.Math.Bool.{true≢false}
 use Rattle.std.proofs.lemmas.Bool.{cases_lt, cases_eq, eq-eqb, ne_eqb}
 use Rattle.dm_pool.specs.declared.places.Place.{Place}
-use Rattle.dm_pool.specs.Gaps.{Run, is_clear, IsCovered, AreGaps, with_unit, gaps_from, gaps}
+use Rattle.dm_pool.specs.Gaps.{Run, is_clear, with_unit, gaps_from, gaps}
+use Rattle.dm_pool.specs.inner.Gaps.{IsCovered, AreGaps}
 use Rattle.dm_pool.specs.FreeList.{AreBased}
 use Rattle.dm_pool.proofs.Gaps.{clear, clear_part, before, after}
 use Rattle.dm_pool.proofs.Blocks.{clear_apart}

@@ -4,8 +4,9 @@ use Rattle.dm_region.specs.Parts.{part, with_part}
 use Rattle.dm_region.proofs.Bytes.{length-with_part}
 use Rattle.dm_pool.specs.declared.places.Place.{Place}
 use Rattle.dm_pool.specs.Blocks.{Blocks, contents_of, with_content, moved_bytes}
-use Rattle.dm_pool.specs.Order.{Layout, IsLaid, blocks_in}
-use Rattle.dm_pool.specs.Stored.{Stored, IsStore, stored, low_part, scratch_part, pool_part, refit}
+use Rattle.dm_pool.specs.inner.Order.{Layout, IsLaid, blocks_in}
+use Rattle.dm_pool.specs.Stored.{Stored, refit}
+use Rattle.dm_pool.specs.inner.Stored.{IsStore, stored, low_part, scratch_part, pool_part}
 use Rattle.dm_pool.proofs.Blocks.{part_length, refilled, content_of}
 use Rattle.dm_pool.proofs.Parts.{part_in, part_rewritten}
 use Rattle.dm_pool.proofs.Stored.{block_left, block_store, block_stored}

@@ -10,7 +10,7 @@ use Rattle.std.proofs.lemmas.List.Sums.{sum_by-set, count_by-le-length}
 use Rattle.std.proofs.lemmas.List.Edits.{get_or-insert_at, get_or-insert_below, get_or-insert_above, get_or-remove_below, get_or-remove_above, length-insert, length-remove}
 use Rattle.dm_pool.specs.declared.places.Place.{Place}
 use Rattle.dm_pool.specs.Blocks.{Apart}
-use Rattle.dm_pool.specs.Order.{has_units, IsNth, IsOrder}
+use Rattle.dm_pool.specs.inner.Order.{has_units, IsNth, IsOrder}
 use Rattle.dm_pool.proofs.Blocks.{same_or_not}
 
 true_or_false : (b : Bool) → b ≡ true → b ≡ false → ⊥

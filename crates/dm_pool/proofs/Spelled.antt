@@ -3,8 +3,8 @@ use Rattle.std.proofs.Common.{◌≡◌, ℕ, ◌+◌, ◌-◌, ◌<◌, ◌≤�
 use Rattle.std.proofs.lemmas.Bool.{cases_lt, cases_order}
 use Rattle.std.proofs.lemmas.Option.{same_Some}
 use Rattle.dm_pool.specs.declared.places.Place.{Place}
-use Rattle.dm_pool.specs.FreeList.{IsBelow}
-use Rattle.dm_pool.specs.Order.{IsNth, IsOrder, IsLaid, IsCut}
+use Rattle.dm_pool.specs.inner.FreeList.{IsBelow}
+use Rattle.dm_pool.specs.inner.Order.{IsNth, IsOrder, IsLaid, IsCut}
 use Rattle.dm_pool.proofs.FreeRuns.{free_above}
 
 -- all blocks, below the end of the pool

@@ -8,9 +8,10 @@ use Rattle.std.specs.Prelude.{MatchOption}
 use Rattle.std.specs.Bool.{MatchBool}
 use Rattle.dm_pool.specs.declared.places.Place.{Place}
 use Rattle.dm_pool.specs.Blocks.{Blocks, taken, resized, with_content, contents_of}
-use Rattle.dm_pool.specs.FreeList.{IsTold}
-use Rattle.dm_pool.specs.Order.{Layout, IsLaid, IsToldIn, blocks_in}
-use Rattle.dm_pool.specs.Stored.{Stored, IsStore, stored, low_part, scratch_part, pool_part, refit, zeros_of}
+use Rattle.dm_pool.specs.inner.FreeList.{IsTold}
+use Rattle.dm_pool.specs.inner.Order.{Layout, IsLaid, IsToldIn, blocks_in}
+use Rattle.dm_pool.specs.Stored.{Stored, refit, zeros_of}
+use Rattle.dm_pool.specs.inner.Stored.{IsStore, stored, low_part, scratch_part, pool_part}
 use Rattle.dm_pool.proofs.Blocks.{elsewhere, written, part_length, refilled, lent_is}
 use Rattle.dm_pool.proofs.Layouts.{pool_of}
 use Rattle.dm_pool.proofs.Parts.{part_in, part_with_part}

@@ -5,7 +5,7 @@ use Rattle.std.proofs.lemmas.Option.{same_Some}
 use Rattle.dm_pool.specs.declared.places.Place.{Place}
 use Rattle.dm_pool.specs.Gaps.{is_clear, is_free, lowest}
 use Rattle.dm_pool.specs.Blocks.{Blocks, contents_of}
-use Rattle.dm_pool.specs.Order.{Layout, blocks_in}
+use Rattle.dm_pool.specs.inner.Order.{Layout, blocks_in}
 use Rattle.dm_pool.proofs.Blocks.{passes, within_pool}
 use Rattle.dm_pool.proofs.Told.{lowest_zero}
 

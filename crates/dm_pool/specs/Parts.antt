@@ -1,11 +1,9 @@
 -- The parts of a store: the low bytes, the scratch bytes, and the bytes of each block.
-use Rattle.std.specs.Prelude.{◌≡◌, ℕ, ◌+◌, ◌*◌, List, [], get_or, Some, None}
+use Rattle.std.specs.Prelude.{◌≡◌, ℕ, ◌+◌, ◌*◌, List, [], get_or}
 use Rattle.dm_region.specs.Parts.{part, with_part}
 use Rattle.dm_pool.specs.declared.part.Part.{Part}
 use Rattle.dm_pool.specs.declared.part.Part.TheVariants.{Low, Scratch, Block}
-use Rattle.dm_pool.specs.declared.places.Place.{Place}
 use Rattle.dm_pool.specs.Blocks.{with_content, IsLive}
-use Rattle.dm_pool.specs.Order.{Layout}
 use Rattle.dm_pool.specs.Stored.{Stored}
 
 -- the store has the part
@@ -29,15 +27,3 @@ with_part_bytes s (Block i) xs = record s { blocks = with_content s.blocks i xs 
 abbrev pub copied : Stored → Part → ℕ → Part → ℕ → ℕ → Stored
 copied s source from destination to len =
     with_part_bytes s destination (with_part (part_bytes s destination) to len (part (part_bytes s source) from len))
-
--- the table tells where the part is (for private steps, as the next one)
-abbrev pub IsLaidOut : Layout → Part → Type 0
-IsLaidOut l Low = Unit {0}
-IsLaidOut l Scratch = Unit {0}
-IsLaidOut l (Block i) = (b : Place) × (get_or l.places i None ≡ Some b)
-
--- the part is the n bytes of the region from its byte `from` on
-abbrev pub IsSpan : Layout → Part → ℕ → ℕ → Type 0
-IsSpan l Low from n = (from ≡ 0) × (n ≡ 0x110000)
-IsSpan l Scratch from n = (from ≡ 0x110000) × (n ≡ 0x200000)
-IsSpan l (Block i) from n = (b : Place) × (get_or l.places i None ≡ Some b) × (from ≡ 0x310000 + b.base * 1024) × (n ≡ b.units * 1024)

@@ -1,9 +1,7 @@
 -- What a store holds.
 use Rattle.std.specs.Prelude.{◌≡◌, ℕ, ◌+◌, ◌*◌, ◌<◌, ◌⊎◌, ◌++◌, List, length, take, drop, replicate}
-use Rattle.dm_region.specs.Parts.{part}
 use Rattle.dm_pool.specs.declared.sizes.Sizes.{Sizes}
 use Rattle.dm_pool.specs.Blocks.{Blocks}
-use Rattle.dm_pool.specs.Order.{Layout, blocks_in, IsToldIn}
 
 -- the bytes of low memory by their linear addresses, the scratch bytes, and the blocks of the pool
 pub record Stored : Type 0 where
@@ -22,23 +20,6 @@ units_of sizes = 16 * sizes.ems_pages + sizes.xms_kib
 -- so many zeros. (A definition that stays closed: the prover would else write all of them out.)
 unfoldable pub zeros_of : ℕ → List ℕ
 zeros_of n = replicate n 0
-
--- low bytes, scratch bytes and pool, as they lie in one region
-abbrev pub low_part : List ℕ → List ℕ
-low_part xs = part xs 0 0x110000
-
-abbrev pub scratch_part : List ℕ → List ℕ
-scratch_part xs = part xs 0x110000 0x200000
-
-abbrev pub pool_part : List ℕ → ℕ → List ℕ
-pool_part xs units = part xs 0x310000 (units * 1024)
-
-abbrev pub stored : List ℕ → Layout → Stored
-stored xs l = record { low = low_part xs; scratch = scratch_part xs; blocks = blocks_in l (pool_part xs l.units) }
-
-pub record IsStore (xs : List ℕ) (l : Layout) : Type 0 where
-  pub whole : length xs ≡ 0x310000 + l.units * 1024
-  pub told : IsToldIn l (pool_part xs l.units)
 
 -- a slice keeps its length, so this is what the borrower leaves
 abbrev pub refit : List ℕ → List ℕ → List ℕ

@@ -4,7 +4,7 @@ ghost use Rattle.std.specs.Bool.{MatchBool};
 ghost use Rattle.dm_region.specs.Parts.{with_part};
 ghost use Rattle.dm_pool.specs.Gaps.{is_clear, lowest};
 ghost use Rattle.dm_pool.specs.Blocks.{taken, without, new_base, resized, content, contents_of, fitted, zeros, IsAt, IsLive};
-ghost use Rattle.dm_pool.specs.Order.{blocks_in, IsToldIn};
+ghost use Rattle.dm_pool.specs.inner.Order.{blocks_in, IsToldIn};
 
 use crate::places::{Place, UNIT};
 use crate::runs::{first_fit, spell};

@@ -2,9 +2,10 @@
 //! bytes each, low byte first; FFFFFFFFh stands for no run.
 ghost use Rattle.std.specs.Prelude.{◌≡◌, ℕ, ◌+◌, ◌-◌, ◌*◌, ◌^◌, ◌<◌, ◌≤◌, length};
 ghost use Rattle.dm_pool.specs.Blocks.{contents_of};
-ghost use Rattle.dm_pool.specs.FreeList.{word, IsBelow, IsKeptOutside, Tells};
+ghost use Rattle.dm_pool.specs.FreeList.{word};
+ghost use Rattle.dm_pool.specs.inner.FreeList.{IsBelow, IsKeptOutside, Tells};
 ghost use Rattle.dm_pool.specs.Gaps.{lowest, gaps, free_units, largest, count_fitting};
-ghost use Rattle.dm_pool.specs.Order.{IsCut, IsToldIn};
+ghost use Rattle.dm_pool.specs.inner.Order.{IsCut, IsToldIn};
 
 use crate::places::{Place, UNIT};
 use crate::table::Table;

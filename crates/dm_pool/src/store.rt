@@ -7,7 +7,8 @@ ghost use Rattle.dm_pool.specs.FreeList.{AreBased, Spells};
 ghost use Rattle.dm_pool.specs.Gaps.{gaps, free_units, largest, count_fitting};
 ghost use Rattle.dm_pool.specs.Stored.{zeros_of, units_of, IsTooLarge};
 ghost use Rattle.dm_pool.specs.Lending.{LendsLow, LendsScratch, LendsBlock};
-ghost use Rattle.dm_pool.specs.Parts.{HasPart, IsLaidOut, IsSpan, part_bytes, copied};
+ghost use Rattle.dm_pool.specs.Parts.{HasPart, part_bytes, copied};
+ghost use Rattle.dm_pool.specs.inner.Parts.{IsLaidOut, IsSpan};
 
 use crate::block::Block;
 use crate::part::Part;
@@ -41,7 +42,8 @@ pub struct Store {
 }
 
 impl Model for Store {
-    ghost use Rattle.dm_pool.specs.Stored.{Stored, IsStore, stored};
+    ghost use Rattle.dm_pool.specs.Stored.{Stored};
+    ghost use Rattle.dm_pool.specs.inner.Stored.{IsStore, stored};
 
     ghost Value = { Stored };
 

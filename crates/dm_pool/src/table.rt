@@ -1,7 +1,7 @@
 //! Where blocks lie: by their numbers, and in the order in which they lie.
 ghost use Rattle.std.specs.Prelude.{◌≡◌, ◌↔◌, IsTrue, ℕ, ◌+◌, ◌^◌, ◌<◌, ◌≤◌, true, false, Some, None, get_or, set, length, replicate, IfSome, MatchOption};
 ghost use Rattle.dm_pool.specs.Gaps.{is_clear, is_free, first_empty};
-ghost use Rattle.dm_pool.specs.Order.{no_layout, IsNth, IsOrder, IsTable};
+ghost use Rattle.dm_pool.specs.inner.Order.{no_layout, IsNth, IsOrder, IsTable};
 
 use crate::places::Place;
 use arrayvec::ArrayVec;
@@ -22,7 +22,7 @@ pub(crate) struct Table {
 }
 
 impl Model for Table {
-    ghost use Rattle.dm_pool.specs.Order.{Layout, IsTable};
+    ghost use Rattle.dm_pool.specs.inner.Order.{Layout, IsTable};
 
     ghost Value = { Layout };
 
@@ -32,7 +32,7 @@ impl Model for Table {
 }
 
 /// No block.
-#[tactic(auto, unfolding(crate::specs::Order::no_layout))]
+#[tactic(auto, unfolding(crate::specs::inner::Order::no_layout))]
 fn no_blocks(units: usize) -> Table
     requires { units < 2 ^ 31 }
     ensures { result ≡ no_layout units }

@@ -6,12 +6,14 @@ use Rattle.dm_blocks.specs.Chain.{first_header}
 use Rattle.dm_arena.specs.Pair.{Planned, IsPair, IsPlannedOn}
 use Rattle.dm_load.specs.Image.{is_mz}
 use Rattle.dm_proc.specs.Request.{action, NamesGood, Passed, environment_segment}
-use Rattle.dm_proc.specs.Environment.{AreVariables, IsMade, environment}
+use Rattle.dm_proc.specs.Environment.{AreVariables, environment}
+use Rattle.dm_proc.specs.inner.Environment.{IsMade}
 use Rattle.dm_cpu.specs.declared.cpu.Cpu.{Cpu}
 use Rattle.dm_proc.specs.Room.{paragraphs, least, most}
 use Rattle.dm_proc.specs.declared.refusal.Refusal.{Refusal}
 use Rattle.dm_arena.specs.Pair.{Placed, placed_of}
-use Rattle.dm_proc.specs.Processes.{Processes, IsPlanned, IsWritten, PlanRefused, Starts, Asks, environment_of, ExecRefused}
+use Rattle.dm_proc.specs.Processes.{Processes, IsPlanned, PlanRefused, Starts, Asks, environment_of, ExecRefused}
+use Rattle.dm_proc.specs.inner.Processes.{IsWritten}
 use Rattle.dm_proc.specs.declared.refusal.Refusal.TheVariants.{Function, NotFound, BadFormat, Environment, Destroyed, Short}
 
 -- a COM program's block has room for the prefix and a word

@@ -3,7 +3,7 @@ pub mod Writes
 pub mod Request
 pub mod Environment
 pub mod Room
-pub mod Placed
 pub mod Start
 pub mod Processes
 pub mod Laws
+pub mod inner

@@ -5,8 +5,8 @@ use Rattle.dm_space.specs.Memory.{Memory}
 use Rattle.dm_arena.specs.declared.fit.Strategy.{Strategy}
 use Rattle.dm_arena.specs.declared.refusal.Refusal.TheVariants as arena
 use Rattle.dm_arena.specs.declared.refusal.Refusal.{Refusal as ArenaRefusal}
-use Rattle.dm_blocks.specs.Chain.{first_header, Becomes}
-use Rattle.dm_arena.specs.Pair.{Planned, IsPair, IsPlannedOn, paired}
+use Rattle.dm_blocks.specs.Chain.{first_header}
+use Rattle.dm_arena.specs.Pair.{Planned, IsPair}
 use Rattle.dm_arena.specs.Owned.{Releases, Resizes}
 use Rattle.dm_load.specs.Image.{relocated}
 use Rattle.dm_cpu.specs.declared.cpu.Cpu.{Cpu}
@@ -22,7 +22,7 @@ use Rattle.dm_proc.specs.Writes.{apply, upwards, block, bytes_from}
 use Rattle.dm_proc.specs.Request.{action, NamesGood, NameRefused, Passed, passed, environment_segment, load_segment, relocation_factor}
 use Rattle.dm_proc.specs.Environment.{AreVariables, NoVariables, environment}
 use Rattle.dm_proc.specs.Room.{paragraphs, least, most}
-use Rattle.dm_arena.specs.Pair.{Placed, placed_of, Pairs}
+use Rattle.dm_arena.specs.Pair.{Placed, Pairs}
 use Rattle.dm_proc.specs.Start.{start_writes, start_registers, prefix}
 
 -- the present process's segment, 0 while no program is loaded; the processes that wait for a child, the innermost last;
@@ -56,12 +56,6 @@ abbrev pub PlanRefused : Bool → Memory → Strategy → ℕ → List ℕ → R
 PlanRefused upper m strategy count file Destroyed = Plans upper m strategy count file (Err arena.Destroyed) m
 PlanRefused upper m strategy count file Short = (room : ℕ) × Plans upper m strategy count file (Err (arena.Short room)) m
 PlanRefused upper m strategy count file _ = ⊥
-
--- what was planned is written: all
-pub record IsWritten (upper : Bool) (m : Memory) (pair : Planned) (p : IsPlannedOn upper m pair) (environment file : List ℕ) (parent : ℕ) (a : Passed) (n : Memory) : Type 0 where
-  pub middle : Memory
-  pub becomes : Becomes m first_header (paired p.planned.pairing) middle
-  pub memory : n ≡ apply (start_writes middle.a20 (placed_of pair) environment (prefix m (placed_of pair) parent a) file) middle
 
 -- a program is placed and written: all that is written behind the headers was read before
 pub record Starts (upper : Bool) (m : Memory) (strategy : Strategy) (environment file : List ℕ) (parent : ℕ) (a : Passed) (placed : Placed) (n : Memory) : Type 0 where
@@ -130,6 +124,7 @@ pub record Lays (c : Cpu) (m : Memory) (store : List (List ℕ × List ℕ)) (n 
   pub names : NamesGood c m store name file
   pub memory : n ≡ apply (block m.a20 (load_segment c m) (relocated file (relocation_factor c m))) m
 
+-- why no overlay is loaded: AL is not 3, no such name, or a bad file; nothing changes
 abbrev pub OverlayRefused : Cpu → Memory → List (List ℕ × List ℕ) → Refusal → Type 0
 OverlayRefused c m store Function = action c ≢ 3
 OverlayRefused c m store NotFound = (action c ≡ 3) × NameRefused c m store NotFound

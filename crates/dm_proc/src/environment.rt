@@ -1,6 +1,7 @@
 //! The environment of a process (MS-DOS Programmer's Reference, "Environment").
 ghost use Rattle.std.specs.Prelude.{◌≡◌, ◌+◌, ◌<◌, ◌≤◌, ◌++◌, length, take, IfSome, MatchOption};
-ghost use Rattle.dm_proc.specs.Environment.{closing, environment, HasNoEnd, IsEnvironment, IsRead, IsMade, NoVariables};
+ghost use Rattle.dm_proc.specs.Environment.{closing, environment, HasNoEnd, IsEnvironment, NoVariables};
+ghost use Rattle.dm_proc.specs.inner.Environment.{IsRead, IsMade};
 ghost use Rattle.dm_proc.specs.Writes.{bytes_from};
 
 use dm_space::Space;

@@ -8,10 +8,11 @@ ghost use Rattle.dm_proc.specs.Writes.{apply, block};
 ghost use Rattle.dm_proc.specs.Room.{paragraphs};
 ghost use Rattle.dm_proc.specs.Room;
 ghost use Rattle.dm_arena.specs.Pair.{placed_of};
-ghost use Rattle.dm_proc.specs.Placed.{as_placed};
+ghost use Rattle.dm_proc.specs.inner.Placed.{as_placed};
 ghost use Rattle.dm_proc.specs.Request.{passed_of};
 ghost use Rattle.dm_proc.specs.Start.{start_writes, zero_word, stack_writes};
-ghost use Rattle.dm_proc.specs.Processes.{PlanRefused, IsWritten};
+ghost use Rattle.dm_proc.specs.Processes.{PlanRefused};
+ghost use Rattle.dm_proc.specs.inner.Processes.{IsWritten};
 
 use crate::arguments::Arguments;
 use crate::placed::Blocks;

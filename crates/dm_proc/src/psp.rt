@@ -2,7 +2,7 @@
 ghost use Rattle.std.specs.Prelude.{◌≡◌, ◌+◌, ◌≤◌, ◌++◌, length};
 ghost use Rattle.dm_proc.specs.Writes.{bytes_from};
 ghost use Rattle.dm_proc.specs.Start.{word_bytes, zeros, prefix};
-ghost use Rattle.dm_proc.specs.Placed.{as_placed};
+ghost use Rattle.dm_proc.specs.inner.Placed.{as_placed};
 ghost use Rattle.dm_proc.specs.Request.{passed_of};
 
 use crate::arguments::Arguments;

@@ -10,6 +10,7 @@ const CLEAR: u16 = 0xF002;
 
 const FULL: u16 = 0xFFD7;
 
+/// Definitions: dm_alu Flags word_of flags_of bit_is_one
 #[test]
 fn stored_and_loaded_words(rt: HostRuntime) {
     for (loaded, stored) in [(0, CLEAR), (0xFFFF, FULL), (0x0FD5, FULL), (0xF02A, CLEAR)] {
@@ -17,6 +18,7 @@ fn stored_and_loaded_words(rt: HostRuntime) {
     }
 }
 
+/// Definitions: dm_alu Width size half is_negative signed
 #[test]
 fn widths_read_signed_values(rt: HostRuntime) {
     for (width, value, number) in [
@@ -43,6 +45,8 @@ fn widths_read_signed_values(rt: HostRuntime) {
     );
 }
 
+/// Definitions: dm_alu Width leaves_range; dm_alu Flags after_result even_parity
+/// Definitions: dm_alu Sums sum_value flags_after_sum sum_overflows
 #[test]
 fn sum_past_the_largest_signed_value(rt: HostRuntime) {
     let clear = Flags::from_word(CLEAR);
@@ -69,6 +73,7 @@ fn sum_past_the_largest_signed_value(rt: HostRuntime) {
     );
 }
 
+/// Definitions: dm_alu Sums difference_value flags_after_difference difference_overflows
 #[test]
 fn negated_least_byte(rt: HostRuntime) {
     let (value, flags) = sub(Width::Byte, 0, 0x80, false, Flags::from_word(CLEAR));
@@ -80,6 +85,7 @@ fn negated_least_byte(rt: HostRuntime) {
     );
 }
 
+/// Definitions: dm_alu Bitwise logic_value flags_after_logic
 #[test]
 fn logic_keeps_adjust(rt: HostRuntime) {
     let full = Flags::from_word(FULL);
@@ -98,6 +104,7 @@ fn logic_keeps_adjust(rt: HostRuntime) {
     }
 }
 
+/// Definitions: dm_alu Shifts flags_after_shift flags_of_move
 #[test]
 fn shift_by_no_bits_changes_nothing(rt: HostRuntime) {
     let full = Flags::from_word(FULL);
@@ -109,6 +116,7 @@ fn shift_by_no_bits_changes_nothing(rt: HostRuntime) {
     );
 }
 
+/// Definitions: dm_alu Shifts flags_after_shift flags_of_move
 #[test]
 fn rotate_through_carry_drops_the_top_bit(rt: HostRuntime) {
     let clear = Flags::from_word(CLEAR);
@@ -122,6 +130,7 @@ fn rotate_through_carry_drops_the_top_bit(rt: HostRuntime) {
     );
 }
 
+/// Definitions: dm_alu Shifts shift_value shifted moves one_move to_left to_right
 #[test]
 fn shift_count_is_not_masked(rt: HostRuntime) {
     let clear = Flags::from_word(CLEAR);
@@ -147,6 +156,7 @@ fn shift_count_is_not_masked(rt: HostRuntime) {
     );
 }
 
+/// Definitions: dm_alu Products product_value twos_complement flags_after_product upper_is_significant
 #[test]
 fn products_of_the_largest_byte(rt: HostRuntime) {
     let clear = Flags::from_word(CLEAR);
@@ -173,6 +183,7 @@ fn products_of_the_largest_byte(rt: HostRuntime) {
     );
 }
 
+/// Definitions: dm_alu Products quotient_of signed_division signed_double
 #[test]
 fn quotients_at_the_ends_of_the_range(rt: HostRuntime) {
     use Sign::{Signed, Unsigned};
@@ -199,6 +210,7 @@ fn quotients_at_the_ends_of_the_range(rt: HostRuntime) {
     }
 }
 
+/// Definitions: dm_alu Adjustments adjusted_value joined low_digit_off high_digit_off decimal_change flags_after_adjustment after_ascii after_decimal after_accumulator
 #[test]
 fn adjusted_accumulators(rt: HostRuntime) {
     for (adjustment, ax, word, expected, after) in [
@@ -268,6 +280,8 @@ fn checksum_of_differences(borrow: bool) -> u32 {
 // (ADD, ADC, SUB, SBB, the shifts and rotates by CL, MUL, IMUL, DIV, IDIV) on the same values, on an x86-64 processor,
 // and read its flags behind each; undefined flags were taken as clear, and IDIV's -128 as refused.
 
+/// Definitions: dm_alu Width leaves_range; dm_alu Flags after_result even_parity
+/// Definitions: dm_alu Sums sum_value flags_after_sum sum_overflows difference_value flags_after_difference difference_overflows
 #[test]
 fn sums_of_all_bytes(rt: HostRuntime) {
     same(
@@ -304,6 +318,7 @@ fn checksum_of_products(sign: Sign) -> u32 {
     checksum
 }
 
+/// Definitions: dm_alu Products product_value twos_complement flags_after_product upper_is_significant
 #[test]
 fn products_of_all_bytes(rt: HostRuntime) {
     same(
@@ -335,6 +350,7 @@ fn checksum_of_quotients(sign: Sign) -> u32 {
     checksum
 }
 
+/// Definitions: dm_alu Products quotient_of signed_division signed_double
 #[test]
 fn quotients_by_all_bytes(rt: HostRuntime) {
     same(
@@ -365,6 +381,7 @@ fn folded_shifts(checksum: u32, operation: ShiftOperation, carry: bool, count: u
     checksum
 }
 
+/// Definitions: dm_alu Shifts shift_value shifted moves one_move to_left to_right flags_after_shift flags_of_move overflow_after_move second_bit differ
 #[test]
 fn shifts_of_all_bytes_by_0_to_31(rt: HostRuntime) {
     let mut checksum = 0;
@@ -409,6 +426,7 @@ fn checksum_of_adjustments(adjustment: Adjustment) -> u32 {
 // The expected numbers were made by a Python script, digit by digit from the manual's wording. An x86 processor of
 // today in its 32-bit mode gave the same for DAA, AAM and AAD, and for the others too where it does as the 8086 did:
 // without AL over F9h in AAA, under 6 in AAS, and under 6 with adjust set and carry clear in DAS.
+/// Definitions: dm_alu Adjustments adjusted_value joined low_digit_off high_digit_off decimal_change flags_after_adjustment after_ascii after_decimal after_accumulator
 #[test]
 fn adjustments_of_all_accumulators(rt: HostRuntime) {
     for (adjustment, checksum) in [

@@ -242,6 +242,9 @@ fn is_prefix(byte: u8) -> bool {
     matches!(byte, 0x26 | 0x2E | 0x36 | 0x3E | 0xF0 | 0xF2 | 0xF3)
 }
 
+/// Definitions: dm_ins Ins Spells
+/// Definitions: dm_ins Table entries entry_of groups member_of row two one bare each_word pair zeroth six arithmetics immediate shifts unary conditions
+/// Definitions: dm_decode Decoded Decodes
 #[test]
 fn each_first_and_second_byte_is_listed_or_not(rt: HostRuntime) {
     for first in 0..=255u8 {
@@ -286,6 +289,9 @@ fn check(
     assert_eq!(rt; ins.action, action);
 }
 
+/// Definitions: dm_ins Spelling Fills register at_place
+/// Definitions: dm_ins Table entries entry_of Eb Ew Gb Gw M Ib Iw Is Db Dw Ob Ow Ap One AL CL AX DX S
+/// Definitions: dm_decode Decoded Decodes
 #[test]
 fn operands_stand_in_the_order_of_their_row(rt: HostRuntime) {
     let al = Operand::ByteRegister(ByteRegister::Al);
@@ -441,6 +447,8 @@ fn operands_stand_in_the_order_of_their_row(rt: HostRuntime) {
     );
 }
 
+/// Definitions: dm_ins Spelling SpellsFields SpellsMemory based direct
+/// Definitions: dm_ins Registers word_registers byte_registers bases; dm_decode Decoded Decodes
 #[test]
 fn mod_and_rm_fields_name_the_address(rt: HostRuntime) {
     let cl = Operand::ByteRegister(ByteRegister::Cl);
@@ -491,6 +499,8 @@ fn mod_and_rm_fields_name_the_address(rt: HostRuntime) {
     );
 }
 
+/// Definitions: dm_ins Spelling SpellsPrefixed kept with_prefix no_prefix prefix_byte segment_byte repeat_byte
+/// Definitions: dm_decode Decoded Decodes
 #[test]
 fn the_last_prefix_of_each_kind_is_kept(rt: HostRuntime) {
     let cs = Prefixes {
@@ -536,6 +546,7 @@ fn the_last_prefix_of_each_kind_is_kept(rt: HostRuntime) {
     assert_eq!(rt; decode(&sixteen(&[0xFF, 0xD8])), None);
 }
 
+/// Definitions: dm_decode Decoded Decodes
 #[test]
 fn several_spellings_are_one_instruction(rt: HostRuntime) {
     let ax = Operand::WordRegister(WordRegister::Ax);

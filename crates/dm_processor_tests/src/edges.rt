@@ -41,16 +41,23 @@ RETF               | CB             | SP=FFFE 3000:FFFE=5678 3000:0000=9ABC | SP
 RETF               | CB             | SP=FFFF 3000:FFFF=78 3000:0000=56 3000:0001=9ABC | SP=0003 CS=9ABC IP=5678
 RETF 0004          | CA 04 00       | SP=FFFD 3000:FFFD=5678 3000:FFFF=BC 3000:0000=9A | SP=0005 CS=9ABC IP=5678";
 
+/// Definitions: dm_alu Products quotient_of signed_division signed_double
+/// Definitions: dm_exec Products multiplied divided after_division double_of with_double with_division
 #[test]
 fn largest_quotients(rt: HostRuntime) -> Result<(), Fail> {
     check(&rt, rt.alloc(), LARGEST_QUOTIENTS)
 }
 
+/// Definitions: dm_alu Shifts flags_after_shift flags_of_move overflow_after_move second_bit differ
+/// Definitions: dm_exec Shifts shifted
 #[test]
 fn shifts_by_a_count_of_1_set_overflow(rt: HostRuntime) -> Result<(), Fail> {
     check(&rt, rt.alloc(), COUNT_OF_1)
 }
 
+/// Definitions: dm_cpu Stack push top popped
+/// Definitions: dm_exec Stack stack_effect pushed_value popped_into flags_popped interrupt_effect interrupt through_vector
+/// Definitions: dm_exec Jumps transferred far_jumped called far_called returned
 #[test]
 fn stacks_go_over_the_end_of_their_segment(rt: HostRuntime) -> Result<(), Fail> {
     check(&rt, rt.alloc(), STACKS)

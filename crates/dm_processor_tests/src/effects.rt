@@ -649,11 +649,19 @@ pub(crate) const ALL: [&str; 19] = [
     FLAGS,
 ];
 
+/// Definitions: dm_cpu Cpu word_of with_word byte_of with_byte segment_of with_segment with_low with_high
+/// Definitions: dm_cpu Operands value_of with_operand with_result address_of far_segment_of
+/// Definitions: dm_cpu Values width_of value_in read_in written_in accumulator with_accumulator
+/// Definitions: dm_exec Moves move_effect moved exchanged pointer_loaded translated byte_extended word_extended flags_loaded flags_stored input
 #[test]
 fn moves_between_registers_memory_and_values(rt: HostRuntime) -> Result<(), Fail> {
     check(&rt, rt.alloc(), MOVES)
 }
 
+/// Definitions: dm_cpu Guest up down at_ip on_cpu with_flags
+/// Definitions: dm_cpu EffectiveAddress first_of second_of segment_by own_segment
+/// Definitions: dm_cpu Operands base_of offset_of segment_for data_segment value_of with_operand with_result address_of far_segment_of
+/// Definitions: dm_exec Moves move_effect moved exchanged pointer_loaded translated byte_extended word_extended flags_loaded flags_stored input
 #[test]
 fn bases_and_overrides_name_the_place(rt: HostRuntime) -> Result<(), Fail> {
     check(&rt, rt.alloc(), ADDRESSES)
@@ -664,81 +672,111 @@ fn word_wraps_at_segment_end(rt: HostRuntime) -> Result<(), Fail> {
     check(&rt, rt.alloc(), WORDS)
 }
 
+/// Definitions: dm_ins Spelling word extended
+/// Definitions: dm_cpu Operands value_of with_operand with_result address_of far_segment_of
+/// Definitions: dm_exec Moves move_effect moved exchanged pointer_loaded translated byte_extended word_extended flags_loaded flags_stored input
 #[test]
 fn exchanges_pointers_and_conversions(rt: HostRuntime) -> Result<(), Fail> {
     check(&rt, rt.alloc(), TRANSFERS_OF_DATA)
 }
 
+/// Definitions: dm_cpu Guest up down at_ip on_cpu with_flags; dm_exec Effect effect act next_of HaltKeeps
 #[test]
 fn instructions_with_no_effect(rt: HostRuntime) -> Result<(), Fail> {
     check(&rt, rt.alloc(), NOTHING)
 }
 
+/// Definitions: dm_alu Flags word_of flags_of bit_is_one; dm_cpu Stack push top popped
+/// Definitions: dm_exec Stack stack_effect pushed_value popped_into flags_popped
 #[test]
 fn stack_grows_down_by_words(rt: HostRuntime) -> Result<(), Fail> {
     check(&rt, rt.alloc(), STACK)
 }
 
+/// Definitions: dm_cpu Stack interrupt_return; dm_exec Stack interrupt_effect interrupt through_vector
 #[test]
 fn interrupts_push_three_words_and_return(rt: HostRuntime) -> Result<(), Fail> {
     check(&rt, rt.alloc(), INTERRUPTS)
 }
 
+/// Definitions: dm_alu Width leaves_range; dm_alu Flags after_result even_parity
+/// Definitions: dm_alu Sums sum_value flags_after_sum sum_overflows
+/// Definitions: dm_cpu Values width_of value_in read_in written_in accumulator with_accumulator
+/// Definitions: dm_exec Arithmetic arithmetic sum_into difference_into compared logic_into tested incremented decremented negated complemented
 #[test]
 fn sums(rt: HostRuntime) -> Result<(), Fail> {
     check(&rt, rt.alloc(), SUMS)
 }
 
+/// Definitions: dm_alu Width leaves_range; dm_alu Sums difference_value flags_after_difference difference_overflows
+/// Definitions: dm_exec Arithmetic arithmetic sum_into difference_into compared logic_into tested incremented decremented negated complemented
 #[test]
 fn differences(rt: HostRuntime) -> Result<(), Fail> {
     check(&rt, rt.alloc(), DIFFERENCES)
 }
 
+/// Definitions: dm_alu Bitwise logic_value flags_after_logic
+/// Definitions: dm_exec Arithmetic arithmetic sum_into difference_into compared logic_into tested incremented decremented negated complemented
 #[test]
 fn logic_clears_carry_and_keeps_adjust(rt: HostRuntime) -> Result<(), Fail> {
     check(&rt, rt.alloc(), BITWISE)
 }
 
+/// Definitions: dm_alu Shifts shift_value shifted moves one_move to_left to_right flags_after_shift flags_of_move overflow_after_move second_bit differ
+/// Definitions: dm_exec Shifts shifted
 #[test]
 fn shifts_and_rotates(rt: HostRuntime) -> Result<(), Fail> {
     check(&rt, rt.alloc(), SHIFTS)
 }
 
+/// Definitions: dm_alu Products product_value twos_complement flags_after_product upper_is_significant
+/// Definitions: dm_cpu Values width_of value_in read_in written_in accumulator with_accumulator
+/// Definitions: dm_exec Products multiplied divided after_division double_of with_double with_division
 #[test]
 fn products(rt: HostRuntime) -> Result<(), Fail> {
     check(&rt, rt.alloc(), PRODUCTS)
 }
 
+/// Definitions: dm_alu Products quotient_of signed_division signed_double
+/// Definitions: dm_exec Products multiplied divided after_division double_of with_double with_division
 #[test]
 fn quotients_and_division_errors(rt: HostRuntime) -> Result<(), Fail> {
     check(&rt, rt.alloc(), QUOTIENTS)
 }
 
+/// Definitions: dm_exec Adjustments adjusted
 #[test]
 fn adjustments_of_the_accumulator(rt: HostRuntime) -> Result<(), Fail> {
     check(&rt, rt.alloc(), ADJUSTMENTS)
 }
 
+/// Definitions: dm_exec Operation operation_of
+/// Definitions: dm_exec Jumps jumped_if holds jumped_where jumped target_of looped counted_down goes_back
 #[test]
 fn conditional_jumps_go_by_their_flags(rt: HostRuntime) -> Result<(), Fail> {
     check(&rt, rt.alloc(), CONDITIONS)
 }
 
+/// Definitions: dm_cpu Stack far_returned; dm_exec Jumps transferred far_jumped called far_called returned
 #[test]
 fn jumps_calls_and_returns(rt: HostRuntime) -> Result<(), Fail> {
     check(&rt, rt.alloc(), JUMPS)
 }
 
+/// Definitions: dm_cpu Values width_of value_in read_in written_in accumulator with_accumulator
+/// Definitions: dm_exec Strings string_effect once counted ends unlike source destination onward step_of
 #[test]
 fn strings_go_on_by_their_elements(rt: HostRuntime) -> Result<(), Fail> {
     check(&rt, rt.alloc(), STRINGS)
 }
 
+/// Definitions: dm_exec Strings string_effect once counted ends unlike source destination onward step_of
 #[test]
 fn repeated_strings_count_cx_down(rt: HostRuntime) -> Result<(), Fail> {
     check(&rt, rt.alloc(), REPEATED)
 }
 
+/// Definitions: dm_exec Operation operation_of; dm_exec Control flags_changed
 #[test]
 fn flags_are_changed_one_by_one(rt: HostRuntime) -> Result<(), Fail> {
     check(&rt, rt.alloc(), FLAGS)
@@ -754,6 +792,7 @@ fn each_mnemonic_has_a_row(rt: HostRuntime) -> Result<(), Fail> {
     Ok(())
 }
 
+/// Definitions: dm_cpu Stack interrupt_return
 #[test]
 fn interrupt_0_returns_behind_the_division(rt: HostRuntime) -> Result<(), Fail> {
     let mut space = new_space(rt.alloc())?;
@@ -784,6 +823,7 @@ fn interrupt_0_returns_behind_the_division(rt: HostRuntime) -> Result<(), Fail> 
     Ok(())
 }
 
+/// Definitions: dm_cpu Cpu word_of with_word byte_of with_byte segment_of with_segment with_low with_high
 #[test]
 fn registers_are_read_and_set_by_name(rt: HostRuntime) {
     let mut cpu = START;

@@ -24,6 +24,9 @@ fn check(
     assert_eq!(rt; encode(&ins).as_slice(), bytes);
 }
 
+/// Definitions: dm_ins Ins Spells
+/// Definitions: dm_ins Spelling SpellsAction HasRow MaySpellFields has_fields uses_fields no_fields SpellsFields SpellsMemory based direct word extended
+/// Definitions: dm_ins Order before; dm_ins Preferred IsPreferred
 #[test]
 fn encode_gives_the_shortest_and_least(rt: HostRuntime) {
     let al = Operand::ByteRegister(ByteRegister::Al);
@@ -114,6 +117,7 @@ fn encode_gives_the_shortest_and_least(rt: HostRuntime) {
     );
 }
 
+/// Definitions: dm_ins Spelling SpellsPrefixed kept with_prefix no_prefix prefix_byte segment_byte repeat_byte
 #[test]
 fn encode_puts_the_kept_prefixes_in_the_order_of_their_bytes(rt: HostRuntime) {
     let all = Prefixes {
@@ -131,6 +135,8 @@ fn encode_puts_the_kept_prefixes_in_the_order_of_their_bytes(rt: HostRuntime) {
     );
 }
 
+/// Definitions: dm_ins Spelling SpellsAction HasRow MaySpellFields has_fields uses_fields no_fields
+/// Definitions: dm_ins Table groups member_of
 #[test]
 fn actions_with_no_row_are_no_instructions(rt: HostRuntime) {
     let ax = Operand::WordRegister(WordRegister::Ax);

@@ -192,6 +192,9 @@ fn tells(
     Ok(())
 }
 
+/// Definitions: dm_cli Program Does Asks Given Left Runs; dm_cli Starting IsStartedBy sizes_of paths_of typed_in
+/// Definitions: dm_cli Statuses status_of status_after; dm_cli Names last_part
+/// Definitions: dm_cli Stores AddsFile Stores IsStarted IsBegun
 #[test]
 fn runs_stop(rt: HostRuntime) -> Result<(), Fail> {
     for row in RUNS {
@@ -200,6 +203,11 @@ fn runs_stop(rt: HostRuntime) -> Result<(), Fail> {
     Ok(())
 }
 
+/// Definitions: dm_proc Programs IsName; dm_cli Program Does Asks Given Left
+/// Definitions: dm_cli Starting IsStartFault IsFileFault IsMachineFault IsLoadFault
+/// Definitions: dm_cli Statuses status_of status_after; dm_cli Names last_part
+/// Definitions: dm_cli Faults refusal_fault IsUnread IsUnwritten IsReadFault IsWriteFault
+/// Definitions: dm_cli Stores IsRead IsInputFault IsFaultOf
 #[test]
 fn tells_faults_of_files(rt: HostRuntime) -> Result<(), Fail> {
     for row in FILE_FAULTS {
@@ -208,6 +216,7 @@ fn tells_faults_of_files(rt: HostRuntime) -> Result<(), Fail> {
     Ok(())
 }
 
+/// Definitions: dm_cli Faults IsUnread IsUnwritten IsReadFault IsWriteFault; dm_cli Stores IsRead IsInputFault
 #[test]
 fn tells_faults_of_the_input(rt: HostRuntime) -> Result<(), Fail> {
     let endless = filled(b"", usize::MAX);
@@ -247,6 +256,7 @@ fn lines_before_a_failing_read_are_answered(rt: HostRuntime) -> Result<(), Fail>
     Ok(())
 }
 
+/// Definitions: dm_cli Stores IsRead IsInputFault
 #[test]
 fn a_long_input_is_copied(rt: HostRuntime) -> Result<(), Fail> {
     let mut wanted = Vec::from_slice(rt.alloc(), b"typed")?;
@@ -289,6 +299,7 @@ fn fails(
     Ok(())
 }
 
+/// Definitions: dm_out Out HasFailed AppendsPart
 #[test]
 fn tells_failing_writes(rt: HostRuntime) -> Result<(), Fail> {
     let failed = "dm: cannot write standard output\n";

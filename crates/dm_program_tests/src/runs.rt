@@ -13,6 +13,8 @@ const HELLO: [u8; 15] = [
     0xB4, 0x09, 0xBA, 0x0C, 0x01, 0xCD, 0x21, 0xB8, 0x00, 0x4C, 0xCD, 0x21, 0x68, 0x69, 0x24,
 ];
 
+/// Definitions: dm_state State State HasProgram Answer go stop_at; dm_services Text print text_at text_within
+/// Definitions: dm_services Processes concluded; dm_machine Run IsRun Goes StopsWithin
 #[test]
 fn hello_prints_hi(rt: HostRuntime) -> Result<(), Fail> {
     let mut machine = loaded(rt.alloc(), &HELLO, b"")?;
@@ -52,6 +54,9 @@ fn stays(
     Ok(())
 }
 
+/// Definitions: dm_state State Answer go stop_at
+/// Definitions: dm_machine Step Steps Runs Acts Drives Instructs Begins fetched code_byte instructed after
+/// Definitions: dm_machine Run Answers IsRun Goes StopsWithin
 #[test]
 fn stops_change_nothing(rt: HostRuntime) -> Result<(), Fail> {
     let rows: [(&[u8], u8, Stop, u64); 5] = [
@@ -77,6 +82,8 @@ fn reserve(machine: &mut Machine, bytes: usize) -> bool
     machine.reserve_output(bytes).is_ok()
 }
 
+/// Definitions: dm_console Streams Streams; dm_services Text written; dm_services Wanting OrWants MayWant Overflows
+/// Definitions: dm_machine Laws RoomIsEnoughForRuns RoomIsEnoughForSteps WantsBeyond Follows
 #[test]
 fn output_goes_into_room_made_beforehand(rt: HostRuntime) -> Result<(), Fail> {
     let mut machine = loaded(rt.alloc(), &HELLO, b"")?;
@@ -112,6 +119,8 @@ fn grows(rt: &impl Abort, alloc: Global, room: usize) -> Result<(), Fail> {
 }
 
 /// To be run with each growth refused in turn: a refused room changes nothing.
+/// Definitions: dm_services Wanting OrWants MayWant Overflows; dm_machine Run Answers
+/// Definitions: dm_machine Laws RoomIsEnoughForRuns RoomIsEnoughForSteps WantsBeyond Follows
 #[test]
 fn refused_growth(rt: HostRuntime) -> Result<(), Fail> {
     for room in [0, 2] {

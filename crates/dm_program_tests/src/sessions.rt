@@ -167,16 +167,22 @@ fn play(rt: &impl Abort, alloc: Global, program: &[u8], rows: &[Row]) -> Result<
     Ok(())
 }
 
+/// Definitions: dm_views Digits two four eight address_text
+/// Definitions: dm_views Registers IsRegistersText general special field field_text fields_text
+/// Definitions: dm_debug Sessions new_session Shows
 #[test]
 fn registers_are_told_at_the_start(rt: HostRuntime) -> Result<(), Fail> {
     play(&rt, rt.alloc(), HELLO, &START)
 }
 
+/// Definitions: dm_views Registers IsRegistersText general special field field_text fields_text
+/// Definitions: dm_debug Runs IsTrace Traces
 #[test]
 fn steps_are_traced(rt: HostRuntime) -> Result<(), Fail> {
     play(&rt, rt.alloc(), HELLO, &STEPS)
 }
 
+/// Definitions: dm_debug Sessions IsPartlyWritten
 #[test]
 fn a_failed_write_leaves_what_was_changed(rt: HostRuntime) -> Result<(), Fail> {
     play(&rt, rt.alloc(), HALT, &FAILED)

@@ -22,6 +22,7 @@ fn fits(rt: &impl Abort, alloc: Global, sizes: Sizes, wanted: bool) -> Result<()
     Ok(())
 }
 
+/// Definitions: dm_pool Stored IsTooLarge
 #[test]
 fn sizes_too_large(rt: HostRuntime) -> Result<(), Fail> {
     for (ems_pages, xms_kib, wanted) in [
@@ -35,6 +36,7 @@ fn sizes_too_large(rt: HostRuntime) -> Result<(), Fail> {
     Ok(())
 }
 
+/// Definitions: dm_proc Programs program_of has_name
 #[test]
 fn store_takes_a_name_once(rt: HostRuntime) -> Result<(), Fail> {
     let mut programs = Programs::new(rt.alloc());
@@ -76,6 +78,8 @@ const GREEDY: [u8; 28] = [
     b'M', b'Z', 28, 0, 1, 0, 0, 0, 1, 0, 0xFF, 0xFF, 0, 0, 0, 0, 0, 0, 0, 0, 0, 0, 0, 0, 0, 0, 0, 0,
 ];
 
+/// Definitions: dm_proc Programs program_of has_name; dm_state State State HasProgram
+/// Definitions: dm_machine Start IsNew clear_registers clear_flags IsBadProgram HasNoRoom
 #[test]
 fn refused_loads_change_nothing(rt: HostRuntime) -> Result<(), Fail> {
     let alloc = rt.alloc();
@@ -85,6 +89,7 @@ fn refused_loads_change_nothing(rt: HostRuntime) -> Result<(), Fail> {
     answers(&rt, alloc, b"", b"hi.com", Ok(()))
 }
 
+/// Definitions: dm_machine Start IsLoaded passed_first
 #[test]
 fn first_program_has_variables(rt: HostRuntime) -> Result<(), Fail> {
     let alloc = rt.alloc();

@@ -13,7 +13,7 @@ use Rattle.dm_ins.specs.declared.fields.Fields.{Fields}
 use Rattle.dm_ins.specs.declared.table.Kind.{Kind}
 use Rattle.dm_ins.specs.declared.table.Kind.TheVariants as is
 use Rattle.dm_ins.specs.Spelling.{word, direct, register, Fills}
-use Rattle.dm_ins.specs.Search.{OperandFits}
+use Rattle.dm_ins.specs.inner.Search.{OperandFits}
 use Rattle.dm_read.specs.StandIns.{is_move, has_no_base}
 use Rattle.dm_read.proofs.Known.{Known, suits, is_near, is_escape, is_opposite}
 

@@ -14,7 +14,7 @@ use Rattle.dm_ins.specs.declared.table.Kind.TheVariants as is
 use Rattle.dm_ins.specs.declared.table.Row.{Row}
 use Rattle.dm_ins.specs.Table.{entry_of}
 use Rattle.dm_ins.specs.Spelling.{extended, register, at_place, Fills, SpellsAction}
-use Rattle.dm_ins.specs.Search.{OperandFits}
+use Rattle.dm_ins.specs.inner.Search.{OperandFits}
 use Rattle.dm_ins.proofs.TableRules.{both_true}
 use Rattle.dm_ins.proofs.Shortest.{action_fits}
 use Rattle.dm_read.specs.StandIns.{is_move}

@@ -9,7 +9,7 @@ use Rattle.dm_ins.specs.declared.action.Action.{Action}
 use Rattle.dm_read.specs.Words.{IsWritten, word_before, word_written}
 use Rattle.dm_read.specs.Own.{written_of, words_of}
 use Rattle.dm_read.specs.Laws.{OwnWordsAreRead}
-use Rattle.dm_ins.specs.Search.{OperandFits}
+use Rattle.dm_ins.specs.inner.Search.{OperandFits}
 use Rattle.dm_ins.proofs.Shortest.{action_fits}
 
 back : (next d : ℕ) → next < 65536 → d < 65536 → ((next + d) % 65536 + 65536 - next) % 65536 ≡ d

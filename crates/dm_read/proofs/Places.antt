@@ -15,7 +15,7 @@ use Rattle.dm_ins.specs.declared.table.Entry.{Entry}
 use Rattle.dm_ins.specs.declared.table.Entry.TheVariants.{Unlisted, Plain, Group, Second}
 use Rattle.dm_ins.specs.Registers.{bases}
 use Rattle.dm_ins.specs.Spelling.{word, direct, based, at_place, Fills, SpellsMemory, SpellsFields, HasRow, MaySpellFields, has_fields, no_fields}
-use Rattle.dm_ins.specs.Search.{OperandFits}
+use Rattle.dm_ins.specs.inner.Search.{OperandFits}
 use Rattle.dm_ins.proofs.TableRules.{passes}
 use Rattle.dm_read.specs.StandIns.{has_no_base}
 use Rattle.dm_read.proofs.Known.{opposite}

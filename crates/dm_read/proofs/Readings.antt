@@ -13,7 +13,7 @@ use Rattle.dm_read.specs.declared.written.Words.{Words}
 use Rattle.dm_read.specs.declared.reading.Way.{Way}
 use Rattle.dm_read.specs.declared.reading.Way.TheVariants.{AsByte, AsWord, AsTarget, AsOne}
 use Rattle.dm_read.specs.Words.{IsNumber, IsWritten, AreWords}
-use Rattle.dm_read.specs.Search.{FirstWays, HaveWords, Taken, IsNot, action_of, byte_as, number_as, taken, ways, word_as}
+use Rattle.dm_read.specs.inner.Search.{FirstWays, HaveWords, Taken, IsNot, action_of, byte_as, number_as, taken, ways, word_as}
 
 same_some : {A : Type 0} (x y : A) → Some x ≡ Some y → x ≡ y
 same_some x y e = cc

@@ -13,7 +13,7 @@ use Rattle.dm_ins.specs.declared.ins.Ins.{Ins}
 use Rattle.dm_ins.specs.Spelling.{SpellsAction, prefix_byte}
 use Rattle.dm_ins.specs.Ins.{Spells}
 use Rattle.dm_ins.specs.Order.{before}
-use Rattle.dm_ins.specs.Search.{OperandFits}
+use Rattle.dm_ins.specs.inner.Search.{OperandFits}
 use Rattle.dm_text.specs.Texts.{gives_size, is_general}
 use Rattle.dm_read.specs.declared.written.Size.{Size}
 use Rattle.dm_read.specs.declared.written.Numeral.{Numeral}

@@ -1,5 +1,5 @@
 pub mod Words
-pub mod Search
 pub mod Own
 pub mod StandIns
 pub mod Laws
+pub mod inner

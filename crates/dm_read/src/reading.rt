@@ -6,7 +6,7 @@ ghost use Rattle.dm_ins.specs.declared.action.Action.{Action};
 ghost use Rattle.dm_ins.specs.Preferred.{IsPreferred};
 ghost use Rattle.dm_ins.specs.Spelling.{SpellsAction};
 ghost use Rattle.dm_read.specs.Words.{AreWords, size_word, word_before, word_written};
-ghost use Rattle.dm_read.specs.Search.{FirstWays, HaveWords, IsNot, Taken, action_of, first_way, taken};
+ghost use Rattle.dm_read.specs.inner.Search.{FirstWays, HaveWords, IsNot, Taken, action_of, first_way, taken};
 
 use crate::written::{Size, Words, Written};
 use arrayvec::ArrayVec;
@@ -39,7 +39,7 @@ fn first(way: Way, operand: Operand) -> Option<Operand>
 }
 
 /// The operand that a written one is, taken in this way.
-#[tactic(auto, unfolding(crate::specs::Search::taken))]
+#[tactic(auto, unfolding(crate::specs::inner::Search::taken))]
 fn take_as(way: Way, written: Written) -> Option<Operand>
     ensures { result ≡ taken way written }
 {

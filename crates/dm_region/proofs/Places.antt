@@ -1,6 +1,6 @@
 -- The values of places that are all filled.
 use Rattle.std.proofs.Common.{◌≡◌, List, [], ◌∷◌, map, Some, refl, sym, ap, ◌∙◌}
-use Rattle.dm_region.specs.Places.{somes}
+use Rattle.dm_region.specs.inner.Places.{somes}
 
 module _ {X : Type 0} where
   pub somes-map : (xs : List X) → somes (map Some xs) ≡ xs

@@ -8,5 +8,6 @@ module _ {X : Type 0} where
   abbrev pub with_ends : List X → ℕ → ℕ → List X → List X → List X
   with_ends xs len other ws vs = ws ++ (drop len (take other xs) ++ vs)
 
+-- the middle is as it was
 abbrev pub lends_ends : (R : RattleType) → MutBor (List R.Denot) → ℕ → ℕ → MutBor (List R.Denot) × MutBor (List R.Denot) → Fml
 lends_ends R s len other r = LendsBoth (Array R 0) (Array R 0) (Array R 0) s r (λ ws vs. with_ends s.now len other (refill len (take len s.now) ws) (refill (length s.now - other) (drop other s.now) vs))

@@ -6,8 +6,8 @@ ghost use Rattle.std.specs.Vec.Ownership.{FitsInBlock};
 ghost use base.Fml.{ftrue};
 ghost use denote.RawPtr.{Ptr};
 ghost use Rattle.dm_region.specs.Ends.{lends_ends};
-ghost use Rattle.dm_region.specs.Places.{IsRun, IsFilled};
-ghost use Rattle.dm_region.specs.Ownership.{cells_own, cells_lent, deed_owns};
+ghost use Rattle.dm_region.specs.inner.Places.{IsRun, IsFilled};
+ghost use Rattle.dm_region.specs.inner.Ownership.{cells_own, cells_lent, deed_owns};
 
 use std::alloc::{AllocError, Allocator};
 use std::marker::{Model, PhantomData, Send, Sync};
@@ -132,7 +132,7 @@ pub fn ends_mut(bytes: &mut [u8], len: usize, other: usize) -> (&mut [u8], &mut 
 }
 
 impl<T> Cells<T> {
-    ghost use Rattle.dm_region.specs.Lends.{lends_run};
+    ghost use Rattle.dm_region.specs.inner.Lends.{lends_run};
 
     /// Puts a value into an empty place.
     pub(crate) fn write(&mut self, base: Base<T>, index: usize, item: T)

@@ -25,7 +25,7 @@ impl Model for Region {
 
     ghost Value = { List ℕ };
 
-    ghost use Rattle.dm_region.specs.Region.{IsRegion, bytes_of};
+    ghost use Rattle.dm_region.specs.inner.Region.{IsRegion, bytes_of};
 
     ghost view = { bytes_of };
 

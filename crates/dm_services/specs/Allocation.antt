@@ -25,6 +25,7 @@ abbrev pub allocated : State → Result ℕ Refusal → Memory → Answer
 allocated s (Ok segment) m = answered s (record s.cpu { ax = segment }) m false
 allocated s (Err e) m = answered s (refused s.cpu e) m true
 
+-- 48h: BX paragraphs for the present process, by the strategy
 pub record Allocation (s : State) (x : Answer) : Type 0 where
   pub result : Result ℕ Refusal
   pub memory : Memory

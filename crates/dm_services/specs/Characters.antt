@@ -28,6 +28,7 @@ abbrev pub character_of : State → List ℕ → Answer
 character_of s [] = stop_at InputEnded s
 character_of s (byte ∷ rest) = go (returned (with_al (with_input s rest) byte))
 
+-- 07h, 08h: AL is the next byte of the input
 unfoldable pub read_character : State → Answer
 read_character s = character_of s s.console.input
 
@@ -36,6 +37,7 @@ abbrev pub echo_of : State → List ℕ → Answer
 echo_of s [] = stop_at InputEnded s
 echo_of s (byte ∷ rest) = go (returned (with_al (with_written (with_input s rest) (byte ∷ [])) byte))
 
+-- 01h: AL is the next byte of the input, which is written
 unfoldable pub echo_character : State → Answer
 echo_character s = echo_of s s.console.input
 

@@ -30,5 +30,6 @@ abbrev pub write_to_console : State → Answer
 write_to_console s =
     go (with_carry (returned (with_ax (with_written s (bytes_from s.memory s.cpu.ds s.cpu.dx s.cpu.cx)) s.cpu.cx)) false)
 
+-- 40h: to handles 0 to 2, the CX bytes at DS:DX are written
 unfoldable pub write_handle : State → Answer
 write_handle s = if nat_lt s.cpu.bx 3 then write_to_console s else bad_handle s

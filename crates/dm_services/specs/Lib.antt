@@ -12,3 +12,4 @@ pub mod Processes
 pub mod Functions
 pub mod Services
 pub mod Laws
+pub mod inner

@@ -56,6 +56,7 @@ pub record Overlaying (s : State) (x : Answer) : Type 0 where
   pub overlays : Overlays s.cpu s.memory s.programs result memory
   pub answer : x ≡ overlaid s result memory
 
+-- any AL but 0 and 3 is no such call
 abbrev pub LoadingAs : Bool → State → Answer → Type 0
 LoadingAs true s x = Overlaying s x
 LoadingAs false s x = Executing s x

@@ -17,6 +17,8 @@ service_at_offset ip =
     if ip == 0x0080 then Some Terminate else
     if ip == 0x0084 then Some Dos else None
 
+-- services at F000:0000 (interrupt 0), F000:0080 (INT 20h) and F000:0084 (INT 21h), where the vectors of `dm_space`
+-- lead
 unfoldable pub service_at : Cpu → Option Service
 service_at c = if c.cs == 0xF000 then service_at_offset c.ip else None
 

@@ -80,6 +80,7 @@ abbrev pub link_told : State → Result Bool Refusal → Answer
 link_told s (Ok on) = answered s (with_byte s.cpu Al (if on then 1 else 0)) s.memory false
 link_told s (Err e) = answered s (refused s.cpu e) s.memory true
 
+-- error 7 where there is no clear list
 pub record TellingLink (s : State) (x : Answer) : Type 0 where
   pub result : Result Bool Refusal
   pub tells : TellsLinked s.memory result

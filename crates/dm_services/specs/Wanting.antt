@@ -18,8 +18,3 @@ pub record MayWant (s : State) (Gives : Answer → Type 0) : Type 0 where
 abbrev pub OrWants : State → (Answer → Type 0) → Option Stop → State → Type 0
 OrWants s Gives (Some NoMemory) t = MayWant s Gives × (t ≡ s)
 OrWants s Gives stop t = Gives (record { stop = stop; state = t })
-
--- the same where one answer alone may be given
-abbrev pub OrMemory : State → Answer → Option Stop → State → Type 0
-OrMemory s x (Some NoMemory) t = Overflows s x × (t ≡ s)
-OrMemory s x stop t = record { stop = stop; state = t } ≡ x

@@ -1,7 +1,7 @@
 //! INT 21h, single bytes of the console (MS-DOS Programmer's Reference, functions 01h, 02h, 06h,
 //! 07h, 08h and 0Bh). Input and output are redirected byte streams.
 ghost use Rattle.std.specs.Prelude.{◌≡◌, None};
-ghost use Rattle.dm_services.specs.Wanting.{OrMemory};
+ghost use Rattle.dm_services.specs.inner.Wanting.{OrMemory};
 ghost use Rattle.dm_services.specs.Characters.{read_character, echo_character, write_character, poll_character, direct_character, check_input, status_of};
 
 use dm_ins::ByteRegister;

@@ -1,6 +1,6 @@
 //! INT 21h function 0Ch (MS-DOS Programmer's Reference, "Flush Buffer, Read Keyboard").
 ghost use Rattle.std.specs.Prelude.{◌≡◌};
-ghost use Rattle.dm_services.specs.Wanting.{OrMemory};
+ghost use Rattle.dm_services.specs.inner.Wanting.{OrMemory};
 ghost use Rattle.dm_services.specs.Flush.{flush_and_read};
 
 use crate::characters::{direct_character, echo_character, read_character};

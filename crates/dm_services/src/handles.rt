@@ -1,7 +1,7 @@
 //! INT 21h, the handles of the console (MS-DOS Programmer's Reference, functions 3Fh and 40h).
 //! Handles 0 to 2 are the console, each in both directions.
 ghost use Rattle.std.specs.Prelude.{◌≡◌, None};
-ghost use Rattle.dm_services.specs.Wanting.{OrMemory};
+ghost use Rattle.dm_services.specs.inner.Wanting.{OrMemory};
 ghost use Rattle.dm_services.specs.Handles.{bad_handle, read_handle, write_handle};
 
 use crate::buffers::send;

@@ -1,7 +1,7 @@
 //! INT 21h function 0Ah, a line of the console (MS-DOS Programmer's Reference, "Buffered Keyboard
 //! Input"). The buffer begins with how many bytes it is for, then comes how many it got.
 ghost use Rattle.std.specs.Prelude.{◌≡◌, ◌<◌, ◌≤◌, IfSome, length};
-ghost use Rattle.dm_services.specs.Wanting.{OrMemory};
+ghost use Rattle.dm_services.specs.inner.Wanting.{OrMemory};
 ghost use Rattle.dm_services.specs.Lines.{line_length, kept, read_line};
 
 use arrayvec::ArrayVec;

@@ -1,7 +1,7 @@
 //! INT 21h, what the system tells of itself (MS-DOS Programmer's Reference, functions 30h, 51h and
 //! 62h).
 ghost use Rattle.std.specs.Prelude.{◌≡◌};
-ghost use Rattle.dm_services.specs.Wanting.{OrMemory};
+ghost use Rattle.dm_services.specs.inner.Wanting.{OrMemory};
 ghost use Rattle.dm_services.specs.System.{tell_version, tell_process};
 
 use dm_state::{Parts, Stop};

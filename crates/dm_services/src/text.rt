@@ -1,7 +1,7 @@
 //! Texts in memory that end at a `$` (MS-DOS Programmer's Reference, "Display String").
 ghost use Rattle.std.specs.Prelude.{◌≡◌, ◌≤◌, ◌-◌, ◌++◌, length};
 ghost use Rattle.dm_services.specs.Text.{print, text_at};
-ghost use Rattle.dm_services.specs.Wanting.{OrMemory};
+ghost use Rattle.dm_services.specs.inner.Wanting.{OrMemory};
 
 use dm_console::Console;
 use dm_space::Space;

@@ -1,6 +1,6 @@
 //! INT 21h, interrupt vectors (MS-DOS Programmer's Reference, functions 25h and 35h).
 ghost use Rattle.std.specs.Prelude.{◌≡◌};
-ghost use Rattle.dm_services.specs.Wanting.{OrMemory};
+ghost use Rattle.dm_services.specs.inner.Wanting.{OrMemory};
 ghost use Rattle.dm_services.specs.Vectors.{set_vector, get_vector};
 
 use dm_ins::ByteRegister;

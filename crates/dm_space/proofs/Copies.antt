@@ -14,7 +14,7 @@ use Rattle.dm_space.specs.declared.place.Place.TheVariants.{Low, Page, Rom, Noth
 use Rattle.dm_space.specs.Copies.{values, reads, writes, copied_in, copied_out}
 use Rattle.dm_space.specs.Memory.{Memory, Held, Fits, IsHeld, IsThere, place, peek, poke, byte_at, shown, page_bytes, with_blocks, with_byte}
 use Rattle.dm_space.specs.Rom.{rom}
-use Rattle.dm_space.specs.Runs.{shift, run_bytes, with_run}
+use Rattle.dm_space.specs.inner.Runs.{shift, run_bytes, with_run}
 use Rattle.dm_space.proofs.Places.{peek-place, place-windows, there-place, shown-shift, page-there}
 
 -- lists of values

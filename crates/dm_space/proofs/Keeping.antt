@@ -13,7 +13,8 @@ use Rattle.dm_pool.specs.Gaps.{first_empty, lowest}
 use Rattle.dm_pool.specs.Blocks.{Blocks, placed, taken, without, with_block, with_content, moved, moved_bytes, at_place, new_base, resized, fitted, zeros}
 use Rattle.dm_pool.specs.Stored.{Stored, refit}
 use Rattle.dm_pool.proofs.Blocks.{vacant, part_length}
-use Rattle.dm_space.specs.Memory.{Memory, IsHeld, Fits, IsPage, held, page_bytes, with_blocks}
+use Rattle.dm_space.specs.Memory.{Memory, IsHeld, Fits, IsPage, page_bytes, with_blocks}
+use Rattle.dm_space.specs.inner.Memory.{held}
 use Rattle.dm_space.specs.Unseen.{shows}
 use Rattle.dm_space.proofs.Unseen.{shows-at}
 

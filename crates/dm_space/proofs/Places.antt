@@ -7,8 +7,9 @@ use Rattle.std.specs.Prelude.{IfSome, if◌then◌else◌, slice_index_or}
 use Rattle.dm_space.specs.declared.place.Place.{Place}
 use Rattle.dm_space.specs.declared.place.Place.TheVariants.{Low, Page, Rom, Nothing}
 use Rattle.dm_space.specs.Memory.{Memory, IsPage, Fits, IsThere, linear, place, peek, poke, shown, byte_at, with_byte, page_bytes}
-use Rattle.dm_space.specs.Places.{IsWritable, IsShaped, IsPoked}
-use Rattle.dm_space.specs.Runs.{shift}
+use Rattle.dm_space.specs.Places.{IsWritable, IsShaped}
+use Rattle.dm_space.specs.inner.Places.{IsPoked}
+use Rattle.dm_space.specs.inner.Runs.{shift}
 
 -- the byte that a read gives is the one at the place
 pub peek-place : (m : Memory) (a : ℕ) → peek m a ≡ byte_at m (place m a)

@@ -3,7 +3,6 @@
 -- The map from A0000h up is this machine's own. Pages of expanded memory (LIM EMS 4.0) are blocks of a pool.
 use Rattle.std.specs.Prelude.{◌≡◌, ℕ, ◌+◌, ◌-◌, ◌*◌, ◌/◌, ◌%◌, ◌<◌, Bool, false, nat_lt, if◌then◌else◌, List, [], ◌∷◌, length, slice_index, slice_index_or, slice_set, Option, Some, None, IfSome}
 use Rattle.dm_pool.specs.Blocks.{Blocks, IsLive, with_content}
-use Rattle.dm_pool.specs.Stored.{Stored}
 use Rattle.dm_space.specs.declared.place.Place.{Place}
 use Rattle.dm_space.specs.declared.place.Place.TheVariants.{Low, Page, Rom, Nothing}
 use Rattle.dm_space.specs.Rom.{rom}
@@ -69,10 +68,12 @@ abbrev pub peek16 : Memory → ℕ → ℕ → ℕ
 peek16 m segment offset =
     peek m (linear m.a20 segment offset) + 256 * peek m (linear m.a20 segment ((offset + 1) % 65536))
 
+-- the high byte is at the next offset, modulo 65,536
 abbrev pub poke16 : Memory → ℕ → ℕ → ℕ → Memory
 poke16 m segment offset v =
     poke (poke m (linear m.a20 segment offset) (v % 256)) (linear m.a20 segment ((offset + 1) % 65536)) (v / 256)
 
+-- the memory with A20 switched
 abbrev pub with_a20 : Memory → Bool → Memory
 with_a20 m on = record m { a20 = on }
 
@@ -105,10 +106,6 @@ pub record Held : Type 0 where
 pub record IsHeld (h : Held) : Type 0 where
   pub fits : Fits h.memory
   pub scratch_length : length h.scratch ≡ 0x200000
-
--- the low bytes, blocks and scratch bytes of a store, seen through those windows
-abbrev pub held : Stored → List (Option ℕ) → Bool → Held
-held s windows a20 = record { memory = record { low = s.low; blocks = s.blocks; windows = windows; a20 = a20 }; scratch = s.scratch }
 
 -- the four windows of a frame that shows no page
 abbrev pub no_windows : List (Option ℕ)

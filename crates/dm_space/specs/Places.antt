@@ -3,7 +3,7 @@
 use Rattle.std.specs.Prelude.{◌≡◌, ◌≢◌, ℕ, length}
 use Rattle.dm_space.specs.declared.place.Place.{Place}
 use Rattle.dm_space.specs.declared.place.Place.TheVariants.{Low, Page, Rom, Nothing}
-use Rattle.dm_space.specs.Memory.{Memory, place, byte_at, page_bytes}
+use Rattle.dm_space.specs.Memory.{Memory, place, page_bytes}
 
 -- what is written to the place stays there
 abbrev pub IsWritable : Place → Type 0
@@ -21,9 +21,3 @@ pub record IsShaped (S T : Memory) : Type 0 where
   pub places : T.blocks.places ≡ S.blocks.places
   pub page_count : length T.blocks.contents ≡ length S.blocks.contents
   pub page_sizes : (page : ℕ) → length (page_bytes T page) ≡ length (page_bytes S page)
-
--- T is S after a write of v at the linear address a
-pub record IsPoked (S : Memory) (a v : ℕ) (T : Memory) : Type 0 where
-  pub shape : IsShaped S T
-  pub written : IsWritable (place S a) → byte_at T (place S a) ≡ v
-  pub kept : (p : Place) → p ≢ place S a → byte_at T p ≡ byte_at S p

@@ -1,5 +1,5 @@
 -- The state of the machine, and what a step answers.
-use Rattle.std.specs.Prelude.{◌≡◌, ◌⊎◌, ℕ, ◌+◌, ◌-◌, ◌^◌, ◌<◌, min, Bool, All, List, Option, Some, None, IfSome}
+use Rattle.std.specs.Prelude.{◌≡◌, ◌⊎◌, ℕ, ◌+◌, ◌-◌, ◌^◌, ◌<◌, min, Bool, List, Option, Some, None, IfSome}
 use Rattle.dm_pool.specs.Blocks.{IsLive}
 use Rattle.dm_space.specs.Memory.{Memory}
 use Rattle.dm_ems.specs.Tables.{Tables, expanded}
@@ -15,11 +15,12 @@ use Rattle.dm_cpu.specs.Stack.{interrupt_return}
 use Rattle.dm_cpu.specs.Stack as stack
 use Rattle.dm_console.specs.Streams.{Streams}
 use Rattle.dm_arena.specs.declared.fit.Strategy.{Strategy}
-use Rattle.dm_proc.specs.declared.parent.Parent.{Parent}
 use Rattle.dm_proc.specs.Processes.{Processes}
 use Rattle.dm_state.specs.declared.stop.Stop.{Stop}
 use Rattle.dm_pool.specs.declared.sizes.Sizes.{Sizes}
 
+-- registers, memory, the tables of expanded memory, console, processes, allocation strategy, the first program's exit
+-- code, count of steps, and what no step changes
 pub record State : Type 0 where
   pub cpu : Cpu
   pub memory : Memory
@@ -42,10 +43,6 @@ pub record State : Type 0 where
   pub sizes : Sizes
   pub upper : Bool
 
--- each process that waits for a child has a program segment prefix
-abbrev pub HaveSegments : List Parent → Type 0
-HaveSegments parents = All (λ p. 0 < p.segment) parents
-
 -- a program is loaded
 abbrev pub HasProgram : State → Type 0
 HasProgram s = 0 < s.processes.present
@@ -65,6 +62,7 @@ pub record GoTogether (pages : Tables) (blocks : xms.Tables) (m : Memory) : Type
 abbrev pub AreLinked : State → Type 0
 AreLinked s = GoTogether s.ems s.xms s.memory
 
+-- what a step answers
 pub record Answer : Type 0 where
   pub stop : Option Stop
   pub state : State

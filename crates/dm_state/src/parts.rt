@@ -49,7 +49,8 @@ pub struct Parts {
 
 impl Model for Parts {
     ghost use Rattle.std.specs.Prelude.{◌≤◌, length};
-    ghost use Rattle.dm_state.specs.State.{State, HaveSegments};
+    ghost use Rattle.dm_state.specs.State.{State};
+    ghost use Rattle.dm_state.specs.inner.State.{HaveSegments};
 
     ghost Value = { State };
 

@@ -156,6 +156,9 @@ fn play(rt: &impl Abort, taken: &mut Taken, step: Step) {
     keep(rt, taken);
 }
 
+/// Definitions: dm_pool Blocks Blocks IsAt IsLive no_blocks taken placed zeros without resized new_base moved fitted
+/// Definitions: dm_pool Gaps is_clear is_free lowest first_empty gaps Run largest free_units count_fitting
+/// Definitions: dm_pool FreeList AreBased
 #[test]
 fn blocks_take_the_lowest_gap(rt: HostRuntime) -> Result<(), Fail> {
     let mut taken = Taken {
@@ -224,6 +227,7 @@ fn gaps_are_counted_one_by_one(rt: HostRuntime) -> Result<(), Fail> {
     Ok(())
 }
 
+/// Definitions: dm_pool Stored Stored zeros_of units_of IsTooLarge
 #[test]
 fn sizes_have_bounds(rt: HostRuntime) {
     let alloc = rt.alloc();
@@ -250,6 +254,7 @@ fn sizes_have_bounds(rt: HostRuntime) {
     }
 }
 
+/// Definitions: dm_pool Blocks taken placed zeros
 #[test]
 fn a_table_has_576_blocks(rt: HostRuntime) -> Result<(), Fail> {
     let mut store = made(rt.alloc(), 0, 1)?;
@@ -305,6 +310,7 @@ fn new_base(
 }
 
 /// 400 calls, one by one against a plain list of places.
+/// Definitions: dm_pool Blocks taken placed zeros without resized new_base moved fitted IsPool Apart content contents_of
 #[test]
 fn blocks_lie_where_a_plain_list_has_them(rt: HostRuntime) -> Result<(), Fail> {
     let mut taken = Taken {
@@ -385,6 +391,7 @@ fn beginning(store: &Store, block: Block) -> [u8; 6] {
 }
 
 /// The bytes copied are those that stood there before, also where the two places overlap.
+/// Definitions: dm_pool Blocks moved_bytes with_content
 #[test]
 fn bytes_move_within_and_between_blocks(rt: HostRuntime) -> Result<(), Fail> {
     let mut store = made(rt.alloc(), 0, 2)?;

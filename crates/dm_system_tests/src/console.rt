@@ -3,6 +3,7 @@ use crate::checks::same;
 use dm_console::Console;
 use std::test::Fail;
 
+/// Definitions: dm_console Streams Streams
 #[test]
 fn room_is_taken_byte_by_byte(rt: HostRuntime) -> Result<(), Fail> {
     let mut input = Vec::new(rt.alloc());

@@ -35,6 +35,7 @@ fn an_empty_region_lends_empty_parts(rt: HostRuntime) -> Result<(), Fail> {
     Ok(())
 }
 
+/// Definitions: dm_region Parts part with_part LendsPart
 #[test]
 fn parts_are_read_and_written(rt: HostRuntime) -> Result<(), Fail> {
     // first byte, length; the part's bytes; all bytes once the part is filled with `x`
@@ -55,6 +56,7 @@ fn parts_are_read_and_written(rt: HostRuntime) -> Result<(), Fail> {
     Ok(())
 }
 
+/// Definitions: dm_region Parts part with_part
 #[test]
 fn copies_read_before_they_write(rt: HostRuntime) -> Result<(), Fail> {
     // first byte, first byte of the copy, length; all bytes then. Apart, touching, upwards and downwards over each other, in
@@ -79,6 +81,7 @@ fn copies_read_before_they_write(rt: HostRuntime) -> Result<(), Fail> {
     Ok(())
 }
 
+/// Definitions: dm_region Ends with_ends lends_ends
 #[test]
 fn two_parts_are_written_at_once(rt: HostRuntime) -> Result<(), Fail> {
     // first byte and length of what holds both, length of the first, where the second begins; all bytes once the first is filled
@@ -102,6 +105,7 @@ fn two_parts_are_written_at_once(rt: HostRuntime) -> Result<(), Fail> {
     Ok(())
 }
 
+/// Definitions: dm_region Ends with_ends lends_ends
 #[test]
 fn bytes_move_upwards(rt: HostRuntime) -> Result<(), Fail> {
     let mut region = letters(rt.alloc())?;
@@ -111,6 +115,7 @@ fn bytes_move_upwards(rt: HostRuntime) -> Result<(), Fail> {
     Ok(())
 }
 
+/// Definitions: dm_region Ends with_ends lends_ends
 #[test]
 fn bytes_move_downwards(rt: HostRuntime) -> Result<(), Fail> {
     let mut region = letters(rt.alloc())?;

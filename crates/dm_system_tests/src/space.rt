@@ -67,6 +67,8 @@ fn memory_starts_over_a_used_store(rt: HostRuntime) -> Result<(), Fail> {
     Ok(())
 }
 
+/// Definitions: dm_space Memory linear place shown byte_at with_byte peek poke with_a20; dm_space Rom rom
+/// Definitions: dm_space Start IsStart IsStartOfRam start_byte IsStartOver IsLaidOver vector_offset vector_segment vector_byte
 #[test]
 fn each_part_of_the_map_reads_as_it_starts(rt: HostRuntime) -> Result<(), Fail> {
     let mut space = new_space(rt.alloc())?;
@@ -108,6 +110,7 @@ fn each_part_of_the_map_reads_as_it_starts(rt: HostRuntime) -> Result<(), Fail> 
     Ok(())
 }
 
+/// Definitions: dm_space Memory place shown byte_at with_byte peek poke
 #[test]
 fn each_part_of_the_map_keeps_or_loses_a_write(rt: HostRuntime) -> Result<(), Fail> {
     let mut space = new_space(rt.alloc())?;
@@ -139,6 +142,7 @@ fn each_part_of_the_map_keeps_or_loses_a_write(rt: HostRuntime) -> Result<(), Fa
     Ok(())
 }
 
+/// Definitions: dm_space Memory linear peek poke
 #[test]
 fn the_high_area_goes_round_while_a20_is_off(rt: HostRuntime) -> Result<(), Fail> {
     let mut space = new_space(rt.alloc())?;
@@ -172,6 +176,9 @@ fn the_high_area_goes_round_while_a20_is_off(rt: HostRuntime) -> Result<(), Fail
     Ok(())
 }
 
+/// Definitions: dm_space Memory linear peek16 poke16; dm_cpu Guest up down at_ip on_cpu with_flags
+/// Definitions: dm_cpu Operands value_of with_operand with_result address_of far_segment_of
+/// Definitions: dm_cpu Stack push top popped; dm_exec Stack stack_effect pushed_value popped_into flags_popped
 #[test]
 fn word_wraps_at_segment_end(rt: HostRuntime) -> Result<(), Fail> {
     let mut space = new_space(rt.alloc())?;

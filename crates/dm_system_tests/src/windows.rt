@@ -140,6 +140,8 @@ const STEPS: [Step; 38] = [
     Byte(1, 0x000F, 0x10),
 ];
 
+/// Definitions: dm_space Memory Memory Held with_blocks page_bytes place shown byte_at with_byte peek16 poke16 with_window
+/// Definitions: dm_space Lending LendsScratch LendsBlock
 #[test]
 fn windows_show_pages(rt: HostRuntime) -> Result<(), Fail> {
     let mut space = new_space(rt.alloc())?;
@@ -183,6 +185,7 @@ fn told(place: Place, pages: &Pages) -> (&'static str, Option<usize>, usize) {
     }
 }
 
+/// Definitions: dm_space Memory place shown with_window
 #[test]
 fn segments_have_places(rt: HostRuntime) -> Result<(), Fail> {
     let mut space = new_space(rt.alloc())?;
@@ -278,6 +281,7 @@ fn base_of(space: &Space, block: Block) -> Option<usize> {
     }
 }
 
+/// Definitions: dm_space Memory Memory Held with_blocks page_bytes; dm_space Unseen shows
 #[test]
 fn blocks_come_and_go(rt: HostRuntime) -> Result<(), Fail> {
     let mut space = new_space(rt.alloc())?;
@@ -366,6 +370,8 @@ fn scratch_byte(space: &Space, at: usize) -> Option<u8> {
     space.scratch().get(at).copied()
 }
 
+/// Definitions: dm_pool Parts HasPart part_bytes with_part_bytes copied
+/// Definitions: dm_space Copies reads writes values copied_in copied_out
 #[test]
 fn bytes_are_copied_in_across_borders(rt: HostRuntime) -> Result<(), Fail> {
     let (mut space, _page) = bordered(rt.alloc())?;
@@ -425,6 +431,8 @@ fn bytes_are_copied_in_across_borders(rt: HostRuntime) -> Result<(), Fail> {
     Ok(())
 }
 
+/// Definitions: dm_pool Parts HasPart part_bytes with_part_bytes copied
+/// Definitions: dm_space Copies reads writes values copied_in copied_out
 #[test]
 fn bytes_are_copied_out_across_borders(rt: HostRuntime) -> Result<(), Fail> {
     // linear address to which 51h, 52h, 53h, 54h are copied; the segment and offset of four bytes, A20 on; what they
@@ -456,6 +464,7 @@ fn bytes_are_copied_out_across_borders(rt: HostRuntime) -> Result<(), Fail> {
     Ok(())
 }
 
+/// Definitions: dm_space Copies reads writes values copied_in copied_out
 #[test]
 fn later_bytes_are_copied_over_earlier_ones(rt: HostRuntime) -> Result<(), Fail> {
     let (mut space, page) = bordered(rt.alloc())?;

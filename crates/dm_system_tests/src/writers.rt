@@ -33,6 +33,7 @@ impl Write for Slow<'_> {
     }
 }
 
+/// Definitions: dm_out Out Written HasFailed AppendsPart
 #[test]
 fn stops_at_each_failing_write(rt: HostRuntime) -> Result<(), Fail> {
     let text = b"hello".as_slice();

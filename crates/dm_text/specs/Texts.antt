@@ -145,6 +145,7 @@ repeat_pieces None = []
 repeat_pieces (Some NotEqual) = name (codes "REPNE") ∷ space ∷ []
 repeat_pieces (Some Equal) = name (codes "REP") ∷ space ∷ []
 
+-- words of the prefixes that are kept, in one order
 abbrev pub prefix_pieces : Prefixes → List Piece
 prefix_pieces p = segment_pieces p.segment ++ lock_pieces p.lock ++ repeat_pieces p.repeat
 

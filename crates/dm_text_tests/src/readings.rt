@@ -254,31 +254,37 @@ PUSH | @5            | none
 SHL | AX,@1          | none
 ESC | @5,AX          | none";
 
+/// Definitions: dm_read Words word_before word_written size_word jump_word width_word
 #[test]
 fn words_before_memory_stand_where_they_are_needed(rt: HostRuntime) -> Result<(), Fail> {
     check(&rt, SIZES)
 }
 
+/// Definitions: dm_read Words AreWords IsWritten IsNumber
 #[test]
 fn targets_are_near_short_or_far(rt: HostRuntime) -> Result<(), Fail> {
     check(&rt, TRANSFERS)
 }
 
+/// Definitions: dm_read Words AreWords IsWritten IsNumber
 #[test]
 fn numbers_are_bytes_or_words(rt: HostRuntime) -> Result<(), Fail> {
     check(&rt, NUMBERS)
 }
 
+/// Definitions: dm_read Words AreWords IsWritten IsNumber
 #[test]
 fn counts_are_one_or_cl(rt: HostRuntime) -> Result<(), Fail> {
     check(&rt, SHIFTS)
 }
 
+/// Definitions: dm_read Words AreWords IsWritten IsNumber
 #[test]
 fn operands_are_those_of_a_row(rt: HostRuntime) -> Result<(), Fail> {
     check(&rt, OPERANDS)
 }
 
+/// Definitions: dm_read Words AreWords IsWritten IsNumber
 #[test]
 fn labels_are_targets(rt: HostRuntime) -> Result<(), Fail> {
     check(&rt, LABELS)

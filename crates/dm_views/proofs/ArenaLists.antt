@@ -7,7 +7,7 @@ use Rattle.dm_blocks.specs.Chain.{first_header, link_header, is_linked, IsArena,
 use Rattle.dm_blocks.specs.Listing.{Walking, IsBehind, start_of}
 use Rattle.dm_blocks.specs.Reading.{IsSpelledFrom}
 use Rattle.dm_views.specs.Arena.{unlinked_line, IsWhole, IsListText, whole, cut_short, IsArenaText, destroyed, alone, parted}
-use Rattle.dm_views.specs.Telling.{IsWalkText, TellsList}
+use Rattle.dm_views.specs.inner.Telling.{IsWalkText, TellsList}
 
 -- ---- the second list
 

@@ -10,7 +10,7 @@ use Rattle.dm_blocks.specs.Chain.{first_header, next, mark, signature, IsHeader,
 use Rattle.dm_blocks.specs.Listing.{Walking, Path, Leads, Follows, Closes, IsBehind, IsStep, IsStepFrom, Steps, start_of}
 use Rattle.dm_blocks.proofs.Unique.{arena_unique}
 use Rattle.dm_views.specs.Arena.{header_line, list_text, front_text, end_line, destroyed_line, IsWhole, IsCutShort}
-use Rattle.dm_views.specs.Telling.{TellsList}
+use Rattle.dm_views.specs.inner.Telling.{TellsList}
 
 -- ---- texts of more headers
 

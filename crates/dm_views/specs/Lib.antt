@@ -3,7 +3,7 @@ pub mod Code
 pub mod Registers
 pub mod Bytes
 pub mod Arena
-pub mod Telling
 pub mod Pages
 pub mod Extended
 pub mod Laws
+pub mod inner

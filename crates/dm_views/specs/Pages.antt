@@ -32,6 +32,7 @@ shown_text (Some n) = four n.0 ++ codes " " ++ four n.1 ++ 10 ∷ []
 abbrev pub window_line : ℕ → Option (ℕ × ℕ) → List ℕ
 window_line number page = codes "window " ++ (digit number ∷ 32 ∷ []) ++ shown_text page
 
+-- what a window shows: a page's handle and its logical number, or none
 abbrev pub window_text : Tables → Memory → ℕ → List ℕ
 window_text ems m number = window_line number (page_shown ems m number)
 

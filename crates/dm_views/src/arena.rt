@@ -6,7 +6,7 @@ ghost use Rattle.dm_blocks.specs.Chain.{first_header, link_header, mark, IsArena
 ghost use Rattle.dm_blocks.specs.Listing.{start_of};
 ghost use Rattle.dm_views.specs.Digits.{four};
 ghost use Rattle.dm_views.specs.Arena.{header_line, end_line, destroyed_line, unlinked_line, IsArenaText, IsListText};
-ghost use Rattle.dm_views.specs.Telling.{TellsList};
+ghost use Rattle.dm_views.specs.inner.Telling.{TellsList};
 
 use crate::digits::word_digits;
 use dm_blocks::{Entry, Headers, Step, is_linked, walk};

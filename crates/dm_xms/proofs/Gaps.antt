@@ -4,15 +4,16 @@ use Rattle.std.specs.Prelude.{if◌then◌else◌, slice_index_or}
 use Rattle.std.proofs.lemmas.Option.{none-some, same_Some}
 use Rattle.std.proofs.lemmas.Bool.{cases_lt, cases_eq, eq-eqb, ne_eqb}
 use Rattle.dm_pool.specs.declared.places.Place.{Place}
-use Rattle.dm_pool.specs.Gaps.{Run, AreGaps, IsCovered, overlaps, is_clear, gaps, lowest, first_fit}
+use Rattle.dm_pool.specs.Gaps.{Run, overlaps, is_clear, gaps, lowest}
+use Rattle.dm_pool.specs.inner.Gaps.{AreGaps, IsCovered, first_fit}
 use Rattle.dm_pool.specs.FreeList.{AreBased}
 use Rattle.dm_pool.proofs.Gaps.{hits, before, after, covered, clear, fit_is_lowest}
 use Rattle.dm_pool.proofs.FreeRuns.{lowered}
 use Rattle.dm_pool.proofs.Maximal.{gaps_are, gaps_are_one}
 use Rattle.dm_xms.specs.declared.tables.Upper.{Upper}
-use Rattle.dm_xms.specs.Tables.{Rise}
+use Rattle.dm_xms.specs.inner.Tables.{Rise}
 use Rattle.dm_xms.specs.Uppers.{places_of}
-use Rattle.dm_xms.specs.Walks.{with_gap, gaps_between}
+use Rattle.dm_xms.specs.inner.Walks.{with_gap, gaps_between}
 
 -- ---- where rising blocks lie
 

@@ -9,7 +9,7 @@ use Rattle.dm_pool.specs.Gaps.{is_clear, lowest}
 use Rattle.dm_pool.proofs.Blocks.{clear_apart}
 use Rattle.dm_pool.proofs.Takes.{lowest_free}
 use Rattle.dm_xms.specs.declared.tables.Upper.{Upper}
-use Rattle.dm_xms.specs.Tables.{Rise}
+use Rattle.dm_xms.specs.inner.Tables.{Rise}
 use Rattle.dm_xms.specs.Uppers.{is_below, begins_at, begin_or_end, inserted, places_of}
 
 rise_from : (from lower : ℕ) (us : List Upper) → lower ≤ from → Rise from us → Rise lower us

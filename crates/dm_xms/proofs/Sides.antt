@@ -2,7 +2,7 @@
 use Rattle.std.proofs.Common.{◌≡◌, true, refl}
 use Rattle.dm_moves.specs.declared.regions.Kind.{Kind}
 use Rattle.dm_moves.specs.declared.regions.Kind.TheVariants.{Linear, Pages, Single}
-use Rattle.dm_xms.specs.Sides.{is_single}
+use Rattle.dm_xms.specs.inner.Sides.{is_single}
 
 pub single_kind : (k : Kind) → is_single k ≡ true → k ≡ Single
 single_kind Linear e = absurd cc

@@ -4,6 +4,7 @@ use Rattle.dm_xms.specs.declared.status.Status.{Status}
 use Rattle.dm_xms.specs.declared.status.Status.TheVariants.{AreaTaken, AreaNotTaken}
 use Rattle.dm_xms.specs.Tables.{Tables}
 
+-- the high memory area has one taker
 unfoldable pub take_area : Tables → Result (Unit {0} × Tables) Status
 take_area xms = if xms.area then Err AreaTaken else Ok (tt, record xms { area = true })
 

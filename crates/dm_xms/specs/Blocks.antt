@@ -23,6 +23,7 @@ all_free x = free_units (gaps x.memory.blocks.places x.memory.blocks.units)
 unfoldable pub free_memory : Extended → Result FreeMemory Status
 free_memory x = if largest_gap x == 0 then Err NoMemory else Ok (record { largest = min 0xFFFF (largest_gap x); total = min 0xFFFF (all_free x) })
 
+-- refused for an unknown handle, then for a lock
 abbrev pub leaving : Extended → Tables → Blocks → Extended
 leaving x xms blocks = record { xms = xms; memory = with_blocks x.memory blocks }
 
@@ -33,6 +34,7 @@ allocate x kib =
     need (taken x.memory.blocks kib) NoMemory (λ new.
     Ok (k + 1, leaving x (with_slot x.xms (k + 1) (Some (record { block = new.0; kib = kib; locks = 0 }))) new.1)))
 
+-- refused for no handle, then for no memory. A block goes
 unfoldable pub deallocate : Extended → ℕ → Result (Unit {0} × Extended) Status
 deallocate x handle =
     need (slot x.xms handle) UnknownHandle (λ s.
@@ -61,6 +63,7 @@ unlock xms handle =
     if s.locks == 0 then Err NotLocked else
     Ok (tt, with_slot xms handle (Some (record s { locks = s.locks - 1 }))))
 
+-- a block's locks and size, and the handles that are not in use
 unfoldable pub information : Tables → ℕ → Result HandleInformation Status
 information xms handle =
     need (slot xms handle) UnknownHandle (λ s.

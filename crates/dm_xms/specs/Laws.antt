@@ -39,6 +39,7 @@ pub record CallsKeepTheLink : Type 0 where
 abbrev pub WritesKeepTheLink : Type 0
 WritesKeepTheLink = (x : Extended) (m : Memory) → IsShaped x.memory m → IsLinked x → IsLinked (extended x.xms m)
 
+-- each call leaves what is outside of extended memory
 pub record CallsLeaveOutside : Type 0 where
   pub taking_area : (x : Extended) → LeavesOutside x (extended (left x.xms (take_area x.xms)) x.memory)
   pub releasing_area : (x : Extended) → LeavesOutside x (extended (left x.xms (release_area x.xms)) x.memory)

@@ -5,9 +5,8 @@ pub mod Area
 pub mod Line
 pub mod Blocks
 pub mod Uppers
-pub mod Walks
 pub mod Moves
-pub mod Sides
 pub mod Linked
 pub mod Outside
 pub mod Laws
+pub mod inner

@@ -4,7 +4,7 @@ ghost use Rattle.std.specs.Prelude.{◌≡◌, ◌<◌, ◌≤◌, ◌+◌, ◌^
 ghost use Rattle.dm_xms.specs.Tables.{extended};
 ghost use Rattle.dm_xms.specs.Calls.{answer, left};
 ghost use Rattle.dm_xms.specs.Linked.{IsLinked};
-ghost use Rattle.dm_xms.specs.Sides.{is_single, Reaches};
+ghost use Rattle.dm_xms.specs.inner.Sides.{is_single, Reaches};
 ghost use Rattle.dm_xms.specs.Moves.{double_after, described, side, move_between, move_memory};
 
 use crate::status::Status;

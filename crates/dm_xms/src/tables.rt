@@ -51,7 +51,8 @@ pub struct Xms {
 }
 
 impl Model for Xms {
-    ghost use Rattle.dm_xms.specs.Tables.{Tables, IsTables};
+    ghost use Rattle.dm_xms.specs.Tables.{Tables};
+    ghost use Rattle.dm_xms.specs.inner.Tables.{IsTables};
 
     ghost Value = { Tables };
 

@@ -5,6 +5,7 @@ use Rattle.dm_xms.specs.Outside.{LeavesOutside}
 use Rattle.dm_xms_calls.specs.Caller.{Caller}
 use Rattle.dm_xms_calls.specs.Functions.{called}
 
+-- tables and memory stay together, and what is outside stays
 pub record ExtendedMemoryCallsKeep : Type 0 where
   pub link : (upper : Bool) (c : Caller) → IsLinked c.x → IsLinked (called upper c).x
   pub outside : (upper : Bool) (c : Caller) → LeavesOutside c.x (called upper c).x

@@ -47,6 +47,7 @@ fn base_of(store: &Store, block: Option<Block>) -> Option<usize> {
     }
 }
 
+/// Definitions: dm_pool FreeList Spells word
 #[test]
 fn free_bytes_tell_the_gaps(rt: HostRuntime) -> Result<(), Fail> {
     let sizes = Sizes {

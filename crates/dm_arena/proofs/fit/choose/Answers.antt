@@ -1,7 +1,7 @@
 use Rattle.std.proofs.Common.{max, ◌∙◌, ap}
 use Rattle.std.specs.Prelude.{option_to_list}
 use Rattle.dm_arena.specs.Blocks.{largest}
-use Rattle.dm_arena.specs.Walks.{pick}
+use Rattle.dm_arena.specs.inner.Walks.{pick}
 use Rattle.dm_arena.proofs.Choosing.{all_block, all_largest, met_more, choosing_all}
 use Rattle.dm_arena.proofs.fit.choose.Goals as goal
 

@@ -2,7 +2,7 @@ use Rattle.std.proofs.Common.{◌-◌, List}
 use Rattle.dm_blocks.specs.declared.header.Header.{Header}
 use Rattle.dm_blocks.specs.Chain.{first_header}
 use Rattle.dm_blocks.specs.Reading.{IsSpelledFrom}
-use Rattle.dm_arena.specs.Walks.{IsChoosing}
+use Rattle.dm_arena.specs.inner.Walks.{IsChoosing}
 use Rattle.dm_arena.proofs.fit.choose.Given as goal
 
 abbrev pub invariant-walk : goal.invariant-walk

@@ -2,7 +2,7 @@ use Rattle.std.proofs.Common.{◌-◌, ◌≡◌, ◌≤◌, List}
 use Rattle.dm_blocks.specs.declared.header.Header.{Header}
 use Rattle.dm_blocks.specs.Chain.{next}
 use Rattle.dm_blocks.specs.Reading.{IsSpelledFrom}
-use Rattle.dm_arena.specs.Walks.{IsJoining}
+use Rattle.dm_arena.specs.inner.Walks.{IsJoining}
 use Rattle.dm_arena.proofs.joined.joined_at.Given as goal
 
 abbrev pub invariant-loop-entry : goal.invariant-loop-entry

@@ -1,7 +1,7 @@
 use Rattle.std.proofs.Common.{◌-◌, ◌≤◌, List}
 use Rattle.dm_blocks.specs.declared.header.Header.{Header}
 use Rattle.dm_blocks.specs.Chain.{next}
-use Rattle.dm_arena.specs.Walks.{IsGrowable, IsGrown}
+use Rattle.dm_arena.specs.inner.Walks.{IsGrowable, IsGrown}
 use Rattle.dm_arena.proofs.owned.grow.Given as goal
 
 abbrev pub invariant-walk : goal.invariant-walk

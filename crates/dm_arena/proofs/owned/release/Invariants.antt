@@ -1,7 +1,7 @@
 use Rattle.std.proofs.Common.{◌-◌, ◌≡◌, List}
 use Rattle.dm_blocks.specs.declared.header.Header.{Header}
 use Rattle.dm_blocks.specs.Chain.{IsArena, IsNonEmpty}
-use Rattle.dm_arena.specs.Walks.{IsReleasing}
+use Rattle.dm_arena.specs.inner.Walks.{IsReleasing}
 use Rattle.dm_arena.proofs.owned.release.Given as goal
 
 abbrev pub invariant-walk : goal.invariant-walk

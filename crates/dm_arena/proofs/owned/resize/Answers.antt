@@ -1,7 +1,7 @@
 use Rattle.std.proofs.Common.{refl, inr, arith}
 use Rattle.dm_blocks.specs.Chain.{first_header}
 use Rattle.dm_blocks.specs.Reading.{IsSpelledFrom}
-use Rattle.dm_arena.specs.Walks.{IsGrowable}
+use Rattle.dm_arena.specs.inner.Walks.{IsGrowable}
 use Rattle.dm_arena.proofs.Growing.{run_at, size_is, outside, resized_new, clear_resized, resizing, resizes, unresized}
 use Rattle.dm_arena.proofs.owned.resize.Goals as goal
 

@@ -2,7 +2,7 @@ use Rattle.std.proofs.Common.{◌-◌, List}
 use Rattle.dm_space.specs.declared.place.Place.TheVariants.{Page}
 use Rattle.dm_blocks.specs.declared.header.Header.{Header}
 use Rattle.dm_blocks.specs.Reading.{IsSpelledFrom}
-use Rattle.dm_arena.specs.Walks.{IsLookingOutside}
+use Rattle.dm_arena.specs.inner.Walks.{IsLookingOutside}
 use Rattle.dm_arena.proofs.standing.stands_outside.Given as goal
 
 abbrev pub invariant-walk : goal.invariant-walk

@@ -1,7 +1,7 @@
 use Rattle.std.proofs.Common.{subst, sym, Option, ◌++◌}
 use Rattle.dm_lines.specs.declared.token.Name as Name'
 use Rattle.dm_asm.specs.Labels.{IsFree}
-use Rattle.dm_asm.specs.Kept.{AreKept}
+use Rattle.dm_asm.specs.inner.Kept.{AreKept}
 use Rattle.dm_asm.specs.Programs.{labelled}
 use Rattle.dm_asm.proofs.assembly.add_label.Goals as goal
 

@@ -1,6 +1,6 @@
 use Rattle.std.proofs.Common.{arith, inr, sym, subst, ◌≡◌, ◌+◌, ℕ, length}
 use Rattle.dm_lines.specs.Statements.{seen_item}
-use Rattle.dm_asm.specs.Kept.{IsProblem}
+use Rattle.dm_asm.specs.inner.Kept.{IsProblem}
 use Rattle.dm_asm.specs.Codes.{Codes}
 use Rattle.dm_asm.specs.Programs.{labels_of}
 use Rattle.dm_asm.proofs.Passes.{emitting_none, emitting_more, known_next, none_kept, open_behind, near, next_fits, is_unknown, is_range}

@@ -1,7 +1,7 @@
 use Rattle.std.proofs.Common.{take, List, IsSome}
 use Rattle.std.specs.List.{AllByRecursion}
 use Rattle.dm_asm.specs.Labels.{Label, place_of}
-use Rattle.dm_asm.specs.Kept.{AreKept}
+use Rattle.dm_asm.specs.inner.Kept.{AreKept}
 use Rattle.dm_asm.proofs.codes.knows_all.Given as goal
 
 abbrev pub invariant-loop-value : goal.invariant-loop-value

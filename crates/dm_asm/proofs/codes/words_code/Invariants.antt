@@ -1,7 +1,7 @@
 use Rattle.std.proofs.Common.{◌≡◌, ◌*◌, take, List}
 use Rattle.arrayvec.specs.ArrayVec.{array_vec_len}
 use Rattle.dm_asm.specs.Labels.{Label}
-use Rattle.dm_asm.specs.Kept.{AreKept}
+use Rattle.dm_asm.specs.inner.Kept.{AreKept}
 use Rattle.dm_asm.specs.Codes.{AreWordsOf}
 use Rattle.dm_asm.proofs.codes.words_code.Given as goal
 

@@ -1,7 +1,8 @@
 use Rattle.std.proofs.Common.{◌-◌, ◌≤◌, List}
 use Rattle.dm_blocks.specs.declared.header.Header.{Header}
 use Rattle.dm_blocks.specs.Chain.{first_header, link_header}
-use Rattle.dm_blocks.specs.Reading.{IsSpelledFrom, IsSeeking}
+use Rattle.dm_blocks.specs.Reading.{IsSpelledFrom}
+use Rattle.dm_blocks.specs.inner.Reading.{IsSeeking}
 use Rattle.dm_blocks.proofs.list.before_link.Given as goal
 
 abbrev pub invariant-walk : goal.invariant-walk

@@ -1,6 +1,6 @@
 use Rattle.std.proofs.Common.{List}
 use Rattle.dm_blocks.specs.declared.header.Header.{Header}
-use Rattle.dm_blocks.specs.Reading.{AreLeft, IsCursor, steps_left}
+use Rattle.dm_blocks.specs.inner.Reading.{AreLeft, IsCursor, steps_left}
 use Rattle.dm_blocks.proofs.list.catch_up.Given as goal
 
 abbrev pub invariant-walk : goal.invariant-walk

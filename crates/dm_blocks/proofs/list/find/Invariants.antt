@@ -1,6 +1,7 @@
 use Rattle.std.proofs.Common.{◌-◌, ◌≤◌, List}
 use Rattle.dm_blocks.specs.declared.header.Header.{Header}
-use Rattle.dm_blocks.specs.Reading.{IsSpelledFrom, IsFinding}
+use Rattle.dm_blocks.specs.Reading.{IsSpelledFrom}
+use Rattle.dm_blocks.specs.inner.Reading.{IsFinding}
 use Rattle.dm_blocks.proofs.list.find.Given as goal
 
 abbrev pub invariant-walk : goal.invariant-walk

@@ -1,5 +1,5 @@
 use Rattle.std.proofs.Common.{◌≡◌, ◌≤◌, ℕ, Some}
-use Rattle.dm_blocks.specs.Reading.{steps_left}
+use Rattle.dm_blocks.specs.inner.Reading.{steps_left}
 use Rattle.dm_blocks.proofs.list.tell_all.Given as goal
 
 abbrev pub invariant-walk : goal.invariant-walk

@@ -1,4 +1,4 @@
-use Rattle.dm_ins.specs.Search.{bytes_of}
+use Rattle.dm_ins.specs.inner.Search.{bytes_of}
 use Rattle.dm_ins.proofs.Walks.{first_none, second_none}
 use Rattle.dm_ins.proofs.fill.may_fill.Goals as goal
 

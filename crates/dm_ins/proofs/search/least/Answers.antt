@@ -1,6 +1,6 @@
 use Rattle.std.proofs.Common.{arith, length, subst, List}
 use Rattle.dm_ins.specs.declared.keys.Key.{Key}
-use Rattle.dm_ins.specs.Search.{Best, seen_bytes}
+use Rattle.dm_ins.specs.inner.Search.{Best, seen_bytes}
 use Rattle.dm_ins.proofs.Order.{best_at, best_more, best_none}
 use Rattle.dm_ins.proofs.NoneLeftOut.{all_fit}
 use Rattle.dm_ins.proofs.search.least.Goals as goal

@@ -1,4 +1,4 @@
-use Rattle.dm_ins.specs.Search.{Best, seen_bytes}
+use Rattle.dm_ins.specs.inner.Search.{Best, seen_bytes}
 use Rattle.dm_ins.proofs.search.least.Given as goal
 
 -- of the rows so far

@@ -1,6 +1,6 @@
 use Rattle.std.proofs.Common.{◌+◌, ap, ◌∙◌, arith}
 use Rattle.dm_space.specs.Memory.{Held}
-use Rattle.dm_moves.specs.Copying.{read_in}
+use Rattle.dm_moves.specs.inner.Copying.{read_in}
 use Rattle.dm_moves.proofs.Runs.{read-more}
 use Rattle.dm_moves.proofs.copies.read.Goals as goal
 

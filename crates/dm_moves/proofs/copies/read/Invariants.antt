@@ -1,5 +1,5 @@
 use Rattle.std.proofs.Common.{◌≡◌, ◌≤◌, ◌-◌}
-use Rattle.dm_moves.specs.Copying.{read_in}
+use Rattle.dm_moves.specs.inner.Copying.{read_in}
 use Rattle.dm_moves.proofs.copies.read.Given as goal
 
 abbrev pub invariant-loop-done : goal.invariant-loop-done

@@ -1,7 +1,7 @@
 use Rattle.std.proofs.Common.{◌+◌, ap, ◌∙◌, sym, subst, arith}
 use Rattle.dm_region.specs.Parts.{part}
 use Rattle.dm_space.specs.Memory.{Held}
-use Rattle.dm_moves.specs.Copying.{written_out}
+use Rattle.dm_moves.specs.inner.Copying.{written_out}
 use Rattle.dm_moves.specs.Regions.{IsInside}
 use Rattle.dm_moves.proofs.Inside.{inside-less, inside-shaped}
 use Rattle.dm_moves.proofs.Shapes.{stored-shaped}

@@ -1,5 +1,5 @@
 use Rattle.std.proofs.Common.{◌≡◌, ◌≤◌, ◌-◌}
-use Rattle.dm_moves.specs.Copying.{written_out}
+use Rattle.dm_moves.specs.inner.Copying.{written_out}
 use Rattle.dm_moves.proofs.copies.write.Given as goal
 
 abbrev pub invariant-loop-done : goal.invariant-loop-done

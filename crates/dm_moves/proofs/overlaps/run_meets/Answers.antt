@@ -1,5 +1,5 @@
 use Rattle.std.proofs.Common.{◌+◌, ◌%◌, ◌≤◌, sym, ◌∙◌, ap, arith}
-use Rattle.dm_space.specs.Runs.{shift}
+use Rattle.dm_space.specs.inner.Runs.{shift}
 use Rattle.dm_moves.specs.Overlaps.{is_shared, any_two}
 use Rattle.dm_moves.proofs.Inside.{inside-less}
 use Rattle.dm_moves.proofs.Meets.{run-apart, run-shared, run-all}

@@ -1,5 +1,5 @@
 use Rattle.std.proofs.Common.{◌-◌, ◌<◌, sym, subst, ap, arith}
-use Rattle.dm_pool.specs.FreeList.{Tells}
+use Rattle.dm_pool.specs.inner.FreeList.{Tells}
 use Rattle.dm_pool.specs.Gaps.{free_units}
 use Rattle.dm_pool.proofs.Fits.{sets_out, tells_gaps, meets, none_left, run_within, run_falls, goes_on, free_within, free_split}
 use Rattle.dm_pool.proofs.runs.free_units.Goals as goal

@@ -1,5 +1,5 @@
 use Rattle.std.proofs.Common.{◌<◌, subst, arith}
-use Rattle.dm_pool.specs.Order.{IsCut}
+use Rattle.dm_pool.specs.inner.Order.{IsCut}
 use Rattle.dm_pool.proofs.Spelled.{none_below, top_below, cut_below}
 use Rattle.dm_pool.proofs.runs.highest.Goals as goal
 

@@ -1,5 +1,5 @@
 use Rattle.std.proofs.Common.{◌-◌, ◌<◌, sym, subst, ap, arith}
-use Rattle.dm_pool.specs.FreeList.{Tells}
+use Rattle.dm_pool.specs.inner.FreeList.{Tells}
 use Rattle.dm_pool.specs.Gaps.{largest}
 use Rattle.dm_pool.proofs.Fits.{sets_out, tells_gaps, meets, none_left, run_within, run_falls, goes_on}
 use Rattle.dm_pool.proofs.runs.largest.Goals as goal

@@ -1,5 +1,5 @@
 use Rattle.std.proofs.Common.{◌+◌, ◌∙◌, sym, subst, arith}
-use Rattle.dm_pool.specs.Order.{IsCut}
+use Rattle.dm_pool.specs.inner.Order.{IsCut}
 use Rattle.dm_pool.proofs.FreeRuns.{tells_same, tells_gap, tells_lower, contents_gap, end_lower}
 use Rattle.dm_pool.proofs.Spelled.{falls}
 use Rattle.dm_pool.proofs.runs.spell.Goals as goal

@@ -1,4 +1,4 @@
-use Rattle.dm_pool.specs.Order.{IsCut}
+use Rattle.dm_pool.specs.inner.Order.{IsCut}
 use Rattle.dm_pool.proofs.FreeRuns.{Spelling}
 use Rattle.dm_pool.proofs.runs.spell.Given as goal
 

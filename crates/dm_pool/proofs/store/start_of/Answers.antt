@@ -1,6 +1,6 @@
 use Rattle.std.proofs.Common.{◌+◌, ◌*◌, subst, sym, refl}
 use Rattle.dm_pool.specs.declared.part.Part.{Part}
-use Rattle.dm_pool.specs.Parts.{IsSpan}
+use Rattle.dm_pool.specs.inner.Parts.{IsSpan}
 use Rattle.dm_pool.proofs.store.start_of.Goals as goal
 
 pub returns-in-Low-clause-span : goal.returns-in-Low-clause-span

@@ -1,6 +1,6 @@
 use Rattle.std.proofs.Common.{◌+◌, ◌*◌, length, refl, sym, ap, ◌∙◌, subst, arith}
-use Rattle.dm_pool.specs.FreeList.{Tells}
-use Rattle.dm_pool.specs.Order.{Layout}
+use Rattle.dm_pool.specs.inner.FreeList.{Tells}
+use Rattle.dm_pool.specs.inner.Order.{Layout}
 use Rattle.dm_pool.specs.Stored.{Stored}
 use Rattle.dm_pool.proofs.Blocks.{part_length}
 use Rattle.dm_pool.proofs.Fresh.{low_zeros, scratch_zeros, none_units, none_blocks}

@@ -1,5 +1,5 @@
 use Rattle.std.proofs.Common.{replicate, None, sym, subst, refl}
-use Rattle.dm_pool.specs.Order.{IsOrder}
+use Rattle.dm_pool.specs.inner.Order.{IsOrder}
 use Rattle.dm_pool.proofs.Layouts.{no_order, none_laid}
 use Rattle.dm_pool.proofs.table.no_blocks.Goals as goal
 

@@ -1,6 +1,6 @@
 use Rattle.std.proofs.Common.{Some, ap, sym, subst, ◌∙◌, length, lit<, arith}
 use Rattle.std.specs.List.{insert}
-use Rattle.dm_pool.specs.Order.{IsOrder}
+use Rattle.dm_pool.specs.inner.Order.{IsOrder}
 use Rattle.dm_pool.proofs.Blocks.{clear_apart}
 use Rattle.dm_pool.proofs.Order.{order_room, order_come, order_same, vacant_units, no_units}
 use Rattle.dm_pool.proofs.table.order_in.Goals as goal

@@ -1,6 +1,6 @@
 use Rattle.std.proofs.Common.{None, sym, subst, refl, ◌∙◌, ap, length, arith}
 use Rattle.std.specs.List.{remove}
-use Rattle.dm_pool.specs.Order.{IsOrder, has_units}
+use Rattle.dm_pool.specs.inner.Order.{IsOrder, has_units}
 use Rattle.dm_pool.proofs.Order.{order_go, order_same, stands_there, no_units}
 use Rattle.dm_pool.proofs.table.order_out.Goals as goal
 

@@ -1,6 +1,6 @@
 use Rattle.std.proofs.Common.{ℕ, ◌<◌}
 use Rattle.dm_pool.specs.declared.places.Place.{Place}
-use Rattle.dm_pool.specs.Order.{IsNth}
+use Rattle.dm_pool.specs.inner.Order.{IsNth}
 use Rattle.dm_pool.proofs.table.rank.Given as goal
 
 abbrev pub invariant-loop-i : goal.invariant-loop-i

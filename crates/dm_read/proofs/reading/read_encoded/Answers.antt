@@ -1,6 +1,6 @@
 use Rattle.dm_read.proofs.Readings.{are_words, no_words, one_more}
 use Rattle.std.proofs.Common.{arith}
-use Rattle.dm_read.specs.Search.{FirstWays, IsNot}
+use Rattle.dm_read.specs.inner.Search.{FirstWays, IsNot}
 use Rattle.dm_read.proofs.reading.read_encoded.Goals as goal
 
 pub loop-way-preserved : goal.loop-way-preserved

@@ -1,6 +1,6 @@
 use Rattle.dm_read.proofs.Readings.{one_more}
 use Rattle.std.proofs.Common.{arith}
-use Rattle.dm_read.specs.Search.{IsNot}
+use Rattle.dm_read.specs.inner.Search.{IsNot}
 use Rattle.dm_read.proofs.reading.taken_first.Goals as goal
 
 pub loop-other-preserved : goal.loop-other-preserved

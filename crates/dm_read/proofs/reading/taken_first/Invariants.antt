@@ -1,4 +1,4 @@
-use Rattle.dm_read.specs.Search.{FirstWays, IsNot}
+use Rattle.dm_read.specs.inner.Search.{FirstWays, IsNot}
 use Rattle.dm_read.proofs.reading.taken_first.Given as goal
 
 -- none so far

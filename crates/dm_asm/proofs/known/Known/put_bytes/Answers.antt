@@ -1,6 +1,6 @@
 use Rattle.std.proofs.Common.{refl, subst, sym}
 use Rattle.dm_lines.specs.Statements.{Item}
-use Rattle.dm_asm.specs.Fixed.{IsFixed}
+use Rattle.dm_asm.specs.inner.Fixed.{IsFixed}
 use Rattle.dm_asm.proofs.Remembered.{known_more}
 use Rattle.dm_asm.proofs.known.Known.put_bytes.Goals as goal
 

@@ -1,7 +1,7 @@
 use Rattle.std.proofs.Common.{arith, subst, sym, []}
 use Rattle.dm_lines.specs.Statements.{instruction}
 use Rattle.dm_asm.specs.Codes.{HasShape}
-use Rattle.dm_asm.specs.Fixed.{IsFixed}
+use Rattle.dm_asm.specs.inner.Fixed.{IsFixed}
 use Rattle.dm_asm.proofs.Remembered.{keeps_of}
 use Rattle.dm_asm.proofs.known.Known.put_instruction.Goals as goal
 

@@ -1,5 +1,6 @@
 use Rattle.std.proofs.Common.{◌*◌, None, [], get_or, sym, ap, ◌∙◌, arith}
-use Rattle.dm_pool.specs.Stored.{Stored, pool_part}
+use Rattle.dm_pool.specs.Stored.{Stored}
+use Rattle.dm_pool.specs.inner.Stored.{pool_part}
 use Rattle.dm_pool.proofs.Blocks.{content_of}
 use Rattle.dm_pool.proofs.Parts.{part_in}
 use Rattle.dm_pool.proofs.store.Store.bytes.Goals as goal

@@ -1,6 +1,7 @@
 use Rattle.std.proofs.Common.{◌*◌, None, [], get_or, refl, sym, ap, ◌∙◌, arith}
 use Rattle.dm_pool.specs.Blocks.{with_content}
-use Rattle.dm_pool.specs.Stored.{Stored, pool_part, refit}
+use Rattle.dm_pool.specs.Stored.{Stored, refit}
+use Rattle.dm_pool.specs.inner.Stored.{pool_part}
 use Rattle.dm_pool.proofs.Blocks.{content_of}
 use Rattle.dm_pool.proofs.Parts.{part_in}
 use Rattle.dm_pool.proofs.Stored.{block_store, block_stored}

@@ -1,6 +1,7 @@
 use Rattle.std.proofs.Common.{List, ℕ, ◌+◌, sym, ap, ◌∙◌, subst, arith}
 use Rattle.dm_pool.specs.Parts.{copied}
-use Rattle.dm_pool.specs.Stored.{Stored, IsStore, stored}
+use Rattle.dm_pool.specs.Stored.{Stored}
+use Rattle.dm_pool.specs.inner.Stored.{IsStore, stored}
 use Rattle.dm_pool.proofs.Copied.{laid_out, span_fits, copied_store, copied_stored, within_span}
 use Rattle.dm_pool.proofs.store.Store.copy.Goals as goal
 

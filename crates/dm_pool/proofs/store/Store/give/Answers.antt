@@ -2,7 +2,7 @@ use Rattle.std.proofs.Common.{◌≡◌, None, get_or, length, sym, ap, ◌∙�
 use Rattle.dm_region.specs.Parts.{part}
 use Rattle.dm_pool.proofs.Blocks.{part_length}
 use Rattle.dm_pool.specs.Blocks.{Blocks, without}
-use Rattle.dm_pool.specs.Order.{blocks_in}
+use Rattle.dm_pool.specs.inner.Order.{blocks_in}
 use Rattle.dm_pool.specs.Stored.{Stored}
 use Rattle.dm_pool.proofs.Stored.{pool_fits, pool_told, pool_store, pool_stored, same_stored}
 use Rattle.dm_pool.proofs.store.Store.give.Goals as goal

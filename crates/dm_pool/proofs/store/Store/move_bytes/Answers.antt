@@ -1,6 +1,7 @@
 use Rattle.std.proofs.Common.{◌+◌, None, List, ℕ, get_or, sym, ap, ◌∙◌, subst, arith}
 use Rattle.dm_pool.specs.Blocks.{moved_bytes}
-use Rattle.dm_pool.specs.Stored.{Stored, IsStore, stored}
+use Rattle.dm_pool.specs.Stored.{Stored}
+use Rattle.dm_pool.specs.inner.Stored.{IsStore, stored}
 use Rattle.dm_pool.proofs.Moved.{moved_store, moved_stored, within_units}
 use Rattle.dm_pool.proofs.store.Store.move_bytes.Goals as goal
 

@@ -1,6 +1,6 @@
 use Rattle.std.proofs.Common.{refl, sym, ◌∙◌, ap, ◌+◌, ◌*◌, ◌≤◌, length, inl, inr, subst, arith}
 use Rattle.dm_pool.specs.Stored.{Stored, refit}
-use Rattle.dm_pool.specs.Order.{IsToldIn, blocks_in}
+use Rattle.dm_pool.specs.inner.Order.{IsToldIn, blocks_in}
 use Rattle.dm_pool.proofs.Blocks.{part_length}
 use Rattle.dm_pool.proofs.Stored.{lent_length, lent_elsewhere, lent_refit, same_stored}
 use Rattle.dm_pool.proofs.store.Store.scratch_mut.Goals as goal

@@ -1,7 +1,7 @@
 use Rattle.std.proofs.Common.{◌≡◌, length, ap, refl, ◌∙◌}
 use Rattle.dm_region.specs.Parts.{part}
 use Rattle.dm_pool.proofs.Blocks.{part_length}
-use Rattle.dm_pool.specs.Order.{blocks_in}
+use Rattle.dm_pool.specs.inner.Order.{blocks_in}
 use Rattle.dm_pool.specs.Stored.{Stored}
 use Rattle.dm_pool.proofs.Stored.{pool_fits, pool_told, pool_store, pool_stored, same_stored, told_taken}
 use Rattle.dm_pool.proofs.store.Store.take_slot.Goals as goal

@@ -1,6 +1,6 @@
 use Rattle.std.proofs.Common.{ℕ, List, get_or, None, length, sym, ap, ◌∙◌, arith}
 use Rattle.std.proofs.lemmas.Option.{none-some}
-use Rattle.dm_pool.specs.Order.{Layout}
+use Rattle.dm_pool.specs.inner.Order.{Layout}
 use Rattle.dm_pool.proofs.table.Table.nth.Goals as goal
 
 -- an order has live blocks alone

@@ -1,6 +1,6 @@
 use Rattle.std.proofs.Common.{◌≡◌, ◌+◌, ◌≤◌, true, sym, subst}
 use Rattle.dm_pool.specs.Gaps.{is_clear}
-use Rattle.dm_pool.specs.Order.{Layout}
+use Rattle.dm_pool.specs.inner.Order.{Layout}
 use Rattle.dm_pool.proofs.Layouts.{come_laid}
 use Rattle.dm_pool.proofs.table.Table.put.Goals as goal
 

@@ -1,5 +1,5 @@
 use Rattle.std.proofs.Common.{subst}
-use Rattle.dm_pool.specs.Order.{IsTable}
+use Rattle.dm_pool.specs.inner.Order.{IsTable}
 use Rattle.dm_pool.proofs.table.Table.recall.Goals as goal
 
 pub returns : goal.returns

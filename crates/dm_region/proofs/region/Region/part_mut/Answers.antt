@@ -1,7 +1,7 @@
 use Rattle.std.proofs.Common.{◌∙◌, sym, ap, refl, arith, length}
 use Rattle.std.specs.List.{refill}
 use Rattle.dm_region.specs.Parts.{part, with_part}
-use Rattle.dm_region.specs.Places.{somes}
+use Rattle.dm_region.specs.inner.Places.{somes}
 use Rattle.dm_region.proofs.Places.{same_values}
 use Rattle.dm_region.proofs.Bytes.{count, run, left, left_length, full_of}
 use Rattle.dm_region.proofs.region.Region.part_mut.Goals as goal

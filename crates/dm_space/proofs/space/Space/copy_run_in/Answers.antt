@@ -5,7 +5,8 @@ use Rattle.dm_pool.specs.Stored.{Stored, refit}
 use Rattle.dm_pool.proofs.Blocks.{part_length, refilled}
 use Rattle.dm_space.specs.declared.place.Place.TheVariants.{Low, Page, Rom, Nothing}
 use Rattle.dm_space.specs.Copies.{values, copied_in}
-use Rattle.dm_space.specs.Memory.{Held, held, place, page_bytes}
+use Rattle.dm_space.specs.Memory.{Held, place, page_bytes}
+use Rattle.dm_space.specs.inner.Memory.{held}
 use Rattle.dm_space.specs.Rom.{rom}
 use Rattle.dm_space.proofs.Copies.{low-fits, page-fits, rom-fits, all-there, in-run}
 use Rattle.dm_space.proofs.Keeping.{held_scratch}

@@ -6,7 +6,8 @@ use Rattle.dm_pool.proofs.Blocks.{part_length}
 use Rattle.dm_space.specs.declared.place.Place.{Place}
 use Rattle.dm_space.specs.declared.place.Place.TheVariants.{Low, Page, Rom, Nothing}
 use Rattle.dm_space.specs.Copies.{copied_out}
-use Rattle.dm_space.specs.Memory.{Held, IsHeld, held, place, page_bytes}
+use Rattle.dm_space.specs.Memory.{Held, IsHeld, place, page_bytes}
+use Rattle.dm_space.specs.inner.Memory.{held}
 use Rattle.dm_space.proofs.Copies.{low-fits, page-fits, all-there, out-run}
 use Rattle.dm_space.proofs.Keeping.{held_low, held_content}
 use Rattle.dm_space.proofs.space.Space.copy_run_out.Goals as goal

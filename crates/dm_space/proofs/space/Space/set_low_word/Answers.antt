@@ -2,7 +2,8 @@ use Rattle.std.proofs.Common.{◌≡◌, ◌+◌, ◌*◌, ◌/◌, ◌%◌, Lis
 use Rattle.std.proofs.lemmas.List.{length-set}
 use Rattle.dm_pool.specs.Stored.{refit}
 use Rattle.dm_pool.proofs.Blocks.{refilled}
-use Rattle.dm_space.specs.Memory.{Memory, Held, poke16, held}
+use Rattle.dm_space.specs.Memory.{Memory, Held, poke16}
+use Rattle.dm_space.specs.inner.Memory.{held}
 use Rattle.dm_space.proofs.Reading.{word_poked}
 use Rattle.dm_space.proofs.space.Space.set_low_word.Goals as goal
 

@@ -1,5 +1,5 @@
 use Rattle.std.proofs.Common.{sym, subst}
-use Rattle.dm_xms.specs.Tables.{Rise}
+use Rattle.dm_xms.specs.inner.Tables.{Rise}
 use Rattle.dm_xms.proofs.Rising.{rise_gone}
 use Rattle.dm_xms.proofs.tables.Xms.release_upper.Goals as goal
 

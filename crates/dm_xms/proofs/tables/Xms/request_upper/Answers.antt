@@ -2,8 +2,9 @@ use Rattle.std.proofs.Common.{◌≡◌, ◌<◌, ◌+◌, ◌∙◌, sym, subst
 use Rattle.std.proofs.lemmas.Option.{none-some, same_Some}
 use Rattle.std.specs.Prelude.{insert, count_by}
 use Rattle.dm_xms.specs.declared.tables.Upper.{Upper}
-use Rattle.dm_xms.specs.Tables.{Tables, Rise}
-use Rattle.dm_xms.specs.Walks.{segment_of}
+use Rattle.dm_xms.specs.Tables.{Tables}
+use Rattle.dm_xms.specs.inner.Tables.{Rise}
+use Rattle.dm_xms.specs.inner.Walks.{segment_of}
 use Rattle.dm_xms.specs.Uppers.{is_below, lowest_upper, inserted}
 use Rattle.dm_xms.proofs.Rising.{rise_new}
 use Rattle.dm_xms.proofs.tables.Xms.request_upper.Goals as goal

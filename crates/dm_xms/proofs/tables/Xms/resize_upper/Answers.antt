@@ -1,6 +1,7 @@
 use Rattle.std.proofs.Common.{◌≤◌, ◌+◌, ◌-◌, ◌∙◌, sym, subst, ap, arith}
 use Rattle.std.specs.Prelude.{position, slice_get}
-use Rattle.dm_xms.specs.Tables.{Tables, Rise}
+use Rattle.dm_xms.specs.Tables.{Tables}
+use Rattle.dm_xms.specs.inner.Tables.{Rise}
 use Rattle.dm_xms.specs.Uppers.{begins_at, begin_or_end}
 use Rattle.dm_xms.proofs.Rising.{room_behind, rise_sized}
 use Rattle.dm_xms.proofs.tables.Xms.resize_upper.Goals as goal

@@ -10,15 +10,16 @@ use Rattle.dm_blocks.specs.Chain.{DiffersInHeaders, HasHeader, IsArena, IsClear,
 use Rattle.dm_arena.specs.declared.fit.Strategy.{Strategy}
 use Rattle.dm_arena.specs.declared.fit.Spoken.{Spoken}
 use Rattle.dm_arena.specs.declared.fit.Choice.{Choice}
-use Rattle.dm_arena.specs.Blocks.{cut, cut_list, fits, join, join_after, largest, prefers, taken}
+use Rattle.dm_arena.specs.Blocks.{cut, fits, join, join_after, largest, prefers, taken}
+use Rattle.dm_arena.specs.inner.Blocks.{cut_list}
 use Rattle.dm_arena.specs.declared.fit.Fit.{Fit}
 use Rattle.dm_arena.specs.declared.fit.Fit.TheVariants.{Best, First, Last}
 use Rattle.dm_blocks.specs.Reading.{IsFoundAt, IsSpelledFrom, is_nil}
 use Rattle.dm_arena.specs.Owned.{AllFree, IsNoBlock, absorb, is_link_block, released}
 use Rattle.dm_arena.specs.declared.allocation.Plan.{Plan}
 use Rattle.dm_arena.specs.Allocation.{Taking, changed}
-use Rattle.dm_blocks.specs.Standing.{Occupies}
-use Rattle.dm_arena.specs.Standing.{OccupiesOutside}
+use Rattle.dm_blocks.specs.inner.Standing.{Occupies}
+use Rattle.dm_arena.specs.inner.Standing.{OccupiesOutside}
 
 -- T is S with the header b written
 pub record IsHeaderWritten (S : Memory) (b : Header) (signature : ℕ) (T : Memory) : Type 0 where

@@ -6,8 +6,8 @@ use Rattle.dm_space.specs.Memory.{Memory, place}
 use Rattle.dm_blocks.specs.declared.header.Header.{Header}
 use Rattle.dm_blocks.specs.Chain.{HasHeader, IsArena, first_header}
 use Rattle.dm_blocks.specs.Listing.{IsBehind, Leads, Walking, start_of}
-use Rattle.dm_blocks.specs.Reading.{IsCursor}
-use Rattle.dm_blocks.specs.Standing.{MayStand}
+use Rattle.dm_blocks.specs.inner.Reading.{IsCursor}
+use Rattle.dm_blocks.specs.inner.Standing.{MayStand}
 
 -- a window that shows this, or nothing, shows the block
 abbrev pub is_shown : Option ℕ → ℕ → Bool

@@ -13,7 +13,7 @@ use Rattle.dm_asm.specs.Programs.{Sized, Laid, total, most, labels_of}
 use Rattle.dm_asm.specs.Labels.{Label, find}
 use Rattle.dm_asm.specs.Codes.{Codes, Knows}
 use Rattle.dm_asm.specs.declared.known.Known.{Known}
-use Rattle.dm_asm.specs.Fixed.{AreKnown}
+use Rattle.dm_asm.specs.inner.Fixed.{AreKnown}
 
 -- the map has each name's first place in the list
 abbrev pub AreKept : Labels → List Label → Type 0

@@ -32,7 +32,7 @@ use Rattle.dm_ins.specs.Table.{entry_of, member_of}
 use Rattle.dm_ins.specs.Spelling.{word, extended}
 use Rattle.dm_ins.specs.Order.{before}
 use Rattle.dm_ins.specs.Walks.{◌>>=◌}
-use Rattle.dm_ins.specs.Keys.{keyed, key_at}
+use Rattle.dm_ins.specs.inner.Keys.{keyed, key_at}
 
 -- the r/m field of an address (6 for a direct one)
 abbrev pub rm_of : Base → ℕ

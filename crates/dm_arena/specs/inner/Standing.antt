@@ -4,7 +4,7 @@ use Rattle.dm_space.specs.declared.place.Place.{Place}
 use Rattle.dm_space.specs.Memory.{Memory, place}
 use Rattle.dm_blocks.specs.declared.header.Header.{Header}
 use Rattle.dm_blocks.specs.Chain.{HasHeader}
-use Rattle.dm_blocks.specs.Standing.{MayStand}
+use Rattle.dm_blocks.specs.inner.Standing.{MayStand}
 
 -- the same of the new header of a cut, if there is one
 abbrev pub MaySplit : Memory → List Header → Option Header → Type 0

@@ -1,6 +1,6 @@
 -- What holds of the parts of a region, and the bytes that it has.
 use Rattle.std.specs.Prelude.{◌≡◌, ℕ, ◌^◌, ◌<◌, List, map, length, Some}
-use Rattle.dm_region.specs.Places.{somes}
+use Rattle.dm_region.specs.inner.Places.{somes}
 use Rattle.dm_region.specs.declared.region.Region.TheInside.{Inside}
 
 -- every place holds a byte, and the block is the one that was allocated

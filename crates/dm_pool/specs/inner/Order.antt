@@ -2,7 +2,8 @@
 use Rattle.std.specs.Prelude.{ℕ, ◌+◌, ◌*◌, ◌^◌, ◌<◌, ◌≤◌, ◌≡◌, Bool, false, List, length, get_or, nat_lt, count_by, replicate, [], Option, Some, None}
 use Rattle.dm_pool.specs.declared.places.Place.{Place}
 use Rattle.dm_pool.specs.Blocks.{Blocks, Apart, contents_of}
-use Rattle.dm_pool.specs.FreeList.{AreBased, Tells}
+use Rattle.dm_pool.specs.FreeList.{AreBased}
+use Rattle.dm_pool.specs.inner.FreeList.{Tells}
 
 -- where blocks lie by their numbers, the numbers of those that have units as they lie, and where the first free run is
 pub record Layout : Type 0 where

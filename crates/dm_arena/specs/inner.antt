@@ -1,0 +1,5 @@
+-- Definitions that private contracts and proofs alone name.
+pub mod Blocks
+pub mod Pair
+pub mod Standing
+pub mod Walks

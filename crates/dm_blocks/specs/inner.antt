@@ -1,0 +1,5 @@
+-- Definitions that private contracts and proofs alone name.
+pub mod Marks
+pub mod Reading
+pub mod Standing
+pub mod Telling

@@ -1,0 +1,7 @@
+-- For private contracts and proofs alone: beside specs/Debugged.antt.
+use Rattle.dm_state.specs.State.{HasProgram}
+use Rattle.dm_debug.specs.Debugged.{Debugged}
+
+-- a program is loaded
+abbrev pub IsDebugged : Debugged → Type 0
+IsDebugged s = HasProgram s.machine

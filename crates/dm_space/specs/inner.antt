@@ -1,0 +1,5 @@
+-- Definitions that private contracts and proofs alone name.
+pub mod EightBytes
+pub mod Memory
+pub mod Places
+pub mod Runs

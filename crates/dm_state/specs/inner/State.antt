@@ -1,0 +1,10 @@
+-- For private contracts and proofs alone: beside specs/State.antt.
+use Rattle.std.specs.Prelude.{◌-◌, ◌<◌, All, List, ◌≡◌, ◌⊎◌, ◌+◌, ◌^◌}
+use Rattle.dm_xms.specs.Tables as xms
+use Rattle.dm_xms.specs.Linked as extended_memory
+use Rattle.dm_cpu.specs.Stack as stack
+use Rattle.dm_proc.specs.declared.parent.Parent.{Parent}
+
+-- each process that waits for a child has a program segment prefix
+abbrev pub HaveSegments : List Parent → Type 0
+HaveSegments parents = All (λ p. 0 < p.segment) parents

@@ -1,0 +1,4 @@
+-- Definitions that private contracts and proofs alone name.
+pub mod Sides
+pub mod Tables
+pub mod Walks
