@@ -216,6 +216,12 @@ class Specs:
                 if path in self.definitions:
                     found.append(path)
                     break
+        # (what stands between operands: a step `x ← e` is `>>=`)
+        between = {f"◌{word}◌" for word in text.split()} | ({"◌>>=◌"} if "←" in text else set())
+        for name in between:
+            path = type_path(imports[name].split(".")) if name in imports else f"{crate}.{module}.{name}"
+            if path in self.definitions:
+                found.append(path)
         return list(dict.fromkeys(found))
 
     def paths(self, crate, module, imports, word):

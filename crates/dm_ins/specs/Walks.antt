@@ -1,5 +1,4 @@
--- Only for searches and walks, as Search.antt has them, and no part of what is promised: steps that may give nothing,
--- one after the other, for `do`.
+-- Steps that may give nothing, one after the other, for `do`.
 use Rattle.std.specs.Prelude.{Option, Some, None}
 
 infixl 10 ◌>>=◌
