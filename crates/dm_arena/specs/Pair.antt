@@ -12,8 +12,9 @@ use Rattle.dm_arena.specs.Allocation.{Taking, changed}
 
 -- the block that the strategy takes for the environment; then, of the list in which it is taken, the block for the
 -- program, which has the smaller of `most` paragraphs and the largest free block, and at least `least`. The program's
--- segment owns both. Each block is looked for by the strategy that is in effect in the list from which it is taken: where
--- the first block makes the link block's header, the strategy's area counts for the second block, though not for the first
+-- segment owns both. Each block is looked for by the strategy that is in effect in the list from which it is taken:
+-- where the first block makes the link block's header, the strategy's area counts for the second block, though not for
+-- the first
 pub record Pairing (upper : Bool) (S : Memory) (start : ℕ) (strategy : Strategy) (environment least most owner size : ℕ) : Type 0 where
   pub first : Taking upper S start strategy environment
   pub before : List Header
