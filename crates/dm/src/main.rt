@@ -20,7 +20,7 @@ fn call<S: AsStr>(rt: &HostRuntime, words: &[S]) -> ExitCode
 {
     ExitCode::from(dm_main(
         rt.alloc(),
-        &mut System(rt),
+        &mut System::new(rt),
         words,
         rt.reader(),
         &mut Sink::new(io::writer(rt)),

@@ -1,5 +1,5 @@
 -- The faults that keep a machine from its start.
-use Rattle.std.proofs.Common.{◌≡◌, ◌⊎◌, inl, inr, ◌<◌, ◌∷◌, [], ℕ, List, Option, Some, None, Err, IsSomeAnd, refl, length, map}
+use Rattle.std.proofs.Common.{◌≡◌, ◌↔◌, inl, inr, ◌∷◌, [], ℕ, List, Option, Some, None, Ok, Err, IsSomeAnd, refl, map}
 use Rattle.std.proofs.lemmas.Option.{none-some}
 use Rattle.std.specs.List.{slice_get}
 use Rattle.std.specs.Option.{ok_or}
@@ -9,12 +9,14 @@ use Rattle.dm_machine.specs.declared.loading.LoadError.{LoadError}
 use Rattle.dm_machine.specs.declared.loading.LoadError.TheVariants as load
 use Rattle.dm_machine.specs.Start.{IsBadProgram, HasNoRoom}
 use Rattle.dm_options.specs.declared.command_line.MachineOptions.{MachineOptions}
+use Rattle.dm_pool.specs.declared.sizes.Sizes.{Sizes}
 use Rattle.dm_pool.specs.Stored.{IsTooLarge}
 use Rattle.dm_proc.specs.Programs.{IsName, program_of}
 use Rattle.dm_state.specs.State.{State}
 use Rattle.dm_cli.specs.declared.fault.Fault.{Fault}
 use Rattle.dm_cli.specs.declared.fault.Fault.TheVariants as fault
-use Rattle.dm_cli.specs.Faults.{IsUnread, new_fault, load_fault}
+use Rattle.dm_cli.specs.Faults.{new_fault, load_fault}
+use Rattle.dm_cli.specs.Names.{IsNameFault, last_part}
 use Rattle.dm_cli.specs.Stores.{IsInputFault, bytes_if_any}
 use Rattle.dm_cli.specs.Starting.{IsLoadFault, IsMachineFault, sizes_of, too_large, no_memory}
 
@@ -23,32 +25,36 @@ pub new_refused : (e : NewError) (store : List (List ℕ × List ℕ)) (input : 
 new_refused new.TooLarge store input o h = too_large (h refl)
 new_refused new.Memory store input o h = no_memory
 
+-- a machine of these sizes was made
+pub not_too_large : {A : Type 0} (m : A) (sizes : Sizes) → (Ok m ≡ Err new.TooLarge) ↔ IsTooLarge sizes → ¬ IsTooLarge sizes
+not_too_large m sizes h large = let e = h.1 large in cc
+
 -- there is no first one of some paths
 pub none_first : {A : Type 0} (f : A → List ℕ) (xs : List A) → None ≡ slice_get xs 0 → map f xs ≡ []
 none_first f [] h = refl
 none_first f (x ∷ xs) h = absurd (none-some x h)
 
 -- the first program's name is none that a file of a store has
-pub bad_name : (e : Fault) (path name : List ℕ) (fresh : State) → IsUnread path e ⊎ ((e ≡ fault.NameTooLong) × (64 < length name)) → ¬ IsName name → IsLoadFault fresh name e
-bad_name fault.NotFound path name fresh (inl h) none = absurd h
-bad_name fault.NotFound path name fresh (inr h) none = absurd (let e = h.0 in cc)
-bad_name fault.BadFormat path name fresh (inl h) none = absurd h
-bad_name fault.BadFormat path name fresh (inr h) none = absurd (let e = h.0 in cc)
-bad_name fault.Short path name fresh (inl h) none = absurd h
-bad_name fault.Short path name fresh (inr h) none = absurd (let e = h.0 in cc)
-bad_name (fault.CannotRead n) path name fresh h none = none
-bad_name (fault.CannotWrite n) path name fresh h none = none
-bad_name fault.TooLarge path name fresh h none = none
-bad_name fault.TailTooLong path name fresh h none = none
-bad_name fault.NameTooLong path name fresh h none = none
-bad_name fault.NameTwice path name fresh h none = none
-bad_name fault.InputTooLong path name fresh h none = none
-bad_name fault.TooLong path name fresh h none = none
-bad_name (fault.Syntax n) path name fresh h none = none
-bad_name (fault.Unknown n) path name fresh h none = none
-bad_name (fault.Range n) path name fresh h none = none
-bad_name (fault.Twice n) path name fresh h none = none
-bad_name fault.OutOfMemory path name fresh h none = none
+pub bad_name : (e : Fault) (path : List ℕ) (fresh : State) → IsNameFault path e → ¬ IsName (last_part path) → IsLoadFault fresh (last_part path) e
+bad_name fault.NotFound path fresh (inl h) none = absurd h.0
+bad_name fault.NotFound path fresh (inr h) none = absurd (let e = h.0 in cc)
+bad_name fault.BadFormat path fresh (inl h) none = absurd h.0
+bad_name fault.BadFormat path fresh (inr h) none = absurd (let e = h.0 in cc)
+bad_name fault.Short path fresh (inl h) none = absurd h.0
+bad_name fault.Short path fresh (inr h) none = absurd (let e = h.0 in cc)
+bad_name (fault.CannotRead n) path fresh h none = none
+bad_name (fault.CannotWrite n) path fresh h none = none
+bad_name fault.TooLarge path fresh h none = none
+bad_name fault.TailTooLong path fresh h none = none
+bad_name fault.NameTooLong path fresh h none = none
+bad_name fault.NameTwice path fresh h none = none
+bad_name fault.InputTooLong path fresh h none = none
+bad_name fault.TooLong path fresh h none = none
+bad_name (fault.Syntax n) path fresh h none = none
+bad_name (fault.Unknown n) path fresh h none = none
+bad_name (fault.Range n) path fresh h none = none
+bad_name (fault.Twice n) path fresh h none = none
+bad_name fault.OutOfMemory path fresh h none = none
 
 -- the first program was refused
 pub load_refused : (e : LoadError) (fresh : State) (name : List ℕ) → (e ≡ load.NotFound → program_of fresh.programs name ≡ None) → (e ≡ load.BadFormat → IsBadProgram fresh name)

@@ -219,10 +219,10 @@ module _ {n left : ℕ} {s t : Debugged} {known before rest after : Option (List
       concludes spoken (line ++ behind_of rest rest') (take part.0 text) u (Some fault) false after' failures going (whole_read rest rest' line reads.consumes)
       (unwritten left t u (line ++ behind_of rest rest') text part.0 fault (not_empty line _ some) (rw (first.0) fits) (rw (first.0) other) (rw (first.0) tells) part.1 is) part.2
       (λ e. failed)
-  unanswered spoken line u rest' after' fault reads some fits other (unflushed text f tells all is) =
+  unanswered spoken line u rest' after' fault reads some fits other (unflushed text f tells all failed is) =
       let first = first_read rest rest' line reads in
-      concludes spoken (line ++ behind_of rest rest') text u (Some fault) true after' failures going (whole_read rest rest' line reads.consumes)
-      (not_handed_on left t u (line ++ behind_of rest rest') text fault (not_empty line _ some) (rw (first.0) fits) (rw (first.0) other) (rw (first.0) tells) is) all never
+      concludes spoken (line ++ behind_of rest rest') text u (Some fault) false after' failures going (whole_read rest rest' line reads.consumes)
+      (not_handed_on left t u (line ++ behind_of rest rest') text fault (not_empty line _ some) (rw (first.0) fits) (rw (first.0) other) (rw (first.0) tells) is) all (λ e. failed)
 
   -- ---- as the loop has them
 

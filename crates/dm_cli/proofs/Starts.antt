@@ -1,5 +1,5 @@
 -- The faults of one file, and the first of some files.
-use Rattle.std.proofs.Common.{◌≡◌, ◌⊎◌, inl, inr, ◌<◌, ◌∷◌, [], ℕ, List, Option, Some, None, ap, sym, subst, refl, length, map, take, drop, get_or, ◌+◌, ◌++◌, ◌∙◌, suc, true, take-append-drop, drop-cons}
+use Rattle.std.proofs.Common.{◌≡◌, inl, inr, ◌<◌, ◌∷◌, [], ℕ, List, Option, Some, None, ap, sym, subst, refl, length, map, take, drop, get_or, ◌+◌, ◌++◌, ◌∙◌, suc, true, take-append-drop, drop-cons}
 use Rattle.std.proofs.lemmas.List.{map-append, map_more}
 use Rattle.std.proofs.lemmas.Option.{none-some}
 use Rattle.std.specs.List.{slice_get}
@@ -7,17 +7,16 @@ use Rattle.dm_proc.specs.declared.programs.AddError.{AddError}
 use Rattle.dm_proc.specs.declared.programs.AddError.TheVariants as add
 use Rattle.dm_proc.specs.Programs.{IsName, has_name}
 use Rattle.dm_cli.specs.declared.fault.Fault.{Fault}
-use Rattle.dm_cli.specs.declared.fault.Fault.TheVariants.{NameTooLong}
-use Rattle.dm_cli.specs.Faults.{IsUnread, add_fault}
+use Rattle.dm_cli.specs.Faults.{add_fault}
 use Rattle.dm_cli.specs.Starting.{IsFileFault}
-use Rattle.dm_cli.specs.Names.{last_part}
+use Rattle.dm_cli.specs.Names.{IsNameFault, last_part}
 use Rattle.dm_cli.specs.Stores.{IsRead, IsFaultOf, not_read, long_name, twice, no_memory, AddsFile, Stores, more}
 
 -- a fault of a name
 pub fault_of_name : (e : Fault) (known : Option (List ℕ)) (store : List (List ℕ × List ℕ)) (path bytes : List ℕ) → IsRead known bytes
-    → IsUnread path e ⊎ ((e ≡ NameTooLong) × (64 < length (last_part path))) → IsFaultOf known store path e
-fault_of_name e k s p b r (inl h) = not_read e (inl h)
-fault_of_name e k s p b r (inr h) = subst (IsFaultOf k s p) (sym h.0) (long_name b r h.1)
+    → IsNameFault path e → IsFaultOf known store path e
+fault_of_name e k s p b r (inl h) = not_read e (inl h.0)
+fault_of_name e k s p b r (inr h) = subst (IsFaultOf k s p) (sym h.0) (long_name b r h.2)
 
 -- a refusal of the store
 pub fault_of_store : (r : AddError) (known : Option (List ℕ)) (store : List (List ℕ × List ℕ)) (path bytes name : List ℕ) → IsRead known bytes

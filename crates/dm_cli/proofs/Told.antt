@@ -1,11 +1,12 @@
 -- What is written for one line.
-use Rattle.std.proofs.Common.{◌<◌, inl, inr, ◌≡◌, ℕ, Bool, true, false, List, Option, sym, subst, refl, arith}
+use Rattle.std.proofs.Common.{◌+◌, ◌<◌, min, inl, inr, ◌≡◌, ℕ, Bool, true, false, List, Option, sym, subst, refl, arith}
 use Rattle.std.proofs.KnownBytes.{Appends-kept, Keeps-refl}
+use Rattle.std.proofs.lemmas.Grind.{common_steps}
 use Rattle.std.specs.Io.KnownBytes.{Appends, Keeps}
 use Rattle.dm_command.specs.Commands.{command_of}
 use Rattle.dm_debug.specs.Debugged.{Debugged}
 use Rattle.dm_debug.specs.Sessions.{IsAnswered, IsCutOff, IsPartlyWritten, is_syntax, is_full}
-use Rattle.dm_out.specs.Out.{AppendsPart, HasFailed}
+use Rattle.dm_out.specs.Out.{AppendsPart, HasFailed, most_failures}
 use Rattle.dm_cli.specs.declared.fault.Fault.{Fault}
 use Rattle.dm_cli.specs.declared.fault.Fault.TheVariants.{OutOfMemory}
 use Rattle.dm_cli.specs.Faults.{IsWriteFault}
@@ -24,7 +25,11 @@ told_command s t line a b no_syntax no_full h = record {
   written = h.written;
 }
 
--- a write has failed
+-- a call has failed: the count after it says so
+pub has_risen : (old new : ℕ) → new ≡ min (old + 1) most_failures → HasFailed old new
+has_risen old new is = grind (arith, common_steps, is)
+
+-- a call has failed at some time
 pub ever_failed : (old new : ℕ) → HasFailed old new → 0 < new
 ever_failed old new (inl h) = omega (arith, h)
 ever_failed old new (inr h) = omega (arith, h)
@@ -48,9 +53,9 @@ part_of_refusal s t line text a b c failures fault tells same kept h =
     partly text fault (subst (λ u. Tells s line u text) (sym same) tells) (subst (λ o. AppendsPart o c text) kept h.1) h.2 h.0
 
 -- an answer that was written, and then not handed on
-pub not_flushed : (s t : Debugged) (line : List ℕ) (a b c : Option (List ℕ)) (failures : ℕ) (fault : Fault) → IsAnsweredBy s line t a b → Keeps b c → IsWriteFault fault
-    → IsUnanswered s line t a c failures fault
-not_flushed s t line a b c failures fault h kept is = unflushed h.text fault h.tells (Appends-kept a b c h.text h.written kept) is
+pub not_flushed : (s t : Debugged) (line : List ℕ) (a b c : Option (List ℕ)) (failures : ℕ) (fault : Fault) → IsAnsweredBy s line t a b → Keeps b c → 0 < failures
+    → IsWriteFault fault → IsUnanswered s line t a c failures fault
+not_flushed s t line a b c failures fault h kept failed is = unflushed h.text fault h.tells (Appends-kept a b c h.text h.written kept) failed is
 
 pub handed_on : (s t : Debugged) (line : List ℕ) (a b c : Option (List ℕ)) → IsAnsweredBy s line t a b → Keeps b c → IsAnsweredBy s line t a c
 handed_on s t line a b c h kept = record { text = h.text; tells = h.tells; written = Appends-kept a b c h.text h.written kept }

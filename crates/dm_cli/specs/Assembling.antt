@@ -5,7 +5,7 @@ use Rattle.dm_asm.specs.declared.refusal.Refusal.{Refusal}
 use Rattle.dm_asm.specs.Programs.{Refuses}
 use Rattle.dm_asm.specs.Programs as asm
 use Rattle.dm_options.specs.declared.command_line.AsmOptions.{AsmOptions}
-use Rattle.dm_out.specs.Out.{AppendsPart}
+use Rattle.dm_out.specs.Out.{AppendsPart, HasFailed}
 use Rattle.dm_cli.specs.declared.fault.Fault.{Fault}
 use Rattle.dm_cli.specs.declared.fault.Fault.TheVariants.{OutOfMemory, TooLong}
 use Rattle.dm_cli.specs.Faults.{IsUnwritten, IsWriteFault, refusal_fault}
@@ -32,12 +32,15 @@ pub data IsAsmFault (known : Option (List ℕ)) (path : List ℕ) : Fault → Ty
   text_refused : (text : List ℕ) (why : Refusal) → IsRead known text → Refuses text why → IsAsmFault known path (refusal_fault why)
   text_no_memory : IsAsmFault known path OutOfMemory
 
--- `dm asm`: the bytes of the text are written to a file; or they can't be written, or the text has a fault, and then no file was written
-pub data Assembles (files : List ℕ → Option (List ℕ)) (o : AsmOptions) (before after : Option (List (List ℕ × List ℕ))) : Option Fault → Type 0 where
-  saved : (bytes : List ℕ) → IsAssembled (files o.input.now) bytes → Saves before after o.output.now bytes → Assembles files o before after None
+-- `dm asm`: the bytes of the text are written to a file; or that failed, as the counts of failed saves before and after tell; or the text has a fault.
+-- In the last two no file was written
+pub data Assembles (files : List ℕ → Option (List ℕ)) (o : AsmOptions) (before after : Option (List (List ℕ × List ℕ))) (failed_before failed_after : ℕ) : Option Fault → Type 0 where
+  saved : (bytes : List ℕ) → IsAssembled (files o.input.now) bytes → Saves before after o.output.now bytes
+      → Assembles files o before after failed_before failed_after None
   unsaved : (bytes : List ℕ) (fault : Fault) → IsAssembled (files o.input.now) bytes → IsUnwritten o.output.now fault ⊎ (fault ≡ OutOfMemory)
-      → after ≡ before → Assembles files o before after (Some fault)
-  not_assembled : (fault : Fault) → IsAsmFault (files o.input.now) o.input.now fault → after ≡ before → Assembles files o before after (Some fault)
+      → HasFailed failed_before failed_after → after ≡ before → Assembles files o before after failed_before failed_after (Some fault)
+  not_assembled : (fault : Fault) → IsAsmFault (files o.input.now) o.input.now fault → after ≡ before
+      → Assembles files o before after failed_before failed_after (Some fault)
 
 -- the fault of bytes that have no lines: they can't be read, they are too many, or memory was refused
 pub data IsDisasmFault (known : Option (List ℕ)) (path : List ℕ) : Fault → Type 0 where

@@ -40,17 +40,17 @@ pub record IsAnsweredBy (s : Debugged) (line : List ℕ) (t : Debugged) (before 
   pub written : Appends before after text
 
 -- it was not: memory for its answer was refused, and nothing was written; or a first part of its answer was written, and a write failed; or all of it,
--- and it could not be handed on
+-- and the flush that hands it on failed
 pub data IsUnanswered (s : Debugged) (line : List ℕ) (t : Debugged) (before after : Option (List ℕ)) (failures : ℕ) : Fault → Type 0 where
   cut_short : IsCutOff s line t → Keeps before after → IsUnanswered s line t before after failures OutOfMemory
   partly : (text : List ℕ) (fault : Fault) → Tells s line t text → AppendsPart before after text → 0 < failures → IsWriteFault fault → IsUnanswered s line t before after failures fault
-  unflushed : (text : List ℕ) (fault : Fault) → Tells s line t text → Appends before after text → IsWriteFault fault → IsUnanswered s line t before after failures fault
+  unflushed : (text : List ℕ) (fault : Fault) → Tells s line t text → Appends before after text → 0 < failures → IsWriteFault fault → IsUnanswered s line t before after failures fault
 
 -- ---- the lines of a text
 
 -- The lines of a text are answered one after the other, up to its end or a line that ends the session: what is written, the session after that,
--- the fault that ends them before, if one does, and whether what is written is whole answers. A line ends with 0Ah, or with the text; the lines may
--- have n bytes in all, their ends among them.
+-- the fault that ends them before, if one does, and whether each answer that is begun is written whole and handed on. A line ends with 0Ah, or with
+-- the text; the lines may have n bytes in all, their ends among them.
 pub data Converses : ℕ → Debugged → List ℕ → List ℕ → Debugged → Option Fault → Bool → Type 0 where
   ended : (n : ℕ) (s : Debugged) → Converses n s [] [] s None true
   quits : (n : ℕ) (s : Debugged) (text : List ℕ) → length (take_through 10 text) ≤ n → IsQuit (first_piece 10 text) → Converses n s text [] s None true
@@ -66,9 +66,10 @@ pub data Converses : ℕ → Debugged → List ℕ → List ℕ → Debugged →
       → ¬ IsQuit (first_piece 10 text) → Tells s (first_piece 10 text) t told → k ≤ length told → IsWriteFault fault
       → Converses n s text (take k told) t (Some fault) false
   not_handed_on : (n : ℕ) (s t : Debugged) (text told : List ℕ) (fault : Fault) → text ≢ [] → length (take_through 10 text) ≤ n
-      → ¬ IsQuit (first_piece 10 text) → Tells s (first_piece 10 text) t told → IsWriteFault fault → Converses n s text told t (Some fault) true
+      → ¬ IsQuit (first_piece 10 text) → Tells s (first_piece 10 text) t told → IsWriteFault fault → Converses n s text told t (Some fault) false
 
--- the lines of a reader, whose bytes are known or not, and what was appended to a writer: less than whole answers only where a write failed
+-- the lines of a reader, whose bytes are known or not, and what was appended to a writer: an answer is cut or not handed on only where a write or a
+-- flush failed
 pub record IsConversation (n : ℕ) (known : Option (List ℕ)) (s t : Debugged) (before after : Option (List ℕ)) (failures : ℕ) (end : Option Fault) : Type 0 where
   pub text : List ℕ
   pub told : List ℕ

@@ -33,19 +33,21 @@ pub data Runs (files : List ℕ → Option (List ℕ)) (typed : Option (List ℕ
 
 -- ---- the program
 
--- the bytes of files by their paths and of standard input, what stands on standard output before, and which files were written before: each where
--- it is known
+-- the bytes of files by their paths and of standard input, what stands on standard output before, and which files were written before, each where
+-- it is known; and how many files could not be written before
 pub record Given : Type 0 where
   pub files : List ℕ → Option (List ℕ)
   pub typed : Option (List ℕ)
   pub output : Option (List ℕ)
   pub saved : Option (List (List ℕ × List ℕ))
+  pub failed_saves : ℕ
 
--- what is there afterwards, how many writes to standard output have failed, and the exit status
+-- what is there afterwards, how many writes and flushes of standard output and how many saves of files have failed, and the exit status
 pub record Left : Type 0 where
   pub output : Option (List ℕ)
   pub failures : ℕ
   pub saved : Option (List (List ℕ × List ℕ))
+  pub failed_saves : ℕ
   pub status : ℕ
 
 -- the words are a right command line, and these are its options
@@ -61,7 +63,7 @@ pub data Does (g : Given) (words : List Text) (l : Left) : Type 0 where
       → l.saved ≡ g.saved → l.status ≡ status_of outcome → Does g words l
   debugs : (o : DebugOptions) (end : Option Fault) → Asks words (command.Debug o) → Debugs g.files g.typed o g.output l.output l.failures end
       → l.saved ≡ g.saved → l.status ≡ status_after end → Does g words l
-  assembles : (o : AsmOptions) (end : Option Fault) → Asks words (command.Asm o) → Assembles g.files o g.saved l.saved end
+  assembles : (o : AsmOptions) (end : Option Fault) → Asks words (command.Asm o) → Assembles g.files o g.saved l.saved g.failed_saves l.failed_saves end
       → Keeps g.output l.output → l.status ≡ status_after end → Does g words l
   disassembles : (path : Bor (List ℕ)) (end : Option Fault) → Asks words (command.Disasm path) → Disassembles g.files path.now g.output l.output l.failures end
       → l.saved ≡ g.saved → l.status ≡ status_after end → Does g words l

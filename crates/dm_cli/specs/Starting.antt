@@ -39,10 +39,11 @@ IsLoadFault fresh name _ = ¬ IsName name
 -- can't be loaded
 pub data IsMachineFault (store : List (List ℕ × List ℕ)) (input : List ℕ) (o : MachineOptions) : Fault → Type 0 where
   too_large : IsTooLarge (sizes_of o) → IsMachineFault store input o TooLarge
-  long_tail : (fresh : State) → IsNew (sizes_of o) [] o.upper store input fresh → 126 < length o.tail.now → IsMachineFault store input o TailTooLong
-  no_file : (fresh : State) → IsNew (sizes_of o) [] o.upper store input fresh → length o.tail.now ≤ 126 → paths_of o ≡ [] → IsMachineFault store input o NotFound
-  not_loaded : (fresh : State) (first : List ℕ) (others : List (List ℕ)) (fault : Fault) → IsNew (sizes_of o) [] o.upper store input fresh → length o.tail.now ≤ 126
-      → paths_of o ≡ first ∷ others → IsLoadFault fresh (last_part first) fault → IsMachineFault store input o fault
+  long_tail : (fresh : State) → ¬ IsTooLarge (sizes_of o) → IsNew (sizes_of o) [] o.upper store input fresh → 126 < length o.tail.now → IsMachineFault store input o TailTooLong
+  no_file : (fresh : State) → ¬ IsTooLarge (sizes_of o) → IsNew (sizes_of o) [] o.upper store input fresh → length o.tail.now ≤ 126 → paths_of o ≡ []
+      → IsMachineFault store input o NotFound
+  not_loaded : (fresh : State) (first : List ℕ) (others : List (List ℕ)) (fault : Fault) → ¬ IsTooLarge (sizes_of o) → IsNew (sizes_of o) [] o.upper store input fresh
+      → length o.tail.now ≤ 126 → paths_of o ≡ first ∷ others → IsLoadFault fresh (last_part first) fault → IsMachineFault store input o fault
   no_memory : IsMachineFault store input o OutOfMemory
 
 -- the first fault of some files, in their order

@@ -53,7 +53,7 @@ pub(crate) fn asm<'a, F: Storage>(
     storage: &mut F,
     options: &AsmOptions<'a>,
 ) -> Result<(), Fault<'a>>
-    ensures { Assembles (F.contents storage.old) options.now (F.saved storage.old) (F.saved storage.new) (end_of result) }
+    ensures { Assembles (F.contents storage.old) options.now (F.saved storage.old) (F.saved storage.new) (F.failures storage.old) (F.failures storage.new) (end_of result) }
 {
     let bytes = assembled(alloc, storage, options.input)?;
     match storage.save(options.output, bytes.as_slice()) {

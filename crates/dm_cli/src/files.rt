@@ -1,5 +1,6 @@
-//! Reading whole files and standard input.
+//! Reading whole files and standard input, and writing whole files.
 ghost use Rattle.std.specs.Prelude.{◌≡◌, ◌⊎◌, ℕ, List, Option, Some, None, IfErr, IfOk, IfSome, OnErr, OnOk};
+ghost use Rattle.dm_out.specs.Out.{count_after_call};
 ghost use Rattle.dm_cli.specs.Saving.{Saves};
 ghost use Rattle.dm_cli.specs.Faults.{IsUnread, IsUnwritten};
 ghost use Rattle.dm_cli.specs.Stores.{IsInputFault, IsRead};
@@ -7,6 +8,7 @@ ghost use Rattle.dm_cli.specs.Stores.{IsInputFault, IsRead};
 use crate::fault::Fault;
 use std::alloc::Global;
 use std::io::Read;
+use std::marker::Model;
 use std::rt::Files;
 use std::{fs, io};
 
@@ -14,6 +16,8 @@ use std::{fs, io};
 pub(crate) const MOST_BYTES: usize = 16 * 1024 * 1024;
 
 /// Where files are opened and written by their paths.
+///
+/// It counts the saves that failed; at 2^64 - 1 the count stays.
 pub trait Storage {
     /// An open file.
     type File: Read + Drop;
@@ -24,29 +28,59 @@ pub trait Storage {
     // The files that were written, by their paths, in their order, where the storage can tell them.
     ghost saved: { Self → Option (List (List ℕ × List ℕ)) } = { λ _. None };
 
+    // How many saves failed.
+    ghost failures: { Self → ℕ };
+
     /// Writes a file whole, in the place of what it held.
     fn save(&mut self, path: &str, bytes: &[u8]) -> io::Result<()>
         ensures saved { OnOk result (Saves (saved self.old) (saved self.new) path.now bytes.now) }
-        ensures refused { OnErr result (saved self.new ≡ saved self.old) };
+        ensures refused { OnErr result (saved self.new ≡ saved self.old) }
+        ensures failures { failures self.new ≡ count_after_call (failures self.old) result };
 
     /// Opens a file for reading.
     fn open(&self, path: &str) -> io::Result<Self::File>
         ensures contents { IfOk result (λ file. IfSome (contents self.now path.now) (λ xs. Self.File.remaining file ≡ Some xs)) };
 }
 
-/// The files of the system.
+/// The files of the system, together with the count of the saves that failed.
+///
+/// A contract sees the count.
 #[derive(Drop)]
-pub struct System<'a, R>(pub &'a R);
+pub struct System<'a, R> {
+    runtime: &'a R,
+    count: u64,
+}
+
+impl<'a, R> Model for System<'a, R> {
+    ghost Value = { ℕ };
+
+    ghost view = { λ s. s.count };
+}
+
+impl<'a, R> System<'a, R> {
+    /// The files of the system that `runtime` stands for, with no failed save counted.
+    pub fn new(runtime: &'a R) -> System<'a, R>
+        ensures { result ≡ 0 }
+    {
+        System { runtime, count: 0 }
+    }
+}
 
 impl<R: Files> Storage for System<'_, R> {
     type File = R::File;
 
+    ghost failures = { λ s. s };
+
     fn save(&mut self, path: &str, bytes: &[u8]) -> io::Result<()> {
-        fs::write(self.0, path, bytes)
+        let outcome = fs::write(self.runtime, path, bytes);
+        if outcome.is_err() {
+            self.count = self.count.saturating_add(1);
+        }
+        outcome
     }
 
     fn open(&self, path: &str) -> io::Result<R::File> {
-        fs::open(self.0, path)
+        fs::open(self.runtime, path)
     }
 }
 

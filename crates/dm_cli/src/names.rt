@@ -1,8 +1,7 @@
 //! The names of programs in the store.
-ghost use Rattle.std.specs.Prelude.{◌≡◌, ◌<◌, ◌↔◌, ◌⊎◌, IsOk, IfErr, IfOk, IsTrue, length};
+ghost use Rattle.std.specs.Prelude.{◌≡◌, ◌↔◌, IsOk, IfErr, IfOk, IsTrue};
 ghost use Rattle.dm_proc.specs.Programs.{IsName};
-ghost use Rattle.dm_cli.specs.Faults.{IsUnread};
-ghost use Rattle.dm_cli.specs.Names.{IsFileName, last_part};
+ghost use Rattle.dm_cli.specs.Names.{IsFileName, IsNameFault, last_part};
 
 use crate::fault::Fault;
 
@@ -37,7 +36,7 @@ pub(crate) fn names_file(path: &str) -> bool
 pub(crate) fn program_name<'a>(path: &'a str) -> Result<&'a [u8], Fault<'a>>
     ensures name { IfOk result (λ name. (name.now ≡ last_part path.now) × IsName name.now) }
     ensures good { IsName (last_part path.now) → IsOk result }
-    ensures fault { IfErr result (λ e. IsUnread path.now e ⊎ ((e ≡ Fault.NameTooLong) × (64 < length (last_part path.now)))) }
+    ensures fault { IfErr result (IsNameFault path.now) }
 {
     if !names_file(path) {
         return Err(Fault::CannotRead(path));

@@ -1,9 +1,9 @@
--- What a writer took, and how many of its writes failed.
+-- What a writer took, and how many of its writes and flushes failed.
 use Rattle.std.specs.Prelude.{◌≡◌, ℕ, ◌+◌, ◌-◌, ◌^◌, ◌≤◌, ◌<◌, ◌==◌, ◌&&◌, ◌⊎◌, Bool, true, not}
 use Rattle.std.specs.Prelude.{List, Option, Result, Ok, Err, length, take, min, if◌then◌else◌}
 use Rattle.std.specs.Io.KnownBytes.{Appends}
 
--- at this number the count of failed writes stays
+-- at this number the count of failures stays
 abbrev pub most_failures : ℕ
 most_failures = 2 ^ 64 - 1
 
@@ -16,7 +16,12 @@ abbrev pub count_after : {E : Type 0} → ℕ → List ℕ → Result ℕ E → 
 count_after count bytes r =
     if not (length bytes == 0) && took_nothing r then min (count + 1) most_failures else count
 
--- a write failed or took nothing: the count rose or stands at its end
+-- the count after a call that either succeeds or fails, as a flush does: it rises where the call failed
+abbrev pub count_after_call : {A E : Type 0} → ℕ → Result A E → ℕ
+count_after_call count (Ok x) = count
+count_after_call count (Err e) = min (count + 1) most_failures
+
+-- a call failed, or a write took nothing: the count rose or stands at its end
 abbrev pub HasFailed : ℕ → ℕ → Type 0
 HasFailed before after = (before < after) ⊎ (after ≡ most_failures)
 
@@ -24,7 +29,8 @@ HasFailed before after = (before < after) ⊎ (after ≡ most_failures)
 abbrev pub AppendsPart : Option (List ℕ) → Option (List ℕ) → List ℕ → Type 0
 AppendsPart old new bytes = (k : ℕ) × (k ≤ length bytes) × Appends old new (take k bytes)
 
--- a writer as contracts see it: the bytes that it holds, where they are known, and how many writes failed or took nothing
+-- a writer as contracts see it: the bytes that it holds, where they are known, and how many of its writes and flushes failed, a write that took nothing
+-- among them
 pub record Written : Type 0 where
   pub bytes : Option (List ℕ)
   pub failures : ℕ

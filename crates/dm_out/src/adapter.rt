@@ -6,7 +6,7 @@ use crate::writer::{Failed, Out};
 use std::io;
 use std::marker::Model;
 
-/// A standard writer together with the count of its writes that failed or took nothing.
+/// A standard writer together with the count of its writes that failed or took nothing and of its flushes that failed.
 ///
 /// A contract sees the bytes that the writer holds, where its type knows them, and the count.
 #[derive(Drop)]
@@ -22,14 +22,14 @@ impl<W: io::Write + Drop> Model for Sink<W> {
 }
 
 impl<W: io::Write + Drop> Sink<W> {
-    /// Starts over `writer` with no failed write counted.
+    /// Starts over `writer` with no failure counted.
     pub fn new(writer: W) -> Sink<W>
         ensures { result ≡ record { bytes = W.contents writer; failures = 0 } }
     {
         Sink { writer, count: 0 }
     }
 
-    /// Counts one more failed write, unless the count stands at 2^64 - 1.
+    /// Counts one more failure, unless the count stands at 2^64 - 1.
     fn fail(&mut self)
         ensures { self.new ≡ record self.old { failures = min (self.old.failures + 1) most_failures } }
     {
@@ -60,11 +60,14 @@ impl<W: io::Write + Drop> Out for Sink<W> {
         }
     }
 
-    /// One flush of the standard writer. Any of its errors is `Failed`, and is not counted.
+    /// One flush of the standard writer. Any of its errors is `Failed`, and is counted.
     fn flush(&mut self) -> Result<(), Failed> {
         match self.writer.flush() {
             Ok(()) => Ok(()),
-            Err(_) => Err(Failed),
+            Err(_) => {
+                self.fail();
+                Err(Failed)
+            }
         }
     }
 }

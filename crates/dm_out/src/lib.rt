@@ -1,4 +1,4 @@
-//! Writers of which a contract knows the bytes taken and the writes that failed.
+//! Writers of which a contract knows the bytes taken and the writes and flushes that failed.
 #![tactic(auto)]
 
 pub mod adapter;

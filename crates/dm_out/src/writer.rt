@@ -1,23 +1,23 @@
 //! What output is written to: the shape of the standard `Write`, with the bytes taken and the failures counted.
 ghost use Rattle.std.specs.Prelude.{◌≡◌, ℕ, List, [], ◌≤◌, ◌<◌, Option, IsOk, IfOk, OnOk, OnErr, length, take};
 ghost use Rattle.std.specs.Io.KnownBytes.{Appends, Keeps, WriteAppends};
-ghost use Rattle.dm_out.specs.Out.{AppendsPart, HasFailed, count_after};
+ghost use Rattle.dm_out.specs.Out.{AppendsPart, HasFailed, count_after, count_after_call};
 
 use thiserror::Error;
 
-/// A write failed, or took nothing of what it was offered.
+/// A write or a flush failed, or a write took nothing of what it was offered.
 #[derive(Clone, Copy, Debug, PartialEq, Eq, Error)]
 #[error("a write failed")]
 pub struct Failed;
 
 /// A writer that takes some first part of the bytes that each write offers, as the standard `Write` does.
 ///
-/// It counts the writes of at least one byte that failed or took nothing; at 2^64 - 1 the count stays.
+/// It counts the writes of at least one byte that failed or took nothing, and the flushes that failed; at 2^64 - 1 the count stays.
 pub trait Out {
     // The bytes taken so far, where the type knows them.
     ghost taken: { Self → Option (List ℕ) };
 
-    // How many writes of at least one byte failed or took nothing.
+    // How many writes of at least one byte failed or took nothing, and how many flushes failed.
     ghost failures: { Self → ℕ };
 
     /// Offers `bytes`, and answers how many of them, counted from the first, were taken. After an error none were.
@@ -29,7 +29,7 @@ pub trait Out {
     /// Hands on what the writer holds back, so that whoever waits for it has it.
     fn flush(&mut self) -> Result<(), Failed>
         ensures bytes { Keeps (taken self.old) (taken self.new) }
-        ensures failures { failures self.new ≡ failures self.old };
+        ensures failures { failures self.new ≡ count_after_call (failures self.old) result };
 }
 
 /// Writes all of `bytes`, by as many writes as it takes. An empty text makes no write.

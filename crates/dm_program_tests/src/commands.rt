@@ -1,6 +1,6 @@
 //! The program `dm` over files, readers and writers in memory: what each line writes and tells, and its status.
 use crate::checks::same_of;
-use crate::files::{Slow, Source, failing, filled, just, new_files};
+use crate::files::{Ending, Slow, Source, failing, filled, just, new_files};
 use dm_cli::{Sink, dm_main};
 use std::alloc::Global;
 use std::io::ErrorKind;
@@ -240,6 +240,21 @@ fn tells_faults_of_the_input(rt: HostRuntime) -> Result<(), Fail> {
     }
     let most = filled(b"", MOST);
     tells(&rt, rt.alloc(), most, ("dm run hi.com", 0, b"", b"hi", ""))
+}
+
+/// One byte more than there may be is read, and no more: a further read would fail.
+#[test]
+fn long_input_is_read_one_byte_too_far(rt: HostRuntime) -> Result<(), Fail> {
+    let beyond = Source {
+        bytes: b"",
+        zeros: MOST + 1,
+        ending: Ending::Fault(ErrorKind::BrokenPipe),
+    };
+    for line in ["dm run hi.com", "dm debug hi.com"] {
+        let row: Row = (line, 126, b"", b"", "dm: input too long\n");
+        tells(&rt, rt.alloc(), beyond, row)?;
+    }
+    Ok(())
 }
 
 /// The lines before the read that fails are answered, and a line that was cut is none.

@@ -69,6 +69,8 @@ pub(crate) struct Files<'a> {
     pub(crate) refused: &'a [(&'a str, ErrorKind)],
     /// The path of the file that was written, a space, and its bytes.
     pub(crate) saved: Vec<u8>,
+    /// How many files were not written.
+    pub(crate) failures: u64,
 }
 
 /// Files of which none was written yet.
@@ -81,6 +83,7 @@ pub(crate) fn new_files<'a>(
         known,
         refused,
         saved: Vec::new(alloc),
+        failures: 0,
     }
 }
 
@@ -94,17 +97,28 @@ fn refusal(refused: &[(&str, ErrorKind)], path: &str) -> Option<ErrorKind> {
     None
 }
 
+/// Writes down a path, a space, and bytes.
+fn note(saved: &mut Vec<u8>, path: &str, bytes: &[u8]) -> io::Result<()> {
+    saved.extend_from_slice(path.as_bytes())?;
+    saved.push(b' ')?;
+    saved.extend_from_slice(bytes)?;
+    Ok(())
+}
+
 impl<'a> Storage for Files<'a> {
     type File = Source<'a>;
 
+    ghost failures = { λ f. f.failures };
+
     fn save(&mut self, path: &str, bytes: &[u8]) -> io::Result<()> {
-        if let Some(kind) = refusal(self.refused, path) {
-            return Err(io::Error::from(kind));
+        let outcome = match refusal(self.refused, path) {
+            Some(kind) => Err(io::Error::from(kind)),
+            None => note(&mut self.saved, path, bytes),
+        };
+        if outcome.is_err() {
+            self.failures = self.failures.saturating_add(1);
         }
-        self.saved.extend_from_slice(path.as_bytes())?;
-        self.saved.push(b' ')?;
-        self.saved.extend_from_slice(bytes)?;
-        Ok(())
+        outcome
     }
 
     fn open(&self, path: &str) -> io::Result<Source<'a>> {
