@@ -15,8 +15,9 @@ use Rattle.dm_proc.specs.Programs.{IsName, program_of}
 use Rattle.dm_state.specs.State.{State}
 use Rattle.dm_cli.specs.declared.fault.Fault.{Fault}
 use Rattle.dm_cli.specs.declared.fault.Fault.TheVariants as fault
-use Rattle.dm_cli.specs.Faults.{new_fault, load_fault}
-use Rattle.dm_cli.specs.Names.{IsNameFault, last_part}
+use Rattle.dm_cli.specs.inner.Faults.{new_fault, load_fault}
+use Rattle.dm_cli.specs.Names.{last_part}
+use Rattle.dm_cli.specs.inner.Names.{IsNameFault}
 use Rattle.dm_cli.specs.Stores.{IsInputFault, bytes_if_any}
 use Rattle.dm_cli.specs.Starting.{IsLoadFault, IsMachineFault, sizes_of, too_large, no_memory}
 

@@ -8,7 +8,8 @@ use Rattle.dm_debug.specs.Debugged.{Debugged}
 use Rattle.dm_cli.specs.declared.fault.Fault.{Fault}
 use Rattle.dm_cli.specs.declared.fault.Fault.TheVariants.{InputTooLong, OutOfMemory}
 use Rattle.dm_cli.specs.Faults.{IsReadFault}
-use Rattle.dm_cli.specs.Debugging.{Converses, IsAnsweredBy, IsConversation, IsQuit, IsUnanswered, Reads, Tells, cut_short, partly, unflushed, ended, quits, answers, too_long, unread, no_memory, cut_off, unwritten, not_handed_on}
+use Rattle.dm_cli.specs.Debugging.{Converses, IsConversation, IsQuit, Tells, ended, quits, answers, too_long, unread, no_memory, cut_off, unwritten, not_handed_on}
+use Rattle.dm_cli.specs.inner.Debugging.{IsAnsweredBy, IsUnanswered, Reads, cut_short, partly, unflushed}
 use Rattle.dm_cli.proofs.Lines.{first_ended, first_last, first_long, last_of_all}
 
 -- what a reader has left, where that is known

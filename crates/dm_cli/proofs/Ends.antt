@@ -15,7 +15,7 @@ use Rattle.dm_cli.specs.declared.fault.Fault.{Fault}
 use Rattle.dm_cli.specs.Assembling.{IsAsmFault, text_refused, text_no_memory}
 use Rattle.dm_cli.specs.Debugging.{Converses, IsConversation, ended, quits, answers, too_long, unread, no_memory, cut_off, unwritten, not_handed_on}
 use Rattle.dm_cli.specs.Faults.{refusal_fault}
-use Rattle.dm_cli.specs.Statuses.{end_of}
+use Rattle.dm_cli.specs.inner.Statuses.{end_of}
 use Rattle.dm_cli.specs.Stores.{IsRead}
 use Rattle.dm_cli.proofs.Lines.{first_cut, first_cut_short}
 

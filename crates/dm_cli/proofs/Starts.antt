@@ -7,9 +7,10 @@ use Rattle.dm_proc.specs.declared.programs.AddError.{AddError}
 use Rattle.dm_proc.specs.declared.programs.AddError.TheVariants as add
 use Rattle.dm_proc.specs.Programs.{IsName, has_name}
 use Rattle.dm_cli.specs.declared.fault.Fault.{Fault}
-use Rattle.dm_cli.specs.Faults.{add_fault}
+use Rattle.dm_cli.specs.inner.Faults.{add_fault}
 use Rattle.dm_cli.specs.Starting.{IsFileFault}
-use Rattle.dm_cli.specs.Names.{IsNameFault, last_part}
+use Rattle.dm_cli.specs.Names.{last_part}
+use Rattle.dm_cli.specs.inner.Names.{IsNameFault}
 use Rattle.dm_cli.specs.Stores.{IsRead, IsFaultOf, not_read, long_name, twice, no_memory, AddsFile, Stores, more}
 
 -- a fault of a name

@@ -10,7 +10,8 @@ use Rattle.dm_out.specs.Out.{AppendsPart, HasFailed, most_failures}
 use Rattle.dm_cli.specs.declared.fault.Fault.{Fault}
 use Rattle.dm_cli.specs.declared.fault.Fault.TheVariants.{OutOfMemory}
 use Rattle.dm_cli.specs.Faults.{IsWriteFault}
-use Rattle.dm_cli.specs.Debugging.{IsAnsweredBy, IsUnanswered, Tells, answered, cut_short, partly, unflushed}
+use Rattle.dm_cli.specs.Debugging.{Tells, answered}
+use Rattle.dm_cli.specs.inner.Debugging.{IsAnsweredBy, IsUnanswered, cut_short, partly, unflushed}
 
 not_true : (b : Bool) → ¬ (b ≡ true) → b ≡ false
 not_true true h = absurd (h refl)

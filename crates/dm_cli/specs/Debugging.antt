@@ -1,25 +1,17 @@
 -- What `dm debug` does with the lines of its standard input.
-use Rattle.std.specs.Prelude.{Bool, ℕ, ◌≡◌, ◌≢◌, ◌-◌, ◌<◌, ◌≤◌, ◌++◌, ◌⊎◌, true, false, List, [], ◌∷◌, Option, Some, None, IfSome, OnSome, option_map, codes, length, take}
-use Rattle.std.specs.Io.{StopsAt}
-use Rattle.std.specs.Io.BufRead.{take_through, drop_through, ends_with_byte, first_piece}
-use Rattle.std.specs.Io.KnownBytes.{Appends, Consumes, IsAtEnd, Keeps}
+use Rattle.std.specs.Prelude.{Bool, ℕ, ◌≡◌, ◌≢◌, ◌-◌, ◌<◌, ◌≤◌, ◌++◌, ◌⊎◌, true, false, List, [], ◌∷◌, Option, Some, None, IfSome, option_map, codes, length, take}
+use Rattle.std.specs.Io.BufRead.{take_through, drop_through, first_piece}
+use Rattle.std.specs.Io.KnownBytes.{Appends, Keeps}
 use Rattle.dm_command.specs.declared.command.Command.{Command}
 use Rattle.dm_command.specs.Commands.{command_of}
 use Rattle.dm_debug.specs.Debugged.{Debugged}
 use Rattle.dm_debug.specs.Sessions.{Does, IsCutOff, is_syntax, is_full, new_session}
 use Rattle.dm_options.specs.declared.command_line.DebugOptions.{DebugOptions}
 use Rattle.dm_state.specs.State.{State}
-use Rattle.dm_out.specs.Out.{AppendsPart}
 use Rattle.dm_cli.specs.Faults.{IsReadFault, IsWriteFault}
 use Rattle.dm_cli.specs.Starting.{IsStartedBy, IsStartFault, typed_in}
 use Rattle.dm_cli.specs.declared.fault.Fault.{Fault}
 use Rattle.dm_cli.specs.declared.fault.Fault.TheVariants.{InputTooLong, OutOfMemory}
-
--- a reader gave the next line: bytes of which none but the last is a line end, and that one is unless nothing is left, where that is known
-pub record Reads (before after : Option (List ℕ)) (line : List ℕ) : Type 0 where
-  pub consumes : Consumes before after line
-  pub stops : StopsAt line 10
-  pub last : ends_with_byte 10 line ≡ false → OnSome before (IsAtEnd after)
 
 -- ---- one line
 
@@ -32,19 +24,6 @@ pub data Tells (s : Debugged) (line : List ℕ) : Debugged → List ℕ → Type
   answered : (command : Command) (t : Debugged) (text : List ℕ) → command_of line ≡ Some command → is_syntax s (Some command) ≡ false → is_full s (Some command) ≡ false → Does s command text t → Tells s line t text
   no_command : is_syntax s (command_of line) ≡ true → Tells s line s (codes "? syntax" ++ 10 ∷ [])
   no_room : is_full s (command_of line) ≡ true → Tells s line s (codes "? full" ++ 10 ∷ [])
-
--- the line was answered
-pub record IsAnsweredBy (s : Debugged) (line : List ℕ) (t : Debugged) (before after : Option (List ℕ)) : Type 0 where
-  pub text : List ℕ
-  pub tells : Tells s line t text
-  pub written : Appends before after text
-
--- it was not: memory for its answer was refused, and nothing was written; or a first part of its answer was written, and a write failed; or all of it,
--- and the flush that hands it on failed
-pub data IsUnanswered (s : Debugged) (line : List ℕ) (t : Debugged) (before after : Option (List ℕ)) (failures : ℕ) : Fault → Type 0 where
-  cut_short : IsCutOff s line t → Keeps before after → IsUnanswered s line t before after failures OutOfMemory
-  partly : (text : List ℕ) (fault : Fault) → Tells s line t text → AppendsPart before after text → 0 < failures → IsWriteFault fault → IsUnanswered s line t before after failures fault
-  unflushed : (text : List ℕ) (fault : Fault) → Tells s line t text → Appends before after text → 0 < failures → IsWriteFault fault → IsUnanswered s line t before after failures fault
 
 -- ---- the lines of a text
 

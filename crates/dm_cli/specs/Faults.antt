@@ -1,29 +1,12 @@
 -- The faults of commands: those that a refusal of the machine or of the assembler becomes, and those of files and streams by their names.
 use Rattle.std.specs.Prelude.{ℕ, ◌≡◌, List, codes}
-use Rattle.dm_proc.specs.declared.programs.AddError.{AddError}
 use Rattle.dm_proc.specs.declared.programs.AddError.TheVariants as add
-use Rattle.dm_machine.specs.declared.machine.NewError.{NewError}
 use Rattle.dm_machine.specs.declared.machine.NewError.TheVariants as new
-use Rattle.dm_machine.specs.declared.loading.LoadError.{LoadError}
 use Rattle.dm_machine.specs.declared.loading.LoadError.TheVariants as load
 use Rattle.dm_asm.specs.declared.refusal.Refusal.{Refusal}
 use Rattle.dm_asm.specs.declared.refusal.Refusal.TheVariants as refusal
 use Rattle.dm_cli.specs.declared.fault.Fault.{Fault}
 use Rattle.dm_cli.specs.declared.fault.Fault.TheVariants as fault
-
--- the fault that tells a refusal of the store, of the machine's start, of loading and of the assembler
-abbrev pub add_fault : AddError → Fault
-add_fault add.Twice = fault.NameTwice
-add_fault add.Memory = fault.OutOfMemory
-
-abbrev pub new_fault : NewError → Fault
-new_fault new.TooLarge = fault.TooLarge
-new_fault new.Memory = fault.OutOfMemory
-
-abbrev pub load_fault : LoadError → Fault
-load_fault load.NotFound = fault.NotFound
-load_fault load.BadFormat = fault.BadFormat
-load_fault load.Short = fault.Short
 
 abbrev pub refusal_fault : Refusal → Fault
 refusal_fault (refusal.Syntax line) = fault.Syntax line

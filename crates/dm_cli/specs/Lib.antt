@@ -7,3 +7,4 @@ pub mod Starting
 pub mod Assembling
 pub mod Debugging
 pub mod Program
+pub mod inner

@@ -1,10 +1,6 @@
 -- The files that a program wrote.
 use Rattle.std.specs.Prelude.{ℕ, ◌≡◌, ◌++◌, List, [], ◌∷◌, Option, Some, IfSome}
 
--- files by their paths, with their bytes, in the order in which they were written
-abbrev pub Saved : Type 0
-Saved = List (List ℕ × List ℕ)
-
 -- one file more was written, where it is known which were
 abbrev pub Saves : Option (List (List ℕ × List ℕ)) → Option (List (List ℕ × List ℕ)) → List ℕ → List ℕ → Type 0
 Saves before after path bytes = IfSome before (λ files. after ≡ Some (files ++ (path, bytes) ∷ []))

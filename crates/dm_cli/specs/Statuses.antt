@@ -13,8 +13,3 @@ status_of (Err _) = 126
 abbrev pub status_after : {E : Type 0} → Option E → ℕ
 status_after None = 0
 status_after (Some _) = 126
-
--- the fault of an outcome, if it is one
-abbrev pub end_of : {A E : Type 0} → Result A E → Option E
-end_of (Ok _) = None
-end_of (Err fault) = Some fault

@@ -1,7 +1,7 @@
 //! `dm asm` and `dm disasm`: a file's text to bytes, and a file's bytes to text.
 ghost use Rattle.std.specs.Prelude.{◌≡◌, IfErr, IfOk};
 ghost use Rattle.dm_cli.specs.Assembling.{Assembles, Disassembles, IsAsmFault, IsAssembled, IsDisasmFault, IsDisassembled};
-ghost use Rattle.dm_cli.specs.Statuses.{end_of};
+ghost use Rattle.dm_cli.specs.inner.Statuses.{end_of};
 
 use crate::fault::Fault;
 use crate::files::{Storage, read_file, write_fault};

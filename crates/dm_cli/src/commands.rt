@@ -1,7 +1,8 @@
 //! The commands of `dm`, with their fault texts and statuses.
 ghost use Rattle.std.specs.Prelude.{◌≡◌, ◌⊎◌, map};
 ghost use Rattle.dm_cli.specs.Program.{Does, Runs};
-ghost use Rattle.dm_cli.specs.Statuses.{end_of, status_after, status_of};
+ghost use Rattle.dm_cli.specs.Statuses.{status_after, status_of};
+ghost use Rattle.dm_cli.specs.inner.Statuses.{end_of};
 
 use crate::assembling::{asm, disasm};
 use crate::debugging::debug;

@@ -3,8 +3,9 @@ ghost use Rattle.std.specs.Prelude.{◌≡◌, ◌<◌, ◌≤◌, ◌⊎◌, �
 ghost use Rattle.std.specs.Io.BufRead.{ends_with_byte, strip_last};
 ghost use Rattle.std.specs.Io.KnownBytes.{Appends};
 ghost use Rattle.dm_out.specs.Out.{AppendsPart};
-ghost use Rattle.dm_cli.specs.Statuses.{end_of};
-ghost use Rattle.dm_cli.specs.Debugging.{Debugs, IsAnsweredBy, IsConversation, IsQuit, IsUnanswered, Reads};
+ghost use Rattle.dm_cli.specs.inner.Statuses.{end_of};
+ghost use Rattle.dm_cli.specs.Debugging.{Debugs, IsConversation, IsQuit};
+ghost use Rattle.dm_cli.specs.inner.Debugging.{IsAnsweredBy, IsUnanswered, Reads};
 ghost use Rattle.dm_cli.specs.Faults.{IsReadFault, IsWriteFault};
 
 use crate::fault::Fault;

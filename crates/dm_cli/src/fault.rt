@@ -60,7 +60,7 @@ impl From<Refusal> for Fault<'_> {
 }
 
 impl From<AddError> for Fault<'_> {
-    ghost use Rattle.dm_cli.specs.Faults.{add_fault};
+    ghost use Rattle.dm_cli.specs.inner.Faults.{add_fault};
 
     ghost from_gives = { λ error fault. fault ≡ add_fault error };
 
@@ -73,7 +73,7 @@ impl From<AddError> for Fault<'_> {
 }
 
 impl From<NewError> for Fault<'_> {
-    ghost use Rattle.dm_cli.specs.Faults.{new_fault};
+    ghost use Rattle.dm_cli.specs.inner.Faults.{new_fault};
 
     ghost from_gives = { λ error fault. fault ≡ new_fault error };
 
@@ -86,7 +86,7 @@ impl From<NewError> for Fault<'_> {
 }
 
 impl From<LoadError> for Fault<'_> {
-    ghost use Rattle.dm_cli.specs.Faults.{load_fault};
+    ghost use Rattle.dm_cli.specs.inner.Faults.{load_fault};
 
     ghost from_gives = { λ error fault. fault ≡ load_fault error };
 
