@@ -53,6 +53,10 @@ class Definition:
         """Its lines, with those of its comment."""
         return len(self.lines) + len(self.comment)
 
+    def meaning(self):
+        """Its comment, or else those of its fields."""
+        return self.comment or [f"{line.strip()[3:]};" for line in self.lines if line.startswith("  -- ")]
+
 
 class Contract:
     """What the clauses of a function say."""
@@ -88,11 +92,14 @@ class Specs:
         end = next((at for at, line in enumerate(lines) if not line.startswith("--")), len(lines))
         self.heads[path] = [line[2:].strip() for line in lines[:end]]
         self.files[path] = found = []
-        imports, comment, current = {}, [], None
+        imports, comment, current, is_inside = {}, [], None, False
         for number, line in enumerate(lines[end:], end + 1):
             used, begun = USE.match(line), BEGINS.match(line)
             if used:
                 imports.update(imported(used))
+            elif line.startswith("  -- ") and is_inside:
+                # (of a field)
+                current.lines.append(line)
             elif line.lstrip().startswith("-- "):
                 comment.append(line.strip()[3:])
             elif begun:
@@ -105,6 +112,7 @@ class Specs:
                 comment = []
             elif current and not line.startswith("module "):
                 current.lines.append(line)
+            is_inside = bool(current and line.strip() and not line.startswith("module ") and not (used or comment))
         for it in found:
             while it.lines and not it.lines[-1].strip():
                 it.lines.pop()
@@ -125,7 +133,7 @@ class Specs:
         exported = exports(crate)
         module = os.path.relpath(path, f"crates/{crate}/src")[: -len(".rt")].replace("/", ".")
         lines = text_of(path).split("\n")
-        whole, inner, block, trait, function, docs = {}, {}, None, None, None, []
+        whole, inner, block, trait, function, docs, is_open = {}, {}, None, None, None, [], False
         for number, line in enumerate(lines, 1):
             used, begun, impl, kind = USE.match(line), FUNCTION.match(line), BLOCK.match(line), TYPE.match(line)
             if line.startswith("}"):
@@ -156,6 +164,11 @@ class Specs:
                 function.types = [block[2]] if block else []
             elif CLAUSE.match(line) and function:
                 function.clauses.append(line.strip())
+                is_open = line.count("{") > line.count("}")
+            elif is_open and function:
+                # (a clause of several lines)
+                function.clauses[-1] += " " + line.strip()
+                is_open = function.clauses[-1].count("{") > function.clauses[-1].count("}")
             elif block and block[1] == "Model" and line.strip().startswith("ghost Value"):
                 self.read_value(crate, path, block[2], line, whole, inner)
             docs = docs + [line.strip()] if line.strip().startswith("///") else docs if line.strip().startswith("#[") else []
