@@ -13,10 +13,11 @@ with_ax s ax = record s { cpu = record s.cpu { ax = ax } }
 unfoldable pub bad_handle : State → Answer
 bad_handle s = go (with_carry (returned (with_ax s 6)) true)
 
--- the bytes go to DS:DX and upwards, AX is their count, CF = 0
+-- the bytes stand at DS:DX and upwards
 abbrev pub with_read : State → List ℕ → State
 with_read s bytes = record s { memory = with_bytes s.memory s.cpu.ds s.cpu.dx bytes }
 
+-- the same, they are taken from the input, AX is their count, CF = 0
 abbrev pub read_from_console : State → List ℕ → Answer
 read_from_console s bytes =
     go (with_carry (returned (with_ax (with_input (with_read s bytes) (drop (length bytes) s.console.input)) (length bytes))) false)

@@ -23,18 +23,19 @@ all_free x = free_units (gaps x.memory.blocks.places x.memory.blocks.units)
 unfoldable pub free_memory : Extended → Result FreeMemory Status
 free_memory x = if largest_gap x == 0 then Err NoMemory else Ok (record { largest = min 0xFFFF (largest_gap x); total = min 0xFFFF (all_free x) })
 
--- refused for an unknown handle, then for a lock
+-- other tables, and other blocks in memory
 abbrev pub leaving : Extended → Tables → Blocks → Extended
 leaving x xms blocks = record { xms = xms; memory = with_blocks x.memory blocks }
 
--- a new block of zeros in the lowest gap that holds it, under the lowest handle that is not in use; one of 0 KiB needs no gap
+-- a new block of zeros in the lowest gap that holds it, under the lowest handle that is not in use; one of 0 KiB needs no gap.
+-- Refused for no handle, then for no memory
 unfoldable pub allocate : Extended → ℕ → Result (ℕ × Extended) Status
 allocate x kib =
     need (position is_none x.xms.handles) NoHandleLeft (λ k.
     need (taken x.memory.blocks kib) NoMemory (λ new.
     Ok (k + 1, leaving x (with_slot x.xms (k + 1) (Some (record { block = new.0; kib = kib; locks = 0 }))) new.1)))
 
--- refused for no handle, then for no memory. A block goes
+-- a block is given back, and its handle with it. Refused for an unknown handle, then for a lock
 unfoldable pub deallocate : Extended → ℕ → Result (Unit {0} × Extended) Status
 deallocate x handle =
     need (slot x.xms handle) UnknownHandle (λ s.
@@ -57,6 +58,7 @@ lock x handle =
     if s.locks == 255 then Err TooManyLocks else
     Ok (address x.memory s.block, record x { xms = with_slot x.xms handle (Some (record s { locks = s.locks + 1 })) }))
 
+-- one lock less; refused where there is none
 unfoldable pub unlock : Tables → ℕ → Result (Unit {0} × Tables) Status
 unlock xms handle =
     need (slot xms handle) UnknownHandle (λ s.
