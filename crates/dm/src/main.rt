@@ -13,8 +13,8 @@ use std::{env, io};
 
 /// Hands the words, the files and the standard streams to the library, and returns its status.
 ///
-/// What the operating system gives and takes is not known to a contract: that of `dm_main` says more, over files, readers and writers whose bytes
-/// are known.
+/// What the operating system gives and takes is not known to a contract: that of `dm_main` says more, over files,
+/// readers and writers whose bytes are known.
 fn call<S: AsStr>(rt: &HostRuntime, words: &[S]) -> ExitCode
     ensures { EndsWith (map S.text words.now) (exit_status result) }
 {
@@ -24,7 +24,7 @@ fn call<S: AsStr>(rt: &HostRuntime, words: &[S]) -> ExitCode
         words,
         rt.reader(),
         &mut Sink::new(io::writer(rt)),
-        &mut rt.stderr().lock(),
+        &mut Sink::new(rt.stderr().lock()),
     ))
 }
 
@@ -41,6 +41,9 @@ fn main(rt: HostRuntime) -> ExitCode {
             ExitCode::from(126)
         }
         // A word is not UTF-8.
-        Err(_) => ExitCode::from(refuse_words(rt.alloc(), &mut rt.stderr().lock())),
+        Err(_) => {
+            let mut error = Sink::new(rt.stderr().lock());
+            ExitCode::from(refuse_words(rt.alloc(), &mut error))
+        }
     }
 }

@@ -6,5 +6,7 @@ pub mod Saving
 pub mod Starting
 pub mod Assembling
 pub mod Debugging
+pub mod Messages
+pub mod Checking
 pub mod Program
 pub mod inner

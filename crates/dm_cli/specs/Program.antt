@@ -1,5 +1,5 @@
 -- What `dm` does for the words of its command line, from their reading to its exit status.
-use Rattle.std.specs.Prelude.{ℕ, ◌≡◌, ◌≢◌, ◌<◌, List, [], Option, Some, IsSomeAnd, Result, Ok, Err, codes}
+use Rattle.std.specs.Prelude.{ℕ, ◌≡◌, ◌≢◌, ◌<◌, List, [], Option, Some, IsSomeAnd, IfOk, Result, Ok, Err, codes}
 use Rattle.std.specs.Io.KnownBytes.{Appends, Keeps}
 use denote.Ref.{Bor}
 use Rattle.clap.specs.Words.{Text, fault_of, subcommand_of}
@@ -16,14 +16,17 @@ use Rattle.dm_state.specs.State.{State}
 use Rattle.dm_machine.specs.Run.{IsRun}
 use Rattle.dm_cli.specs.declared.fault.Fault.{Fault}
 use Rattle.dm_cli.specs.Assembling.{Assembles, Disassembles}
+use Rattle.dm_cli.specs.Checking.{Checks, check_status}
 use Rattle.dm_cli.specs.Debugging.{Debugs}
 use Rattle.dm_cli.specs.Faults.{IsWriteFault}
+use Rattle.dm_cli.specs.Messages.{Stream, Prints, stop_text}
 use Rattle.dm_cli.specs.Starting.{IsStartedBy, IsStartFault}
 use Rattle.dm_cli.specs.Statuses.{status_of, status_after}
 
 -- ---- the commands
 
--- `dm run`: the whole output of the run, behind what was written before; or a first part of it, where a write failed; or nothing
+-- `dm run`: the whole output of the run, behind what was written before; or a first part of it, where a write failed;
+-- or nothing
 pub data Runs (files : List ℕ → Option (List ℕ)) (typed : Option (List ℕ)) (o : MachineOptions) (before after : Option (List ℕ)) (failures : ℕ) : Result Stop Fault → Type 0 where
   ran : (m t : State) (stop : Stop) → IsStartedBy files typed o m → IsRun m o.steps stop t → Appends before after t.console.output
       → Runs files typed o before after failures (Ok stop)
@@ -33,21 +36,25 @@ pub data Runs (files : List ℕ → Option (List ℕ)) (typed : Option (List ℕ
 
 -- ---- the program
 
--- the bytes of files by their paths and of standard input, what stands on standard output before, and which files were written before, each where
--- it is known; and how many files could not be written before
+-- the bytes of files by their paths and of standard input, what stands on standard output before, and which files were
+-- written before, each where it is known; and how many files could not be written before
 pub record Given : Type 0 where
   pub files : List ℕ → Option (List ℕ)
   pub typed : Option (List ℕ)
   pub output : Option (List ℕ)
   pub saved : Option (List (List ℕ × List ℕ))
   pub failed_saves : ℕ
+  -- standard error
+  pub messages : Stream
 
--- what is there afterwards, how many writes and flushes of standard output and how many saves of files have failed, and the exit status
+-- what is there afterwards, how many writes and flushes of standard output and how many saves of files have failed, and
+-- the exit status
 pub record Left : Type 0 where
   pub output : Option (List ℕ)
   pub failures : ℕ
   pub saved : Option (List (List ℕ × List ℕ))
   pub failed_saves : ℕ
+  pub messages : Stream
   pub status : ℕ
 
 -- the words are a right command line, and these are its options
@@ -55,12 +62,15 @@ pub record Asks (words : List Text) (o : Options) : Type 0 where
   pub right : fault_of dm_app words ≡ []
   pub says : IsSomeAnd (subcommand_of dm_app words) (λ given. HasOptions given o)
 
--- a wrong line, or a call for help, does nothing; a right one does what its command does; memory may be refused while the words are read
+-- a wrong line, or a call for help, does nothing; a right one does what its command does; memory may be refused while
+-- the words are read
 pub data Does (g : Given) (words : List Text) (l : Left) : Type 0 where
   usage : fault_of dm_app words ≢ [] → Keeps g.output l.output → l.saved ≡ g.saved → l.status ≡ 2 → Does g words l
   no_memory : Keeps g.output l.output → l.saved ≡ g.saved → l.status ≡ 126 → Does g words l
   runs : (o : MachineOptions) (outcome : Result Stop Fault) → Asks words (command.Run o) → Runs g.files g.typed o g.output l.output l.failures outcome
-      → l.saved ≡ g.saved → l.status ≡ status_of outcome → Does g words l
+      → IfOk outcome (λ stop. Prints (stop_text stop) g.messages l.messages) → l.saved ≡ g.saved → l.status ≡ status_of outcome → Does g words l
+  checks : (o : MachineOptions) (outcome : Result ℕ Fault) → Asks words (command.Check o) → Checks g.files g.typed o g.output l.output l.failures g.messages l.messages outcome
+      → l.saved ≡ g.saved → l.status ≡ check_status outcome → Does g words l
   debugs : (o : DebugOptions) (end : Option Fault) → Asks words (command.Debug o) → Debugs g.files g.typed o g.output l.output l.failures end
       → l.saved ≡ g.saved → l.status ≡ status_after end → Does g words l
   assembles : (o : AsmOptions) (end : Option Fault) → Asks words (command.Asm o) → Assembles g.files o g.saved l.saved g.failed_saves l.failed_saves end

@@ -3,10 +3,14 @@ use Rattle.std.specs.Prelude.{ℕ, Result, Ok, Err, Option, Some, None}
 use Rattle.dm_state.specs.declared.stop.Stop.{Stop}
 use Rattle.dm_state.specs.declared.stop.Stop.TheVariants.{Exited}
 
--- the program's exit code, 125 at another stop, 126 at a fault
+-- the program's exit code, or 125 at another stop
+abbrev pub stop_status : Stop → ℕ
+stop_status (Exited code) = code
+stop_status _ = 125
+
+-- that of a stop, or 126 at a fault
 abbrev pub status_of : {E : Type 0} → Result Stop E → ℕ
-status_of (Ok (Exited code)) = code
-status_of (Ok _) = 125
+status_of (Ok stop) = stop_status stop
 status_of (Err _) = 126
 
 -- 0, or 126 at a fault

@@ -1,14 +1,17 @@
 //! The commands of `dm`, with their fault texts and statuses.
-ghost use Rattle.std.specs.Prelude.{◌≡◌, ◌⊎◌, map};
+ghost use Rattle.std.specs.Prelude.{◌≡◌, ◌⊎◌, IfOk, map};
+ghost use Rattle.dm_cli.specs.Messages.{Prints, stop_text};
 ghost use Rattle.dm_cli.specs.Program.{Does, Runs};
-ghost use Rattle.dm_cli.specs.Statuses.{status_after, status_of};
+ghost use Rattle.dm_cli.specs.Statuses.{status_after, status_of, stop_status};
 ghost use Rattle.dm_cli.specs.inner.Statuses.{end_of};
 
 use crate::assembling::{asm, disasm};
+use crate::checking::check;
 use crate::debugging::debug;
 use crate::fault::Fault;
 use crate::files::Storage;
 use crate::loading::loaded;
+use crate::messages::{Messages, print, stop_line};
 use crate::output::run_program;
 use dm_machine::{Out, Stop};
 use dm_options::command_line::{MachineOptions, Options, OptionsError};
@@ -43,69 +46,77 @@ fn run<'a, F: Storage, I: Read + Drop, W: Out>(
     }
 }
 
-/// The word that tells a stop which is no exit.
-fn word_of(stop: Stop) -> &'static str {
+/// The status of a run that ended with a stop: the program's exit code, or 125.
+pub(crate) fn status_of_stop(stop: Stop) -> u8
+    ensures { result ≡ stop_status stop }
+{
     match stop {
-        Stop::Steps => "steps",
-        Stop::Exited(_) => "exited",
-        Stop::Halted => "halted",
-        Stop::Unlisted => "unlisted",
-        Stop::InputEnded => "input ended",
-        Stop::Destroyed => "destroyed",
-        Stop::Memory => "memory",
+        Stop::Exited(code) => code,
+        _ => STOPPED,
     }
 }
 
-/// Tells what a run came to, unless its program exited, and answers the status. That the telling fails changes nothing.
-pub(crate) fn report<E: Write>(outcome: Result<Stop, Fault<'_>>, error: &mut E) -> u8
-    ensures { result ≡ status_of outcome.entry }
+/// Reports a fault, and returns its status. If the report cannot be written, the status is the same.
+fn report_fault<E: Out>(fault: &Fault<'_>, error: &mut E) -> u8
+    ensures { result ≡ 126 }
+{
+    let _ = writeln!(Messages::new(error), "dm: {fault}");
+    FAULT
+}
+
+/// Reports how a run ended, unless its program exited, and returns the status. If the report cannot be written, the
+/// status is the same.
+fn report<E: Out>(outcome: Result<Stop, Fault<'_>>, error: &mut E) -> u8
+    ensures status { result ≡ status_of outcome.entry }
+    ensures line { IfOk outcome.entry (λ stop. Prints (stop_text stop) (record { bytes = E.taken error.old; failures = E.failures error.old })
+        (record { bytes = E.taken error.new; failures = E.failures error.new })) }
 {
     match outcome {
-        Ok(Stop::Exited(code)) => code,
         Ok(stop) => {
-            let word = word_of(stop);
-            let _ = writeln!(error, "stopped: {word}");
-            STOPPED
+            print(error, stop_line(stop));
+            status_of_stop(stop)
         }
-        Err(fault) => {
-            let _ = writeln!(error, "dm: {fault}");
-            FAULT
-        }
+        Err(fault) => report_fault(&fault, error),
     }
 }
 
-/// Tells the fault of a command that has one, and answers the status. That the telling fails changes nothing.
-fn told<E: Write>(outcome: Result<(), Fault<'_>>, error: &mut E) -> u8
+/// Reports the fault of a command, if there is one, and returns the status. If the report cannot be written, the status
+/// is the same.
+fn told<E: Out>(outcome: Result<(), Fault<'_>>, error: &mut E) -> u8
     ensures { result ≡ status_after (end_of outcome.entry) }
 {
     match outcome {
         Ok(()) => 0,
-        Err(fault) => {
-            let _ = writeln!(error, "dm: {fault}");
-            FAULT
-        }
+        Err(fault) => report_fault(&fault, error),
     }
 }
 
 /// The program `dm` over what it is given: the words of its command line, of which the first is the program's name,
 /// where files are opened and written, standard input, standard output and standard error. It returns the exit status.
 ///
-/// `dm run` exits with the program's code. At another stop it tells `stopped: ` and the stop, with status 125, and at
+/// `dm run` exits with the program's code. At another stop it reports `stopped: ` and the stop, with status 125, and at
 /// a fault `dm: ` and the fault, with status 126. It finds them in this order: of each file in turn `cannot read NAME`,
 /// `input too long` (over 16 MiB), `name too long` (over 64 bytes) and `name twice`; of standard input the first two;
 /// `too large` (over 512 pages or 15360 KiB), `tail too long` (over 126 bytes), `not found`, `bad format`, `short`;
 /// `cannot write standard output`.
 ///
-/// `dm debug` exits with status 0, also where the program has ended, or tells a fault with status 126, in the same order: the console's input
-/// is the file of `--input`, and none without it. The commands are read after `short`, a line at a time, and each is answered before the next is
-/// read; where they have more than 16 MiB, `input too long` comes after the answers so far.
+/// `dm check` runs the program as `dm run` does, prints a report of its errors in the use of memory on standard error,
+/// then the line of `stopped: `, and exits with status 124 if there is an error, whatever the stop; otherwise with the
+/// status of `dm run`. Its faults are those of `dm run`.
 ///
-/// `dm asm` and `dm disasm` exit with status 0, or tell a fault with status 126: `cannot read NAME` or `input too long` of the file that
-/// they read, then `too long` (over 65,278 bytes of program) or `line N: ` and `syntax`, `unknown`, `range` or `twice`, then `cannot write
-/// NAME`. A text that is refused leaves the file of its bytes as it was.
+/// `dm debug` exits with status 0, also where the program has ended, or reports a fault with status 126, in the same
+/// order: the console's input is the file of `--input`, and none without it. The commands are read after `short`, a
+/// line at a time, and each is answered before the next is read; where they have more than 16 MiB, `input too long`
+/// comes after the answers so far.
 ///
-/// `out of memory` stands where memory was refused. A wrong command line or a call for help is told by `clap`'s text, with status 2.
-pub fn dm_main<S: AsStr, F: Storage, I: Read + Drop, W: Out, E: Write>(
+/// `dm asm` and `dm disasm` exit with status 0, or report a fault with status 126: `cannot read NAME` or
+/// `input too long` of the file that they read, then `too long` (over 65,278 bytes of program) or `line N: ` and
+/// `syntax`, `unknown`, `range` or `twice`, then `cannot write NAME`. A text with an error leaves the output file as it
+/// was.
+///
+/// `out of memory` is reported if an allocation fails. For a wrong command line or a call for help `clap`'s text is
+/// printed, with status 2.
+pub fn dm_main<S: AsStr, F: Storage, I: Read + Drop, W: Out, E: Out>(
     alloc: Global,
     storage: &mut F,
     words: &[S],
@@ -114,32 +125,41 @@ pub fn dm_main<S: AsStr, F: Storage, I: Read + Drop, W: Out, E: Write>(
     error: &mut E,
 ) -> u8
     ensures { Does
-        (record { files = F.contents storage.old; typed = I.remaining input; output = W.taken out.old; saved = F.saved storage.old; failed_saves = F.failures storage.old })
+        (record { files = F.contents storage.old; typed = I.remaining input; output = W.taken out.old; saved = F.saved storage.old; failed_saves = F.failures storage.old;
+            messages = record { bytes = E.taken error.old; failures = E.failures error.old } })
         (map S.text words.now)
-        (record { output = W.taken out.new; failures = W.failures out.new; saved = F.saved storage.new; failed_saves = F.failures storage.new; status = result }) }
+        (record { output = W.taken out.new; failures = W.failures out.new; saved = F.saved storage.new; failed_saves = F.failures storage.new;
+            messages = record { bytes = E.taken error.new; failures = E.failures error.new }; status = result }) }
 {
     match options(alloc, words) {
         Ok(Options::Run(options)) => report(run(alloc, storage, &options, input, out), error),
+        Ok(Options::Check(options)) => {
+            match check(alloc, storage, &options, input, out, error) {
+                Ok(status) => status,
+                Err(fault) => report_fault(&fault, error),
+            }
+        }
         Ok(Options::Debug(options)) => told(debug(alloc, storage, &options, input, out), error),
         Ok(Options::Asm(options)) => told(asm(alloc, storage, &options), error),
         Ok(Options::Disasm(path)) => told(disasm(alloc, storage, path, out), error),
         Err(OptionsError::Usage(text)) => {
-            let _ = write!(error, "{text}");
+            let _ = write!(Messages::new(error), "{text}");
             USAGE
         }
-        Err(OptionsError::Memory) => report(Err(Fault::OutOfMemory), error),
+        Err(OptionsError::Memory) => report_fault(&Fault::OutOfMemory, error),
     }
 }
 
-/// Prints that a word of the command line is not UTF-8, and returns the status of a wrong line: 2, or 126 where memory was refused.
-pub fn refuse_words<E: Write>(alloc: Global, error: &mut E) -> u8
+/// Prints that a word of the command line is not UTF-8, and returns the status of a wrong line: 2, or 126 if an
+/// allocation failed.
+pub fn refuse_words<E: Out>(alloc: Global, error: &mut E) -> u8
     ensures { (result ≡ 2) ⊎ (result ≡ 126) }
 {
     match not_unicode(alloc) {
         Ok(text) => {
-            let _ = write!(error, "{text}");
+            let _ = write!(Messages::new(error), "{text}");
             USAGE
         }
-        Err(_) => report(Err(Fault::OutOfMemory), error),
+        Err(_) => report_fault(&Fault::OutOfMemory, error),
     }
 }

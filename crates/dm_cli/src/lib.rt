@@ -2,11 +2,13 @@
 #![tactic(auto)]
 
 mod assembling;
+mod checking;
 mod commands;
 mod debugging;
 mod fault;
 mod files;
 mod loading;
+mod messages;
 mod names;
 mod output;
 

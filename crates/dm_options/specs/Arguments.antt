@@ -1,4 +1,5 @@
--- The commands and arguments of `dm`, as the command-line library `clap` is given them (Rust's crate `clap`, version 4).
+-- The commands and arguments of `dm`, as the command-line library `clap` is given them (Rust's crate `clap`, version
+-- 4).
 use Rattle.std.specs.Prelude.{[], ◌∷◌, Some, true, codes}
 use Rattle.clap.specs.Words.{App, Rule, Text, new_app, new_rule, with_rule, with_subcommand}
 use Rattle.clap.specs.declared.builder.action.ArgAction.TheVariants as action
@@ -59,6 +60,9 @@ debug_app = with_rule (with_machine_rules (new_app (codes "debug"))) input_rule
 abbrev pub path_rule : Text → Rule
 path_rule name = record (new_rule name) { value_names = 1; required = true }
 
+abbrev pub check_app : App
+check_app = with_machine_rules (new_app (codes "check"))
+
 abbrev pub asm_app : App
 asm_app = with_rule (with_rule (new_app (codes "asm")) (path_rule (codes "in"))) (path_rule (codes "out"))
 
@@ -70,4 +74,5 @@ named_app = let empty = new_app (codes "dm") in record empty { top = record empt
 
 -- `dm` with its subcommands
 unfoldable pub dm_app : App
-dm_app = with_subcommand (with_subcommand (with_subcommand (with_subcommand named_app run_app.top) debug_app.top) asm_app.top) disasm_app.top
+dm_app = with_subcommand (with_subcommand (with_subcommand (with_subcommand (with_subcommand named_app run_app.top) debug_app.top) check_app.top)
+    asm_app.top) disasm_app.top

@@ -49,6 +49,7 @@ pub record HasAsmOptions (rows : List Row) (o : AsmOptions) : Type 0 where
 abbrev pub HasOptions : Text × List Row → Options → Type 0
 HasOptions given (command.Run o) = (given.0 ≡ codes "run") × HasMachineOptions given.1 o
 HasOptions given (command.Debug o) = (given.0 ≡ codes "debug") × HasDebugOptions given.1 o
+HasOptions given (command.Check o) = (given.0 ≡ codes "check") × HasMachineOptions given.1 o
 HasOptions given (command.Asm o) = (given.0 ≡ codes "asm") × HasAsmOptions given.1 o
 HasOptions given (command.Disasm path) = (given.0 ≡ codes "disasm") × (first_of (codes "in") given.1 ≡ Some path.now)
 

@@ -1,7 +1,7 @@
 //! The commands and arguments of `dm`, as `clap` is given them.
 ghost use Rattle.std.specs.Prelude.{◌≡◌, IfOk, false};
 ghost use Rattle.clap.specs.Words.{app_of, rule_of};
-ghost use Rattle.dm_options.specs.Arguments.{asm_app, debug_app, disasm_app, dm_app, ems_rule, files_rule, input_rule, path_rule, run_app, steps_rule, tail_rule, upper_rule, with_machine_rules, xms_rule};
+ghost use Rattle.dm_options.specs.Arguments.{asm_app, check_app, debug_app, disasm_app, dm_app, ems_rule, files_rule, input_rule, path_rule, run_app, steps_rule, tail_rule, upper_rule, with_machine_rules, xms_rule};
 ghost use Rattle.clap.specs.declared.Command.TheViews.{out-Command as fields_of};
 
 use clap::builder::ValueParser;
@@ -21,7 +21,7 @@ fn steps_arg<'a>(alloc: Global) -> Arg<'a>
         .value_parser(value_parser!(u64))
         .default_value("100000000")
         .help(
-            "For run: stop after N steps (instructions, repetitions of string instructions, services)",
+            "For run and check: stop after N steps (instructions, repetitions of string instructions, services)",
         )
 }
 
@@ -127,6 +127,16 @@ fn debug_command<'a>(alloc: Global) -> Result<Command<'a>, AllocError>
     with_machine_args(alloc, command)?.arg(input_arg(alloc))
 }
 
+fn check_command<'a>(alloc: Global) -> Result<Command<'a>, AllocError>
+    ensures app { IfOk result (λ c. app_of c ≡ check_app) }
+    ensures local { IfOk result (λ c. (fields_of c).has_globals ≡ false) }
+{
+    let command = Command::new(alloc, "check")
+        .about("Run a program and report its errors in the use of memory: overwritten block headers, double frees, leaks")
+        .after_help("Example: dm check PROGRAM.COM <input.txt");
+    with_machine_args(alloc, command)
+}
+
 /// An argument that is the path of one file.
 fn path_arg<'a>(
     alloc: Global,
@@ -175,13 +185,14 @@ pub(crate) fn dm_command<'a>(alloc: Global) -> Result<Command<'a>, AllocError>
 {
     Command::new(alloc, "dm")
         .about(
-            "Runs, debugs, assembles and disassembles MS-DOS programs on an emulated Intel 8086 PC with EMS and XMS memory",
+            "Runs, debugs, checks, assembles and disassembles MS-DOS programs on an emulated Intel 8086 PC with EMS and XMS memory",
         )
         .version(VERSION)
         .after_help("Example: dm run HELLO.COM")
         .subcommand_required(true)
         .subcommand(run_command(alloc)?)?
         .subcommand(debug_command(alloc)?)?
+        .subcommand(check_command(alloc)?)?
         .subcommand(asm_command(alloc)?)?
         .subcommand(disasm_command(alloc)?)
 }

@@ -27,7 +27,8 @@ const REFUSED: [(&str, ErrorKind); 2] = [
     ("full.com", ErrorKind::OutOfMemory),
 ];
 
-/// A line, the status, what it writes to a file behind the file's path, what it writes to standard output, and what it tells.
+/// A line, the status, what it writes to a file behind the file's path, what it writes to standard output, and what it
+/// tells.
 type Row<'a> = (&'a str, u8, &'a [u8], &'a [u8], &'a str);
 
 /// The files that are there.
@@ -74,7 +75,8 @@ const RUNS: [Row; 4] = [
     ),
 ];
 
-/// Faults of files: a path that names none, a file that is not opened, not read to its end, or has none; one that is not written.
+/// Faults of files: a path that names none, a file that is not opened, not read to its end, or has none; one that is
+/// not written.
 const FILE_FAULTS: [Row; 14] = [
     ("dm run d/", 126, b"", b"", "dm: cannot read d/\n"),
     (
@@ -170,7 +172,8 @@ const FILE_FAULTS: [Row; 14] = [
     ),
 ];
 
-/// Runs a command line over the files, with this standard input. Compares what is written, what is told, and the status.
+/// Runs a command line over the files, with this standard input. Compares what is written, what is told, and the
+/// status.
 fn tells(
     rt: &impl Abort,
     alloc: Global,
@@ -184,7 +187,15 @@ fn tells(
     let mut files = new_files(alloc, &known, &REFUSED);
     let words = words.as_slice();
     let mut sink = Sink::new(&mut output);
-    let got = dm_main(alloc, &mut files, words, input, &mut sink, &mut error);
+    let mut messages = Sink::new(&mut error);
+    let got = dm_main(
+        alloc,
+        &mut files,
+        words,
+        input,
+        &mut sink,
+        &mut messages,
+    );
     same_of(rt, line, "told", error.as_slice(), told.as_bytes());
     same_of(rt, line, "output", output.as_slice(), put_out);
     same_of(rt, line, "saved", files.saved.as_slice(), saved);
@@ -306,7 +317,7 @@ fn fails(
         words,
         just(b"M\n"),
         &mut sink,
-        &mut error,
+        &mut Sink::new(&mut error),
     );
     same_of(rt, line, "status", got, status);
     same_of(rt, line, "told", error.as_slice(), told.as_bytes());

@@ -29,7 +29,7 @@ pub fn byte_digits(n: u8) -> [u8; 2]
 
 /// The four digits of a word.
 #[tactic(auto, unfolding(crate::specs::Digits::four))]
-pub(crate) fn word_digits(n: u16) -> [u8; 4]
+pub fn word_digits(n: u16) -> [u8; 4]
     ensures { result ≡ four n }
 {
     [

@@ -16,7 +16,7 @@ mod registers;
 pub use arena::put_arena;
 pub use bytes::put_bytes;
 pub use code::put_code;
-pub use digits::{byte_digits, put_address};
+pub use digits::{byte_digits, put_address, word_digits};
 pub use extended::put_extended;
 pub use laws::listings_have_one_text;
 pub use pages::put_pages;

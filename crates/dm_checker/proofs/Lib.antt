@@ -1,0 +1,3 @@
+pub mod Leaked
+pub mod Bits
+pub mod Framed

@@ -1,0 +1,84 @@
+-- What a step's call makes of the arena, and how calls are refused.
+-- Source: MS-DOS Programmer's Reference, "System Calls" (CF and AX); LIM EMS 4.0, section 3 (AH is the status); XMS 3.0 (AX, and BL the error).
+use Rattle.std.specs.Prelude.{ℕ, ◌+◌, ◌==◌, ◌&&◌, ◌||◌, not, Bool, true, false, if◌then◌else◌, List, [], ◌∷◌, Option, Some, None}
+use Rattle.dm_ins.specs.declared.operand.ByteRegister.TheVariants.{Ah, Al, Bl}
+use Rattle.dm_cpu.specs.declared.cpu.Cpu.{Cpu}
+use Rattle.dm_cpu.specs.Cpu.{byte_of}
+use Rattle.dm_blocks.specs.declared.header.Header.{Header}
+use Rattle.dm_findings.specs.declared.calls.Call.{Call}
+use Rattle.dm_findings.specs.declared.calls.Call.TheVariants.{DivideError, Terminate, Dos, ExpandedMemory, Multiplex, ExtendedMemory}
+use Rattle.dm_findings.specs.declared.finding.Finding.{Finding}
+use Rattle.dm_findings.specs.declared.finding.Finding.TheVariants.{FreedTwice, Refused, Short}
+
+-- ---- calls that write headers
+
+-- the functions of the arena: 48h, 49h, 4Ah and 58h
+abbrev pub is_arena : ℕ → Bool
+is_arena number = (number == 0x48) || (number == 0x49) || (number == 0x4A) || (number == 0x58)
+
+-- the functions that end a process: 00h, 31h and 4Ch
+abbrev pub is_ending : ℕ → Bool
+is_ending number = (number == 0x00) || (number == 0x31) || (number == 0x4C)
+
+-- 4Bh starts a process, but with AL = 3 it loads an overlay
+abbrev pub is_starting : Cpu → ℕ → Bool
+is_starting c number = (number == 0x4B) && not (byte_of c Al == 3)
+
+-- a call of the arena, or a start or an end of a process: it may write headers
+abbrev pub arranges : Cpu → Option Call → Bool
+arranges c None = false
+arranges c (Some DivideError) = true
+arranges c (Some Terminate) = true
+arranges c (Some (Dos number)) = is_arena number || is_ending number || is_starting c number
+arranges c (Some (ExpandedMemory number)) = false
+arranges c (Some Multiplex) = false
+arranges c (Some (ExtendedMemory number)) = false
+
+-- an end of a process by which it keeps nothing: interrupt 0, INT 20h, and functions 00h and 4Ch of INT 21h. By 31h a program stays resident
+abbrev pub leaves : Option Call → Bool
+leaves None = false
+leaves (Some DivideError) = true
+leaves (Some Terminate) = true
+leaves (Some (Dos number)) = (number == 0x00) || (number == 0x4C)
+leaves (Some (ExpandedMemory number)) = false
+leaves (Some Multiplex) = false
+leaves (Some (ExtendedMemory number)) = false
+
+-- ---- a block that is freed twice
+
+-- one of the headers is that of the block at the segment, and has no owner
+abbrev pub is_free_at : List Header → ℕ → Bool
+is_free_at [] segment = false
+is_free_at (b ∷ headers) segment = ((b.segment + 1 == segment) && (b.owner == 0)) || is_free_at headers segment
+
+-- 49h of the block at segment ES succeeded, and it was free before
+abbrev pub freed_twice : Cpu → Cpu → Option Call → List Header → List Finding
+freed_twice c d (Some (Dos number)) headers =
+    if (number == 0x49) && not d.flags.carry && is_free_at headers c.es then FreedTwice c.es ∷ [] else []
+freed_twice c d _ headers = []
+
+-- ---- refusals, by the registers before and after a call
+
+-- a function of the arena or of processes is refused: CF is set, and AX is the code, below 256. Code 8 of 48h and of 4Ah: BX paragraphs were
+-- asked for, and then BX is how many there are
+abbrev pub refused_by_dos : Cpu → Cpu → ℕ → List Finding
+refused_by_dos c d number =
+    if not d.flags.carry then [] else
+    if (byte_of d Al == 8) && ((number == 0x48) || (number == 0x4A)) then Short c.bx d.bx ∷ [] else Refused (byte_of d Al) ∷ []
+
+-- a status other than 00h, and 92h, with which a move is done: its regions overlap
+abbrev pub refused_by_status : ℕ → List Finding
+refused_by_status status = if (status == 0) || (status == 0x92) then [] else Refused status ∷ []
+
+-- AX is 0, and BL tells an error: 07h has 0 in both where A20 is off
+abbrev pub refused_by_error : Cpu → List Finding
+refused_by_error d = if (d.ax == 0) && not (byte_of d Bl == 0) then Refused (byte_of d Bl) ∷ [] else []
+
+abbrev pub refused : Cpu → Cpu → Option Call → List Finding
+refused c d None = []
+refused c d (Some DivideError) = []
+refused c d (Some Terminate) = []
+refused c d (Some (Dos number)) = if is_arena number || (number == 0x4B) then refused_by_dos c d number else []
+refused c d (Some (ExpandedMemory number)) = refused_by_status (byte_of d Ah)
+refused c d (Some Multiplex) = []
+refused c d (Some (ExtendedMemory number)) = refused_by_error d

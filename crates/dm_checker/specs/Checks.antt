@@ -1,0 +1,65 @@
+-- What is found in a run, step by step, and at its end.
+use Rattle.std.specs.Prelude.{◌≡◌, ℕ, ◌+◌, ◌<◌, ◌≤◌, Bool, if◌then◌else◌, List, [], ◌++◌, Option, Some, None}
+use Rattle.dm_state.specs.declared.stop.Stop.{Stop}
+use Rattle.dm_state.specs.declared.stop.Stop.TheVariants.{Exited, Steps as AllSteps, Halted, Unlisted, InputEnded, Destroyed, Memory as NoMemory}
+use Rattle.dm_state.specs.State.{State}
+use Rattle.dm_machine.specs.Step.{Steps}
+use Rattle.dm_machine.specs.Run.{Answers, IsRun}
+use Rattle.dm_findings.specs.declared.finding.Finding.{Finding}
+use Rattle.dm_findings.specs.declared.finding.Found.{Found}
+use Rattle.dm_findings.specs.Calls.{call_of}
+use Rattle.dm_findings.specs.Report.{Reported, report_of}
+use Rattle.dm_checker.specs.Calls.{leaves}
+use Rattle.dm_checker.specs.Leaks.{leaks}
+use Rattle.dm_checker.specs.Findings.{Finds, IsFound}
+
+-- what is found of a step that goes on
+pub record FindsAt (s t : State) (found : List Found) : Type 0 where
+  pub findings : List Finding
+  pub finds : Finds s t findings
+  pub told : IsFound s t findings found
+
+-- what the first program left allocated, if it ended by a call that keeps nothing: the tables and the map after its last step, which no service
+-- changes
+abbrev pub left_behind : State → State → List Finding
+left_behind s t = if leaves (call_of s.cpu) then leaks t else []
+
+-- what is found of the step that ends the first program
+pub record FindsAtEnd (s t : State) (found : List Found) : Type 0 where
+  pub findings : List Finding
+  pub finds : Finds s t findings
+  pub told : IsFound s t (findings ++ left_behind s t) found
+
+-- what is found where a run stops for a reason: only an exit is a step that was made
+abbrev pub FindsAtStop : State → Stop → State → List Found → Type 0
+FindsAtStop s (Exited code) t found = FindsAtEnd s t found
+FindsAtStop s AllSteps t found = found ≡ []
+FindsAtStop s Halted t found = found ≡ []
+FindsAtStop s Unlisted t found = found ≡ []
+FindsAtStop s InputEnded t found = found ≡ []
+FindsAtStop s Destroyed t found = found ≡ []
+FindsAtStop s NoMemory t found = found ≡ []
+
+-- n steps lead from s to t, none of them ended the program, and this is found in them, in their order
+pub data FindsIn (s : State) : ℕ → State → List Found → Type 0 where
+  here : FindsIn s 0 s []
+  further : (n : ℕ) (t u : State) (fs gs : List Found) → FindsIn s n t fs → Steps t (record { stop = None; state = u }) → FindsAt t u gs → FindsIn s (n + 1) u (fs ++ gs)
+
+-- a run of at most n steps, and what is found in it: the program had ended before; or n steps were made; or a stop comes earlier
+pub data Checks (s : State) (n : ℕ) (stop : Stop) (t : State) (found : List Found) : Type 0 where
+  over : (code : ℕ) → s.exited ≡ Some code → stop ≡ Exited code → t ≡ s → found ≡ [] → Checks s n stop t found
+  whole : s.exited ≡ None → stop ≡ AllSteps → FindsIn s n t found → Checks s n stop t found
+  cut : (made : ℕ) (before : State) (fs gs : List Found) → s.exited ≡ None → made < n → FindsIn s made before fs → Answers before (Some stop) t → FindsAtStop before stop t gs → found ≡ fs ++ gs → Checks s n stop t found
+
+-- the report of a run: the report of what is found in it
+pub record IsReport (s : State) (n : ℕ) (stop : Stop) (t : State) (report : Reported) : Type 0 where
+  pub found : List Found
+  pub checks : Checks s n stop t found
+  pub is : report ≡ report_of found
+
+-- a run of the machine, of at most n steps
+pub record RunsPart (s : State) (n : ℕ) (t : State) : Type 0 where
+  pub most : ℕ
+  pub stop : Stop
+  pub few : most ≤ n
+  pub run : IsRun s most stop t

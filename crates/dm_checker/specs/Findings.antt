@@ -1,0 +1,63 @@
+-- What is found of one step that was made, from the state before it to the state after it.
+-- Source: MS-DOS Programmer's Reference, "Arena header"; the order within a step is this machine's own.
+use Rattle.std.specs.Prelude.{◌≡◌, ℕ, ◌%◌, ◌+◌, Bool, if◌then◌else◌, List, [], ◌∷◌, ◌++◌, map, Option, Some, None}
+use Rattle.std.specs.List.{flat_map}
+use Rattle.dm_space.specs.Memory.{Memory}
+use Rattle.dm_ins.specs.declared.ins.Ins.{Ins}
+use Rattle.dm_cpu.specs.Guest.{up}
+use Rattle.dm_blocks.specs.declared.header.Header.{Header}
+use Rattle.dm_state.specs.State.{State}
+use Rattle.dm_machine.specs.Step.{Begins, fetched}
+use Rattle.dm_findings.specs.declared.calls.Call.{Call}
+use Rattle.dm_findings.specs.declared.finding.Act.{Act}
+use Rattle.dm_findings.specs.declared.finding.Act.TheVariants as act
+use Rattle.dm_findings.specs.declared.finding.Finding.{Finding}
+use Rattle.dm_findings.specs.declared.finding.Finding.TheVariants.{Destroyed, Whole}
+use Rattle.dm_findings.specs.declared.finding.Found.{Found}
+use Rattle.dm_findings.specs.Calls.{call_of}
+use Rattle.dm_checker.specs.Shown.{Shown, IsShown}
+use Rattle.dm_checker.specs.Headers.{overwritten, mapped_away}
+use Rattle.dm_checker.specs.Calls.{arranges, freed_twice, refused}
+
+-- the arena was whole and is destroyed, or was destroyed and is whole
+abbrev pub turned : Option ℕ → Option ℕ → List Finding
+turned None (Some at) = Destroyed at ∷ []
+turned (Some at) None = Whole ∷ []
+turned _ _ = []
+
+-- the headers that bytes were written over, in the order of the list; calls that may write headers are none of these
+abbrev pub all_overwritten : Bool → Memory → Memory → List Header → List Finding
+all_overwritten may S T headers = if may then [] else flat_map (overwritten S T) headers
+
+-- in this order: headers that bytes were written over, headers that are no longer shown, both in the order of the list; the arena destroyed, or
+-- whole again; a block freed twice; a call refused
+abbrev pub findings : State → State → Shown → Shown → List Finding
+findings s t old new =
+    all_overwritten (arranges s.cpu (call_of s.cpu)) s.memory t.memory old.headers
+    ++ flat_map (mapped_away s.memory t.memory) old.headers
+    ++ turned old.broken new.broken
+    ++ freed_twice s.cpu t.cpu (call_of s.cpu) old.headers
+    ++ refused s.cpu t.cpu (call_of s.cpu)
+
+-- what is found of the step from s to t
+pub record Finds (s t : State) (found : List Finding) : Type 0 where
+  pub old : Shown
+  pub new : Shown
+  pub before : IsShown s.upper s.memory old
+  pub after : IsShown t.upper t.memory new
+  pub is : found ≡ findings s t old new
+
+-- ---- what acts in a step: the call of a service or a driver, else the instruction at CS:IP
+
+pub data IsAct (s : State) (a : Act) : Type 0 where
+  called : (call : Call) → call_of s.cpu ≡ Some call → a ≡ act.Call call → IsAct s a
+  instructed : (i : Ins) (length : ℕ) → call_of s.cpu ≡ None → Begins (fetched s.memory s.cpu) i length → a ≡ act.Instruction i (up s.cpu.ip length) → IsAct s a
+
+-- the findings of a step with its number, which is how many steps were made with it, CS and IP before it, and what acted
+abbrev pub found_at : State → State → Act → List Finding → List Found
+found_at s t a = map (λ f. record { step = t.steps; segment = s.cpu.cs; offset = s.cpu.ip; act = a; finding = f })
+
+-- nothing is found, or the findings are told with the step
+pub data IsFound (s t : State) (fs : List Finding) (found : List Found) : Type 0 where
+  none : fs ≡ [] → found ≡ [] → IsFound s t fs found
+  some : (a : Act) → IsAct s a → found ≡ found_at s t a fs → IsFound s t fs found

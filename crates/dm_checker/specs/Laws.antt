@@ -1,0 +1,18 @@
+-- Laws of checked runs.
+use Rattle.std.specs.Prelude.{◌≡◌, ◌≢◌, ℕ, List, Option}
+use Rattle.dm_state.specs.declared.stop.Stop.{Stop}
+use Rattle.dm_state.specs.declared.stop.Stop.TheVariants.{Memory as NoMemory}
+use Rattle.dm_state.specs.State.{State}
+use Rattle.dm_machine.specs.Run.{IsRun}
+use Rattle.dm_findings.specs.declared.finding.Found.{Found}
+use Rattle.dm_checker.specs.Checks.{Checks}
+
+-- a checked run is a run
+abbrev pub ACheckedRunIsARun : Type 0
+ACheckedRunIsARun = (s t : State) (n : ℕ) (stop : Stop) (found : List Found) → Checks s n stop t found → IsRun s n stop t
+
+-- from one state, runs of at most as many steps that meet no want of memory stop for one reason in one state, and one list of findings is found
+abbrev pub CheckHasOneReport : Type 0
+CheckHasOneReport =
+    (s t u : State) (n : ℕ) (a b : Stop) (fs gs : List Found) → Checks s n a t fs → Checks s n b u gs →
+    a ≢ NoMemory → b ≢ NoMemory → (a ≡ b) × (t ≡ u) × (fs ≡ gs)

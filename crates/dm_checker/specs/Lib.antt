@@ -1,0 +1,8 @@
+pub mod Shown
+pub mod Headers
+pub mod Calls
+pub mod Leaks
+pub mod Findings
+pub mod Checks
+pub mod Laws
+pub mod inner

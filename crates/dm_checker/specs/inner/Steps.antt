@@ -1,0 +1,55 @@
+-- What is kept of the state before a step, and what one checked step does.
+use Rattle.std.specs.Prelude.{◌≡◌, ℕ, List, ◌++◌, map, Option, Some, None, IfNone, MatchOption}
+use Rattle.dm_ins.specs.declared.ins.Ins.{Ins}
+use Rattle.dm_space.specs.Memory.{Memory}
+use Rattle.dm_state.specs.declared.stop.Stop.{Stop}
+use Rattle.dm_state.specs.State.{State}
+use Rattle.dm_machine.specs.Step.{Begins, fetched}
+use Rattle.dm_machine.specs.Run.{Answers}
+use Rattle.dm_findings.specs.declared.finding.Act.{Act}
+use Rattle.dm_findings.specs.declared.finding.Finding.{Finding}
+use Rattle.dm_findings.specs.declared.finding.Found.{Found}
+use Rattle.dm_findings.specs.Calls.{call_of}
+use Rattle.dm_findings.specs.Report.{Reported, report_of}
+use Rattle.dm_checker.specs.declared.acts.Before.{Before}
+use Rattle.dm_checker.specs.declared.watch.Watch.{Watch}
+use Rattle.dm_checker.specs.Findings.{Finds, IsAct}
+use Rattle.dm_checker.specs.Checks.{FindsAt, FindsAtStop}
+use Rattle.dm_checker.specs.inner.Watching.{IsWatch}
+
+-- the registers, the call and the bytes at CS:IP of a state
+pub record IsBefore (s : State) (b : Before) : Type 0 where
+  pub cpu : b.cpu ≡ s.cpu
+  pub call : b.call ≡ call_of s.cpu
+  pub bytes : b.bytes ≡ fetched s.memory s.cpu
+
+-- no call is served, and the bytes there begin no instruction
+pub record IsUnlisted (s : State) : Type 0 where
+  pub call : call_of s.cpu ≡ None
+  pub none : (i : Ins) (length : ℕ) → Begins (fetched s.memory s.cpu) i length → ⊥
+
+abbrev pub found_by : Before → ℕ → Act → Finding → Found
+found_by b step a f = record { step = step; segment = b.cpu.cs; offset = b.cpu.ip; act = a; finding = f }
+
+-- a report that has these findings more
+abbrev pub ReportsMore : Reported → Reported → List Found → Type 0
+ReportsMore old new more = (fs : List Found) → old ≡ report_of fs → new ≡ report_of (fs ++ more)
+
+-- what was found of the step stands behind what stood there
+pub record Looks (s t : State) (old new : List Finding) : Type 0 where
+  pub more : List Finding
+  pub is : new ≡ old ++ more
+  pub finds : Finds s t more
+
+-- what is found at a step, whether it goes on or stops
+abbrev pub FindsAtAny : State → Option Stop → State → List Found → Type 0
+FindsAtAny s None t found = FindsAt s t found
+FindsAtAny s (Some stop) t found = FindsAtStop s stop t found
+
+-- one step, and its findings in the report
+pub record ChecksOne (s : State) (stop : Option Stop) (t : State) (w : Watch) (old new : Reported) : Type 0 where
+  pub answers : Answers s stop t
+  pub found : List Found
+  pub finds : FindsAtAny s stop t found
+  pub reports : ReportsMore old new found
+  pub watch : stop ≡ None → IsWatch t.upper t.memory w

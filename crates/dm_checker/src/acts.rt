@@ -1,0 +1,74 @@
+//! What acts in a step.
+
+ghost use Rattle.std.specs.Prelude.{◌≡◌, MatchOption};
+ghost use Rattle.dm_machine.specs.Step.{fetched};
+ghost use Rattle.dm_state.specs.State.{State};
+ghost use Rattle.dm_checker.specs.Findings.{IsAct};
+ghost use Rattle.dm_checker.specs.inner.Steps.{IsBefore, IsUnlisted};
+
+use dm_cpu::Cpu;
+use dm_decode::decode;
+use dm_findings::{Act, Call, call_of};
+use dm_machine::Machine;
+use dm_space::Space;
+
+/// What a step starts from: the registers, the call that it serves, and the sixteen bytes from CS:IP on.
+#[derive(Clone, Copy)]
+pub(crate) struct Before {
+    pub(crate) cpu: Cpu,
+    pub(crate) call: Option<Call>,
+    pub(crate) bytes: [u8; 16],
+}
+
+/// The sixteen bytes from CS:IP on.
+#[tactic(auto, unfolding(dm_machine::specs::Step::fetched))]
+fn fetch(cpu: &Cpu, space: &Space) -> [u8; 16]
+    ensures { result ≡ fetched space.now.memory cpu.now }
+{
+    let at = |k: u16| space.peek(cpu.cs, cpu.ip.wrapping_add(k));
+    [
+        at(0),
+        at(1),
+        at(2),
+        at(3),
+        at(4),
+        at(5),
+        at(6),
+        at(7),
+        at(8),
+        at(9),
+        at(10),
+        at(11),
+        at(12),
+        at(13),
+        at(14),
+        at(15),
+    ]
+}
+
+impl Before {
+    /// What the next step of a machine starts from.
+    pub(crate) fn of(machine: &Machine) -> Before
+        ensures { IsBefore machine.now result }
+    {
+        let cpu = machine.cpu();
+        Before {
+            cpu,
+            call: call_of(&cpu),
+            bytes: fetch(&cpu, machine.space()),
+        }
+    }
+
+    /// What acts in the step: the call that is served, or the instruction. None where the bytes begin no instruction.
+    pub(crate) fn act(&self) -> Option<Act>
+        ensures { (s : State) → IsBefore s self.now → MatchOption result (IsUnlisted s) (IsAct s) }
+    {
+        if let Some(call) = self.call {
+            return Some(Act::Call(call));
+        }
+        match decode(&self.bytes) {
+            Some((ins, len)) => Some(Act::Instruction(ins, self.cpu.ip.wrapping_add(len as u16))),
+            None => None,
+        }
+    }
+}

@@ -1,0 +1,37 @@
+//! Checked runs.
+
+ghost use Rattle.std.specs.Prelude.{IfOk, OnErr};
+ghost use Rattle.dm_state.specs.State.{HasProgram};
+ghost use Rattle.dm_machine.specs.Run.{IsRun};
+ghost use Rattle.dm_checker.specs.Checks.{IsReport, RunsPart};
+
+use crate::steps::check_step;
+use crate::watch::read_arena;
+use dm_findings::Report;
+use dm_machine::{Machine, Stop};
+use std::alloc::{AllocError, Global};
+
+/// Makes at most `n` steps, as `Machine::run` does, and reports what they did to the headers of the arena, which calls were refused, and, where
+/// the first program ended by a call that keeps nothing, what it left allocated. It returns why the run stopped, and the report.
+///
+/// An `Err` says that an allocation of the checker failed: the machine has made a first part of the run, and the report is lost.
+pub fn check(alloc: Global, machine: &mut Machine, n: u64) -> Result<(Stop, Report), AllocError>
+    requires { HasProgram machine.old }
+    ensures run { IfOk result (λ r. IsRun machine.old n r.0 machine.new) }
+    ensures report { IfOk result (λ r. IsReport machine.old n r.0 machine.new r.1) }
+    ensures err { OnErr result (RunsPart machine.old n machine.new) }
+    ensures loaded { HasProgram machine.new }
+{
+    let mut report = Report::new(alloc);
+    // No step is made: it tells whether the program has ended.
+    if let Stop::Exited(code) = machine.run(0) {
+        return Ok((Stop::Exited(code), report));
+    }
+    let mut kept = read_arena(alloc, machine)?;
+    for _ in 0..n {
+        if let Some(stop) = check_step(alloc, machine, &mut kept, &mut report)? {
+            return Ok((stop, report));
+        }
+    }
+    Ok((Stop::Steps, report))
+}

@@ -1,0 +1,157 @@
+//! What a step did to headers.
+
+ghost use Rattle.std.specs.Prelude.{◌≡◌, ◌++◌, ◌+◌, ◌*◌, ◌<◌, ℕ, All, map, slice_index, OnOk};
+ghost use Rattle.std.specs.List.{flat_map};
+ghost use Rattle.dm_space.specs.Memory.{Memory};
+ghost use Rattle.dm_checker.specs.Headers.{shown_at, same_contents, overwritten, mapped_away};
+ghost use Rattle.dm_checker.specs.inner.Watching.{IsBits, IsWatched, header_of, IsKept, contents_by};
+
+use crate::put::put;
+use crate::watch::{Watched, bits_at};
+use dm_findings::{Contents, Finding};
+use dm_pool::Block;
+use dm_space::Space;
+use std::alloc::AllocError;
+
+/// The paragraphs of the frame, and those of a page.
+const FRAME: u16 = 0xE000;
+const FRAME_END: u16 = 0xEFFF;
+const PAGE: usize = 0x400;
+
+/// The contents of a header by its five bytes.
+fn contents_of(bits: u64) -> Contents
+    ensures { (m : Memory) (segment : ℕ) → IsBits m segment bits → result ≡ shown_at m segment }
+{
+    Contents {
+        signature: (bits % 256) as u8,
+        owner: (bits / 256 % 65536) as u16,
+        size: (bits / 0x100_0000 % 65536) as u16,
+    }
+}
+
+/// A byte of a block; 0 behind its end.
+fn byte_in(bytes: &[u8], at: usize) -> u8
+    ensures { result ≡ slice_index bytes.now at }
+{
+    match bytes.get(at) {
+        Some(byte) => *byte,
+        None => 0,
+    }
+}
+
+fn word_in(bytes: &[u8], at: usize) -> u16
+    requires { at < 0x8000 }
+    ensures { result ≡ slice_index bytes.now at + 256 * slice_index bytes.now (at + 1) }
+{
+    byte_in(bytes, at) as u16 + 256 * byte_in(bytes, at + 1) as u16
+}
+
+/// The contents of a header at an offset of a block.
+fn contents_in(bytes: &[u8], at: usize) -> Contents
+    requires { at < 0x4000 }
+    ensures { result ≡ contents_by bytes.now at }
+{
+    Contents {
+        signature: byte_in(bytes, at),
+        owner: word_in(bytes, at + 1),
+        size: word_in(bytes, at + 3),
+    }
+}
+
+/// What memory has at the places that a header had when the windows showed these blocks; None where its page was freed. Outside of the frame,
+/// from E000h to EFFFh, windows don't matter.
+fn kept_of(space: &Space, windows: &[Option<Block>; 4], segment: u16) -> Option<Contents>
+    ensures { (S : Memory) → windows.now ≡ S.windows → IsKept S space.now.memory segment result }
+{
+    if segment < FRAME || segment > FRAME_END {
+        return Some(contents_of(bits_at(space, segment)));
+    }
+    let at = (segment - FRAME) as usize;
+    let Some(block) = windows[at / PAGE] else {
+        return Some(Contents {
+            signature: 0xFF,
+            owner: 0xFFFF,
+            size: 0xFFFF,
+        });
+    };
+    if !space.has(block) {
+        return None;
+    }
+    Some(contents_in(space.bytes(block), at % PAGE * 16))
+}
+
+/// Whether two headers have the same contents.
+fn is_same(first: Contents, second: Contents) -> bool
+    ensures { result ≡ same_contents first second }
+{
+    first.signature == second.signature
+        && first.owner == second.owner
+        && first.size == second.size
+}
+
+/// Puts that a header was overwritten, if it was.
+fn put_overwritten(
+    out: &mut Vec<Finding>,
+    space: &Space,
+    windows: &[Option<Block>; 4],
+    watched: &Watched,
+) -> Result<(), AllocError>
+    ensures { OnOk result ((S : Memory) → windows.now ≡ S.windows → IsWatched S watched.now → out.new.items ≡ out.old.items ++ overwritten S space.now.memory watched.now.header) }
+{
+    let Some(kept) = kept_of(space, windows, watched.header.segment) else {
+        return Ok(());
+    };
+    let old = contents_of(watched.bits);
+    if is_same(kept, old) {
+        return Ok(());
+    }
+    put(out, Finding::Overwritten(watched.header.segment, old, kept))
+}
+
+/// Puts that a header is no longer shown, if it is not.
+fn put_mapped_away(
+    out: &mut Vec<Finding>,
+    space: &Space,
+    windows: &[Option<Block>; 4],
+    watched: &Watched,
+) -> Result<(), AllocError>
+    ensures { OnOk result ((S : Memory) → windows.now ≡ S.windows → IsWatched S watched.now → out.new.items ≡ out.old.items ++ mapped_away S space.now.memory watched.now.header) }
+{
+    if let Some(kept) = kept_of(space, windows, watched.header.segment) {
+        let shown = contents_of(bits_at(space, watched.header.segment));
+        if is_same(kept, shown) {
+            return Ok(());
+        }
+    }
+    put(out, Finding::MappedAway(watched.header.segment))
+}
+
+/// Puts which headers were overwritten, in their order.
+pub(crate) fn put_all_overwritten(
+    out: &mut Vec<Finding>,
+    space: &Space,
+    windows: &[Option<Block>; 4],
+    headers: &[Watched],
+) -> Result<(), AllocError>
+    ensures { OnOk result ((S : Memory) → windows.now ≡ S.windows → All (IsWatched S) headers.now → out.new.items ≡ out.old.items ++ flat_map (overwritten S space.now.memory) (map header_of headers.now)) }
+{
+    for watched in headers {
+        put_overwritten(out, space, windows, watched)?;
+    }
+    Ok(())
+}
+
+/// Puts which headers are no longer shown, in their order.
+pub(crate) fn put_all_mapped_away(
+    out: &mut Vec<Finding>,
+    space: &Space,
+    windows: &[Option<Block>; 4],
+    headers: &[Watched],
+) -> Result<(), AllocError>
+    ensures { OnOk result ((S : Memory) → windows.now ≡ S.windows → All (IsWatched S) headers.now → out.new.items ≡ out.old.items ++ flat_map (mapped_away S space.now.memory) (map header_of headers.now)) }
+{
+    for watched in headers {
+        put_mapped_away(out, space, windows, watched)?;
+    }
+    Ok(())
+}

@@ -1,0 +1,16 @@
+//! The memory checker: runs a machine, and reports what its program did to the headers of the arena, which calls were refused, and what it left
+//! allocated.
+#![tactic(auto)]
+
+mod acts;
+mod calls;
+mod checks;
+mod headers;
+mod laws;
+mod leaks;
+mod put;
+mod steps;
+mod watch;
+
+pub use checks::check;
+pub use laws::{a_checked_run_is_a_run, a_check_has_one_report};

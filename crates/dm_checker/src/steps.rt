@@ -1,0 +1,176 @@
+//! What is found of one step.
+
+ghost use Rattle.std.specs.Prelude.{◌≡◌, ◌++◌, map, IfOk, OnOk, OnErr, Option, None, Some, List};
+ghost use Rattle.dm_state.specs.declared.stop.Stop.{Stop};
+ghost use Rattle.dm_state.specs.State.{HasProgram, State};
+ghost use Rattle.dm_machine.specs.Run.{Answers};
+ghost use Rattle.dm_findings.specs.declared.finding.Found.{Found};
+ghost use Rattle.dm_checker.specs.Findings.{turned, IsFound};
+ghost use Rattle.dm_checker.specs.Checks.{FindsAtEnd};
+ghost use Rattle.dm_checker.specs.Leaks.{leaks};
+ghost use Rattle.dm_checker.specs.inner.Watching.{IsWatch, broken_at};
+ghost use Rattle.dm_checker.specs.inner.Steps.{IsBefore, Looks, ReportsMore, found_by, ChecksOne};
+
+use crate::acts::Before;
+use crate::calls::{arranges, leaves, put_freed_twice, put_refused};
+use crate::headers::{put_all_mapped_away, put_all_overwritten};
+use crate::leaks::put_leaks;
+use crate::put::put;
+use crate::watch::{Broken, Watch, read_arena};
+use dm_findings::{Act, Call, Finding, Found, Report};
+use dm_machine::{Machine, Stop};
+use std::alloc::{AllocError, Global};
+
+/// Puts that the arena is destroyed, or whole again, by where it broke before and after.
+fn put_turned(
+    out: &mut Vec<Finding>,
+    before: &Option<Broken>,
+    after: &Option<Broken>,
+) -> Result<(), AllocError>
+    ensures { OnOk result (out.new.items ≡ out.old.items ++ turned (broken_at before.now) (broken_at after.now)) }
+{
+    match (before, after) {
+        (None, Some(broken)) => put(out, Finding::Destroyed(broken.segment)),
+        (Some(_), None) => put(out, Finding::Whole),
+        _ => Ok(()),
+    }
+}
+
+/// Puts what a step did, after which memory shows other headers, other windows, or a call may have written headers.
+fn look_anew(
+    out: &mut Vec<Finding>,
+    before: &Before,
+    old: &Watch,
+    new: &Watch,
+    machine: &Machine,
+) -> Result<(), AllocError>
+    requires before { (s : State) × IsBefore s before.now × IsWatch s.upper s.memory old.now }
+    requires after { IsWatch machine.now.upper machine.now.memory new.now }
+    ensures { OnOk result ((s : State) → IsBefore s before.now → IsWatch s.upper s.memory old.now → Looks s machine.now out.old.items out.new.items) }
+{
+    let space = machine.space();
+    let after = machine.cpu();
+    if !arranges(&before.cpu, before.call) {
+        put_all_overwritten(out, space, &old.windows, &old.headers)?;
+    }
+    put_all_mapped_away(out, space, &old.windows, &old.headers)?;
+    put_turned(out, &old.broken, &new.broken)?;
+    put_freed_twice(out, &before.cpu, &after, before.call, &old.headers)?;
+    put_refused(out, &before.cpu, &after, before.call)
+}
+
+/// Puts what a step did, and keeps what memory shows after it.
+fn look(
+    alloc: Global,
+    out: &mut Vec<Finding>,
+    before: &Before,
+    kept: &mut Watch,
+    machine: &Machine,
+) -> Result<(), AllocError>
+    requires { (s : State) × IsBefore s before.now × IsWatch s.upper s.memory kept.old }
+    ensures looks { OnOk result ((s : State) → IsBefore s before.now → IsWatch s.upper s.memory kept.old → Looks s machine.now out.old.items out.new.items) }
+    ensures watch { OnOk result (IsWatch machine.now.upper machine.now.memory kept.new) }
+{
+    if !arranges(&before.cpu, before.call) && kept.is_seen(machine) {
+        return put_refused(out, &before.cpu, &machine.cpu(), before.call);
+    }
+    let new = read_arena(alloc, machine)?;
+    look_anew(out, before, kept, &new, machine)?;
+    *kept = new;
+    Ok(())
+}
+
+/// Reports the findings of a step in which something acts.
+fn tell(
+    report: &mut Report,
+    before: &Before,
+    step: u64,
+    act: Act,
+    found: &[Finding],
+) -> Result<(), AllocError>
+    ensures { OnOk result (ReportsMore report.old report.new (map (found_by before.now step act) found.now)) }
+{
+    for finding in found {
+        report.add(Found {
+            step,
+            segment: before.cpu.cs,
+            offset: before.cpu.ip,
+            act,
+            finding: *finding,
+        })?;
+    }
+    Ok(())
+}
+
+/// Reports the findings of a step that was made, after which the machine goes on.
+fn tell_step(
+    report: &mut Report,
+    before: &Before,
+    machine: &Machine,
+    found: &[Finding],
+) -> Result<(), AllocError>
+    requires { (s : State) × IsBefore s before.now × Answers s None machine.now }
+    ensures { OnOk result ((s : State) → IsBefore s before.now → (more : List Found) × IsFound s machine.now found.now more × ReportsMore report.old report.new more) }
+{
+    if found.is_empty() {
+        return Ok(());
+    }
+    let Some(act) = before.act() else {
+        // The step was made.
+        unreachable!()
+    };
+    tell(report, before, machine.steps(), act, found)
+}
+
+/// Reports the findings of the step that ended the program, and what it left allocated.
+fn check_end(
+    alloc: Global,
+    before: &Before,
+    call: Call,
+    kept: &mut Watch,
+    machine: &Machine,
+    report: &mut Report,
+) -> Result<(), AllocError>
+    requires before { (s : State) × IsBefore s before.now × IsWatch s.upper s.memory kept.old }
+    requires call { before.now.call ≡ Some call }
+    ensures { OnOk result ((s : State) → IsBefore s before.now → IsWatch s.upper s.memory kept.old → (more : List Found) × FindsAtEnd s machine.now more × ReportsMore report.old report.new more) }
+{
+    let mut found = Vec::new(alloc);
+    look(alloc, &mut found, before, kept, machine)?;
+    if leaves(Some(call)) {
+        put_leaks(&mut found, machine)?;
+    }
+    tell(report, before, machine.steps(), Act::Call(call), &found)
+}
+
+/// Makes a step, and reports what is found of it.
+pub(crate) fn check_step(
+    alloc: Global,
+    machine: &mut Machine,
+    kept: &mut Watch,
+    report: &mut Report,
+) -> Result<Option<Stop>, AllocError>
+    requires program { HasProgram machine.old }
+    requires watch { IsWatch machine.old.upper machine.old.memory kept.old }
+    ensures ok { IfOk result (λ stop. ChecksOne machine.old stop machine.new kept.new report.old report.new) }
+    ensures err { OnErr result ((stop : Option Stop) × Answers machine.old stop machine.new) }
+    ensures program { HasProgram machine.new }
+{
+    let before = Before::of(machine);
+    let stop = machine.step();
+    match stop {
+        None => {
+            let mut found = Vec::new(alloc);
+            look(alloc, &mut found, &before, kept, machine)?;
+            tell_step(report, &before, machine, &found)?;
+        }
+        Some(Stop::Exited(_)) => {
+            // Without a call the program had ended before.
+            if let Some(call) = before.call {
+                check_end(alloc, &before, call, kept, machine, report)?;
+            }
+        }
+        Some(_) => {}
+    }
+    Ok(stop)
+}

@@ -1,0 +1,192 @@
+//! The headers of the arena, kept with their bytes, and whether memory still shows them.
+
+ghost use Rattle.std.specs.Prelude.{◌≡◌, All, false, IfOk, None, Some};
+ghost use Rattle.std.specs.Bool.{OnTrue};
+ghost use Rattle.dm_blocks.specs.Listing.{start_of};
+ghost use Rattle.dm_checker.specs.inner.Watching.{IsBits, IsWatched, IsWatch, IsSeen, IsBrokenIn, Collects, CollectsSecond};
+
+use dm_blocks::{Header, Headers, Step, is_linked, walk};
+use dm_machine::Machine;
+use dm_pool::Block;
+use dm_space::Space;
+use std::alloc::{AllocError, Global};
+
+/// 2^40: five bytes are below it.
+const FIVE: u64 = 0x100_0000_0000;
+
+/// A header as it was read, and bytes 0 to 4 as a number, the first byte lowest.
+#[derive(Clone, Copy)]
+pub(crate) struct Watched {
+    pub(crate) header: Header,
+    pub(crate) bits: u64,
+}
+
+/// The segment where a list breaks, and the five bytes there.
+#[derive(Clone, Copy)]
+pub(crate) struct Broken {
+    pub(crate) segment: u16,
+    pub(crate) bits: u64,
+}
+
+/// What a memory shows of the arena, and by which windows.
+#[derive(Drop)]
+pub(crate) struct Watch {
+    pub(crate) headers: Vec<Watched>,
+    pub(crate) broken: Option<Broken>,
+    pub(crate) upper: bool,
+    pub(crate) windows: [Option<Block>; 4],
+}
+
+/// The five bytes from a segment on as one number, the first byte lowest.
+pub(crate) fn bits_at(space: &Space, segment: u16) -> u64
+    ensures { IsBits space.now.memory segment result }
+{
+    if let Some(eight) = space.eight_bytes(segment, 0) {
+        return eight % FIVE;
+    }
+    let first = space.peek(segment, 0) as u64;
+    let second = space.peek(segment, 1) as u64;
+    let third = space.peek(segment, 2) as u64;
+    let fourth = space.peek(segment, 3) as u64;
+    let fifth = space.peek(segment, 4) as u64;
+    first + 256 * (second + 256 * (third + 256 * (fourth + 256 * fifth)))
+}
+
+fn watched_of(space: &Space, header: Header) -> Watched
+    ensures watched { IsWatched space.now.memory result }
+    ensures header { result.header ≡ header }
+{
+    Watched {
+        header,
+        bits: bits_at(space, header.segment),
+    }
+}
+
+fn broken_of(space: &Space, segment: u16) -> Broken
+    ensures segment { result.segment ≡ segment }
+    ensures bits { IsBits space.now.memory segment result.bits }
+{
+    Broken {
+        segment,
+        bits: bits_at(space, segment),
+    }
+}
+
+/// Puts the headers that a walk over a list has still to tell. The walk behind the end of its list, or the segment where the list breaks.
+fn collect<'a>(
+    out: &mut Vec<Watched>,
+    space: &Space,
+    headers: Headers<'a>,
+) -> Result<Result<Headers<'a>, u16>, AllocError>
+    requires memory { headers.memory ≡ space.now.memory }
+    requires at { headers.at ≡ Some (start_of headers.second) }
+    ensures { IfOk result (λ rest. Collects headers.entry rest out.old.items out.new.items) }
+{
+    let mut walked = headers;
+    'walk: loop {
+        match walked.advance() {
+            Step::Told(entry) => out.push(watched_of(space, entry.header))?,
+            Step::End => return Ok(Ok(walked)),
+            Step::Destroyed(segment) => return Ok(Err(segment)),
+        }
+    }
+}
+
+/// Puts the headers of the second list behind those of the first, which a walk has told. Where the second list breaks.
+fn collect_second(
+    out: &mut Vec<Watched>,
+    space: &Space,
+    first: Headers<'_>,
+) -> Result<Option<Broken>, AllocError>
+    requires memory { first.memory ≡ space.now.memory }
+    requires second { first.second ≡ false }
+    requires over { first.at ≡ None }
+    ensures { IfOk result (λ broken. CollectsSecond space.now.memory broken out.old.items out.new.items) }
+{
+    match collect(out, space, first.walk_second())? {
+        Ok(_) => Ok(None),
+        Err(at) => Ok(Some(broken_of(space, at))),
+    }
+}
+
+/// What a machine's memory shows of the arena.
+pub(crate) fn read_arena(alloc: Global, machine: &Machine) -> Result<Watch, AllocError>
+    ensures { IfOk result (λ w. IsWatch machine.now.upper machine.now.memory w) }
+{
+    let space = machine.space();
+    let upper = machine.upper();
+    let windows = space.windows();
+    let mut headers = Vec::new(alloc);
+    let broken = match collect(&mut headers, space, walk(space))? {
+        Err(at) => Some(broken_of(space, at)),
+        Ok(first) => {
+            if upper && !is_linked(space) {
+                collect_second(&mut headers, space, first)?
+            } else {
+                None
+            }
+        }
+    };
+    Ok(Watch {
+        headers,
+        broken,
+        upper,
+        windows,
+    })
+}
+
+/// Whether memory shows the five bytes of each header as they were read.
+fn are_seen(space: &Space, headers: &[Watched]) -> bool
+    ensures { OnTrue result (All (IsWatched space.now.memory) headers.now) }
+{
+    for watched in headers {
+        if bits_at(space, watched.header.segment) != watched.bits {
+            return false;
+        }
+    }
+    true
+}
+
+/// Whether memory shows the five bytes where the list breaks as they were read.
+fn is_broken_in(space: &Space, broken: &Option<Broken>) -> bool
+    ensures { OnTrue result (IsBrokenIn space.now.memory broken.now) }
+{
+    match broken {
+        Some(there) => bits_at(space, there.segment) == there.bits,
+        None => true,
+    }
+}
+
+/// Whether two windows show the same.
+fn is_same_window(first: Option<Block>, second: Option<Block>) -> bool
+    ensures { OnTrue result (first ≡ second) }
+{
+    match (first, second) {
+        (None, None) => true,
+        (Some(first), Some(second)) => first == second,
+        _ => false,
+    }
+}
+
+/// Whether four windows show the same as four others.
+fn are_same_windows(first: &[Option<Block>; 4], second: &[Option<Block>; 4]) -> bool
+    ensures { OnTrue result (first.now ≡ second.now) }
+{
+    is_same_window(first[0], second[0])
+        && is_same_window(first[1], second[1])
+        && is_same_window(first[2], second[2])
+        && is_same_window(first[3], second[3])
+}
+
+impl Watch {
+    /// Whether the windows of a machine and all that was read are as they were. Then its memory shows the same of the arena.
+    pub(crate) fn is_seen(&self, machine: &Machine) -> bool
+        ensures { OnTrue result (IsSeen machine.now.upper machine.now.memory self.now) }
+    {
+        let space = machine.space();
+        machine.upper() == self.upper
+            && are_same_windows(&space.windows(), &self.windows)
+            && are_seen(space, &self.headers)
+            && is_broken_in(space, &self.broken)
+    }
+}

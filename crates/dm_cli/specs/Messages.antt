@@ -1,0 +1,26 @@
+-- What `dm` prints on standard error: the line about a stop.
+use Rattle.std.specs.Prelude.{ℕ, ◌≡◌, ◌++◌, List, [], ◌∷◌, Option, codes}
+use Rattle.std.specs.Io.KnownBytes.{Appends}
+use Rattle.dm_out.specs.Out.{AppendsPart, HasFailed}
+use Rattle.dm_state.specs.declared.stop.Stop.{Stop}
+use Rattle.dm_state.specs.declared.stop.Stop.TheVariants.{Steps, Exited, Halted, Unlisted, InputEnded, Destroyed, Memory}
+
+-- the line about a stop; an exit has none
+abbrev pub stop_text : Stop → List ℕ
+stop_text Steps = codes "stopped: steps" ++ 10 ∷ []
+stop_text (Exited code) = []
+stop_text Halted = codes "stopped: halted" ++ 10 ∷ []
+stop_text Unlisted = codes "stopped: unlisted" ++ 10 ∷ []
+stop_text InputEnded = codes "stopped: input ended" ++ 10 ∷ []
+stop_text Destroyed = codes "stopped: destroyed" ++ 10 ∷ []
+stop_text Memory = codes "stopped: memory" ++ 10 ∷ []
+
+-- a stream: its bytes, where they are known, and how many of its writes and flushes have failed
+pub record Stream : Type 0 where
+  pub bytes : Option (List ℕ)
+  pub failures : ℕ
+
+-- a text is written to a stream: all of it; or a first part, and then a write failed
+pub data Prints (text : List ℕ) (before after : Stream) : Type 0 where
+  all : Appends before.bytes after.bytes text → Prints text before after
+  part : AppendsPart before.bytes after.bytes text → HasFailed before.failures after.failures → Prints text before after

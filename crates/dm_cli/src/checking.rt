@@ -1,0 +1,68 @@
+//! `dm check`: a run whose findings are reported on standard error.
+ghost use Rattle.std.specs.Prelude.{◌≡◌, ◌++◌, OnOk};
+ghost use Rattle.dm_reports.specs.Reports.{report_text};
+ghost use Rattle.dm_cli.specs.Checking.{Checks, checked_status};
+ghost use Rattle.dm_cli.specs.Messages.{stop_text};
+
+use crate::commands::status_of_stop;
+use crate::fault::Fault;
+use crate::files::Storage;
+use crate::loading::loaded;
+use crate::messages::{print, stop_line};
+use dm_checker::check as check_run;
+use dm_findings::Report;
+use dm_machine::{Out, Stop};
+use dm_options::command_line::MachineOptions;
+use dm_out::write_all;
+use dm_reports::put_report;
+use std::alloc::{AllocError, Global};
+use std::io::Read;
+
+/// The status of a run in which errors were found.
+const ERRORS: u8 = 124;
+
+/// Puts a report, and the line about the stop.
+fn put_lines(text: &mut Vec<u8>, report: &Report, stop: Stop) -> Result<(), AllocError>
+    ensures { OnOk result (text.new.items ≡ text.old.items ++ report_text report.now ++ stop_text stop) }
+{
+    put_report(text, report)?;
+    text.extend_from_slice(stop_line(stop))
+}
+
+/// The status of a checked run.
+fn checked_status(report: &Report, stop: Stop) -> u8
+    ensures { result ≡ checked_status report.now stop }
+{
+    if report.errors() > 0 {
+        return ERRORS;
+    }
+    status_of_stop(stop)
+}
+
+/// `dm check`: runs the first file, writes its output, and prints the report and the line about the stop. Returns the
+/// status.
+pub(crate) fn check<'a, F: Storage, I: Read + Drop, W: Out, E: Out>(
+    alloc: Global,
+    storage: &F,
+    options: &MachineOptions<'a>,
+    input: I,
+    out: &mut W,
+    error: &mut E,
+) -> Result<u8, Fault<'a>>
+    ensures { Checks (F.contents storage.now) (I.remaining input) options.now (W.taken out.old) (W.taken out.new) (W.failures out.new)
+        (record { bytes = E.taken error.old; failures = E.failures error.old }) (record { bytes = E.taken error.new; failures = E.failures error.new }) result }
+{
+    let mut machine = loaded(alloc, storage, options, input)?;
+    let Ok((stop, report)) = check_run(alloc, &mut machine, options.steps) else {
+        return Err(Fault::OutOfMemory);
+    };
+    let mut text = Vec::new(alloc);
+    if let Err(_) = put_lines(&mut text, &report, stop) {
+        return Err(Fault::OutOfMemory);
+    }
+    if let Err(_) = write_all(out, machine.output()) {
+        return Err(Fault::CannotWrite("standard output"));
+    }
+    print(error, text.as_slice());
+    Ok(checked_status(&report, stop))
+}

@@ -1,0 +1,32 @@
+-- The calls of services and drivers: MS-DOS Programmer's Reference, "System Calls"; LIM EMS 4.0, section 3; XMS 3.0.
+use Rattle.std.specs.Prelude.{Option, Some, None}
+use Rattle.dm_ins.specs.declared.operand.ByteRegister.TheVariants.{Ah}
+use Rattle.dm_cpu.specs.declared.cpu.Cpu.{Cpu}
+use Rattle.dm_cpu.specs.Cpu.{byte_of}
+use Rattle.dm_services.specs.declared.services.Service.{Service}
+use Rattle.dm_services.specs.declared.services.Service.TheVariants as service
+use Rattle.dm_services.specs.Services.{service_at}
+use Rattle.dm_drivers.specs.declared.drivers.Driver.{Driver}
+use Rattle.dm_drivers.specs.declared.drivers.Driver.TheVariants as driver
+use Rattle.dm_drivers.specs.Drivers.{driver_at}
+use Rattle.dm_findings.specs.declared.calls.Call.{Call}
+use Rattle.dm_findings.specs.declared.calls.Call.TheVariants as call
+
+abbrev pub of_service : Cpu → Service → Call
+of_service c service.DivideError = call.DivideError
+of_service c service.Terminate = call.Terminate
+of_service c service.Dos = call.Dos (byte_of c Ah)
+
+abbrev pub of_driver : Cpu → Driver → Call
+of_driver c driver.ExpandedMemory = call.ExpandedMemory (byte_of c Ah)
+of_driver c driver.Multiplex = call.Multiplex
+of_driver c driver.ExtendedMemory = call.ExtendedMemory (byte_of c Ah)
+
+abbrev pub call_by : Cpu → Option Service → Option Driver → Option Call
+call_by c (Some s) d = Some (of_service c s)
+call_by c None (Some d) = Some (of_driver c d)
+call_by c None None = None
+
+-- the call that a step from these registers serves: that of the service or driver at CS:IP; none where an instruction acts
+unfoldable pub call_of : Cpu → Option Call
+call_of c = call_by c (service_at c) (driver_at c)

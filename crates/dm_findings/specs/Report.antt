@@ -1,0 +1,29 @@
+-- A report: the first findings of each kind, in the order in which they happened, and how many there are.
+use Rattle.std.specs.Prelude.{ℕ, suc, ◌-◌, ◌^◌, min, not, nat_lt, Bool, if◌then◌else◌, List, [], ◌∷◌, count_by}
+use Rattle.dm_findings.specs.declared.finding.Found.{Found}
+use Rattle.dm_findings.specs.Findings.{is_an_error}
+
+abbrev pub is_a_note : Found → Bool
+is_a_note f = not (is_an_error f)
+
+-- what a report keeps: findings in their order, and the numbers of all errors and all notes
+pub record Reported : Type 0 where
+  pub kept : List Found
+  pub errors : ℕ
+  pub notes : ℕ
+
+-- the findings of which fewer than `most` of their kind stand before them, where so many errors and notes went before
+abbrev pub first_of : ℕ → ℕ → ℕ → List Found → List Found
+first_of most errors notes [] = []
+first_of most errors notes (f ∷ fs) =
+    if is_an_error f
+    then (if nat_lt errors most then f ∷ first_of most (suc errors) notes fs else first_of most (suc errors) notes fs)
+    else (if nat_lt notes most then f ∷ first_of most errors (suc notes) fs else first_of most errors (suc notes) fs)
+
+-- numbers stay at 2^64 - 1
+abbrev pub counted : (Found → Bool) → List Found → ℕ
+counted is fs = min (count_by is fs) (2 ^ 64 - 1)
+
+-- the report of some findings: the first 100 errors and the first 100 notes, and how many of each there are
+unfoldable pub report_of : List Found → Reported
+report_of fs = record { kept = first_of 100 0 0 fs; errors = counted is_an_error fs; notes = counted is_a_note fs }

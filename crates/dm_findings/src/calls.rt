@@ -1,0 +1,60 @@
+//! The calls that a program makes of services and drivers (MS-DOS Programmer's Reference, "System Calls"; LIM EMS 4.0; XMS 3.0).
+
+ghost use Rattle.std.specs.Prelude.{◌≡◌};
+ghost use Rattle.dm_findings.specs.Calls.{of_service, of_driver, call_of};
+
+use dm_cpu::Cpu;
+use dm_drivers::{Driver, driver_at};
+use dm_ins::ByteRegister;
+use dm_services::{Service, service_at};
+
+/// A call of a service or a driver. The number of a function is what the call has in AH.
+#[derive(Clone, Copy, Debug, PartialEq, Eq)]
+pub enum Call {
+    /// Interrupt 0, which DIV and IDIV take.
+    DivideError,
+    /// INT 20h.
+    Terminate,
+    /// INT 21h, the function of this number.
+    Dos(u8),
+    /// INT 67h, the function of this number.
+    ExpandedMemory(u8),
+    /// INT 2Fh.
+    Multiplex,
+    /// Extended memory, the function of this number.
+    ExtendedMemory(u8),
+}
+
+fn of_service(cpu: &Cpu, service: Service) -> Call
+    ensures { result ≡ of_service cpu.now service }
+{
+    match service {
+        Service::DivideError => Call::DivideError,
+        Service::Terminate => Call::Terminate,
+        Service::Dos => Call::Dos(cpu.byte(ByteRegister::Ah)),
+    }
+}
+
+fn of_driver(cpu: &Cpu, driver: Driver) -> Call
+    ensures { result ≡ of_driver cpu.now driver }
+{
+    match driver {
+        Driver::ExpandedMemory => Call::ExpandedMemory(cpu.byte(ByteRegister::Ah)),
+        Driver::Multiplex => Call::Multiplex,
+        Driver::ExtendedMemory => Call::ExtendedMemory(cpu.byte(ByteRegister::Ah)),
+    }
+}
+
+/// The call that the next step serves: that of the service or driver at CS:IP. None where an instruction comes next.
+#[tactic(auto, unfolding(crate::specs::Calls::call_of))]
+pub fn call_of(cpu: &Cpu) -> Option<Call>
+    ensures { result ≡ call_of cpu.now }
+{
+    if let Some(service) = service_at(cpu) {
+        return Some(of_service(cpu, service));
+    }
+    match driver_at(cpu) {
+        Some(driver) => Some(of_driver(cpu, driver)),
+        None => None,
+    }
+}

@@ -1,0 +1,11 @@
+//! Findings about the memory of programs, and their texts: what a step did to the headers of the arena, calls that were refused, and what a
+//! program left allocated.
+#![tactic(auto)]
+
+mod calls;
+mod finding;
+mod report;
+
+pub use calls::{Call, call_of};
+pub use finding::{Act, Contents, Finding, Found};
+pub use report::Report;

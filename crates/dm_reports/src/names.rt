@@ -1,0 +1,135 @@
+//! The names of calls (MS-DOS Programmer's Reference, "System Calls"; LIM EMS 4.0, section 3; XMS 3.0).
+
+ghost use Rattle.std.specs.Prelude.{◌≡◌, ◌++◌, OnOk, codes};
+ghost use Rattle.dm_views.specs.Digits.{two};
+ghost use Rattle.dm_reports.specs.Names.{call_text, dos_name, expanded_name, extended_name};
+
+use dm_findings::Call;
+use dm_views::byte_digits;
+use std::alloc::AllocError;
+
+/// The name of a function of INT 21h, with the space before it; empty for a number that is none.
+fn dos_name(number: u8) -> &'static [u8]
+    ensures { result.now ≡ dos_name number }
+{
+    match number {
+        0x00 => b" (Terminate Program)",
+        0x01 => b" (Read Keyboard with Echo)",
+        0x02 => b" (Display Character)",
+        0x06 => b" (Direct Console I/O)",
+        0x07 => b" (Direct Console Input)",
+        0x08 => b" (Read Keyboard Without Echo)",
+        0x09 => b" (Display String)",
+        0x0A => b" (Buffered Keyboard Input)",
+        0x0B => b" (Check Keyboard Status)",
+        0x0C => b" (Flush Buffer, Read Keyboard)",
+        0x25 => b" (Set Interrupt Vector)",
+        0x30 => b" (Get Version Number)",
+        0x31 => b" (Keep Program)",
+        0x35 => b" (Get Interrupt Vector)",
+        0x3F => b" (Read File or Device)",
+        0x40 => b" (Write File or Device)",
+        0x48 => b" (Allocate Memory)",
+        0x49 => b" (Free Allocated Memory)",
+        0x4A => b" (Set Memory Block Size)",
+        0x4B => b" (Load Program)",
+        0x4C => b" (End Program)",
+        0x4D => b" (Get Child-Program Return Value)",
+        0x51 => b" (Get Program Segment Prefix Address)",
+        0x58 => b" (Allocation Strategy, Upper-Memory Link)",
+        0x62 => b" (Get Program Segment Prefix Address)",
+        _ => b"",
+    }
+}
+
+/// The name of a function of INT 67h, with the space before it; empty for a number that is none.
+fn expanded_name(number: u8) -> &'static [u8]
+    ensures { result.now ≡ expanded_name number }
+{
+    match number {
+        0x40 => b" (Get Status)",
+        0x41 => b" (Get Page Frame Address)",
+        0x42 => b" (Get Unallocated Page Count)",
+        0x43 => b" (Allocate Pages)",
+        0x44 => b" (Map/Unmap Handle Page)",
+        0x45 => b" (Deallocate Pages)",
+        0x46 => b" (Get Version)",
+        0x47 => b" (Save Page Map)",
+        0x48 => b" (Restore Page Map)",
+        0x4B => b" (Get Handle Count)",
+        0x4C => b" (Get Handle Pages)",
+        0x4D => b" (Get All Handle Pages)",
+        0x4E => b" (Get/Set Page Map)",
+        0x50 => b" (Map/Unmap Multiple Handle Pages)",
+        0x51 => b" (Reallocate Pages)",
+        0x53 => b" (Get/Set Handle Name)",
+        0x54 => b" (Get Handle Directory)",
+        0x57 => b" (Move/Exchange Memory Region)",
+        0x58 => b" (Get Mappable Physical Address Array)",
+        _ => b"",
+    }
+}
+
+/// The name of a function of the extended memory driver, with the space before it; empty for a number that is none.
+fn extended_name(number: u8) -> &'static [u8]
+    ensures { result.now ≡ extended_name number }
+{
+    match number {
+        0x00 => b" (Get XMS Version Number)",
+        0x01 => b" (Request High Memory Area)",
+        0x02 => b" (Release High Memory Area)",
+        0x03 => b" (Global Enable A20)",
+        0x04 => b" (Global Disable A20)",
+        0x05 => b" (Local Enable A20)",
+        0x06 => b" (Local Disable A20)",
+        0x07 => b" (Query A20)",
+        0x08 => b" (Query Free Extended Memory)",
+        0x09 => b" (Allocate Extended Memory Block)",
+        0x0A => b" (Free Extended Memory Block)",
+        0x0B => b" (Move Extended Memory Block)",
+        0x0C => b" (Lock Extended Memory Block)",
+        0x0D => b" (Unlock Extended Memory Block)",
+        0x0E => b" (Get Handle Information)",
+        0x0F => b" (Reallocate Extended Memory Block)",
+        0x10 => b" (Request Upper Memory Block)",
+        0x11 => b" (Release Upper Memory Block)",
+        0x12 => b" (Reallocate Upper Memory Block)",
+        _ => b"",
+    }
+}
+
+/// Puts the number of a function in hexadecimal, and its name.
+fn put_function(out: &mut Vec<u8>, number: u8, name: &[u8]) -> Result<(), AllocError>
+    ensures { OnOk result (out.new.items ≡ out.old.items ++ two number ++ codes "h" ++ name.now) }
+{
+    out.extend_from_slice(&byte_digits(number))?;
+    out.extend_from_slice(b"h")?;
+    out.extend_from_slice(name)
+}
+
+/// Puts the text of a call: the interrupt or driver that serves it, and the function's number and name.
+///
+/// # Errors
+///
+/// `AllocError` if an allocation fails.
+pub fn put_call(out: &mut Vec<u8>, call: Call) -> Result<(), AllocError>
+    ensures { OnOk result (out.new.items ≡ out.old.items ++ call_text call) }
+{
+    match call {
+        Call::DivideError => out.extend_from_slice(b"interrupt 0"),
+        Call::Terminate => out.extend_from_slice(b"INT 20h"),
+        Call::Dos(number) => {
+            out.extend_from_slice(b"INT 21h function ")?;
+            put_function(out, number, dos_name(number))
+        }
+        Call::ExpandedMemory(number) => {
+            out.extend_from_slice(b"INT 67h function ")?;
+            put_function(out, number, expanded_name(number))
+        }
+        Call::Multiplex => out.extend_from_slice(b"INT 2Fh"),
+        Call::ExtendedMemory(number) => {
+            out.extend_from_slice(b"XMS function ")?;
+            put_function(out, number, extended_name(number))
+        }
+    }
+}

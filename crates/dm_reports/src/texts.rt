@@ -1,0 +1,180 @@
+//! The texts of findings.
+
+ghost use Rattle.std.specs.Prelude.{◌≡◌, ◌++◌, OnOk, codes, decimal};
+ghost use Rattle.dm_text.specs.Texts.{text_of};
+ghost use Rattle.dm_views.specs.Digits.{four};
+ghost use Rattle.dm_reports.specs.Texts.{act_text, contents_text, finding_text, found_line, kind_text, lock_text};
+
+use crate::names::put_call;
+use dm_findings::{Act, Contents, Finding, Found};
+use dm_ins::Ins;
+use dm_text::{Line, text};
+use dm_views::{byte_digits, put_address, word_digits};
+use itoa::Buffer;
+use std::alloc::AllocError;
+
+/// Puts a number in decimal.
+pub(crate) fn put_number(out: &mut Vec<u8>, n: u64) -> Result<(), AllocError>
+    ensures { OnOk result (out.new.items ≡ out.old.items ++ decimal n) }
+{
+    let mut buffer = Buffer::new();
+    out.extend_from_slice(buffer.format(n).as_bytes())
+}
+
+/// Puts a segment between two texts.
+fn put_segment(
+    out: &mut Vec<u8>,
+    before: &[u8],
+    segment: u16,
+    after: &[u8],
+) -> Result<(), AllocError>
+    ensures { OnOk result (out.new.items ≡ out.old.items ++ before.now ++ four segment ++ after.now) }
+{
+    out.extend_from_slice(before)?;
+    out.extend_from_slice(&word_digits(segment))?;
+    out.extend_from_slice(after)
+}
+
+/// Puts a number between two texts, in decimal.
+fn put_count(out: &mut Vec<u8>, before: &[u8], n: u16, after: &[u8]) -> Result<(), AllocError>
+    ensures { OnOk result (out.new.items ≡ out.old.items ++ before.now ++ decimal n ++ after.now) }
+{
+    out.extend_from_slice(before)?;
+    put_number(out, n as u64)?;
+    out.extend_from_slice(after)
+}
+
+/// Puts the signature, owner and size of a header.
+fn put_contents(out: &mut Vec<u8>, contents: Contents) -> Result<(), AllocError>
+    ensures { OnOk result (out.new.items ≡ out.old.items ++ contents_text contents) }
+{
+    out.extend_from_slice(&byte_digits(contents.signature))?;
+    put_segment(out, b" ", contents.owner, b" ")?;
+    out.extend_from_slice(&word_digits(contents.size))
+}
+
+fn put_overwritten(
+    out: &mut Vec<u8>,
+    at: u16,
+    old: Contents,
+    new: Contents,
+) -> Result<(), AllocError>
+    ensures { OnOk result (out.new.items ≡ out.old.items ++ codes "header at " ++ four at ++ codes " overwritten: " ++ contents_text old ++ codes " became " ++ contents_text new) }
+{
+    put_segment(out, b"header at ", at, b" overwritten: ")?;
+    put_contents(out, old)?;
+    out.extend_from_slice(b" became ")?;
+    put_contents(out, new)
+}
+
+fn put_short(out: &mut Vec<u8>, asked: u16, largest: u16) -> Result<(), AllocError>
+    ensures { OnOk result (out.new.items ≡ out.old.items ++ codes "refused with code 08h: " ++ four asked ++ codes "h paragraphs wanted, the largest block has " ++ four largest ++ codes "h") }
+{
+    put_segment(
+        out,
+        b"refused with code 08h: ",
+        asked,
+        b"h paragraphs wanted, the largest block has ",
+    )?;
+    put_segment(out, b"", largest, b"h")
+}
+
+fn put_refused(out: &mut Vec<u8>, code: u8) -> Result<(), AllocError>
+    ensures { OnOk result (out.new.items ≡ out.old.items ++ finding_text (Finding.Refused code)) }
+{
+    out.extend_from_slice(b"refused with code ")?;
+    out.extend_from_slice(&byte_digits(code))?;
+    out.extend_from_slice(b"h")
+}
+
+fn put_block_kept(out: &mut Vec<u8>, handle: u16, kib: u16, locked: bool) -> Result<(), AllocError>
+    ensures { OnOk result (out.new.items ≡ out.old.items ++ finding_text (Finding.BlockKept handle kib locked)) }
+{
+    put_count(out, b"XMS handle ", handle, b": ")?;
+    put_count(out, b"", kib, b" KiB not freed")?;
+    if locked {
+        return out.extend_from_slice(b", locked");
+    }
+    Ok(())
+}
+
+fn put_pages_kept(out: &mut Vec<u8>, handle: u16, pages: u16) -> Result<(), AllocError>
+    ensures { OnOk result (out.new.items ≡ out.old.items ++ finding_text (Finding.PagesKept handle pages)) }
+{
+    put_count(out, b"EMS handle ", handle, b": ")?;
+    put_count(out, b"", pages, b" pages not freed")
+}
+
+/// Puts what was found.
+fn put_finding(out: &mut Vec<u8>, finding: &Finding) -> Result<(), AllocError>
+    ensures { OnOk result (out.new.items ≡ out.old.items ++ finding_text finding.now) }
+{
+    match finding {
+        Finding::Overwritten(at, old, new) => put_overwritten(out, *at, *old, *new),
+        Finding::MappedAway(at) => put_segment(out, b"header at ", *at, b" mapped away"),
+        Finding::Destroyed(at) => put_segment(out, b"arena destroyed at ", *at, b""),
+        Finding::Whole => out.extend_from_slice(b"arena whole again"),
+        Finding::FreedTwice(at) => put_segment(out, b"block at ", *at, b" freed twice"),
+        Finding::Refused(code) => put_refused(out, *code),
+        Finding::Short(asked, largest) => put_short(out, *asked, *largest),
+        Finding::PagesKept(handle, pages) => put_pages_kept(out, *handle, *pages),
+        Finding::MapKept(handle) => put_count(out, b"EMS handle ", *handle, b": map not restored"),
+        Finding::WindowKept(window) => put_count(out, b"window ", *window as u16, b" still mapped"),
+        Finding::BlockKept(handle, kib, locked) => put_block_kept(out, *handle, *kib, *locked),
+        Finding::UpperKept(at) => put_segment(out, b"upper block at ", *at, b" not freed"),
+        Finding::AreaKept => out.extend_from_slice(b"HMA not released"),
+        Finding::LineKept => out.extend_from_slice(b"A20 left on"),
+    }
+}
+
+/// Puts the text of an instruction, where the next one stands at an offset.
+fn put_instruction(out: &mut Vec<u8>, ins: &Ins, next: u16) -> Result<(), AllocError>
+    ensures { OnOk result (out.new.items ≡ out.old.items ++ text_of ins.now next) }
+{
+    let mut line = Line::new();
+    text(ins, next, &mut line);
+    out.extend_from_slice(line.bytes())
+}
+
+/// Puts what acted in a step: a call, or an instruction.
+fn put_act(out: &mut Vec<u8>, act: &Act) -> Result<(), AllocError>
+    ensures { OnOk result (out.new.items ≡ out.old.items ++ act_text act.now) }
+{
+    match act {
+        Act::Call(call) => put_call(out, *call),
+        Act::Instruction(ins, next) => put_instruction(out, ins, *next),
+    }
+}
+
+/// Whether a finding is an error or a note.
+fn kind_of(finding: &Finding) -> &'static [u8]
+    ensures { result.now ≡ kind_text (Rattle.dm_findings.specs.Findings.is_error finding.now) }
+{
+    if finding.is_error() {
+        b"error"
+    } else {
+        b"note"
+    }
+}
+
+/// Puts the line of a finding: error or note, the number of its step, CS:IP before the step, what acted in it, and what
+/// was found.
+///
+/// # Errors
+///
+/// `AllocError` if an allocation fails.
+#[tactic(auto, unfolding(crate::specs::Texts::found_line))]
+pub fn put_found(out: &mut Vec<u8>, found: &Found) -> Result<(), AllocError>
+    ensures { OnOk result (out.new.items ≡ out.old.items ++ found_line found.now) }
+{
+    out.extend_from_slice(kind_of(&found.finding))?;
+    out.extend_from_slice(b": step ")?;
+    put_number(out, found.step)?;
+    out.extend_from_slice(b", ")?;
+    put_address(out, found.segment, found.offset)?;
+    out.extend_from_slice(b" ")?;
+    put_act(out, &found.act)?;
+    out.extend_from_slice(b": ")?;
+    put_finding(out, &found.finding)?;
+    out.extend_from_slice(b"\n")
+}
