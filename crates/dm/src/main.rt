@@ -13,8 +13,8 @@ use std::{env, io};
 
 /// Hands the words, the files and the standard streams to the library, and returns its status.
 ///
-/// What the operating system gives and takes is not known to a contract: that of `dm_main` says more, over files, readers and writers whose bytes
-/// are known.
+/// What the operating system gives and takes is not known to a contract: that of `dm_main` says more, over files,
+/// readers and writers whose bytes are known.
 fn call<S: AsStr>(rt: &HostRuntime, words: &[S]) -> ExitCode
     ensures { EndsWith (map S.text words.now) (exit_status result) }
 {

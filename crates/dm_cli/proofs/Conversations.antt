@@ -64,7 +64,8 @@ not_empty (x ∷ xs) ys some = λ e. cc
 
 -- ---- so far
 
--- `consumed` was read and `told` was written: what becomes of the rest, becomes of all. Where nothing more is to come, there is no rest
+-- `consumed` was read and `told` was written: what becomes of the rest, becomes of all. Where nothing more is to come,
+-- there is no rest
 pub record Spoken (n : ℕ) (s : Debugged) (known before : Option (List ℕ)) (left : ℕ) (t : Debugged) (rest after : Option (List ℕ)) (more : Bool) : Type 0 where
   pub consumed : List ℕ
   pub told : List ℕ

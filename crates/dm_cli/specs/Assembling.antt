@@ -32,8 +32,8 @@ pub data IsAsmFault (known : Option (List ℕ)) (path : List ℕ) : Fault → Ty
   text_refused : (text : List ℕ) (why : Refusal) → IsRead known text → Refuses text why → IsAsmFault known path (refusal_fault why)
   text_no_memory : IsAsmFault known path OutOfMemory
 
--- `dm asm`: the bytes of the text are written to a file; or that failed, as the counts of failed saves before and after tell; or the text has a fault.
--- In the last two no file was written
+-- `dm asm`: the bytes of the text are written to a file; or that failed, as the counts of failed saves before and after
+-- tell; or the text has a fault. In the last two no file was written
 pub data Assembles (files : List ℕ → Option (List ℕ)) (o : AsmOptions) (before after : Option (List (List ℕ × List ℕ))) (failed_before failed_after : ℕ) : Option Fault → Type 0 where
   saved : (bytes : List ℕ) → IsAssembled (files o.input.now) bytes → Saves before after o.output.now bytes
       → Assembles files o before after failed_before failed_after None

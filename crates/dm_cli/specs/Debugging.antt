@@ -19,7 +19,8 @@ use Rattle.dm_cli.specs.declared.fault.Fault.TheVariants.{InputTooLong, OutOfMem
 abbrev pub IsQuit : List ℕ → Type 0
 IsQuit line = (line ≡ 81 ∷ []) ⊎ (line ≡ 113 ∷ [])
 
--- what is written for a line, and the session after it: the command's answer, or why the line is refused, and then nothing has changed
+-- what is written for a line, and the session after it: the command's answer, or why the line is refused, and then
+-- nothing has changed
 pub data Tells (s : Debugged) (line : List ℕ) : Debugged → List ℕ → Type 0 where
   answered : (command : Command) (t : Debugged) (text : List ℕ) → command_of line ≡ Some command → is_syntax s (Some command) ≡ false → is_full s (Some command) ≡ false → Does s command text t → Tells s line t text
   no_command : is_syntax s (command_of line) ≡ true → Tells s line s (codes "? syntax" ++ 10 ∷ [])
@@ -27,9 +28,10 @@ pub data Tells (s : Debugged) (line : List ℕ) : Debugged → List ℕ → Type
 
 -- ---- the lines of a text
 
--- The lines of a text are answered one after the other, up to its end or a line that ends the session: what is written, the session after that,
--- the fault that ends them before, if one does, and whether each answer that is begun is written whole and handed on. A line ends with 0Ah, or with
--- the text; the lines may have n bytes in all, their ends among them.
+-- The lines of a text are answered one after the other, up to its end or a line that ends the session: what is written,
+-- the session after that, the fault that ends them before, if one does, and whether each answer that is begun is
+-- written whole and handed on. A line ends with 0Ah, or with the text; the lines may have n bytes in all, their ends
+-- among them.
 pub data Converses : ℕ → Debugged → List ℕ → List ℕ → Debugged → Option Fault → Bool → Type 0 where
   ended : (n : ℕ) (s : Debugged) → Converses n s [] [] s None true
   quits : (n : ℕ) (s : Debugged) (text : List ℕ) → length (take_through 10 text) ≤ n → IsQuit (first_piece 10 text) → Converses n s text [] s None true
@@ -47,8 +49,8 @@ pub data Converses : ℕ → Debugged → List ℕ → List ℕ → Debugged →
   not_handed_on : (n : ℕ) (s t : Debugged) (text told : List ℕ) (fault : Fault) → text ≢ [] → length (take_through 10 text) ≤ n
       → ¬ IsQuit (first_piece 10 text) → Tells s (first_piece 10 text) t told → IsWriteFault fault → Converses n s text told t (Some fault) false
 
--- the lines of a reader, whose bytes are known or not, and what was appended to a writer: an answer is cut or not handed on only where a write or a
--- flush failed
+-- the lines of a reader, whose bytes are known or not, and what was appended to a writer: an answer is cut or not
+-- handed on only where a write or a flush failed
 pub record IsConversation (n : ℕ) (known : Option (List ℕ)) (s t : Debugged) (before after : Option (List ℕ)) (failures : ℕ) (end : Option Fault) : Type 0 where
   pub text : List ℕ
   pub told : List ℕ
@@ -60,7 +62,8 @@ pub record IsConversation (n : ℕ) (known : Option (List ℕ)) (s t : Debugged)
 
 -- ---- the command
 
--- `dm debug`: the answers to the lines of standard input, which may have 16 MiB in all, up to a fault if there is one; or nothing
+-- `dm debug`: the answers to the lines of standard input, which may have 16 MiB in all, up to a fault if there is one;
+-- or nothing
 pub data Debugs (files : List ℕ → Option (List ℕ)) (typed : Option (List ℕ)) (o : DebugOptions) (before after : Option (List ℕ)) (failures : ℕ) : Option Fault → Type 0 where
   conversed : (m : State) (t : Debugged) (end : Option Fault) → IsStartedBy files (typed_in files o) o.machine m
       → IsConversation 16777216 typed (new_session m) t before after failures end → Debugs files typed o before after failures end

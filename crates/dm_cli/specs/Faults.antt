@@ -1,4 +1,5 @@
--- The faults of commands: those that a refusal of the machine or of the assembler becomes, and those of files and streams by their names.
+-- The faults of commands: those that a refusal of the machine or of the assembler becomes, and those of files and
+-- streams by their names.
 use Rattle.std.specs.Prelude.{ℕ, ◌≡◌, List, codes}
 use Rattle.dm_proc.specs.declared.programs.AddError.TheVariants as add
 use Rattle.dm_machine.specs.declared.machine.NewError.TheVariants as new

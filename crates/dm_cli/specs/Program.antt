@@ -23,7 +23,8 @@ use Rattle.dm_cli.specs.Statuses.{status_of, status_after}
 
 -- ---- the commands
 
--- `dm run`: the whole output of the run, behind what was written before; or a first part of it, where a write failed; or nothing
+-- `dm run`: the whole output of the run, behind what was written before; or a first part of it, where a write failed;
+-- or nothing
 pub data Runs (files : List ℕ → Option (List ℕ)) (typed : Option (List ℕ)) (o : MachineOptions) (before after : Option (List ℕ)) (failures : ℕ) : Result Stop Fault → Type 0 where
   ran : (m t : State) (stop : Stop) → IsStartedBy files typed o m → IsRun m o.steps stop t → Appends before after t.console.output
       → Runs files typed o before after failures (Ok stop)
@@ -33,8 +34,8 @@ pub data Runs (files : List ℕ → Option (List ℕ)) (typed : Option (List ℕ
 
 -- ---- the program
 
--- the bytes of files by their paths and of standard input, what stands on standard output before, and which files were written before, each where
--- it is known; and how many files could not be written before
+-- the bytes of files by their paths and of standard input, what stands on standard output before, and which files were
+-- written before, each where it is known; and how many files could not be written before
 pub record Given : Type 0 where
   pub files : List ℕ → Option (List ℕ)
   pub typed : Option (List ℕ)
@@ -42,7 +43,8 @@ pub record Given : Type 0 where
   pub saved : Option (List (List ℕ × List ℕ))
   pub failed_saves : ℕ
 
--- what is there afterwards, how many writes and flushes of standard output and how many saves of files have failed, and the exit status
+-- what is there afterwards, how many writes and flushes of standard output and how many saves of files have failed, and
+-- the exit status
 pub record Left : Type 0 where
   pub output : Option (List ℕ)
   pub failures : ℕ
@@ -55,7 +57,8 @@ pub record Asks (words : List Text) (o : Options) : Type 0 where
   pub right : fault_of dm_app words ≡ []
   pub says : IsSomeAnd (subcommand_of dm_app words) (λ given. HasOptions given o)
 
--- a wrong line, or a call for help, does nothing; a right one does what its command does; memory may be refused while the words are read
+-- a wrong line, or a call for help, does nothing; a right one does what its command does; memory may be refused while
+-- the words are read
 pub data Does (g : Given) (words : List Text) (l : Left) : Type 0 where
   usage : fault_of dm_app words ≢ [] → Keeps g.output l.output → l.saved ≡ g.saved → l.status ≡ 2 → Does g words l
   no_memory : Keeps g.output l.output → l.saved ≡ g.saved → l.status ≡ 126 → Does g words l

@@ -28,15 +28,16 @@ typed_in files o = bytes_if_any files (option_map (λ path. path.now) o.input)
 
 -- ---- faults
 
--- the fault of a first program: it isn't there, it is no program, or memory has no room for it. (Others are of names that no file of a store has.)
+-- the fault of a first program: it isn't there, it is no program, or memory has no room for it. (Others are of names
+-- that no file of a store has.)
 abbrev pub IsLoadFault : State → List ℕ → Fault → Type 0
 IsLoadFault fresh name NotFound = program_of fresh.programs name ≡ None
 IsLoadFault fresh name BadFormat = IsBadProgram fresh name
 IsLoadFault fresh name Short = HasNoRoom fresh name
 IsLoadFault fresh name _ = ¬ IsName name
 
--- the faults of a machine over a store and an input, in their order: its sizes are too large, its tail is too long, there is no first program, or it
--- can't be loaded
+-- the faults of a machine over a store and an input, in their order: its sizes are too large, its tail is too long,
+-- there is no first program, or it can't be loaded
 pub data IsMachineFault (store : List (List ℕ × List ℕ)) (input : List ℕ) (o : MachineOptions) : Fault → Type 0 where
   too_large : IsTooLarge (sizes_of o) → IsMachineFault store input o TooLarge
   long_tail : (fresh : State) → ¬ IsTooLarge (sizes_of o) → IsNew (sizes_of o) [] o.upper store input fresh → 126 < length o.tail.now → IsMachineFault store input o TailTooLong
@@ -56,7 +57,8 @@ pub record IsFileFault (files : List ℕ → Option (List ℕ)) (paths : List (L
   pub stores : Stores files before store
   pub faulty : IsFaultOf (files path) store path fault
 
--- the first fault that keeps a machine from its start: of the files in turn, of the console's input (which has that name, if it is read), of the machine
+-- the first fault that keeps a machine from its start: of the files in turn, of the console's input (which has that
+-- name, if it is read), of the machine
 pub data IsStartFault (files : List ℕ → Option (List ℕ)) (typed : Option (List ℕ)) (name : Option (List ℕ)) (o : MachineOptions) : Fault → Type 0 where
   of_file : (fault : Fault) → IsFileFault files (paths_of o) fault → IsStartFault files typed name o fault
   of_input : (store : List (List ℕ × List ℕ)) (fault : Fault) → Stores files (paths_of o) store → IsSomeAnd name (λ input. IsInputFault typed input fault)

@@ -31,16 +31,16 @@ pub data Stores (known : List ℕ → Option (List ℕ)) : List (List ℕ) → L
 abbrev pub IsInputFault : Option (List ℕ) → List ℕ → Fault → Type 0
 IsInputFault known name fault = IsUnread name fault ⊎ (fault ≡ OutOfMemory) ⊎ ((fault ≡ InputTooLong) × IfSome known (λ xs. 16777216 < length xs))
 
--- the faults that one file may have: its path names no file, or it can't be read; it is too long; its name is; its name stands in the store
--- already; or memory was refused. Those of its name come only once it was read
+-- the faults that one file may have: its path names no file, or it can't be read; it is too long; its name is; its name
+-- stands in the store already; or memory was refused. Those of its name come only once it was read
 pub data IsFaultOf (known : Option (List ℕ)) (store : List (List ℕ × List ℕ)) (path : List ℕ) : Fault → Type 0 where
   not_read : (fault : Fault) → IsInputFault known path fault → IsFaultOf known store path fault
   long_name : (bytes : List ℕ) → IsRead known bytes → 64 < length (last_part path) → IsFaultOf known store path NameTooLong
   twice : (bytes : List ℕ) → IsRead known bytes → IsName (last_part path) → has_name store (last_part path) ≡ true → IsFaultOf known store path NameTwice
   no_memory : IsFaultOf known store path OutOfMemory
 
--- a new machine of these sizes, with upper memory in its arena or not, with no variables, over a store and an input, and its first program loaded with a tail of at most 126
--- bytes
+-- a new machine of these sizes, with upper memory in its arena or not, with no variables, over a store and an input,
+-- and its first program loaded with a tail of at most 126 bytes
 pub record IsBegun (store : List (List ℕ × List ℕ)) (input : List ℕ) (sizes : Sizes) (upper : Bool) (paths : List (List ℕ)) (tail : List ℕ) (m : State) : Type 0 where
   pub fresh : State
   pub new : IsNew sizes [] upper store input fresh

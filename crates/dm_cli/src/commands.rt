@@ -43,7 +43,7 @@ fn run<'a, F: Storage, I: Read + Drop, W: Out>(
     }
 }
 
-/// The word that tells a stop which is no exit.
+/// The word for a stop that is not an exit.
 fn word_of(stop: Stop) -> &'static str {
     match stop {
         Stop::Steps => "steps",
@@ -56,7 +56,8 @@ fn word_of(stop: Stop) -> &'static str {
     }
 }
 
-/// Tells what a run came to, unless its program exited, and answers the status. That the telling fails changes nothing.
+/// Reports how a run ended, unless its program exited, and returns the status. If the report cannot be written, the
+/// status is the same.
 pub(crate) fn report<E: Write>(outcome: Result<Stop, Fault<'_>>, error: &mut E) -> u8
     ensures { result ≡ status_of outcome.entry }
 {
@@ -74,7 +75,8 @@ pub(crate) fn report<E: Write>(outcome: Result<Stop, Fault<'_>>, error: &mut E) 
     }
 }
 
-/// Tells the fault of a command that has one, and answers the status. That the telling fails changes nothing.
+/// Reports the fault of a command, if there is one, and returns the status. If the report cannot be written, the status
+/// is the same.
 fn told<E: Write>(outcome: Result<(), Fault<'_>>, error: &mut E) -> u8
     ensures { result ≡ status_after (end_of outcome.entry) }
 {
@@ -90,21 +92,24 @@ fn told<E: Write>(outcome: Result<(), Fault<'_>>, error: &mut E) -> u8
 /// The program `dm` over what it is given: the words of its command line, of which the first is the program's name,
 /// where files are opened and written, standard input, standard output and standard error. It returns the exit status.
 ///
-/// `dm run` exits with the program's code. At another stop it tells `stopped: ` and the stop, with status 125, and at
+/// `dm run` exits with the program's code. At another stop it reports `stopped: ` and the stop, with status 125, and at
 /// a fault `dm: ` and the fault, with status 126. It finds them in this order: of each file in turn `cannot read NAME`,
 /// `input too long` (over 16 MiB), `name too long` (over 64 bytes) and `name twice`; of standard input the first two;
 /// `too large` (over 512 pages or 15360 KiB), `tail too long` (over 126 bytes), `not found`, `bad format`, `short`;
 /// `cannot write standard output`.
 ///
-/// `dm debug` exits with status 0, also where the program has ended, or tells a fault with status 126, in the same order: the console's input
-/// is the file of `--input`, and none without it. The commands are read after `short`, a line at a time, and each is answered before the next is
-/// read; where they have more than 16 MiB, `input too long` comes after the answers so far.
+/// `dm debug` exits with status 0, also where the program has ended, or reports a fault with status 126, in the same
+/// order: the console's input is the file of `--input`, and none without it. The commands are read after `short`, a
+/// line at a time, and each is answered before the next is read; where they have more than 16 MiB, `input too long`
+/// comes after the answers so far.
 ///
-/// `dm asm` and `dm disasm` exit with status 0, or tell a fault with status 126: `cannot read NAME` or `input too long` of the file that
-/// they read, then `too long` (over 65,278 bytes of program) or `line N: ` and `syntax`, `unknown`, `range` or `twice`, then `cannot write
-/// NAME`. A text that is refused leaves the file of its bytes as it was.
+/// `dm asm` and `dm disasm` exit with status 0, or report a fault with status 126: `cannot read NAME` or
+/// `input too long` of the file that they read, then `too long` (over 65,278 bytes of program) or `line N: ` and
+/// `syntax`, `unknown`, `range` or `twice`, then `cannot write NAME`. A text with an error leaves the output file as it
+/// was.
 ///
-/// `out of memory` stands where memory was refused. A wrong command line or a call for help is told by `clap`'s text, with status 2.
+/// `out of memory` is reported if an allocation fails. For a wrong command line or a call for help `clap`'s text is
+/// printed, with status 2.
 pub fn dm_main<S: AsStr, F: Storage, I: Read + Drop, W: Out, E: Write>(
     alloc: Global,
     storage: &mut F,
@@ -131,7 +136,8 @@ pub fn dm_main<S: AsStr, F: Storage, I: Read + Drop, W: Out, E: Write>(
     }
 }
 
-/// Prints that a word of the command line is not UTF-8, and returns the status of a wrong line: 2, or 126 where memory was refused.
+/// Prints that a word of the command line is not UTF-8, and returns the status of a wrong line: 2, or 126 if an
+/// allocation failed.
 pub fn refuse_words<E: Write>(alloc: Global, error: &mut E) -> u8
     ensures { (result ≡ 2) ⊎ (result ≡ 126) }
 {

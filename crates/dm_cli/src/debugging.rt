@@ -27,7 +27,7 @@ const FULL: &[u8] = b"? full\n";
 /// The name of what commands are read from.
 const INPUT: &str = "standard input";
 
-/// The name of what answers are written to.
+/// The name of the stream that answers are written to.
 const OUTPUT: &str = "standard output";
 
 /// Whether a line ends the session.
@@ -77,7 +77,7 @@ fn next_line<R: BufRead>(
     }
 }
 
-/// Writes a line that refuses another.
+/// Writes that a line has an error.
 fn refuse<W: Out>(out: &mut W, told: &[u8]) -> Result<(), Fault<'static>>
     ensures ok { OnOk result (Appends (W.taken out.old) (W.taken out.new) told.now) }
     ensures err { IfErr result (λ e. IsWriteFault e × AppendsPart (W.taken out.old) (W.taken out.new) told.now × (0 < W.failures out.new)) }
@@ -88,7 +88,7 @@ fn refuse<W: Out>(out: &mut W, told: &[u8]) -> Result<(), Fault<'static>>
     }
 }
 
-/// Writes what a line's command prints, or why the line is refused.
+/// Writes what a line's command prints, or which error the line has.
 fn answer<W: Out>(
     alloc: Global,
     session: &mut Session,
@@ -107,7 +107,7 @@ fn answer<W: Out>(
     }
 }
 
-/// Answers a line, and hands the answer on before anything else is read.
+/// Answers a line, and flushes the answer before anything else is read.
 fn answer_at_once<W: Out>(
     alloc: Global,
     session: &mut Session,
@@ -124,7 +124,8 @@ fn answer_at_once<W: Out>(
     }
 }
 
-/// Answers the lines of the commands as they are read, up to their end or a line that ends the session. They may have 16 MiB in all.
+/// Answers the lines of the commands as they are read, up to their end or a line that ends the session. They may have
+/// 16 MiB in all.
 fn converse<R: BufRead, W: Out>(
     alloc: Global,
     session: &mut Session,

@@ -1,11 +1,11 @@
-//! What can go wrong, as it is told on standard error.
+//! What can go wrong, as it is reported on standard error.
 ghost use Rattle.std.specs.Prelude.{◌≡◌};
 
 use dm_asm::Refusal;
 use dm_machine::{AddError, LoadError, NewError};
 use thiserror::Error;
 
-/// A fault of a command. Its text is told after `dm: `, and the status is 126.
+/// A fault of a command. Its text is printed after `dm: `, and the status is 126.
 #[derive(Clone, Copy, Debug, PartialEq, Eq, Error)]
 pub(crate) enum Fault<'a> {
     #[error("cannot read {0}")]

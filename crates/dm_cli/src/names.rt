@@ -9,7 +9,7 @@ use crate::fault::Fault;
 /// The most bytes that a program's name may have.
 const MOST_NAME_BYTES: usize = 64;
 
-/// The part of a path behind its last `/`, or all of it.
+/// The part of a path after its last `/`, or all of it.
 fn last_part(path: &str) -> &[u8]
     ensures { result.now ≡ last_part path.now }
 {

@@ -16,7 +16,7 @@ use thiserror::Error;
 pub struct WriteFault;
 
 /// Makes up to `steps` steps, and then writes the machine's whole output as it then stands, also at a stop that is no
-/// exit. The answer is the stop. A program is loaded.
+/// exit. Returns the stop. A program is loaded.
 ///
 /// # Errors
 ///

@@ -1,4 +1,5 @@
--- The commands and arguments of `dm`, as the command-line library `clap` is given them (Rust's crate `clap`, version 4).
+-- The commands and arguments of `dm`, as the command-line library `clap` is given them (Rust's crate `clap`, version
+-- 4).
 use Rattle.std.specs.Prelude.{[], ◌∷◌, Some, true, codes}
 use Rattle.clap.specs.Words.{App, Rule, Text, new_app, new_rule, with_rule, with_subcommand}
 use Rattle.clap.specs.declared.builder.action.ArgAction.TheVariants as action

@@ -11,7 +11,7 @@ pub struct MachineOptions<'a> {
     pub ems_pages: u32,
     /// The KiB of extended memory, from `--xms`.
     pub xms_kib: u32,
-    /// Whether the arena goes on in upper memory, by `--upper`.
+    /// Whether upper memory belongs to the arena, by `--upper`.
     pub upper: bool,
     /// The tail of the program's command line, from `--tail`.
     pub tail: &'a str,
@@ -46,17 +46,17 @@ pub enum Options<'a> {
     Debug(DebugOptions<'a>),
     /// `dm asm`: assembles a text to a file.
     Asm(AsmOptions<'a>),
-    /// `dm disasm`: tells the lines of the file at this path.
+    /// `dm disasm`: disassembles the file at this path.
     Disasm(&'a str),
 }
 
 /// Why a command line gave no options.
 #[derive(Debug, Drop, Error)]
 pub enum OptionsError {
-    /// A wrong command line or a call for help, told by `clap`'s text.
+    /// A wrong command line or a call for help, with `clap`'s text.
     #[error("{0}")]
     Usage(clap::Error),
-    /// Memory was refused.
+    /// An allocation failed.
     #[error("out of memory")]
     Memory,
 }

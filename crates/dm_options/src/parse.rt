@@ -12,7 +12,7 @@ use std::alloc::{AllocError, Global};
 use std::convert::AsStr;
 
 // `clap` gives each of these arguments a value, by the words or by a default. So the error of the readers below
-// stands for a want of memory, which is what the caller tells.
+// stands for a failed allocation, which is what the caller reports.
 
 fn number_u64(matches: &ArgMatches<'_>, id: &str) -> Result<u64, AllocError>
     ensures { IfOk result (HasNumber 64 (one_of id.now (rows_of (found_of matches.now)))) }
@@ -123,16 +123,17 @@ fn found_options<'a>(alloc: Global, matches: &ArgMatches<'a>) -> Result<Options<
 
 /// Reads the words of a command line, of which the first is the program's name.
 ///
-/// `dm run [--steps N] [--ems PAGES] [--xms KIB] [--upper] [--tail TEXT] FILES...`: N is a decimal number below 2^64, PAGES and
-/// KIB are decimal numbers below 2^32, and there is at least one file. A number may begin with `+`. The defaults are
-/// 100000000, 64, 1024 and the empty text. An option that comes twice, or one that is unknown, is wrong.
+/// `dm run [--steps N] [--ems PAGES] [--xms KIB] [--upper] [--tail TEXT] FILES...`: N is a decimal number below 2^64,
+/// PAGES and KIB are decimal numbers below 2^32, and there is at least one file. A number may begin with `+`. The
+/// defaults are 100000000, 64, 1024 and the empty text. An option that comes twice, or one that is unknown, is wrong.
 ///
-/// `dm debug` takes the same, and `--input FILE`, which may be left out. `dm asm IN OUT` and `dm disasm IN` take paths alone.
+/// `dm debug` takes the same, and `--input FILE`, which may be left out. `dm asm IN OUT` and `dm disasm IN` take paths
+/// alone.
 ///
 /// # Errors
 ///
 /// `Usage` where `clap` finds a fault in the words, which a call for help is too; its kind is one of those that the
-/// first faulty step may have. `Memory` where memory was refused.
+/// first faulty step may have. `Memory` if an allocation failed.
 pub fn options<'a, S: AsStr>(alloc: Global, words: &'a [S]) -> Result<Options<'a>, OptionsError>
     ensures ok { IfOk result (λ o. IsSomeAnd (subcommand_of dm_app (map S.text words.entry.now)) (λ g. HasOptions g o)) }
     ensures no_fault { OnOk result (fault_of dm_app (map S.text words.entry.now) ≡ []) }
@@ -158,7 +159,7 @@ pub fn options<'a, S: AsStr>(alloc: Global, words: &'a [S]) -> Result<Options<'a
 ///
 /// # Errors
 ///
-/// `AllocError` where memory was refused.
+/// `AllocError` if an allocation failed.
 pub fn not_unicode(alloc: Global) -> Result<clap::Error, AllocError> {
     let mut command = dm_command(alloc)?;
     command.error(

@@ -27,7 +27,8 @@ const REFUSED: [(&str, ErrorKind); 2] = [
     ("full.com", ErrorKind::OutOfMemory),
 ];
 
-/// A line, the status, what it writes to a file behind the file's path, what it writes to standard output, and what it tells.
+/// A line, the status, what it writes to a file behind the file's path, what it writes to standard output, and what it
+/// tells.
 type Row<'a> = (&'a str, u8, &'a [u8], &'a [u8], &'a str);
 
 /// The files that are there.
@@ -74,7 +75,8 @@ const RUNS: [Row; 4] = [
     ),
 ];
 
-/// Faults of files: a path that names none, a file that is not opened, not read to its end, or has none; one that is not written.
+/// Faults of files: a path that names none, a file that is not opened, not read to its end, or has none; one that is
+/// not written.
 const FILE_FAULTS: [Row; 14] = [
     ("dm run d/", 126, b"", b"", "dm: cannot read d/\n"),
     (
@@ -170,7 +172,8 @@ const FILE_FAULTS: [Row; 14] = [
     ),
 ];
 
-/// Runs a command line over the files, with this standard input. Compares what is written, what is told, and the status.
+/// Runs a command line over the files, with this standard input. Compares what is written, what is told, and the
+/// status.
 fn tells(
     rt: &impl Abort,
     alloc: Global,

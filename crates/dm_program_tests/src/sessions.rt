@@ -1,4 +1,5 @@
-//! Sessions whose writer takes one byte at a time, and fails at some write. The figures are worked by hand from the manuals.
+//! Sessions whose writer takes one byte at a time, and fails at some write. The figures are worked by hand from the
+//! manuals.
 use crate::checks::same_of;
 use crate::files::Slow;
 use crate::machines::loaded_as;
@@ -82,8 +83,8 @@ exited 00
     ("O", ALL, Ok(()), "hi"),
 ];
 
-/// After a failed write all that the command changes has changed, and a first part of the answer was written. A refused line writes
-/// nothing.
+/// After a failed write all that the command changes has changed, and a first part of the answer was written. A refused
+/// line writes nothing.
 const FAILED: [Row; 13] = [
     ("B 1:2", 0, Err(Refusal::Write), ""),
     ("BL", ALL, Ok(()), "0001:0002\n"),
@@ -129,7 +130,8 @@ fn answers(
     Ok(())
 }
 
-/// Answers a listing with a writer that fails, or takes nothing, after so many bytes, and compares what is answered and taken.
+/// Answers a listing with a writer that fails, or takes nothing, after so many bytes, and compares what is answered and
+/// taken.
 fn breaks_off(
     rt: &impl Abort,
     alloc: Global,

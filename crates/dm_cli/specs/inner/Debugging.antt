@@ -11,7 +11,8 @@ use Rattle.dm_cli.specs.declared.fault.Fault.{Fault}
 use Rattle.dm_cli.specs.declared.fault.Fault.TheVariants.{OutOfMemory}
 use Rattle.dm_cli.specs.Debugging.{Tells}
 
--- a reader gave the next line: bytes of which none but the last is a line end, and that one is unless nothing is left, where that is known
+-- a reader gave the next line: bytes of which none but the last is a line end, and that one is unless nothing is left,
+-- where that is known
 pub record Reads (before after : Option (List ℕ)) (line : List ℕ) : Type 0 where
   pub consumes : Consumes before after line
   pub stops : StopsAt line 10
@@ -23,8 +24,8 @@ pub record IsAnsweredBy (s : Debugged) (line : List ℕ) (t : Debugged) (before 
   pub tells : Tells s line t text
   pub written : Appends before after text
 
--- it was not: memory for its answer was refused, and nothing was written; or a first part of its answer was written, and a write failed; or all of it,
--- and the flush that hands it on failed
+-- it was not: memory for its answer was refused, and nothing was written; or a first part of its answer was written,
+-- and a write failed; or all of it, and the flush that hands it on failed
 pub data IsUnanswered (s : Debugged) (line : List ℕ) (t : Debugged) (before after : Option (List ℕ)) (failures : ℕ) : Fault → Type 0 where
   cut_short : IsCutOff s line t → Keeps before after → IsUnanswered s line t before after failures OutOfMemory
   partly : (text : List ℕ) (fault : Fault) → Tells s line t text → AppendsPart before after text → 0 < failures → IsWriteFault fault → IsUnanswered s line t before after failures fault

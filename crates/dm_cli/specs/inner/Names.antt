@@ -9,7 +9,8 @@ use Rattle.dm_cli.specs.Names.{last_part}
 abbrev pub IsFileName : List ℕ → Type 0
 IsFileName name = (0 < length name) × (¬ Contains name 0)
 
--- why the file at a path has no name in the store: the last part of the path is no file's name, or it is one, and too long
+-- why the file at a path has no name in the store: the last part of the path is no file's name, or it is one, and too
+-- long
 abbrev pub IsNameFault : List ℕ → Fault → Type 0
 IsNameFault path fault =
     (IsUnread path fault × ¬ IsFileName (last_part path))
