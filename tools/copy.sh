@@ -1,6 +1,6 @@
 # What tools/build and tools/mutants share: a copy of the program's crates, without the crates of tests and what rt made of them.
 
-# Copies crates.txt up to its heading of tests, HANDLES, and the crates that it lists, to the folder $1. Wrong bodies stay behind.
+# Copies crates.txt up to its heading of tests, HANDLES, and the crates that it lists, to the folder $1. Mutants are left out.
 copy_crates() {
   mkdir "$1/crates"
   cp HANDLES "$1"

@@ -31,7 +31,8 @@ AllocateRefused upper S start strategy n owner (Short most) =
     × ((b : Header) → IsIn b (join upper L) → IsTrue (fits upper (in_effect upper L strategy) n b) → ⊥)
 AllocateRefused upper S start strategy n owner NoBlock = ⊥
 
--- the allocation of n paragraphs, from memory S to memory T. `upper` is the setting: whether upper memory belongs to the arena
+-- the allocation of n paragraphs, from memory S to memory T. `upper` is the setting: whether upper memory belongs to
+-- the arena
 abbrev pub Allocates : Bool → Memory → Strategy → ℕ → ℕ → Result ℕ Refusal → Memory → Type 0
 Allocates upper S strategy n owner (Ok segment) T =
     (t : Taking upper S first_header strategy n) × (segment ≡ taken strategy.fit n t.block + 1) × Becomes S first_header (changed t owner) T

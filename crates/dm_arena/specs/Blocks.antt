@@ -13,7 +13,8 @@ use Rattle.dm_arena.specs.declared.fit.Strategy.{Strategy}
 abbrev pub merge : Header → Header → Header
 merge b c = record b { size = b.size + (1 + c.size) }
 
--- the block b, then L, with each run of free blocks made one. `upper` is the setting: whether upper memory belongs to the arena
+-- the block b, then L, with each run of free blocks made one. `upper` is the setting: whether upper memory belongs to
+-- the arena
 abbrev pub join_after : Bool → Header → List Header → List Header
 join_after upper b [] = b ∷ []
 join_after upper b (c ∷ L) = cond (is_free upper b && is_free upper c) (join_after upper (merge b c) L) (b ∷ join_after upper c L)

@@ -30,7 +30,8 @@ pub record IsSo (S : Memory) (on : Bool) (T : Memory) : Type 0 where
   pub is : is_linked list ≡ on
   pub same : T ≡ S
 
--- the first list, which ends at the link block's header, goes on with the second; the first followed by the second is clear
+-- the first list, which ends at the link block's header, goes on with the second; the first followed by the second is
+-- clear
 pub record GoesOn (S T : Memory) : Type 0 where
   pub first : List Header
   pub second : List Header
@@ -48,7 +49,8 @@ pub record IsCutOff (S T : Memory) : Type 0 where
   pub begins : BeginsAt after link_header
   pub becomes : Becomes S first_header before T
 
--- to link: no arena; or one that doesn't end at the link block's header, or with which no second list is clear. To part: no arena
+-- to link: no arena; or one that doesn't end at the link block's header, or with which no second list is clear. To
+-- part: no arena
 abbrev pub LinkRefused : Memory → Bool → Type 0
 LinkRefused S true = NoArena S first_header ⊎ ((L : List Header) × IsArena S first_header L × (is_linked L ≡ false) × (EndsAt L link_header → NoArenaBehind S L link_header))
 LinkRefused S false = NoArena S first_header

@@ -8,7 +8,8 @@ use Rattle.dm_arena.specs.declared.refusal.Refusal.TheVariants.{Destroyed, NoBlo
 use Rattle.dm_blocks.specs.Chain.{Becomes, DiffersInHeaders, IsArena, IsArenaBehind, IsChain, IsClear, NoArena, NoArenaBehind, NoBlockAt, first_header, is_free, is_parted, link_header}
 use Rattle.dm_arena.specs.Blocks.{cut_low, merge}
 
--- the link block begins at the segment: no program frees or resizes it. There is one only where upper memory belongs to the arena
+-- the link block begins at the segment: no program frees or resizes it. There is one only where upper memory belongs to
+-- the arena
 abbrev pub is_link_block : Bool → ℕ → Bool
 is_link_block upper segment = upper && (segment == 0xA000)
 
@@ -35,8 +36,8 @@ FreeRefused upper S start segment Destroyed = NoArena S start
 FreeRefused upper S start segment (Short most) = ⊥
 FreeRefused upper S start segment NoBlock = (L : List Header) × IsArena S start L × IsNoBlock upper L segment
 
--- the freeing of the block at a segment, from memory S to memory T. `upper` is the setting: whether upper memory belongs to
--- the arena
+-- the freeing of the block at a segment, from memory S to memory T. `upper` is the setting: whether upper memory
+-- belongs to the arena
 abbrev pub Frees : Bool → Memory → ℕ → Result (Unit {0}) Refusal → Memory → Type 0
 Frees upper S segment (Ok u) T = (b : BlockAt upper S first_header segment) × Becomes S first_header (b.before ++ freed b.block ∷ b.after) T
 Frees upper S segment (Err e) T = (T ≡ S) × FreeRefused upper S first_header segment e

@@ -66,7 +66,8 @@ pub record Placed : Type 0 where
 abbrev pub placed_of : Planned → Placed
 placed_of pair = record { environment = pair.environment; program = pair.program; size = pair.size }
 
--- a pair planned and written, from memory S to memory T. `upper` is the setting: whether upper memory belongs to the arena
+-- a pair planned and written, from memory S to memory T. `upper` is the setting: whether upper memory belongs to the
+-- arena
 abbrev pub Pairs : Bool → Memory → Strategy → ℕ → ℕ → ℕ → Result Placed Refusal → Memory → Type 0
 Pairs upper S strategy environment least most (Ok placed) T =
     (pair : Planned) × (p : IsPair upper S first_header strategy environment least most pair) × (placed ≡ placed_of pair)

@@ -13,7 +13,7 @@ use crate::standing::may_split;
 use dm_blocks::{FIRST, is_arena, is_last};
 use dm_space::Space;
 
-/// What an allocation will write and answer.
+/// What an allocation will write and return.
 #[derive(Clone, Copy)]
 struct Plan {
     cut: Cut,
@@ -65,14 +65,14 @@ fn write_joined(space: &mut Space, cut: Cut, upper: bool)
     write_cut(space, cut, last);
 }
 
-/// Allocates a block of n paragraphs to an owner, and answers the block's segment (MS-DOS
+/// Allocates a block of n paragraphs to an owner, and returns the block's segment (MS-DOS
 /// Programmer's Reference, function 48h).
 ///
 /// Runs of free blocks are joined first. Of the free blocks with at least n paragraphs that it looks
 /// at the strategy takes one. Of a block that is larger, first and best fit take the low end, last fit the high end;
-/// the rest stays free behind a header of its own. n may be 0.
+/// the rest stays free, after a header of its own. n may be 0.
 ///
-/// `upper` tells whether upper memory belongs to the arena: then the link block counts as taken, and
+/// `upper` says whether upper memory belongs to the arena: then the link block counts as taken, and
 /// where the list is linked the strategy's area counts; else it looks at all blocks.
 ///
 /// Bytes 0 to 4 of the headers of the new list are all that changes.
@@ -82,7 +82,7 @@ fn write_joined(space: &mut Space, cut: Cut, upper: bool)
 /// `Destroyed` where memory spells no clear list; else `Short` where no free block that the strategy
 /// looks at is large enough, with the size of the largest of them once runs of free blocks are
 /// joined, 0 if there is none; else
-/// `Destroyed` where the new list would not be clear. A refusal changes no byte.
+/// `Destroyed` where the new list would not be clear. A call that fails changes no byte.
 pub fn allocate(
     space: &mut Space,
     strategy: Strategy,

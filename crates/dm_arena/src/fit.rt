@@ -34,7 +34,7 @@ impl Strategy {
     }
 }
 
-/// The blocks that a strategy looks at in a list that goes on in upper memory; in others, all.
+/// The blocks that a strategy looks at in a list that continues in upper memory; in others, all.
 #[derive(Clone, Copy, Debug, PartialEq, Eq)]
 pub enum Area {
     /// All blocks alike.
@@ -65,7 +65,7 @@ pub(crate) struct Choice {
     pub(crate) largest: u16,
 }
 
-/// The strategy that is in effect: it looks at all blocks, unless the list goes on in upper memory.
+/// The strategy that is in effect: it looks at all blocks, unless the list continues in upper memory.
 pub(crate) fn in_effect(space: &Space, strategy: Strategy, upper: bool) -> Strategy
     requires { (L : List Header) × IsSpelledFrom space.now.memory first_header L }
     ensures { (L : List Header) → IsSpelledFrom space.now.memory first_header L → result ≡ Blocks.in_effect upper L strategy }

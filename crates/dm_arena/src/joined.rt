@@ -10,7 +10,7 @@ use dm_blocks::{Entry, FIRST, entry_at};
 use dm_space::Space;
 
 /// The header at a segment from which a list is spelled, its block joined with the free blocks
-/// behind it if it is free itself.
+/// after it if it is free itself.
 pub(crate) fn joined_at(space: &Space, segment: u16, upper: bool) -> Entry
     requires { (L : List Header) × IsSpelledFrom space.now.memory segment L }
     ensures there { result.header.segment ≡ segment }

@@ -1,23 +1,23 @@
 //! Laws of the arena's definitions, proved of no memory in particular.
 ghost use Rattle.dm_arena.specs.Laws.{AllocationHasOneAnswer, FreeingHasOneAnswer, ResizingHasOneAnswer, ReleasingHasOneAnswer, PairingHasOneAnswer, LinkingHasOneAnswer, IgnoresUnseen, IsConventional};
 
-/// Memory, setting, strategy, size and owner determine what an allocation answers and every byte that it
+/// Memory, setting, strategy, size and owner determine what an allocation returns and every byte that it
 /// leaves.
 pub fn allocation_has_one_answer()
     ensures { AllocationHasOneAnswer }
 {}
 
-/// Memory, setting and segment determine what freeing a block answers and every byte that it leaves.
+/// Memory, setting and segment determine what freeing a block returns and every byte that it leaves.
 pub fn freeing_has_one_answer()
     ensures { FreeingHasOneAnswer }
 {}
 
-/// Memory, setting, segment and size determine what resizing a block answers and every byte that it leaves.
+/// Memory, setting, segment and size determine what resizing a block returns and every byte that it leaves.
 pub fn resizing_has_one_answer()
     ensures { ResizingHasOneAnswer }
 {}
 
-/// Memory, setting and owner determine what freeing an owner's blocks answers and every byte that it leaves.
+/// Memory, setting and owner determine what freeing an owner's blocks returns and every byte that it leaves.
 pub fn releasing_has_one_answer()
     ensures { ReleasingHasOneAnswer }
 {}
@@ -28,7 +28,7 @@ pub fn pairing_has_one_answer()
     ensures { PairingHasOneAnswer }
 {}
 
-/// Memory determines what linking or parting the lists answers and every byte that it leaves.
+/// Memory determines what linking or unlinking the lists returns and every byte that it leaves.
 pub fn linking_has_one_answer()
     ensures { LinkingHasOneAnswer }
 {}

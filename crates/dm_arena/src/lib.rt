@@ -1,4 +1,4 @@
-//! The arena: memory handed out in blocks of paragraphs, by lists of headers that the bytes of
+//! The arena: memory allocated in blocks of paragraphs, by lists of headers that the bytes of
 //! memory spell (MS-DOS Programmer's Reference, "Arena header", functions 48h to 4Ah and 58h).
 //!
 //! Nothing is kept beside those bytes: a program that has written over a header meets a destroyed

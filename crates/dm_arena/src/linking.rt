@@ -1,4 +1,4 @@
-//! Whether the arena goes on in upper memory (function 58h, AL = 2 and 3).
+//! Whether the arena continues in upper memory (function 58h, AL = 2 and 3).
 ghost use Rattle.std.specs.Prelude.{◌≡◌};
 ghost use Rattle.dm_arena.specs.Linking.{Links, TellsLinked};
 

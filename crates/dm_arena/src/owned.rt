@@ -28,12 +28,12 @@ fn find_block(space: &Space, segment: u16, upper: bool) -> Option<Entry>
 /// Frees the block at a segment (MS-DOS Programmer's Reference, function 49h).
 ///
 /// Its owner becomes 0; nothing is joined, and a free block stays free. Bytes 0 to 4 of its header
-/// are all that changes. `upper` tells whether upper memory belongs to the arena.
+/// are all that changes. `upper` says whether upper memory belongs to the arena.
 ///
 /// # Errors
 ///
 /// `Destroyed` where memory spells no clear list, else `NoBlock` where no block of the list begins
-/// at the segment, or the link block does. A refusal changes no byte.
+/// at the segment, or the link block does. A call that fails changes no byte.
 pub fn free(space: &mut Space, segment: u16, upper: bool) -> Result<(), Refusal>
     ensures memory { Frees upper space.old.memory segment result space.new.memory }
     ensures scratch { space.new.scratch ≡ space.old.scratch }
@@ -55,7 +55,7 @@ pub fn free(space: &mut Space, segment: u16, upper: bool) -> Result<(), Refusal>
     Ok(())
 }
 
-/// A header whose block takes in the run of free blocks behind it.
+/// A header whose block takes in the run of free blocks after it.
 fn grow(space: &Space, entry: Entry, upper: bool) -> Entry
     requires fits { next entry.header ≤ 0xFFFF }
     requires growable { (K : List Header) × IsGrowable space.now.memory entry K }
@@ -78,15 +78,15 @@ fn grow(space: &Space, entry: Entry, upper: bool) -> Entry
 
 /// Gives the block at a segment n paragraphs (MS-DOS Programmer's Reference, function 4Ah).
 ///
-/// The block first takes in the run of free blocks behind it, then it is cut to n as by first fit.
-/// Its owner stays. Bytes 0 to 4 of its header and of the one behind its n paragraphs are all that
-/// changes. `upper` tells whether upper memory belongs to the arena.
+/// The block first takes in the run of free blocks after it, then it is cut to n as by first fit.
+/// Its owner stays. Bytes 0 to 4 of its header and of the one after its n paragraphs are all that
+/// changes. `upper` says whether upper memory belongs to the arena.
 ///
 /// # Errors
 ///
 /// `Destroyed` where memory spells no clear list; else `NoBlock` where no block of the list begins
-/// at the segment, or the link block does; else `Short` where n is over the block's size with its run, which it tells; else
-/// `Destroyed` where the new list would not be clear. A refusal changes no byte.
+/// at the segment, or the link block does; else `Short` where n is over the block's size with its run, which it
+/// returns; else `Destroyed` where the new list would not be clear. A call that fails changes no byte.
 pub fn resize(space: &mut Space, segment: u16, n: u16, upper: bool) -> Result<(), Refusal>
     ensures memory { Resizes upper space.old.memory segment n result space.new.memory }
     ensures scratch { space.new.scratch ≡ space.old.scratch }
@@ -150,7 +150,7 @@ fn release(space: &mut Space, first: u16, owner: u16)
 
 /// Frees each block of an owner, as at the end of a program. Nothing is joined.
 ///
-/// `upper` tells whether upper memory belongs to the arena. Where the list isn't linked then, the
+/// `upper` says whether upper memory belongs to the arena. Where the list isn't linked then, the
 /// second list's blocks are freed too. Bytes 0 to 4 of the headers of the lists are all that changes.
 ///
 /// # Errors

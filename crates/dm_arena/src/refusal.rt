@@ -1,7 +1,7 @@
-//! Why an arena call was refused.
+//! Why an arena call failed.
 use thiserror::Error;
 
-/// Why an arena call was refused. A refused call has changed no byte.
+/// Why an arena call failed. It has changed no byte.
 #[derive(Clone, Copy, Debug, PartialEq, Eq, Error)]
 pub enum Refusal {
     /// Memory spells no list of blocks, or none that is clear, or the list that the call would
@@ -11,7 +11,7 @@ pub enum Refusal {
     /// No free block is large enough (DOS error 8, "Not enough memory").
     #[error("not enough memory")]
     Short {
-        /// In paragraphs, the largest size that would have been served; of two blocks together, the
+        /// In paragraphs, the largest size that would have succeeded; of two blocks together, the
         /// largest free block that the strategy looks at.
         largest: u16,
     },

@@ -9,7 +9,7 @@ ghost use Rattle.dm_arena.specs.inner.Walks.{IsHeaderWritten};
 use dm_blocks::Entry;
 use dm_space::Space;
 
-/// Tells a proof how large the memory is: a byte that is written is read back where there is one.
+/// Gives proofs the size of memory: a byte that is written is read back where there is one.
 fn knows_sizes(space: &Space)
     ensures held { IsHeld space.now }
 {

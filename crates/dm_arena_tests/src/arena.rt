@@ -154,8 +154,8 @@ fn rest_of_a_block_may_be_empty(rt: HostRuntime) -> Result<(), Fail> {
 }
 
 /// Definitions: dm_blocks Chain Becomes DiffersInHeaders
-/// Definitions: dm_arena Blocks IsFit fits is_candidate prefers prefers_in prefers_by largest cut cut_low cut_high taken
-/// Definitions: dm_arena Allocation Allocates Taking changed
+/// Definitions: dm_arena Blocks IsFit fits is_candidate prefers prefers_in prefers_by largest cut cut_low cut_high
+/// taken Definitions: dm_arena Allocation Allocates Taking changed
 #[test]
 fn strategies_take_other_blocks(rt: HostRuntime) -> Result<(), Fail> {
     let rows = [
@@ -234,7 +234,8 @@ fn nothing_is_freed_inside_a_block(rt: HostRuntime) -> Result<(), Fail> {
 /// Definitions: dm_blocks Chain IsArena NoArena first_header
 /// Definitions: dm_blocks Listing Steps IsStep IsStepFrom Follows Closes AreTold
 /// Definitions: dm_arena Allocation AllocateRefused
-/// Definitions: dm_arena Owned Frees BlockAt freed FreeRefused IsNoBlock is_link_block ResizeRefused Releases ReleasesOne ReleasesBoth ReleaseRefused released released_block
+/// Definitions: dm_arena Owned Frees BlockAt freed FreeRefused IsNoBlock is_link_block ResizeRefused Releases
+/// ReleasesOne ReleasesBoth ReleaseRefused released released_block
 #[test]
 fn broken_signature_destroys_the_arena(rt: HostRuntime) -> Result<(), Fail> {
     let mut space = new_space(rt.alloc())?;

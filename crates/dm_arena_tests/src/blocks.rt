@@ -127,7 +127,8 @@ fn leaves(
 type Row<'a> = (&'a [(u16, u16)], Call, &'a [(u16, u16)]);
 
 /// Definitions: dm_blocks Chain Becomes DiffersInHeaders
-/// Definitions: dm_arena Owned Frees BlockAt freed FreeRefused IsNoBlock is_link_block Resizes BlockRunAt resized absorb AllFree BeginsTaken Releases ReleasesOne ReleasesBoth ReleaseRefused released released_block
+/// Definitions: dm_arena Owned Frees BlockAt freed FreeRefused IsNoBlock is_link_block Resizes BlockRunAt resized
+/// absorb AllFree BeginsTaken Releases ReleasesOne ReleasesBoth ReleaseRefused released released_block
 #[test]
 fn blocks_are_resized_and_freed(rt: HostRuntime) -> Result<(), Fail> {
     let rows: [Row; 15] = [
@@ -208,8 +209,8 @@ fn blocks_are_resized_and_freed(rt: HostRuntime) -> Result<(), Fail> {
 }
 
 /// Definitions: dm_blocks Chain Becomes DiffersInHeaders
-/// Definitions: dm_arena Blocks join join_after merge IsFit fits is_candidate prefers prefers_in prefers_by largest cut cut_low cut_high taken
-/// Definitions: dm_arena Allocation Allocates Taking changed
+/// Definitions: dm_arena Blocks join join_after merge IsFit fits is_candidate prefers prefers_in prefers_by largest cut
+/// cut_low cut_high taken Definitions: dm_arena Allocation Allocates Taking changed
 #[test]
 fn strategies_choose_and_cut(rt: HostRuntime) -> Result<(), Fail> {
     let [first, best, last] = [
@@ -505,7 +506,8 @@ fn refused_calls_leave_the_list(rt: HostRuntime) -> Result<(), Fail> {
     Ok(())
 }
 
-/// Definitions: dm_blocks Chain IsHeader word next signature IsChain Spells IsNonEmpty IsClear HasHeader IsArena NoArena first_header
+/// Definitions: dm_blocks Chain IsHeader word next signature IsChain Spells IsNonEmpty IsClear HasHeader IsArena
+/// NoArena first_header
 #[test]
 fn bytes_that_spell_no_list(rt: HostRuntime) -> Result<(), Fail> {
     // the list, and the byte at 0100h:offset that breaks it

@@ -47,8 +47,8 @@ low_high w = w % 256 ∷ w / 256 ∷ []
 abbrev pub outlined : Instruction → Words
 outlined i = record { mnemonic = i.mnemonic; first = outline_of i.mnemonic i.first; second = outline_of i.mnemonic i.second }
 
--- the length of an instruction: as if each label stood at 0, each byte were in range and each target near. Where the table has no such
--- instruction, the line is wrong whatever its labels are
+-- the length of an instruction: as if each label stood at 0, each byte were in range and each target near. Where the
+-- table has no such instruction, the line is wrong whatever its labels are
 pub record HasShape (i : Instruction) (n : ℕ) : Type 0 where
   pub ins : Ins
   pub prefixes : ins.prefixes ≡ i.prefixes
@@ -66,8 +66,9 @@ HasLength (words vs) n = n ≡ 2 * length vs
 
 -- ---- bytes
 
--- the bytes of an instruction that stands at an offset: an instruction of the table with the prefixes and the operands that are
--- written, in its preferred bytes. It has its length before labels have places, so that the offset of the next one is known
+-- the bytes of an instruction that stands at an offset: an instruction of the table with the prefixes and the operands
+-- that are written, in its preferred bytes. It has its length before labels have places, so that the offset of the next
+-- one is known
 pub record IsCoded (labels : List Label) (at : ℕ) (i : Instruction) (code : List ℕ) : Type 0 where
   pub shape : HasShape i (length code)
   pub written : Words

@@ -26,8 +26,8 @@ ListingsAssemble = (bytes text : List ℕ) → AllByRecursion (λ b. b < 2 ^ 8) 
 abbrev pub ListingsAreAnswered : Type 0
 ListingsAreAnswered = (bytes text : List ℕ) (answer : Result (List ℕ) Refusal) → AllByRecursion (λ b. b < 2 ^ 8) bytes → length bytes ≤ most → IsListing bytes text → IsAnswer text answer → answer ≡ Ok bytes
 
--- the bytes at a place, so many, are an instruction of a text in its preferred bytes: one of the table with the prefixes and the
--- operands that are written
+-- the bytes at a place, so many, are an instruction of a text in its preferred bytes: one of the table with the
+-- prefixes and the operands that are written
 pub record IsSpelled (labels : List Label) (bytes : List ℕ) (at long : ℕ) (i : Instruction) : Type 0 where
   pub written : Words
   pub placed : placed_words labels (0x100 + at + long) i ≡ Some written
@@ -37,6 +37,7 @@ pub record IsSpelled (labels : List Label) (bytes : List ℕ) (at long : ℕ) (i
   pub stands : Stands bytes at ins long
   pub preferred : IsPreferred ins (bytes_at bytes at long)
 
--- the bytes of a text spell each of its instructions at the instruction's place, which is behind the bytes of all statements before it
+-- the bytes of a text spell each of its instructions at the instruction's place, which is behind the bytes of all
+-- statements before it
 abbrev pub TextsAreSpelled : Type 0
 TextsAreSpelled = (text bytes : List ℕ) (before after : List Sized) (x : Sized) (i : Instruction) → Assembles text bytes → Laid (lines_of text) (before ++ x ∷ after) → x.statement.item ≡ instruction i → IsSpelled (labels_of (before ++ x ∷ after)) bytes (total before) x.long i

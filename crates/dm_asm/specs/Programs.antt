@@ -1,7 +1,8 @@
--- The program that a text is: a statement a line, each label at the offset of its statement, the bytes of each statement behind
--- those of the ones before it, from offset 0100h on; and what is first wrong with a text that is none. Nothing here goes over a text
--- in passes.
--- Source: Intel 8086 Family User's Manual, section 2.9 (ASM-86); the order of refusals is this machine's own (docs/DECISIONS.md).
+-- The program that a text is: a statement a line, each label at the offset of its statement, the bytes of each
+-- statement behind those of the ones before it, from offset 0100h on; and what is first wrong with a text that is none.
+-- Nothing here goes over a text in passes.
+-- Source: Intel 8086 Family User's Manual, section 2.9 (ASM-86); the order of refusals is this machine's own
+-- (docs/DECISIONS.md).
 use Rattle.std.specs.Prelude.{◌≡◌, ℕ, ◌+◌, ◌<◌, ◌≤◌, List, [], ◌∷◌, ◌++◌, length, Option, Some, None, Result, Ok, Err}
 use Rattle.dm_lines.specs.declared.token.Name as Name'
 use Rattle.dm_lines.specs.Statements.{Statement, line_of}
@@ -60,7 +61,8 @@ pub record Laid (lines : List (List ℕ)) (xs : List Sized) : Type 0 where
 
 -- ---- the program
 
--- a program has at most 65,278 bytes: the segment's 10000h without the 0100h before it and the two of the stack behind it
+-- a program has at most 65,278 bytes: the segment's 10000h without the 0100h before it and the two of the stack behind
+-- it
 abbrev pub most : ℕ
 most = 65278
 
@@ -94,7 +96,8 @@ pub record IsBehindGood (text : List ℕ) (n : ℕ) (line : List ℕ) (xs : List
   pub number : n ≡ length before + 1
   pub laid : Laid before xs
 
--- statement n of a text whose lines all read, with no label twice, and have room together; all statements before it have bytes
+-- statement n of a text whose lines all read, with no label twice, and have room together; all statements before it
+-- have bytes
 pub record IsBehindCoded (text : List ℕ) (n : ℕ) (labels : List Label) (at : ℕ) (x : Sized) : Type 0 where
   pub before : List Sized
   pub after : List Sized
@@ -106,8 +109,8 @@ pub record IsBehindCoded (text : List ℕ) (n : ℕ) (labels : List Label) (at :
   pub pieces : List (List ℕ)
   pub coded : AreCoded labels 0x100 before pieces
 
--- what is first wrong: a line that doesn't read, or else has the label of one before it; else too many bytes; else a line that names
--- a label that no line has, or else has no bytes
+-- what is first wrong: a line that doesn't read, or else has the label of one before it; else too many bytes; else a
+-- line that names a label that no line has, or else has no bytes
 pub data Refuses (text : List ℕ) : Refusal → Type 0 where
   syntax : (n : ℕ) (line : List ℕ) (xs : List Sized) → IsBehindGood text n line xs → ((x : Sized) → Reads line x → ⊥) → Refuses text (refusal.Syntax n)
   twice : (n : ℕ) (line : List ℕ) (xs : List Sized) (x : Sized) → IsBehindGood text n line xs → Reads line x → (IsFree x.statement.label (labels_of xs) → ⊥) → Refuses text (refusal.Twice n)

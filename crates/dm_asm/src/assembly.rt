@@ -149,8 +149,9 @@ fn emit(alloc: Global, text: &[u8], labels: &Labels, known: &Known) -> Result<Ve
 ///
 /// # Errors
 ///
-/// In this order: the first line with `Syntax` or `Twice` (`Syntax` where it has both); `TooLong` over 65,278 bytes; the first line with
-/// `Unknown` or `Range` (`Unknown` where it has both). `Memory` may stand in the place of any answer, where memory was refused.
+/// In this order: the first line with `Syntax` or `Twice` (`Syntax` where it has both); `TooLong` over 65,278 bytes;
+/// the first line with `Unknown` or `Range` (`Unknown` where it has both). `Memory` may be returned in place of any
+/// result, if an allocation fails.
 pub fn assemble(alloc: Global, text: &[u8]) -> Result<Vec<u8>, Refusal>
     // The text has these bytes.
     ensures assembled { IfOk result (λ v. Assembles text.now v.items) }

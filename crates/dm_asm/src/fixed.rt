@@ -55,8 +55,8 @@ fn is_target(operand: Operand) -> bool
     matches!(operand, Operand::Target(_))
 }
 
-/// The bytes of an instruction that names no label and has no target, so that they are the same wherever it stands; None for any
-/// other one, and where the table has none.
+/// The bytes of an instruction that names no label and has no target, so that they are the same wherever it stands;
+/// None for any other one, and where the table has none.
 pub(crate) fn fixed_code(instruction: &Instruction) -> Option<ArrayVec<u8, 16>>
     ensures { IfSome result (λ code. (list : List Label) (at : ℕ) → IsCoded list at instruction.now code.items) }
 {

@@ -19,7 +19,7 @@ pub(crate) enum Line {
     Open,
 }
 
-/// What is kept of the first of some lines, and what of those behind it.
+/// What is kept of the first of some lines, and what of those after it.
 pub(crate) fn first_line(lines: &[Line]) -> Option<(Line, &[Line])>
     ensures { MatchOption result (lines.now ≡ []) (λ r. lines.now ≡ r.0 ∷ r.1.now) }
 {
@@ -33,7 +33,7 @@ pub(crate) fn first_line(lines: &[Line]) -> Option<(Line, &[Line])>
 #[derive(Drop)]
 pub(crate) struct Known {
     pub(crate) lines: Vec<Line>,
-    /// The bytes of the lines that are known, one behind the other.
+    /// The bytes of the lines that are known, one after the other.
     pub(crate) bytes: Vec<u8>,
 }
 
@@ -66,7 +66,7 @@ impl Known {
         Ok(())
     }
 
-    /// One more line, an instruction; answers how many bytes it has, or None where the table has none such.
+    /// One more line, an instruction; returns how many bytes it has, or None where the table has none such.
     fn put_instruction(&mut self, instruction: &Instruction) -> Result<Option<usize>, AllocError>
         ensures { IfOk result (λ n. KeepsOf self.old self.new (encoded instruction.now) n) }
     {
@@ -82,7 +82,7 @@ impl Known {
         }
     }
 
-    /// One more line, a DB; answers how many bytes it has.
+    /// One more line, a DB; returns how many bytes it has.
     fn put_data(&mut self, amounts: &[Amount]) -> Result<Option<usize>, AllocError>
         requires { length amounts.now ≤ 255 }
         ensures { IfOk result (λ n. KeepsOf self.old self.new (data_bytes amounts.now) n) }
@@ -94,8 +94,8 @@ impl Known {
         Ok(Some(amounts.len()))
     }
 
-    /// One more line with this item, whose data lies in `items`; answers how many bytes it has, or None where the table has no such
-    /// instruction.
+    /// One more line with this item, whose data lies in `items`; returns how many bytes it has, or None where the table
+    /// has no such instruction.
     pub(crate) fn put(&mut self, item: Item, items: &Items) -> Result<Option<usize>, AllocError>
         ensures { IfOk result (λ n. KeepsOf self.old self.new (seen_item items.now item) n) }
     {

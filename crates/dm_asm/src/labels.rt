@@ -34,7 +34,7 @@ impl Labels {
         self.places.get(&name.bytes).copied()
     }
 
-    /// Adds a label, where no line had it; answers whether that is so.
+    /// Adds a label, unless an earlier line has it; returns whether it was added.
     pub(crate) fn add(&mut self, name: &Name, place: u128) -> Result<bool, AllocError>
         ensures added { IfOk result (λ added. added ≡ true → (labels : List Label) → AreKept self.old labels → (find_of name.now labels ≡ None) × AreKept self.new (labels ++ record { name = name.now; place = place } ∷ [])) }
         ensures had { IfOk result (λ added. added ≡ false → (labels : List Label) → AreKept self.old labels → find_of name.now labels ≡ None → ⊥) }

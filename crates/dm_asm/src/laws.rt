@@ -7,17 +7,17 @@ use dm_lines::{
 };
 use dm_read::{own_words_are_read, stand_ins_have_the_length, words_are_one_instruction};
 
-/// The law that a text has one answer: the same bytes always, or no bytes and the same refusal. So `assemble` finds bytes exactly
-/// where the text has some, where it finds memory. It does nothing when called.
+/// The law that a text has one result: the same bytes always, or no bytes and the same error. So `assemble` finds bytes
+/// exactly where the text has some, where it finds memory. It does nothing when called.
 pub fn texts_have_one_answer()
     ensures { TextsHaveOneAnswer }
 {
     words_are_one_instruction();
 }
 
-/// The laws that the lines of some bytes have these bytes, where there are at most 65,278 of them, and so are answered with these bytes
-/// and with no refusal: where both find memory, `assemble` makes of the lines that `disassemble` makes of some bytes these bytes again.
-/// It does nothing when called.
+/// The laws that the lines of some bytes have these bytes, where there are at most 65,278 of them, and so assemble to
+/// these bytes and to no error: where both find memory, `assemble` makes of the lines that `disassemble` makes of some
+/// bytes these bytes again. It does nothing when called.
 pub fn listings_assemble()
     ensures bytes { ListingsAssemble }
     ensures answer { ListingsAreAnswered }
@@ -32,9 +32,10 @@ pub fn listings_assemble()
     data_is_read();
 }
 
-/// The law that the bytes of a text spell each of its instructions at the instruction's place, which is behind the bytes of all
-/// statements before it: `decode` finds there an instruction of the table with the prefixes and the operands that are written, as
-/// long as it counts in the text, and in the bytes that `encode` chooses. It does nothing when called.
+/// The law that the bytes of a text spell each of its instructions at the instruction's place, which comes after the
+/// bytes of all statements before it: `decode` finds there an instruction of the table with the prefixes and the
+/// operands that are written, as long as it counts in the text, and in the bytes that `encode` chooses. It does nothing
+/// when called.
 pub fn texts_are_spelled()
     ensures { TextsAreSpelled }
 {

@@ -20,8 +20,8 @@ fn trimmed(line: &[u8]) -> &[u8]
     }
 }
 
-/// The first line of a text, without its end, and the text behind it. A line ends with 0Ah, before which one 0Dh is dropped, or with
-/// the text.
+/// The first line of a text, without its end, and the text after it. A line ends with 0Ah, before which one 0Dh is
+/// dropped, or with the text.
 pub(crate) fn next_line(text: &[u8]) -> Option<(&[u8], &[u8])>
     ensures line { MatchOption result (text.now ≡ []) (λ x. lines_of text.now ≡ x.0.now ∷ lines_of x.1.now) }
     ensures shorter { IfSome result (λ x. length x.1.now < length text.now) }

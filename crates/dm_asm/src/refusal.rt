@@ -20,7 +20,7 @@ pub enum Refusal {
     /// The program has over 65,278 bytes.
     #[error("too long")]
     TooLong,
-    /// Memory was refused.
+    /// An allocation failed.
     #[error("out of memory")]
     Memory,
 }

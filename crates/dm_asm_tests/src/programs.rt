@@ -1,5 +1,6 @@
-//! Programs and their bytes, by the manual (Intel 8086 Family User's Manual, section 2.9 and section 4), written by hand; and texts that
-//! are refused: each kind of refusal, and each bound with one past it. How a row is read stands in `rows`.
+//! Programs and their bytes, by the manual (Intel 8086 Family User's Manual, section 2.9 and section 4), written by
+//! hand; and texts that are refused: each kind of refusal, and each bound with one past it. How a row is read stands in
+//! `rows`.
 
 use crate::rows::check;
 use std::test::Fail;

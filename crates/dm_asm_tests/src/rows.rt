@@ -4,8 +4,8 @@
 //!
 //!     JZ x/*127 NOP/x: | 74 7F 90 90 90 90 90 90 .. 129
 //!
-//! In a text `/` is a line end (0Ah) and `<` a 0Dh; a line that begins with `*` and a number stands there as often. An answer is the
-//! refusal's text, or the bytes: eight of them at most, then how many there are.
+//! In a text `/` is a line end (0Ah) and `<` a 0Dh; a line that begins with `*` and a number stands there as often. An
+//! answer is the refusal's text, or the bytes: eight of them at most, then how many there are.
 
 use crate::checks::same;
 use dm_asm::{Refusal, assemble};

@@ -1,8 +1,8 @@
 -- The lists of blocks that memory spells, and when they are clear: that of conventional memory and, where upper memory
 -- belongs to the arena, a second one from the link block on.
--- MS-DOS Programmer's Reference, "Arena header": byte 0 of a header is `M`, or `Z` in the last one; the word at 1 is the
--- owner, 0 for a free block; the word at 3 is the size of the block in paragraphs. The block follows its header of one
--- paragraph, and the next header follows the block.
+-- MS-DOS Programmer's Reference, "Arena header": byte 0 of a header is `M`, or `Z` in the last one; the word at 1 is
+-- the owner, 0 for a free block; the word at 3 is the size of the block in paragraphs. The block follows its header of
+-- one paragraph, and the next header follows the block.
 use Rattle.std.specs.Prelude.{Bool, List, [], cond, false, not, ℕ, ◌&&◌, ◌*◌, ◌++◌, ◌+◌, ◌<◌, ◌==◌, ◌∷◌, ◌≡◌, ◌≢◌, ◌≤◌, ◌||◌, ◌⊎◌}
 use Rattle.dm_space.specs.declared.place.Place.{Place}
 use Rattle.dm_space.specs.Memory.{Memory, byte_at, peek, place}
@@ -13,8 +13,8 @@ use Rattle.dm_blocks.specs.declared.header.Header.{Header}
 abbrev pub first_header : ℕ
 first_header = 0x100
 
--- the segment of the link block's header, where conventional memory ends: from it on the second list is spelled, that of
--- upper memory
+-- the segment of the link block's header, where conventional memory ends: from it on the second list is spelled, that
+-- of upper memory
 abbrev pub link_header : ℕ
 link_header = 0x9FFF
 
@@ -78,8 +78,8 @@ is_parted upper L = upper && not (is_linked L)
 abbrev pub NoBlockAt : List Header → ℕ → Type 0
 NoBlockAt L segment = (h : ℕ) → HasHeader L h → h + 1 ≢ segment
 
--- each header of L has a place that keeps what is written, and no two have the same. Segments are compared, not entries: a list
--- has one header at a segment, and the segment alone decides the place
+-- each header of L has a place that keeps what is written, and no two have the same. Segments are compared, not
+-- entries: a list has one header at a segment, and the segment alone decides the place
 pub record IsClear (S : Memory) (L : List Header) : Type 0 where
   pub writable : (h : ℕ) → HasHeader L h → IsWritable (place S (16 * h))
   pub apart : (h g : ℕ) → HasHeader L h → HasHeader L g → place S (16 * h) ≡ place S (16 * g) → h ≡ g

@@ -1,5 +1,5 @@
--- A walk that tells the headers of a list one by one, up to the end or the first that breaks the list. The second list is
--- walked over behind the first one, and must be clear with it.
+-- A walk that tells the headers of a list one by one, up to the end or the first that breaks the list. The second list
+-- is walked over behind the first one, and must be clear with it.
 use Rattle.std.specs.Prelude.{◌≡◌, ℕ, List, [], ◌∷◌, ◌++◌, Bool, Option, Some, None, false, true, if◌then◌else◌, IfSome}
 use Rattle.dm_space.specs.Memory.{Memory}
 use Rattle.dm_blocks.specs.declared.header.Header.{Header}
@@ -8,8 +8,8 @@ use Rattle.dm_blocks.specs.declared.listing.Step.{Step}
 use Rattle.dm_blocks.specs.declared.listing.Step.TheVariants.{Told, End, Destroyed}
 use Rattle.dm_blocks.specs.Chain.{first_header, link_header, next, mark, AreApart, IsHeader, IsClear, IsArena, IsArenaBehind, NoArenaBehind}
 
--- the memory that is walked over; whether it is the second list, behind the first one; and the segment where the next header
--- has to stand, none once the last was told
+-- the memory that is walked over; whether it is the second list, behind the first one; and the segment where the next
+-- header has to stand, none once the last was told
 pub record Walking : Type 0 where
   pub memory : Memory
   pub second : Bool

@@ -1,6 +1,6 @@
 -- The command of a line.
--- Source: MS-DOS User's Reference, "DEBUG" (D, E, G, R, T, U); the others, the bounds and what is taken for numbers that are left out are
--- this machine's own.
+-- Source: MS-DOS User's Reference, "DEBUG" (D, E, G, R, T, U); the others, the bounds and what is taken for numbers
+-- that are left out are this machine's own.
 use Rattle.std.specs.Prelude.{ℕ, List, [], ◌∷◌, Option, Some, None}
 use Rattle.dm_command.specs.declared.command.Address.{Address}
 use Rattle.dm_command.specs.declared.command.Command.{Command}

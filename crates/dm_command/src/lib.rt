@@ -1,7 +1,7 @@
 //! The commands of a debugger: what a typed line asks for.
 //!
-//! After the DEBUG of MS-DOS (MS-DOS User's Reference, "DEBUG"), with commands of this machine's own for breakpoints, the arena, and
-//! expanded and extended memory.
+//! After the DEBUG of MS-DOS (MS-DOS User's Reference, "DEBUG"), with commands of this machine's own for breakpoints,
+//! the arena, and expanded and extended memory.
 #![tactic(auto)]
 
 mod command;

@@ -1,8 +1,9 @@
-//! What a program sees of the processor, its registers and flags, and what instructions are built of: operands with their values and
-//! addresses, and the stack with the two returns.
+//! What a program sees of the processor, its registers and flags, and what instructions are built of: operands with
+//! their values and addresses, and the stack with the two returns.
 //!
-//! The registers stand in a record with a field for each, [`Cpu`], or as the emulation's inner loop keeps them, [`Registers`]: in arrays,
-//! where the number of a register finds it without a jump. Contracts see the same [`Cpu`] of both.
+//! The registers stand in a record with a field for each, [`Cpu`], or as the emulation's inner loop keeps them,
+//! [`Registers`]: in arrays, where the number of a register finds it without a jump. Contracts see the same [`Cpu`] of
+//! both.
 #![tactic(auto)]
 
 mod cpu;

@@ -1,4 +1,5 @@
-//! Registers that instructions name themselves (Intel 8086 Family User's Manual, section 2.2, "Implicit Use of General Registers").
+//! Registers that instructions name themselves (Intel 8086 Family User's Manual, section 2.2, "Implicit Use of General
+//! Registers").
 ghost use Rattle.std.specs.Prelude.{◌≡◌};
 
 use crate::registers::Registers;

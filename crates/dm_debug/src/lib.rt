@@ -1,4 +1,4 @@
-//! A debugger over a machine: a session answers the commands that lines ask for.
+//! A debugger over a machine: a session executes the commands that lines spell.
 #![tactic(auto)]
 
 mod laws;

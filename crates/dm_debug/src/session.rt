@@ -19,7 +19,7 @@ use dm_out::write_all;
 use std::alloc::{AllocError, Global};
 use std::marker::Model;
 
-/// The answer of a command that tells nothing else.
+/// The answer of a command that prints nothing else.
 const DONE: &[u8] = b"ok\n";
 
 /// A machine that is debugged, and its breakpoints: at most sixteen exact pairs of CS and IP.
@@ -144,7 +144,7 @@ impl Session {
         Ok(())
     }
 
-    /// Does a command, and puts what it tells.
+    /// Executes a command, and appends what it prints.
     fn perform(&mut self, command: &Command, text: &mut Vec<u8>) -> Result<(), AllocError>
         requires over { is_over self.old command.now ≡ false }
         requires empty { text.old.items ≡ [] }
@@ -168,15 +168,16 @@ impl Session {
         }
     }
 
-    /// Answers a line: does the command that it asks for, and writes what the command tells, each line with a line end (0Ah). The line has
-    /// no line end.
+    /// Executes the command that a line spells, and writes what it prints, each line with a line end (0Ah). The line
+    /// has no line end.
     ///
     /// # Errors
     ///
-    /// In this order: `Syntax` exactly where the line is no command, or clears a breakpoint that is not set; `Full` exactly where it sets a
-    /// seventeenth breakpoint: then nothing has changed, and nothing was written. `Memory` where memory for the answer was refused: then
-    /// nothing was written, and some first part of what the command changes may have changed. `Write` where a write failed or took
-    /// nothing: then all that the command changes has changed, and a first part of the answer was written.
+    /// In this order: `Syntax` exactly where the line is no command, or clears a breakpoint that is not set; `Full`
+    /// exactly where it sets a seventeenth breakpoint: then nothing has changed, and nothing was written. `Memory` if
+    /// an allocation for the answer failed: then nothing was written, and some first part of what the command changes
+    /// may have changed. `Write` where a write failed or took nothing: then all that the command changes has changed,
+    /// and a first part of the answer was written.
     pub fn command<O: Out>(
         &mut self,
         alloc: Global,

@@ -1,5 +1,5 @@
--- The drivers, and where they act: this machine's own. Vector 67h leads to the expanded memory driver, vector 2Fh to what tells where the
--- extended memory driver is called.
+-- The drivers, and where they act: this machine's own. Vector 67h leads to the expanded memory driver, vector 2Fh to
+-- what tells where the extended memory driver is called.
 use Rattle.std.specs.Prelude.{◌==◌, if◌then◌else◌, Option, Some, None}
 use Rattle.dm_cpu.specs.declared.cpu.Cpu.{Cpu}
 use Rattle.dm_xms_calls.specs.Caller.{Caller, caller}

@@ -1,4 +1,5 @@
--- The names of handles (LIM EMS 4.0, functions 20 and 21; INT 67h, 53h and 54h): AL says which part of a function is asked for.
+-- The names of handles (LIM EMS 4.0, functions 20 and 21; INT 67h, 53h and 54h): AL says which part of a function is
+-- asked for.
 use Rattle.std.specs.Prelude.{◌==◌, if◌then◌else◌}
 use Rattle.dm_ins.specs.declared.operand.ByteRegister.TheVariants.{Al}
 use Rattle.dm_cpu.specs.declared.cpu.Cpu.{Cpu}

@@ -1,4 +1,5 @@
--- Regions of memory that are moved or exchanged (LIM EMS 4.0, function 24; INT 67h, 57h), as the structure at DS:SI describes them.
+-- Regions of memory that are moved or exchanged (LIM EMS 4.0, function 24; INT 67h, 57h), as the structure at DS:SI
+-- describes them.
 use Rattle.std.specs.Prelude.{◌==◌, if◌then◌else◌}
 use Rattle.dm_ins.specs.declared.operand.ByteRegister.TheVariants.{Al}
 use Rattle.dm_cpu.specs.Cpu.{byte_of}

@@ -65,8 +65,8 @@ fn give_back(parts: &mut Parts, driver: Driver)
     }
 }
 
-/// Acts as the driver, goes back to where the program called, by the stack as it is then, and counts the step. No stop ever comes of
-/// it. The tables of expanded and of extended memory and the memory go together, and do so again.
+/// Acts as the driver, goes back to where the program called, by the stack as it is then, and counts the step. No stop
+/// ever comes of it. The tables of expanded and of extended memory and the memory go together, and do so again.
 pub fn drive(parts: &mut Parts, driver: Driver)
     requires { AreLinked parts.old }
     ensures answer { parts.new ≡ (driven parts.old driver).state }

@@ -1,4 +1,5 @@
-//! Handles and their pages (LIM EMS 4.0, functions 3, 4, 6, 12, 13, 14 and 18; INT 67h, 42h, 43h, 45h, 4Bh to 4Dh and 51h).
+//! Handles and their pages (LIM EMS 4.0, functions 3, 4, 6, 12, 13, 14 and 18; INT 67h, 42h, 43h, 45h, 4Bh to 4Dh and
+//! 51h).
 ghost use Rattle.std.specs.Prelude.{◌≡◌};
 ghost use Rattle.dm_ems.specs.Tables.{expanded};
 ghost use Rattle.dm_ems.specs.Linked.{IsLinked};

@@ -1,5 +1,5 @@
--- What calls answer and leave. A call's row is one value: a refusal, or an answer with what the call leaves; so a refusal changes
--- nothing.
+-- What calls answer and leave. A call's row is one value: a refusal, or an answer with what the call leaves; so a
+-- refusal changes nothing.
 use Rattle.std.specs.Prelude.{ℕ, slice_index_or, slice_set, Option, Some, None, Result, Ok, Err}
 use Rattle.dm_space.specs.Memory.{Memory}
 use Rattle.dm_ems.specs.declared.status.Status.{Status}

@@ -1,4 +1,5 @@
--- Handles and their pages (LIM EMS 4.0, functions 3, 4, 6, 12 and 13): each row's refusals in the order in which they are tried.
+-- Handles and their pages (LIM EMS 4.0, functions 3, 4, 6, 12 and 13): each row's refusals in the order in which they
+-- are tried.
 use Rattle.std.specs.Prelude.{ℕ, nat_lt, ◌==◌, is_some, count_by, if◌then◌else◌, Some, None, Result, Ok, Err}
 use Rattle.dm_ems.specs.declared.status.Status.{Status}
 use Rattle.dm_ems.specs.declared.status.Status.TheVariants.{NoPages, NoHandleLeft, OverTotal, OverFree, UnknownHandle, ContextSaved}

@@ -1,5 +1,5 @@
--- That tables and memory stay together: at the start, through each call, and while a program writes. That calls leave the blocks that
--- are no pages. And that pages which are promised come.
+-- That tables and memory stay together: at the start, through each call, and while a program writes. That calls leave
+-- the blocks that are no pages. And that pages which are promised come.
 use Rattle.std.specs.Prelude.{ℕ, ◌≤◌, ◌≡◌, List, Ok}
 use Rattle.dm_pool.specs.Blocks.{no_blocks}
 use Rattle.dm_space.specs.Memory.{Memory, of_ram}

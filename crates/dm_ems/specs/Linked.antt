@@ -1,5 +1,5 @@
--- That the tables of expanded memory and the memory go together: each page is a block of its own and has a handle in use, and windows,
--- saved ones too, show pages alone.
+-- That the tables of expanded memory and the memory go together: each page is a block of its own and has a handle in
+-- use, and windows, saved ones too, show pages alone.
 use Rattle.std.specs.Prelude.{ℕ, ◌+◌, ◌<◌, ◌≤◌, ◌≡◌, ◌≢◌, List, length, slice_index_or, AllPairs, count_by, is_some, Option, Some, None, IfSome, IsSome}
 use Rattle.dm_pool.specs.FreeList.{AreBased}
 use Rattle.dm_space.specs.Memory.{IsPage}

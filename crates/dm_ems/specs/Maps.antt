@@ -1,4 +1,5 @@
--- The windows of the frame (LIM EMS 4.0, functions 5, 8 and 9): each row's refusals in the order in which they are tried.
+-- The windows of the frame (LIM EMS 4.0, functions 5, 8 and 9): each row's refusals in the order in which they are
+-- tried.
 use Rattle.std.specs.Prelude.{ℕ, nat_le, ◌==◌, is_some, if◌then◌else◌, slice_get, Option, Some, None, Result, Ok, Err}
 use Rattle.dm_space.specs.Memory.{with_window}
 use Rattle.dm_ems.specs.declared.status.Status.{Status}

@@ -1,4 +1,5 @@
--- Lists of handles, and their names (LIM EMS 4.0, functions 14, 20 and 21): each row's refusals in the order in which they are tried.
+-- Lists of handles, and their names (LIM EMS 4.0, functions 14, 20 and 21): each row's refusals in the order in which
+-- they are tried.
 use Rattle.std.specs.Prelude.{suc, zero, ℕ, ◌/◌, ◌%◌, Bool, false, nat_eq, position, if◌then◌else◌, List, [], ◌∷◌, ◌++◌, slice_set, Option, Some, None, Result, Ok, Err}
 use Rattle.std.specs.Cmp.Lexicographic.{pointwise}
 use Rattle.std.specs.List.{list_any}

@@ -1,4 +1,5 @@
--- What a listing reads of the tables: a handle's pages and name, and the page that a window shows (LIM EMS 4.0, section 2).
+-- What a listing reads of the tables: a handle's pages and name, and the page that a window shows (LIM EMS 4.0, section
+-- 2).
 use Rattle.std.specs.Prelude.{ℕ, List, take, count_by, position, slice_index_or, Option, Some, None}
 use Rattle.dm_space.specs.Memory.{Memory}
 use Rattle.dm_ems.specs.declared.tables.Handle.{Handle}

@@ -1,4 +1,5 @@
--- The tables of expanded memory, and how a page comes and goes (LIM EMS 4.0, section 2: handles, logical pages, mapping registers).
+-- The tables of expanded memory, and how a page comes and goes (LIM EMS 4.0, section 2: handles, logical pages, mapping
+-- registers).
 use Rattle.std.specs.Prelude.{ℕ, zero, suc, ◌-◌, ◌≤◌, ◌≡◌, Bool, ◌==◌, if◌then◌else◌, List, [], ◌∷◌, ◌++◌, length, map, filter, count_by, position, is_none, remove, drop, min, replicate, Option, Some, None}
 use Rattle.dm_pool.specs.Blocks.{Blocks, taken, without}
 use Rattle.dm_pool.specs.Gaps.{gaps, count_fitting}

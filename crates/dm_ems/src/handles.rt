@@ -17,7 +17,7 @@ const BLANK: Handle = Handle {
 };
 
 impl Ems {
-    /// Gives a new handle, the lowest that is not in use, `pages` pages of zeros, and answers its number.
+    /// Gives a new handle, the lowest that is not in use, `pages` pages of zeros, and returns its number.
     ///
     /// # Errors
     ///
@@ -47,7 +47,8 @@ impl Ems {
         Ok(handle)
     }
 
-    /// Frees a handle and its pages, which leave all windows and all saved windows. Handle 0 stays in use, with no page and no name.
+    /// Frees a handle and its pages, which leave all windows and all saved windows. Handle 0 stays in use, with no page
+    /// and no name.
     ///
     /// # Errors
     ///

@@ -104,8 +104,8 @@ impl Ems {
         entries
     }
 
-    /// Writes the number of each handle in use and of its pages, two words each, at segment:offset, and answers how many handles there
-    /// are.
+    /// Writes the number of each handle in use and of its pages, two words each, at segment:offset, and returns how
+    /// many handles there are.
     #[tactic(auto, unfolding(crate::specs::Names::list_pages))]
     pub fn list_pages(&self, space: &mut Space, segment: u16, offset: u16) -> u16
         ensures answer { result ≡ (list_pages (expanded self.now space.old.memory) segment offset).0 }
@@ -138,8 +138,8 @@ impl Ems {
         entries
     }
 
-    /// Writes the number and the name of each handle in use, a word and eight bytes each, at segment:offset, and answers how many handles
-    /// there are.
+    /// Writes the number and the name of each handle in use, a word and eight bytes each, at segment:offset, and
+    /// returns how many handles there are.
     #[tactic(auto, unfolding(crate::specs::Names::list_names))]
     pub fn list_names(&self, space: &mut Space, segment: u16, offset: u16) -> u16
         ensures answer { result ≡ (list_names (expanded self.now space.old.memory) segment offset).0 }

@@ -31,7 +31,7 @@ fn hide(space: &mut Space, block: Block)
     set_windows(space, windows);
 }
 
-/// The blocks behind the first `count` ones.
+/// The blocks after the first `count` ones.
 fn behind(blocks: &[Block], count: usize) -> &[Block]
     ensures { result.now ≡ drop count blocks.now }
 {
@@ -56,7 +56,7 @@ impl Ems {
         }
     }
 
-    /// Adds a page of zeros behind those of a handle, where a gap of the pool holds one.
+    /// Adds a page of zeros after those of a handle, where a gap of the pool holds one.
     #[tactic(auto, unfolding(crate::specs::Tables::appended_page))]
     pub fn append(&mut self, space: &mut Space, handle: u16)
         requires { length self.old.pages < self.old.total }

@@ -1,9 +1,9 @@
-//! What calls of the expanded memory driver refuse (LIM EMS 4.0, appendix A).
+//! The errors of the expanded memory driver's calls (LIM EMS 4.0, appendix A).
 
 ghost use Rattle.std.specs.Prelude.{◌≡◌};
 ghost use Rattle.dm_ems.specs.Status.{code_of};
 
-/// Why a call was refused.
+/// Why a call failed.
 #[derive(Clone, Copy, Debug, PartialEq, Eq)]
 pub enum Status {
     /// The handle is not in use.
@@ -28,7 +28,7 @@ pub enum Status {
     NoneSaved,
     /// The function has no such part.
     NoSubfunction,
-    /// A region goes on behind the last page of its handle.
+    /// A region ends after the last page of its handle.
     PastPages,
     /// A region of conventional memory and one of pages overlap.
     KindsOverlap,
@@ -44,7 +44,7 @@ pub enum Status {
     NameNotFound,
     /// Another handle has the name, or it is no name.
     NameTaken,
-    /// A region of conventional memory goes on behind address FFFFFh.
+    /// A region of conventional memory ends after address FFFFFh.
     PastMemory,
     /// The map names a page that is not there.
     BadMap,

@@ -112,8 +112,8 @@ fn first_of(pages: &[Page], block: Block) -> Option<usize>
 }
 
 impl Ems {
-    /// The tables as a machine starts: handle 0 is in use, with no page and no name. There are `total` pages, of 16 KiB each, for all handles
-    /// together.
+    /// The tables as a machine starts: handle 0 is in use, with no page and no name. There are `total` pages, of 16 KiB
+    /// each, for all handles together.
     pub fn new(total: u16) -> Ems
         requires { total ≤ 512 }
         ensures { result ≡ new_tables total }

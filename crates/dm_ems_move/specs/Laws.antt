@@ -1,4 +1,5 @@
--- That tables and memory stay together through each call, that what is outside stays, and that pages which are promised come.
+-- That tables and memory stay together through each call, that what is outside stays, and that pages which are promised
+-- come.
 use Rattle.std.specs.Prelude.{ℕ, ◌≡◌, None, Ok}
 use Rattle.dm_ems.specs.Tables.{Expanded}
 use Rattle.dm_ems.specs.Linked.{IsLinked, HasNumbers}

@@ -1,5 +1,5 @@
--- The map of the frame as bytes (LIM EMS 4.0, function 15): of each window the handle and the logical page that it shows, two words,
--- or FFFFh twice where it shows none. (The standard leaves the form open.)
+-- The map of the frame as bytes (LIM EMS 4.0, function 15): of each window the handle and the logical page that it
+-- shows, two words, or FFFFh twice where it shows none. (The standard leaves the form open.)
 use Rattle.std.specs.Prelude.{ℕ, ◌+◌, ◌*◌, ◌==◌, ◌&&◌, if◌then◌else◌, List, [], ◌∷◌, ◌++◌, take, count_by, position, slice_get, slice_index_or, Option, Some, None, Result, Ok, Err}
 use Rattle.dm_space.specs.Memory.{Memory}
 use Rattle.dm_ems.specs.declared.status.Status.{Status}
@@ -70,7 +70,8 @@ showing_all x windows = with_memory x (with_windows x.memory windows)
 abbrev pub with_map : Expanded → ℕ → ℕ → Expanded
 with_map x segment offset = writing x segment offset (entries x.ems.pages x.memory.windows)
 
--- mode 0 writes the map, 1 sets it, 2 writes it and then sets another, which was read before, and 3 asks how many bytes a map has
+-- mode 0 writes the map, 1 sets it, 2 writes it and then sets another, which was read before, and 3 asks how many bytes
+-- a map has
 unfoldable pub whole_map : Expanded → ℕ → ℕ → ℕ → ℕ → ℕ → Result (Option ℕ × Expanded) Status
 whole_map x mode to_segment to_offset from_segment from_offset =
     if mode == 0 then Ok (None, with_map x to_segment to_offset) else

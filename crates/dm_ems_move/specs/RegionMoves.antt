@@ -1,4 +1,5 @@
--- Regions of memory that are moved or exchanged (LIM EMS 4.0, function 24): refusals in the order in which they are tried.
+-- Regions of memory that are moved or exchanged (LIM EMS 4.0, function 24): refusals in the order in which they are
+-- tried.
 use Rattle.std.specs.Prelude.{ℕ, ◌+◌, ◌*◌, Bool, true, false, nat_lt, nat_le, ◌==◌, if◌then◌else◌, [], slice_index_or, None, Result, Ok, Err}
 use Rattle.dm_space.specs.Memory.{Memory}
 use Rattle.dm_space.specs.EightBytes.{byte_after}

@@ -1,5 +1,5 @@
-//! Moves and maps of expanded memory (LIM EMS 4.0): how a handle gets another number of pages, many pages mapped at once, the whole
-//! map of the frame, and regions of memory that are moved or exchanged.
+//! Moves and maps of expanded memory (LIM EMS 4.0): how a handle gets another number of pages, many pages mapped at
+//! once, the whole map of the frame, and regions of memory that are moved or exchanged.
 #![tactic(auto)]
 
 mod description;

@@ -83,13 +83,14 @@ fn after_pairs(
     Ok(windows)
 }
 
-/// Makes windows show logical pages of a handle: `count` pairs of two words stand at segment:offset, a logical page (FFFFh for none) and
-/// a window, which mode 0 tells by its number and mode 1 by its segment. Where pairs name one window, the last of them counts.
+/// Makes windows show logical pages of a handle: `count` pairs of two words stand at segment:offset, a logical page
+/// (FFFFh for none) and a window, which mode 0 tells by its number and mode 1 by its segment. Where pairs name one
+/// window, the last of them counts.
 ///
 /// # Errors
 ///
-/// In this order: `NoSubfunction` for another mode, `UnknownHandle`, and what is wrong with the first bad pair, `NoSuchWindow` or else
-/// `NoSuchPage`. Then nothing has changed.
+/// In this order: `NoSubfunction` for another mode, `UnknownHandle`, and what is wrong with the first bad pair,
+/// `NoSuchWindow` or else `NoSuchPage`. Then nothing has changed.
 #[tactic(auto, unfolding(crate::specs::Many::map_many))]
 pub fn map_many(
     ems: &Ems,

@@ -130,14 +130,15 @@ fn write_map(ems: &Ems, space: &mut Space, segment: u16, offset: u16)
     space.write_bytes(segment, offset, bytes.as_slice());
 }
 
-/// The map of the frame, sixteen bytes: of each window the handle and the logical page that it shows, two words, or FFFFh twice where it
-/// shows none. Mode 0 writes it at the first address, mode 1 makes the windows show what a map at the second address tells, mode 2
-/// does both, the second map read before the first is written, and mode 3 asks for its size alone, which is answered.
+/// The map of the frame, sixteen bytes: of each window the handle and the logical page that it shows, two words, or
+/// FFFFh twice where it shows none. Mode 0 writes it at the first address, mode 1 makes the windows show what a map at
+/// the second address tells, mode 2 does both, the second map read before the first is written, and mode 3 asks for its
+/// size alone, which is answered.
 ///
 /// # Errors
 ///
-/// `NoSubfunction` for another mode. `BadMap` where the map that is read names a handle that is not in use or a page that the handle
-/// has not. Then nothing has changed.
+/// `NoSubfunction` for another mode. `BadMap` where the map that is read names a handle that is not in use or a page
+/// that the handle has not. Then nothing has changed.
 #[tactic(auto, unfolding(crate::specs::Maps::whole_map))]
 pub fn whole_map(
     ems: &Ems,

@@ -38,9 +38,9 @@ fn append_pages(ems: &mut Ems, space: &mut Space, handle: u16, count: u16)
     }
 }
 
-/// Gives a handle `count` pages in all. Its first ones stay; those behind `count` leave all windows and all saved windows; new ones, behind
-/// the others, are zeros. Where there are not enough (`OverTotal`, `OverFree`, in this order), nothing has changed, and the answer has the
-/// number of pages as it is.
+/// Gives a handle `count` pages in all. Its first ones stay; those behind `count` leave all windows and all saved
+/// windows; new ones, behind the others, are zeros. Where there are not enough (`OverTotal`, `OverFree`, in this
+/// order), nothing has changed, and the answer has the number of pages as it is.
 ///
 /// # Errors
 ///

@@ -188,19 +188,20 @@ fn exchange_between(
     }
 }
 
-/// Moves bytes between regions of conventional memory and of pages of handles. The structure at segment:offset has eighteen bytes: how
-/// many bytes (a double word), and for the source and then the destination a type (0 conventional memory, 1 pages), a handle, an offset
-/// (in the segment or in the page), and a segment or a logical page (words). The source is read whole before anything is
-/// written; `Overlapping` tells that both regions share a byte. The scratch bytes of the space are overwritten.
+/// Moves bytes between regions of conventional memory and of pages of handles. The structure at segment:offset has
+/// eighteen bytes: how many bytes (a double word), and for the source and then the destination a type (0 conventional
+/// memory, 1 pages), a handle, an offset (in the segment or in the page), and a segment or a logical page (words). The
+/// source is read whole before anything is written; `Overlapping` tells that both regions share a byte. The scratch
+/// bytes of the space are overwritten.
 ///
 /// No bytes to move is `Apart`, whatever else the structure says.
 ///
 /// # Errors
 ///
-/// In this order: `TooLong` over 1 MiB; for the source and then the destination `UnknownKind` for another type, `PastMemory` where
-/// conventional memory is left, `UnknownHandle`, `OffsetPastPage`, `NoSuchPage`, `PastPages` where the handle's pages are left;
-/// `KindsOverlap` where a region of conventional memory shares a byte with one of pages. Then neither memory nor the scratch bytes have
-/// changed.
+/// In this order: `TooLong` over 1 MiB; for the source and then the destination `UnknownKind` for another type,
+/// `PastMemory` where conventional memory is left, `UnknownHandle`, `OffsetPastPage`, `NoSuchPage`, `PastPages` where
+/// the handle's pages are left; `KindsOverlap` where a region of conventional memory shares a byte with one of pages.
+/// Then neither memory nor the scratch bytes have changed.
 #[tactic(auto, unfolding(crate::specs::RegionMoves::move_region))]
 pub fn move_region(ems: &Ems, space: &mut Space, segment: u16, offset: u16) -> Result<Moved, Status>
     requires { IsLinked (expanded ems.now space.old.memory) }
@@ -223,13 +224,13 @@ pub fn move_region(ems: &Ems, space: &mut Space, segment: u16, offset: u16) -> R
     }
 }
 
-/// Exchanges the bytes of two regions, which are described as for [`move_region`]. Both are read whole before anything is written. The
-/// scratch bytes of the space are overwritten.
+/// Exchanges the bytes of two regions, which are described as for [`move_region`]. Both are read whole before anything
+/// is written. The scratch bytes of the space are overwritten.
 ///
 /// # Errors
 ///
-/// Those of [`move_region`] in their order; then `ExchangeOverlaps` where the regions share a byte. Then neither memory nor the scratch bytes
-/// have changed.
+/// Those of [`move_region`] in their order; then `ExchangeOverlaps` where the regions share a byte. Then neither memory
+/// nor the scratch bytes have changed.
 #[tactic(auto, unfolding(crate::specs::RegionMoves::exchange_region))]
 pub fn exchange_region(
     ems: &Ems,

@@ -8,8 +8,8 @@ pub fn halt_changes_nothing()
     ensures { HaltKeeps }
 {}
 
-/// No instruction changes A20, what the windows show, or which blocks there are, where they lie and how large they are: all that it
-/// writes are bytes.
+/// No instruction changes A20, what the windows show, or which blocks there are, where they lie and how large they are:
+/// all that it writes are bytes.
 pub fn keeps_the_map()
     ensures { KeepsTheMap }
 {}

@@ -1,8 +1,8 @@
 -- The instruction table of the 8086: for each first byte, and for each value of the reg field in a
 -- group, the mnemonic and the kinds of its operands.
 -- Source: Intel 8086 Family User's Manual, section 4, "Machine Instruction Encoding and Decoding",
--- tables 4-13 and 4-14. Bytes for which the manual has no instruction are not listed, but for OR, AND and XOR at 82 and 83,
--- which it calls not used and the processor has.
+-- tables 4-13 and 4-14. Bytes for which the manual has no instruction are not listed, but for OR, AND and XOR at 82 and
+-- 83, which it calls not used and the processor has.
 use Rattle.std.specs.Prelude.{ℕ, List, [], ◌∷◌, ◌++◌, map, Option, Some, None, slice_index_or}
 use Rattle.dm_ins.specs.declared.operand.Width.TheVariants.{Byte, Word}
 use Rattle.dm_ins.specs.declared.operand.WordRegister.{WordRegister}

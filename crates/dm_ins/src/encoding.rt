@@ -68,8 +68,8 @@ pub fn encode(ins: &Ins) -> ArrayVec<u8, 16>
     }
 }
 
-/// The instruction of these parts, as `Ins::new` makes it, with its bytes, as `encode` chooses them; None exactly where no row of
-/// the table has the action. The rows are searched once for both.
+/// The instruction of these parts, as `Ins::new` makes it, with its bytes, as `encode` chooses them; None exactly where
+/// no row of the table has the action. The rows are searched once for both.
 pub fn new_encoded(prefixes: Prefixes, action: Action) -> Option<(Ins, ArrayVec<u8, 16>)>
     ensures parts { IfSome result (λ r. (r.0.prefixes ≡ prefixes) × (r.0.action ≡ action)) }
     ensures bytes { IfSome result (λ r. IsPreferred r.0 r.1.items) }

@@ -1,4 +1,5 @@
-//! Where the rows of each mnemonic stand in the table (Intel 8086 Family User's Manual, section 4, tables 4-12 and 4-13).
+//! Where the rows of each mnemonic stand in the table (Intel 8086 Family User's Manual, section 4, tables 4-12 and
+//! 4-13).
 
 ghost use Rattle.std.specs.Prelude.{◌≡◌, true};
 ghost use Rattle.std.specs.List.{list_all};

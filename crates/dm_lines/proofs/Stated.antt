@@ -271,8 +271,8 @@ operand_starts a next o = refl
 first_starts : (a : Action) (next : ℕ) (x : Operand) (ys : List Token) → is_nothing x ≡ false → plain (operand_tokens a next x ++ ys) ≡ true
 first_starts a next x ys h = starts-append (operand_tokens a next x) ys (operand_some a next x h) (operand_starts a next x)
 
--- an instruction that can be written: the first operand is there where the second one is, and memory is not the second where
--- operands are exchanged
+-- an instruction that can be written: the first operand is there where the second one is, and memory is not the second
+-- where operands are exchanged
 pub record CanBeWritten (a : Action) (next : ℕ) : Type 0 where
   pub alone : is_nothing a.first ≡ true → a.second ≡ operand.Nothing
   pub in_place : (if exchanges a.mnemonic then is_memory (own_term a next a.second) else false) ≡ false

@@ -48,7 +48,8 @@ abbrev pub IsComment : List ℕ → Type 0
 IsComment [] = Unit {0}
 IsComment (b ∷ bs) = (b ≡ 59) ⊎ ((b ≡ 32) × IsComment bs)
 
--- a text whose pieces stand apart is read piece by piece, before a comment too: a name is a word, a number is that number
+-- a text whose pieces stand apart is read piece by piece, before a comment too: a name is a word, a number is that
+-- number
 abbrev pub PiecesAreRead : Type 0
 PiecesAreRead = (ps : List Piece) (comment : List ℕ) → parted false ps ≡ true → AllFit ps → IsComment comment → tokens_of (bytes_of ps ++ comment) ≡ all_tokens ps
 

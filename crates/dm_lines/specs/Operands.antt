@@ -1,6 +1,6 @@
 -- The operands of an instruction, by their tokens.
--- Source: Intel 8086 Family User's Manual, section 2.8 (addressing modes) and section 2.9 (how ASM-86 writes them); that parts of
--- an address stand in one order, and which signs are left out, is this machine's own.
+-- Source: Intel 8086 Family User's Manual, section 2.8 (addressing modes) and section 2.9 (how ASM-86 writes them);
+-- that parts of an address stand in one order, and which signs are left out, is this machine's own.
 use Rattle.std.specs.Prelude.{ℕ, ◌-◌, ◌%◌, Bool, true, false, List, [], ◌∷◌, Option, Some, None, nat_le, if◌then◌else◌}
 use Rattle.dm_ins.specs.declared.operand.WordRegister.TheVariants.{Bx, Bp, Si, Di}
 use Rattle.dm_ins.specs.declared.operand.Base.{Base}

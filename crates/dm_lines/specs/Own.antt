@@ -1,5 +1,6 @@
 -- The statement of an instruction's text, where the next instruction stands at an offset.
--- Source: the text of an instruction, whose numbers are this machine's own; a target is written as the offset that it leads to.
+-- Source: the text of an instruction, whose numbers are this machine's own; a target is written as the offset that it
+-- leads to.
 use Rattle.std.specs.Prelude.{ℕ, ◌+◌, ◌%◌, None}
 use Rattle.dm_ins.specs.declared.operand.Base.{Base}
 use Rattle.dm_ins.specs.declared.operand.Base.TheVariants.{Direct}

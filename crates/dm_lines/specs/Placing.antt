@@ -1,6 +1,6 @@
 -- What is written where an operand stands: with the place of its label, and before any label has a place.
--- Source: Intel 8086 Family User's Manual, section 2.9 (labels and numbers of ASM-86); which operands a label may be is this
--- machine's own (docs/DECISIONS.md).
+-- Source: Intel 8086 Family User's Manual, section 2.9 (labels and numbers of ASM-86); which operands a label may be is
+-- this machine's own (docs/DECISIONS.md).
 use Rattle.std.specs.Prelude.{ℕ, ◌+◌, ◌-◌, ◌%◌, Bool, true, false, ◌==◌, Option, Some, None, nat_lt, nat_le, if◌then◌else◌}
 use Rattle.dm_ins.specs.declared.action.Mnemonic.{Mnemonic}
 use Rattle.dm_ins.specs.declared.action.Mnemonic.TheVariants.{Mov}
@@ -73,8 +73,8 @@ numeral_from m (Some l) n place next = do
 abbrev pub numeral_at : Mnemonic → Value → ℕ → ℕ → Option Numeral
 numeral_at m v place next = numeral_from m v.label v.amount place next
 
--- what is written where an operand stands, in an instruction of this mnemonic: its label stands at a place, the next instruction
--- at another
+-- what is written where an operand stands, in an instruction of this mnemonic: its label stands at a place, the next
+-- instruction at another
 abbrev pub written_of : Mnemonic → Term → ℕ → ℕ → Option Written
 written_of m term.Nothing place next = Some w.Nothing
 written_of m (term.ByteRegister r) place next = Some (w.ByteRegister r)

@@ -1,6 +1,6 @@
 -- The statement of a line: a label, and an instruction or data.
--- Source: Intel 8086 Family User's Manual, section 2.9 (statements of ASM-86); which of its forms there are is this machine's own
--- (docs/DECISIONS.md).
+-- Source: Intel 8086 Family User's Manual, section 2.9 (statements of ASM-86); which of its forms there are is this
+-- machine's own (docs/DECISIONS.md).
 use Rattle.std.specs.Prelude.{ℕ, Bool, true, false, List, [], ◌∷◌, ◌++◌, length, Option, Some, None, is_some, nat_lt, if◌then◌else◌}
 use Rattle.dm_ins.specs.declared.operand.WordRegister.TheVariants.{Ax}
 use Rattle.dm_ins.specs.declared.action.Mnemonic.{Mnemonic}

@@ -1,6 +1,6 @@
 -- The tokens of a line: words, numbers, signs and quoted text.
--- Source: Intel 8086 Family User's Manual, section 2.9 (statements, names and constants of ASM-86); the bounds of names and
--- numbers are this machine's own.
+-- Source: Intel 8086 Family User's Manual, section 2.9 (statements, names and constants of ASM-86); the bounds of names
+-- and numbers are this machine's own.
 use Rattle.std.specs.Prelude.{ℕ, ◌+◌, ◌-◌, ◌*◌, Bool, true, false, not, ◌&&◌, ◌||◌, ◌==◌, List, [], ◌∷◌, ◌++◌, length, Option, Some, None, nat_le, if◌then◌else◌, replicate, take, drop, slice_index}
 use Rattle.dm_ins.specs.Walks.{◌>>=◌}
 use Rattle.dm_lines.specs.Words.{reserved}
@@ -42,7 +42,8 @@ abbrev pub or_name : List ℕ → Option Token → Option Token
 or_name w (Some t) = Some t
 or_name w None = if nat_le (length w) 31 then Some (Name (padded_of w)) else None
 
--- a word that begins with a digit is a number, a reserved word is itself, any other one is a label of at most 31 letters
+-- a word that begins with a digit is a number, a reserved word is itself, any other one is a label of at most 31
+-- letters
 unfoldable pub word_token : List ℕ → Option Token
 word_token w =
     if nat_le 48 (slice_index w 0) && nat_le (slice_index w 0) 57 then (do
@@ -83,8 +84,8 @@ marked b =
 abbrev pub inside_quotes : ℕ → Token
 inside_quotes b = if b == 39 then Quote else Letter b
 
--- the tokens of what is left of a line, inside quotes (true) or behind the first bytes of a word: a quoted text ends with a
--- quote, and a semicolon outside ends the line
+-- the tokens of what is left of a line, inside quotes (true) or behind the first bytes of a word: a quoted text ends
+-- with a quote, and a semicolon outside ends the line
 abbrev pub lexed : Bool → List ℕ → List ℕ → Option (List Token)
 lexed true w [] = None
 lexed true w (b ∷ bs) = with_front (inside_quotes b ∷ []) (lexed (not (b == 39)) w bs)

@@ -1,6 +1,7 @@
 -- The words that no label may be, and the tokens that they are.
--- Source: Intel 8086 Family User's Manual, section 2.7 (mnemonics, prefixes, and in table 2-15 the other names of the conditional
--- jumps) and section 2.9 (NEAR, FAR, SHORT, BYTE, WORD, DB and DW of ASM-86). How NEAR, BYTE and WORD are used is this machine's own.
+-- Source: Intel 8086 Family User's Manual, section 2.7 (mnemonics, prefixes, and in table 2-15 the other names of the
+-- conditional jumps) and section 2.9 (NEAR, FAR, SHORT, BYTE, WORD, DB and DW of ASM-86). How NEAR, BYTE and WORD are
+-- used is this machine's own.
 use Rattle.std.specs.Prelude.{ℕ, Bool, true, false, ◌==◌, List, [], ◌∷◌, ◌++◌, map, Option, option_map, codes}
 use Rattle.dm_ins.specs.declared.action.Mnemonic.{Mnemonic}
 use Rattle.dm_ins.specs.declared.action.Mnemonic.TheVariants as op

@@ -1,5 +1,5 @@
-//! From the bytes of a line to its tokens (Intel 8086 Family User's Manual, section 2.9, statements, names and constants of
-//! ASM-86).
+//! From the bytes of a line to its tokens (Intel 8086 Family User's Manual, section 2.9, statements, names and
+//! constants of ASM-86).
 
 ghost use Rattle.std.specs.Prelude.{◌≡◌, ◌<◌, ◌≤◌, ◌+◌, length, option_map, IfSome, drop, replicate, ◌++◌, []};
 ghost use Rattle.arrayvec.specs.ArrayVec.{array_vec_len};

@@ -1,4 +1,5 @@
-//! From tokens to operands (Intel 8086 Family User's Manual, section 2.8, addressing modes, as ASM-86 writes them in section 2.9).
+//! From tokens to operands (Intel 8086 Family User's Manual, section 2.8, addressing modes, as ASM-86 writes them in
+//! section 2.9).
 
 ghost use Rattle.std.specs.Prelude.{◌≡◌, ◌<◌, ◌≤◌, ◌+◌, ◌∷◌, length, IfSome};
 ghost use Rattle.dm_lines.specs.Operands.{is_close, is_comma, minus, amount_of, added_of, value_of, plain, word_of, inside, base_at, based, place_of, memory_of, far_of, from_number, term_of, parts, term_pair, terms_of};

@@ -1,5 +1,5 @@
-//! From an operand to what is written there, as the table of instructions is asked for it: with its label's place, and before
-//! any label has a place.
+//! From an operand to what is written there, as the table of instructions is asked for it: with its label's place, and
+//! before any label has a place.
 
 ghost use Rattle.std.specs.Prelude.{◌≡◌};
 ghost use Rattle.dm_lines.specs.Placing.{moved, standing, low_byte_of, byte_of, distance_of, is_one_of, takes_labels, number_at, label_at, numeral_at, written_of, number_outline, label_outline, numeral_outline, word_outline, outline_of};
@@ -22,8 +22,8 @@ fn moved_by(amount: Amount, place: u16) -> Option<u16>
     }
 }
 
-/// The word that a value is, where its label, if it has one, stands at `place`. A number alone is one, modulo 65,536; a label
-/// and what is added to it is none outside 0 to FFFFh.
+/// The word that a value is, where its label, if it has one, stands at `place`. A number alone is one, modulo 65,536; a
+/// label and what is added to it is none outside 0 to FFFFh.
 pub fn word_at(value: Value, place: u16) -> Option<u16>
     ensures { result ≡ standing value place }
 {
@@ -135,8 +135,8 @@ fn at(base: Base, displacement: u16) -> Address
     Address { base, displacement }
 }
 
-/// What is written where an operand stands whose label, if it has one, stands at `place`, in an instruction before `next`; None
-/// where a label and what is added to it lie outside 0 to FFFFh.
+/// What is written where an operand stands whose label, if it has one, stands at `place`, in an instruction before
+/// `next`; None where a label and what is added to it lie outside 0 to FFFFh.
 pub fn written(mnemonic: Mnemonic, term: &Term, place: u16, next: u16) -> Option<Written>
     ensures { result ≡ written_of mnemonic term.now place next }
 {
@@ -214,8 +214,8 @@ fn word_alone(value: Value) -> u16
     }
 }
 
-/// What is written where an operand stands, before any label has a place: labels are 0, targets are the next instruction, and a
-/// number that stands for a byte is taken modulo 64, so that each byte is in range.
+/// What is written where an operand stands, before any label has a place: labels are 0, targets are the next
+/// instruction, and a number that stands for a byte is taken modulo 64, so that each byte is in range.
 pub fn outline(mnemonic: Mnemonic, term: &Term) -> Written
     ensures { result ≡ outline_of mnemonic term.now }
 {

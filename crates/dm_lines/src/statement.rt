@@ -22,7 +22,8 @@ pub type Bytes = ArrayVec<Amount, 255>;
 /// The values of a DW: each stands for one word.
 pub type Words = ArrayVec<Value, 128>;
 
-/// The items of a line's data. They lie beside its statement, so that a statement is small, and are used again for each line.
+/// The items of a line's data. They lie beside its statement, so that a statement is small, and are used again for each
+/// line.
 #[derive(Drop)]
 pub struct Items {
     pub bytes: Bytes,

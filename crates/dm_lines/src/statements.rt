@@ -192,8 +192,8 @@ fn read_statement(tokens: &[Token], items: &mut Items) -> Option<Statement>
     }
 }
 
-/// The statement that a line stands for, without its line end; None where it stands for none. What `tokens` and `items` hold before
-/// does not matter: they are there so that not each line has to make them anew.
+/// The statement that a line stands for, without its line end; None where it stands for none. What `tokens` and `items`
+/// hold before does not matter: they are there so that not each line has to make them anew.
 #[tactic(auto, unfolding(crate::specs::Statements::line_of))]
 pub fn read_line(line: &[u8], tokens: &mut Tokens, items: &mut Items) -> Option<Statement>
     ensures { option_map (seen_statement items.new) result ≡ line_of line.now }

@@ -1,6 +1,6 @@
-//! The words that no label may be: the names of registers and mnemonics, other names of mnemonics, prefixes, and the words of the
-//! assembler (Intel 8086 Family User's Manual, section 2.7, with the other names of the conditional jumps in table 2-15, and
-//! section 2.9).
+//! The words that no label may be: the names of registers and mnemonics, other names of mnemonics, prefixes, and the
+//! words of the assembler (Intel 8086 Family User's Manual, section 2.7, with the other names of the conditional jumps
+//! in table 2-15, and section 2.9).
 
 ghost use Rattle.std.specs.Prelude.{◌≡◌, ◌<◌, length};
 ghost use Rattle.dm_text.specs.Names.{named};
@@ -186,7 +186,8 @@ fn meaning(reserved: Reserved) -> Token
     }
 }
 
-/// The reserved words that begin with a byte. CALL FAR, JMP FAR and JMP SHORT are two words each, which stand here apart.
+/// The reserved words that begin with a byte. CALL FAR, JMP FAR and JMP SHORT are two words each, which stand here
+/// apart.
 fn beginning(first: u8) -> &'static [Reserved]
     ensures { result.now ≡ those (begins first) all_words }
 {

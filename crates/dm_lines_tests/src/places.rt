@@ -1,8 +1,9 @@
-//! What is written where an operand stands, by the manual (Intel 8086 Family User's Manual, section 2.9), reckoned by hand.
+//! What is written where an operand stands, by the manual (Intel 8086 Family User's Manual, section 2.9), reckoned by
+//! hand.
 //!
-//! A row is a line, then the label's place and the next instruction's, then what is written for the first operand and, behind a
-//! comma, for the second: a number as a byte, as a word and as a distance, `one` where it is 1. The last part is the second
-//! operand's outline, before any label has a place.
+//! A row is a line, then the label's place and the next instruction's, then what is written for the first operand and,
+//! behind a comma, for the second: a number as a byte, as a word and as a distance, `one` where it is 1. The last part
+//! is the second operand's outline, before any label has a place.
 
 use crate::checks::same;
 use crate::rows::{Reader, part, put_written};
@@ -81,7 +82,8 @@ fn check_row(rt: &impl Abort, alloc: Global, row: &str) -> Result<(), Fail> {
     Ok(())
 }
 
-/// Definitions: dm_lines Placing written_of numeral_at number_at label_at standing moved byte_of takes_labels outline_of numeral_outline number_outline label_outline
+/// Definitions: dm_lines Placing written_of numeral_at number_at label_at standing moved byte_of takes_labels
+/// outline_of numeral_outline number_outline label_outline
 #[test]
 fn labels_have_places(rt: HostRuntime) -> Result<(), Fail> {
     for row in PLACES.lines() {

@@ -4,8 +4,9 @@
 //!
 //!     x: MOV AL,[BX+5] | X: MOV Al [Absent OnBx 5]
 //!
-//! A statement is its label, then prefixes, mnemonic and operands; or DB or DW and the items of data; or `nothing`. Numbers are
-//! decimal; a label has behind it what is added to it. An operand in memory is the word before it, its registers and its value.
+//! A statement is its label, then prefixes, mnemonic and operands; or DB or DW and the items of data; or `nothing`.
+//! Numbers are decimal; a label has behind it what is added to it. An operand in memory is the word before it, its
+//! registers and its value.
 
 use crate::checks::same;
 use arrayvec::ArrayVec;

@@ -13,7 +13,7 @@ use std::alloc::{AllocError, Global};
 /// The offset of a program's first byte in its segment.
 const START: usize = 0x100;
 
-/// The sixteen bytes from a place on, with zeros behind the last byte.
+/// The sixteen bytes from a place on, with zeros after the last byte.
 fn window(bytes: &[u8], at: usize) -> [u8; 16]
     requires { at ≤ length bytes.now }
     ensures { (k : ℕ) → k ≤ 16 → at + k ≤ length bytes.now → take k result ≡ bytes_at bytes.now at k }
@@ -94,7 +94,7 @@ fn put_standing(
     Ok(())
 }
 
-/// Puts the line of what stands at a place, and tells how many bytes it is.
+/// Appends the line of what stands at a place, and returns how many bytes it covers.
 fn put_line(out: &mut Vec<u8>, bytes: &[u8], at: usize) -> Result<usize, AllocError>
     requires within { at < length bytes.now }
     requires few { length bytes.now ≤ 65278 }
@@ -108,13 +108,13 @@ fn put_line(out: &mut Vec<u8>, bytes: &[u8], at: usize) -> Result<usize, AllocEr
     Ok(len)
 }
 
-/// The lines of a program's bytes, which stands at offset 0100h, each with a line end (0Ah): an assembler makes the same bytes of
-/// them. An instruction is told as its text where it is written in its preferred bytes; else as `DB` of its bytes, with the text in a
-/// comment. What begins no instruction within the file is `DB` of one byte.
+/// The lines of a program's bytes, which stands at offset 0100h, each with a line end (0Ah): an assembler makes the
+/// same bytes of them. An instruction is listed as its text where it stands in its preferred bytes; else as `DB` of its
+/// bytes, with the text in a comment. What begins no instruction within the file is `DB` of one byte.
 ///
 /// # Errors
 ///
-/// That memory for the lines was refused.
+/// `AllocError` if an allocation for the lines fails.
 pub fn disassemble(alloc: Global, bytes: &[u8]) -> Result<Vec<u8>, AllocError>
     requires { length bytes.now ≤ 65278 }
     ensures { IfOk result (λ text. IsListing bytes.now text.items) }

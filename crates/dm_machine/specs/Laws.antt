@@ -34,8 +34,8 @@ IsQuiet (Some ExtendedMemory) = ⊥
 abbrev pub StaysQuiet : State → ℕ → Type 0
 StaysQuiet s n = (k : ℕ) (r : State) → k < n → Goes s k r → IsQuiet (driver_at r.cpu)
 
--- n steps that end nothing, and in which neither acts, lead to the same state where memory is changed out of every program's sight, and
--- the change stays
+-- n steps that end nothing, and in which neither acts, lead to the same state where memory is changed out of every
+-- program's sight, and the change stays
 abbrev pub UnseenBytesChangeNoStep : Type 0
 UnseenBytesChangeNoStep =
     (change : Memory → Memory) → IsUnseen change → (s t : State) (n : ℕ) → StaysQuiet s n →
@@ -80,7 +80,8 @@ extended_as handles other m = with_blocks m (record m.blocks { contents = mixed 
 abbrev pub with_extended_blocks : (ℕ → List ℕ) → State → State
 with_extended_blocks other s = record s { memory = extended_as s.xms.handles other s.memory }
 
--- where tables and memory go together, as they do in each machine, a run doesn't depend on the bytes of any block of extended memory
+-- where tables and memory go together, as they do in each machine, a run doesn't depend on the bytes of any block of
+-- extended memory
 abbrev pub ExtendedBlocksChangeNoRun : Type 0
 ExtendedBlocksChangeNoRun =
     (other : ℕ → List ℕ) (s t : State) (n : ℕ) (stop : Stop) → AreLinked s → StaysQuiet s n →
@@ -107,8 +108,8 @@ pub data Follows (s : State) : State → Type 0 where
 abbrev pub WantsBeyond : ℕ → State → Type 0
 WantsBeyond bytes t = (x : Answer) → Steps t x → bytes < length x.state.console.output
 
--- where there is room for so many bytes, steps and runs that write no more of them don't want memory: one that does stands
--- before a step with which more would have gone out
+-- where there is room for so many bytes, steps and runs that write no more of them don't want memory: one that does
+-- stands before a step with which more would have gone out
 abbrev pub RoomIsEnoughForRuns : Type 0
 RoomIsEnoughForRuns =
     (bytes : ℕ) (s t u : State) (n : ℕ) → bytes ≤ s.console.room → Follows s t → IsRun t n NoMemory u →

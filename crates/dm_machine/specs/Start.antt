@@ -26,8 +26,8 @@ clear_flags = record { carry = false; parity = false; adjust = false; zero = fal
 abbrev pub clear_registers : Cpu
 clear_registers = record { ax = 0; cx = 0; dx = 0; bx = 0; sp = 0; bp = 0; si = 0; di = 0; es = 0; cs = 0; ss = 0; ds = 0; ip = 0; flags = clear_flags }
 
--- the headers of an arena that goes on in upper memory: at 0100h `Z`, owner 0, size 9EFEh; at 9FFFh `M`, owner 0008h, size 3000h, which links
--- what is above; at D000h `Z`, owner 0, size 0FFFh
+-- the headers of an arena that goes on in upper memory: at 0100h `Z`, owner 0, size 9EFEh; at 9FFFh `M`, owner 0008h,
+-- size 3000h, which links what is above; at D000h `Z`, owner 0, size 0FFFh
 unfoldable pub with_upper_headers : Memory → Memory
 with_upper_headers m =
     with_bytes (with_bytes (with_bytes m

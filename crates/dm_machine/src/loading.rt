@@ -49,7 +49,7 @@ impl Machine {
     ///
     /// `NotFound` exactly where the store has no such program (ASCII case ignored), `BadFormat`
     /// exactly where it has one that is bad, `Short` exactly where there is no room for its two
-    /// blocks or memory's arena is destroyed. A refusal changes nothing.
+    /// blocks or memory's arena is destroyed. A call that fails changes nothing.
     pub fn load(&mut self, name: &[u8], tail: &[u8]) -> Result<(), LoadError>
         requires fresh { self.old.processes.present ≡ 0 }
         requires name { IsName name.now }

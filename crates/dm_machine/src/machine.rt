@@ -26,15 +26,15 @@ pub enum NewError {
     /// Over 512 pages of expanded memory, or over 15,360 KiB of extended memory.
     #[error("too large")]
     TooLarge,
-    /// Memory was refused.
+    /// An allocation failed.
     #[error("out of memory")]
     Memory,
 }
 
 /// A machine that runs one program, and those that it starts.
 ///
-/// Contracts see its state: registers, memory, the tables of expanded and extended memory, console, processes, the allocation strategy, the code
-/// with which the first program ended, the count of steps, and what no step changes.
+/// Contracts see its state: registers, memory, the tables of expanded and extended memory, console, processes, the
+/// allocation strategy, the code with which the first program ended, the count of steps, and what no step changes.
 #[derive(Drop)]
 pub struct Machine {
     pub(crate) parts: Parts,
@@ -74,8 +74,8 @@ fn clear_registers() -> Cpu
     }
 }
 
-/// Writes the headers of an arena that goes on in upper memory, if it does: what is below 9FFFh is one free block, as is what is from D000h
-/// to DFFFh.
+/// Writes the headers of an arena that continues in upper memory, if it does: what is below 9FFFh is one free block, as
+/// is what is from D000h to DFFFh.
 #[tactic(auto, unfolding(crate::specs::Start::with_upper_headers))]
 fn write_headers(space: &mut Space, upper: bool)
     ensures { space.new.memory ≡ with_headers upper space.old.memory }
@@ -106,15 +106,16 @@ fn start_space(alloc: Global, sizes: Sizes, upper: bool) -> Result<Space, NewErr
 
 impl Machine {
     /// A machine as it starts: memory of zeros but for the interrupt vectors and the first arena
-    /// header, or the three headers of an arena that goes on in upper memory, A20 off, a pool of the configuration's sizes with no block, no handle of expanded
-    /// memory but handle 0, none of extended memory, no output, no program loaded.
+    /// header, or the three headers of an arena that continues in upper memory, A20 off, a pool of the configuration's
+    /// sizes with no block, no handle of expanded memory but handle 0, none of extended memory, no output, no program
+    /// loaded.
     ///
     /// The variables of the configuration have at most 32,767 bytes with their zeros.
     ///
     /// # Errors
     ///
-    /// `TooLarge` exactly where the sizes are over 512 pages or 15,360 KiB, else `Memory` where
-    /// memory was refused. What was handed in is then dropped.
+    /// `TooLarge` exactly where the sizes are over 512 pages or 15,360 KiB; otherwise `Memory` if an
+    /// allocation failed. The arguments are then dropped.
     pub fn new(
         alloc: Global,
         config: Config,
@@ -162,7 +163,7 @@ impl Machine {
         self.parts.procs.psp() > 0
     }
 
-    /// Whether the arena goes on in upper memory: what the configuration said.
+    /// Whether the arena continues in upper memory: what the configuration said.
     pub fn upper(&self) -> bool
         ensures { result ≡ self.now.upper }
     {
@@ -223,7 +224,7 @@ impl Machine {
     /// Makes the room, how many more bytes of output go out without memory, the larger of the room
     /// and `bytes`. It takes no memory where the room is large enough already.
     ///
-    /// An `Err` says that memory was refused, and that nothing has changed.
+    /// An `Err` says that the allocation failed, and that nothing has changed.
     pub fn reserve_output(&mut self, bytes: usize) -> Result<(), AllocError>
         ensures ok { OnOk result (self.new ≡ record self.old { console = record self.old.console { room = max self.old.console.room bytes } }) }
         ensures err { OnErr result (self.new ≡ self.old) }

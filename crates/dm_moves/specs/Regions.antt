@@ -1,4 +1,5 @@
--- Regions of memory, and what a move or an exchange of two of them leaves (LIM EMS 4.0, function 24): bytes are read through places.
+-- Regions of memory, and what a move or an exchange of two of them leaves (LIM EMS 4.0, function 24): bytes are read
+-- through places.
 use Rattle.std.specs.Prelude.{◌≡◌, ℕ, suc, ◌+◌, ◌*◌, ◌/◌, ◌%◌, ◌≤◌, ◌<◌, List, [], ◌∷◌, length, slice_index}
 use Rattle.dm_pool.specs.Blocks.{IsLive}
 use Rattle.dm_space.specs.declared.place.Place.{Place}

@@ -81,7 +81,8 @@ fn write(space: &mut Space, at: usize, region: &Region, len: usize)
     }
 }
 
-/// Moves `len` bytes of a region to another: the source is read whole, and then written upwards. The scratch bytes are overwritten.
+/// Moves `len` bytes of a region to another: the source is read whole, and then written upwards. The scratch bytes are
+/// overwritten.
 pub fn move_bytes(space: &mut Space, from: &Region, to: &Region, len: usize)
     requires from { IsInside space.old.memory from.now len }
     requires to { IsInside space.old.memory to.now len }
@@ -93,8 +94,8 @@ pub fn move_bytes(space: &mut Space, from: &Region, to: &Region, len: usize)
     write(space, 0, to, len);
 }
 
-/// Moves `len` bytes of one block to another, or within one: the source is read whole, and then written upwards. The scratch bytes stay as
-/// they are, so `len` may be more than they are.
+/// Moves `len` bytes of one block to another, or within one: the source is read whole, and then written upwards. The
+/// scratch bytes stay as they are, so `len` may be more than they are.
 pub fn move_blocks(space: &mut Space, from: &Region, to: &Region, len: usize)
     requires blocks { (from.now.kind ≡ Kind.Single) × (to.now.kind ≡ Kind.Single) }
     requires from { IsInside space.old.memory from.now len }
@@ -110,8 +111,8 @@ pub fn move_blocks(space: &mut Space, from: &Region, to: &Region, len: usize)
     space.move_bytes(source, from.at(0), destination, to.at(0), len);
 }
 
-/// Exchanges `len` bytes of two regions: both are read whole, and then each is written upwards where the other was. The scratch bytes are
-/// overwritten.
+/// Exchanges `len` bytes of two regions: both are read whole, and then each is written upwards where the other was. The
+/// scratch bytes are overwritten.
 pub fn exchange_bytes(space: &mut Space, from: &Region, to: &Region, len: usize)
     requires from { IsInside space.old.memory from.now len }
     requires to { IsInside space.old.memory to.now len }

@@ -2,7 +2,8 @@
 
 ghost use Rattle.dm_moves.specs.Laws.{MovesKeepTheMap};
 
-/// The law that moves and exchanges keep the map: A20, the windows, and which blocks there are, where they lie and how large they are.
+/// The law that moves and exchanges keep the map: A20, the windows, and which blocks there are, where they lie and how
+/// large they are.
 pub fn moves_keep_the_map()
     ensures { MovesKeepTheMap }
 {}

@@ -29,8 +29,8 @@ HasFailed before after = (before < after) ⊎ (after ≡ most_failures)
 abbrev pub AppendsPart : Option (List ℕ) → Option (List ℕ) → List ℕ → Type 0
 AppendsPart old new bytes = (k : ℕ) × (k ≤ length bytes) × Appends old new (take k bytes)
 
--- a writer as contracts see it: the bytes that it holds, where they are known, and how many of its writes and flushes failed, a write that took nothing
--- among them
+-- a writer as contracts see it: the bytes that it holds, where they are known, and how many of its writes and flushes
+-- failed, a write that took nothing among them
 pub record Written : Type 0 where
   pub bytes : Option (List ℕ)
   pub failures : ℕ

@@ -12,7 +12,8 @@ pub struct Failed;
 
 /// A writer that takes some first part of the bytes that each write offers, as the standard `Write` does.
 ///
-/// It counts the writes of at least one byte that failed or took nothing, and the flushes that failed; at 2^64 - 1 the count stays.
+/// It counts the writes of at least one byte that failed or took nothing, and the flushes that failed; at 2^64 - 1 the
+/// count stays.
 pub trait Out {
     // The bytes taken so far, where the type knows them.
     ghost taken: { Self → Option (List ℕ) };

@@ -65,7 +65,8 @@ pub record IsPool (units : ℕ) (places : List (Option Place)) (bytes : List ℕ
   pub within : (i : ℕ) (b : Place) → get_or places i None ≡ Some b → b.base + b.units ≤ units
   pub apart : (i j : ℕ) (b d : Place) → ¬ (i ≡ j) → get_or places i None ≡ Some b → get_or places j None ≡ Some d → Apart b d
 
--- where a block is to lie that gets u units: where it is, if the units there are its own or free, else in the lowest gap, its own units taken
+-- where a block is to lie that gets u units: where it is, if the units there are its own or free, else in the lowest
+-- gap, its own units taken
 abbrev pub new_base : Blocks → ℕ → Place → ℕ → Option ℕ
 new_base s i b u = if u == 0 then Some 0 else (if is_free (set s.places i None) s.units u b.base then Some b.base else lowest s.places s.units u)
 
@@ -87,7 +88,8 @@ at_place s i u (Some b) = moved s i u (new_base s i b u)
 abbrev pub resized : Blocks → ℕ → ℕ → Option Blocks
 resized s i u = at_place s i u (get_or s.places i None)
 
--- the pool with `len` bytes of one block, from its byte `from` on, copied to the place from byte `to` on of another or the same
+-- the pool with `len` bytes of one block, from its byte `from` on, copied to the place from byte `to` on of another or
+-- the same
 abbrev pub moved_bytes : Blocks → ℕ → ℕ → ℕ → ℕ → ℕ → Blocks
 moved_bytes s i from j to len = with_content s j (with_part (get_or s.contents j []) to len (part (get_or s.contents i []) from len))
 

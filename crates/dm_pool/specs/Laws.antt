@@ -22,7 +22,8 @@ abbrev pub taken_in_turn : Blocks → ℕ → ℕ → Option Blocks
 taken_in_turn s u zero = Some s
 taken_in_turn s u (suc n) = and_taken (taken_in_turn s u n) u
 
--- all of them come where there are numbers for them and each gap counts as its units divided by u, rounded down; else one of them doesn't
+-- all of them come where there are numbers for them and each gap counts as its units divided by u, rounded down; else
+-- one of them doesn't
 abbrev pub BlocksCome : Type 0
 BlocksCome = (s : Blocks) (u n : ℕ) → AreBased s.places → 0 < u →
     IsSome (taken_in_turn s u n) ↔ ((n ≤ free_numbers s) × (n ≤ count_fitting u (gaps s.places s.units)))

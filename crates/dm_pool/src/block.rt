@@ -3,8 +3,8 @@ ghost use Rattle.std.specs.Prelude.{◌≡◌, ◌<◌};
 
 use std::marker::Model;
 
-/// A block of a pool, by its number. The default is number 0, with which a bounded list of blocks is filled; `Store::has` tells
-/// whether there is such a block.
+/// A block of a pool, by its number. The default is number 0, with which a bounded list of blocks is filled;
+/// `Store::has` says whether there is such a block.
 #[derive(Clone, Copy, Debug, Default, PartialEq, Eq)]
 pub struct Block {
     slot: usize,

@@ -43,8 +43,8 @@ fn retell(table: &mut Table, bytes: &mut [u8])
     table.set_first(first);
 }
 
-/// Takes a block of so many units, all zeros, in the lowest gap that holds them. None where no gap does, or where there are as
-/// many blocks as can be.
+/// Takes a block of so many units, all zeros, in the lowest gap that holds them. None where no gap does, or where there
+/// are as many blocks as can be.
 pub(crate) fn take(table: &mut Table, bytes: &mut [u8], units: usize) -> Option<usize>
     requires { IsToldIn table.old bytes.old }
     ensures told { IsToldIn table.new bytes.new }
@@ -74,8 +74,8 @@ pub(crate) fn give(table: &mut Table, bytes: &mut [u8], slot: usize)
     retell(table, bytes);
 }
 
-/// Where a block is to lie that gets so many units: where it is, if the units there are its own or free, else in the lowest gap, its
-/// own units counted as taken.
+/// Where a block is to lie that gets so many units: where it is, if the units there are its own or free, else in the
+/// lowest gap, its own units counted as taken.
 fn new_base(table: &Table, bytes: &[u8], slot: usize, units: usize) -> Option<usize>
     requires told { IsToldIn table.now bytes.now }
     requires live { IsLive (blocks_in table.now bytes.now) slot }
@@ -106,8 +106,8 @@ fn move_block(bytes: &mut [u8], from: Place, to: Place)
     clear(bytes, to.base + kept, to.units - kept);
 }
 
-/// Gives a block another size: bytes up to the smaller size stay, new ones are zeros. False where neither its place nor a gap holds
-/// it, and then nothing has changed.
+/// Gives a block another size: bytes up to the smaller size stay, new ones are zeros. False where neither its place nor
+/// a gap holds it, and then nothing has changed.
 pub(crate) fn resize(table: &mut Table, bytes: &mut [u8], slot: usize, units: usize) -> bool
     requires told { IsToldIn table.old bytes.old }
     requires live { IsLive (blocks_in table.old bytes.old) slot }

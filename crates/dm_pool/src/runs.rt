@@ -1,5 +1,5 @@
-//! Free runs, kept in the free bytes themselves. A run begins with its length in units and the unit where the next run begins, four
-//! bytes each, low byte first; FFFFFFFFh stands for no run.
+//! Free runs, kept in the free bytes themselves. A run begins with its length in units and the unit where the next run
+//! begins, four bytes each, low byte first; FFFFFFFFh stands for no run.
 ghost use Rattle.std.specs.Prelude.{◌≡◌, ℕ, ◌+◌, ◌-◌, ◌*◌, ◌^◌, ◌<◌, ◌≤◌, length};
 ghost use Rattle.dm_pool.specs.Blocks.{contents_of};
 ghost use Rattle.dm_pool.specs.FreeList.{word};
@@ -14,8 +14,8 @@ use byteorder::{ByteOrder, LittleEndian};
 /// Where no run is.
 const NOWHERE: u32 = u32::MAX;
 
-/// The free runs of a pool, as its bytes tell them: the first four bytes of a run are its length in units, the next four the unit where the
-/// next run begins, low byte first.
+/// The free runs of a pool, as its bytes list them: the first four bytes of a run are its length in units, the next
+/// four the unit where the next run begins, low byte first.
 #[derive(Clone, Copy)]
 pub struct RunList<'a> {
     /// The bytes of the pool, those of its blocks among them.
@@ -78,7 +78,7 @@ fn highest(table: &Table, rest: usize) -> Place
     table.nth(rest - 1)
 }
 
-/// Writes all free runs, from the highest down, and tells where the first one begins.
+/// Writes all free runs, from the highest down, and returns where the first one begins.
 pub(crate) fn spell(table: &Table, bytes: &mut [u8]) -> u32
     requires { length bytes.old ≡ table.now.units * 1024 }
     ensures contents { contents_of table.now.places bytes.new ≡ contents_of table.now.places bytes.old }
@@ -102,7 +102,7 @@ pub(crate) fn spell(table: &Table, bytes: &mut [u8]) -> u32
     next
 }
 
-/// Where the lowest run of so many units begins. It walks the runs as the free bytes tell them.
+/// Where the lowest run of so many units begins. It walks the runs that the free bytes list.
 pub(crate) fn first_fit(table: &Table, bytes: &[u8], wanted: usize) -> Option<usize>
     requires told { IsToldIn table.now bytes.now }
     requires some { 0 < wanted }

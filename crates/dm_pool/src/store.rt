@@ -58,7 +58,7 @@ pub enum NewError {
     /// Over 512 pages of expanded memory, or over 15,360 KiB of extended memory.
     #[error("too large")]
     TooLarge,
-    /// Memory was refused.
+    /// The allocation failed.
     #[error("out of memory")]
     Memory,
 }
@@ -118,12 +118,12 @@ fn start_of(table: &Table, part: Part) -> usize
 }
 
 impl Store {
-    /// A store of zeros with no block: 110000h bytes of low memory, 200000h scratch bytes, and a pool of 16 units of 1 KiB for each page
-    /// and one for each KiB of extended memory.
+    /// A store of zeros with no block: 110000h bytes of low memory, 200000h scratch bytes, and a pool of 16 units of 1
+    /// KiB for each page and one for each KiB of extended memory.
     ///
     /// # Errors
     ///
-    /// `TooLarge` where there are over 512 pages or over 15,360 KiB; else `Memory` where memory was refused.
+    /// `TooLarge` for over 512 pages or over 15,360 KiB; otherwise `Memory` if the allocation fails.
     pub fn new(alloc: Global, sizes: Sizes) -> Result<Store, NewError>
         ensures low { IfOk result (λ store. store.low ≡ zeros_of 0x110000) }
         ensures scratch { IfOk result (λ store. store.scratch ≡ zeros_of 0x200000) }
@@ -185,8 +185,8 @@ impl Store {
         pool::take(&mut self.table, self.region.part_mut(POOL, len), units)
     }
 
-    /// Takes a block of so many units of 1 KiB, all zeros, in the lowest gap that holds them; a block of no unit needs no gap. None
-    /// where no gap holds them, or where there are 576 blocks; then nothing has changed.
+    /// Takes a block of so many units of 1 KiB, all zeros, in the lowest gap that holds them; a block of no unit needs
+    /// no gap. None where no gap holds them, or where there are 576 blocks; then nothing has changed.
     pub fn take(&mut self, units: usize) -> Option<Block>
         ensures { MatchOption result ((taken self.old.blocks units ≡ None) × (self.new ≡ self.old)) (λ block. (taken self.old.blocks units ≡ Some (block, self.new.blocks)) × (self.new ≡ record self.old { blocks = self.new.blocks })) }
     {
@@ -209,9 +209,9 @@ impl Store {
         );
     }
 
-    /// Gives a block another size: bytes up to the smaller size stay, and new ones are zeros. The block stays where it is if it fits
-    /// there, else it moves to the lowest gap that holds it, its old place counted as taken; a block of no unit needs no gap. False
-    /// where neither holds it, and then nothing has changed.
+    /// Gives a block another size: bytes up to the smaller size stay, and new ones are zeros. The block stays where it
+    /// is if it fits there, else it moves to the lowest gap that holds it, its old place counted as taken; a block of
+    /// no unit needs no gap. False where neither holds it, and then nothing has changed.
     pub fn resize(&mut self, block: Block, units: usize) -> bool
         requires { IsLive self.old.blocks block }
         ensures { MatchBool result ((resized self.old.blocks block units ≡ Some self.new.blocks) × (self.new ≡ record self.old { blocks = self.new.blocks })) ((resized self.old.blocks block units ≡ None) × (self.new ≡ self.old)) }
@@ -263,8 +263,8 @@ impl Store {
             .part_mut(POOL + place.base * UNIT, place.units * UNIT)
     }
 
-    /// Copies `len` bytes of a block, from its byte `from` on, to the place from byte `to` on of another block or the same one. The bytes
-    /// copied are those that stood there before.
+    /// Copies `len` bytes of a block, from its byte `from` on, to the place from byte `to` on of another block or the
+    /// same one. The bytes copied are those that stood there before.
     pub fn move_bytes(
         &mut self,
         source: Block,
@@ -284,8 +284,8 @@ impl Store {
         self.region.copy(POOL + from, POOL + to, len);
     }
 
-    /// Copies `len` bytes of a part, from its byte `from` on, to the place from byte `to` on of another part or the same one. The
-    /// bytes copied are those that stood there before.
+    /// Copies `len` bytes of a part, from its byte `from` on, to the place from byte `to` on of another part or the
+    /// same one. The bytes copied are those that stood there before.
     pub fn copy(&mut self, source: Part, from: usize, destination: Part, to: usize, len: usize)
         requires source { HasPart self.old source × (from + len ≤ length (part_bytes self.old source)) }
         requires destination { HasPart self.old destination × (to + len ≤ length (part_bytes self.old destination)) }
@@ -313,7 +313,8 @@ impl Store {
         runs::free_units(&self.table, self.region.part(POOL, len))
     }
 
-    /// The bytes of the pool, with its free runs. In them blocks lie apart, and the free ones tell the gaps, rising, from the first run on.
+    /// The bytes of the pool, with its free runs. Blocks do not overlap in them, and the free bytes list the gaps,
+    /// rising, from the first run on.
     pub fn free_list(&self) -> RunList<'_>
         ensures blocks { IsPool self.now.blocks.units self.now.blocks.places result.bytes.now }
         ensures based { AreBased self.now.blocks.places }

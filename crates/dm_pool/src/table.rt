@@ -135,7 +135,7 @@ impl Table {
         no_blocks(units)
     }
 
-    /// Does nothing: it tells proofs what holds of every table.
+    /// Does nothing: it gives proofs what holds of every table.
     #[inline(always)]
     pub(crate) fn recall(&self)
         ensures { IsTable self.now }

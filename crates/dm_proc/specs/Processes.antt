@@ -1,5 +1,5 @@
--- The processes that are alive, and what starting and ending one does: MS-DOS Programmer's Reference, functions 4Bh, 4Ch,
--- 31h and 4Dh.
+-- The processes that are alive, and what starting and ending one does: MS-DOS Programmer's Reference, functions 4Bh,
+-- 4Ch, 31h and 4Dh.
 use Rattle.std.specs.Prelude.{◌≡◌, Bool, ◌≢◌, ℕ, ◌+◌, ◌<◌, ◌⊎◌, false, List, [], ◌∷◌, ◌++◌, length, Result, Ok, Err, All}
 use Rattle.dm_space.specs.Memory.{Memory}
 use Rattle.dm_arena.specs.declared.fit.Strategy.{Strategy}
@@ -43,7 +43,8 @@ returned c m =
     let r = (interrupt_return (guest c m)).cpu in
     record r { flags = record r.flags { carry = false } }
 
--- both blocks of a program, planned and written: for the bytes of its environment, of which there are so many, and its file
+-- both blocks of a program, planned and written: for the bytes of its environment, of which there are so many, and its
+-- file
 abbrev pub Plans : Bool → Memory → Strategy → ℕ → List ℕ → Result Placed ArenaRefusal → Memory → Type 0
 Plans upper m strategy count file answer n = Pairs upper m strategy (paragraphs count) (least file) (most file) answer n
 
@@ -87,8 +88,9 @@ pub record Execs (upper : Bool) (ps : Processes) (c : Cpu) (m : Memory) (store :
     parents = ps.parents ++ record { segment = ps.present; cpu = returned c m } ∷ [];
   }
 
--- why none is, in the order in which the errors are tried: AL is not 0 (1), no such name (2), a bad file (11), no end of the
--- environment (10), no block list (7), no room (8), a new list that is not clear (7), sixteen processes alive (8)
+-- why none is, in the order in which the errors are tried: AL is not 0 (1), no such name (2), a bad file (11), no end
+-- of the environment (10), no block list (7), no room (8), a new list that is not clear (7), sixteen processes alive
+-- (8)
 abbrev pub ExecRefused : Bool → Processes → Cpu → Memory → List (List ℕ × List ℕ) → Strategy → Refusal → Type 0
 ExecRefused upper ps c m store strategy Function = action c ≢ 0
 ExecRefused upper ps c m store strategy NotFound = (action c ≡ 0) × NameRefused c m store NotFound

@@ -8,8 +8,8 @@ use Rattle.dm_load.specs.Image.{is_mz, image, minimum, maximum}
 abbrev pub paragraphs : ℕ → ℕ
 paragraphs n = (n + 15) / 16
 
--- what a program's block has at least: the prefix, the image, and behind it a COM program's word of stack or the minimum
--- of an MZ header
+-- what a program's block has at least: the prefix, the image, and behind it a COM program's word of stack or the
+-- minimum of an MZ header
 unfoldable pub least : List ℕ → ℕ
 least file =
     if is_mz file then 0x10 + paragraphs (length (image file)) + minimum file

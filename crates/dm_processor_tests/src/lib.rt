@@ -1,5 +1,5 @@
-//! Worked rows of the processor: arithmetic, instructions to bytes and back, and the effects of instructions, each played as `dm_exec` does it
-//! and by its form.
+//! Worked rows of the processor: arithmetic, instructions to bytes and back, and the effects of instructions, each
+//! played as `dm_exec` does it and by its form.
 //!
 //! They stand apart from the crates that they try, since a crate with tests is proved twice.
 #![tactic(auto)]

@@ -1,4 +1,5 @@
--- Words in which others stand for some values are an instruction wherever the words are one, and one with as many bytes.
+-- Words in which others stand for some values are an instruction wherever the words are one, and one with as many
+-- bytes.
 use Rattle.std.proofs.Common.{◌≡◌, ℕ, ◌%◌, ◌<◌, ◌≤◌, ◌^◌, true, false, List, ◌++◌, length, Option, Some, None, refl, sym, ap, subst, ◌∙◌, arith, inl, inr}
 use Rattle.std.specs.Prelude.{◌⊎◌, map, IfSome, IsSomeAnd}
 use Rattle.std.proofs.lemmas.List.{length-append}

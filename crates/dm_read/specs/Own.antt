@@ -1,6 +1,6 @@
 -- The words that the text of an instruction shows, where the next instruction stands at an offset.
--- Source: Intel 8086 Family User's Manual, section 2.7 (instructions and their operands); how sizes, numbers and targets are written
--- is this machine's own (docs/DECISIONS.md).
+-- Source: Intel 8086 Family User's Manual, section 2.7 (instructions and their operands); how sizes, numbers and
+-- targets are written is this machine's own (docs/DECISIONS.md).
 use Rattle.std.specs.Prelude.{ℕ, ◌+◌, ◌-◌, ◌%◌, ◌==◌, nat_lt, if◌then◌else◌, Some, None}
 use Rattle.dm_ins.specs.declared.operand.Operand.{Operand}
 use Rattle.dm_ins.specs.declared.operand.Operand.TheVariants as operand

@@ -1,5 +1,5 @@
--- Words in which others stand for values that are not known yet, as where an assembler counts the bytes of a program before it
--- knows where its labels are.
+-- Words in which others stand for values that are not known yet, as where an assembler counts the bytes of a program
+-- before it knows where its labels are.
 use Rattle.std.specs.Prelude.{◌≡◌, ◌%◌, ◌^◌, ◌<◌, Bool, true, false, IfSome, IsSomeAnd}
 use Rattle.dm_ins.specs.declared.operand.Base.{Base}
 use Rattle.dm_ins.specs.declared.operand.Base.TheVariants.{Direct}
@@ -21,8 +21,8 @@ abbrev pub has_no_base : Base → Bool
 has_no_base Direct = true
 has_no_base b = false
 
--- for a byte any other one under MOV, else its remainder by 64 (ESC's number goes to 63, and the first byte depends on it); for
--- a word any other one under MOV, else itself; for a target the next instruction; a shift's 1 is always known
+-- for a byte any other one under MOV, else its remainder by 64 (ESC's number goes to 63, and the first byte depends on
+-- it); for a word any other one under MOV, else itself; for a target the next instruction; a shift's 1 is always known
 pub record NumberStands (m : Mnemonic) (stand n : Numeral) : Type 0 where
   pub byte : IfSome n.byte (λ b. IsSomeAnd stand.byte (λ c. (c < 2 ^ 8) × (is_move m ≡ false → c ≡ b % 64)))
   pub word : IfSome n.word (λ v. IsSomeAnd stand.word (λ u. (u < 2 ^ 16) × (is_move m ≡ false → u ≡ v)))

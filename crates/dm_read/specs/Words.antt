@@ -1,6 +1,6 @@
 -- Which instruction some written words are.
--- Source: Intel 8086 Family User's Manual, section 2.7 (instructions and their operands) and section 2.8 (addressing modes); where
--- a word says the size of memory is this machine's own (docs/DECISIONS.md).
+-- Source: Intel 8086 Family User's Manual, section 2.7 (instructions and their operands) and section 2.8 (addressing
+-- modes); where a word says the size of memory is this machine's own (docs/DECISIONS.md).
 use Rattle.std.specs.Prelude.{◌≡◌, true, ◌⊎◌, IsSomeAnd, if◌then◌else◌}
 use Rattle.dm_ins.specs.declared.operand.Width.{Width}
 use Rattle.dm_ins.specs.declared.operand.Width.TheVariants as width

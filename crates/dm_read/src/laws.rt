@@ -7,8 +7,9 @@ pub fn words_are_one_instruction()
     ensures { WordsAreOne }
 {}
 
-/// The laws that the words which the text of an instruction shows are that instruction, whatever its operands are and wherever
-/// it stands, and that the text has the words before memory that have to stand there. It does nothing when called.
+/// The laws that the words which the text of an instruction shows are that instruction, whatever its operands are and
+/// wherever it stands, and that the text has the words before memory that have to stand there. It does nothing when
+/// called.
 pub fn own_words_are_read()
     ensures own { OwnWordsAreRead }
     ensures sizes { SizesAreShown }

@@ -1,5 +1,5 @@
-//! From written words to the instruction of the table that they are. There is no second table: each way to take the operands is
-//! asked of the table.
+//! From written words to the instruction of the table that they are. There is no second table: each way to take the
+//! operands is asked of the table.
 
 ghost use Rattle.std.specs.Prelude.{◌≡◌, ◌↔◌, ℕ, IsTrue, List, IfSome, IfNone};
 ghost use Rattle.dm_ins.specs.declared.action.Action.{Action};
@@ -163,9 +163,10 @@ fn taken_first(prefixes: Prefixes, words: &Words, way: Way) -> Option<Encoded>
     None
 }
 
-/// The instruction of the table that the words are, with the prefixes, and its bytes as `encode` chooses them; None exactly where
-/// they are none. Each operand is taken in any of its ways: memory as a byte's or a word's, a number as a byte, a word, a target or
-/// a shift's 1; BYTE, WORD or NEAR has to stand before memory exactly where the text of the instruction has it.
+/// The instruction of the table that the words are, with the prefixes, and its bytes as `encode` chooses them; None
+/// exactly where they are none. Each operand is taken in any of its ways: memory as a byte's or a word's, a number as a
+/// byte, a word, a target or a shift's 1; BYTE, WORD or NEAR has to stand before memory exactly where the text of the
+/// instruction has it.
 pub fn read_encoded(prefixes: Prefixes, words: &Words) -> Option<Encoded>
     ensures found { IfSome result (λ r. (r.0.prefixes ≡ prefixes) × AreWords words.now r.0.action) }
     ensures bytes { IfSome result (λ r. IsPreferred r.0 r.1.items) }

@@ -1,5 +1,5 @@
-//! An instruction as it is written, before the table is asked which one it is (Intel 8086 Family User's Manual, section 2.7 and
-//! section 2.8).
+//! An instruction as it is written, before the table is asked which one it is (Intel 8086 Family User's Manual, section
+//! 2.7 and section 2.8).
 
 use dm_ins::{Address, ByteRegister, Mnemonic, SegmentRegister, WordRegister};
 

@@ -1,8 +1,8 @@
 //! A program of calls that take memory, to be played with each growth of memory refused in turn.
 //!
-//! It prints a line for each call, `NAME: ANSWER`. Where memory is refused in a call it prints `NAME: memory` before that, makes the
-//! call again, and goes on; or `NAME: changed`, where the answer or what is seen afterwards is not what the call's surface says.
-//! Where memory is refused between the calls, while one is prepared, it ends with status 1.
+//! It prints a line for each call, `NAME: ANSWER`. Where memory is refused in a call it prints `NAME: memory` before
+//! that, makes the call again, and goes on; or `NAME: changed`, where the answer or what is seen afterwards is not what
+//! the call's surface says. Where memory is refused between the calls, while one is prepared, it ends with status 1.
 #![tactic(auto)]
 
 mod machines;

@@ -98,7 +98,8 @@ fn command(
     tell(rt, call, if right { "its answer" } else { "others" })
 }
 
-/// A session with a command of each kind. What one changes, or leaves as it was where memory was refused, later ones show.
+/// A session with a command of each kind. What one changes, or leaves as it was where memory was refused, later ones
+/// show.
 pub(crate) fn answer_commands(rt: &impl Print, alloc: Global) -> Result<()> {
     let mut session = new_session(alloc)?;
     for row in COMMANDS {

@@ -1,5 +1,5 @@
-//! A block of memory, as Rust's `[MaybeUninit<T>]`: a row of places, each empty or holding a value. All functions that follow a
-//! pointer are here.
+//! A block of memory, as Rust's `[MaybeUninit<T>]`: a row of places, each empty or holding a value. All functions that
+//! follow a pointer are here.
 ghost use Rattle.std.specs.Prelude.{◌≡◌, ℕ, ◌<◌, ◌≤◌, List, Option, Some, None, map, length, take, drop, replicate, get_or, slice_set, IfOk, ⊤};
 ghost use Rattle.std.specs.Borrow.{sem, u8};
 ghost use Rattle.std.specs.Vec.Ownership.{FitsInBlock};
@@ -75,7 +75,7 @@ unsafe impl<T, A: Allocator> Sync for Deed<T, A> {}
 ///
 /// # Errors
 ///
-/// `AllocError` where `alloc` refuses the memory.
+/// `AllocError` if `alloc` has no memory.
 pub(crate) fn allocate<T, A: Allocator>(
     alloc: &A,
     len: usize,

@@ -1,5 +1,5 @@
-//! One allocation of bytes, whose parts are lent as slices. All pointers of the machine's memory are here: what stands on
-//! this crate sees a list of bytes.
+//! One allocation of bytes, whose parts are lent as slices. All pointers of the machine's memory are here: what stands
+//! on this crate sees a list of bytes.
 #![tactic(auto)]
 
 mod cells;

@@ -55,7 +55,7 @@ impl Region {
     ///
     /// # Errors
     ///
-    /// `AllocError` where memory was refused: always where `len` is 2^63 or more, since no allocation is so large.
+    /// `AllocError` if the allocation fails, as it always does for a `len` of 2^63 or more: no allocation is so large.
     pub fn new(alloc: Global, len: usize) -> Result<Region, AllocError>
         ensures { IfOk result (λ region. region ≡ replicate len 0) }
     {
@@ -92,8 +92,8 @@ impl Region {
         self.cells.slice_mut(base, from, len)
     }
 
-    /// Copies the `len` bytes from byte `from` on to the place from byte `to` on. Both may overlap: the bytes copied are those
-    /// that stood there before.
+    /// Copies the `len` bytes from byte `from` on to the place from byte `to` on. Both may overlap: the bytes copied
+    /// are those that stood there before.
     pub fn copy(&mut self, from: usize, to: usize, len: usize)
         requires source { from + len ≤ length self.old }
         requires destination { to + len ≤ length self.old }

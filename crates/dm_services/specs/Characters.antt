@@ -1,7 +1,7 @@
--- INT 21h, single bytes of the console: MS-DOS Programmer's Reference, "Read Keyboard and Echo" (01h), "Display Character"
--- (02h), "Direct Console I/O" (06h), "Direct Console Input" (07h), "Read Keyboard" (08h), "Check Keyboard Status" (0Bh).
--- Input and output are redirected byte streams: there is no Ctrl-C check. What comes where no input is left is this
--- machine's own: 01h, 07h and 08h stop it.
+-- INT 21h, single bytes of the console: MS-DOS Programmer's Reference, "Read Keyboard and Echo" (01h), "Display
+-- Character" (02h), "Direct Console I/O" (06h), "Direct Console Input" (07h), "Read Keyboard" (08h), "Check Keyboard
+-- Status" (0Bh). Input and output are redirected byte streams: there is no Ctrl-C check. What comes where no input is
+-- left is this machine's own: 01h, 07h and 08h stop it.
 use Rattle.std.specs.Prelude.{ℕ, ◌==◌, Bool, true, false, if◌then◌else◌, List, [], ◌∷◌}
 use Rattle.dm_cpu.specs.Cpu.{byte_of, with_byte}
 use Rattle.dm_ins.specs.declared.operand.ByteRegister.TheVariants.{Al, Dl}

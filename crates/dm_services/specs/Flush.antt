@@ -1,5 +1,5 @@
--- INT 21h function 0Ch: MS-DOS Programmer's Reference, "Flush Buffer, Read Keyboard". Input is a redirected byte stream:
--- there is nothing to flush.
+-- INT 21h function 0Ch: MS-DOS Programmer's Reference, "Flush Buffer, Read Keyboard". Input is a redirected byte
+-- stream: there is nothing to flush.
 use Rattle.std.specs.Prelude.{ℕ, ◌==◌, if◌then◌else◌}
 use Rattle.dm_cpu.specs.Cpu.{byte_of}
 use Rattle.dm_ins.specs.declared.operand.ByteRegister.TheVariants.{Al}

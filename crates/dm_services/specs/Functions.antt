@@ -1,5 +1,5 @@
--- The functions of INT 21h: MS-DOS Programmer's Reference, "System Calls". The answer to a function that is not there is
--- this machine's own.
+-- The functions of INT 21h: MS-DOS Programmer's Reference, "System Calls". The answer to a function that is not there
+-- is this machine's own.
 use Rattle.std.specs.Prelude.{◌≡◌, ℕ, ◌==◌, if◌then◌else◌, true}
 use Rattle.dm_cpu.specs.Cpu.{byte_of}
 use Rattle.dm_ins.specs.declared.operand.ByteRegister.TheVariants.{Al}

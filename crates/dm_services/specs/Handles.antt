@@ -1,5 +1,5 @@
--- INT 21h, the handles of the console: MS-DOS Programmer's Reference, "Read File or Device" (3Fh), "Write File or Device"
--- (40h). Handles 0 to 2 are the console, each in both directions; that 3 and 4 are bad is this machine's own.
+-- INT 21h, the handles of the console: MS-DOS Programmer's Reference, "Read File or Device" (3Fh), "Write File or
+-- Device" (40h). Handles 0 to 2 are the console, each in both directions; that 3 and 4 are bad is this machine's own.
 use Rattle.std.specs.Prelude.{ℕ, nat_lt, true, false, if◌then◌else◌, List, take, drop, length}
 use Rattle.dm_proc.specs.Writes.{bytes_from}
 use Rattle.dm_state.specs.State.{State, Answer, go, returned, with_carry}

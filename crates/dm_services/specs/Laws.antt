@@ -28,8 +28,8 @@ with_change change s = record s { memory = change s.memory }
 abbrev pub answer_with : (Memory → Memory) → Answer → Answer
 answer_with change x = record { stop = x.stop; state = with_change change x.state }
 
--- where memory is changed out of every program's sight the answer is the same, and the change stays: no service of DOS gives a
--- program another view of memory, as drivers do
+-- where memory is changed out of every program's sight the answer is the same, and the change stays: no service of DOS
+-- gives a program another view of memory, as drivers do
 abbrev pub ServicesIgnoreUnseen : Type 0
 ServicesIgnoreUnseen =
     (change : Memory → Memory) → IsUnseen change → (s : State) (service : Service) (x : Answer) →

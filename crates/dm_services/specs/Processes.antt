@@ -1,6 +1,6 @@
--- The calls that start and end programs: MS-DOS Programmer's Reference, functions 00h, 31h, 4Bh, 4Ch and 4Dh, and INT 20h.
--- The error codes are 1 (no such call), 2 (no such program), 7 (arena destroyed), 8 (not enough memory), 10 (no end of the
--- environment) and 11 (bad format).
+-- The calls that start and end programs: MS-DOS Programmer's Reference, functions 00h, 31h, 4Bh, 4Ch and 4Dh, and INT
+-- 20h. The error codes are 1 (no such call), 2 (no such program), 7 (arena destroyed), 8 (not enough memory), 10 (no
+-- end of the environment) and 11 (bad format).
 use Rattle.std.specs.Prelude.{◌≡◌, ℕ, ◌==◌, Bool, true, false, Some, Result, Ok, Err}
 use Rattle.dm_space.specs.Memory.{Memory}
 use Rattle.dm_cpu.specs.declared.cpu.Cpu.{Cpu}

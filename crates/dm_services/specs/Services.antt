@@ -22,7 +22,8 @@ service_at_offset ip =
 unfoldable pub service_at : Cpu → Option Service
 service_at c = if c.cs == 0xF000 then service_at_offset c.ip else None
 
--- the service at s answers x: interrupt 0 ends the process with code FFh, INT 20h with 0, and INT 21h does what AH names
+-- the service at s answers x: interrupt 0 ends the process with code FFh, INT 20h with 0, and INT 21h does what AH
+-- names
 abbrev pub Serves : State → Service → Answer → Type 0
 Serves s DivideError x = Terminating s 0xFF x
 Serves s Terminate x = Terminating s 0 x

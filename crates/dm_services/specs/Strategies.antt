@@ -1,5 +1,5 @@
--- Function 58h of INT 21h: the allocation strategy, and the link with upper memory (MS-DOS Programmer's Reference, function 58h). The order of
--- refusals, and what there is without upper memory in the arena, are this machine's own.
+-- Function 58h of INT 21h: the allocation strategy, and the link with upper memory (MS-DOS Programmer's Reference,
+-- function 58h). The order of refusals, and what there is without upper memory in the arena, are this machine's own.
 use Rattle.std.specs.Prelude.{◌≡◌, ℕ, ◌+◌, ◌==◌, if◌then◌else◌, Bool, true, false, Option, Some, None, Result, Ok, Err}
 use Rattle.dm_space.specs.Memory.{Memory}
 use Rattle.dm_cpu.specs.declared.cpu.Cpu.{Cpu}

@@ -11,8 +11,8 @@ pub fn services_ignore_unseen()
     ensures { ServicesIgnoreUnseen }
 {}
 
-/// No service changes A20, what the windows show, or which blocks there are, where they lie and how large they are: all that it
-/// writes are bytes. Nor does one change the tables of expanded and extended memory.
+/// No service changes A20, what the windows show, or which blocks there are, where they lie and how large they are: all
+/// that it writes are bytes. Nor does one change the tables of expanded and extended memory.
 pub fn services_keep_the_map()
     ensures map { ServicesKeepTheMap }
     ensures tables { ServicesKeepTheTables }

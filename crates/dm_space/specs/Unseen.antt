@@ -1,5 +1,5 @@
--- Memory with other bytes in the blocks that no window shows: pages of expanded memory, which a program sees only through a
--- window of the frame (LIM EMS 4.0, section 2), and extended memory.
+-- Memory with other bytes in the blocks that no window shows: pages of expanded memory, which a program sees only
+-- through a window of the frame (LIM EMS 4.0, section 2), and extended memory.
 use Rattle.std.specs.Prelude.{◌≡◌, ℕ, suc, ◌==◌, ◌||◌, Bool, false, if◌then◌else◌, List, [], ◌∷◌, Option, Some, None}
 use Rattle.dm_space.specs.declared.place.Place.{Place}
 use Rattle.dm_space.specs.Memory.{Memory, place, peek, poke, byte_at, with_blocks}
@@ -11,7 +11,8 @@ shows [] page = false
 shows (None ∷ windows) page = shows windows page
 shows (Some shown ∷ windows) page = (shown == page) || shows windows page
 
--- contents of blocks, the first of which has the number `first`: those that are seen stay, the others are taken from `other`
+-- contents of blocks, the first of which has the number `first`: those that are seen stay, the others are taken from
+-- `other`
 abbrev pub mixed : (ℕ → Bool) → (ℕ → List ℕ) → ℕ → List (List ℕ) → List (List ℕ)
 mixed seen other first [] = []
 mixed seen other first (page ∷ pages) = (if seen first then page else other first) ∷ mixed seen other (suc first) pages
@@ -29,8 +30,8 @@ abbrev pub WritesKeepUnseen : Type 0
 WritesKeepUnseen =
     (m : Memory) (other : ℕ → List ℕ) (a v : ℕ) → poke (unseen_as m other) a v ≡ unseen_as (poke m a v) other
 
--- a change of memory that no program sees: no read shows it, each write leaves it as it is, and it alters memories of one
--- shape alike: at a place where both have one byte, both have one byte after it
+-- a change of memory that no program sees: no read shows it, each write leaves it as it is, and it alters memories of
+-- one shape alike: at a place where both have one byte, both have one byte after it
 pub record IsUnseen (change : Memory → Memory) : Type 0 where
   pub a20 : (m : Memory) → (change m).a20 ≡ m.a20
   pub place_same : (m : Memory) (a : ℕ) → place (change m) a ≡ place m a

@@ -51,8 +51,8 @@ HasProgram s = 0 < s.processes.present
 abbrev pub IsHandled : List (Option Handle) → ℕ → Type 0
 IsHandled handles block = (k : ℕ) × (h : Handle) × (handle_at handles k ≡ Some h) × (h.block ≡ block)
 
--- the tables of expanded and of extended memory and the memory go together, no block is a page and a handle's at once, and each that is
--- there is one of them
+-- the tables of expanded and of extended memory and the memory go together, no block is a page and a handle's at once,
+-- and each that is there is one of them
 pub record GoTogether (pages : Tables) (blocks : xms.Tables) (m : Memory) : Type 0 where
   pub ems : IsLinked (expanded pages m)
   pub xms : extended_memory.IsLinked (extended blocks m)

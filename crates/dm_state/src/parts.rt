@@ -14,8 +14,8 @@ use std::marker::Model;
 
 /// The parts of a machine, on which instructions and services act.
 ///
-/// Contracts see its state: registers, memory, the tables of expanded and extended memory, console, processes, the allocation strategy, the code
-/// with which the first program ended, the count of steps, and what no step changes.
+/// Contracts see its state: registers, memory, the tables of expanded and extended memory, console, processes, the
+/// allocation strategy, the code with which the first program ended, the count of steps, and what no step changes.
 #[derive(Drop)]
 pub struct Parts {
     /// The registers and flags.

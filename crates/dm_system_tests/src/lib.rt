@@ -1,5 +1,5 @@
-//! Worked rows of what lies around the processor: regions of bytes, blocks of a pool, memory as a program meets it, room for output, the
-//! program's writers, and the lines of the debugger.
+//! Worked rows of what lies around the processor: regions of bytes, blocks of a pool, memory as a program meets it,
+//! room for output, the program's writers, and the lines of the debugger.
 //!
 //! They stand apart from the crates that they try, since a crate with tests is proved twice.
 #![tactic(auto)]

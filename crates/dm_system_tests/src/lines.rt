@@ -1,5 +1,5 @@
-//! Lines and their commands, written by hand; the letters that DEBUG has too are its own (MS-DOS User's Reference, "DEBUG"). How a row is
-//! read stands in `rows`.
+//! Lines and their commands, written by hand; the letters that DEBUG has too are its own (MS-DOS User's Reference,
+//! "DEBUG"). How a row is read stands in `rows`.
 
 use crate::rows::{check, check_line};
 use std::test::Fail;

@@ -59,8 +59,8 @@ fn parts_are_read_and_written(rt: HostRuntime) -> Result<(), Fail> {
 /// Definitions: dm_region Parts part with_part
 #[test]
 fn copies_read_before_they_write(rt: HostRuntime) -> Result<(), Fail> {
-    // first byte, first byte of the copy, length; all bytes then. Apart, touching, upwards and downwards over each other, in
-    // place, and empty
+    // first byte, first byte of the copy, length; all bytes then. Apart, touching, upwards and downwards over each
+    // other, in place, and empty
     let rows = [
         (0, 5, 3, b"abcdeabcij"),
         (6, 1, 3, b"aghiefghij"),
@@ -84,8 +84,8 @@ fn copies_read_before_they_write(rt: HostRuntime) -> Result<(), Fail> {
 /// Definitions: dm_region Ends with_ends lends_ends
 #[test]
 fn two_parts_are_written_at_once(rt: HostRuntime) -> Result<(), Fail> {
-    // first byte and length of what holds both, length of the first, where the second begins; all bytes once the first is filled
-    // with `x` and the second with `y`. Touching, with a gap, and empty
+    // first byte and length of what holds both, length of the first, where the second begins; all bytes once the first
+    // is filled with `x` and the second with `y`. Touching, with a gap, and empty
     let rows = [
         (0, 10, 5, 5, b"xxxxxyyyyy"),
         (2, 4, 3, 3, b"abxxxyghij"),

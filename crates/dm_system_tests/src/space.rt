@@ -6,7 +6,8 @@ use dm_pool::{Block, Sizes, Store};
 use dm_space::Space;
 use std::test::Fail;
 
-/// Marks the first byte of a block, and below 110000h vector 33, the first arena header, a byte behind it, and one in the segment of ROM.
+/// Marks the first byte of a block, and below 110000h vector 33, the first arena header, a byte behind it, and one in
+/// the segment of ROM.
 fn mark(store: &mut Store, block: Block) {
     if store.has(block) {
         let bytes = store.bytes_mut(block);
@@ -68,7 +69,8 @@ fn memory_starts_over_a_used_store(rt: HostRuntime) -> Result<(), Fail> {
 }
 
 /// Definitions: dm_space Memory linear place shown byte_at with_byte peek poke with_a20; dm_space Rom rom
-/// Definitions: dm_space Start IsStart IsStartOfRam start_byte IsStartOver IsLaidOver vector_offset vector_segment vector_byte
+/// Definitions: dm_space Start IsStart IsStartOfRam start_byte IsStartOver IsLaidOver vector_offset vector_segment
+/// vector_byte
 #[test]
 fn each_part_of_the_map_reads_as_it_starts(rt: HostRuntime) -> Result<(), Fail> {
     let mut space = new_space(rt.alloc())?;

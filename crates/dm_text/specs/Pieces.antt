@@ -1,7 +1,7 @@
--- The pieces that a line of text is made of, and their bytes. The way numbers are written is that of ASM-86: hexadecimal, a
--- digit in front, and an h behind.
--- Source: Intel 8086 Family User's Manual, section 2.9 (programming facilities: constants of ASM-86). How many digits there
--- are is this machine's own.
+-- The pieces that a line of text is made of, and their bytes. The way numbers are written is that of ASM-86:
+-- hexadecimal, a digit in front, and an h behind.
+-- Source: Intel 8086 Family User's Manual, section 2.9 (programming facilities: constants of ASM-86). How many digits
+-- there are is this machine's own.
 use Rattle.std.specs.Prelude.{ℕ, ◌+◌, ◌/◌, ◌%◌, Bool, true, false, ◌&&◌, ◌||◌, ◌==◌, List, [], ◌∷◌, ◌++◌, nat_lt, nat_le, if◌then◌else◌}
 use Rattle.std.specs.List.{list_all}
 
@@ -68,8 +68,8 @@ is_name (b ∷ w) = list_all is_in_names (b ∷ w)
 abbrev pub is_mark : ℕ → Bool
 is_mark b = (b == 32) || (b == 43) || (b == 44) || (b == 58) || (b == 91) || (b == 93)
 
--- each name is digits and capital letters, each sign one of these six; and no name or number stands right behind another one (the first
--- argument says whether one stands in front)
+-- each name is digits and capital letters, each sign one of these six; and no name or number stands right behind
+-- another one (the first argument says whether one stands in front)
 abbrev pub parted : Bool → List Piece → Bool
 parted behind [] = true
 parted true (name w ∷ ps) = false

@@ -1,6 +1,7 @@
 -- The text of an instruction: its prefix words, its mnemonic, and its operands.
--- Source: Intel 8086 Family User's Manual, section 2.7 (instructions) and section 2.8 (addressing modes), for mnemonics,
--- operands and their order; how sizes, numbers and targets are written is this machine's own (docs/DECISIONS.md).
+-- Source: Intel 8086 Family User's Manual, section 2.7 (instructions) and section 2.8 (addressing modes), for
+-- mnemonics, operands and their order; how sizes, numbers and targets are written is this machine's own
+-- (docs/DECISIONS.md).
 use Rattle.std.specs.Prelude.{ℕ, ◌+◌, ◌%◌, Bool, true, false, ◌==◌, List, [], ◌∷◌, ◌++◌, Option, Some, None, if◌then◌else◌, codes}
 use Rattle.dm_ins.specs.declared.operand.Width.{Width}
 use Rattle.dm_ins.specs.declared.operand.Width.TheVariants.{Byte, Word}

@@ -1,4 +1,5 @@
-//! The lines of some bytes, written by hand from the manual (Intel 8086 Family User's Manual, section 2.7, and section 4 for the bytes).
+//! The lines of some bytes, written by hand from the manual (Intel 8086 Family User's Manual, section 2.7, and section
+//! 4 for the bytes).
 
 use crate::checks::same;
 use dm_listing::disassemble;

@@ -36,7 +36,8 @@ pub record IsWhole (m : Memory) (F : List Header) (start : ℕ) (L : List Header
   pub list : IsArenaBehind m F start L
   pub is : text ≡ list_text L ++ end_line
 
--- behind the headers F, headers may stand in a list from a segment on, up to a place where none can follow: their lines, and that place
+-- behind the headers F, headers may stand in a list from a segment on, up to a place where none can follow: their
+-- lines, and that place
 pub record IsCutShort (m : Memory) (F : List Header) (start : ℕ) (text : List ℕ) : Type 0 where
   pub headers : List Header
   pub at : ℕ

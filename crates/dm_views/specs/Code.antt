@@ -1,6 +1,6 @@
 -- Instructions that stand in memory, as lines: the address, the bytes as joined pairs of digits, and the text.
--- Source: MS-DOS User's Reference, "DEBUG" (Unassemble); Intel 8086 Family User's Manual, section 4 (encoding). The form is this machine's
--- own.
+-- Source: MS-DOS User's Reference, "DEBUG" (Unassemble); Intel 8086 Family User's Manual, section 4 (encoding). The
+-- form is this machine's own.
 use Rattle.std.specs.Prelude.{ℕ, ◌+◌, ◌%◌, ◌≤◌, List, [], ◌∷◌, ◌++◌, map, take, codes}
 use Rattle.std.specs.List.{flat_map}
 use Rattle.dm_space.specs.Memory.{Memory, linear, peek}

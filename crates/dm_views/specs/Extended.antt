@@ -1,5 +1,5 @@
--- Extended memory, as lines: the blocks of the handles in use, the upper memory blocks, and A20 and the high memory area.
--- Source: XMS 3.0. The form is this machine's own.
+-- Extended memory, as lines: the blocks of the handles in use, the upper memory blocks, and A20 and the high memory
+-- area. Source: XMS 3.0. The form is this machine's own.
 use Rattle.std.specs.Prelude.{ℕ, ◌+◌, Bool, if◌then◌else◌, List, [], ◌∷◌, ◌++◌, codes, slice_get, Option, Some, None}
 use Rattle.dm_space.specs.Memory.{Memory}
 use Rattle.dm_xms.specs.declared.tables.Handle.{Handle}

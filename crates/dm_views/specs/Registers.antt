@@ -1,5 +1,6 @@
 -- The text of the registers.
--- Source: MS-DOS User's Reference, "DEBUG" (Register); Intel 8086 Family User's Manual, section 2.2. The form is this machine's own.
+-- Source: MS-DOS User's Reference, "DEBUG" (Register); Intel 8086 Family User's Manual, section 2.2. The form is this
+-- machine's own.
 use Rattle.std.specs.Prelude.{◌≡◌, ℕ, List, [], ◌∷◌, ◌++◌, codes}
 use Rattle.std.specs.List.{flat_map}
 use Rattle.dm_space.specs.Memory.{Memory}

@@ -55,8 +55,9 @@ fn put_destroyed(out: &mut Vec<u8>, segment: u16) -> Result<(), AllocError>
     put_word_line(out, segment)
 }
 
-/// Puts the headers that a walk over a list has still to tell, a line each: segment, signature, owner and size; then `end`, or where the
-/// first stands that breaks the list. The walk behind the end of its list; None where the list is broken.
+/// Puts the headers that a walk over a list has still to tell, a line each: segment, signature, owner and size; then
+/// `end`, or where the first stands that breaks the list. The walk behind the end of its list; None where the list is
+/// broken.
 fn put_list<'a>(out: &mut Vec<u8>, headers: Headers<'a>) -> Result<Option<Headers<'a>>, AllocError>
     requires { headers.at ≡ Some (start_of headers.second) }
     ensures { IfOk result (λ rest. TellsList headers.entry rest out.old.items out.new.items) }
@@ -88,10 +89,10 @@ fn put_unlinked(out: &mut Vec<u8>, first: Headers<'_>) -> Result<(), AllocError>
     Ok(())
 }
 
-/// Puts the headers of the arena, a line each: segment, signature, owner and size; then `end`, or where the first stands that breaks the
-/// list. Where upper memory belongs to the arena, which `upper` tells, and the list ends but isn't linked with that of upper memory,
-/// `unlinked` follows and the second list, from the link block on, in the same form; a header on a place of the first breaks it.
-/// There are at most FF00h headers in a list.
+/// Puts the headers of the arena, a line each: segment, signature, owner and size; then `end`, or where the first
+/// stands that breaks the list. Where upper memory belongs to the arena, which `upper` tells, and the list ends but
+/// isn't linked with that of upper memory, `unlinked` follows and the second list, from the link block on, in the same
+/// form; a header on a place of the first breaks it. There are at most FF00h headers in a list.
 ///
 /// # Errors
 ///

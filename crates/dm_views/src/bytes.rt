@@ -80,8 +80,8 @@ fn put_bytes_line(
     out.extend_from_slice(b"\n")
 }
 
-/// Puts so many bytes from an address on, 16 to a line: the address of the first, each in two digits behind a space, two
-/// spaces, and each as a character, or a point where it is none from 20h to 7Eh. Offsets wrap in the segment.
+/// Puts so many bytes from an address on, 16 to a line: the address of the first, each in two digits behind a space,
+/// two spaces, and each as a character, or a point where it is none from 20h to 7Eh. Offsets wrap in the segment.
 ///
 /// # Errors
 ///

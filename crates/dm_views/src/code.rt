@@ -107,8 +107,8 @@ pub(crate) fn put_line(
     Ok(len as u16)
 }
 
-/// Puts the lines of so many instructions from an address on: the address, the bytes and the text of each. A byte that begins no
-/// instruction is a line of its own, with `DB` in place of a text. Offsets wrap in the segment.
+/// Puts the lines of so many instructions from an address on: the address, the bytes and the text of each. A byte that
+/// begins no instruction is a line of its own, with `DB` in place of a text. Offsets wrap in the segment.
 ///
 /// # Errors
 ///

@@ -69,8 +69,9 @@ fn put_switches(out: &mut Vec<u8>, on: bool, taken: bool) -> Result<(), AllocErr
     })
 }
 
-/// Puts the blocks of the handles in use, rising, a line each: the handle, the linear address, the KiB and how often it is locked; then the
-/// upper memory blocks, rising, a line each: the segment and the paragraphs; then whether A20 is on and the high memory area taken.
+/// Puts the blocks of the handles in use, rising, a line each: the handle, the linear address, the KiB and how often it
+/// is locked; then the upper memory blocks, rising, a line each: the segment and the paragraphs; then whether A20 is on
+/// and the high memory area taken.
 ///
 /// # Errors
 ///

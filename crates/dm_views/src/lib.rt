@@ -1,7 +1,8 @@
-//! The listings of a debugger: the texts of registers, instructions, bytes, the arena, and expanded and extended memory.
+//! The listings of a debugger: the texts of registers, instructions, bytes, the arena, and expanded and extended
+//! memory.
 //!
-//! Each call puts a text at the end of what was put before. Digits are in upper case, and each line ends with a line end (0Ah). An `Err`
-//! says that memory for the text was refused; what was put before then still stands at the front.
+//! Each call puts a text at the end of what was put before. Digits are in upper case, and each line ends with a line
+//! end (0Ah). An `Err` says that memory for the text was refused; what was put before then still stands at the front.
 #![tactic(auto)]
 
 mod arena;

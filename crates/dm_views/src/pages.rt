@@ -52,8 +52,8 @@ fn put_window(out: &mut Vec<u8>, number: u16, page: Option<(u16, u16)>) -> Resul
     }
 }
 
-/// Puts the handles in use, rising, a line each: its number, how many pages it has, and the eight bytes of its name; then what each of the
-/// four windows shows: a handle and one of its logical pages, or none.
+/// Puts the handles in use, rising, a line each: its number, how many pages it has, and the eight bytes of its name;
+/// then what each of the four windows shows: a handle and one of its logical pages, or none.
 ///
 /// # Errors
 ///

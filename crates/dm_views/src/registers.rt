@@ -75,7 +75,8 @@ fn special(cpu: &Cpu) -> [Field; 6]
     ]
 }
 
-/// Puts the registers, in two lines, and the line of the instruction at CS:IP. The flags are the word that PUSHF stores.
+/// Puts the registers, in two lines, and the line of the instruction at CS:IP. The flags are the word that PUSHF
+/// stores.
 ///
 /// # Errors
 ///

@@ -51,7 +51,8 @@ leaves_shaped x m s = record {
 
 -- ---- a handle and its block change together
 
--- the pool changes at the block i, which the slot k had, if any, and has from now on, or which is gone; it is not outside
+-- the pool changes at the block i, which the slot k had, if any, and has from now on, or which is gone; it is not
+-- outside
 record IsChange (x : Extended) (k i : ℕ) (new : Option Handle) (t : Blocks) : Type 0 where
   pub within : k < length x.xms.handles
   pub changed : IsChanged x.memory.blocks t i

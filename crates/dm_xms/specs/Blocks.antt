@@ -1,4 +1,5 @@
--- Extended memory blocks (XMS 3.0, functions 08h to 0Ah and 0Ch to 0Fh): each row's refusals in the order in which they are tried.
+-- Extended memory blocks (XMS 3.0, functions 08h to 0Ah and 0Ch to 0Fh): each row's refusals in the order in which they
+-- are tried.
 use Rattle.std.specs.Prelude.{ℕ, ◌+◌, ◌-◌, ◌*◌, min, nat_lt, ◌==◌, is_none, count_by, position, get_or, if◌then◌else◌, Option, Some, None, Result, Ok, Err}
 use Rattle.dm_pool.specs.declared.places.Place.{Place}
 use Rattle.dm_pool.specs.Blocks.{Blocks, taken, without, resized}
@@ -27,8 +28,8 @@ free_memory x = if largest_gap x == 0 then Err NoMemory else Ok (record { larges
 abbrev pub leaving : Extended → Tables → Blocks → Extended
 leaving x xms blocks = record { xms = xms; memory = with_blocks x.memory blocks }
 
--- a new block of zeros in the lowest gap that holds it, under the lowest handle that is not in use; one of 0 KiB needs no gap.
--- Refused for no handle, then for no memory
+-- a new block of zeros in the lowest gap that holds it, under the lowest handle that is not in use; one of 0 KiB needs
+-- no gap. Refused for no handle, then for no memory
 unfoldable pub allocate : Extended → ℕ → Result (ℕ × Extended) Status
 allocate x kib =
     need (position is_none x.xms.handles) NoHandleLeft (λ k.
@@ -71,8 +72,8 @@ information xms handle =
     need (slot xms handle) UnknownHandle (λ s.
     Ok (record { locks = s.locks; free = count_by is_none xms.handles; kib = s.kib }))
 
--- a block gets another size: it stays where it is if it fits there, else it moves to the lowest gap beside its old place; new bytes are
--- zeros
+-- a block gets another size: it stays where it is if it fits there, else it moves to the lowest gap beside its old
+-- place; new bytes are zeros
 unfoldable pub reallocate : Extended → ℕ → ℕ → Result (Unit {0} × Extended) Status
 reallocate x handle kib =
     need (slot x.xms handle) UnknownHandle (λ s.

@@ -1,5 +1,5 @@
--- That tables and memory stay together: at the start, through each call, and while a program writes. And that calls leave the windows, and the
--- blocks that are no handle's.
+-- That tables and memory stay together: at the start, through each call, and while a program writes. And that calls
+-- leave the windows, and the blocks that are no handle's.
 use Rattle.std.specs.Prelude.{ℕ, List}
 use Rattle.dm_pool.specs.Blocks.{no_blocks}
 use Rattle.dm_space.specs.Memory.{Memory, of_ram}

@@ -1,5 +1,5 @@
--- That the tables of extended memory and the memory go together: each handle in use has a block of its own, as large as it says, that no
--- window shows, and A20 is as the tables say. Windows show blocks that are there.
+-- That the tables of extended memory and the memory go together: each handle in use has a block of its own, as large as
+-- it says, that no window shows, and A20 is as the tables say. Windows show blocks that are there.
 use Rattle.std.specs.Prelude.{ℕ, ◌*◌, ◌≡◌, ◌≢◌, true, false, List, length, slice_index_or, Option, None, IfSome}
 use Rattle.dm_pool.specs.Blocks.{IsLive}
 use Rattle.dm_pool.specs.FreeList.{AreBased}

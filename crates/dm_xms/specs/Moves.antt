@@ -45,8 +45,8 @@ move_between x n from to =
     if nat_lt from.end (from.region.start + n) || nat_lt to.end (to.region.start + n) then Err BadLength else
     Ok (tt, record x { memory = moved x.memory from.region to.region n })
 
--- an even number of bytes, as the structure at segment:offset has it: a double word, and for the source and then the destination a
--- handle (a word) and an offset (a double word)
+-- an even number of bytes, as the structure at segment:offset has it: a double word, and for the source and then the
+-- destination a handle (a word) and an offset (a double word)
 unfoldable pub move_memory : Extended → ℕ → ℕ → Result (Unit {0} × Extended) Status
 move_memory x segment offset =
     if double_after x.memory segment offset 0 % 2 == 1 then Err BadLength else

@@ -1,4 +1,5 @@
--- The tables of extended memory (XMS 3.0): blocks by their handles, who has the high memory area, what keeps A20 on, upper memory blocks.
+-- The tables of extended memory (XMS 3.0): blocks by their handles, who has the high memory area, what keeps A20 on,
+-- upper memory blocks.
 use Rattle.std.specs.Prelude.{ℕ, ◌+◌, ◌<◌, ◌≤◌, ◌≡◌, Bool, false, List, [], ◌∷◌, replicate, Option, None}
 use Rattle.dm_space.specs.Memory.{Memory}
 use Rattle.dm_xms.specs.declared.tables.Handle.{Handle}

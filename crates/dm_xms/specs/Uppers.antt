@@ -50,8 +50,8 @@ new_upper xms n (Some p) =
     let u : Upper = record { segment = first_segment + p; paragraphs = n } in
     Ok (u, with_uppers xms (inserted u xms.uppers))
 
--- a new block at the low end of the lowest gap that holds it. Refused: where no paragraph is free, or there are 64 blocks; else where
--- no gap holds it, with the paragraphs of the largest one
+-- a new block at the low end of the lowest gap that holds it. Refused: where no paragraph is free, or there are 64
+-- blocks; else where no gap holds it, with the paragraphs of the largest one
 unfoldable pub request_upper : Tables → ℕ → Result (Upper × Tables) UpperRefusal
 request_upper xms n =
     if (length xms.uppers == 64) || (largest_upper xms.uppers == 0) then Err refusal.NoneFree else
@@ -75,8 +75,8 @@ begin_or_end (Some u) = u.segment
 abbrev pub room : List Upper → ℕ → ℕ → ℕ
 room us k segment = begin_or_end (slice_get us (k + 1)) - segment
 
--- the block that begins at a segment gets another size where it lies. Refused: where no block begins there; else where it has no such
--- room, with the room that it has
+-- the block that begins at a segment gets another size where it lies. Refused: where no block begins there; else where
+-- it has no such room, with the room that it has
 unfoldable pub resize_upper : Tables → ℕ → ℕ → Result (Unit {0} × Tables) UpperRefusal
 resize_upper xms segment n =
     need (position (begins_at segment) xms.uppers) refusal.Unknown (λ k.

@@ -11,7 +11,7 @@ use crate::tables::{Handle, Xms};
 use dm_pool::Block;
 use dm_space::Space;
 
-/// The linear address of the pool's first byte, behind the high memory area.
+/// The linear address of the pool's first byte, after the high memory area.
 const POOL: usize = 0x11_0000;
 
 /// How many bytes a unit of the pool has.
@@ -26,7 +26,7 @@ pub struct FreeMemory {
     pub total: u16,
 }
 
-/// What is told of a handle.
+/// What a handle shows.
 #[derive(Clone, Copy, Debug)]
 pub struct HandleInformation {
     /// How often its block is locked.
@@ -77,8 +77,8 @@ impl Xms {
         })
     }
 
-    /// Gives a new block of so many KiB the lowest handle that is not in use, and answers the handle. The block has zeros and lies in
-    /// the lowest gap of the pool that holds it; one of 0 KiB needs none.
+    /// Gives a new block of so many KiB the lowest handle that is not in use, and returns the handle. The block has
+    /// zeros and lies in the lowest gap of the pool that holds it; one of 0 KiB needs none.
     ///
     /// # Errors
     ///
@@ -123,7 +123,7 @@ impl Xms {
         Ok(())
     }
 
-    /// Locks the block of a handle once more, so that it stays where it is, and answers its linear address.
+    /// Locks the block of a handle once more, so that it stays where it is, and returns its linear address.
     ///
     /// # Errors
     ///
@@ -184,8 +184,8 @@ impl Xms {
         })
     }
 
-    /// Makes the block of a handle so many KiB large. It stays where it is if it fits there, else it moves to the lowest gap that holds it
-    /// beside its old place. Its bytes up to the smaller size stay, new ones are zeros.
+    /// Makes the block of a handle so many KiB large. It stays where it is if it fits there, else it moves to the
+    /// lowest gap that holds it beside its old place. Its bytes up to the smaller size stay, new ones are zeros.
     ///
     /// # Errors
     ///

@@ -1,7 +1,7 @@
 //! Extended memory (XMS 3.0): blocks by their handles, the high memory area, address line A20, and upper memory blocks.
 //!
-//! A block of so many KiB is a block of as many units of the pool. The tables here hold no bytes: what a block holds stands in
-//! the space, as does A20.
+//! A block of so many KiB is a block of as many units of the pool. The tables here hold no bytes: what a block holds
+//! stands in the space, as does A20.
 #![tactic(auto)]
 
 mod area;

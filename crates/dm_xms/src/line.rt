@@ -80,8 +80,8 @@ impl Xms {
     ///
     /// # Errors
     ///
-    /// `LineError` where the count is 0, and nothing has changed; `LineStillOn` where A20 is on all the same, and the count is one
-    /// less.
+    /// `LineError` where the count is 0, and nothing has changed; `LineStillOn` where A20 is on all the same, and the
+    /// count is one less.
     #[tactic(auto, unfolding(crate::specs::Line::disable_locally))]
     pub fn disable_locally(&mut self, space: &mut Space) -> Result<(), Status>
         ensures answer { result ≡ (disable_locally (extended self.old space.old.memory)).0 }

@@ -12,7 +12,7 @@ use crate::tables::{Handle, Xms};
 use dm_moves::{Kind, Region, move_blocks, move_bytes, word_after};
 use dm_space::Space;
 
-/// Where memory ends that has addresses: behind the high memory area.
+/// Where memory that has addresses ends: after the high memory area.
 const END: usize = 0x10_FFF0;
 
 /// How many bytes a KiB has.
@@ -102,7 +102,7 @@ fn move_between(
 }
 
 impl Xms {
-    /// The side that is described, or which of two refusals.
+    /// The side that is described, or which of two errors.
     #[tactic(auto, unfolding(crate::specs::Moves::side))]
     fn side(
         &self,
@@ -132,16 +132,17 @@ impl Xms {
         Ok(Side { region, end })
     }
 
-    /// Moves an even number of bytes from one block to another, within one, or between a block and memory that has addresses. The structure
-    /// at segment:offset has sixteen bytes: how many bytes (a double word), and for the source and then the destination a handle (a
-    /// word) and an offset (a double word). For handle 0 the offset is an offset and a segment, which are met with A20 on, up to
-    /// the end of the high memory area. The source is read whole before anything is written. The scratch bytes of the space
-    /// may be overwritten.
+    /// Moves an even number of bytes from one block to another, within one, or between a block and memory that has
+    /// addresses. The structure at segment:offset has sixteen bytes: how many bytes (a double word), and for the source
+    /// and then the destination a handle (a word) and an offset (a double word). For handle 0 the offset is an offset
+    /// and a segment, which are met with A20 on, up to the end of the high memory area. The source is read whole before
+    /// anything is written. The scratch bytes of the space may be overwritten.
     ///
     /// # Errors
     ///
-    /// In this order: `BadLength` for an odd number; `UnknownSource`, `PastSource`; `UnknownDestination`, `PastDestination`; `BadLength`
-    /// where the source or the destination has not so many bytes. Then neither memory nor the scratch bytes have changed.
+    /// In this order: `BadLength` for an odd number; `UnknownSource`, `PastSource`; `UnknownDestination`,
+    /// `PastDestination`; `BadLength` where the source or the destination has not so many bytes. Then neither memory
+    /// nor the scratch bytes have changed.
     #[tactic(auto, unfolding(crate::specs::Moves::move_memory))]
     pub fn move_memory(&self, space: &mut Space, segment: u16, offset: u16) -> Result<(), Status>
         requires { IsLinked (extended self.now space.old.memory) }

@@ -1,9 +1,9 @@
-//! What calls of the extended memory driver refuse (XMS 3.0, error code index).
+//! The errors of the extended memory driver's calls (XMS 3.0, error code index).
 
 ghost use Rattle.std.specs.Prelude.{◌≡◌};
 ghost use Rattle.dm_xms.specs.Status.{code_of};
 
-/// Why a call was refused.
+/// Why a call failed.
 #[derive(Clone, Copy, Debug, PartialEq, Eq)]
 pub enum Status {
     /// The local count of A20 is at its end.
@@ -22,11 +22,11 @@ pub enum Status {
     UnknownHandle,
     /// The handle of the source is not in use.
     UnknownSource,
-    /// The offset of the source is behind its block's end.
+    /// The offset of the source is past its block's end.
     PastSource,
     /// The handle of the destination is not in use.
     UnknownDestination,
-    /// The offset of the destination is behind its block's end.
+    /// The offset of the destination is past its block's end.
     PastDestination,
     /// The length is odd, or the source or the destination has not so many bytes.
     BadLength,

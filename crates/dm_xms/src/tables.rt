@@ -69,7 +69,8 @@ fn first_free(slots: &[Option<Handle>]) -> Option<usize>
 }
 
 impl Xms {
-    /// The tables as a machine starts: no handle in use, the high memory area and upper memory free, nothing that keeps A20 on.
+    /// The tables as a machine starts: no handle in use, the high memory area and upper memory free, nothing that keeps
+    /// A20 on.
     pub fn new() -> Xms
         ensures { result ≡ new_tables }
     {

@@ -14,13 +14,13 @@ use arrayvec::ArrayVec;
 /// The first segment of upper memory.
 const FIRST: u16 = 0xD000;
 
-/// The segment behind upper memory.
+/// The segment after upper memory.
 const END: u16 = 0xE000;
 
 /// How many upper memory blocks there are at most.
 const MOST: usize = 64;
 
-/// Why a call on upper memory blocks was refused.
+/// Why a call on upper memory blocks failed.
 #[derive(Clone, Copy, Debug, PartialEq, Eq)]
 pub enum UpperRefusal {
     /// There are only so many paragraphs.
@@ -138,12 +138,13 @@ impl Xms {
         self.uppers.as_slice().get(at).copied()
     }
 
-    /// Makes an upper memory block of so many paragraphs, at least 1, at the low end of the lowest gap that holds it, and answers it.
+    /// Makes an upper memory block of so many paragraphs, at least 1, at the low end of the lowest gap that holds it,
+    /// and returns it.
     ///
     /// # Errors
     ///
-    /// In this order: `NoneFree` where no paragraph is free, or there are 64 blocks; `Smaller`, with the paragraphs of the largest gap,
-    /// where no gap holds it. Then nothing has changed.
+    /// In this order: `NoneFree` where no paragraph is free, or there are 64 blocks; `Smaller`, with the paragraphs of
+    /// the largest gap, where no gap holds it. Then nothing has changed.
     #[tactic(auto, unfolding(crate::specs::Uppers::request_upper))]
     pub fn request_upper(&mut self, paragraphs: u16) -> Result<Upper, UpperRefusal>
         ensures answer { result ≡ answer (request_upper self.old paragraphs) }
@@ -183,7 +184,7 @@ impl Xms {
         Ok(())
     }
 
-    /// The segment behind block `at` of upper memory where the next one begins, or upper memory ends.
+    /// The segment after block `at` of upper memory where the next one begins, or upper memory ends.
     fn end_of_room(&self, at: usize) -> u16
         requires { at < length self.now.uppers }
         ensures { result ≡ begin_or_end (slice_get self.now.uppers (at + 1)) }
@@ -198,8 +199,8 @@ impl Xms {
     ///
     /// # Errors
     ///
-    /// In this order: `Unknown` where none begins there; `Smaller`, with the paragraphs that it can have there. Then nothing has
-    /// changed.
+    /// In this order: `Unknown` where none begins there; `Smaller`, with the paragraphs that it can have there. Then
+    /// nothing has changed.
     #[tactic(auto, unfolding(crate::specs::Uppers::resize_upper))]
     pub fn resize_upper(&mut self, segment: u16, paragraphs: u16) -> Result<(), UpperRefusal>
         ensures answer { result ≡ answer (resize_upper self.old segment paragraphs) }

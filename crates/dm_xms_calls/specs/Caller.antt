@@ -1,4 +1,5 @@
--- What a call of the driver acts on, and how it answers (XMS 3.0: AX is 1 for success; for a refusal AX is 0, and BL tells why).
+-- What a call of the driver acts on, and how it answers (XMS 3.0: AX is 1 for success; for a refusal AX is 0, and BL
+-- tells why).
 use Rattle.std.specs.Prelude.{ℕ, Result, Ok, Err}
 use Rattle.dm_space.specs.Memory.{Memory}
 use Rattle.dm_ins.specs.declared.operand.ByteRegister.TheVariants.{Bl}

@@ -1,5 +1,5 @@
--- Upper memory blocks (XMS 3.0, functions 10h to 12h). Where DOS has upper memory in its arena, the driver has none: no paragraph is free, and
--- no block begins anywhere.
+-- Upper memory blocks (XMS 3.0, functions 10h to 12h). Where DOS has upper memory in its arena, the driver has none: no
+-- paragraph is free, and no block begins anywhere.
 use Rattle.std.specs.Prelude.{Bool, if◌then◌else◌, Result, Ok, Err}
 use Rattle.dm_cpu.specs.declared.cpu.Cpu.{Cpu}
 use Rattle.dm_xms.specs.declared.tables.Upper.{Upper}

@@ -1,4 +1,5 @@
-//! How a call of the extended memory driver answers (XMS 3.0): AX is 1 for success; for a refusal AX is 0, and BL tells why.
+//! How a call of the extended memory driver answers (XMS 3.0): AX is 1 for success; for a refusal AX is 0, and BL tells
+//! why.
 ghost use Rattle.std.specs.Prelude.{◌≡◌};
 ghost use Rattle.dm_xms.specs.Uppers.{code_of};
 ghost use Rattle.dm_xms_calls.specs.Caller.{succeeded, refused, settled};

@@ -123,9 +123,10 @@ fn call(cpu: &mut Cpu, xms: &mut Xms, space: &mut Space, upper: bool, function: 
     }
 }
 
-/// Does the function that AH names, on the registers of the program that calls, the tables of extended memory and the memory, which go
-/// together. AX is then 1, or 0 where the call was refused, and BL tells why; functions 00h and 08h answer otherwise.
-/// `upper` is whether DOS has upper memory in its arena: then the driver gives no upper memory blocks.
+/// Does the function that AH names, on the registers of the program that calls, the tables of extended memory and the
+/// memory, which go together. AX is then 1, or 0 where the call was refused, and BL tells why; functions 00h and 08h
+/// answer otherwise. `upper` is whether DOS has upper memory in its arena: then the driver gives no upper memory
+/// blocks.
 pub fn extended_memory_call(cpu: &mut Cpu, xms: &mut Xms, space: &mut Space, upper: bool)
     requires { IsLinked (extended xms.old space.old.memory) }
     ensures { caller cpu.new xms.new space.new.memory ≡ called upper (caller cpu.old xms.old space.old.memory) }

@@ -1,4 +1,5 @@
-//! The calls of the extended memory driver (XMS 3.0): what each function finds and leaves in the registers of the program that calls.
+//! The calls of the extended memory driver (XMS 3.0): what each function finds and leaves in the registers of the
+//! program that calls.
 #![tactic(auto)]
 
 mod answers;

@@ -1,4 +1,5 @@
-//! Upper memory blocks (XMS 3.0, functions 10h to 12h). Where DOS has upper memory in its arena, `upper`, the driver has none.
+//! Upper memory blocks (XMS 3.0, functions 10h to 12h). Where DOS has upper memory in its arena, `upper`, the driver
+//! has none.
 ghost use Rattle.std.specs.Prelude.{◌≡◌};
 ghost use Rattle.dm_xms_calls.specs.Caller.{caller};
 ghost use Rattle.dm_xms_calls.specs.Uppers.{request, release, resize};

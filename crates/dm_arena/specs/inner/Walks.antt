@@ -1,5 +1,5 @@
--- What only the walks over headers, and the private steps of the calls, say of each other. No public contract mentions any of
--- it: a reader who checks what the calls promise can leave this file out.
+-- What only the walks over headers, and the private steps of the calls, say of each other. No public contract mentions
+-- any of it: a reader who checks what the calls promise can leave this file out.
 use Rattle.std.specs.Prelude.{Bool, List, None, Option, Some, [], cond, false, if◌then◌else◌, max, option_to_list, true, ℕ, ◌&&◌, ◌*◌, ◌++◌, ◌+◌, ◌-◌, ◌<◌, ◌==◌, ◌∷◌, ◌≡◌, ◌≢◌}
 use Rattle.dm_space.specs.declared.place.Place.{Place}
 use Rattle.dm_space.specs.Memory.{Memory, byte_at, place}

@@ -1,5 +1,5 @@
--- Only for the passes, and no part of what is promised: the bytes that the first pass knows already, because they are the same
--- wherever a statement stands.
+-- Only for the passes, and no part of what is promised: the bytes that the first pass knows already, because they are
+-- the same wherever a statement stands.
 use Rattle.std.specs.Prelude.{◌≡◌, ℕ, ◌≤◌, Bool, true, false, List, [], ◌∷◌, ◌++◌, length, Option, Some, None, is_none}
 use Rattle.dm_ins.specs.declared.operand.Operand.{Operand}
 use Rattle.dm_ins.specs.declared.operand.Operand.TheVariants as operand

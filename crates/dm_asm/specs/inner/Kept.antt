@@ -28,7 +28,8 @@ abbrev pub IsProblem : List Label → ℕ → Item → Problem → Type 0
 IsProblem labels at item problem.Unknown = Knows labels item → ⊥
 IsProblem labels at item problem.Range = Knows labels item × ((code : List ℕ) → Codes labels at item code → ⊥)
 
--- all lines read, with no label twice, and have room together; the map keeps their labels, and what is known of them is kept
+-- all lines read, with no label twice, and have room together; the map keeps their labels, and what is known of them is
+-- kept
 pub record AreLaid (text : List ℕ) (kept : Labels) (known : Known) : Type 0 where
   pub statements : List Sized
   pub laid : Laid (lines_of text) statements

@@ -1,5 +1,5 @@
--- Which places of the frame have a header, as a walk keeps them: a mark for each paragraph of each window. Where several windows
--- show one block, the marks are those of the first of them. No public contract mentions any of it.
+-- Which places of the frame have a header, as a walk keeps them: a mark for each paragraph of each window. Where
+-- several windows show one block, the marks are those of the first of them. No public contract mentions any of it.
 use Rattle.std.specs.Prelude.{Bool, List, None, Option, Some, [], false, if◌then◌else◌, length, slice_index_or, suc, true, ℕ, ◌*◌, ◌++◌, ◌+◌, ◌/◌, ◌==◌, ◌∷◌, ◌≡◌, MatchBool}
 use Rattle.dm_space.specs.declared.place.Place.TheVariants.{Page}
 use Rattle.dm_space.specs.Memory.{Memory, place}
@@ -46,8 +46,8 @@ Admits S segment old result new =
     (MayStand S P segment × ((b : Header) → b.segment ≡ segment → AreMarked S (P ++ b ∷ []) new))
     ((MayStand S P segment → ⊥) × (new ≡ old))
 
--- a walk at a segment, behind the headers F: the marks are those of the headers told and of F, and the cursor goes over F.
--- One that has told the whole first list has its marks
+-- a walk at a segment, behind the headers F: the marks are those of the headers told and of F, and the cursor goes over
+-- F. One that has told the whole first list has its marks
 abbrev pub IsMarked : Memory → Bool → List Header → Option ℕ → Option ℕ → List Bool → Type 0
 IsMarked S second F (Some t) cursor marks = (P : List Header) × Leads S F (start_of second) P t × AreMarked S (F ++ P) marks × IsCursor S F cursor t
 IsMarked S false F None cursor marks = (L : List Header) × IsArena S first_header L × AreMarked S L marks

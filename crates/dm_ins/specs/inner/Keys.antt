@@ -1,5 +1,5 @@
--- Only for the search of the rows, as Search.antt: where the rows of a mnemonic stand, by the table itself. A row outside the
--- groups stands under the reg field 0 alone.
+-- Only for the search of the rows, as Search.antt: where the rows of a mnemonic stand, by the table itself. A row
+-- outside the groups stands under the reg field 0 alone.
 use Rattle.std.specs.Prelude.{ℕ, ◌+◌, Bool, true, false, List, [], ◌∷◌, ◌++◌, Option, Some, None, slice_index_or, nat_lt}
 use denote.Enum.Bare.{sameb}
 use Rattle.dm_ins.specs.contracts.action.Mnemonic.{the_type}

@@ -1,5 +1,5 @@
--- Only for the search of the instruction that words are, and no part of what is promised: the contract of `read_words` speaks
--- of `AreWords` alone (Words.antt). A written operand may be up to four operands, in four ways.
+-- Only for the search of the instruction that words are, and no part of what is promised: the contract of `read_words`
+-- speaks of `AreWords` alone (Words.antt). A written operand may be up to four operands, in four ways.
 use Rattle.std.specs.Prelude.{◌≡◌, ℕ, ◌<◌, List, [], ◌∷◌, slice_index_or, if◌then◌else◌, Option, Some, None}
 use Rattle.dm_ins.specs.declared.operand.Width.TheVariants as width
 use Rattle.dm_ins.specs.declared.operand.Address.{Address}
