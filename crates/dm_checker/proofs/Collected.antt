@@ -28,7 +28,7 @@ behind_clear m true F a = a.1
 -- ---- what was told
 
 -- behind the headers F, the headers of a list told so far, and where the next one has to stand
-data HasTold (m : Memory) (F : List Header) (start : ℕ) (at : Option ℕ) (told : List Header) : Type 0 where
+pub data HasTold (m : Memory) (F : List Header) (start : ℕ) (at : Option ℕ) (told : List Header) : Type 0 where
   on_way : (t : ℕ) → at ≡ Some t → Leads m F start told t → HasTold m F start at told
   over : at ≡ None → IsArenaBehind m F start told → HasTold m F start at told
 

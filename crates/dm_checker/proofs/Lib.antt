@@ -5,3 +5,4 @@ pub mod Seen
 pub mod Still
 pub mod Collected
 pub mod Shown
+pub mod Changed

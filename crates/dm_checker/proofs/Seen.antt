@@ -93,8 +93,11 @@ shown_kept upper S T shown windows a same (parted_cut L P at l p c e is) =
     let both = agrees_at S T shown.headers (L ++ P) e a in
     parted_cut L P at (arena_kept S T first_header L windows (agrees_left S T L P both) l) p (cut_kept S T L link_header P at windows (agrees_right S T L P both) (same at is) c) e is
 
+no_segment : (at : ℕ) → None ≡ Some at → ⊥
+no_segment at e = cc
+
 broken_same : (S T : Memory) (o : Option Broken) (at : ℕ) → IsBrokenIn S o → IsBrokenIn T o → broken_at o ≡ Some at → AreSameAt S T at
-broken_same S T None at a b e = absurd (let z : None {A = ℕ} ≡ Some at = e in cc)
+broken_same S T None at a b e = absurd (no_segment at e)
 broken_same S T (Some there) at a b e = same_at S T there.segment at (same_Some _ _ e) (same_bytes S T there.segment there.bits there.bits a b refl)
 
 -- ---- what was kept
@@ -143,14 +146,14 @@ none_of_each f (b ∷ hs) n = ap₂ (λ (x y : List Finding). x ++ y) (n b (inl 
 kept_shown : (S T : Memory) (h : ℕ) → T.windows ≡ S.windows → kept_at S T h ≡ shown_at T h
 kept_shown S T h windows = contents_by_five _ _ (λ k less. ap (byte_at T) (sym (place-windows S T (16 * h + k) windows)) ∙ sym (peek-place T (16 * h + k)))
 
+live_if : (T : Memory) (o : Option ℕ) → IfSome o (IsPage T) → IfSome o (λ page. is_live T.blocks page ≡ true)
+live_if T None p = tt
+live_if T (Some page) p = live_true T.blocks page p.0
+
 pages_there : (S T : Memory) → T.windows ≡ S.windows → ((k : ℕ) → IfSome (slice_index_or T.windows k None) (IsPage T)) → (k : ℕ) → IfSome (slice_index_or S.windows k None) (λ page. is_live T.blocks page ≡ true)
 pages_there S T windows pages k =
     let F : List (Option ℕ) → Type 0 = λ ws. IfSome (slice_index_or ws k None) (λ page. is_live T.blocks page ≡ true) in
     subst F windows (live_if T (slice_index_or T.windows k None) (pages k))
-  where
-    live_if : (T : Memory) (o : Option ℕ) → IfSome o (IsPage T) → IfSome o (λ page. is_live T.blocks page ≡ true)
-    live_if T None p = tt
-    live_if T (Some page) p = live_true T.blocks page p.0
 
 -- no header was overwritten
 pub seen_overwritten : (before upper : Bool) (S T : Memory) (w : Watch) → IsWatch before S w → IsSeen upper T w → flat_map (overwritten S T) (map header_of w.headers.items) ≡ []

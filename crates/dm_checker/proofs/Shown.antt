@@ -1,6 +1,7 @@
 -- The first list and the second one behind it, as they are shown.
-use Rattle.std.proofs.Common.{◌≡◌, ℕ, Bool, true, false, not, List, [], ◌∷◌, ◌++◌, map, Option, Some, None, Result, Ok, Err, refl, sym, ◌∙◌, ap, ap₂, subst, append_assoc, map-append}
+use Rattle.std.proofs.Common.{◌≡◌, ℕ, Bool, true, false, not, List, [], ◌∷◌, ◌++◌, map, Option, Some, None, Result, Ok, Err, refl, sym, ◌∙◌, ap, ap₂, subst, append_assoc}
 use Rattle.std.specs.Prelude.{◌&&◌, All}
+use Rattle.std.proofs.lemmas.List.{map-append}
 use Rattle.std.proofs.lemmas.List.Elements.{All-append}
 use Rattle.dm_space.specs.Memory.{Memory}
 use Rattle.dm_blocks.specs.declared.header.Header.{Header}
@@ -28,6 +29,9 @@ cut_at m F start P at there e c = subst (λ (x : ℕ). IsCut m F start P x) (sym
 
 bits_there : (m : Memory) (at there bits : ℕ) → there ≡ at → IsBits m at bits → IsBits m there bits
 bits_there m at there bits e c = subst (λ (x : ℕ). IsBits m x bits) (sym e) c
+
+pub collects_at : (w : Walking) (rest result : Result Walking ℕ) (old new : List Watched) → rest ≡ result → Collects w rest old new → Collects w result old new
+collects_at w rest result old new e x = subst (λ (r : Result Walking ℕ). Collects w r old new) e x
 
 -- ---- the second list
 
