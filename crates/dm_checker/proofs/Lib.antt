@@ -6,3 +6,8 @@ pub mod FoundOnce
 pub mod OneCheck
 pub mod Acting
 pub mod Telling
+pub mod Seen
+pub mod Still
+pub mod Collected
+pub mod Shown
+pub mod Changed

@@ -3,7 +3,7 @@
 ghost use Rattle.std.specs.Prelude.{◌≡◌, All, false, IfOk, None, Some};
 ghost use Rattle.std.specs.Bool.{OnTrue};
 ghost use Rattle.dm_blocks.specs.Listing.{start_of};
-ghost use Rattle.dm_checker.specs.inner.Watching.{IsBits, IsWatched, IsWatch, IsSeen, IsBrokenIn, Collects, CollectsSecond};
+ghost use Rattle.dm_checker.specs.inner.Watching.{IsBits, IsWatched, IsWatch, IsSeen, IsBrokenIn, Collects, CollectsSecond, CollectsAll};
 
 use dm_blocks::{Header, Headers, Step, is_linked, walk};
 use dm_machine::Machine;
@@ -109,6 +109,21 @@ fn collect_second(
     }
 }
 
+/// Puts the headers that memory shows of the arena: those of the first list, and of the second one where there is one. Where the arena is
+/// destroyed.
+fn collect_all(out: &mut Vec<Watched>, space: &Space, upper: bool) -> Result<Option<Broken>, AllocError>
+    ensures { IfOk result (λ broken. CollectsAll upper space.now.memory broken out.old.items out.new.items) }
+{
+    let first = match collect(out, space, walk(space))? {
+        Ok(first) => first,
+        Err(at) => return Ok(Some(broken_of(space, at))),
+    };
+    if upper && !is_linked(space) {
+        return collect_second(out, space, first);
+    }
+    Ok(None)
+}
+
 /// What a machine's memory shows of the arena.
 pub(crate) fn read_arena(alloc: Global, machine: &Machine) -> Result<Watch, AllocError>
     ensures { IfOk result (λ w. IsWatch machine.now.upper machine.now.memory w) }
@@ -117,16 +132,7 @@ pub(crate) fn read_arena(alloc: Global, machine: &Machine) -> Result<Watch, Allo
     let upper = machine.upper();
     let windows = space.windows();
     let mut headers = Vec::new(alloc);
-    let broken = match collect(&mut headers, space, walk(space))? {
-        Err(at) => Some(broken_of(space, at)),
-        Ok(first) => {
-            if upper && !is_linked(space) {
-                collect_second(&mut headers, space, first)?
-            } else {
-                None
-            }
-        }
-    };
+    let broken = collect_all(&mut headers, space, upper)?;
     Ok(Watch {
         headers,
         broken,
