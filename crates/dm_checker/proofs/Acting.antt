@@ -44,8 +44,8 @@ pub nothing_acts : (b : Before) (o : Option (Ins × ℕ)) → b.call ≡ None �
 nothing_acts b o none d e s h = record {
   call = sym h.call ∙ none;
   none = λ i k x. (let F : List ℕ → Type 0 = λ bytes. Begins bytes i k in
-    let y : Begins b.bytes i k = subst F (sym h.bytes) x in
-    some_none (i, k) (sym ((d i k).1 (y.short, y.spells)) ∙ e));
+      let y : Begins b.bytes i k = subst F (sym h.bytes) x in
+      some_none (i, k) (sym ((d i k).1 (y.short, y.spells)) ∙ e));
 }
 
 -- ---- steps in which nothing acts
