@@ -5,7 +5,7 @@ pub walk-init : goal.walk-init
 walk-init c = collecting_none c.args.headers _ c.requires.at
 
 pub walk-preserved : goal.walk-preserved
-walk-preserved c = collecting_more c.args.space.now.memory c.args.headers _ _ _ c.walk.walked c.advance.new.self _ c.watched_of.result c.requires.memory c.walk.invariant c.advance.ensures.memory c.advance.ensures.second c.in-Told.ensures.step c.watched_of.ensures.header c.watched_of.ensures.watched (let h = c.in_ok-push-in-Told.ensures in let p = c.push.ensures in let q = c.in_ok-push-in-Told.was in ?)
+walk-preserved c = collecting_more c.args.space.now.memory c.args.headers _ _ _ c.walk.walked c.advance.new.self _ c.watched_of.result c.requires.memory c.walk.invariant c.advance.ensures.memory c.advance.ensures.second c.in-Told.ensures.step c.watched_of.ensures.header c.watched_of.ensures.watched c.in_ok-push-in-Told.ensures.items
 
 pub walk-smaller : goal.walk-smaller
 walk-smaller c = collecting_nearer c.args.headers _ _ c.walk.walked c.advance.new.self _ c.walk.invariant c.in-Told.ensures.step
