@@ -11,3 +11,4 @@ pub mod Still
 pub mod Collected
 pub mod Shown
 pub mod Changed
+pub mod Looking
