@@ -12,3 +12,5 @@ pub mod Collected
 pub mod Shown
 pub mod Changed
 pub mod Looking
+pub mod Stepping
+pub mod Checking
