@@ -55,11 +55,11 @@ some_none : {A : Type 0} (a : A) → Some a ≡ None → ⊥
 some_none a e = cc
 
 -- the machine goes on
-pub goes_on : (s t : State) (b : Before) (w : Watch) (first fs : List Finding) (old new : Reported) → Answers s None t → IsBefore s b → first ≡ [] → Looks s t first fs → (more : List Found) × IsFound s t fs more × ReportsMore old new more → IsWatch t.upper t.memory w → ChecksOne s None t w old new
-goes_on s t b w first fs old new a h empty x told watch = record {
+pub goes_on : (s t : State) (b : Before) (w : Watch) (first fs gs : List Finding) (old new : Reported) → Answers s None t → IsBefore s b → first ≡ [] → Looks s t first fs → gs ≡ fs → (more : List Found) × IsFound s t gs more × ReportsMore old new more → IsWatch t.upper t.memory w → ChecksOne s None t w old new
+goes_on s t b w first fs gs old new a h empty x same told watch = record {
   answers = a;
   found = told.0;
-  finds = record { findings = x.more; finds = x.finds; told = found_as s t fs x.more told.0 (put_first first fs x.more empty x.is) told.1 };
+  finds = record { findings = x.more; finds = x.finds; told = found_as s t gs x.more told.0 (same ∙ put_first first fs x.more empty x.is) told.1 };
   reports = told.2;
   watch = λ e. watch;
 }
