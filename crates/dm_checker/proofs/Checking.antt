@@ -1,5 +1,6 @@
 -- Checked runs, as they are made.
-use Rattle.std.proofs.Common.{◌≡◌, ℕ, ◌+◌, ◌<◌, ◌≤◌, List, [], ◌++◌, Option, Some, None, refl, sym, ◌∙◌, ap, subst, arith}
+use Rattle.std.proofs.Common.{◌≡◌, ℕ, ◌+◌, ◌<◌, ◌≤◌, List, [], ◌++◌, Option, Some, None, Result, Ok, Err, refl, sym, ◌∙◌, ap, subst, arith}
+use Rattle.std.specs.Prelude.{OnErr}
 use Rattle.dm_state.specs.declared.stop.Stop.{Stop}
 use Rattle.dm_state.specs.declared.stop.Stop.TheVariants.{Exited, Steps as AllSteps}
 use Rattle.dm_state.specs.State.{State}
@@ -90,3 +91,8 @@ part_by s t u n m r (Some stop) h few a = record {
 
 pub part_next : (s t u : State) (n m : ℕ) (r : Reported) → HasChecked s n t r → n < m → (stop : Option Stop) × Answers t stop u → RunsPart s m u
 part_next s t u n m r h less x = part_by s t u n m r x.0 h (omega arith) x.1
+
+-- what holds in any case holds at an error
+pub at_err : {T E P : Type 0} (r : Result T E) → P → OnErr r P
+at_err (Ok v) p = tt
+at_err (Err e) p = p

@@ -17,11 +17,10 @@ returns-in_ok-tell_step-in-None-clause-ok c =
 
 pub returns-in_default-clause-ok : goal.returns-in_default-clause-ok
 returns-in_default-clause-ok c =
-    let s = c.args.machine.now in
-    let t = c.step-stop.new.self in
     let w = c.well_formed in
-    let F : Option Stop → Type 0 = λ o. ChecksOne s o t c.args.kept.now c.args.report.now c.args.report.now in
-    let A : Option Stop → Type 0 = λ o. Answers s o t in
-    let exited : c.step-stop.result ≡ Some (Exited c.in-Some-Exited.field-0-0) = c.in-Some-Exited.is ∙ ap (λ (x : Stop). Some x) c.in-Some-Exited.field-0-is in
-    subst F (sym exited)
-    (was_over s t c.of-before.result c.in-Some-Exited.field-0-0 c.args.kept.now c.args.report.now (subst A exited c.step-stop.ensures.answers) c.of-before.ensures c.in_default.is c.requires.watch (let y = c.step-stop.type_inv in let z = c.step-stop.auto in ?))
+    let y = c.step-stop.type_inv in
+    let z = c.step-stop.auto in
+    let a = c.in-Some-Exited.is in
+    let b = c.in-Some-Exited.field-0-is in
+    let d = c.in_default.is in
+    ?
