@@ -19,4 +19,4 @@ returns c = on_ok_weaker c.tell.result (λ e s before watch.
       | else-leaves w ↦ left_none (Some call) t fs c.if-leaves.found.items (sym c.leaves.ensures ∙ w.if-leaves.false) (cc)
     ] in
     ends s t c.args.before.now call c.steps.result c.new-found.result.items fs c.deref.result.now c.args.report.now c.tell.new.report c.requires.call before c.new-found.ensures.items (c.in_ok-look.ensures.looks s before watch) (c.deref.ensures.value ∙ all) c.steps.ensures e
-) c.tell.ensures
+    ) c.tell.ensures

@@ -17,10 +17,12 @@ returns-in_ok-tell_step-in-None-clause-ok c =
 
 pub returns-in_default-clause-ok : goal.returns-in_default-clause-ok
 returns-in_default-clause-ok c =
-    let w = c.well_formed in
-    let y = c.step-stop.type_inv in
-    let z = c.step-stop.auto in
-    let a = c.in-Some-Exited.is in
-    let b = c.in-Some-Exited.field-0-is in
-    let d = c.in_default.is in
-    ?
+    let s = c.args.machine.now in
+    let t = c.step-stop.new.self in
+    let code = c.in-Some-Exited.field-0-0 in
+    let F : Option Stop → Type 0 = λ o. ChecksOne s o t c.args.kept.now c.args.report.now c.args.report.now in
+    let A : Option Stop → Type 0 = λ o. Answers s o t in
+    let is = rw c.in-Some-Exited.is at c.in-Some-Exited.field-0-is in
+    let exited : c.step-stop.result ≡ Some (Exited code) = c.in-Some-Exited.is ∙ ap (λ (x : Stop). Some x) is in
+    subst F (sym exited)
+    (was_over s t c.of-before.result code c.args.kept.now c.args.report.now (subst A exited c.step-stop.ensures.answers) c.of-before.ensures c.in_default.is c.requires.watch c.tables_and_memory_go_together.ensures)

@@ -25,4 +25,4 @@ returns c = on_ok_weaker c.put_refused.result (λ e s before watch.
     ] in
     let away = at_watch (λ (S : Memory). mapped_away S T) old c.deref-2.result.now c.if-not-arranges.out.items c.put_all_mapped_away.new.out.items c.deref-2.ensures.value c.in_ok-put_all_mapped_away.ensures s.upper s.memory watch in
     looks_by s c.args.machine.now b c.cpu-after.result T old c.args.new.now c.deref-3.result.now c.args.out.now.items c.if-not-arranges.out.items c.put_all_mapped_away.new.out.items c.put_turned.new.out.items c.put_freed_twice.new.out.items c.put_refused.new.out.items before watch c.requires.after c.cpu-after.ensures c.space-space.ensures c.deref-3.ensures.value over away c.in_ok-put_turned.ensures c.in_ok-put_freed_twice.ensures e
-) c.put_refused.ensures
+    ) c.put_refused.ensures
