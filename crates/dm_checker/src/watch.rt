@@ -111,7 +111,11 @@ fn collect_second(
 
 /// Puts the headers that memory shows of the arena: those of the first list, and of the second one where there is one. Where the arena is
 /// destroyed.
-fn collect_all(out: &mut Vec<Watched>, space: &Space, upper: bool) -> Result<Option<Broken>, AllocError>
+fn collect_all(
+    out: &mut Vec<Watched>,
+    space: &Space,
+    upper: bool,
+) -> Result<Option<Broken>, AllocError>
     ensures { IfOk result (λ broken. CollectsAll upper space.now.memory broken out.old.items out.new.items) }
 {
     let first = match collect(out, space, walk(space))? {
