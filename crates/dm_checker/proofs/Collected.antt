@@ -1,5 +1,5 @@
 -- The headers of a list, as a walk tells them one by one and they are kept.
-use Rattle.std.proofs.Common.{◌≡◌, ℕ, ◌+◌, ◌-◌, ◌<◌, ◌≤◌, Bool, true, false, List, [], ◌∷◌, ◌++◌, map, Option, Some, None, Result, Ok, Err, refl, sym, ◌∙◌, ap, subst, arith, append-nil, append_assoc, rules}
+use Rattle.std.proofs.Common.{◌≡◌, ℕ, ◌+◌, ◌-◌, ◌<◌, ◌≤◌, Bool, true, false, List, [], ◌∷◌, ◌++◌, map, Option, Some, None, Ok, Err, refl, sym, ◌∙◌, ap, subst, arith, append-nil, append_assoc, rules}
 use Rattle.std.specs.Prelude.{if◌then◌else◌, All}
 use Rattle.std.proofs.lemmas.List.{map_push}
 use Rattle.std.proofs.lemmas.List.Elements.{All-nil, All-push}
@@ -13,7 +13,7 @@ use Rattle.dm_blocks.specs.Listing.{Walking, Path, Leads, Follows, Closes, IsBeh
 use Rattle.dm_blocks.proofs.Unique.{arena_unique}
 use Rattle.dm_checker.specs.declared.watch.Watched.{Watched}
 use Rattle.dm_checker.specs.Shown.{IsCut}
-use Rattle.dm_checker.specs.inner.Watching.{header_of, IsWatched, IsWalked, Collects}
+use Rattle.dm_checker.specs.inner.Watching.{header_of, IsWatched, Collects}
 
 -- ---- the headers before a list
 

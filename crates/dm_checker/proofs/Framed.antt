@@ -1,17 +1,17 @@
 -- The places of headers: windows matter in the frame alone.
-use Rattle.std.proofs.Common.{◌≡◌, ℕ, ◌+◌, ◌-◌, ◌*◌, ◌/◌, ◌%◌, ◌<◌, ◌≤◌, ◌⊎◌, inl, inr, Bool, true, false, nat_lt, List, length, get_or, Option, Some, None, refl, sym, ◌∙◌, ap, ap₂, subst, arith}
+use Rattle.std.proofs.Common.{◌≡◌, ℕ, ◌+◌, ◌-◌, ◌*◌, ◌/◌, ◌%◌, ◌<◌, ◌≤◌, ◌⊎◌, inl, inr, Bool, true, false, nat_lt, List, length, get_or, Option, Some, None, refl, sym, ◌∙◌, ap, ap₂, arith}
 use Rattle.std.proofs.lemmas.Bool.{false≢true}
 use Rattle.std.proofs.lemmas.Bool.Decides.{nat_tests}
 use Rattle.std.proofs.lemmas.List.{get_or_default}
-use Rattle.std.specs.Prelude.{if◌then◌else◌, slice_index, slice_index_or, is_some, get_or, ◌&&◌, IfSome, IsTrue, ◌↔◌}
+use Rattle.std.specs.Prelude.{if◌then◌else◌, slice_index_or, is_some, get_or, ◌&&◌, IfSome, IsTrue}
 use Rattle.dm_pool.specs.declared.places.Place.{Place as Span}
 use Rattle.dm_pool.specs.Blocks.{Blocks, IsLive}
 use Rattle.dm_space.specs.declared.place.Place.{Place}
 use Rattle.dm_space.specs.declared.place.Place.TheVariants.{Low, Page, Rom, Nothing}
-use Rattle.dm_space.specs.Memory.{Memory, IsPage, place, peek, byte_at, shown, page_bytes}
-use Rattle.dm_space.proofs.Places.{peek-place, place-windows}
+use Rattle.dm_space.specs.Memory.{Memory, place, byte_at, shown, page_bytes}
+use Rattle.dm_space.proofs.Places.{peek-place}
 use Rattle.dm_findings.specs.declared.finding.Contents.{Contents}
-use Rattle.dm_checker.specs.Headers.{contents, shown_at, kept_at, is_live, is_there}
+use Rattle.dm_checker.specs.Headers.{contents, shown_at, is_live, is_there}
 use Rattle.dm_checker.specs.inner.Watching.{contents_by, IsKept}
 
 -- ---- the map

@@ -1,16 +1,16 @@
 -- The first list and the second one behind it, as they are shown.
-use Rattle.std.proofs.Common.{◌≡◌, ℕ, Bool, true, false, not, List, [], ◌∷◌, ◌++◌, map, Option, Some, None, Result, Ok, Err, refl, sym, ◌∙◌, ap, ap₂, subst, append_assoc}
+use Rattle.std.proofs.Common.{◌≡◌, ℕ, Bool, true, false, not, List, [], ◌++◌, map, Option, Some, None, Result, Ok, Err, refl, sym, ◌∙◌, ap, ap₂, subst, append_assoc}
 use Rattle.std.specs.Prelude.{◌&&◌, All}
 use Rattle.std.proofs.lemmas.List.{map-append}
 use Rattle.std.proofs.lemmas.List.Elements.{All-append}
 use Rattle.dm_space.specs.Memory.{Memory}
 use Rattle.dm_blocks.specs.declared.header.Header.{Header}
 use Rattle.dm_blocks.specs.Chain.{first_header, link_header, is_linked, is_parted, IsArena, IsArenaBehind}
-use Rattle.dm_blocks.specs.Listing.{Walking, IsBehind, start_of}
+use Rattle.dm_blocks.specs.Listing.{Walking, IsBehind}
 use Rattle.dm_blocks.specs.Reading.{IsSpelledFrom}
 use Rattle.dm_checker.specs.declared.watch.Watched.{Watched}
 use Rattle.dm_checker.specs.declared.watch.Broken.{Broken}
-use Rattle.dm_checker.specs.Shown.{Shown, IsCut, IsShown, cut, alone, parted, parted_cut}
+use Rattle.dm_checker.specs.Shown.{IsCut, IsShown, cut, alone, parted, parted_cut}
 use Rattle.dm_checker.specs.inner.Watching.{header_of, broken_at, IsBits, IsWatched, IsBrokenIn, IsWalked, Collects, IsSecond, CollectsSecond, CollectsAll}
 
 -- ---- a walk over a list of a memory

@@ -1,7 +1,6 @@
 //! The headers of the arena, kept with their bytes, and whether memory still shows them.
 
-ghost use Rattle.std.specs.Prelude.{◌≡◌, All, false, IfOk, None, Some};
-ghost use Rattle.std.specs.Bool.{OnTrue};
+ghost use Rattle.std.specs.Prelude.{◌≡◌, ◌≢◌, All, false, IfOk, MatchBool, None, Some};
 ghost use Rattle.dm_blocks.specs.Listing.{start_of};
 ghost use Rattle.dm_checker.specs.inner.Watching.{IsBits, IsWatched, IsWatch, IsSeen, IsBrokenIn, Collects, CollectsSecond, CollectsAll};
 
@@ -147,7 +146,7 @@ pub(crate) fn read_arena(alloc: Global, machine: &Machine) -> Result<Watch, Allo
 
 /// Whether memory shows the five bytes of each header as they were read.
 fn are_seen(space: &Space, headers: &[Watched]) -> bool
-    ensures { OnTrue result (All (IsWatched space.now.memory) headers.now) }
+    ensures { MatchBool result (All (IsWatched space.now.memory) headers.now) (All (IsWatched space.now.memory) headers.now → ⊥) }
 {
     for watched in headers {
         if bits_at(space, watched.header.segment) != watched.bits {
@@ -159,7 +158,7 @@ fn are_seen(space: &Space, headers: &[Watched]) -> bool
 
 /// Whether memory shows the five bytes where the list breaks as they were read.
 fn is_broken_in(space: &Space, broken: &Option<Broken>) -> bool
-    ensures { OnTrue result (IsBrokenIn space.now.memory broken.now) }
+    ensures { MatchBool result (IsBrokenIn space.now.memory broken.now) (IsBrokenIn space.now.memory broken.now → ⊥) }
 {
     match broken {
         Some(there) => bits_at(space, there.segment) == there.bits,
@@ -169,7 +168,7 @@ fn is_broken_in(space: &Space, broken: &Option<Broken>) -> bool
 
 /// Whether two windows show the same.
 fn is_same_window(first: Option<Block>, second: Option<Block>) -> bool
-    ensures { OnTrue result (first ≡ second) }
+    ensures { MatchBool result (first ≡ second) (first ≢ second) }
 {
     match (first, second) {
         (None, None) => true,
@@ -180,7 +179,7 @@ fn is_same_window(first: Option<Block>, second: Option<Block>) -> bool
 
 /// Whether four windows show the same as four others.
 fn are_same_windows(first: &[Option<Block>; 4], second: &[Option<Block>; 4]) -> bool
-    ensures { OnTrue result (first.now ≡ second.now) }
+    ensures { MatchBool result (first.now ≡ second.now) (first.now ≢ second.now) }
 {
     is_same_window(first[0], second[0])
         && is_same_window(first[1], second[1])
@@ -191,7 +190,7 @@ fn are_same_windows(first: &[Option<Block>; 4], second: &[Option<Block>; 4]) -> 
 impl Watch {
     /// Whether the windows of a machine and all that was read are as they were. Then its memory shows the same of the arena.
     pub(crate) fn is_seen(&self, machine: &Machine) -> bool
-        ensures { OnTrue result (IsSeen machine.now.upper machine.now.memory self.now) }
+        ensures { MatchBool result (IsSeen machine.now.upper machine.now.memory self.now) (IsSeen machine.now.upper machine.now.memory self.now → ⊥) }
     {
         let space = machine.space();
         machine.upper() == self.upper

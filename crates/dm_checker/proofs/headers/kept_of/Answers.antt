@@ -1,4 +1,4 @@
-use Rattle.std.proofs.Common.{ℕ, ◌-◌, ◌*◌, ◌%◌, ◌<◌, ◌⊎◌, inl, inr, List, refl, sym, ◌∙◌, ap, arith}
+use Rattle.std.proofs.Common.{ℕ, ◌-◌, ◌*◌, ◌%◌, ◌<◌, ◌⊎◌, inl, inr, List, refl, ◌∙◌, ap, arith}
 use Rattle.dm_checker.specs.inner.Watching.{contents_by}
 use Rattle.dm_checker.proofs.Framed.{kept_outside, kept_nothing, kept_freed, kept_page, window_of, no_block, not_live}
 use Rattle.dm_checker.proofs.headers.kept_of.Goals as goal

@@ -1,4 +1,4 @@
-use Rattle.std.proofs.Common.{◌∙◌, false}
+use Rattle.std.proofs.Common.{false}
 use Rattle.std.proofs.lemmas.Result.{IfOk-weaker}
 use Rattle.dm_checker.proofs.Shown.{collects_at, all_cut, all_parted, parted_by}
 use Rattle.dm_checker.proofs.watch.collect_all.Goals as goal
