@@ -1,16 +1,14 @@
 -- What acts in a step, by what it started from.
-use Rattle.std.proofs.Common.{◌≡◌, ℕ, ◌≤◌, List, take, Option, Some, None, refl, sym, ◌∙◌, ap, ap₂, subst}
+use Rattle.std.proofs.Common.{◌≡◌, ℕ, List, Option, Some, None, refl, sym, ◌∙◌, ap, subst}
 use Rattle.dm_ins.specs.declared.ins.Ins.{Ins}
-use Rattle.dm_ins.specs.Ins.{Spells}
 use Rattle.dm_decode.specs.Decoded.{Decodes}
 use Rattle.dm_cpu.specs.declared.cpu.Cpu.{Cpu}
 use Rattle.dm_cpu.specs.Guest.{Guest, guest, up}
 use Rattle.dm_exec.specs.declared.effect.Next.{Next}
 use Rattle.dm_exec.specs.declared.effect.Next.TheVariants.{Go, Halt}
 use Rattle.dm_exec.specs.Effect.{effect, next_of}
-use Rattle.dm_state.specs.declared.stop.Stop.{Stop}
 use Rattle.dm_state.specs.declared.stop.Stop.TheVariants.{Exited, Halted, Unlisted}
-use Rattle.dm_state.specs.State.{State, Answer, stop_at}
+use Rattle.dm_state.specs.State.{State, Answer}
 use Rattle.dm_services.specs.declared.services.Service.{Service}
 use Rattle.dm_services.specs.Services.{service_at}
 use Rattle.dm_drivers.specs.declared.drivers.Driver.{Driver}
@@ -18,7 +16,6 @@ use Rattle.dm_drivers.specs.Drivers.{driver_at}
 use Rattle.dm_machine.specs.Step.{Steps, Runs, Acts, Drives, Instructs, listed, unlisted, Begins, fetched, after}
 use Rattle.dm_machine.specs.Run.{Answers}
 use Rattle.dm_findings.specs.declared.calls.Call.{Call}
-use Rattle.dm_findings.specs.declared.finding.Act.{Act}
 use Rattle.dm_findings.specs.declared.finding.Act.TheVariants as act
 use Rattle.dm_findings.specs.Calls.{call_by, call_of}
 use Rattle.dm_checker.specs.declared.acts.Before.{Before}
@@ -37,7 +34,7 @@ instruction_acts b o i k behind none d e is s h =
     instructed i k (sym h.call ∙ none) (subst F h.bytes (begins b.bytes o i k d e))
     (ap (λ (n : ℕ). act.Instruction i n) (is ∙ ap (λ (c : Cpu). up c.ip k) h.cpu))
 
-some_none : {A : Type 0} (a : A) → Some a ≡ None → ⊥
+pub some_none : {A : Type 0} (a : A) → Some a ≡ None → ⊥
 some_none a e = cc
 
 pub nothing_acts : (b : Before) (o : Option (Ins × ℕ)) → b.call ≡ None → Decodes b.bytes o → o ≡ None → (s : State) → IsBefore s b → IsUnlisted s

@@ -15,7 +15,7 @@ use Rattle.dm_checker.specs.declared.watch.Watched.{Watched}
 use Rattle.dm_checker.specs.declared.watch.Watch.{Watch}
 use Rattle.dm_checker.specs.Calls.{is_arena, is_ending, is_starting, arranges, freed_twice, refused}
 use Rattle.dm_checker.specs.Headers.{overwritten, mapped_away}
-use Rattle.dm_checker.specs.Findings.{turned, all_overwritten, findings, Finds}
+use Rattle.dm_checker.specs.Findings.{turned, all_overwritten, findings}
 use Rattle.dm_checker.specs.inner.Watching.{header_of, broken_at, IsWatched, IsWatch, IsSeen}
 use Rattle.dm_checker.specs.inner.Steps.{IsBefore, Looks}
 use Rattle.dm_checker.proofs.Leaked.{five_more}

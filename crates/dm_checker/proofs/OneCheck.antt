@@ -1,13 +1,13 @@
 -- A checked run is a run, and has one list of findings.
-use Rattle.std.proofs.Common.{◌≡◌, ◌≢◌, ℕ, zero, suc, ◌+◌, ◌<◌, List, [], ◌++◌, Option, Some, None, refl, sym, ◌∙◌, ap, ap₂, subst, arith, inl, inr}
+use Rattle.std.proofs.Common.{◌≡◌, ◌≢◌, ℕ, zero, suc, ◌+◌, ◌<◌, List, [], ◌++◌, Some, None, refl, sym, ◌∙◌, ap₂, subst, arith, inl, inr}
 use Rattle.std.proofs.lemmas.Bool.{cases_lt}
 use Rattle.dm_state.specs.declared.stop.Stop.{Stop}
 use Rattle.dm_state.specs.declared.stop.Stop.TheVariants.{Memory as NoMemory}
-use Rattle.dm_state.specs.State.{State, Answer}
+use Rattle.dm_state.specs.State.{State}
 use Rattle.dm_machine.specs.Step.{Steps}
 use Rattle.dm_machine.specs.Run.{Answers, Goes, StopsWithin}
 use Rattle.dm_machine.specs.Run as run
-use Rattle.dm_machine.proofs.OneRun.{steps-one, goes-one}
+use Rattle.dm_machine.proofs.OneRun.{goes-one}
 use Rattle.dm_machine.proofs.OneStop.{some-none, not_beyond, run-one}
 use Rattle.dm_findings.specs.declared.finding.Found.{Found}
 use Rattle.dm_checker.specs.Checks.{FindsAt, FindsAtStop, FindsIn, here, further, Checks, over, whole, cut}

@@ -1,7 +1,7 @@
 -- One checked step.
-use Rattle.std.proofs.Common.{◌≡◌, ◌≢◌, ℕ, Bool, true, false, List, [], ◌++◌, map, Option, Some, None, refl, sym, ◌∙◌, ap, ap₂, subst, append-nil}
+use Rattle.std.proofs.Common.{◌≡◌, ℕ, Bool, true, false, List, [], ◌++◌, map, Option, Some, None, refl, sym, ◌∙◌, ap, ap₂, subst, append-nil}
 use Rattle.std.specs.Prelude.{if◌then◌else◌, slice_index_or, IfSome}
-use Rattle.dm_space.specs.Memory.{Memory, IsPage}
+use Rattle.dm_space.specs.Memory.{IsPage}
 use Rattle.dm_state.specs.declared.stop.Stop.{Stop}
 use Rattle.dm_state.specs.declared.stop.Stop.TheVariants.{Exited, Steps as AllSteps, Halted, Unlisted, InputEnded, Destroyed, Memory as NoMemory}
 use Rattle.dm_ems.specs.Linked.{IsOwned}
@@ -17,13 +17,13 @@ use Rattle.dm_checker.specs.declared.acts.Before.{Before}
 use Rattle.dm_checker.specs.declared.watch.Watch.{Watch}
 use Rattle.dm_checker.specs.Calls.{leaves, freed_twice, refused}
 use Rattle.dm_checker.specs.Leaks.{leaks}
-use Rattle.dm_checker.specs.Findings.{IsFound, none, Finds}
-use Rattle.dm_checker.specs.Checks.{FindsAt, FindsAtEnd, FindsAtStop, left_behind}
+use Rattle.dm_checker.specs.Findings.{IsFound, none}
+use Rattle.dm_checker.specs.Checks.{FindsAtEnd, FindsAtStop, left_behind}
 use Rattle.dm_checker.specs.inner.Watching.{IsWatch, IsSeen}
-use Rattle.dm_checker.specs.inner.Steps.{IsBefore, found_by, ReportsMore, Looks, FindsAtAny, ChecksOne}
-use Rattle.dm_checker.proofs.Acting.{call_acts, exit_changes_nothing}
+use Rattle.dm_checker.specs.inner.Steps.{IsBefore, found_by, ReportsMore, Looks, ChecksOne}
+use Rattle.dm_checker.proofs.Acting.{some_none, call_acts, exit_changes_nothing}
 use Rattle.dm_checker.proofs.Still.{shown_of, seen_findings}
-use Rattle.dm_checker.proofs.Telling.{reports_none, Tells, tells}
+use Rattle.dm_checker.proofs.Telling.{reports_none, tells}
 
 -- what is put behind nothing is all
 put_first : (first fs more : List Finding) → first ≡ [] → fs ≡ first ++ more → fs ≡ more
@@ -51,9 +51,6 @@ ends s t b call step first fs all old new e h empty x is steps r =
     (told.more, record { findings = x.more; finds = x.finds; told = found_as s t all _ told.more same told.found }, told.reports)
 
 -- ---- any step
-
-some_none : {A : Type 0} (a : A) → Some a ≡ None → ⊥
-some_none a e = cc
 
 -- the machine goes on
 pub goes_on : (s t : State) (b : Before) (w : Watch) (first fs gs : List Finding) (old new : Reported) → Answers s None t → IsBefore s b → first ≡ [] → Looks s t first fs → gs ≡ fs → (more : List Found) × IsFound s t gs more × ReportsMore old new more → IsWatch t.upper t.memory w → ChecksOne s None t w old new

@@ -1,16 +1,14 @@
 -- Findings that are told with the step that they are about.
-use Rattle.std.proofs.Common.{◌≡◌, ℕ, ◌+◌, ◌<◌, List, [], ◌∷◌, ◌++◌, map, take, length, get_or, Option, None, Some, refl, sym, ◌∙◌, ap, ap₂, subst, append-nil, append_assoc}
-use Rattle.std.proofs.lemmas.List.{take_more, take_all, map-append}
+use Rattle.std.proofs.Common.{◌≡◌, ℕ, ◌+◌, ◌<◌, List, [], ◌∷◌, ◌++◌, map, take, length, get_or, refl, sym, ◌∙◌, ap, ap₂, append-nil, append_assoc}
+use Rattle.std.proofs.lemmas.List.{take_more, map-append}
 use Rattle.dm_cpu.specs.declared.cpu.Cpu.{Cpu}
 use Rattle.dm_state.specs.State.{State}
-use Rattle.dm_findings.specs.declared.calls.Call.{Call}
 use Rattle.dm_findings.specs.declared.finding.Act.{Act}
-use Rattle.dm_findings.specs.declared.finding.Act.TheVariants as act
 use Rattle.dm_findings.specs.declared.finding.Finding.{Finding}
 use Rattle.dm_findings.specs.declared.finding.Found.{Found}
 use Rattle.dm_findings.specs.Report.{Reported, report_of}
 use Rattle.dm_checker.specs.declared.acts.Before.{Before}
-use Rattle.dm_checker.specs.Findings.{IsAct, found_at, IsFound, none, some}
+use Rattle.dm_checker.specs.Findings.{IsAct, found_at, IsFound, some}
 use Rattle.dm_checker.specs.inner.Steps.{IsBefore, found_by, ReportsMore}
 
 pub reports_none : (r : Reported) → ReportsMore r r []

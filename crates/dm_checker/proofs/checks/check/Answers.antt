@@ -1,4 +1,4 @@
-use Rattle.std.proofs.Common.{◌≡◌, Option, Some, None, rules, arith, subst}
+use Rattle.std.proofs.Common.{Option, rules, arith, subst}
 use Rattle.dm_state.specs.declared.stop.Stop.{Stop}
 use Rattle.dm_state.specs.declared.stop.Stop.TheVariants.{Steps as AllSteps}
 use Rattle.dm_checker.specs.inner.Steps.{ChecksOne}
