@@ -1,4 +1,5 @@
--- A memory that still shows what was kept: what was kept is a watch of it, and nothing is found between the two memories.
+-- A memory that still shows what was kept: what was kept is a watch of it, and nothing is found between the two
+-- memories.
 use Rattle.std.proofs.Common.{◌≡◌, ℕ, ◌+◌, ◌*◌, ◌<◌, Bool, true, false, not, inl, inr, List, [], ◌∷◌, ◌++◌, map, Option, Some, None, refl, sym, ◌∙◌, ap, ap₂, subst}
 use Rattle.std.specs.Prelude.{◌&&◌, if◌then◌else◌, slice_index_or, IfSome, All}
 use Rattle.std.specs.List.{flat_map}

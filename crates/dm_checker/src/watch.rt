@@ -71,7 +71,8 @@ fn broken_of(space: &Space, segment: u16) -> Broken
     }
 }
 
-/// Puts the headers that a walk over a list has still to tell. The walk behind the end of its list, or the segment where the list breaks.
+/// Puts the headers that a walk over a list has still to tell. The walk behind the end of its list, or the segment
+/// where the list breaks.
 fn collect<'a>(
     out: &mut Vec<Watched>,
     space: &Space,
@@ -108,8 +109,8 @@ fn collect_second(
     }
 }
 
-/// Puts the headers that memory shows of the arena: those of the first list, and of the second one where there is one. Where the arena is
-/// destroyed.
+/// Puts the headers that memory shows of the arena: those of the first list, and of the second one where there is one.
+/// Where the arena is destroyed.
 fn collect_all(
     out: &mut Vec<Watched>,
     space: &Space,
@@ -188,7 +189,8 @@ fn are_same_windows(first: &[Option<Block>; 4], second: &[Option<Block>; 4]) -> 
 }
 
 impl Watch {
-    /// Whether the windows of a machine and all that was read are as they were. Then its memory shows the same of the arena.
+    /// Whether the windows of a machine and all that was read are as they were. Then its memory shows the same of the
+    /// arena.
     pub(crate) fn is_seen(&self, machine: &Machine) -> bool
         ensures { MatchBool result (IsSeen machine.now.upper machine.now.memory self.now) (IsSeen machine.now.upper machine.now.memory self.now → ⊥) }
     {
