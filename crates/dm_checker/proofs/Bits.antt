@@ -1,7 +1,7 @@
 -- Five bytes as a number.
-use Rattle.std.proofs.Common.{◌≡◌, ℕ, zero, suc, ◌+◌, ◌*◌, ◌%◌, ◌/◌, ◌<◌, ◌≤◌, refl, sym, ◌∙◌, ap, subst, arith}
+use Rattle.std.proofs.Common.{◌≡◌, ℕ, ◌+◌, ◌*◌, ◌%◌, ◌<◌, ◌≤◌, refl, sym, ◌∙◌, arith}
 use Rattle.dm_space.specs.Memory.{Memory, linear, peek}
-use Rattle.dm_space.specs.EightBytes.{little, byte_after, IsEightBytes}
+use Rattle.dm_space.specs.EightBytes.{IsEightBytes}
 use Rattle.dm_blocks.proofs.Bytes.{read-at}
 use Rattle.dm_blocks.proofs.Unique.{each_of_five}
 use Rattle.dm_checker.specs.inner.Watching.{IsBits}

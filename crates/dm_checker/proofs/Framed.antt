@@ -1,15 +1,17 @@
 -- The places of headers: windows matter in the frame alone.
-use Rattle.std.proofs.Common.{◌≡◌, ℕ, ◌+◌, ◌-◌, ◌*◌, ◌/◌, ◌%◌, ◌<◌, ◌≤◌, ◌⊎◌, inl, inr, Bool, true, false, nat_lt, List, Option, Some, None, refl, sym, ◌∙◌, ap, ap₂, subst, arith}
+use Rattle.std.proofs.Common.{◌≡◌, ℕ, ◌+◌, ◌-◌, ◌*◌, ◌/◌, ◌%◌, ◌<◌, ◌≤◌, ◌⊎◌, inl, inr, Bool, true, false, nat_lt, List, length, get_or, Option, Some, None, refl, sym, ◌∙◌, ap, ap₂, arith}
+use Rattle.std.proofs.lemmas.Bool.{false≢true}
 use Rattle.std.proofs.lemmas.Bool.Decides.{nat_tests}
-use Rattle.std.specs.Prelude.{if◌then◌else◌, slice_index, slice_index_or, is_some, get_or, ◌&&◌, IfSome, IsTrue, ◌↔◌}
+use Rattle.std.proofs.lemmas.List.{get_or_default}
+use Rattle.std.specs.Prelude.{if◌then◌else◌, slice_index_or, is_some, get_or, ◌&&◌, IfSome, IsTrue}
 use Rattle.dm_pool.specs.declared.places.Place.{Place as Span}
 use Rattle.dm_pool.specs.Blocks.{Blocks, IsLive}
 use Rattle.dm_space.specs.declared.place.Place.{Place}
 use Rattle.dm_space.specs.declared.place.Place.TheVariants.{Low, Page, Rom, Nothing}
-use Rattle.dm_space.specs.Memory.{Memory, IsPage, place, peek, byte_at, shown, page_bytes}
-use Rattle.dm_space.proofs.Places.{peek-place, place-windows}
+use Rattle.dm_space.specs.Memory.{Memory, place, byte_at, shown, page_bytes}
+use Rattle.dm_space.proofs.Places.{peek-place}
 use Rattle.dm_findings.specs.declared.finding.Contents.{Contents}
-use Rattle.dm_checker.specs.Headers.{contents, shown_at, kept_at, is_live, is_there}
+use Rattle.dm_checker.specs.Headers.{contents, shown_at, is_live, is_there}
 use Rattle.dm_checker.specs.inner.Watching.{contents_by, IsKept}
 
 -- ---- the map
@@ -132,3 +134,15 @@ live_false s block (Some p) e dead true t = absurd (dead (grind (arith, nat_test
 
 pub kept_freed : (S T : Memory) (h block : ℕ) → 0xE000 ≤ h → h ≤ 0xEFFF → slice_index_or S.windows ((h - 0xE000) / 0x400) None ≡ Some block → (IsLive T.blocks block → ⊥) → IsKept S T h None
 kept_freed S T h block low high e dead = page_first S T h block low high e ∙ live_false T.blocks block _ refl dead _ refl
+
+-- ---- what a window shows, as it was read
+
+pub window_of : (S : Memory) (windows : List (Option ℕ)) (i : ℕ) (d o : Option ℕ) → windows ≡ S.windows → length windows ≡ 4 → i < 4 → get_or windows i d ≡ o → slice_index_or S.windows i None ≡ o
+window_of S windows i d o same four less is = ap (λ (ws : List (Option ℕ)). get_or ws i None) (sym same) ∙ sym (get_or_default windows i d None (omega arith)) ∙ is
+
+pub no_block : (o : Option ℕ) → ((block : ℕ) → o ≡ Some block → ⊥) → o ≡ None
+no_block None none = refl
+no_block (Some block) none = absurd (none block refl)
+
+pub not_live : (r : Bool) (live : Type 0) → r ≡ false → (live → IsTrue r) → live → ⊥
+not_live r live off tells h = (let on : r ≡ true = tells h in absurd (false≢true (sym off ∙ on)))

@@ -14,3 +14,9 @@ each_next f n = rw add-one refl
 pub each_more : (old out new : List Finding) (f : ℕ → List Finding) (n : ℕ) → out ≡ old ++ of_each f n → new ≡ out ++ f n → new ≡ old ++ of_each f (n + 1)
 each_more old out new f n e k =
     k ∙ ap (λ (x : List Finding). x ++ f n) e ∙ append_assoc old (of_each f n) (f n) ∙ ap (λ (x : List Finding). old ++ x) (sym (each_next f n))
+
+-- five lists of findings, one behind the other
+pub five_more : (old a b c d e u v w x y : List Finding) → u ≡ old ++ a → v ≡ u ++ b → w ≡ v ++ c → x ≡ w ++ d → y ≡ x ++ e → y ≡ old ++ (a ++ b ++ c ++ d ++ e)
+five_more old a b c d e u v w x y p q r s t =
+    let one : y ≡ ((((old ++ a) ++ b) ++ c) ++ d) ++ e = cc in
+    one ∙ simp append_assoc

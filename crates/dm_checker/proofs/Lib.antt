@@ -1,3 +1,16 @@
 pub mod Leaked
 pub mod Bits
 pub mod Framed
+pub mod ShownOnce
+pub mod FoundOnce
+pub mod OneCheck
+pub mod Acting
+pub mod Telling
+pub mod Seen
+pub mod Still
+pub mod Collected
+pub mod Shown
+pub mod Changed
+pub mod Looking
+pub mod Stepping
+pub mod Checking

@@ -1,4 +1,5 @@
-//! What calls make of the arena, and how they are refused (MS-DOS Programmer's Reference, "System Calls"; LIM EMS 4.0, section 3; XMS 3.0).
+//! What calls make of the arena, and how they are refused (MS-DOS Programmer's Reference, "System Calls"; LIM EMS 4.0,
+//! section 3; XMS 3.0).
 
 ghost use Rattle.std.specs.Prelude.{◌≡◌, ◌++◌, map, OnOk};
 ghost use Rattle.dm_checker.specs.Calls.{is_arena, is_ending, is_starting, arranges, leaves, is_free_at, freed_twice, refused_by_dos, refused_by_status, refused_by_error, refused};

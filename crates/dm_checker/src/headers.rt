@@ -60,8 +60,8 @@ fn contents_in(bytes: &[u8], at: usize) -> Contents
     }
 }
 
-/// What memory has at the places that a header had when the windows showed these blocks; None where its page was freed. Outside of the frame,
-/// from E000h to EFFFh, windows don't matter.
+/// What memory has at the places that a header had when the windows showed these blocks; None where its page was freed.
+/// Outside of the frame, from E000h to EFFFh, windows don't matter.
 fn kept_of(space: &Space, windows: &[Option<Block>; 4], segment: u16) -> Option<Contents>
     ensures { (S : Memory) → windows.now ≡ S.windows → IsKept S space.now.memory segment result }
 {

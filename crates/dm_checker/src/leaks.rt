@@ -11,7 +11,8 @@ use dm_space::Space;
 use dm_xms::Xms;
 use std::alloc::AllocError;
 
-/// How many handles of expanded memory there are, how many of extended memory, and how many upper memory blocks there can be.
+/// How many handles of expanded memory there are, how many of extended memory, and how many upper memory blocks there
+/// can be.
 const MOST: u16 = 64;
 
 /// Puts that a handle of expanded memory is in use; handle 0 only where it has pages.

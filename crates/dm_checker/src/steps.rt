@@ -18,7 +18,7 @@ use crate::leaks::put_leaks;
 use crate::put::put;
 use crate::watch::{Broken, Watch, read_arena};
 use dm_findings::{Act, Call, Finding, Found, Report};
-use dm_machine::{Machine, Stop};
+use dm_machine::{Machine, Stop, tables_and_memory_go_together};
 use std::alloc::{AllocError, Global};
 
 /// Puts that the arena is destroyed, or whole again, by where it broke before and after.
@@ -165,9 +165,11 @@ pub(crate) fn check_step(
             tell_step(report, &before, machine, &found)?;
         }
         Some(Stop::Exited(_)) => {
-            // Without a call the program had ended before.
             if let Some(call) = before.call {
                 check_end(alloc, &before, call, kept, machine, report)?;
+            } else {
+                // The program had ended before. Nothing has changed, and each page that a window shows is there.
+                tables_and_memory_go_together(machine);
             }
         }
         Some(_) => {}

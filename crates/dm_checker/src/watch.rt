@@ -1,9 +1,8 @@
 //! The headers of the arena, kept with their bytes, and whether memory still shows them.
 
-ghost use Rattle.std.specs.Prelude.{◌≡◌, All, false, IfOk, None, Some};
-ghost use Rattle.std.specs.Bool.{OnTrue};
+ghost use Rattle.std.specs.Prelude.{◌≡◌, ◌≢◌, All, false, IfOk, MatchBool, None, Some};
 ghost use Rattle.dm_blocks.specs.Listing.{start_of};
-ghost use Rattle.dm_checker.specs.inner.Watching.{IsBits, IsWatched, IsWatch, IsSeen, IsBrokenIn, Collects, CollectsSecond};
+ghost use Rattle.dm_checker.specs.inner.Watching.{IsBits, IsWatched, IsWatch, IsSeen, IsBrokenIn, Collects, CollectsSecond, CollectsAll};
 
 use dm_blocks::{Header, Headers, Step, is_linked, walk};
 use dm_machine::Machine;
@@ -72,7 +71,8 @@ fn broken_of(space: &Space, segment: u16) -> Broken
     }
 }
 
-/// Puts the headers that a walk over a list has still to tell. The walk behind the end of its list, or the segment where the list breaks.
+/// Puts the headers that a walk over a list has still to tell. The walk behind the end of its list, or the segment
+/// where the list breaks.
 fn collect<'a>(
     out: &mut Vec<Watched>,
     space: &Space,
@@ -109,6 +109,25 @@ fn collect_second(
     }
 }
 
+/// Puts the headers that memory shows of the arena: those of the first list, and of the second one where there is one.
+/// Where the arena is destroyed.
+fn collect_all(
+    out: &mut Vec<Watched>,
+    space: &Space,
+    upper: bool,
+) -> Result<Option<Broken>, AllocError>
+    ensures { IfOk result (λ broken. CollectsAll upper space.now.memory broken out.old.items out.new.items) }
+{
+    let first = match collect(out, space, walk(space))? {
+        Ok(first) => first,
+        Err(at) => return Ok(Some(broken_of(space, at))),
+    };
+    if upper && !is_linked(space) {
+        return collect_second(out, space, first);
+    }
+    Ok(None)
+}
+
 /// What a machine's memory shows of the arena.
 pub(crate) fn read_arena(alloc: Global, machine: &Machine) -> Result<Watch, AllocError>
     ensures { IfOk result (λ w. IsWatch machine.now.upper machine.now.memory w) }
@@ -117,16 +136,7 @@ pub(crate) fn read_arena(alloc: Global, machine: &Machine) -> Result<Watch, Allo
     let upper = machine.upper();
     let windows = space.windows();
     let mut headers = Vec::new(alloc);
-    let broken = match collect(&mut headers, space, walk(space))? {
-        Err(at) => Some(broken_of(space, at)),
-        Ok(first) => {
-            if upper && !is_linked(space) {
-                collect_second(&mut headers, space, first)?
-            } else {
-                None
-            }
-        }
-    };
+    let broken = collect_all(&mut headers, space, upper)?;
     Ok(Watch {
         headers,
         broken,
@@ -137,7 +147,7 @@ pub(crate) fn read_arena(alloc: Global, machine: &Machine) -> Result<Watch, Allo
 
 /// Whether memory shows the five bytes of each header as they were read.
 fn are_seen(space: &Space, headers: &[Watched]) -> bool
-    ensures { OnTrue result (All (IsWatched space.now.memory) headers.now) }
+    ensures { MatchBool result (All (IsWatched space.now.memory) headers.now) (All (IsWatched space.now.memory) headers.now → ⊥) }
 {
     for watched in headers {
         if bits_at(space, watched.header.segment) != watched.bits {
@@ -149,7 +159,7 @@ fn are_seen(space: &Space, headers: &[Watched]) -> bool
 
 /// Whether memory shows the five bytes where the list breaks as they were read.
 fn is_broken_in(space: &Space, broken: &Option<Broken>) -> bool
-    ensures { OnTrue result (IsBrokenIn space.now.memory broken.now) }
+    ensures { MatchBool result (IsBrokenIn space.now.memory broken.now) (IsBrokenIn space.now.memory broken.now → ⊥) }
 {
     match broken {
         Some(there) => bits_at(space, there.segment) == there.bits,
@@ -159,7 +169,7 @@ fn is_broken_in(space: &Space, broken: &Option<Broken>) -> bool
 
 /// Whether two windows show the same.
 fn is_same_window(first: Option<Block>, second: Option<Block>) -> bool
-    ensures { OnTrue result (first ≡ second) }
+    ensures { MatchBool result (first ≡ second) (first ≢ second) }
 {
     match (first, second) {
         (None, None) => true,
@@ -170,7 +180,7 @@ fn is_same_window(first: Option<Block>, second: Option<Block>) -> bool
 
 /// Whether four windows show the same as four others.
 fn are_same_windows(first: &[Option<Block>; 4], second: &[Option<Block>; 4]) -> bool
-    ensures { OnTrue result (first.now ≡ second.now) }
+    ensures { MatchBool result (first.now ≡ second.now) (first.now ≢ second.now) }
 {
     is_same_window(first[0], second[0])
         && is_same_window(first[1], second[1])
@@ -179,9 +189,10 @@ fn are_same_windows(first: &[Option<Block>; 4], second: &[Option<Block>; 4]) -> 
 }
 
 impl Watch {
-    /// Whether the windows of a machine and all that was read are as they were. Then its memory shows the same of the arena.
+    /// Whether the windows of a machine and all that was read are as they were. Then its memory shows the same of the
+    /// arena.
     pub(crate) fn is_seen(&self, machine: &Machine) -> bool
-        ensures { OnTrue result (IsSeen machine.now.upper machine.now.memory self.now) }
+        ensures { MatchBool result (IsSeen machine.now.upper machine.now.memory self.now) (IsSeen machine.now.upper machine.now.memory self.now → ⊥) }
     {
         let space = machine.space();
         machine.upper() == self.upper

@@ -1,7 +1,6 @@
 -- What is kept of the state before a step, and what one checked step does.
-use Rattle.std.specs.Prelude.{◌≡◌, ℕ, List, ◌++◌, map, Option, Some, None, IfNone, MatchOption}
+use Rattle.std.specs.Prelude.{◌≡◌, ℕ, List, ◌++◌, Option, Some, None}
 use Rattle.dm_ins.specs.declared.ins.Ins.{Ins}
-use Rattle.dm_space.specs.Memory.{Memory}
 use Rattle.dm_state.specs.declared.stop.Stop.{Stop}
 use Rattle.dm_state.specs.State.{State}
 use Rattle.dm_machine.specs.Step.{Begins, fetched}
@@ -13,7 +12,7 @@ use Rattle.dm_findings.specs.Calls.{call_of}
 use Rattle.dm_findings.specs.Report.{Reported, report_of}
 use Rattle.dm_checker.specs.declared.acts.Before.{Before}
 use Rattle.dm_checker.specs.declared.watch.Watch.{Watch}
-use Rattle.dm_checker.specs.Findings.{Finds, IsAct}
+use Rattle.dm_checker.specs.Findings.{Finds}
 use Rattle.dm_checker.specs.Checks.{FindsAt, FindsAtStop}
 use Rattle.dm_checker.specs.inner.Watching.{IsWatch}
 

@@ -88,3 +88,11 @@ pub record CollectsSecond (m : Memory) (broken : Option Broken) (old new : List 
   pub is : new ≡ old ++ more
   pub shown : (F : List Header) → IsBehind m true F → IsSecond m F broken (map header_of more)
   pub watched : All (IsWatched m) more
+
+-- all that is shown of the arena stands behind what stood there
+pub record CollectsAll (upper : Bool) (m : Memory) (broken : Option Broken) (old new : List Watched) : Type 0 where
+  pub more : List Watched
+  pub is : new ≡ old ++ more
+  pub shown : IsShown upper m (record { headers = map header_of more; broken = broken_at broken })
+  pub watched : All (IsWatched m) more
+  pub there : IsBrokenIn m broken

@@ -1,0 +1,98 @@
+-- Checked runs, as they are made.
+use Rattle.std.proofs.Common.{◌≡◌, ℕ, ◌+◌, ◌<◌, ◌≤◌, List, [], ◌++◌, Option, Some, None, Result, Ok, Err, refl, sym, subst, arith}
+use Rattle.std.specs.Prelude.{OnErr}
+use Rattle.dm_state.specs.declared.stop.Stop.{Stop}
+use Rattle.dm_state.specs.declared.stop.Stop.TheVariants.{Exited, Steps as AllSteps}
+use Rattle.dm_state.specs.State.{State}
+use Rattle.dm_machine.specs.Run.{Answers, IsRun, over, whole, cut}
+use Rattle.dm_machine.specs.Run as run
+use Rattle.dm_machine.proofs.OneRun.{none-made}
+use Rattle.dm_findings.specs.declared.finding.Found.{Found}
+use Rattle.dm_findings.specs.Report.{Reported, report_of}
+use Rattle.dm_checker.specs.declared.watch.Watch.{Watch}
+use Rattle.dm_checker.specs.Checks.{FindsIn, Checks, IsReport, RunsPart}
+use Rattle.dm_checker.specs.Checks as checks
+use Rattle.dm_checker.specs.inner.Steps.{ChecksOne}
+use Rattle.dm_checker.proofs.OneCheck.{finds_goes, checked_run}
+
+-- ---- a run of no step
+
+pub no_step : (s t : State) (stop : Stop) → IsRun s 0 stop t → t ≡ s
+no_step s t stop (over code e f g) = g
+no_step s t stop (whole e f goes) = none-made s t 0 goes refl
+no_step s t stop (cut e w) = (let less = w.fewer in absurd (omega arith))
+
+pub is_running : (s t : State) (stop : Stop) → IsRun s 0 stop t → ((code : ℕ) → stop ≡ Exited code → ⊥) → s.exited ≡ None
+is_running s t stop (over code e f g) other = absurd (other code f)
+is_running s t stop (whole e f goes) other = e
+is_running s t stop (cut e w) other = e
+
+pub was_exited : (s t : State) (code n : ℕ) → IsRun s 0 (Exited code) t → Checks s n (Exited code) t []
+was_exited s t code n (over other e f g) = checks.over other e f g refl
+was_exited s t code n (whole e f goes) = absurd (cc)
+was_exited s t code n (cut e w) = (let less = w.fewer in absurd (omega arith))
+
+-- ---- what is promised of a checked run
+
+pub reports : (s t : State) (n : ℕ) (stop : Stop) (found : List Found) (r : Reported) → Checks s n stop t found → r ≡ report_of found → IsReport s n stop t r
+reports s t n stop found r x e = record { found = found; checks = x; is = e }
+
+pub runs : (s t : State) (n : ℕ) (stop : Stop) (r : Reported) → IsReport s n stop t r → IsRun s n stop t
+runs s t n stop r x = checked_run s t n stop x.found x.checks
+
+-- ---- so many steps were made, and the report has what was found in them
+
+pub record HasChecked (s : State) (n : ℕ) (t : State) (report : Reported) : Type 0 where
+  pub running : s.exited ≡ None
+  pub found : List Found
+  pub finds : FindsIn s n t found
+  pub is : report ≡ report_of found
+
+pub checked_none : (s t : State) (r : Reported) → s.exited ≡ None → t ≡ s → r ≡ report_of [] → HasChecked s 0 t r
+checked_none s t r e same is =
+    let F : State → Type 0 = λ u. FindsIn s 0 u [] in
+    record { running = e; found = []; finds = subst F (sym same) checks.here; is = is }
+
+pub checked_more : (s t u : State) (n : ℕ) (w : Watch) (old new : Reported) → HasChecked s n t old → ChecksOne t None u w old new → HasChecked s (n + 1) u new
+checked_more s t u n w old new h x = record {
+  running = h.running;
+  found = h.found ++ x.found;
+  finds = checks.further n t u h.found x.found h.finds x.answers x.finds;
+  is = x.reports h.found h.is;
+}
+
+pub checked_cut : (s t u : State) (n m : ℕ) (stop : Stop) (w : Watch) (old new : Reported) → HasChecked s n t old → n < m → ChecksOne t (Some stop) u w old new → IsReport s m stop u new
+checked_cut s t u n m stop w old new h less x = record {
+  found = h.found ++ x.found;
+  checks = checks.cut n t h.found x.found h.running less h.finds x.answers x.finds refl;
+  is = x.reports h.found h.is;
+}
+
+pub checked_all : (s t : State) (n m : ℕ) (r : Reported) → HasChecked s n t r → n ≡ m → IsReport s m AllSteps t r
+checked_all s t n m r h e = record {
+  found = h.found;
+  checks = checks.whole h.running refl (let F : ℕ → Type 0 = λ k. FindsIn s k t h.found in subst F e h.finds);
+  is = h.is;
+}
+
+-- ---- where an allocation failed
+
+pub part_made : (s t : State) (n m : ℕ) (r : Reported) → HasChecked s n t r → n ≤ m → RunsPart s m t
+part_made s t n m r h few = record { most = n; stop = AllSteps; few = few; run = run.whole h.running refl (finds_goes s t n h.found h.finds) }
+
+part_by : (s t u : State) (n m : ℕ) (r : Reported) (stop : Option Stop) → HasChecked s n t r → n + 1 ≤ m → Answers t stop u → RunsPart s m u
+part_by s t u n m r None h few a = record { most = n + 1; stop = AllSteps; few = few; run = run.whole h.running refl (run.further n t u (finds_goes s t n h.found h.finds) a) }
+part_by s t u n m r (Some stop) h few a = record {
+  most = n + 1;
+  stop = stop;
+  few = few;
+  run = run.cut h.running (record { made = n; before = t; fewer = omega arith; goes = finds_goes s t n h.found h.finds; answers = a });
+}
+
+pub part_next : (s t u : State) (n m : ℕ) (r : Reported) → HasChecked s n t r → n < m → (stop : Option Stop) × Answers t stop u → RunsPart s m u
+part_next s t u n m r h less x = part_by s t u n m r x.0 h (omega arith) x.1
+
+-- what holds in any case holds at an error
+pub at_err : {T E P : Type 0} (r : Result T E) → P → OnErr r P
+at_err (Ok v) p = tt
+at_err (Err e) p = p

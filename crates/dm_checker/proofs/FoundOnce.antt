@@ -1,0 +1,92 @@
+-- One list of findings is found of a step.
+use Rattle.std.proofs.Common.{◌≡◌, ℕ, ◌≤◌, List, ◌++◌, length, take, drop, Option, Some, None, refl, sym, ◌∙◌, ap, ap₂, arith, inl, inr}
+use Rattle.std.proofs.lemmas.Bool.{cases_lt}
+use Rattle.std.proofs.lemmas.List.{take-append-drop, length-take, take-take}
+use Rattle.dm_space.specs.Memory.{Memory}
+use Rattle.dm_ins.specs.declared.ins.Ins.{Ins}
+use Rattle.dm_decode.proofs.Exact.{no_front}
+use Rattle.dm_cpu.specs.declared.cpu.Cpu.{Cpu}
+use Rattle.dm_cpu.specs.Guest.{up}
+use Rattle.dm_state.specs.declared.stop.Stop.{Stop}
+use Rattle.dm_state.specs.declared.stop.Stop.TheVariants.{Exited, Steps as AllSteps, Halted, Unlisted, InputEnded, Destroyed, Memory as NoMemory}
+use Rattle.dm_state.specs.State.{State}
+use Rattle.dm_machine.specs.Step.{Begins, fetched}
+use Rattle.dm_machine.proofs.OneStop.{some-none}
+use Rattle.dm_findings.specs.declared.calls.Call.{Call}
+use Rattle.dm_findings.specs.declared.finding.Act.{Act}
+use Rattle.dm_findings.specs.declared.finding.Act.TheVariants as act
+use Rattle.dm_findings.specs.declared.finding.Finding.{Finding}
+use Rattle.dm_findings.specs.declared.finding.Found.{Found}
+use Rattle.dm_findings.specs.Calls.{call_of}
+use Rattle.dm_checker.specs.Shown.{Shown}
+use Rattle.dm_checker.specs.Findings.{findings, Finds, IsAct, called, instructed, found_at, IsFound, none, some}
+use Rattle.dm_checker.specs.Checks.{FindsAt, FindsAtEnd, FindsAtStop, left_behind}
+use Rattle.dm_checker.proofs.ShownOnce.{shown_once}
+
+pub finds_once : (s t : State) (a b : List Finding) → Finds s t a → Finds s t b → a ≡ b
+finds_once s t a b x y =
+    let old = shown_once s.upper s.memory x.old y.old x.before y.before in
+    let new = shown_once t.upper t.memory x.new y.new x.after y.after in
+    x.is ∙ ap₂ (λ (o n : Shown). findings s t o n) old new ∙ sym y.is
+
+-- ---- what acts
+
+length-fetched : (m : Memory) (c : Cpu) → length (fetched m c) ≡ 16
+unfolding fetched
+length-fetched m c = refl
+
+record Same (i j : Ins) (k m : ℕ) : Type 0 where
+  instruction : i ≡ j
+  length_is : k ≡ m
+
+same-before : (bytes : List ℕ) (i j : Ins) (k m : ℕ) → length bytes ≡ 16 → k ≤ m → Begins bytes i k → Begins bytes j m → Same i j k m
+same-before bytes i j k m len h b c =
+    let short = b.short in
+    let long = c.short in
+    let front : take m bytes ≡ take k bytes ++ drop k (take m bytes)
+    = sym (take-append-drop k (take m bytes)) ∙ ap (λ (xs : List ℕ). xs ++ drop k (take m bytes)) (take-take k m bytes h) in
+    let same = no_front i j (take k bytes) (take m bytes) (drop k (take m bytes)) b.spells c.spells front in
+    let lengths : length (take k bytes) ≡ length (take m bytes) = ap length same.0 in
+    record { instruction = same.1; length_is = omega (arith, length-take k bytes, length-take m bytes) }
+
+same-begins : (bytes : List ℕ) (i j : Ins) (k m : ℕ) → length bytes ≡ 16 → Begins bytes i k → Begins bytes j m → Same i j k m
+same-begins bytes i j k m len b c = elim (cases_lt k m) [
+  | inl low ↦ same-before bytes i j k m len (omega arith) b c
+  | inr high ↦ let s = same-before bytes j i m k len high c b in record { instruction = sym s.instruction; length_is = sym s.length_is }
+]
+
+some-same : {A : Type 0} (o : Option A) (a b : A) → o ≡ Some a → o ≡ Some b → a ≡ b
+some-same o a b e f = cc
+
+pub act_once : (s : State) (a b : Act) → IsAct s a → IsAct s b → a ≡ b
+act_once s a b (called c e f) (called d g h) = f ∙ ap (λ (x : Call). act.Call x) (some-same (call_of s.cpu) c d e g) ∙ sym h
+act_once s a b (called c e f) (instructed i k g x h) = absurd (some-none (call_of s.cpu) c e g)
+act_once s a b (instructed i k g x h) (called c e f) = absurd (some-none (call_of s.cpu) c e g)
+act_once s a b (instructed i k e x f) (instructed j m g y h) =
+    let same = same-begins (fetched s.memory s.cpu) i j k m (length-fetched s.memory s.cpu) x y in
+    f ∙ ap₂ (λ (l : Ins) (n : ℕ). act.Instruction l (up s.cpu.ip n)) same.instruction same.length_is ∙ sym h
+
+found_once : (s t : State) (fs gs : List Finding) (a b : List Found) → fs ≡ gs → IsFound s t fs a → IsFound s t gs b → a ≡ b
+found_once s t fs gs a b same (none e f) (none g h) = f ∙ sym h
+found_once s t fs gs a b same (none e f) (some w x g) = f ∙ sym (g ∙ ap (λ (l : List Finding). found_at s t w l) (sym same ∙ e))
+found_once s t fs gs a b same (some w x g) (none e f) = g ∙ ap (λ (l : List Finding). found_at s t w l) (same ∙ e) ∙ sym f
+found_once s t fs gs a b same (some v x g) (some w y h) = g ∙ ap₂ (λ (z : Act) (l : List Finding). found_at s t z l) (act_once s v w x y) same ∙ sym h
+
+-- ---- a step, and the end of a run
+
+pub step_once : (s t : State) (a b : List Found) → FindsAt s t a → FindsAt s t b → a ≡ b
+step_once s t a b x y = found_once s t x.findings y.findings a b (finds_once s t x.findings y.findings x.finds y.finds) x.told y.told
+
+end_once : (s t : State) (a b : List Found) → FindsAtEnd s t a → FindsAtEnd s t b → a ≡ b
+end_once s t a b x y =
+    let same = ap (λ (l : List Finding). l ++ left_behind s t) (finds_once s t x.findings y.findings x.finds y.finds) in
+    found_once s t (x.findings ++ left_behind s t) (y.findings ++ left_behind s t) a b same x.told y.told
+
+pub stop_once : (s : State) (stop : Stop) (t : State) (a b : List Found) → FindsAtStop s stop t a → FindsAtStop s stop t b → a ≡ b
+stop_once s (Exited code) t a b x y = end_once s t a b x y
+stop_once s AllSteps t a b x y = x ∙ sym y
+stop_once s Halted t a b x y = x ∙ sym y
+stop_once s Unlisted t a b x y = x ∙ sym y
+stop_once s InputEnded t a b x y = x ∙ sym y
+stop_once s Destroyed t a b x y = x ∙ sym y
+stop_once s NoMemory t a b x y = x ∙ sym y

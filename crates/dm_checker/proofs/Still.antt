@@ -1,0 +1,37 @@
+-- A step after which memory still shows what was kept: its headers are as they were, and calls alone are found.
+use Rattle.std.proofs.Common.{◌≡◌, ℕ, Bool, true, false, List, [], ◌++◌, map, Option, Some, None, refl, ◌∙◌, ap, ap₂}
+use Rattle.std.specs.Prelude.{if◌then◌else◌}
+use Rattle.std.specs.List.{flat_map}
+use Rattle.dm_blocks.specs.declared.header.Header.{Header}
+use Rattle.dm_state.specs.State.{State}
+use Rattle.dm_findings.specs.declared.finding.Finding.{Finding}
+use Rattle.dm_findings.specs.Calls.{call_of}
+use Rattle.dm_checker.specs.declared.watch.Watch.{Watch}
+use Rattle.dm_checker.specs.Shown.{Shown}
+use Rattle.dm_checker.specs.Headers.{overwritten, mapped_away}
+use Rattle.dm_checker.specs.Calls.{arranges, freed_twice, refused}
+use Rattle.dm_checker.specs.Findings.{turned, all_overwritten, findings}
+use Rattle.dm_checker.specs.inner.Watching.{header_of, broken_at, IsWatch, IsSeen}
+use Rattle.dm_checker.proofs.Seen.{seen_overwritten, seen_mapped_away}
+
+-- what a watch has of the arena
+abbrev pub shown_of : Watch → Shown
+shown_of w = record { headers = map header_of w.headers.items; broken = broken_at w.broken }
+
+pub seen_turned : (o : Option ℕ) → turned o o ≡ []
+seen_turned None = refl
+seen_turned (Some at) = refl
+
+none_either_way : (may : Bool) (fs : List Finding) → fs ≡ [] → (if may then [] else fs) ≡ []
+none_either_way true fs e = refl
+none_either_way false fs e = e
+
+four_none : (a b c d e : List Finding) → a ≡ [] → b ≡ [] → c ≡ [] → a ++ b ++ c ++ d ++ e ≡ d ++ e
+four_none a b c d e p q r = rw (p, q, r) refl
+
+-- of a step after which memory shows the same headers, only what a call did is found
+pub seen_findings : (s t : State) (w : Watch) → IsWatch s.upper s.memory w → IsSeen t.upper t.memory w → findings s t (shown_of w) (shown_of w) ≡ freed_twice s.cpu t.cpu (call_of s.cpu) (map header_of w.headers.items) ++ refused s.cpu t.cpu (call_of s.cpu)
+seen_findings s t w x y = four_none _ _ _ _ _
+    (none_either_way (arranges s.cpu (call_of s.cpu)) _ (seen_overwritten s.upper t.upper s.memory t.memory w x y))
+    (seen_mapped_away s.upper t.upper s.memory t.memory w x y)
+    (seen_turned (broken_at w.broken))
