@@ -38,7 +38,9 @@ pub(crate) fn arranges(cpu: &Cpu, call: Option<Call>) -> bool
 {
     match call {
         Some(Call::DivideError) | Some(Call::Terminate) => true,
-        Some(Call::Dos(number)) => is_arena(number) || is_ending(number) || is_starting(cpu, number),
+        Some(Call::Dos(number)) => is_arena(number)
+            || is_ending(number)
+            || is_starting(cpu, number),
         _ => false,
     }
 }

@@ -15,7 +15,9 @@ use std::alloc::AllocError;
 
 /// The paragraphs of the frame, and those of a page.
 const FRAME: u16 = 0xE000;
+
 const FRAME_END: u16 = 0xEFFF;
+
 const PAGE: usize = 0x400;
 
 /// The contents of a header by its five bytes.
@@ -84,9 +86,7 @@ fn kept_of(space: &Space, windows: &[Option<Block>; 4], segment: u16) -> Option<
 fn is_same(first: Contents, second: Contents) -> bool
     ensures { result ≡ same_contents first second }
 {
-    first.signature == second.signature
-        && first.owner == second.owner
-        && first.size == second.size
+    first.signature == second.signature && first.owner == second.owner && first.size == second.size
 }
 
 /// Puts that a header was overwritten, if it was.

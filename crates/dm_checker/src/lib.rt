@@ -13,4 +13,4 @@ mod steps;
 mod watch;
 
 pub use checks::check;
-pub use laws::{a_checked_run_is_a_run, a_check_has_one_report};
+pub use laws::{a_check_has_one_report, a_checked_run_is_a_run};

@@ -125,11 +125,23 @@ pub fn dm_main<S: AsStr, F: Storage, I: Read + Drop, W: Out, E: Out>(
     error: &mut E,
 ) -> u8
     ensures { Does
-        (record { files = F.contents storage.old; typed = I.remaining input; output = W.taken out.old; saved = F.saved storage.old; failed_saves = F.failures storage.old;
-            messages = record { bytes = E.taken error.old; failures = E.failures error.old } })
+        (record {
+          files = F.contents storage.old;
+          typed = I.remaining input;
+          output = W.taken out.old;
+          saved = F.saved storage.old;
+          failed_saves = F.failures storage.old;
+          messages = record { bytes = E.taken error.old; failures = E.failures error.old };
+        })
         (map S.text words.now)
-        (record { output = W.taken out.new; failures = W.failures out.new; saved = F.saved storage.new; failed_saves = F.failures storage.new;
-            messages = record { bytes = E.taken error.new; failures = E.failures error.new }; status = result }) }
+        (record {
+          output = W.taken out.new;
+          failures = W.failures out.new;
+          saved = F.saved storage.new;
+          failed_saves = F.failures storage.new;
+          messages = record { bytes = E.taken error.new; failures = E.failures error.new };
+          status = result;
+        }) }
 {
     match options(alloc, words) {
         Ok(Options::Run(options)) => report(run(alloc, storage, &options, input, out), error),

@@ -132,7 +132,9 @@ fn check_command<'a>(alloc: Global) -> Result<Command<'a>, AllocError>
     ensures local { IfOk result (λ c. (fields_of c).has_globals ≡ false) }
 {
     let command = Command::new(alloc, "check")
-        .about("Run a program and report its errors in the use of memory: overwritten block headers, double frees, leaks")
+        .about(
+            "Run a program and report its errors in the use of memory: overwritten block headers, double frees, leaks",
+        )
         .after_help("Example: dm check PROGRAM.COM <input.txt");
     with_machine_args(alloc, command)
 }

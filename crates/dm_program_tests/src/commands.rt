@@ -188,14 +188,7 @@ fn tells(
     let words = words.as_slice();
     let mut sink = Sink::new(&mut output);
     let mut messages = Sink::new(&mut error);
-    let got = dm_main(
-        alloc,
-        &mut files,
-        words,
-        input,
-        &mut sink,
-        &mut messages,
-    );
+    let got = dm_main(alloc, &mut files, words, input, &mut sink, &mut messages);
     same_of(rt, line, "told", error.as_slice(), told.as_bytes());
     same_of(rt, line, "output", output.as_slice(), put_out);
     same_of(rt, line, "saved", files.saved.as_slice(), saved);
