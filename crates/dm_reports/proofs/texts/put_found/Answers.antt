@@ -1,8 +1,8 @@
 use Rattle.std.specs.Prelude.{codes, decimal}
-use Rattle.dm_views.specs.Digits.{two, four, address_text}
-use Rattle.dm_reports.specs.Texts.{kind_text, lock_text, act_text, finding_text, found_line}
+use Rattle.dm_views.specs.Digits.{address_text}
+use Rattle.dm_reports.specs.Texts.{kind_text, act_text, finding_text, found_line}
 use Rattle.dm_findings.specs.Findings.{is_error}
-use Rattle.std.proofs.Common.{◌≡◌, ◌++◌, ◌∷◌, [], ℕ, List}
+use Rattle.std.proofs.Common.{◌∷◌, []}
 use Rattle.dm_reports.proofs.Puts.{behind, ends_with}
 use Rattle.dm_reports.proofs.texts.put_found.Goals as goal
 
