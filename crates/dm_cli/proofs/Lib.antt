@@ -5,3 +5,4 @@ pub mod Conversations
 pub mod Told
 pub mod Begins
 pub mod Ends
+pub mod Checked

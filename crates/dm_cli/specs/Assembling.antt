@@ -49,8 +49,8 @@ pub data IsDisasmFault (known : Option (List ℕ)) (path : List ℕ) : Fault →
   bytes_no_memory : IsDisasmFault known path OutOfMemory
 
 -- `dm disasm`: the lines of the bytes; or a first part of them, where a write failed; or nothing
-pub data Disassembles (files : List ℕ → Option (List ℕ)) (path : List ℕ) (before after : Option (List ℕ)) (failures : ℕ) : Option Fault → Type 0 where
-  listed : (text : List ℕ) → IsDisassembled (files path) text → Appends before after text → Disassembles files path before after failures None
-  partly_listed : (text : List ℕ) (fault : Fault) → IsDisassembled (files path) text → AppendsPart before after text → 0 < failures → IsWriteFault fault
-      → Disassembles files path before after failures (Some fault)
-  not_listed : (fault : Fault) → IsDisasmFault (files path) path fault → Keeps before after → Disassembles files path before after failures (Some fault)
+pub data Disassembles (files : List ℕ → Option (List ℕ)) (path : List ℕ) (before after : Option (List ℕ)) (failed_before failed_after : ℕ) : Option Fault → Type 0 where
+  listed : (text : List ℕ) → IsDisassembled (files path) text → Appends before after text → Disassembles files path before after failed_before failed_after None
+  partly_listed : (text : List ℕ) (fault : Fault) → IsDisassembled (files path) text → AppendsPart before after text → HasFailed failed_before failed_after → IsWriteFault fault
+      → Disassembles files path before after failed_before failed_after (Some fault)
+  not_listed : (fault : Fault) → IsDisasmFault (files path) path fault → Keeps before after → Disassembles files path before after failed_before failed_after (Some fault)

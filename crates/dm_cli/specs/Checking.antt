@@ -2,9 +2,10 @@
 use Rattle.std.specs.Prelude.{ℕ, ◌≡◌, ◌<◌, ◌++◌, nat_lt, if◌then◌else◌, List, Option, Some, Result, Ok, Err, codes}
 use Rattle.std.specs.Io.KnownBytes.{Appends, Keeps}
 use Rattle.dm_options.specs.declared.command_line.MachineOptions.{MachineOptions}
-use Rattle.dm_out.specs.Out.{AppendsPart}
+use Rattle.dm_out.specs.Out.{AppendsPart, HasFailed}
 use Rattle.dm_state.specs.declared.stop.Stop.{Stop}
 use Rattle.dm_state.specs.State.{State}
+use Rattle.dm_machine.specs.Run.{IsRun}
 use Rattle.dm_findings.specs.Report.{Reported}
 use Rattle.dm_reports.specs.Reports.{report_text}
 use Rattle.dm_checker.specs.Checks.{IsReport}
@@ -19,18 +20,19 @@ use Rattle.dm_cli.specs.Statuses.{stop_status}
 abbrev pub checked_status : Reported → Stop → ℕ
 checked_status report stop = if nat_lt 0 report.errors then 124 else stop_status stop
 
--- `dm check`: the status of the run, after its whole output was written to standard output, and the report with the line
--- about the stop to standard error; or a fault. If a write of the output failed, a first part of it was written; after any
--- other fault nothing was
-pub data Checks (files : List ℕ → Option (List ℕ)) (typed : Option (List ℕ)) (o : MachineOptions) (before after : Option (List ℕ)) (failures : ℕ) (error_before error_after : Stream) : Result ℕ Fault → Type 0 where
-  checked : (m t : State) (stop : Stop) (report : Reported) (status : ℕ) → IsStartedBy files typed o m → IsReport m o.steps stop t report
+-- `dm check`: the machine runs as for `dm run`; the status of that run, after its whole output was written to standard
+-- output, and its report with the line about the stop to standard error; or a fault. If a write of the output failed, a
+-- first part of it was written; after any other fault nothing was
+pub data Checks (files : List ℕ → Option (List ℕ)) (typed : Option (List ℕ)) (o : MachineOptions) (before after : Option (List ℕ)) (failed_before failed_after : ℕ) (error_before error_after : Stream) : Result ℕ Fault → Type 0 where
+  checked : (m t : State) (stop : Stop) (report : Reported) (status : ℕ) → IsStartedBy files typed o m → IsRun m o.steps stop t → IsReport m o.steps stop t report
       → Appends before after t.console.output → Prints (report_text report ++ stop_text stop) error_before error_after → status ≡ checked_status report stop
-      → Checks files typed o before after failures error_before error_after (Ok status)
-  partly_written : (m t : State) (stop : Stop) (report : Reported) (fault : Fault) → IsStartedBy files typed o m → IsReport m o.steps stop t report
-      → AppendsPart before after t.console.output → 0 < failures → IsWriteFault fault → Checks files typed o before after failures error_before error_after (Err fault)
-  no_memory : Keeps before after → Checks files typed o before after failures error_before error_after (Err OutOfMemory)
+      → Checks files typed o before after failed_before failed_after error_before error_after (Ok status)
+  partly_written : (m t : State) (stop : Stop) (report : Reported) (fault : Fault) → IsStartedBy files typed o m → IsRun m o.steps stop t → IsReport m o.steps stop t report
+      → AppendsPart before after t.console.output → HasFailed failed_before failed_after → IsWriteFault fault
+      → Checks files typed o before after failed_before failed_after error_before error_after (Err fault)
+  no_memory : Keeps before after → Checks files typed o before after failed_before failed_after error_before error_after (Err OutOfMemory)
   not_started : (fault : Fault) → IsStartFault files typed (Some (codes "standard input")) o fault → Keeps before after
-      → Checks files typed o before after failures error_before error_after (Err fault)
+      → Checks files typed o before after failed_before failed_after error_before error_after (Err fault)
 
 -- the status of the command, or 126 at a fault
 abbrev pub check_status : Result ℕ Fault → ℕ

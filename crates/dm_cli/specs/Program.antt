@@ -10,7 +10,7 @@ use Rattle.dm_options.specs.declared.command_line.DebugOptions.{DebugOptions}
 use Rattle.dm_options.specs.declared.command_line.MachineOptions.{MachineOptions}
 use Rattle.dm_options.specs.declared.command_line.Options.{Options}
 use Rattle.dm_options.specs.declared.command_line.Options.TheVariants as command
-use Rattle.dm_out.specs.Out.{AppendsPart}
+use Rattle.dm_out.specs.Out.{AppendsPart, HasFailed}
 use Rattle.dm_state.specs.declared.stop.Stop.{Stop}
 use Rattle.dm_state.specs.State.{State}
 use Rattle.dm_machine.specs.Run.{IsRun}
@@ -27,21 +27,24 @@ use Rattle.dm_cli.specs.Statuses.{status_of, status_after}
 
 -- `dm run`: the whole output of the run, behind what was written before; or a first part of it, where a write failed;
 -- or nothing
-pub data Runs (files : List ℕ → Option (List ℕ)) (typed : Option (List ℕ)) (o : MachineOptions) (before after : Option (List ℕ)) (failures : ℕ) : Result Stop Fault → Type 0 where
+pub data Runs (files : List ℕ → Option (List ℕ)) (typed : Option (List ℕ)) (o : MachineOptions) (before after : Option (List ℕ)) (failed_before failed_after : ℕ) : Result Stop Fault → Type 0 where
   ran : (m t : State) (stop : Stop) → IsStartedBy files typed o m → IsRun m o.steps stop t → Appends before after t.console.output
-      → Runs files typed o before after failures (Ok stop)
+      → Runs files typed o before after failed_before failed_after (Ok stop)
   partly_written : (m t : State) (stop : Stop) (fault : Fault) → IsStartedBy files typed o m → IsRun m o.steps stop t → AppendsPart before after t.console.output
-      → 0 < failures → IsWriteFault fault → Runs files typed o before after failures (Err fault)
-  not_started : (fault : Fault) → IsStartFault files typed (Some (codes "standard input")) o fault → Keeps before after → Runs files typed o before after failures (Err fault)
+      → HasFailed failed_before failed_after → IsWriteFault fault → Runs files typed o before after failed_before failed_after (Err fault)
+  not_started : (fault : Fault) → IsStartFault files typed (Some (codes "standard input")) o fault → Keeps before after
+      → Runs files typed o before after failed_before failed_after (Err fault)
 
 -- ---- the program
 
 -- the bytes of files by their paths and of standard input, what stands on standard output before, and which files were
--- written before, each where it is known; and how many files could not be written before
+-- written before, each where it is known; and how many writes and flushes of standard output and how many saves of files
+-- have failed before
 pub record Given : Type 0 where
   pub files : List ℕ → Option (List ℕ)
   pub typed : Option (List ℕ)
   pub output : Option (List ℕ)
+  pub failures : ℕ
   pub saved : Option (List (List ℕ × List ℕ))
   pub failed_saves : ℕ
   -- standard error
@@ -67,15 +70,15 @@ pub record Asks (words : List Text) (o : Options) : Type 0 where
 pub data Does (g : Given) (words : List Text) (l : Left) : Type 0 where
   usage : fault_of dm_app words ≢ [] → Keeps g.output l.output → l.saved ≡ g.saved → l.status ≡ 2 → Does g words l
   no_memory : Keeps g.output l.output → l.saved ≡ g.saved → l.status ≡ 126 → Does g words l
-  runs : (o : MachineOptions) (outcome : Result Stop Fault) → Asks words (command.Run o) → Runs g.files g.typed o g.output l.output l.failures outcome
+  runs : (o : MachineOptions) (outcome : Result Stop Fault) → Asks words (command.Run o) → Runs g.files g.typed o g.output l.output g.failures l.failures outcome
       → IfOk outcome (λ stop. Prints (stop_text stop) g.messages l.messages) → l.saved ≡ g.saved → l.status ≡ status_of outcome → Does g words l
-  checks : (o : MachineOptions) (outcome : Result ℕ Fault) → Asks words (command.Check o) → Checks g.files g.typed o g.output l.output l.failures g.messages l.messages outcome
+  checks : (o : MachineOptions) (outcome : Result ℕ Fault) → Asks words (command.Check o) → Checks g.files g.typed o g.output l.output g.failures l.failures g.messages l.messages outcome
       → l.saved ≡ g.saved → l.status ≡ check_status outcome → Does g words l
   debugs : (o : DebugOptions) (end : Option Fault) → Asks words (command.Debug o) → Debugs g.files g.typed o g.output l.output l.failures end
       → l.saved ≡ g.saved → l.status ≡ status_after end → Does g words l
   assembles : (o : AsmOptions) (end : Option Fault) → Asks words (command.Asm o) → Assembles g.files o g.saved l.saved g.failed_saves l.failed_saves end
       → Keeps g.output l.output → l.status ≡ status_after end → Does g words l
-  disassembles : (path : Bor (List ℕ)) (end : Option Fault) → Asks words (command.Disasm path) → Disassembles g.files path.now g.output l.output l.failures end
+  disassembles : (path : Bor (List ℕ)) (end : Option Fault) → Asks words (command.Disasm path) → Disassembles g.files path.now g.output l.output g.failures l.failures end
       → l.saved ≡ g.saved → l.status ≡ status_after end → Does g words l
 
 -- the exit status of the program over files and streams of which nothing is known

@@ -69,7 +69,8 @@ pub(crate) fn disasm<'a, F: Storage, W: Out>(
     path: &'a str,
     out: &mut W,
 ) -> Result<(), Fault<'a>>
-    ensures { Disassembles (F.contents storage.now) path.now (W.taken out.old) (W.taken out.new) (W.failures out.new) (end_of result) }
+    ensures { Disassembles (F.contents storage.now) path.now (W.taken out.old) (W.taken out.new)
+        (W.failures out.old) (W.failures out.new) (end_of result) }
 {
     let text = disassembled(alloc, storage, path)?;
     match write_all(out, text.as_slice()) {

@@ -49,7 +49,7 @@ pub(crate) fn check<'a, F: Storage, I: Read + Drop, W: Out, E: Out>(
     out: &mut W,
     error: &mut E,
 ) -> Result<u8, Fault<'a>>
-    ensures { Checks (F.contents storage.now) (I.remaining input) options.now (W.taken out.old) (W.taken out.new) (W.failures out.new)
+    ensures { Checks (F.contents storage.now) (I.remaining input) options.now (W.taken out.old) (W.taken out.new) (W.failures out.old) (W.failures out.new)
         (record { bytes = E.taken error.old; failures = E.failures error.old }) (record { bytes = E.taken error.new; failures = E.failures error.new }) result }
 {
     let mut machine = loaded(alloc, storage, options, input)?;
@@ -57,12 +57,14 @@ pub(crate) fn check<'a, F: Storage, I: Read + Drop, W: Out, E: Out>(
         return Err(Fault::OutOfMemory);
     };
     let mut text = Vec::new(alloc);
-    if let Err(_) = put_lines(&mut text, &report, stop) {
+    let Ok(()) = put_lines(&mut text, &report, stop) else {
         return Err(Fault::OutOfMemory);
+    };
+    match write_all(out, machine.output()) {
+        Ok(()) => {
+            print(error, text.as_slice());
+            Ok(checked_status(&report, stop))
+        }
+        Err(_) => Err(Fault::CannotWrite("standard output")),
     }
-    if let Err(_) = write_all(out, machine.output()) {
-        return Err(Fault::CannotWrite("standard output"));
-    }
-    print(error, text.as_slice());
-    Ok(checked_status(&report, stop))
 }

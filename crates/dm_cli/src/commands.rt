@@ -1,5 +1,6 @@
 //! The commands of `dm`, with their fault texts and statuses.
-ghost use Rattle.std.specs.Prelude.{◌≡◌, ◌⊎◌, IfOk, map};
+ghost use Rattle.std.specs.Prelude.{◌≡◌, ◌⊎◌, IfOk, OnOk, map};
+ghost use Rattle.dm_cli.specs.Checking.{check_status};
 ghost use Rattle.dm_cli.specs.Messages.{Prints, stop_text};
 ghost use Rattle.dm_cli.specs.Program.{Does, Runs};
 ghost use Rattle.dm_cli.specs.Statuses.{status_after, status_of, stop_status};
@@ -37,7 +38,7 @@ fn run<'a, F: Storage, I: Read + Drop, W: Out>(
     input: I,
     out: &mut W,
 ) -> Result<Stop, Fault<'a>>
-    ensures { Runs (F.contents storage.now) (I.remaining input) options.now (W.taken out.old) (W.taken out.new) (W.failures out.new) result }
+    ensures { Runs (F.contents storage.now) (I.remaining input) options.now (W.taken out.old) (W.taken out.new) (W.failures out.old) (W.failures out.new) result }
 {
     let mut machine = loaded(alloc, storage, options, input)?;
     match run_program(&mut machine, options.steps, out) {
@@ -76,6 +77,18 @@ fn report<E: Out>(outcome: Result<Stop, Fault<'_>>, error: &mut E) -> u8
             print(error, stop_line(stop));
             status_of_stop(stop)
         }
+        Err(fault) => report_fault(&fault, error),
+    }
+}
+
+/// Reports the fault of a checked run, if there is one, and returns the status. If the fault cannot be written, the
+/// status is the same.
+fn concluded<E: Out>(outcome: Result<u8, Fault<'_>>, error: &mut E) -> u8
+    ensures status { result ≡ check_status outcome.entry }
+    ensures ok { OnOk outcome.entry (error.new ≡ error.old) }
+{
+    match outcome {
+        Ok(status) => status,
         Err(fault) => report_fault(&fault, error),
     }
 }
@@ -129,6 +142,7 @@ pub fn dm_main<S: AsStr, F: Storage, I: Read + Drop, W: Out, E: Out>(
           files = F.contents storage.old;
           typed = I.remaining input;
           output = W.taken out.old;
+          failures = W.failures out.old;
           saved = F.saved storage.old;
           failed_saves = F.failures storage.old;
           messages = record { bytes = E.taken error.old; failures = E.failures error.old };
@@ -146,10 +160,7 @@ pub fn dm_main<S: AsStr, F: Storage, I: Read + Drop, W: Out, E: Out>(
     match options(alloc, words) {
         Ok(Options::Run(options)) => report(run(alloc, storage, &options, input, out), error),
         Ok(Options::Check(options)) => {
-            match check(alloc, storage, &options, input, out, error) {
-                Ok(status) => status,
-                Err(fault) => report_fault(&fault, error),
-            }
+            concluded(check(alloc, storage, &options, input, out, error), error)
         }
         Ok(Options::Debug(options)) => told(debug(alloc, storage, &options, input, out), error),
         Ok(Options::Asm(options)) => told(asm(alloc, storage, &options), error),

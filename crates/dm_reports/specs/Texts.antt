@@ -1,5 +1,5 @@
 -- The text of a finding. The form is this machine's own.
-use Rattle.std.specs.Prelude.{ℕ, Bool, true, false, if◌then◌else◌, List, [], ◌∷◌, ◌++◌, codes, decimal}
+use Rattle.std.specs.Prelude.{ℕ, Bool, if◌then◌else◌, List, [], ◌∷◌, ◌++◌, codes, decimal}
 use Rattle.dm_text.specs.Texts.{text_of}
 use Rattle.dm_views.specs.Digits.{two, four, address_text}
 use Rattle.dm_findings.specs.declared.finding.Contents.{Contents}

@@ -100,7 +100,7 @@ fn extended_name(number: u8) -> &'static [u8]
 
 /// Puts the number of a function in hexadecimal, and its name.
 fn put_function(out: &mut Vec<u8>, number: u8, name: &[u8]) -> Result<(), AllocError>
-    ensures { OnOk result (out.new.items ≡ out.old.items ++ two number ++ codes "h" ++ name.now) }
+    ensures { OnOk result (out.new.items ≡ out.old.items ++ (two number ++ codes "h" ++ name.now)) }
 {
     out.extend_from_slice(&byte_digits(number))?;
     out.extend_from_slice(b"h")?;

@@ -1,8 +1,9 @@
 //! The texts of findings.
 
 ghost use Rattle.std.specs.Prelude.{◌≡◌, ◌++◌, OnOk, codes, decimal};
+ghost use Rattle.dm_findings.specs.Findings.{is_error};
 ghost use Rattle.dm_text.specs.Texts.{text_of};
-ghost use Rattle.dm_views.specs.Digits.{four};
+ghost use Rattle.dm_views.specs.Digits.{two, four};
 ghost use Rattle.dm_reports.specs.Texts.{act_text, contents_text, finding_text, found_line, kind_text, lock_text};
 
 use crate::names::put_call;
@@ -28,7 +29,7 @@ fn put_segment(
     segment: u16,
     after: &[u8],
 ) -> Result<(), AllocError>
-    ensures { OnOk result (out.new.items ≡ out.old.items ++ before.now ++ four segment ++ after.now) }
+    ensures { OnOk result (out.new.items ≡ out.old.items ++ (before.now ++ four segment ++ after.now)) }
 {
     out.extend_from_slice(before)?;
     out.extend_from_slice(&word_digits(segment))?;
@@ -37,7 +38,7 @@ fn put_segment(
 
 /// Puts a number between two texts, in decimal.
 fn put_count(out: &mut Vec<u8>, before: &[u8], n: u16, after: &[u8]) -> Result<(), AllocError>
-    ensures { OnOk result (out.new.items ≡ out.old.items ++ before.now ++ decimal n ++ after.now) }
+    ensures { OnOk result (out.new.items ≡ out.old.items ++ (before.now ++ decimal n ++ after.now)) }
 {
     out.extend_from_slice(before)?;
     put_number(out, n as u64)?;
@@ -59,7 +60,8 @@ fn put_overwritten(
     old: Contents,
     new: Contents,
 ) -> Result<(), AllocError>
-    ensures { OnOk result (out.new.items ≡ out.old.items ++ codes "header at " ++ four at ++ codes " overwritten: " ++ contents_text old ++ codes " became " ++ contents_text new) }
+    ensures { OnOk result (out.new.items ≡ out.old.items
+        ++ (codes "header at " ++ four at ++ codes " overwritten: " ++ contents_text old ++ codes " became " ++ contents_text new)) }
 {
     put_segment(out, b"header at ", at, b" overwritten: ")?;
     put_contents(out, old)?;
@@ -68,7 +70,8 @@ fn put_overwritten(
 }
 
 fn put_short(out: &mut Vec<u8>, asked: u16, largest: u16) -> Result<(), AllocError>
-    ensures { OnOk result (out.new.items ≡ out.old.items ++ codes "refused with code 08h: " ++ four asked ++ codes "h paragraphs wanted, the largest block has " ++ four largest ++ codes "h") }
+    ensures { OnOk result (out.new.items ≡ out.old.items
+        ++ (codes "refused with code 08h: " ++ four asked ++ codes "h paragraphs wanted, the largest block has " ++ four largest ++ codes "h")) }
 {
     put_segment(
         out,
@@ -76,30 +79,38 @@ fn put_short(out: &mut Vec<u8>, asked: u16, largest: u16) -> Result<(), AllocErr
         asked,
         b"h paragraphs wanted, the largest block has ",
     )?;
-    put_segment(out, b"", largest, b"h")
+    out.extend_from_slice(&word_digits(largest))?;
+    out.extend_from_slice(b"h")
 }
 
 fn put_refused(out: &mut Vec<u8>, code: u8) -> Result<(), AllocError>
-    ensures { OnOk result (out.new.items ≡ out.old.items ++ finding_text (Finding.Refused code)) }
+    ensures { OnOk result (out.new.items ≡ out.old.items ++ (codes "refused with code " ++ two code ++ codes "h")) }
 {
     out.extend_from_slice(b"refused with code ")?;
     out.extend_from_slice(&byte_digits(code))?;
     out.extend_from_slice(b"h")
 }
 
+/// What is put behind a block that is locked.
+fn lock_of(locked: bool) -> &'static [u8]
+    ensures { result.now ≡ lock_text locked }
+{
+    if locked { b", locked" } else { b"" }
+}
+
 fn put_block_kept(out: &mut Vec<u8>, handle: u16, kib: u16, locked: bool) -> Result<(), AllocError>
-    ensures { OnOk result (out.new.items ≡ out.old.items ++ finding_text (Finding.BlockKept handle kib locked)) }
+    ensures { OnOk result (out.new.items ≡ out.old.items
+        ++ (codes "XMS handle " ++ decimal handle ++ codes ": " ++ decimal kib ++ codes " KiB not freed" ++ lock_text locked)) }
 {
     put_count(out, b"XMS handle ", handle, b": ")?;
-    put_count(out, b"", kib, b" KiB not freed")?;
-    if locked {
-        return out.extend_from_slice(b", locked");
-    }
-    Ok(())
+    put_number(out, kib as u64)?;
+    out.extend_from_slice(b" KiB not freed")?;
+    out.extend_from_slice(lock_of(locked))
 }
 
 fn put_pages_kept(out: &mut Vec<u8>, handle: u16, pages: u16) -> Result<(), AllocError>
-    ensures { OnOk result (out.new.items ≡ out.old.items ++ finding_text (Finding.PagesKept handle pages)) }
+    ensures { OnOk result (out.new.items ≡ out.old.items
+        ++ (codes "EMS handle " ++ decimal handle ++ codes ": " ++ decimal pages ++ codes " pages not freed")) }
 {
     put_count(out, b"EMS handle ", handle, b": ")?;
     put_count(out, b"", pages, b" pages not freed")
@@ -148,7 +159,7 @@ fn put_act(out: &mut Vec<u8>, act: &Act) -> Result<(), AllocError>
 
 /// Whether a finding is an error or a note.
 fn kind_of(finding: &Finding) -> &'static [u8]
-    ensures { result.now ≡ kind_text (Rattle.dm_findings.specs.Findings.is_error finding.now) }
+    ensures { result.now ≡ kind_text (is_error finding.now) }
 {
     if finding.is_error() {
         b"error"

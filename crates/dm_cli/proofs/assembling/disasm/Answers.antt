@@ -2,7 +2,6 @@ use Rattle.std.proofs.Common.{refl}
 use Rattle.std.proofs.KnownBytes.{Keeps-refl}
 use Rattle.std.proofs.lemmas.Result.{err_from_is_err_and}
 use Rattle.dm_cli.specs.Assembling.{listed, partly_listed, not_listed}
-use Rattle.dm_cli.proofs.Told.{ever_failed}
 use Rattle.dm_cli.proofs.assembling.disasm.Goals as goal
 
 pub returns-in_err-text : goal.returns-in_err-text
@@ -14,4 +13,4 @@ pub returns-in-Ok : goal.returns-in-Ok
 returns-in-Ok g c = listed _ c.in_ok-text.ensures.lines (rw c.as_slice.ensures.value at c.in-Ok.ensures.ok)
 
 pub returns : goal.returns
-returns g c = partly_listed _ _ c.in_ok-text.ensures.lines (rw c.as_slice.ensures.value at c.in-Err.ensures.part) (ever_failed _ _ c.in-Err.ensures.err) refl
+returns g c = partly_listed _ _ c.in_ok-text.ensures.lines (rw c.as_slice.ensures.value at c.in-Err.ensures.part) c.in-Err.ensures.err refl

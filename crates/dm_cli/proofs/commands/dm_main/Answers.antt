@@ -1,11 +1,18 @@
 use Rattle.std.proofs.Common.{refl}
 use Rattle.std.proofs.KnownBytes.{Keeps-refl}
-use Rattle.dm_cli.specs.Program.{runs, debugs, assembles, disassembles}
+use Rattle.dm_cli.specs.Program.{runs, checks, debugs, assembles, disassembles}
+use Rattle.dm_cli.proofs.Checked.{reported_fault}
 use Rattle.dm_cli.proofs.commands.dm_main.Goals as goal
 
 pub returns-in-Ok-Run : goal.returns-in-Ok-Run
 returns-in-Ok-Run g c =
-    runs _ _ (record { right = c.in-Ok-Run.ensures.no_fault; says = rw c.in-Ok-Run.field-0-is at c.in-Ok-Run.ensures.ok }) c.run.ensures refl c.report.ensures
+    runs _ _ (record { right = c.in-Ok-Run.ensures.no_fault; says = rw c.in-Ok-Run.field-0-is at c.in-Ok-Run.ensures.ok }) c.run.ensures c.report.ensures.line refl c.report.ensures.status
+
+pub returns-in-Ok-Check : goal.returns-in-Ok-Check
+returns-in-Ok-Check g c =
+    let told = reported_fault _ _ _ _ _ _ _ _ (λ e. record { bytes = g.E.Out.taken e; failures = g.E.Out.failures e }) c.check.new.error c.concluded.new.error
+    c.check.result c.check.ensures c.concluded.ensures.ok in
+    checks _ _ (record { right = c.in-Ok-Check.ensures.no_fault; says = rw c.in-Ok-Check.field-0-is at c.in-Ok-Check.ensures.ok }) told refl c.concluded.ensures.status
 
 pub returns-in-Ok-Debug : goal.returns-in-Ok-Debug
 returns-in-Ok-Debug g c =

@@ -1,0 +1,20 @@
+-- A checked run whose fault was reported.
+use Rattle.std.proofs.Common.{◌≡◌, ℕ, List, Option, Result, Ok, Err, OnOk, sym, subst}
+use Rattle.dm_options.specs.declared.command_line.MachineOptions.{MachineOptions}
+use Rattle.dm_cli.specs.declared.fault.Fault.{Fault}
+use Rattle.dm_cli.specs.Checking.{Checks, partly_written, no_memory, not_started}
+use Rattle.dm_cli.specs.Messages.{Stream}
+
+module _ (files : List ℕ → Option (List ℕ)) (typed : Option (List ℕ)) (o : MachineOptions) (before after : Option (List ℕ)) (failed_before failed_after : ℕ) (error_before : Stream) where
+  -- after a fault nothing is said of standard error
+  faulty : (error_after later : Stream) (fault : Fault) → Checks files typed o before after failed_before failed_after error_before error_after (Err fault)
+      → Checks files typed o before after failed_before failed_after error_before later (Err fault)
+  faulty error_after later fault (partly_written m t stop report f started run reported part failed is) = partly_written m t stop report fault started run reported part failed is
+  faulty error_after later fault (no_memory kept) = no_memory kept
+  faulty error_after later fault (not_started f why kept) = not_started fault why kept
+
+  pub reported_fault : {E : Type 0} (stream : E → Stream) (old new : E) (r : Result ℕ Fault) → Checks files typed o before after failed_before failed_after error_before (stream old) r
+      → OnOk r (new ≡ old) → Checks files typed o before after failed_before failed_after error_before (stream new) r
+  reported_fault stream old new (Ok status) h same =
+      subst (λ e. Checks files typed o before after failed_before failed_after error_before (stream e) (Ok status)) (sym same) h
+  reported_fault stream old new (Err fault) h same = faulty (stream old) (stream new) fault h
