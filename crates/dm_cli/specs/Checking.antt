@@ -1,5 +1,5 @@
 -- What `dm check` does: a run whose findings are reported on standard error.
-use Rattle.std.specs.Prelude.{ℕ, ◌≡◌, ◌<◌, ◌++◌, nat_lt, if◌then◌else◌, List, Option, Some, Result, Ok, Err, codes}
+use Rattle.std.specs.Prelude.{ℕ, ◌≡◌, ◌++◌, nat_lt, if◌then◌else◌, List, Option, Some, Result, Ok, Err, codes}
 use Rattle.std.specs.Io.KnownBytes.{Appends, Keeps}
 use Rattle.dm_options.specs.declared.command_line.MachineOptions.{MachineOptions}
 use Rattle.dm_out.specs.Out.{AppendsPart, HasFailed}

@@ -1,9 +1,6 @@
 -- The faults of commands: those that a refusal of the machine or of the assembler becomes, and those of files and
 -- streams by their names.
 use Rattle.std.specs.Prelude.{ℕ, ◌≡◌, List, codes}
-use Rattle.dm_proc.specs.declared.programs.AddError.TheVariants as add
-use Rattle.dm_machine.specs.declared.machine.NewError.TheVariants as new
-use Rattle.dm_machine.specs.declared.loading.LoadError.TheVariants as load
 use Rattle.dm_asm.specs.declared.refusal.Refusal.{Refusal}
 use Rattle.dm_asm.specs.declared.refusal.Refusal.TheVariants as refusal
 use Rattle.dm_cli.specs.declared.fault.Fault.{Fault}

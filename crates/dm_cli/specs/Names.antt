@@ -1,5 +1,5 @@
 -- The names of files and of programs in the store.
-use Rattle.std.specs.Prelude.{ℕ, ◌≡◌, ◌<◌, ◌==◌, ◌⊎◌, List}
+use Rattle.std.specs.Prelude.{ℕ, ◌==◌, List}
 use Rattle.std.specs.List.{after_last}
 
 -- the part of a path behind its last `/`, or all of it

@@ -15,6 +15,15 @@ const TEXT: &[u8] = b"MOV AH,9\nMOV DX,msg\nINT 21h\nMOV AX,4C00h\nINT 21h\nmsg:
 /// Writes each byte that it reads, until none is left.
 const COPY: &[u8] = b"\xB4\x01\xCD\x21\xEB\xFA";
 
+/// Frees its own block twice, and ends with code 0. MOV AH,49h; INT 21h; MOV AH,49h; INT 21h; MOV AX,4C00h; INT 21h
+const TWICE: &[u8] = b"\xB4\x49\xCD\x21\xB4\x49\xCD\x21\xB8\x00\x4C\xCD\x21";
+
+/// Asks for more than there is, and ends with code 7. MOV AH,48h; MOV BX,0FFFFh; INT 21h; MOV AX,4C07h; INT 21h
+const ASK: &[u8] = b"\xB4\x48\xBB\xFF\xFF\xCD\x21\xB8\x07\x4C\xCD\x21";
+
+/// Overwrites the header of its own block. MOV AX,CS; DEC AX; MOV DS,AX; MOV [0],AL; MOV AX,4C00h; INT 21h
+const WRECK: &[u8] = b"\x8C\xC8\x48\x8E\xD8\xA2\x00\x00\xB8\x00\x4C\xCD\x21";
+
 /// 16 MiB, the most that a file or standard input may have.
 const MOST: usize = 16_777_216;
 
@@ -32,13 +41,16 @@ const REFUSED: [(&str, ErrorKind); 2] = [
 type Row<'a> = (&'a str, u8, &'a [u8], &'a [u8], &'a str);
 
 /// The files that are there.
-fn known_files() -> [(&'static str, Source<'static>); 10] {
+fn known_files() -> [(&'static str, Source<'static>); 13] {
     let cut = ErrorKind::BrokenPipe;
     let short = ErrorKind::OutOfMemory;
     [
         ("hi.com", just(HELLO)),
         ("hi.asm", just(TEXT)),
         ("copy.com", just(COPY)),
+        ("twice.com", just(TWICE)),
+        ("ask.com", just(ASK)),
+        ("wreck.com", just(WRECK)),
         ("d/", just(HELLO)),
         ("nul\0.com", just(HELLO)),
         ("cut.com", failing(HELLO, cut)),
@@ -72,6 +84,81 @@ const RUNS: [Row; 4] = [
         b"a/HI.COM \xB4\x09\xBA\x0C\x01\xCD\x21\xB8\x00\x4C\xCD\x21hi$",
         b"",
         "",
+    ),
+];
+
+/// What is told of a block that is freed twice.
+const FREED_TWICE: &str = "\
+error: step 6, F000:0084 INT 21h function 49h (Free Allocated Memory): block at 0103 freed twice
+errors: 1, notes: 0
+";
+
+/// Checked runs: without a finding, whatever the stop; with an error, with a note, and where an instruction destroys the
+/// arena. What keeps a run from its start, or its output from being written, is told as for `dm run`.
+const CHECKS: [Row; 10] = [
+    ("dm check hi.com", 0, b"", b"hi", "errors: 0, notes: 0\n"),
+    (
+        "dm check --steps=6 hi.com",
+        125,
+        b"",
+        b"hi",
+        "errors: 0, notes: 0\nstopped: steps\n",
+    ),
+    (
+        "dm check copy.com",
+        125,
+        b"",
+        b"typed",
+        "errors: 0, notes: 0\nstopped: input ended\n",
+    ),
+    ("dm check twice.com", 124, b"", b"", FREED_TWICE),
+    (
+        "dm check --steps=5 twice.com",
+        125,
+        b"",
+        b"",
+        "errors: 0, notes: 0\nstopped: steps\n",
+    ),
+    (
+        "dm check --steps=6 twice.com",
+        124,
+        b"",
+        b"",
+        "\
+error: step 6, F000:0084 INT 21h function 49h (Free Allocated Memory): block at 0103 freed twice
+errors: 1, notes: 0
+stopped: steps
+",
+    ),
+    (
+        "dm check ask.com",
+        7,
+        b"",
+        b"",
+        "\
+note: step 4, F000:0084 INT 21h function 48h (Allocate Memory): refused with code 08h: FFFFh paragraphs wanted, the largest block has 0000h
+errors: 0, notes: 1
+",
+    ),
+    (
+        "dm check wreck.com",
+        124,
+        b"",
+        b"",
+        "\
+error: step 4, 0103:0105 MOV [00000h],AL: header at 0102 overwritten: 5A 0103 9EFD became 02 0103 9EFD
+error: step 4, 0103:0105 MOV [00000h],AL: arena destroyed at 0102
+errors: 2, notes: 0
+stopped: destroyed
+",
+    ),
+    ("dm check d/", 126, b"", b"", "dm: cannot read d/\n"),
+    (
+        "dm check hi.com full.com no.com",
+        126,
+        b"",
+        b"",
+        "dm: out of memory\n",
     ),
 ];
 
@@ -207,6 +294,17 @@ fn runs_stop(rt: HostRuntime) -> Result<(), Fail> {
     Ok(())
 }
 
+/// Definitions: dm_cli Program Does Asks Given Left; dm_cli Checking Checks checked_status check_status
+/// Definitions: dm_cli Messages Prints stop_text; dm_reports Reports report_text; dm_reports Names call_text dos_name
+/// Definitions: dm_reports Texts found_line finding_text contents_text act_text kind_text
+#[test]
+fn runs_are_checked(rt: HostRuntime) -> Result<(), Fail> {
+    for row in CHECKS {
+        tells(&rt, rt.alloc(), just(b"typed"), row)?;
+    }
+    Ok(())
+}
+
 /// Definitions: dm_proc Programs IsName; dm_cli Program Does Asks Given Left
 /// Definitions: dm_cli Starting IsStartFault IsFileFault IsMachineFault IsLoadFault
 /// Definitions: dm_cli Statuses status_of status_after; dm_cli Names last_part
@@ -336,11 +434,64 @@ fn tells_failing_writes(rt: HostRuntime) -> Result<(), Fail> {
             2,
             (125, "hi", "stopped: steps\n"),
         ),
+        // and no report is printed
+        ("dm check hi.com", 1, (126, "h", failed)),
+        ("dm check hi.com", 2, (0, "hi", "errors: 0, notes: 0\n")),
         ("dm debug hi.com", 0, (126, "", failed)),
         ("dm debug hi.com", 7, (126, "0100 M ", failed)),
     ] {
         for refuses in [false, true] {
             fails(&rt, rt.alloc(), line, (left, refuses), wanted)?;
+        }
+    }
+    Ok(())
+}
+
+/// A line whose standard error fails, or takes nothing, after so many writes of one byte: what is told is cut there, and
+/// nothing else changes.
+fn is_cut(
+    rt: &impl Abort,
+    alloc: Global,
+    (left, refuses): (usize, bool),
+    (line, status, _, put_out, told): Row,
+) -> Result<(), Fail> {
+    let words: Vec<&str> = line.split(' ').collect(alloc)?;
+    let mut taken = Vec::new(alloc);
+    let mut messages = Sink::new(Slow {
+        taken: &mut taken,
+        left,
+        refuses,
+    });
+    let mut output = Vec::new(alloc);
+    let known = known_files();
+    let mut files = new_files(alloc, &known, &REFUSED);
+    let words = words.as_slice();
+    let mut sink = Sink::new(&mut output);
+    let input = just(b"typed");
+    let got = dm_main(alloc, &mut files, words, input, &mut sink, &mut messages);
+    same_of(rt, line, "status", got, status);
+    same_of(rt, line, "output", output.as_slice(), put_out);
+    let kept = told.len().min(left);
+    same_of(rt, line, "told", taken.as_slice(), &told.as_bytes()[..kept]);
+    Ok(())
+}
+
+/// Definitions: dm_cli Messages Prints stop_text; dm_out Out HasFailed AppendsPart
+#[test]
+fn failing_messages_change_nothing(rt: HostRuntime) -> Result<(), Fail> {
+    let lines = [
+        CHECKS[1],
+        CHECKS[3],
+        CHECKS[7],
+        CHECKS[8],
+        RUNS[1],
+        FILE_FAULTS[0],
+    ];
+    for row in lines {
+        for left in [0, 1, 5, 40, 1000] {
+            for refuses in [false, true] {
+                is_cut(&rt, rt.alloc(), (left, refuses), row)?;
+            }
         }
     }
     Ok(())

@@ -1,5 +1,5 @@
 -- For private contracts and proofs alone: beside specs/Debugging.antt.
-use Rattle.std.specs.Prelude.{ℕ, ◌≡◌, ◌-◌, ◌<◌, false, List, Option, OnSome, ◌≢◌, ◌≤◌, ◌++◌, ◌⊎◌, ◌∷◌}
+use Rattle.std.specs.Prelude.{ℕ, ◌≡◌, ◌<◌, false, List, Option, OnSome}
 use Rattle.std.specs.Io.{StopsAt}
 use Rattle.std.specs.Io.BufRead.{ends_with_byte}
 use Rattle.std.specs.Io.KnownBytes.{Appends, Consumes, IsAtEnd, Keeps}

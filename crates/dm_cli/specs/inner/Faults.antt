@@ -1,12 +1,10 @@
 -- For private contracts and proofs alone: beside specs/Faults.antt.
-use Rattle.std.specs.Prelude.{◌≡◌}
 use Rattle.dm_proc.specs.declared.programs.AddError.{AddError}
 use Rattle.dm_proc.specs.declared.programs.AddError.TheVariants as add
 use Rattle.dm_machine.specs.declared.machine.NewError.{NewError}
 use Rattle.dm_machine.specs.declared.machine.NewError.TheVariants as new
 use Rattle.dm_machine.specs.declared.loading.LoadError.{LoadError}
 use Rattle.dm_machine.specs.declared.loading.LoadError.TheVariants as load
-use Rattle.dm_asm.specs.declared.refusal.Refusal.TheVariants as refusal
 use Rattle.dm_cli.specs.declared.fault.Fault.{Fault}
 use Rattle.dm_cli.specs.declared.fault.Fault.TheVariants as fault
 

@@ -1,5 +1,5 @@
 -- For private contracts and proofs alone: beside specs/Saving.antt.
-use Rattle.std.specs.Prelude.{ℕ, List, ◌≡◌, ◌++◌, ◌∷◌}
+use Rattle.std.specs.Prelude.{ℕ, List}
 
 -- files by their paths, with their bytes, in the order in which they were written
 abbrev pub Saved : Type 0
