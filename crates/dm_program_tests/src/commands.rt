@@ -136,7 +136,8 @@ stopped: steps
         b"",
         b"",
         "\
-note: step 4, F000:0084 INT 21h function 48h (Allocate Memory): refused with code 08h: FFFFh paragraphs wanted, the largest block has 0000h
+note: step 4, F000:0084 INT 21h function 48h (Allocate Memory): refused with code 08h: FFFFh paragraphs wanted, \
+the largest block has 0000h
 errors: 0, notes: 1
 ",
     ),

@@ -1,5 +1,5 @@
--- The names of calls: MS-DOS Programmer's Reference, "System Calls"; LIM EMS 4.0, section 3; XMS 3.0. Numbers that are no
--- function have none.
+-- The names of calls: MS-DOS Programmer's Reference, "System Calls"; LIM EMS 4.0, section 3; XMS 3.0. Numbers that are
+-- no function have none.
 use Rattle.std.specs.Prelude.{ℕ, ◌==◌, if◌then◌else◌, List, [], ◌++◌, codes}
 use Rattle.dm_views.specs.Digits.{two}
 use Rattle.dm_findings.specs.declared.calls.Call.{Call}

@@ -19,8 +19,8 @@ fn put_all(out: &mut Vec<u8>, findings: &[Found]) -> Result<(), AllocError>
     Ok(())
 }
 
-/// Puts the text of a report: a line for each finding that it keeps, in the order in which they happened, then a line with
-/// the numbers of all errors and notes.
+/// Puts the text of a report: a line for each finding that it keeps, in the order in which they happened, then a line
+/// with the numbers of all errors and notes.
 ///
 /// # Errors
 ///
