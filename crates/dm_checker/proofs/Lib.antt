@@ -14,3 +14,4 @@ pub mod Changed
 pub mod Looking
 pub mod Stepping
 pub mod Checking
+pub mod Fetched

@@ -1,7 +1,7 @@
 //! What acts in a step.
 
-ghost use Rattle.std.specs.Prelude.{◌≡◌, MatchOption};
-ghost use Rattle.dm_machine.specs.Step.{fetched};
+ghost use Rattle.std.specs.Prelude.{◌≡◌, ◌+◌, ◌∷◌, [], map, MatchOption};
+ghost use Rattle.dm_machine.specs.Step.{code_byte, fetched};
 ghost use Rattle.dm_state.specs.State.{State};
 ghost use Rattle.dm_checker.specs.Findings.{IsAct};
 ghost use Rattle.dm_checker.specs.inner.Steps.{IsBefore, IsUnlisted};
@@ -20,30 +20,25 @@ pub(crate) struct Before {
     pub(crate) bytes: [u8; 16],
 }
 
+/// Eight bytes from CS:IP on, behind so many others.
+fn fetch_eight(cpu: &Cpu, space: &Space, skipped: u16) -> [u8; 8]
+    ensures { result ≡ map (λ k. code_byte space.now.memory cpu.now (skipped + k)) (0 ∷ 1 ∷ 2 ∷ 3 ∷ 4 ∷ 5 ∷ 6 ∷ 7 ∷ []) }
+{
+    if let Some(eight) = space.eight_bytes(cpu.cs, cpu.ip.wrapping_add(skipped)) {
+        return eight.to_le_bytes();
+    }
+    let at = |k: u16| space.peek(cpu.cs, cpu.ip.wrapping_add(skipped).wrapping_add(k));
+    [at(0), at(1), at(2), at(3), at(4), at(5), at(6), at(7)]
+}
+
 /// The sixteen bytes from CS:IP on.
 #[tactic(auto, unfolding(dm_machine::specs::Step::fetched))]
 fn fetch(cpu: &Cpu, space: &Space) -> [u8; 16]
     ensures { result ≡ fetched space.now.memory cpu.now }
 {
-    let at = |k: u16| space.peek(cpu.cs, cpu.ip.wrapping_add(k));
-    [
-        at(0),
-        at(1),
-        at(2),
-        at(3),
-        at(4),
-        at(5),
-        at(6),
-        at(7),
-        at(8),
-        at(9),
-        at(10),
-        at(11),
-        at(12),
-        at(13),
-        at(14),
-        at(15),
-    ]
+    let [a, b, c, d, e, f, g, h] = fetch_eight(cpu, space, 0);
+    let [i, j, k, l, m, n, o, p] = fetch_eight(cpu, space, 8);
+    [a, b, c, d, e, f, g, h, i, j, k, l, m, n, o, p]
 }
 
 impl Before {

@@ -71,16 +71,16 @@ fn put_overwritten(
 
 fn put_short(out: &mut Vec<u8>, asked: u16, largest: u16) -> Result<(), AllocError>
     ensures { OnOk result (out.new.items ≡ out.old.items
-        ++ (codes "refused with code 08h: " ++ four asked ++ codes "h paragraphs wanted, the largest block has " ++ four largest ++ codes "h")) }
+        ++ (codes "refused with code 08h: " ++ four asked ++ codes "h paragraphs wanted, " ++ four largest ++ codes "h available")) }
 {
     put_segment(
         out,
         b"refused with code 08h: ",
         asked,
-        b"h paragraphs wanted, the largest block has ",
+        b"h paragraphs wanted, ",
     )?;
     out.extend_from_slice(&word_digits(largest))?;
-    out.extend_from_slice(b"h")
+    out.extend_from_slice(b"h available")
 }
 
 fn put_refused(out: &mut Vec<u8>, code: u8) -> Result<(), AllocError>
