@@ -137,7 +137,7 @@ stopped: steps
         b"",
         "\
 note: step 4, F000:0084 INT 21h function 48h (Allocate Memory): refused with code 08h: FFFFh paragraphs wanted, \
-the largest block has 0000h
+0000h available
 errors: 0, notes: 1
 ",
     ),
