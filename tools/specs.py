@@ -285,7 +285,7 @@ class Specs:
         """By the key of a definition, the rows and tests that name it: a line `Definitions: CRATE FILE NAME..; ..` at a row's head, or in the
         comment of a test."""
         found = {}
-        for path in sorted(glob.glob(f"{ROOT}/rows/*/*.row")):
+        for path in sorted(glob.glob(f"{ROOT}/rows/*/*.row") + glob.glob(f"{ROOT}/examples/*.row")):
             path = os.path.relpath(path, ROOT)
             for line in text_of(path).split("\n"):
                 for key in tried(line):
