@@ -10,8 +10,8 @@ use Rattle.dm_space.specs.Memory.{Memory, IsPage, place, peek, byte_at}
 use Rattle.dm_space.proofs.Places.{peek-place, place-windows}
 use Rattle.dm_blocks.specs.declared.header.Header.{Header}
 use Rattle.dm_blocks.specs.declared.header.Entry.{Entry}
-use Rattle.dm_blocks.specs.Chain.{first_header, link_header, next, mark, IsChain, IsArena, IsArenaBehind, HasHeader}
-use Rattle.dm_blocks.specs.Listing.{Path, Leads, Follows}
+use Rattle.dm_blocks.specs.Chain.{first_header, link_header, next, IsChain, IsArena, IsArenaBehind, HasHeader}
+use Rattle.dm_blocks.specs.Listing.{Path, Follows}
 use Rattle.dm_blocks.proofs.Chains.{Agrees, header_kept, spells_kept, has_left, has_right, clear_map}
 use Rattle.dm_findings.specs.declared.finding.Contents.{Contents}
 use Rattle.dm_findings.specs.declared.finding.Finding.{Finding}

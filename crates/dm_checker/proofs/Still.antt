@@ -1,16 +1,13 @@
 -- A step after which memory still shows what was kept: its headers are as they were, and calls alone are found.
-use Rattle.std.proofs.Common.{◌≡◌, ℕ, Bool, true, false, List, [], ◌++◌, map, Option, Some, None, refl, ◌∙◌, ap, ap₂}
+use Rattle.std.proofs.Common.{◌≡◌, ℕ, Bool, true, false, List, [], ◌++◌, map, Option, Some, None, refl}
 use Rattle.std.specs.Prelude.{if◌then◌else◌}
-use Rattle.std.specs.List.{flat_map}
-use Rattle.dm_blocks.specs.declared.header.Header.{Header}
 use Rattle.dm_state.specs.State.{State}
 use Rattle.dm_findings.specs.declared.finding.Finding.{Finding}
 use Rattle.dm_findings.specs.Calls.{call_of}
 use Rattle.dm_checker.specs.declared.watch.Watch.{Watch}
 use Rattle.dm_checker.specs.Shown.{Shown}
-use Rattle.dm_checker.specs.Headers.{overwritten, mapped_away}
 use Rattle.dm_checker.specs.Calls.{arranges, freed_twice, refused}
-use Rattle.dm_checker.specs.Findings.{turned, all_overwritten, findings}
+use Rattle.dm_checker.specs.Findings.{turned, findings}
 use Rattle.dm_checker.specs.inner.Watching.{header_of, broken_at, IsWatch, IsSeen}
 use Rattle.dm_checker.proofs.Seen.{seen_overwritten, seen_mapped_away}
 

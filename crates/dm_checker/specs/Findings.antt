@@ -1,6 +1,6 @@
 -- What is found of one step that was made, from the state before it to the state after it.
 -- Source: MS-DOS Programmer's Reference, "Arena header"; the order within a step is this machine's own.
-use Rattle.std.specs.Prelude.{◌≡◌, ℕ, ◌%◌, ◌+◌, Bool, if◌then◌else◌, List, [], ◌∷◌, ◌++◌, map, Option, Some, None}
+use Rattle.std.specs.Prelude.{◌≡◌, ℕ, Bool, if◌then◌else◌, List, [], ◌∷◌, ◌++◌, map, Option, Some, None}
 use Rattle.std.specs.List.{flat_map}
 use Rattle.dm_space.specs.Memory.{Memory}
 use Rattle.dm_ins.specs.declared.ins.Ins.{Ins}

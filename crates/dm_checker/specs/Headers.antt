@@ -1,6 +1,6 @@
 -- What a step did to the headers that were shown before it: bytes 0 to 4 of each, its signature, owner and size.
 -- Source: MS-DOS Programmer's Reference, "Arena header"; LIM EMS 4.0, section 2 (pages and windows).
-use Rattle.std.specs.Prelude.{ℕ, ◌+◌, ◌*◌, ◌==◌, ◌&&◌, ◌||◌, not, nat_lt, is_some, Bool, true, if◌then◌else◌, List, [], ◌∷◌, get_or, Option, None}
+use Rattle.std.specs.Prelude.{ℕ, ◌+◌, ◌*◌, ◌==◌, ◌&&◌, not, nat_lt, is_some, Bool, true, if◌then◌else◌, List, [], ◌∷◌, get_or, None}
 use Rattle.dm_pool.specs.Blocks.{Blocks}
 use Rattle.dm_space.specs.declared.place.Place.{Place}
 use Rattle.dm_space.specs.declared.place.Place.TheVariants.{Low, Page, Rom, Nothing}
