@@ -1,5 +1,5 @@
 ; Allocates two blocks of one paragraph and writes 17 bytes into the first: the last one overwrites the header of the
-; second. MS-DOS notices at the next call, which returns error 7, and `dm check` at the step that does it.
+; second. The machine notices at the next call, which returns error 7, and `dm check` at the step that does it.
         MOV SP,400h             ; the stack stays in the block that is kept
         MOV AH,4Ah              ; the program keeps 40h paragraphs
         MOV BX,40h
