@@ -2,13 +2,13 @@
 -- what tells where the extended memory driver is called.
 use Rattle.std.specs.Prelude.{◌==◌, if◌then◌else◌, Option, Some, None}
 use Rattle.dm_cpu.specs.declared.cpu.Cpu.{Cpu}
-use Rattle.dm_xms_calls.specs.Caller.{Caller, caller}
+use Rattle.dm_ems_calls.specs.Caller as expanded
+use Rattle.dm_ems_calls.specs.Functions as expanded_memory
+use Rattle.dm_xms_calls.specs.Caller as extended
 use Rattle.dm_xms_calls.specs.Functions as extended_memory
 use Rattle.dm_state.specs.State.{State, Answer, go, returned, far_returned}
 use Rattle.dm_drivers.specs.declared.drivers.Driver.{Driver}
 use Rattle.dm_drivers.specs.declared.drivers.Driver.TheVariants.{ExpandedMemory, Multiplex, ExtendedMemory}
-use Rattle.dm_drivers.specs.Client.{Client, client}
-use Rattle.dm_drivers.specs.Functions.{called}
 use Rattle.dm_drivers.specs.Multiplex.{told}
 
 -- a driver acts at exactly its CS:IP pair
@@ -17,23 +17,24 @@ driver_at c =
     if c.cs == 0xF100 then (if c.ip == 0x0020 then Some ExpandedMemory else None) else
     if c.cs == 0xF000 then (if c.ip == 0x00BC then Some Multiplex else if c.ip == 0x0400 then Some ExtendedMemory else None) else None
 
-abbrev pub client_of : State → Client
-client_of s = client s.cpu s.ems s.memory
+-- the program that calls, and the memory that the driver keeps
+abbrev pub expanded_caller : State → expanded.Caller
+expanded_caller s = expanded.caller s.cpu s.ems s.memory
 
-abbrev pub with_client : State → Client → State
-with_client s c = record s { cpu = c.cpu; memory = c.x.memory; ems = c.x.ems }
+abbrev pub extended_caller : State → extended.Caller
+extended_caller s = extended.caller s.cpu s.xms s.memory
 
-abbrev pub caller_of : State → Caller
-caller_of s = caller s.cpu s.xms s.memory
+abbrev pub after_expanded : State → expanded.Caller → State
+after_expanded s c = record s { cpu = c.cpu; memory = c.x.memory; ems = c.x.ems }
 
-abbrev pub with_caller : State → Caller → State
-with_caller s c = record s { cpu = c.cpu; memory = c.x.memory; xms = c.x.xms }
+abbrev pub after_extended : State → extended.Caller → State
+after_extended s c = record s { cpu = c.cpu; memory = c.x.memory; xms = c.x.xms }
 
 -- after the driver's act
 abbrev pub acted : State → Driver → State
-acted s ExpandedMemory = with_client s (called (client_of s))
+acted s ExpandedMemory = after_expanded s (expanded_memory.called (expanded_caller s))
 acted s Multiplex = record s { cpu = told s.cpu }
-acted s ExtendedMemory = with_caller s (extended_memory.called s.upper (caller_of s))
+acted s ExtendedMemory = after_extended s (extended_memory.called s.upper (extended_caller s))
 
 -- back where the program called, by an interrupt or by a far call
 abbrev pub given_back : State → Driver → State

@@ -1,10 +1,3 @@
-pub mod Client
-pub mod Handles
-pub mod Windows
-pub mod Names
-pub mod Frame
-pub mod Regions
-pub mod Functions
 pub mod Multiplex
 pub mod Drivers
 pub mod Laws

@@ -3,9 +3,9 @@ ghost use Rattle.std.specs.Prelude.{◌≡◌};
 ghost use Rattle.dm_state.specs.State.{AreLinked};
 ghost use Rattle.dm_drivers.specs.Drivers.{driver_at, driven, acted, given_back};
 
-use crate::functions::expanded_memory_call;
 use crate::multiplex::multiplex_call;
 use dm_cpu::Cpu;
+use dm_ems_calls::expanded_memory_call;
 use dm_state::Parts;
 use dm_xms_calls::extended_memory_call;
 

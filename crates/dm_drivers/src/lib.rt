@@ -2,16 +2,9 @@
 //! 67h, the expanded memory driver (LIM EMS 4.0); INT 2Fh and F000:0400, the extended memory driver (XMS 3.0).
 #![tactic(auto)]
 
-mod answers;
 mod drivers;
-mod frame;
-mod functions;
-mod handles;
 mod laws;
 mod multiplex;
-mod names;
-mod regions;
-mod windows;
 
 pub use drivers::{Driver, drive, driver_at};
 pub use laws::{drivers_keep, pages_come};

@@ -17,7 +17,8 @@ const BLANK: Handle = Handle {
 };
 
 impl Ems {
-    /// Gives a new handle, the lowest that is not in use, `pages` pages of zeros, and returns its number.
+    /// Gives a new handle, the lowest that is not in use, `pages` pages of zeros, and returns its number. It gets fewer
+    /// only if the pool's table is full; in a machine it never is (`pages_come`).
     ///
     /// # Errors
     ///

@@ -56,7 +56,8 @@ impl Ems {
         }
     }
 
-    /// Adds a page of zeros after those of a handle, where a gap of the pool holds one.
+    /// Adds a page of zeros after those of a handle, where a gap of the pool holds one and its table has a free number;
+    /// otherwise nothing changes. The handle is not tried: whoever calls knows that it is in use.
     #[tactic(auto, unfolding(crate::specs::Tables::appended_page))]
     pub fn append(&mut self, space: &mut Space, handle: u16)
         requires { length self.old.pages < self.old.total }

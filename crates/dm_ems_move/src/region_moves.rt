@@ -5,7 +5,7 @@ ghost use Rattle.dm_ems.specs.Tables.{expanded};
 ghost use Rattle.dm_ems.specs.Linked.{IsLinked};
 ghost use Rattle.dm_ems.specs.Calls.{answer, left};
 ghost use Rattle.dm_moves.specs.Regions.{IsInside};
-ghost use Rattle.dm_ems_move.specs.RegionMoves.{conventional, expanded_region, region_of, regions_of, is_linear, are_mixed, move_between, exchange_between, move_region, exchange_region, moved_code};
+ghost use Rattle.dm_ems_move.specs.RegionMoves.{length_at, conventional, expanded_region, region_of, regions_of, is_linear, are_mixed, move_between, exchange_between, move_region, exchange_region, moved_code};
 
 use crate::description::{DESTINATION, Description, SOURCE, described, length_at};
 use dm_ems::{Ems, Status};
@@ -194,7 +194,7 @@ fn exchange_between(
 /// source is read whole before anything is written; `Overlapping` tells that both regions share a byte. The scratch
 /// bytes of the space are overwritten.
 ///
-/// No bytes to move is `Apart`, whatever else the structure says.
+/// No bytes to move is `Apart`, whatever else the structure says, and the scratch bytes stay.
 ///
 /// # Errors
 ///
@@ -208,9 +208,11 @@ pub fn move_region(ems: &Ems, space: &mut Space, segment: u16, offset: u16) -> R
     ensures answer { result ≡ answer (move_region (expanded ems.now space.old.memory) segment offset) }
     ensures left { expanded ems.now space.new.memory ≡ left (expanded ems.now space.old.memory) (move_region (expanded ems.now space.old.memory) segment offset) }
     ensures refused { OnErr result (space.new ≡ space.old) }
+    ensures none { length_at space.old.memory segment offset ≡ 0 → space.new ≡ space.old }
 {
     let len = length_at(space, segment, offset);
     if len == 0 {
+        // Nothing is read, so the scratch bytes stay.
         return Ok(Moved::Apart);
     }
     if len > MOST {
@@ -225,7 +227,7 @@ pub fn move_region(ems: &Ems, space: &mut Space, segment: u16, offset: u16) -> R
 }
 
 /// Exchanges the bytes of two regions, which are described as for [`move_region`]. Both are read whole before anything
-/// is written. The scratch bytes of the space are overwritten.
+/// is written. The scratch bytes of the space are overwritten, unless there are no bytes to exchange.
 ///
 /// # Errors
 ///
@@ -242,6 +244,7 @@ pub fn exchange_region(
     ensures answer { result ≡ answer (exchange_region (expanded ems.now space.old.memory) segment offset) }
     ensures left { expanded ems.now space.new.memory ≡ left (expanded ems.now space.old.memory) (exchange_region (expanded ems.now space.old.memory) segment offset) }
     ensures refused { OnErr result (space.new ≡ space.old) }
+    ensures none { length_at space.old.memory segment offset ≡ 0 → space.new ≡ space.old }
 {
     let len = length_at(space, segment, offset);
     if len == 0 {

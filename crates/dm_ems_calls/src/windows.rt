@@ -2,8 +2,8 @@
 ghost use Rattle.std.specs.Prelude.{◌≡◌};
 ghost use Rattle.dm_ems.specs.Tables.{expanded};
 ghost use Rattle.dm_ems.specs.Linked.{IsLinked};
-ghost use Rattle.dm_drivers.specs.Client.{client};
-ghost use Rattle.dm_drivers.specs.Windows.{map_page, save_map, restore_map, whole_map, map_many};
+ghost use Rattle.dm_ems_calls.specs.Caller.{caller};
+ghost use Rattle.dm_ems_calls.specs.Windows.{map_page, save_map, restore_map, whole_map, map_many};
 
 use crate::answers::{settle, settle_al};
 use dm_cpu::Cpu;
@@ -15,7 +15,7 @@ use dm_space::Space;
 #[tactic(auto, unfolding(crate::specs::Windows::map_page))]
 pub(crate) fn map_page(cpu: &mut Cpu, ems: &Ems, space: &mut Space)
     requires { IsLinked (expanded ems.now space.old.memory) }
-    ensures { client cpu.new ems.now space.new.memory ≡ map_page (client cpu.old ems.now space.old.memory) }
+    ensures { caller cpu.new ems.now space.new.memory ≡ map_page (caller cpu.old ems.now space.old.memory) }
 {
     let res = ems.map_page(space, cpu.byte(ByteRegister::Al), cpu.bx, cpu.dx);
     settle(cpu, res);
@@ -24,7 +24,7 @@ pub(crate) fn map_page(cpu: &mut Cpu, ems: &Ems, space: &mut Space)
 /// 47h: keeps what the windows show under the handle in DX.
 #[tactic(auto, unfolding(crate::specs::Windows::save_map))]
 pub(crate) fn save_map(cpu: &mut Cpu, ems: &mut Ems, space: &Space)
-    ensures { client cpu.new ems.new space.now.memory ≡ save_map (client cpu.old ems.old space.now.memory) }
+    ensures { caller cpu.new ems.new space.now.memory ≡ save_map (caller cpu.old ems.old space.now.memory) }
 {
     let res = ems.save_map(space, cpu.dx);
     settle(cpu, res);
@@ -34,7 +34,7 @@ pub(crate) fn save_map(cpu: &mut Cpu, ems: &mut Ems, space: &Space)
 #[tactic(auto, unfolding(crate::specs::Windows::restore_map))]
 pub(crate) fn restore_map(cpu: &mut Cpu, ems: &mut Ems, space: &mut Space)
     requires { IsLinked (expanded ems.old space.old.memory) }
-    ensures { client cpu.new ems.new space.new.memory ≡ restore_map (client cpu.old ems.old space.old.memory) }
+    ensures { caller cpu.new ems.new space.new.memory ≡ restore_map (caller cpu.old ems.old space.old.memory) }
 {
     let res = ems.restore_map(space, cpu.dx);
     settle(cpu, res);
@@ -44,7 +44,7 @@ pub(crate) fn restore_map(cpu: &mut Cpu, ems: &mut Ems, space: &mut Space)
 #[tactic(auto, unfolding(crate::specs::Windows::whole_map))]
 pub(crate) fn whole_map(cpu: &mut Cpu, ems: &Ems, space: &mut Space)
     requires { IsLinked (expanded ems.now space.old.memory) }
-    ensures { client cpu.new ems.now space.new.memory ≡ whole_map (client cpu.old ems.now space.old.memory) }
+    ensures { caller cpu.new ems.now space.new.memory ≡ whole_map (caller cpu.old ems.now space.old.memory) }
 {
     let mode = cpu.byte(ByteRegister::Al);
     let res = dm_ems_move::whole_map(ems, space, mode, cpu.es, cpu.di, cpu.ds, cpu.si);
@@ -55,7 +55,7 @@ pub(crate) fn whole_map(cpu: &mut Cpu, ems: &Ems, space: &mut Space)
 #[tactic(auto, unfolding(crate::specs::Windows::map_many))]
 pub(crate) fn map_many(cpu: &mut Cpu, ems: &Ems, space: &mut Space)
     requires { IsLinked (expanded ems.now space.old.memory) }
-    ensures { client cpu.new ems.now space.new.memory ≡ map_many (client cpu.old ems.now space.old.memory) }
+    ensures { caller cpu.new ems.now space.new.memory ≡ map_many (caller cpu.old ems.now space.old.memory) }
 {
     let mode = cpu.byte(ByteRegister::Al);
     let res = dm_ems_move::map_many(ems, space, mode, cpu.dx, cpu.cx, cpu.ds, cpu.si);

@@ -2,8 +2,8 @@
 ghost use Rattle.std.specs.Prelude.{◌≡◌};
 ghost use Rattle.dm_ems.specs.Tables.{expanded};
 ghost use Rattle.dm_ems.specs.Linked.{IsLinked};
-ghost use Rattle.dm_drivers.specs.Client.{client};
-ghost use Rattle.dm_drivers.specs.Functions.{no_function, call, called};
+ghost use Rattle.dm_ems_calls.specs.Caller.{caller};
+ghost use Rattle.dm_ems_calls.specs.Functions.{no_function, call, called};
 
 use crate::answers::succeed;
 use crate::frame::{mappable, tell_frame, tell_version};
@@ -68,7 +68,7 @@ pub(crate) enum Function {
 
 /// The function with this number, which calls have in AH.
 fn function_of(number: u8) -> Function
-    ensures { result ≡ Rattle.dm_drivers.specs.Functions.function_of number }
+    ensures { result ≡ Rattle.dm_ems_calls.specs.Functions.function_of number }
 {
     match number {
         0x40 => Function::Status,
@@ -98,7 +98,7 @@ fn function_of(number: u8) -> Function
 #[tactic(auto, unfolding(crate::specs::Functions::no_function))]
 fn call(cpu: &mut Cpu, ems: &mut Ems, space: &mut Space, function: Function)
     requires { IsLinked (expanded ems.old space.old.memory) }
-    ensures { client cpu.new ems.new space.new.memory ≡ call (client cpu.old ems.old space.old.memory) function }
+    ensures { caller cpu.new ems.new space.new.memory ≡ call (caller cpu.old ems.old space.old.memory) function }
 {
     match function {
         Function::Status => succeed(cpu),
@@ -124,10 +124,13 @@ fn call(cpu: &mut Cpu, ems: &mut Ems, space: &mut Space, function: Function)
     }
 }
 
-/// INT 67h: does the function that AH names; AH is then the status.
-pub(crate) fn expanded_memory_call(cpu: &mut Cpu, ems: &mut Ems, space: &mut Space)
+/// Does the function of INT 67h that AH names, on the registers of the program that calls, the tables of expanded memory
+/// and the memory, which are consistent. AH is then the status: 0 for success, 92h for a move of regions that overlap,
+/// 84h where there is no such function, otherwise the error; DX, BX, AL, CX and the program's buffers hold what each
+/// function returns (LIM EMS 4.0, section 3).
+pub fn expanded_memory_call(cpu: &mut Cpu, ems: &mut Ems, space: &mut Space)
     requires { IsLinked (expanded ems.old space.old.memory) }
-    ensures { client cpu.new ems.new space.new.memory ≡ called (client cpu.old ems.old space.old.memory) }
+    ensures { caller cpu.new ems.new space.new.memory ≡ called (caller cpu.old ems.old space.old.memory) }
 {
     let function = function_of(cpu.byte(ByteRegister::Ah));
     call(cpu, ems, space, function);

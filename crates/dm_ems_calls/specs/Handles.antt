@@ -10,30 +10,30 @@ use Rattle.dm_ems.specs.Names as lists
 use Rattle.dm_ems.specs.Calls.{answer, left}
 use Rattle.dm_ems_move.specs.declared.reallocation.Reallocated.{Reallocated}
 use Rattle.dm_ems_move.specs.Reallocation as moves
-use Rattle.dm_drivers.specs.Client.{Client, with_status, on_cpu, succeeded, settled, concluded, after}
+use Rattle.dm_ems_calls.specs.Caller.{Caller, with_status, on_cpu, succeeded, settled, concluded, after}
 
 -- 42h: BX is the pages that no handle has, DX all pages
-unfoldable pub tell_pages : Client → Client
+unfoldable pub tell_pages : Caller → Caller
 tell_pages c = on_cpu c (succeeded (record c.cpu { bx = unallocated c.x; dx = c.x.ems.total }))
 
 -- 43h: DX is a new handle with BX pages
-unfoldable pub allocate : Client → Client
+unfoldable pub allocate : Caller → Caller
 allocate c = after c (rows.allocate c.x c.cpu.bx) (λ handle. record c.cpu { dx = handle })
 
 -- 45h: the handle in DX is given up
-unfoldable pub deallocate : Client → Client
+unfoldable pub deallocate : Caller → Caller
 deallocate c = after c (rows.deallocate c.x c.cpu.dx) (λ done. c.cpu)
 
 -- 4Bh: BX is the handles in use
-unfoldable pub count_handles : Client → Client
+unfoldable pub count_handles : Caller → Caller
 count_handles c = on_cpu c (succeeded (record c.cpu { bx = rows.in_use c.x }))
 
 -- 4Ch: BX is the pages of the handle in DX
-unfoldable pub count_pages : Client → Client
+unfoldable pub count_pages : Caller → Caller
 count_pages c = on_cpu c (settled c.cpu (rows.count_pages c.x c.cpu.dx) (λ pages. record c.cpu { bx = pages }))
 
 -- 4Dh: the handles in use and their pages are written at ES:DI, BX is their number
-unfoldable pub list_pages : Client → Client
+unfoldable pub list_pages : Caller → Caller
 list_pages c =
     let told = lists.list_pages c.x c.cpu.es c.cpu.di in
     record { cpu = succeeded (record c.cpu { bx = told.0 }); x = told.1 }
@@ -47,7 +47,7 @@ abbrev pub recounted : Cpu → Reallocated → Cpu
 recounted cpu r = with_status (record cpu { bx = r.pages }) (status_of r.refused)
 
 -- 51h: the handle in DX has BX pages
-unfoldable pub reallocate : Client → Client
+unfoldable pub reallocate : Caller → Caller
 reallocate c =
     let r = moves.reallocate c.x c.cpu.dx c.cpu.bx in
     record { cpu = concluded c.cpu (answer r) (recounted c.cpu); x = left c.x r }

@@ -3,8 +3,8 @@
 ghost use Rattle.std.specs.Prelude.{◌≡◌};
 ghost use Rattle.dm_ems.specs.Tables.{expanded};
 ghost use Rattle.dm_ems.specs.Linked.{IsLinked};
-ghost use Rattle.dm_drivers.specs.Client.{client};
-ghost use Rattle.dm_drivers.specs.Handles.{tell_pages, allocate, deallocate, count_handles, count_pages, list_pages, reallocate};
+ghost use Rattle.dm_ems_calls.specs.Caller.{caller};
+ghost use Rattle.dm_ems_calls.specs.Handles.{tell_pages, allocate, deallocate, count_handles, count_pages, list_pages, reallocate};
 
 use crate::answers::{settle, settle_bx, settle_dx, settle_pages, succeed};
 use dm_cpu::Cpu;
@@ -14,7 +14,7 @@ use dm_space::Space;
 /// 42h: BX becomes the pages that no handle has, DX all pages.
 #[tactic(auto, unfolding(crate::specs::Handles::tell_pages))]
 pub(crate) fn tell_pages(cpu: &mut Cpu, ems: &Ems, space: &Space)
-    ensures { client cpu.new ems.now space.now.memory ≡ tell_pages (client cpu.old ems.now space.now.memory) }
+    ensures { caller cpu.new ems.now space.now.memory ≡ tell_pages (caller cpu.old ems.now space.now.memory) }
 {
     cpu.bx = ems.unallocated(space);
     cpu.dx = ems.total();
@@ -24,7 +24,7 @@ pub(crate) fn tell_pages(cpu: &mut Cpu, ems: &Ems, space: &Space)
 /// 43h: DX becomes a new handle with BX pages.
 #[tactic(auto, unfolding(crate::specs::Handles::allocate))]
 pub(crate) fn allocate(cpu: &mut Cpu, ems: &mut Ems, space: &mut Space)
-    ensures { client cpu.new ems.new space.new.memory ≡ allocate (client cpu.old ems.old space.old.memory) }
+    ensures { caller cpu.new ems.new space.new.memory ≡ allocate (caller cpu.old ems.old space.old.memory) }
 {
     let res = ems.allocate(space, cpu.bx);
     settle_dx(cpu, res);
@@ -34,7 +34,7 @@ pub(crate) fn allocate(cpu: &mut Cpu, ems: &mut Ems, space: &mut Space)
 #[tactic(auto, unfolding(crate::specs::Handles::deallocate))]
 pub(crate) fn deallocate(cpu: &mut Cpu, ems: &mut Ems, space: &mut Space)
     requires { IsLinked (expanded ems.old space.old.memory) }
-    ensures { client cpu.new ems.new space.new.memory ≡ deallocate (client cpu.old ems.old space.old.memory) }
+    ensures { caller cpu.new ems.new space.new.memory ≡ deallocate (caller cpu.old ems.old space.old.memory) }
 {
     let res = ems.deallocate(space, cpu.dx);
     settle(cpu, res);
@@ -43,7 +43,7 @@ pub(crate) fn deallocate(cpu: &mut Cpu, ems: &mut Ems, space: &mut Space)
 /// 4Bh: BX becomes the handles in use.
 #[tactic(auto, unfolding(crate::specs::Handles::count_handles))]
 pub(crate) fn count_handles(cpu: &mut Cpu, ems: &Ems, space: &Space)
-    ensures { client cpu.new ems.now space.now.memory ≡ count_handles (client cpu.old ems.now space.now.memory) }
+    ensures { caller cpu.new ems.now space.now.memory ≡ count_handles (caller cpu.old ems.now space.now.memory) }
 {
     cpu.bx = ems.in_use();
     succeed(cpu);
@@ -52,7 +52,7 @@ pub(crate) fn count_handles(cpu: &mut Cpu, ems: &Ems, space: &Space)
 /// 4Ch: BX becomes the pages of the handle in DX.
 #[tactic(auto, unfolding(crate::specs::Handles::count_pages))]
 pub(crate) fn count_pages(cpu: &mut Cpu, ems: &Ems, space: &Space)
-    ensures { client cpu.new ems.now space.now.memory ≡ count_pages (client cpu.old ems.now space.now.memory) }
+    ensures { caller cpu.new ems.now space.now.memory ≡ count_pages (caller cpu.old ems.now space.now.memory) }
 {
     let res = ems.count_pages(space, cpu.dx);
     settle_bx(cpu, res);
@@ -61,7 +61,7 @@ pub(crate) fn count_pages(cpu: &mut Cpu, ems: &Ems, space: &Space)
 /// 4Dh: writes the handles in use and their pages at ES:DI; BX becomes their number.
 #[tactic(auto, unfolding(crate::specs::Handles::list_pages))]
 pub(crate) fn list_pages(cpu: &mut Cpu, ems: &Ems, space: &mut Space)
-    ensures { client cpu.new ems.now space.new.memory ≡ list_pages (client cpu.old ems.now space.old.memory) }
+    ensures { caller cpu.new ems.now space.new.memory ≡ list_pages (caller cpu.old ems.now space.old.memory) }
 {
     cpu.bx = ems.list_pages(space, cpu.es, cpu.di);
     succeed(cpu);
@@ -71,7 +71,7 @@ pub(crate) fn list_pages(cpu: &mut Cpu, ems: &Ems, space: &mut Space)
 #[tactic(auto, unfolding(crate::specs::Handles::reallocate))]
 pub(crate) fn reallocate(cpu: &mut Cpu, ems: &mut Ems, space: &mut Space)
     requires { IsLinked (expanded ems.old space.old.memory) }
-    ensures { client cpu.new ems.new space.new.memory ≡ reallocate (client cpu.old ems.old space.old.memory) }
+    ensures { caller cpu.new ems.new space.new.memory ≡ reallocate (caller cpu.old ems.old space.old.memory) }
 {
     let res = dm_ems_move::reallocate(ems, space, cpu.dx, cpu.bx);
     settle_pages(cpu, res);

@@ -1,7 +1,7 @@
 //! The driver and its frame (LIM EMS 4.0, functions 2, 7 and 25; INT 67h, 41h, 46h and 58h).
 ghost use Rattle.std.specs.Prelude.{◌≡◌};
-ghost use Rattle.dm_drivers.specs.Client.{client};
-ghost use Rattle.dm_drivers.specs.Frame.{tell_frame, tell_version, list_frame, count_windows, mappable};
+ghost use Rattle.dm_ems_calls.specs.Caller.{caller};
+ghost use Rattle.dm_ems_calls.specs.Frame.{tell_frame, tell_version, list_frame, count_windows, mappable};
 
 use crate::answers::{refuse, succeed};
 use dm_cpu::Cpu;
@@ -39,7 +39,7 @@ pub(crate) fn tell_version(cpu: &mut Cpu)
 /// 58h, 0: writes the windows' segments and numbers at ES:DI; CX becomes their number.
 #[tactic(auto, unfolding(crate::specs::Frame::list_frame))]
 fn list_frame(cpu: &mut Cpu, ems: &Ems, space: &mut Space)
-    ensures { client cpu.new ems.now space.new.memory ≡ list_frame (client cpu.old ems.now space.old.memory) }
+    ensures { caller cpu.new ems.now space.new.memory ≡ list_frame (caller cpu.old ems.now space.old.memory) }
 {
     ems.list_frame(space, cpu.es, cpu.di);
     cpu.cx = WINDOWS;
@@ -58,7 +58,7 @@ fn count_windows(cpu: &mut Cpu)
 /// 58h: AL says whether the windows are told or counted.
 #[tactic(auto, unfolding(crate::specs::Frame::mappable))]
 pub(crate) fn mappable(cpu: &mut Cpu, ems: &Ems, space: &mut Space)
-    ensures { client cpu.new ems.now space.new.memory ≡ mappable (client cpu.old ems.now space.old.memory) }
+    ensures { caller cpu.new ems.now space.new.memory ≡ mappable (caller cpu.old ems.now space.old.memory) }
 {
     match cpu.byte(ByteRegister::Al) {
         0 => list_frame(cpu, ems, space),

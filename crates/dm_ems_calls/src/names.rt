@@ -1,7 +1,7 @@
 //! The names of handles (LIM EMS 4.0, functions 20 and 21; INT 67h, 53h and 54h).
 ghost use Rattle.std.specs.Prelude.{◌≡◌};
-ghost use Rattle.dm_drivers.specs.Client.{client};
-ghost use Rattle.dm_drivers.specs.Names.{get_name, set_name, handle_name, list_names, find_name, tell_handles, directory};
+ghost use Rattle.dm_ems_calls.specs.Caller.{caller};
+ghost use Rattle.dm_ems_calls.specs.Names.{get_name, set_name, handle_name, list_names, find_name, tell_handles, directory};
 
 use crate::answers::{refuse, settle, settle_dx, succeed};
 use dm_cpu::Cpu;
@@ -15,7 +15,7 @@ const HANDLES: u16 = 64;
 /// 53h, 0: writes the name of the handle in DX at ES:DI.
 #[tactic(auto, unfolding(crate::specs::Names::get_name))]
 fn get_name(cpu: &mut Cpu, ems: &Ems, space: &mut Space)
-    ensures { client cpu.new ems.now space.new.memory ≡ get_name (client cpu.old ems.now space.old.memory) }
+    ensures { caller cpu.new ems.now space.new.memory ≡ get_name (caller cpu.old ems.now space.old.memory) }
 {
     let res = ems.get_name(space, cpu.dx, cpu.es, cpu.di);
     settle(cpu, res);
@@ -24,7 +24,7 @@ fn get_name(cpu: &mut Cpu, ems: &Ems, space: &mut Space)
 /// 53h, 1: the handle in DX gets the name at DS:SI.
 #[tactic(auto, unfolding(crate::specs::Names::set_name))]
 fn set_name(cpu: &mut Cpu, ems: &mut Ems, space: &Space)
-    ensures { client cpu.new ems.new space.now.memory ≡ set_name (client cpu.old ems.old space.now.memory) }
+    ensures { caller cpu.new ems.new space.now.memory ≡ set_name (caller cpu.old ems.old space.now.memory) }
 {
     let res = ems.set_name(space, cpu.dx, cpu.ds, cpu.si);
     settle(cpu, res);
@@ -33,7 +33,7 @@ fn set_name(cpu: &mut Cpu, ems: &mut Ems, space: &Space)
 /// 53h: AL says whether a name is told or given.
 #[tactic(auto, unfolding(crate::specs::Names::handle_name))]
 pub(crate) fn handle_name(cpu: &mut Cpu, ems: &mut Ems, space: &mut Space)
-    ensures { client cpu.new ems.new space.new.memory ≡ handle_name (client cpu.old ems.old space.old.memory) }
+    ensures { caller cpu.new ems.new space.new.memory ≡ handle_name (caller cpu.old ems.old space.old.memory) }
 {
     match cpu.byte(ByteRegister::Al) {
         0 => get_name(cpu, ems, space),
@@ -45,7 +45,7 @@ pub(crate) fn handle_name(cpu: &mut Cpu, ems: &mut Ems, space: &mut Space)
 /// 54h, 0: writes the handles in use and their names at ES:DI; AL becomes their number.
 #[tactic(auto, unfolding(crate::specs::Names::list_names))]
 fn list_names(cpu: &mut Cpu, ems: &Ems, space: &mut Space)
-    ensures { client cpu.new ems.now space.new.memory ≡ list_names (client cpu.old ems.now space.old.memory) }
+    ensures { caller cpu.new ems.now space.new.memory ≡ list_names (caller cpu.old ems.now space.old.memory) }
 {
     let count = ems.list_names(space, cpu.es, cpu.di);
     cpu.set_byte(ByteRegister::Al, count as u8);
@@ -55,7 +55,7 @@ fn list_names(cpu: &mut Cpu, ems: &Ems, space: &mut Space)
 /// 54h, 1: DX becomes the handle with the name at DS:SI.
 #[tactic(auto, unfolding(crate::specs::Names::find_name))]
 fn find_name(cpu: &mut Cpu, ems: &Ems, space: &Space)
-    ensures { client cpu.new ems.now space.now.memory ≡ find_name (client cpu.old ems.now space.now.memory) }
+    ensures { caller cpu.new ems.now space.now.memory ≡ find_name (caller cpu.old ems.now space.now.memory) }
 {
     let res = ems.find_name(space, cpu.ds, cpu.si);
     settle_dx(cpu, res);
@@ -73,7 +73,7 @@ fn tell_handles(cpu: &mut Cpu)
 /// 54h: AL says whether all names are told, one is searched, or handles are counted.
 #[tactic(auto, unfolding(crate::specs::Names::directory))]
 pub(crate) fn directory(cpu: &mut Cpu, ems: &Ems, space: &mut Space)
-    ensures { client cpu.new ems.now space.new.memory ≡ directory (client cpu.old ems.now space.old.memory) }
+    ensures { caller cpu.new ems.now space.new.memory ≡ directory (caller cpu.old ems.now space.old.memory) }
 {
     match cpu.byte(ByteRegister::Al) {
         0 => list_names(cpu, ems, space),

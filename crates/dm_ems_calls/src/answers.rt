@@ -1,9 +1,9 @@
 //! How a call of the expanded memory driver answers (LIM EMS 4.0, section 3): AH is the status.
 ghost use Rattle.std.specs.Prelude.{◌≡◌};
 ghost use Rattle.dm_ems_move.specs.RegionMoves.{moved_code};
-ghost use Rattle.dm_drivers.specs.Client.{with_status, succeeded, refused, settled, concluded};
-ghost use Rattle.dm_drivers.specs.Handles.{recounted};
-ghost use Rattle.dm_drivers.specs.Windows.{numbered};
+ghost use Rattle.dm_ems_calls.specs.Caller.{with_status, succeeded, refused, settled, concluded};
+ghost use Rattle.dm_ems_calls.specs.Handles.{recounted};
+ghost use Rattle.dm_ems_calls.specs.Windows.{numbered};
 
 use dm_cpu::Cpu;
 use dm_ems::Status;

@@ -10,19 +10,19 @@ use Rattle.dm_ems.specs.Tables.{Tables, Expanded, expanded}
 use Rattle.dm_ems.specs.Calls.{answer, left}
 
 -- the registers of the program that calls, and expanded memory
-pub record Client : Type 0 where
+pub record Caller : Type 0 where
   pub cpu : Cpu
   pub x : Expanded
 
-abbrev pub client : Cpu → Tables → Memory → Client
-client cpu ems memory = record { cpu = cpu; x = expanded ems memory }
+abbrev pub caller : Cpu → Tables → Memory → Caller
+caller cpu ems memory = record { cpu = cpu; x = expanded ems memory }
 
 -- AH is the status
 abbrev pub with_status : Cpu → ℕ → Cpu
 with_status c status = with_byte c Ah status
 
 -- a call changes registers alone
-abbrev pub on_cpu : Client → Cpu → Client
+abbrev pub on_cpu : Caller → Cpu → Caller
 on_cpu c cpu = record c { cpu = cpu }
 
 -- success: AH is 0
@@ -44,5 +44,5 @@ concluded cpu (Ok v) set = set v
 concluded cpu (Err e) set = refused cpu e
 
 -- after a call that may change the tables or memory
-abbrev pub after : {A : Type 0} → Client → Result (A × Expanded) Status → (A → Cpu) → Client
+abbrev pub after : {A : Type 0} → Caller → Result (A × Expanded) Status → (A → Cpu) → Caller
 after c r set = record { cpu = settled c.cpu (answer r) set; x = left c.x r }

@@ -3,14 +3,14 @@ use Rattle.std.specs.Prelude.{ℕ, ◌==◌, if◌then◌else◌}
 use Rattle.dm_ins.specs.declared.operand.ByteRegister.TheVariants.{Ah}
 use Rattle.dm_cpu.specs.declared.cpu.Cpu.{Cpu}
 use Rattle.dm_cpu.specs.Cpu.{byte_of}
-use Rattle.dm_drivers.specs.declared.functions.Function.{Function}
-use Rattle.dm_drivers.specs.declared.functions.Function.TheVariants.{Status, Frame, Pages, Allocate, MapPage, Deallocate, Version, SaveMap, RestoreMap, HandleCount, PageCount, PageList, WholeMap, MapMany, Reallocate, HandleName, Directory, Regions, Mappable, Unknown}
-use Rattle.dm_drivers.specs.Client.{Client, with_status, on_cpu, succeeded}
-use Rattle.dm_drivers.specs.Handles.{tell_pages, allocate, deallocate, count_handles, count_pages, list_pages, reallocate}
-use Rattle.dm_drivers.specs.Windows.{map_page, save_map, restore_map, whole_map, map_many}
-use Rattle.dm_drivers.specs.Names.{handle_name, directory}
-use Rattle.dm_drivers.specs.Regions.{regions}
-use Rattle.dm_drivers.specs.Frame.{tell_frame, tell_version, mappable}
+use Rattle.dm_ems_calls.specs.declared.functions.Function.{Function}
+use Rattle.dm_ems_calls.specs.declared.functions.Function.TheVariants.{Status, Frame, Pages, Allocate, MapPage, Deallocate, Version, SaveMap, RestoreMap, HandleCount, PageCount, PageList, WholeMap, MapMany, Reallocate, HandleName, Directory, Regions, Mappable, Unknown}
+use Rattle.dm_ems_calls.specs.Caller.{Caller, with_status, on_cpu, succeeded}
+use Rattle.dm_ems_calls.specs.Handles.{tell_pages, allocate, deallocate, count_handles, count_pages, list_pages, reallocate}
+use Rattle.dm_ems_calls.specs.Windows.{map_page, save_map, restore_map, whole_map, map_many}
+use Rattle.dm_ems_calls.specs.Names.{handle_name, directory}
+use Rattle.dm_ems_calls.specs.Regions.{regions}
+use Rattle.dm_ems_calls.specs.Frame.{tell_frame, tell_version, mappable}
 
 -- the function with a number, which calls have in AH
 abbrev pub function_of : ℕ → Function
@@ -40,7 +40,7 @@ unfoldable pub no_function : Cpu → Cpu
 no_function cpu = with_status cpu 0x84
 
 -- what a call leaves: 40h tells by success alone that the driver is there
-abbrev pub call : Client → Function → Client
+abbrev pub call : Caller → Function → Caller
 call c Status = on_cpu c (succeeded c.cpu)
 call c Frame = on_cpu c (tell_frame c.cpu)
 call c Pages = tell_pages c
@@ -63,5 +63,5 @@ call c Mappable = mappable c
 call c Unknown = on_cpu c (no_function c.cpu)
 
 -- INT 67h does what AH names
-abbrev pub called : Client → Client
+abbrev pub called : Caller → Caller
 called c = call c (function_of (byte_of c.cpu Ah))

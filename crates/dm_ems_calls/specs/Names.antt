@@ -6,30 +6,30 @@ use Rattle.dm_cpu.specs.declared.cpu.Cpu.{Cpu}
 use Rattle.dm_cpu.specs.Cpu.{byte_of, with_byte}
 use Rattle.dm_ems.specs.declared.status.Status.TheVariants.{NoSubfunction}
 use Rattle.dm_ems.specs.Names as rows
-use Rattle.dm_drivers.specs.Client.{Client, on_cpu, succeeded, refused, settled, after}
+use Rattle.dm_ems_calls.specs.Caller.{Caller, on_cpu, succeeded, refused, settled, after}
 
 -- 53h, 0: the name of the handle in DX is written at ES:DI
-unfoldable pub get_name : Client → Client
+unfoldable pub get_name : Caller → Caller
 get_name c = after c (rows.get_name c.x c.cpu.dx c.cpu.es c.cpu.di) (λ done. c.cpu)
 
 -- 53h, 1: the handle in DX gets the name at DS:SI
-unfoldable pub set_name : Client → Client
+unfoldable pub set_name : Caller → Caller
 set_name c = after c (rows.set_name c.x c.cpu.dx c.cpu.ds c.cpu.si) (λ done. c.cpu)
 
 -- 53h
-unfoldable pub handle_name : Client → Client
+unfoldable pub handle_name : Caller → Caller
 handle_name c =
     if byte_of c.cpu Al == 0 then get_name c else
     if byte_of c.cpu Al == 1 then set_name c else on_cpu c (refused c.cpu NoSubfunction)
 
 -- 54h, 0: the handles in use and their names are written at ES:DI, AL is their number
-unfoldable pub list_names : Client → Client
+unfoldable pub list_names : Caller → Caller
 list_names c =
     let told = rows.list_names c.x c.cpu.es c.cpu.di in
     record { cpu = succeeded (with_byte c.cpu Al told.0); x = told.1 }
 
 -- 54h, 1: DX is the handle with the name at DS:SI
-unfoldable pub find_name : Client → Client
+unfoldable pub find_name : Caller → Caller
 find_name c = on_cpu c (settled c.cpu (rows.find_name c.x c.cpu.ds c.cpu.si) (λ handle. record c.cpu { dx = handle }))
 
 -- 54h, 2: BX is how many handles there are in all
@@ -37,7 +37,7 @@ unfoldable pub tell_handles : Cpu → Cpu
 tell_handles cpu = succeeded (record cpu { bx = 64 })
 
 -- 54h
-unfoldable pub directory : Client → Client
+unfoldable pub directory : Caller → Caller
 directory c =
     if byte_of c.cpu Al == 0 then list_names c else
     if byte_of c.cpu Al == 1 then find_name c else

@@ -2,8 +2,8 @@
 ghost use Rattle.std.specs.Prelude.{◌≡◌};
 ghost use Rattle.dm_ems.specs.Tables.{expanded};
 ghost use Rattle.dm_ems.specs.Linked.{IsLinked};
-ghost use Rattle.dm_drivers.specs.Client.{client};
-ghost use Rattle.dm_drivers.specs.Regions.{move_region, exchange_region, regions};
+ghost use Rattle.dm_ems_calls.specs.Caller.{caller};
+ghost use Rattle.dm_ems_calls.specs.Regions.{move_region, exchange_region, regions};
 
 use crate::answers::{refuse, settle, settle_move};
 use dm_cpu::Cpu;
@@ -15,7 +15,7 @@ use dm_space::Space;
 #[tactic(auto, unfolding(crate::specs::Regions::move_region))]
 fn move_region(cpu: &mut Cpu, ems: &Ems, space: &mut Space)
     requires { IsLinked (expanded ems.now space.old.memory) }
-    ensures { client cpu.new ems.now space.new.memory ≡ move_region (client cpu.old ems.now space.old.memory) }
+    ensures { caller cpu.new ems.now space.new.memory ≡ move_region (caller cpu.old ems.now space.old.memory) }
 {
     let res = dm_ems_move::move_region(ems, space, cpu.ds, cpu.si);
     settle_move(cpu, res);
@@ -25,7 +25,7 @@ fn move_region(cpu: &mut Cpu, ems: &Ems, space: &mut Space)
 #[tactic(auto, unfolding(crate::specs::Regions::exchange_region))]
 fn exchange_region(cpu: &mut Cpu, ems: &Ems, space: &mut Space)
     requires { IsLinked (expanded ems.now space.old.memory) }
-    ensures { client cpu.new ems.now space.new.memory ≡ exchange_region (client cpu.old ems.now space.old.memory) }
+    ensures { caller cpu.new ems.now space.new.memory ≡ exchange_region (caller cpu.old ems.now space.old.memory) }
 {
     let res = dm_ems_move::exchange_region(ems, space, cpu.ds, cpu.si);
     settle(cpu, res);
@@ -35,7 +35,7 @@ fn exchange_region(cpu: &mut Cpu, ems: &Ems, space: &mut Space)
 #[tactic(auto, unfolding(crate::specs::Regions::regions))]
 pub(crate) fn move_or_exchange(cpu: &mut Cpu, ems: &Ems, space: &mut Space)
     requires { IsLinked (expanded ems.now space.old.memory) }
-    ensures { client cpu.new ems.now space.new.memory ≡ regions (client cpu.old ems.now space.old.memory) }
+    ensures { caller cpu.new ems.now space.new.memory ≡ regions (caller cpu.old ems.now space.old.memory) }
 {
     match cpu.byte(ByteRegister::Al) {
         0 => move_region(cpu, ems, space),

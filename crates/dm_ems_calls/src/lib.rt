@@ -1,0 +1,15 @@
+//! The calls of the expanded memory driver (LIM EMS 4.0): what each function of INT 67h reads and sets in the registers of
+//! the program that calls.
+#![tactic(auto)]
+
+mod answers;
+mod frame;
+mod functions;
+mod handles;
+mod laws;
+mod names;
+mod regions;
+mod windows;
+
+pub use functions::expanded_memory_call;
+pub use laws::expanded_memory_calls_keep;
