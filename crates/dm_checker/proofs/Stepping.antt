@@ -4,8 +4,8 @@ use Rattle.std.specs.Prelude.{if◌then◌else◌, slice_index_or, IfSome}
 use Rattle.dm_space.specs.Memory.{IsPage}
 use Rattle.dm_state.specs.declared.stop.Stop.{Stop}
 use Rattle.dm_state.specs.declared.stop.Stop.TheVariants.{Exited, Steps as AllSteps, Halted, Unlisted, InputEnded, Destroyed, Memory as NoMemory}
-use Rattle.dm_ems.specs.Linked.{IsOwned}
-use Rattle.dm_state.specs.State.{State, AreLinked}
+use Rattle.dm_ems.specs.Consistent.{IsOwned}
+use Rattle.dm_state.specs.State.{State, AreConsistent}
 use Rattle.dm_machine.specs.Run.{Answers}
 use Rattle.dm_findings.specs.declared.calls.Call.{Call}
 use Rattle.dm_findings.specs.declared.finding.Act.TheVariants as act
@@ -87,18 +87,18 @@ some_of None P Q f h = h
 some_of (Some block) P Q f h = f block h
 
 -- each page that a window shows is there
-pages_there : (s : State) → AreLinked s → (k : ℕ) → IfSome (slice_index_or s.memory.windows k None) (IsPage s.memory)
+pages_there : (s : State) → AreConsistent s → (k : ℕ) → IfSome (slice_index_or s.memory.windows k None) (IsPage s.memory)
 pages_there s x k =
     let F : ℕ → Type 0 = λ block. IsPage s.memory block in
     some_of (slice_index_or s.memory.windows k None) (IsOwned s.ems.pages) F (λ block o. subst F o.2 (x.ems.owned o.0 o.1)) (x.ems.shown k)
 
 -- the program had ended before
-pub was_over : (s t : State) (b : Before) (code : ℕ) (w : Watch) (r : Reported) → Answers s (Some (Exited code)) t → IsBefore s b → b.call ≡ None → IsWatch s.upper s.memory w → AreLinked t → ChecksOne s (Some (Exited code)) t w r r
+pub was_over : (s t : State) (b : Before) (code : ℕ) (w : Watch) (r : Reported) → Answers s (Some (Exited code)) t → IsBefore s b → b.call ≡ None → IsWatch s.upper s.memory w → AreConsistent t → ChecksOne s (Some (Exited code)) t w r r
 was_over s t b code w r a h e x linked =
     let uncalled = sym h.call ∙ e in
     let same = exit_changes_nothing s t code uncalled a in
     let F : State → Type 0 = λ u. FindsAtEnd s u [] in
-    let L : State → Type 0 = λ u. AreLinked u in
+    let L : State → Type 0 = λ u. AreConsistent u in
     exits s t code w r r a ([], subst F (sym same) (nothing_found s w uncalled x (pages_there s (subst L same linked))), reports_none r)
 
 none_at : (s t : State) (stop : Stop) → ((code : ℕ) → stop ≡ Exited code → ⊥) → FindsAtStop s stop t []

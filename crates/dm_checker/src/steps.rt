@@ -18,7 +18,7 @@ use crate::leaks::put_leaks;
 use crate::put::put;
 use crate::watch::{Broken, Watch, read_arena};
 use dm_findings::{Act, Call, Finding, Found, Report};
-use dm_machine::{Machine, Stop, tables_and_memory_go_together};
+use dm_machine::{Machine, Stop, tables_and_memory_are_consistent};
 use std::alloc::{AllocError, Global};
 
 /// Puts that the arena is destroyed, or whole again, by where it broke before and after.
@@ -169,7 +169,7 @@ pub(crate) fn check_step(
                 check_end(alloc, &before, call, kept, machine, report)?;
             } else {
                 // The program had ended before. Nothing has changed, and each page that a window shows is there.
-                tables_and_memory_go_together(machine);
+                tables_and_memory_are_consistent(machine);
             }
         }
         Some(_) => {}

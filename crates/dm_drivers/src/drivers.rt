@@ -1,6 +1,6 @@
 //! The drivers, and where they act.
 ghost use Rattle.std.specs.Prelude.{◌≡◌};
-ghost use Rattle.dm_state.specs.State.{AreLinked};
+ghost use Rattle.dm_state.specs.State.{AreConsistent};
 ghost use Rattle.dm_drivers.specs.Drivers.{driver_at, driven, acted, given_back};
 
 use crate::multiplex::multiplex_call;
@@ -35,7 +35,7 @@ pub fn driver_at(cpu: &Cpu) -> Option<Driver>
 
 /// Does what the driver's call asks for.
 fn act(parts: &mut Parts, driver: Driver)
-    requires { AreLinked parts.old }
+    requires { AreConsistent parts.old }
     ensures { parts.new ≡ acted parts.old driver }
 {
     match driver {
@@ -66,11 +66,11 @@ fn give_back(parts: &mut Parts, driver: Driver)
 }
 
 /// Acts as the driver, goes back to where the program called, by the stack as it is then, and counts the step. No stop
-/// ever comes of it. The tables of expanded and of extended memory and the memory go together, and do so again.
+/// ever comes of it. The tables of expanded and of extended memory and the memory are consistent, before and after.
 pub fn drive(parts: &mut Parts, driver: Driver)
-    requires { AreLinked parts.old }
+    requires { AreConsistent parts.old }
     ensures answer { parts.new ≡ (driven parts.old driver).state }
-    ensures linked { AreLinked parts.new }
+    ensures consistent { AreConsistent parts.new }
 {
     act(parts, driver);
     give_back(parts, driver);

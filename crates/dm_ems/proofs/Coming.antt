@@ -17,12 +17,12 @@ use Rattle.dm_ems.specs.declared.status.Status.{Status}
 use Rattle.dm_ems.specs.declared.status.Status.TheVariants.{NoPages, NoHandleLeft, OverTotal, OverFree}
 use Rattle.dm_ems.specs.declared.tables.Handle.{Handle}
 use Rattle.dm_ems.specs.Tables.{Expanded, blank, with_page, appended_page, appended, blocks_of, page_count, unallocated, free_handle}
-use Rattle.dm_ems.specs.Linked.{handle_at, IsUsed, IsLinked, HasNumbers}
+use Rattle.dm_ems.specs.Consistent.{handle_at, IsUsed, IsConsistent, HasNumbers}
 use Rattle.dm_ems.specs.Calls.{need, with_slot}
 use Rattle.dm_ems.specs.Handles.{allocate}
 use Rattle.dm_ems.specs.Coming.{IsNewPage, HasPages}
 use Rattle.dm_ems.specs.Laws.{PagesCome}
-use Rattle.dm_ems.proofs.Linked.{linked_append, appended_handles}
+use Rattle.dm_ems.proofs.Consistent.{consistent_append, appended_handles}
 use Rattle.dm_ems.proofs.NewBlock.{taken_new}
 use Rattle.dm_ems.proofs.HandleBlocks.{blocks_pushed, count_blocks, none_in}
 use Rattle.dm_ems.proofs.Keeping.{opened, opened_used}
@@ -39,7 +39,7 @@ pub record Grows (x y : Expanded) (h n : ℕ) : Type 0 where
   pub blocks : blocks_of y.ems h ≡ blocks_of x.ems h ++ new
   pub zeros : All (IsNewPage x y) new
   pub still : (b : ℕ) → IsLive x.memory.blocks b → IsLive y.memory.blocks b
-  pub link : IsLinked y
+  pub consistency : IsConsistent y
   pub numbers : free_numbers y.memory.blocks + n ≡ free_numbers x.memory.blocks
   pub left : fitting y + n ≡ fitting x
 
@@ -50,14 +50,14 @@ each_pushed P (c ∷ bs) b h p zero d lt = h zero d (omega arith)
 each_pushed P (c ∷ bs) b h p (suc k) d lt = each_pushed P bs b (λ j e s. h (suc j) e (omega (arith, s))) p k d (omega (arith, lt))
 
 -- one more
-grows_one : (x y z : Expanded) (h n i : ℕ) (t : Blocks) → Grows x y h n → IsUsed y.ems.handles h → taken y.memory.blocks 16 ≡ Some (i, t) → z ≡ with_page y h (Some (i, t)) → IsLinked z → Grows x z h (suc n)
-grows_one x y z h n i t g u e is link =
+grows_one : (x y z : Expanded) (h n i : ℕ) (t : Blocks) → Grows x y h n → IsUsed y.ems.handles h → taken y.memory.blocks 16 ≡ Some (i, t) → z ≡ with_page y h (Some (i, t)) → IsConsistent z → Grows x z h (suc n)
+grows_one x y z h n i t g u e is consistency =
     let new = taken_new y.memory.blocks 16 i t e in
-    let less = taken_leaves y.memory.blocks 16 i t g.link.based (omega arith) e in
+    let less = taken_leaves y.memory.blocks 16 i t g.consistency.based (omega arith) e in
     let numbers = g.numbers in let left = g.left in let fewer = less.numbers in let fit = less.fitting in
     let blocks = ap (λ (w : Expanded). w.memory.blocks) is in
     let not_new : (b : ℕ) → IsLive y.memory.blocks b → b ≢ i = λ b live s. none-some live.1.0 (sym (ap (λ k. get_or y.memory.blocks.places k None) s ∙ new.free) ∙ live.1.1) in
-    let short : i < 576 = omega (arith, new.within, g.link.places) in
+    let short : i < 576 = omega (arith, new.within, g.consistency.places) in
     let still : (b : ℕ) → IsLive y.memory.blocks b → IsLive z.memory.blocks b
     = λ b live. subst (λ (s : Blocks). IsLive s b) (sym blocks) (live.0, (live.1.0, new.others b (not_new b live) ∙ live.1.1)) in
     let old : (b : ℕ) → IsNewPage x y b → IsNewPage x z b = λ b p. record {
@@ -68,7 +68,7 @@ grows_one x y z h n i t g u e is link =
     let last : IsNewPage x z i = record {
       before = λ live. not_new i (g.still i live) refl;
       live = subst (λ (s : Blocks). IsLive s i) (sym blocks) (short, (new.place, new.at));
-      bytes = ap (λ (s : Blocks). get_or s.contents i []) blocks ∙ new.bytes (omega (arith, short, g.link.contents));
+      bytes = ap (λ (s : Blocks). get_or s.contents i []) blocks ∙ new.bytes (omega (arith, short, g.consistency.contents));
     } in
     record {
       new = g.new ++ i ∷ [];
@@ -76,7 +76,7 @@ grows_one x y z h n i t g u e is link =
       blocks = ap (λ (w : Expanded). blocks_of w.ems h) is ∙ blocks_pushed y.ems h i ∙ ap (λ l. l ++ i ∷ []) g.blocks ∙ append_assoc (blocks_of x.ems h) g.new (i ∷ []);
       zeros = each_pushed (IsNewPage x z) g.new i (λ k d lt. old (get_or g.new k d) (g.zeros k d lt)) last;
       still = λ b live. still b (g.still b live);
-      link = link;
+      consistency = consistency;
       numbers = ap (λ (s : Blocks). free_numbers s + suc n) blocks ∙ (let sum : free_numbers t + suc n ≡ free_numbers x.memory.blocks = omega (arith, fewer, numbers) in sum);
       left = ap (λ (s : Blocks). count_fitting 16 (gaps s.places s.units) + suc n) blocks ∙ (let sum : count_fitting 16 (gaps t.places t.units) + suc n ≡ fitting x = omega (arith, fit, left) in sum);
     }
@@ -85,14 +85,14 @@ page_came : (y : Expanded) (h : ℕ) (p : ℕ × Blocks) → taken y.memory.bloc
 unfolding appended_page
 page_came y h p e = ap (with_page y h) e
 
-pub grows : (x : Expanded) (h n : ℕ) → IsLinked x → IsUsed x.ems.handles h → n ≤ free_numbers x.memory.blocks → n ≤ fitting x → Grows x (appended x h n) h n
+pub grows : (x : Expanded) (h n : ℕ) → IsConsistent x → IsUsed x.ems.handles h → n ≤ free_numbers x.memory.blocks → n ≤ fitting x → Grows x (appended x h n) h n
 grows x h zero l u more fits = record {
   new = [];
   count = refl;
   blocks = sym (append-nil (blocks_of x.ems h));
   zeros = λ k d lt. absurd (omega (arith, lt));
   still = λ b live. live;
-  link = l;
+  consistency = l;
   numbers = omega arith;
   left = omega arith;
 }
@@ -100,9 +100,9 @@ grows x h (suc n) l u more fits =
     let y = appended x h n in
     let g = grows x h n l u (omega (arith, more)) (omega (arith, fits)) in
     let numbers = g.numbers in let left = g.left in
-    let new = comes y.memory.blocks 16 g.link.based (omega arith) (omega (arith, numbers, more)) (omega (arith, left, fits)) in
+    let new = comes y.memory.blocks 16 g.consistency.based (omega arith) (omega (arith, numbers, more)) (omega (arith, left, fits)) in
     let used = subst (λ (hs : List (Option Handle)). IsUsed hs h) (sym (appended_handles x h n)) u in
-    grows_one x y (appended_page y h) h n new.0.0 new.0.1 g used new.1 (page_came y h new.0 new.1) (linked_append y h used g.link)
+    grows_one x y (appended_page y h) h n new.0.0 new.0.1 g used new.1 (page_came y h new.0 new.1) (consistent_append y h used g.consistency)
 
 -- ---- numbers
 
@@ -121,7 +121,7 @@ not_less : (a b : ℕ) → nat_lt a b ≡ false → b ≤ a
 not_less a b e = grind (arith, nat_tests, e)
 
 -- so many pages may come: there is a number for each, and a place
-pub may_come : (x : Expanded) (n : ℕ) → IsLinked x → HasNumbers x → nat_lt (unallocated x) n ≡ false → (n ≤ free_numbers x.memory.blocks) × (n ≤ fitting x)
+pub may_come : (x : Expanded) (n : ℕ) → IsConsistent x → HasNumbers x → nat_lt (unallocated x) n ≡ false → (n ≤ free_numbers x.memory.blocks) × (n ≤ fitting x)
 may_come x n l few e =
     let le : n ≤ min (fitting x) (x.ems.total - length x.ems.pages) = not_less (unallocated x) n e in
     let sum = free_or_not x.memory.blocks.places in
@@ -131,7 +131,7 @@ may_come x n l few e =
 -- ---- a new handle
 
 -- a new handle had no page
-pub unused : (x : Expanded) (h : ℕ) → IsLinked x → free_handle x.ems ≡ Some h → blocks_of x.ems h ≡ []
+pub unused : (x : Expanded) (h : ℕ) → IsConsistent x → free_handle x.ems ≡ Some h → blocks_of x.ems h ≡ []
 unused x h l e =
     let at = position-Some is_none x.ems.handles h None e in
     none_in x.ems.pages h (λ k lt s. both (get_or x.ems.handles h None) at.1 (subst (IsUsed x.ems.handles) s (l.used k lt)))
@@ -159,7 +159,7 @@ take_none : (n : ℕ) → take {A = ℕ} n [] ≡ []
 take_none zero = refl
 take_none (suc n) = refl
 
-given : (x : Expanded) (n h : ℕ) → IsLinked x → HasNumbers x → free_handle x.ems ≡ Some h → nat_lt (unallocated x) n ≡ false → HasPages x (appended (with_slot x h (Some blank)) h n) h n
+given : (x : Expanded) (n h : ℕ) → IsConsistent x → HasNumbers x → free_handle x.ems ≡ Some h → nat_lt (unallocated x) n ≡ false → HasPages x (appended (with_slot x h (Some blank)) h n) h n
 given x n h l few e f =
     let z = with_slot x h (Some blank) in
     let may = may_come x n l few f in
@@ -172,7 +172,7 @@ given x n h l few e f =
       new = g.new;
       blocks = all ∙ ap (λ l. l ++ g.new) (sym (ap (take n) none ∙ take_none n));
       zeros = λ k d lt. let p = g.zeros k d lt in record { before = p.before; live = p.live; bytes = p.bytes };
-      link = g.link;
+      consistency = g.consistency;
     }
 
 -- what was answered is what was made

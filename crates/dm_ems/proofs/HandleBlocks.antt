@@ -9,9 +9,9 @@ use Rattle.std.proofs.lemmas.List.{append-nil, length-map, take-append-drop}
 use Rattle.std.proofs.lemmas.List.Sums.{fails_before_first, length-filter}
 use Rattle.dm_ems.specs.declared.tables.Page.{Page}
 use Rattle.dm_ems.specs.Tables.{Tables, Expanded, is_of, is_block, blocks_of, page_count, without_page, forgotten, forgotten_all, cut}
-use Rattle.dm_ems.specs.Linked.{block_at, handle_at, IsOwned, HasOtherBlock, IsLinked}
+use Rattle.dm_ems.specs.Consistent.{block_at, handle_at, IsOwned, HasOtherBlock, IsConsistent}
 use Rattle.dm_ems.proofs.Owned.{placed}
-use Rattle.dm_ems.proofs.Linked.{linked_forget}
+use Rattle.dm_ems.proofs.Consistent.{consistent_forget}
 
 -- those of the pages of a list
 abbrev pub blocks_in : List Page → ℕ → List ℕ
@@ -98,20 +98,20 @@ not_placed ps b e o =
     let here = eq-eqb (block_at ps o.0) b o.2 in
     cc
 
-went_blocks : (x : Expanded) (h b : ℕ) (before after : List ℕ) (o : Option ℕ) → position (is_block b) x.ems.pages ≡ o → IsLinked x → blocks_of x.ems h ≡ before ++ b ∷ after → blocks_of (without_page x b o).ems h ≡ before ++ after
+went_blocks : (x : Expanded) (h b : ℕ) (before after : List ℕ) (o : Option ℕ) → position (is_block b) x.ems.pages ≡ o → IsConsistent x → blocks_of x.ems h ≡ before ++ b ∷ after → blocks_of (without_page x b o).ems h ≡ before ++ after
 went_blocks x h b before after None f l e = absurd (not_placed x.ems.pages b f (owned_in x.ems.pages h b before after e))
 went_blocks x h b before after (Some i) f l e = let p = placed x.ems.pages b i f in removed_in x.ems.pages h b i before after l.apart p.within p.is e
 
-forget_blocks : (x : Expanded) (h b : ℕ) (before after : List ℕ) → IsLinked x → blocks_of x.ems h ≡ before ++ b ∷ after → blocks_of (forgotten x b).ems h ≡ before ++ after
+forget_blocks : (x : Expanded) (h b : ℕ) (before after : List ℕ) → IsConsistent x → blocks_of x.ems h ≡ before ++ b ∷ after → blocks_of (forgotten x b).ems h ≡ before ++ after
 unfolding forgotten
 forget_blocks x h b before after l e = went_blocks x h b before after (position (is_block b) x.ems.pages) refl l e
 
-forgotten_blocks : (x : Expanded) (h : ℕ) (before after : List ℕ) → IsLinked x → blocks_of x.ems h ≡ before ++ after → blocks_of (forgotten_all x after).ems h ≡ before
+forgotten_blocks : (x : Expanded) (h : ℕ) (before after : List ℕ) → IsConsistent x → blocks_of x.ems h ≡ before ++ after → blocks_of (forgotten_all x after).ems h ≡ before
 forgotten_blocks x h before [] l e = e ∙ append-nil before
-forgotten_blocks x h before (b ∷ after) l e = forgotten_blocks (forgotten x b) h before after (linked_forget x b l) (forget_blocks x h b before after l e)
+forgotten_blocks x h before (b ∷ after) l e = forgotten_blocks (forgotten x b) h before after (consistent_forget x b l) (forget_blocks x h b before after l e)
 
 -- a handle whose last pages went has its first ones
-pub cut_blocks : (x : Expanded) (h n : ℕ) → IsLinked x → blocks_of (cut x h n).ems h ≡ take n (blocks_of x.ems h)
+pub cut_blocks : (x : Expanded) (h n : ℕ) → IsConsistent x → blocks_of (cut x h n).ems h ≡ take n (blocks_of x.ems h)
 unfolding cut
 cut_blocks x h n l = let bs = blocks_of x.ems h in forgotten_blocks x h (take n bs) (drop n bs) l (sym (take-append-drop n bs))
 
@@ -130,7 +130,7 @@ is_there (p ∷ ps) h (suc k) lt e none =
     ] none
 
 -- a handle that is cut to nothing has no page
-pub none_left : (x : Expanded) (h k : ℕ) → IsLinked x → k < length (cut x h 0).ems.pages → handle_at (cut x h 0).ems.pages k ≡ h → ⊥
+pub none_left : (x : Expanded) (h k : ℕ) → IsConsistent x → k < length (cut x h 0).ems.pages → handle_at (cut x h 0).ems.pages k ≡ h → ⊥
 none_left x h k l lt e = is_there (cut x h 0).ems.pages h k lt e (cut_blocks x h 0 l)
 
 pub none_in : (ps : List Page) (h : ℕ) → ((k : ℕ) → k < length ps → handle_at ps k ≢ h) → blocks_in ps h ≡ []

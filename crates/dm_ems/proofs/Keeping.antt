@@ -1,4 +1,4 @@
--- Each call keeps the tables and the memory together.
+-- Each call keeps the tables and the memory consistent.
 use Rattle.std.proofs.Common.{◌≡◌, ℕ, zero, suc, Bool, true, false, cond, List, [], ◌∷◌, Option, Some, None, length, get_or, set, refl, sym, ◌∙◌, ap, subst, replicate, arith}
 use Rattle.std.specs.Prelude.{Result, Ok, Err, ◌==◌, nat_lt, nat_le, is_some, is_none, IfSome, IsSome, slice_get}
 use Rattle.std.proofs.lemmas.List.{get_or-set_same}
@@ -17,58 +17,58 @@ use Rattle.dm_ems.specs.declared.status.Status.TheVariants.{NoPages, NoHandleLef
 use Rattle.dm_ems.specs.declared.tables.Handle.{Handle}
 use Rattle.dm_ems.specs.declared.tables.Page.{Page}
 use Rattle.dm_ems.specs.Tables.{Expanded, blank, appended, cut, unallocated, free_handle, blocks_of, with_windows}
-use Rattle.dm_ems.specs.Linked.{block_at, handle_at, IsUsed, IsOwned, ShowsPages, SavesPages, IsLinked}
+use Rattle.dm_ems.specs.Consistent.{block_at, handle_at, IsUsed, IsOwned, ShowsPages, SavesPages, IsConsistent}
 use Rattle.dm_ems.specs.Calls.{left, need, slot, with_slot, with_memory}
 use Rattle.dm_ems.specs.Handles.{allocate, deallocate}
 use Rattle.dm_ems.specs.Maps.{map_page, save_map, restore_map, showing}
 use Rattle.dm_ems.specs.Names.{set_name, is_name_of_other}
-use Rattle.dm_ems.specs.Laws.{StartIsLinked, CallsKeepTheLink, WritesKeepTheLink}
+use Rattle.dm_ems.specs.Laws.{StartIsConsistent, CallsKeepConsistency, WritesKeepConsistency}
 use Rattle.dm_ems.proofs.Owned.{each_block}
-use Rattle.dm_ems.proofs.Linked.{linked_append, linked_appended, linked_cut, linked_slot}
+use Rattle.dm_ems.proofs.Consistent.{consistent_append, consistent_appended, consistent_cut, consistent_slot}
 use Rattle.dm_ems.proofs.HandleBlocks.{none_left}
 
 -- ---- rows
 
 pub record Keeps {A : Type 0} (x : Expanded) (r : Result (A × Expanded) Status) : Type 0 where
-  pub kept : IsLinked (left x r)
+  pub kept : IsConsistent (left x r)
 
 pub if_keeps : {A : Type 0} (x : Expanded) (b : Bool) (r s : Result (A × Expanded) Status) → Keeps x r → Keeps x s → Keeps x (cond b r s)
 if_keeps x true r s p q = p
 if_keeps x false r s p q = q
 
-pub need_keeps : {A B : Type 0} (x : Expanded) (o : Option A) (e : Status) (f : A → Result (B × Expanded) Status) → IsLinked x → ((v : A) → o ≡ Some v → Keeps x (f v)) → Keeps x (need o e f)
+pub need_keeps : {A B : Type 0} (x : Expanded) (o : Option A) (e : Status) (f : A → Result (B × Expanded) Status) → IsConsistent x → ((v : A) → o ≡ Some v → Keeps x (f v)) → Keeps x (need o e f)
 need_keeps x None e f l h = record { kept = l }
 need_keeps x (Some v) e f l h = h v refl
 
-pub refused : {A : Type 0} (x : Expanded) (e : Status) → IsLinked x → Keeps {A = A} x (Err e)
+pub refused : {A : Type 0} (x : Expanded) (e : Status) → IsConsistent x → Keeps {A = A} x (Err e)
 refused x e l = record { kept = l }
 
 -- ---- handles
 
 -- the tables once a new handle is in use
-pub opened : (x : Expanded) (h : ℕ) → IsLinked x → IsLinked (with_slot x h (Some blank))
-opened x h l = linked_slot x h (Some blank) l tt (λ k lt e. refl)
+pub opened : (x : Expanded) (h : ℕ) → IsConsistent x → IsConsistent (with_slot x h (Some blank))
+opened x h l = consistent_slot x h (Some blank) l tt (λ k lt e. refl)
 
 pub opened_used : (x : Expanded) (h : ℕ) → free_handle x.ems ≡ Some h → IsUsed (with_slot x h (Some blank)).ems.handles h
 opened_used x h e = let at = position-Some is_none x.ems.handles h None e in ap is_some (get_or-set_same x.ems.handles h (Some blank) None at.0)
 
-allocate_keeps : (x : Expanded) (n : ℕ) → IsLinked x → Keeps x (allocate x n)
+allocate_keeps : (x : Expanded) (n : ℕ) → IsConsistent x → Keeps x (allocate x n)
 unfolding allocate
 allocate_keeps x n l =
     if_keeps x (n == 0) (Err NoPages) _ (refused x NoPages l)
     (need_keeps x (free_handle x.ems) NoHandleLeft _ l (λ h e.
     if_keeps x (nat_lt x.ems.total n) (Err OverTotal) _ (refused x OverTotal l)
     (if_keeps x (nat_lt (unallocated x) n) (Err OverFree) (Ok (h, appended (with_slot x h (Some blank)) h n)) (refused x OverFree l)
-    (record { kept = linked_appended (with_slot x h (Some blank)) h n (opened_used x h e) (opened x h l) }))))
+    (record { kept = consistent_appended (with_slot x h (Some blank)) h n (opened_used x h e) (opened x h l) }))))
 
 freed_slot : (ps : List Page) (b : Bool) → SavesPages ps (cond b (Some blank) None)
 freed_slot ps true = tt
 freed_slot ps false = tt
 
-freed : (x : Expanded) (h : ℕ) → IsLinked x → Keeps {A = Unit {0}} x (Ok (tt, with_slot (cut x h 0) h (cond (h == 0) (Some blank) None)))
-freed x h l = record { kept = linked_slot (cut x h 0) h (cond (h == 0) (Some blank) None) (linked_cut x h 0 l) (freed_slot (cut x h 0).ems.pages (h == 0)) (λ k lt e. absurd (none_left x h k l lt e)) }
+freed : (x : Expanded) (h : ℕ) → IsConsistent x → Keeps {A = Unit {0}} x (Ok (tt, with_slot (cut x h 0) h (cond (h == 0) (Some blank) None)))
+freed x h l = record { kept = consistent_slot (cut x h 0) h (cond (h == 0) (Some blank) None) (consistent_cut x h 0 l) (freed_slot (cut x h 0).ems.pages (h == 0)) (λ k lt e. absurd (none_left x h k l lt e)) }
 
-deallocate_keeps : (x : Expanded) (h : ℕ) → IsLinked x → Keeps x (deallocate x h)
+deallocate_keeps : (x : Expanded) (h : ℕ) → IsConsistent x → Keeps x (deallocate x h)
 unfolding deallocate
 deallocate_keeps x h l =
     need_keeps x (slot x h) UnknownHandle _ l (λ s e. if_keeps x (is_some s.saved) (Err ContextSaved) _ (refused x ContextSaved l) (freed x h l))
@@ -82,10 +82,10 @@ window_set ps (x ∷ ws) zero w h p (suc j) = h (suc j)
 window_set ps (x ∷ ws) (suc k) w h p zero = h 0
 window_set ps (x ∷ ws) (suc k) w h p (suc j) = window_set ps ws k w (λ i. h (suc i)) p j
 
-pub with_shown : (x : Expanded) (windows : List (Option ℕ)) → IsLinked x → ShowsPages x.ems.pages windows → IsLinked (with_memory x (with_windows x.memory windows))
+pub with_shown : (x : Expanded) (windows : List (Option ℕ)) → IsConsistent x → ShowsPages x.ems.pages windows → IsConsistent (with_memory x (with_windows x.memory windows))
 with_shown x windows l h = record { places = l.places; contents = l.contents; based = l.based; total = l.total; used = l.used; owned = l.owned; apart = l.apart; shown = h; saved = l.saved }
 
-map_keeps : (x : Expanded) (window page h : ℕ) → IsLinked x → Keeps x (map_page x window page h)
+map_keeps : (x : Expanded) (window page h : ℕ) → IsConsistent x → Keeps x (map_page x window page h)
 unfolding map_page
 map_keeps x window page h l =
     need_keeps x (slot x h) UnknownHandle _ l (λ s e.
@@ -99,39 +99,39 @@ map_keeps x window page h l =
     }))))
 
 -- the saved windows of a handle show pages
-saved_at : (x : Expanded) (h : ℕ) (s : Handle) → IsLinked x → slot x h ≡ Some s → SavesPages x.ems.pages (Some s)
+saved_at : (x : Expanded) (h : ℕ) (s : Handle) → IsConsistent x → slot x h ≡ Some s → SavesPages x.ems.pages (Some s)
 saved_at x h s l e = subst (SavesPages x.ems.pages) e (l.saved h)
 
-save_keeps : (x : Expanded) (h : ℕ) → IsLinked x → Keeps x (save_map x h)
+save_keeps : (x : Expanded) (h : ℕ) → IsConsistent x → Keeps x (save_map x h)
 unfolding save_map
 save_keeps x h l =
     need_keeps x (slot x h) UnknownHandle _ l (λ s e.
     if_keeps x (is_some s.saved) (Err SavedAlready) _ (refused x SavedAlready l)
-    (record { kept = linked_slot x h (Some (record s { saved = Some x.memory.windows })) l l.shown (λ k lt f. refl) }))
+    (record { kept = consistent_slot x h (Some (record s { saved = Some x.memory.windows })) l l.shown (λ k lt f. refl) }))
 
-restored : (x : Expanded) (h : ℕ) (s : Handle) (o : Option (List (Option ℕ))) → s.saved ≡ o → slot x h ≡ Some s → IsLinked x
+restored : (x : Expanded) (h : ℕ) (s : Handle) (o : Option (List (Option ℕ))) → s.saved ≡ o → slot x h ≡ Some s → IsConsistent x
     → Keeps {A = Unit {0}} x (need o NoneSaved (λ windows. Ok (tt, with_slot (with_memory x (with_windows x.memory windows)) h (Some (record s { saved = None })))))
 restored x h s None e f l = refused x NoneSaved l
 restored x h s (Some windows) e f l =
     let shows : ShowsPages x.ems.pages windows = subst (λ (o : Option (List (Option ℕ))). IfSome o (ShowsPages x.ems.pages)) e (saved_at x h s l f) in
-    record { kept = linked_slot (with_memory x (with_windows x.memory windows)) h (Some (record s { saved = None })) (with_shown x windows l shows) tt (λ k lt g. refl) }
+    record { kept = consistent_slot (with_memory x (with_windows x.memory windows)) h (Some (record s { saved = None })) (with_shown x windows l shows) tt (λ k lt g. refl) }
 
-restore_keeps : (x : Expanded) (h : ℕ) → IsLinked x → Keeps x (restore_map x h)
+restore_keeps : (x : Expanded) (h : ℕ) → IsConsistent x → Keeps x (restore_map x h)
 unfolding restore_map
 restore_keeps x h l = need_keeps x (slot x h) UnknownHandle _ l (λ s e. restored x h s s.saved refl e l)
 
 -- ---- names
 
-name_keeps : (x : Expanded) (h segment offset : ℕ) → IsLinked x → Keeps x (set_name x h segment offset)
+name_keeps : (x : Expanded) (h segment offset : ℕ) → IsConsistent x → Keeps x (set_name x h segment offset)
 unfolding set_name
 name_keeps x h segment offset l =
     need_keeps x (slot x h) UnknownHandle _ l (λ s e.
     if_keeps x (is_name_of_other x.ems h (eight_after x.memory segment offset)) (Err NameTaken) _ (refused x NameTaken l)
-    (record { kept = linked_slot x h (Some (record s { name = eight_after x.memory segment offset })) l (saved_at x h s l e) (λ k lt f. refl) }))
+    (record { kept = consistent_slot x h (Some (record s { name = eight_after x.memory segment offset })) l (saved_at x h s l e) (λ k lt f. refl) }))
 
 -- ---- all calls
 
-pub calls_keep : CallsKeepTheLink
+pub calls_keep : CallsKeepConsistency
 calls_keep = record {
   allocating = λ x n l. (allocate_keeps x n l).kept;
   deallocating = λ x h l. (deallocate_keeps x h l).kept;
@@ -139,8 +139,8 @@ calls_keep = record {
   saving = λ x h l. (save_keeps x h l).kept;
   restoring = λ x h l. (restore_keeps x h l).kept;
   naming = λ x h s o l. (name_keeps x h s o l).kept;
-  appending = linked_append;
-  cutting = linked_cut;
+  appending = consistent_append;
+  cutting = consistent_cut;
 }
 
 -- ---- writes
@@ -148,7 +148,7 @@ calls_keep = record {
 page_kept : (m n : Memory) (b : ℕ) → IsShaped m n → IsPage m b → IsPage n b
 page_kept m n b s p = ((p.0.0, (p.0.1.0, ap (λ (xs : List (Option Place)). get_or xs b None) s.places ∙ p.0.1.1)), s.page_sizes b ∙ p.1)
 
-pub writes_keep : WritesKeepTheLink
+pub writes_keep : WritesKeepConsistency
 writes_keep x m s l = record {
   places = ap length s.places ∙ l.places;
   contents = s.page_count ∙ l.contents;
@@ -187,8 +187,8 @@ none_based : (units : ℕ) → AreBased (no_blocks units).places
 unfolding no_blocks
 none_based units i b e z = absurd (none-some b (sym (no_place 576 i) ∙ e))
 
-pub start_linked : StartIsLinked
-start_linked total units low few = record {
+pub start_consistent : StartIsConsistent
+start_consistent total units low few = record {
   places = (sizes units).0;
   contents = (sizes units).1;
   based = none_based units;

@@ -14,7 +14,7 @@ use Rattle.dm_ems.specs.declared.status.Status.TheVariants.{NoPages, NoHandleLef
 use Rattle.dm_ems.specs.declared.tables.Handle.{Handle}
 use Rattle.dm_ems.specs.declared.tables.Page.{Page}
 use Rattle.dm_ems.specs.Tables.{Expanded, blank, appended, appended_page, with_page, cut, forgotten, forgotten_all, without_page, is_block, unallocated, free_handle, blocks_of, with_windows}
-use Rattle.dm_ems.specs.Linked.{block_at, IsOwned}
+use Rattle.dm_ems.specs.Consistent.{block_at, IsOwned}
 use Rattle.dm_ems.specs.Outside.{LeavesOutside}
 use Rattle.dm_ems.specs.Calls.{left, need, slot, with_slot, with_memory}
 use Rattle.dm_ems.specs.Handles.{allocate, deallocate}

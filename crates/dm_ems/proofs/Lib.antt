@@ -1,6 +1,6 @@
 pub mod Owned
 pub mod NewBlock
-pub mod Linked
+pub mod Consistent
 pub mod HandleBlocks
 pub mod Keeping
 pub mod Leaving

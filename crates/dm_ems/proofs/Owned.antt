@@ -8,8 +8,8 @@ use Rattle.std.proofs.lemmas.Bool.Decides.{nat_tests}
 use Rattle.dm_space.specs.Unseen.{shows}
 use Rattle.dm_ems.specs.declared.tables.Handle.{Handle}
 use Rattle.dm_ems.specs.declared.tables.Page.{Page}
-use Rattle.dm_ems.specs.Tables.{hidden, hidden_saved, hiding, is_block, is_of}
-use Rattle.dm_ems.specs.Linked.{block_at, handle_at, IsUsed, IsOwned, ShowsPages, SavesPages}
+use Rattle.dm_ems.specs.Tables.{unmapped, unmapped_saved, unmapped_slot, is_block, is_of}
+use Rattle.dm_ems.specs.Consistent.{block_at, handle_at, IsUsed, IsOwned, ShowsPages, SavesPages}
 
 -- ---- pages of one list are pages of another
 
@@ -18,26 +18,26 @@ if_some None P Q f h = tt
 if_some (Some b) P Q f h = f b h
 
 -- what windows show once a block is gone
-hidden_one : (P Q : ℕ → Type 0) (block : ℕ) → ((b : ℕ) → b ≢ block → P b → Q b) → (w : Option ℕ) → IfSome w P → IfSome (hidden block w) Q
-hidden_one P Q block f None h = tt
-hidden_one P Q block f (Some b) h = either (b == block) refl
+unmapped_one : (P Q : ℕ → Type 0) (block : ℕ) → ((b : ℕ) → b ≢ block → P b → Q b) → (w : Option ℕ) → IfSome w P → IfSome (unmapped block w) Q
+unmapped_one P Q block f None h = tt
+unmapped_one P Q block f (Some b) h = either (b == block) refl
   where
     either : (t : Bool) → (b == block) ≡ t → IfSome (cond t None (Some b)) Q
     either true e = tt
     either false e = f b (λ s. let n : (b == block) ≡ true = grind (arith, nat_tests, s) in cc) h
 
-pub hidden_each : (P Q : ℕ → Type 0) (block : ℕ) → ((b : ℕ) → b ≢ block → P b → Q b) → (ws : List (Option ℕ)) → ((k : ℕ) → IfSome (get_or ws k None) P) → (k : ℕ) → IfSome (get_or (map (hidden block) ws) k None) Q
-hidden_each P Q block f [] h k = tt
-hidden_each P Q block f (w ∷ ws) h zero = hidden_one P Q block f w (h 0)
-hidden_each P Q block f (w ∷ ws) h (suc k) = hidden_each P Q block f ws (λ i. h (suc i)) k
+pub unmapped_each : (P Q : ℕ → Type 0) (block : ℕ) → ((b : ℕ) → b ≢ block → P b → Q b) → (ws : List (Option ℕ)) → ((k : ℕ) → IfSome (get_or ws k None) P) → (k : ℕ) → IfSome (get_or (map (unmapped block) ws) k None) Q
+unmapped_each P Q block f [] h k = tt
+unmapped_each P Q block f (w ∷ ws) h zero = unmapped_one P Q block f w (h 0)
+unmapped_each P Q block f (w ∷ ws) h (suc k) = unmapped_each P Q block f ws (λ i. h (suc i)) k
 
-shows_none : (block : ℕ) (w : Option ℕ) (ws : List (Option ℕ)) → shows ws block ≡ false → shows (hidden block w ∷ ws) block ≡ false
+shows_none : (block : ℕ) (w : Option ℕ) (ws : List (Option ℕ)) → shows ws block ≡ false → shows (unmapped block w ∷ ws) block ≡ false
 shows_none block None ws h = h
 shows_none block (Some b) ws h = elim (b == block) as (λ t. (b == block) ≡ t → shows (cond t None (Some b) ∷ ws) block ≡ false) [ true ↦ λ e. h | false ↦ λ e. rw e h ] refl
 
-pub shows_hidden : (block : ℕ) (ws : List (Option ℕ)) → shows (map (hidden block) ws) block ≡ false
-shows_hidden block [] = refl
-shows_hidden block (w ∷ ws) = shows_none block w _ (shows_hidden block ws)
+pub shows_unmapped : (block : ℕ) (ws : List (Option ℕ)) → shows (map (unmapped block) ws) block ≡ false
+shows_unmapped block [] = refl
+shows_unmapped block (w ∷ ws) = shows_none block w _ (shows_unmapped block ws)
 
 -- ---- saved windows
 
@@ -49,18 +49,18 @@ saves_more ps qs f (Some handle) h = shows_more handle.saved h
     shows_more None h = tt
     shows_more (Some ws) h = λ k. if_some (get_or ws k None) (IsOwned ps) (IsOwned qs) f (h k)
 
-hiding_one : (ps qs : List Page) (block : ℕ) → ((b : ℕ) → b ≢ block → IsOwned ps b → IsOwned qs b) → (s : Option Handle) → SavesPages ps s → SavesPages qs (hiding block s)
-hiding_one ps qs block f None h = tt
-hiding_one ps qs block f (Some handle) h = shows_less handle.saved h
+unmapped_slot_one : (ps qs : List Page) (block : ℕ) → ((b : ℕ) → b ≢ block → IsOwned ps b → IsOwned qs b) → (s : Option Handle) → SavesPages ps s → SavesPages qs (unmapped_slot block s)
+unmapped_slot_one ps qs block f None h = tt
+unmapped_slot_one ps qs block f (Some handle) h = shows_less handle.saved h
   where
-    shows_less : (o : Option (List (Option ℕ))) → IfSome o (ShowsPages ps) → IfSome (hidden_saved block o) (ShowsPages qs)
+    shows_less : (o : Option (List (Option ℕ))) → IfSome o (ShowsPages ps) → IfSome (unmapped_saved block o) (ShowsPages qs)
     shows_less None h = tt
-    shows_less (Some ws) h = hidden_each (IsOwned ps) (IsOwned qs) block f ws h
+    shows_less (Some ws) h = unmapped_each (IsOwned ps) (IsOwned qs) block f ws h
 
-pub hiding_each : (ps qs : List Page) (block : ℕ) → ((b : ℕ) → b ≢ block → IsOwned ps b → IsOwned qs b) → (ss : List (Option Handle)) → ((h : ℕ) → SavesPages ps (get_or ss h None)) → (h : ℕ) → SavesPages qs (get_or (map (hiding block) ss) h None)
-hiding_each ps qs block f [] h k = tt
-hiding_each ps qs block f (s ∷ ss) h zero = hiding_one ps qs block f s (h 0)
-hiding_each ps qs block f (s ∷ ss) h (suc k) = hiding_each ps qs block f ss (λ i. h (suc i)) k
+pub unmapped_slot_each : (ps qs : List Page) (block : ℕ) → ((b : ℕ) → b ≢ block → IsOwned ps b → IsOwned qs b) → (ss : List (Option Handle)) → ((h : ℕ) → SavesPages ps (get_or ss h None)) → (h : ℕ) → SavesPages qs (get_or (map (unmapped_slot block) ss) h None)
+unmapped_slot_each ps qs block f [] h k = tt
+unmapped_slot_each ps qs block f (s ∷ ss) h zero = unmapped_slot_one ps qs block f s (h 0)
+unmapped_slot_each ps qs block f (s ∷ ss) h (suc k) = unmapped_slot_each ps qs block f ss (λ i. h (suc i)) k
 
 pub slot_each : (ps : List Page) (ss : List (Option Handle)) (i : ℕ) (s : Option Handle) → ((h : ℕ) → SavesPages ps (get_or ss h None)) → SavesPages ps s → (h : ℕ) → SavesPages ps (get_or (set ss i s) h None)
 slot_each ps [] i s h p k = tt
@@ -79,14 +79,14 @@ used_set (x ∷ hs) zero s (suc h) u q = u
 used_set (x ∷ hs) (suc i) s zero u q = u
 used_set (x ∷ hs) (suc i) s (suc h) u q = used_set hs i s h u (λ e. q (ap suc e))
 
-hiding_used : (block : ℕ) (s : Option Handle) → IsSome s → IsSome (hiding block s)
-hiding_used block None u = u
-hiding_used block (Some handle) u = refl
+unmapped_slot_used : (block : ℕ) (s : Option Handle) → IsSome s → IsSome (unmapped_slot block s)
+unmapped_slot_used block None u = u
+unmapped_slot_used block (Some handle) u = refl
 
-pub used_hiding : (block : ℕ) (hs : List (Option Handle)) (h : ℕ) → IsUsed hs h → IsUsed (map (hiding block) hs) h
-used_hiding block [] h u = u
-used_hiding block (s ∷ hs) zero u = hiding_used block s u
-used_hiding block (s ∷ hs) (suc h) u = used_hiding block hs h u
+pub used_unmapped : (block : ℕ) (hs : List (Option Handle)) (h : ℕ) → IsUsed hs h → IsUsed (map (unmapped_slot block) hs) h
+used_unmapped block [] h u = u
+used_unmapped block (s ∷ hs) zero u = unmapped_slot_used block s u
+used_unmapped block (s ∷ hs) (suc h) u = used_unmapped block hs h u
 
 -- ---- a page comes
 

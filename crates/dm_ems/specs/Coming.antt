@@ -3,7 +3,7 @@ use Rattle.std.specs.Prelude.{ℕ, ◌≡◌, List, ◌++◌, take, All}
 use Rattle.dm_pool.specs.Blocks.{IsLive, zeros}
 use Rattle.dm_space.specs.Memory.{page_bytes}
 use Rattle.dm_ems.specs.Tables.{Expanded, blocks_of, page_count}
-use Rattle.dm_ems.specs.Linked.{IsLinked}
+use Rattle.dm_ems.specs.Consistent.{IsConsistent}
 
 -- a block that was not there before is there, a page of zeros
 pub record IsNewPage (x y : Expanded) (block : ℕ) : Type 0 where
@@ -17,4 +17,4 @@ pub record HasPages (x y : Expanded) (handle n : ℕ) : Type 0 where
   pub new : List ℕ
   pub blocks : blocks_of y.ems handle ≡ take n (blocks_of x.ems handle) ++ new
   pub zeros : All (IsNewPage x y) new
-  pub link : IsLinked y
+  pub consistency : IsConsistent y

@@ -1,11 +1,11 @@
--- That tables and memory stay together: at the start, through each call, and while a program writes. That calls leave
+-- That tables and memory stay consistent: at the start, through each call, and while a program writes. That calls leave
 -- the blocks that are no pages. And that pages which are promised come.
 use Rattle.std.specs.Prelude.{ℕ, ◌≤◌, ◌≡◌, List, Ok}
 use Rattle.dm_pool.specs.Blocks.{no_blocks}
 use Rattle.dm_space.specs.Memory.{Memory, of_ram}
 use Rattle.dm_space.specs.Places.{IsShaped}
 use Rattle.dm_ems.specs.Tables.{Expanded, expanded, new_tables, appended_page, cut}
-use Rattle.dm_ems.specs.Linked.{IsUsed, IsLinked, HasNumbers}
+use Rattle.dm_ems.specs.Consistent.{IsUsed, IsConsistent, HasNumbers}
 use Rattle.dm_ems.specs.Coming.{HasPages}
 use Rattle.dm_ems.specs.Outside.{LeavesOutside}
 use Rattle.dm_ems.specs.Calls.{left, with_memory}
@@ -14,22 +14,22 @@ use Rattle.dm_ems.specs.Maps.{map_page, save_map, restore_map}
 use Rattle.dm_ems.specs.Names.{set_name}
 
 -- with a pool of no block, and no window
-abbrev pub StartIsLinked : Type 0
-StartIsLinked = (total units : ℕ) (low : List ℕ) → total ≤ 512 → IsLinked (expanded (new_tables total) (of_ram low (no_blocks units)))
+abbrev pub StartIsConsistent : Type 0
+StartIsConsistent = (total units : ℕ) (low : List ℕ) → total ≤ 512 → IsConsistent (expanded (new_tables total) (of_ram low (no_blocks units)))
 
-pub record CallsKeepTheLink : Type 0 where
-  pub allocating : (x : Expanded) (n : ℕ) → IsLinked x → IsLinked (left x (allocate x n))
-  pub deallocating : (x : Expanded) (handle : ℕ) → IsLinked x → IsLinked (left x (deallocate x handle))
-  pub mapping : (x : Expanded) (window page handle : ℕ) → IsLinked x → IsLinked (left x (map_page x window page handle))
-  pub saving : (x : Expanded) (handle : ℕ) → IsLinked x → IsLinked (left x (save_map x handle))
-  pub restoring : (x : Expanded) (handle : ℕ) → IsLinked x → IsLinked (left x (restore_map x handle))
-  pub naming : (x : Expanded) (handle segment offset : ℕ) → IsLinked x → IsLinked (left x (set_name x handle segment offset))
-  pub appending : (x : Expanded) (handle : ℕ) → IsUsed x.ems.handles handle → IsLinked x → IsLinked (appended_page x handle)
-  pub cutting : (x : Expanded) (handle count : ℕ) → IsLinked x → IsLinked (cut x handle count)
+pub record CallsKeepConsistency : Type 0 where
+  pub allocating : (x : Expanded) (n : ℕ) → IsConsistent x → IsConsistent (left x (allocate x n))
+  pub deallocating : (x : Expanded) (handle : ℕ) → IsConsistent x → IsConsistent (left x (deallocate x handle))
+  pub mapping : (x : Expanded) (window page handle : ℕ) → IsConsistent x → IsConsistent (left x (map_page x window page handle))
+  pub saving : (x : Expanded) (handle : ℕ) → IsConsistent x → IsConsistent (left x (save_map x handle))
+  pub restoring : (x : Expanded) (handle : ℕ) → IsConsistent x → IsConsistent (left x (restore_map x handle))
+  pub naming : (x : Expanded) (handle segment offset : ℕ) → IsConsistent x → IsConsistent (left x (set_name x handle segment offset))
+  pub appending : (x : Expanded) (handle : ℕ) → IsUsed x.ems.handles handle → IsConsistent x → IsConsistent (appended_page x handle)
+  pub cutting : (x : Expanded) (handle count : ℕ) → IsConsistent x → IsConsistent (cut x handle count)
 
 -- a memory of the same map, as a write leaves it
-abbrev pub WritesKeepTheLink : Type 0
-WritesKeepTheLink = (x : Expanded) (m : Memory) → IsShaped x.memory m → IsLinked x → IsLinked (with_memory x m)
+abbrev pub WritesKeepConsistency : Type 0
+WritesKeepConsistency = (x : Expanded) (m : Memory) → IsShaped x.memory m → IsConsistent x → IsConsistent (with_memory x m)
 
 -- each call, and a write, leaves what is outside of expanded memory
 pub record CallsLeaveOutside : Type 0 where
@@ -45,4 +45,4 @@ pub record CallsLeaveOutside : Type 0 where
 
 -- a new handle has as many pages as were asked for
 abbrev pub PagesCome : Type 0
-PagesCome = (x y : Expanded) (n handle : ℕ) → IsLinked x → HasNumbers x → allocate x n ≡ Ok (handle, y) → HasPages x y handle n
+PagesCome = (x y : Expanded) (n handle : ℕ) → IsConsistent x → HasNumbers x → allocate x n ≡ Ok (handle, y) → HasPages x y handle n

@@ -1,6 +1,6 @@
 pub mod Status
 pub mod Tables
-pub mod Linked
+pub mod Consistent
 pub mod Outside
 pub mod Coming
 pub mod Calls

@@ -3,7 +3,7 @@ use Rattle.std.specs.Prelude.{ℕ, ◌≡◌, length}
 use Rattle.dm_pool.specs.Blocks.{IsLive}
 use Rattle.dm_space.specs.Memory.{page_bytes}
 use Rattle.dm_ems.specs.Tables.{Expanded}
-use Rattle.dm_ems.specs.Linked.{IsOwned}
+use Rattle.dm_ems.specs.Consistent.{IsOwned}
 
 -- there is such a block, with so many bytes, and it is no page's
 pub record IsOutside (x : Expanded) (block bytes : ℕ) : Type 0 where

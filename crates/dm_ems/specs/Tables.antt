@@ -75,18 +75,18 @@ abbrev pub with_windows : Memory → List (Option ℕ) → Memory
 with_windows m windows = record m { windows = windows }
 
 -- what a window shows once a block is gone
-abbrev pub hidden : ℕ → Option ℕ → Option ℕ
-hidden block None = None
-hidden block (Some shown) = if shown == block then None else Some shown
+abbrev pub unmapped : ℕ → Option ℕ → Option ℕ
+unmapped block None = None
+unmapped block (Some shown) = if shown == block then None else Some shown
 
-abbrev pub hidden_saved : ℕ → Option (List (Option ℕ)) → Option (List (Option ℕ))
-hidden_saved block None = None
-hidden_saved block (Some windows) = Some (map (hidden block) windows)
+abbrev pub unmapped_saved : ℕ → Option (List (Option ℕ)) → Option (List (Option ℕ))
+unmapped_saved block None = None
+unmapped_saved block (Some windows) = Some (map (unmapped block) windows)
 
 -- a handle whose saved windows no longer show the block
-abbrev pub hiding : ℕ → Option Handle → Option Handle
-hiding block None = None
-hiding block (Some handle) = Some (record handle { saved = hidden_saved block handle.saved })
+abbrev pub unmapped_slot : ℕ → Option Handle → Option Handle
+unmapped_slot block None = None
+unmapped_slot block (Some handle) = Some (record handle { saved = unmapped_saved block handle.saved })
 
 abbrev pub is_block : ℕ → Page → Bool
 is_block block page = page.block == block
@@ -95,8 +95,8 @@ is_block block page = page.block == block
 abbrev pub without_page : Expanded → ℕ → Option ℕ → Expanded
 without_page x block None = x
 without_page x block (Some i) = record {
-  ems = record x.ems { handles = map (hiding block) x.ems.handles; pages = remove x.ems.pages i };
-  memory = with_blocks (with_windows x.memory (map (hidden block) x.memory.windows)) (without x.memory.blocks block);
+  ems = record x.ems { handles = map (unmapped_slot block) x.ems.handles; pages = remove x.ems.pages i };
+  memory = with_blocks (with_windows x.memory (map (unmapped block) x.memory.windows)) (without x.memory.blocks block);
 }
 
 unfoldable pub forgotten : Expanded → ℕ → Expanded

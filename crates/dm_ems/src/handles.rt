@@ -2,7 +2,7 @@
 
 ghost use Rattle.std.specs.Prelude.{◌≡◌};
 ghost use Rattle.dm_ems.specs.Tables.{expanded};
-ghost use Rattle.dm_ems.specs.Linked.{IsLinked};
+ghost use Rattle.dm_ems.specs.Consistent.{IsConsistent};
 ghost use Rattle.dm_ems.specs.Calls.{answer, left};
 ghost use Rattle.dm_ems.specs.Handles.{allocate, deallocate, count_pages};
 
@@ -56,7 +56,7 @@ impl Ems {
     /// In this order: `UnknownHandle`; `ContextSaved` where the handle keeps saved windows. Then nothing has changed.
     #[tactic(auto, unfolding(crate::specs::Handles::deallocate))]
     pub fn deallocate(&mut self, space: &mut Space, handle: u16) -> Result<(), Status>
-        requires { IsLinked (expanded self.old space.old.memory) }
+        requires { IsConsistent (expanded self.old space.old.memory) }
         ensures answer { result ≡ answer (deallocate (expanded self.old space.old.memory) handle) }
         ensures left { expanded self.new space.new.memory ≡ left (expanded self.old space.old.memory) (deallocate (expanded self.old space.old.memory) handle) }
         ensures kept { space.new ≡ record space.old { memory = space.new.memory } }

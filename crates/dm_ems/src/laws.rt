@@ -1,18 +1,18 @@
-//! That tables and memory stay together, that what is outside stays, and that pages come: laws, the contracts of
+//! That tables and memory stay consistent, that what is outside stays, and that pages come: laws, the contracts of
 //! functions that do nothing.
 
-ghost use Rattle.dm_ems.specs.Laws.{StartIsLinked, CallsKeepTheLink, WritesKeepTheLink, CallsLeaveOutside, PagesCome};
+ghost use Rattle.dm_ems.specs.Laws.{StartIsConsistent, CallsKeepConsistency, WritesKeepConsistency, CallsLeaveOutside, PagesCome};
 
 /// The laws that the tables of expanded memory and the memory are consistent from the start, and after each call: each
 /// page is a block of its own and has a handle in use, and windows, saved ones too, show pages alone.
-pub fn calls_keep_the_link()
-    ensures start { StartIsLinked }
-    ensures calls { CallsKeepTheLink }
+pub fn calls_keep_consistency()
+    ensures start { StartIsConsistent }
+    ensures calls { CallsKeepConsistency }
 {}
 
-/// The law that they stay together while a program writes.
-pub fn writes_keep_the_link()
-    ensures { WritesKeepTheLink }
+/// The law that they stay consistent while a program writes.
+pub fn writes_keep_consistency()
+    ensures { WritesKeepConsistency }
 {}
 
 /// The law that calls leave the blocks of the pool that are no pages: each is still there, with as many bytes, and

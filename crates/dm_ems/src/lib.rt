@@ -14,7 +14,7 @@ mod readers;
 mod status;
 mod tables;
 
-pub use laws::{calls_keep_the_link, calls_leave_outside, pages_come, writes_keep_the_link};
+pub use laws::{calls_keep_consistency, calls_leave_outside, pages_come, writes_keep_consistency};
 pub use pages::set_windows;
 pub use readers::Holding;
 pub use status::Status;

@@ -3,7 +3,7 @@
 ghost use Rattle.std.specs.Prelude.{◌≡◌, ◌<◌, Option, IfSome};
 ghost use Rattle.dm_space.specs.Memory.{IsPage, with_window};
 ghost use Rattle.dm_ems.specs.Tables.{expanded};
-ghost use Rattle.dm_ems.specs.Linked.{IsLinked};
+ghost use Rattle.dm_ems.specs.Consistent.{IsConsistent};
 ghost use Rattle.dm_ems.specs.Calls.{answer, left};
 ghost use Rattle.dm_ems.specs.Maps.{map_page, save_map, restore_map};
 
@@ -32,7 +32,7 @@ impl Ems {
         page: u16,
         handle: u16,
     ) -> Result<(), Status>
-        requires { IsLinked (expanded self.now space.old.memory) }
+        requires { IsConsistent (expanded self.now space.old.memory) }
         ensures answer { result ≡ answer (map_page (expanded self.now space.old.memory) window page handle) }
         ensures left { expanded self.now space.new.memory ≡ left (expanded self.now space.old.memory) (map_page (expanded self.now space.old.memory) window page handle) }
         ensures kept { space.new ≡ record space.old { memory = space.new.memory } }
@@ -91,7 +91,7 @@ impl Ems {
     /// In this order: `UnknownHandle`; `NoneSaved` where the handle keeps nothing. Then nothing has changed.
     #[tactic(auto, unfolding(crate::specs::Maps::restore_map))]
     pub fn restore_map(&mut self, space: &mut Space, handle: u16) -> Result<(), Status>
-        requires { IsLinked (expanded self.old space.old.memory) }
+        requires { IsConsistent (expanded self.old space.old.memory) }
         ensures answer { result ≡ answer (restore_map (expanded self.old space.old.memory) handle) }
         ensures left { expanded self.new space.new.memory ≡ left (expanded self.old space.old.memory) (restore_map (expanded self.old space.old.memory) handle) }
         ensures kept { space.new ≡ record space.old { memory = space.new.memory } }

@@ -2,10 +2,10 @@
 
 ghost use Rattle.std.specs.Prelude.{◌≡◌, ◌<◌, ◌+◌, length, map, drop, slice_index_or, IfSome, None, ℕ};
 ghost use Rattle.dm_space.specs.Memory.{IsPage};
-ghost use Rattle.dm_ems.specs.Tables.{expanded, appended_page, forgotten, forgotten_all, cut, hidden, unallocated, with_windows};
-ghost use Rattle.dm_ems.specs.Linked.{IsLinked};
+ghost use Rattle.dm_ems.specs.Tables.{expanded, appended_page, forgotten, forgotten_all, cut, unmapped, unallocated, with_windows};
+ghost use Rattle.dm_ems.specs.Consistent.{IsConsistent};
 
-use crate::tables::{Ems, Page, hidden_all};
+use crate::tables::{Ems, Page, unmapped_windows};
 use dm_pool::Block;
 use dm_space::Space;
 
@@ -24,10 +24,10 @@ pub fn set_windows(space: &mut Space, windows: [Option<Block>; 4])
 }
 
 /// Makes no window show a block.
-fn hide(space: &mut Space, block: Block)
-    ensures { space.new ≡ record space.old { memory = with_windows space.old.memory (map (hidden block) space.old.memory.windows) } }
+fn unmap(space: &mut Space, block: Block)
+    ensures { space.new ≡ record space.old { memory = with_windows space.old.memory (map (unmapped block) space.old.memory.windows) } }
 {
-    let windows = hidden_all(space.windows(), block);
+    let windows = unmapped_windows(space.windows(), block);
     set_windows(space, windows);
 }
 
@@ -72,13 +72,13 @@ impl Ems {
     /// Takes a page from its handle, all windows and all saved windows, and gives its block back.
     #[tactic(auto, unfolding(crate::specs::Tables::forgotten))]
     pub(crate) fn forget(&mut self, space: &mut Space, block: Block)
-        requires { IsLinked (expanded self.old space.old.memory) }
+        requires { IsConsistent (expanded self.old space.old.memory) }
         ensures left { expanded self.new space.new.memory ≡ forgotten (expanded self.old space.old.memory) block }
         ensures kept { space.new ≡ record space.old { memory = space.new.memory } }
     {
         if let Some(at) = self.place(block) {
-            hide(space, block);
-            self.hide_saved(block);
+            unmap(space, block);
+            self.unmap_saved(block);
             self.remove(at);
             space.give(block);
         }
@@ -87,7 +87,7 @@ impl Ems {
     /// Takes its pages from a handle but the first `count` ones.
     #[tactic(auto, unfolding(crate::specs::Tables::cut))]
     pub fn cut(&mut self, space: &mut Space, handle: u16, count: usize)
-        requires { IsLinked (expanded self.old space.old.memory) }
+        requires { IsConsistent (expanded self.old space.old.memory) }
         ensures left { expanded self.new space.new.memory ≡ cut (expanded self.old space.old.memory) handle count }
         ensures kept { space.new ≡ record space.old { memory = space.new.memory } }
     {

@@ -1,7 +1,7 @@
 //! The tables of expanded memory: handles in use, and pages (LIM EMS 4.0, section 2).
 
 ghost use Rattle.std.specs.Prelude.{◌≡◌, ◌<◌, ◌≤◌, ◌+◌, ◌^◌, map, slice_index_or, slice_set, slice_get, is_some, count_by, position, is_none, remove, length, IfSome, None, ◌++◌, ◌∷◌, []};
-ghost use Rattle.dm_ems.specs.Tables.{new_tables, blocks_of, page_count, free_handle, hiding, hidden, hidden_saved, is_block};
+ghost use Rattle.dm_ems.specs.Tables.{new_tables, blocks_of, page_count, free_handle, unmapped_slot, unmapped, unmapped_saved, is_block};
 
 use arrayvec::ArrayVec;
 use dm_pool::Block;
@@ -51,8 +51,8 @@ impl Model for Ems {
 }
 
 /// What a window shows once a block is gone.
-fn hidden(shown: Option<Block>, block: Block) -> Option<Block>
-    ensures { result ≡ hidden block shown }
+fn unmapped(shown: Option<Block>, block: Block) -> Option<Block>
+    ensures { result ≡ unmapped block shown }
 {
     match shown {
         Some(page) => { if page == block { None } else { Some(page) } }
@@ -61,39 +61,39 @@ fn hidden(shown: Option<Block>, block: Block) -> Option<Block>
 }
 
 /// What four windows show once a block is gone.
-pub(crate) fn hidden_all(shown: [Option<Block>; 4], block: Block) -> [Option<Block>; 4]
-    ensures { result ≡ map (hidden block) shown }
+pub(crate) fn unmapped_windows(shown: [Option<Block>; 4], block: Block) -> [Option<Block>; 4]
+    ensures { result ≡ map (unmapped block) shown }
 {
-    shown.map(|page| hidden(page, block))
+    shown.map(|page| unmapped(page, block))
 }
 
-fn hidden_saved(saved: Option<[Option<Block>; 4]>, block: Block) -> Option<[Option<Block>; 4]>
-    ensures { result ≡ hidden_saved block saved }
+fn unmapped_saved(saved: Option<[Option<Block>; 4]>, block: Block) -> Option<[Option<Block>; 4]>
+    ensures { result ≡ unmapped_saved block saved }
 {
     match saved {
-        Some(windows) => Some(hidden_all(windows, block)),
+        Some(windows) => Some(unmapped_windows(windows, block)),
         None => None,
     }
 }
 
-fn hiding(slot: Option<Handle>, block: Block) -> Option<Handle>
-    ensures { result ≡ hiding block slot }
+fn unmapped_slot(slot: Option<Handle>, block: Block) -> Option<Handle>
+    ensures { result ≡ unmapped_slot block slot }
 {
     match slot {
         Some(handle) => {
             let name = handle.name;
-            let saved = hidden_saved(handle.saved, block);
+            let saved = unmapped_saved(handle.saved, block);
             Some(Handle { name, saved })
         }
         None => None,
     }
 }
 
-fn hide_in(slots: &mut [Option<Handle>], block: Block)
-    ensures { slots.new ≡ map (hiding block) slots.old }
+fn unmap_slots(slots: &mut [Option<Handle>], block: Block)
+    ensures { slots.new ≡ map (unmapped_slot block) slots.old }
 {
     for at in 0..slots.len() {
-        slots[at] = hiding(slots[at], block);
+        slots[at] = unmapped_slot(slots[at], block);
     }
 }
 
@@ -254,9 +254,9 @@ impl Ems {
     }
 
     /// Makes no saved window show a block.
-    pub(crate) fn hide_saved(&mut self, block: Block)
-        ensures { self.new ≡ record self.old { handles = map (hiding block) self.old.handles } }
+    pub(crate) fn unmap_saved(&mut self, block: Block)
+        ensures { self.new ≡ record self.old { handles = map (unmapped_slot block) self.old.handles } }
     {
-        hide_in(&mut self.handles, block);
+        unmap_slots(&mut self.handles, block);
     }
 }

@@ -5,7 +5,7 @@ use Rattle.dm_cpu.specs.declared.cpu.Cpu.{Cpu}
 use Rattle.dm_cpu.specs.Cpu.{byte_of}
 use Rattle.dm_ems.specs.declared.status.Status.TheVariants.{UnknownHandle}
 use Rattle.dm_ems.specs.declared.tables.Handle.{Handle}
-use Rattle.dm_ems.specs.Linked.{IsLinked}
+use Rattle.dm_ems.specs.Consistent.{IsConsistent}
 use Rattle.dm_ems.specs.Outside.{LeavesOutside}
 use Rattle.dm_ems.specs.Calls.{slot, left, need}
 use Rattle.dm_ems.specs.Names as rows
@@ -28,11 +28,11 @@ use Rattle.dm_ems_calls.specs.Laws.{ExpandedMemoryCallsKeep}
 
 -- what a call does to the tables and the memory
 record Keeps (c d : Caller) : Type 0 where
-  pub link : IsLinked c.x → IsLinked d.x
+  pub consistency : IsConsistent c.x → IsConsistent d.x
   pub outside : LeavesOutside c.x d.x
 
 nothing : (c : Caller) (cpu : Cpu) → Keeps c (record c { cpu = cpu })
-nothing c cpu = record { link = λ l. l; outside = leaves_all c.x }
+nothing c cpu = record { consistency = λ l. l; outside = leaves_all c.x }
 
 choice : (c : Caller) (b : Bool) (d e : Caller) → Keeps c d → Keeps c e → Keeps c (cond b d e)
 choice c true d e h g = h
@@ -43,7 +43,7 @@ choice c false d e h g = g
 writing_keeps : (c : Caller) (cpu : Cpu) (s o : ℕ) (bytes : List ℕ) → Keeps c (record { cpu = cpu; x = writing c.x s o bytes })
 writing_keeps c cpu s o bytes =
     let shape = bytes_shaped c.x.memory s o bytes in
-    record { link = writes_keep c.x _ shape; outside = leaves_shaped c.x _ shape }
+    record { consistency = writes_keep c.x _ shape; outside = leaves_shaped c.x _ shape }
 
 -- ---- handles
 
@@ -53,11 +53,11 @@ tell_pages_keeps c = nothing c _
 
 allocate_keeps : (c : Caller) → Keeps c (allocate c)
 unfolding allocate
-allocate_keeps c = record { link = calls_keep.allocating c.x c.cpu.bx; outside = calls_leave.allocating c.x c.cpu.bx }
+allocate_keeps c = record { consistency = calls_keep.allocating c.x c.cpu.bx; outside = calls_leave.allocating c.x c.cpu.bx }
 
 deallocate_keeps : (c : Caller) → Keeps c (deallocate c)
 unfolding deallocate
-deallocate_keeps c = record { link = calls_keep.deallocating c.x c.cpu.dx; outside = calls_leave.deallocating c.x c.cpu.dx }
+deallocate_keeps c = record { consistency = calls_keep.deallocating c.x c.cpu.dx; outside = calls_leave.deallocating c.x c.cpu.dx }
 
 count_handles_keeps : (c : Caller) → Keeps c (count_handles c)
 unfolding count_handles
@@ -73,29 +73,29 @@ list_pages_keeps c = writing_keeps c _ c.cpu.es c.cpu.di _
 
 reallocate_keeps : (c : Caller) → Keeps c (reallocate c)
 unfolding reallocate
-reallocate_keeps c = record { link = moves_keep.reallocating c.x c.cpu.dx c.cpu.bx; outside = moves_leave.reallocating c.x c.cpu.dx c.cpu.bx }
+reallocate_keeps c = record { consistency = moves_keep.reallocating c.x c.cpu.dx c.cpu.bx; outside = moves_leave.reallocating c.x c.cpu.dx c.cpu.bx }
 
 -- ---- windows
 
 map_page_keeps : (c : Caller) → Keeps c (map_page c)
 unfolding map_page
-map_page_keeps c = record { link = calls_keep.mapping c.x (byte_of c.cpu Al) c.cpu.bx c.cpu.dx; outside = calls_leave.mapping c.x (byte_of c.cpu Al) c.cpu.bx c.cpu.dx }
+map_page_keeps c = record { consistency = calls_keep.mapping c.x (byte_of c.cpu Al) c.cpu.bx c.cpu.dx; outside = calls_leave.mapping c.x (byte_of c.cpu Al) c.cpu.bx c.cpu.dx }
 
 save_map_keeps : (c : Caller) → Keeps c (save_map c)
 unfolding save_map
-save_map_keeps c = record { link = calls_keep.saving c.x c.cpu.dx; outside = calls_leave.saving c.x c.cpu.dx }
+save_map_keeps c = record { consistency = calls_keep.saving c.x c.cpu.dx; outside = calls_leave.saving c.x c.cpu.dx }
 
 restore_map_keeps : (c : Caller) → Keeps c (restore_map c)
 unfolding restore_map
-restore_map_keeps c = record { link = calls_keep.restoring c.x c.cpu.dx; outside = calls_leave.restoring c.x c.cpu.dx }
+restore_map_keeps c = record { consistency = calls_keep.restoring c.x c.cpu.dx; outside = calls_leave.restoring c.x c.cpu.dx }
 
 whole_map_keeps : (c : Caller) → Keeps c (whole_map c)
 unfolding whole_map
-whole_map_keeps c = record { link = moves_keep.setting c.x (byte_of c.cpu Al) c.cpu.es c.cpu.di c.cpu.ds c.cpu.si; outside = moves_leave.setting c.x (byte_of c.cpu Al) c.cpu.es c.cpu.di c.cpu.ds c.cpu.si }
+whole_map_keeps c = record { consistency = moves_keep.setting c.x (byte_of c.cpu Al) c.cpu.es c.cpu.di c.cpu.ds c.cpu.si; outside = moves_leave.setting c.x (byte_of c.cpu Al) c.cpu.es c.cpu.di c.cpu.ds c.cpu.si }
 
 map_many_keeps : (c : Caller) → Keeps c (map_many c)
 unfolding map_many
-map_many_keeps c = record { link = moves_keep.mapping c.x (byte_of c.cpu Al) c.cpu.dx c.cpu.cx c.cpu.ds c.cpu.si; outside = moves_leave.mapping c.x (byte_of c.cpu Al) c.cpu.dx c.cpu.cx c.cpu.ds c.cpu.si }
+map_many_keeps c = record { consistency = moves_keep.mapping c.x (byte_of c.cpu Al) c.cpu.dx c.cpu.cx c.cpu.ds c.cpu.si; outside = moves_leave.mapping c.x (byte_of c.cpu Al) c.cpu.dx c.cpu.cx c.cpu.ds c.cpu.si }
 
 -- ---- names
 
@@ -109,7 +109,7 @@ get_name_keeps c = told_keeps c _ (slot c.x c.cpu.dx) c.cpu.es c.cpu.di
 
 set_name_keeps : (c : Caller) → Keeps c (set_name c)
 unfolding set_name
-set_name_keeps c = record { link = calls_keep.naming c.x c.cpu.dx c.cpu.ds c.cpu.si; outside = calls_leave.naming c.x c.cpu.dx c.cpu.ds c.cpu.si }
+set_name_keeps c = record { consistency = calls_keep.naming c.x c.cpu.dx c.cpu.ds c.cpu.si; outside = calls_leave.naming c.x c.cpu.dx c.cpu.ds c.cpu.si }
 
 handle_name_keeps : (c : Caller) → Keeps c (handle_name c)
 unfolding handle_name
@@ -136,11 +136,11 @@ directory_keeps c =
 
 move_region_keeps : (c : Caller) → Keeps c (move_region c)
 unfolding move_region
-move_region_keeps c = record { link = moves_keep.moving c.x c.cpu.ds c.cpu.si; outside = moves_leave.moving c.x c.cpu.ds c.cpu.si }
+move_region_keeps c = record { consistency = moves_keep.moving c.x c.cpu.ds c.cpu.si; outside = moves_leave.moving c.x c.cpu.ds c.cpu.si }
 
 exchange_region_keeps : (c : Caller) → Keeps c (exchange_region c)
 unfolding exchange_region
-exchange_region_keeps c = record { link = moves_keep.exchanging c.x c.cpu.ds c.cpu.si; outside = moves_leave.exchanging c.x c.cpu.ds c.cpu.si }
+exchange_region_keeps c = record { consistency = moves_keep.exchanging c.x c.cpu.ds c.cpu.si; outside = moves_leave.exchanging c.x c.cpu.ds c.cpu.si }
 
 regions_keeps : (c : Caller) → Keeps c (regions c)
 unfolding regions
@@ -186,6 +186,6 @@ call_keeps c function.Unknown = nothing c _
 
 pub keep : ExpandedMemoryCallsKeep
 keep = record {
-  link = λ c. (call_keeps c (function_of (byte_of c.cpu Ah))).link;
+  consistency = λ c. (call_keeps c (function_of (byte_of c.cpu Ah))).consistency;
   outside = λ c. (call_keeps c (function_of (byte_of c.cpu Ah))).outside;
 }

@@ -1,7 +1,7 @@
 //! The functions of INT 67h (LIM EMS 4.0, section 3).
 ghost use Rattle.std.specs.Prelude.{◌≡◌};
 ghost use Rattle.dm_ems.specs.Tables.{expanded};
-ghost use Rattle.dm_ems.specs.Linked.{IsLinked};
+ghost use Rattle.dm_ems.specs.Consistent.{IsConsistent};
 ghost use Rattle.dm_ems_calls.specs.Caller.{caller};
 ghost use Rattle.dm_ems_calls.specs.Functions.{no_function, call, called};
 
@@ -97,7 +97,7 @@ fn function_of(number: u8) -> Function
 /// Does what a call asks for.
 #[tactic(auto, unfolding(crate::specs::Functions::no_function))]
 fn call(cpu: &mut Cpu, ems: &mut Ems, space: &mut Space, function: Function)
-    requires { IsLinked (expanded ems.old space.old.memory) }
+    requires { IsConsistent (expanded ems.old space.old.memory) }
     ensures { caller cpu.new ems.new space.new.memory ≡ call (caller cpu.old ems.old space.old.memory) function }
 {
     match function {
@@ -124,12 +124,12 @@ fn call(cpu: &mut Cpu, ems: &mut Ems, space: &mut Space, function: Function)
     }
 }
 
-/// Does the function of INT 67h that AH names, on the registers of the program that calls, the tables of expanded memory
-/// and the memory, which are consistent. AH is then the status: 0 for success, 92h for a move of regions that overlap,
-/// 84h where there is no such function, otherwise the error; DX, BX, AL, CX and the program's buffers hold what each
-/// function returns (LIM EMS 4.0, section 3).
+/// Does the function of INT 67h that AH names, on the registers of the program that calls, the tables of expanded
+/// memory and the memory, which are consistent. AH is then the status: 0 for success, 92h for a move of regions that
+/// overlap, 84h where there is no such function, otherwise the error; DX, BX, AL, CX and the program's buffers hold
+/// what each function returns (LIM EMS 4.0, section 3).
 pub fn expanded_memory_call(cpu: &mut Cpu, ems: &mut Ems, space: &mut Space)
-    requires { IsLinked (expanded ems.old space.old.memory) }
+    requires { IsConsistent (expanded ems.old space.old.memory) }
     ensures { caller cpu.new ems.new space.new.memory ≡ called (caller cpu.old ems.old space.old.memory) }
 {
     let function = function_of(cpu.byte(ByteRegister::Ah));

@@ -2,7 +2,7 @@
 //! 51h).
 ghost use Rattle.std.specs.Prelude.{◌≡◌};
 ghost use Rattle.dm_ems.specs.Tables.{expanded};
-ghost use Rattle.dm_ems.specs.Linked.{IsLinked};
+ghost use Rattle.dm_ems.specs.Consistent.{IsConsistent};
 ghost use Rattle.dm_ems_calls.specs.Caller.{caller};
 ghost use Rattle.dm_ems_calls.specs.Handles.{tell_pages, allocate, deallocate, count_handles, count_pages, list_pages, reallocate};
 
@@ -33,7 +33,7 @@ pub(crate) fn allocate(cpu: &mut Cpu, ems: &mut Ems, space: &mut Space)
 /// 45h: the handle in DX is given up.
 #[tactic(auto, unfolding(crate::specs::Handles::deallocate))]
 pub(crate) fn deallocate(cpu: &mut Cpu, ems: &mut Ems, space: &mut Space)
-    requires { IsLinked (expanded ems.old space.old.memory) }
+    requires { IsConsistent (expanded ems.old space.old.memory) }
     ensures { caller cpu.new ems.new space.new.memory ≡ deallocate (caller cpu.old ems.old space.old.memory) }
 {
     let res = ems.deallocate(space, cpu.dx);
@@ -70,7 +70,7 @@ pub(crate) fn list_pages(cpu: &mut Cpu, ems: &Ems, space: &mut Space)
 /// 51h: the handle in DX has BX pages; BX becomes how many it has.
 #[tactic(auto, unfolding(crate::specs::Handles::reallocate))]
 pub(crate) fn reallocate(cpu: &mut Cpu, ems: &mut Ems, space: &mut Space)
-    requires { IsLinked (expanded ems.old space.old.memory) }
+    requires { IsConsistent (expanded ems.old space.old.memory) }
     ensures { caller cpu.new ems.new space.new.memory ≡ reallocate (caller cpu.old ems.old space.old.memory) }
 {
     let res = dm_ems_move::reallocate(ems, space, cpu.dx, cpu.bx);

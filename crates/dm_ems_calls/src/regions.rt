@@ -1,7 +1,7 @@
 //! Regions of memory that are moved or exchanged (LIM EMS 4.0, function 24; INT 67h, 57h).
 ghost use Rattle.std.specs.Prelude.{◌≡◌};
 ghost use Rattle.dm_ems.specs.Tables.{expanded};
-ghost use Rattle.dm_ems.specs.Linked.{IsLinked};
+ghost use Rattle.dm_ems.specs.Consistent.{IsConsistent};
 ghost use Rattle.dm_ems_calls.specs.Caller.{caller};
 ghost use Rattle.dm_ems_calls.specs.Regions.{move_region, exchange_region, regions};
 
@@ -14,7 +14,7 @@ use dm_space::Space;
 /// 57h, 0: moves the region that the structure at DS:SI describes.
 #[tactic(auto, unfolding(crate::specs::Regions::move_region))]
 fn move_region(cpu: &mut Cpu, ems: &Ems, space: &mut Space)
-    requires { IsLinked (expanded ems.now space.old.memory) }
+    requires { IsConsistent (expanded ems.now space.old.memory) }
     ensures { caller cpu.new ems.now space.new.memory ≡ move_region (caller cpu.old ems.now space.old.memory) }
 {
     let res = dm_ems_move::move_region(ems, space, cpu.ds, cpu.si);
@@ -24,7 +24,7 @@ fn move_region(cpu: &mut Cpu, ems: &Ems, space: &mut Space)
 /// 57h, 1: exchanges the two regions that the structure at DS:SI describes.
 #[tactic(auto, unfolding(crate::specs::Regions::exchange_region))]
 fn exchange_region(cpu: &mut Cpu, ems: &Ems, space: &mut Space)
-    requires { IsLinked (expanded ems.now space.old.memory) }
+    requires { IsConsistent (expanded ems.now space.old.memory) }
     ensures { caller cpu.new ems.now space.new.memory ≡ exchange_region (caller cpu.old ems.now space.old.memory) }
 {
     let res = dm_ems_move::exchange_region(ems, space, cpu.ds, cpu.si);
@@ -34,7 +34,7 @@ fn exchange_region(cpu: &mut Cpu, ems: &Ems, space: &mut Space)
 /// 57h: AL says whether regions are moved or exchanged.
 #[tactic(auto, unfolding(crate::specs::Regions::regions))]
 pub(crate) fn move_or_exchange(cpu: &mut Cpu, ems: &Ems, space: &mut Space)
-    requires { IsLinked (expanded ems.now space.old.memory) }
+    requires { IsConsistent (expanded ems.now space.old.memory) }
     ensures { caller cpu.new ems.now space.new.memory ≡ regions (caller cpu.old ems.now space.old.memory) }
 {
     match cpu.byte(ByteRegister::Al) {

@@ -1,7 +1,7 @@
 //! The windows of the frame (LIM EMS 4.0, functions 5, 8, 9, 15 and 17; INT 67h, 44h, 47h, 48h, 4Eh and 50h).
 ghost use Rattle.std.specs.Prelude.{◌≡◌};
 ghost use Rattle.dm_ems.specs.Tables.{expanded};
-ghost use Rattle.dm_ems.specs.Linked.{IsLinked};
+ghost use Rattle.dm_ems.specs.Consistent.{IsConsistent};
 ghost use Rattle.dm_ems_calls.specs.Caller.{caller};
 ghost use Rattle.dm_ems_calls.specs.Windows.{map_page, save_map, restore_map, whole_map, map_many};
 
@@ -14,7 +14,7 @@ use dm_space::Space;
 /// 44h: window AL shows logical page BX of the handle in DX.
 #[tactic(auto, unfolding(crate::specs::Windows::map_page))]
 pub(crate) fn map_page(cpu: &mut Cpu, ems: &Ems, space: &mut Space)
-    requires { IsLinked (expanded ems.now space.old.memory) }
+    requires { IsConsistent (expanded ems.now space.old.memory) }
     ensures { caller cpu.new ems.now space.new.memory ≡ map_page (caller cpu.old ems.now space.old.memory) }
 {
     let res = ems.map_page(space, cpu.byte(ByteRegister::Al), cpu.bx, cpu.dx);
@@ -33,7 +33,7 @@ pub(crate) fn save_map(cpu: &mut Cpu, ems: &mut Ems, space: &Space)
 /// 48h: the windows show again what was kept under the handle in DX.
 #[tactic(auto, unfolding(crate::specs::Windows::restore_map))]
 pub(crate) fn restore_map(cpu: &mut Cpu, ems: &mut Ems, space: &mut Space)
-    requires { IsLinked (expanded ems.old space.old.memory) }
+    requires { IsConsistent (expanded ems.old space.old.memory) }
     ensures { caller cpu.new ems.new space.new.memory ≡ restore_map (caller cpu.old ems.old space.old.memory) }
 {
     let res = ems.restore_map(space, cpu.dx);
@@ -43,7 +43,7 @@ pub(crate) fn restore_map(cpu: &mut Cpu, ems: &mut Ems, space: &mut Space)
 /// 4Eh: writes the map of the windows at ES:DI, sets it from DS:SI, or both, or tells its size in AL, as AL says.
 #[tactic(auto, unfolding(crate::specs::Windows::whole_map))]
 pub(crate) fn whole_map(cpu: &mut Cpu, ems: &Ems, space: &mut Space)
-    requires { IsLinked (expanded ems.now space.old.memory) }
+    requires { IsConsistent (expanded ems.now space.old.memory) }
     ensures { caller cpu.new ems.now space.new.memory ≡ whole_map (caller cpu.old ems.now space.old.memory) }
 {
     let mode = cpu.byte(ByteRegister::Al);
@@ -54,7 +54,7 @@ pub(crate) fn whole_map(cpu: &mut Cpu, ems: &Ems, space: &mut Space)
 /// 50h: pages of the handle in DX come into windows, by CX pairs at DS:SI; AL says how a pair tells its window.
 #[tactic(auto, unfolding(crate::specs::Windows::map_many))]
 pub(crate) fn map_many(cpu: &mut Cpu, ems: &Ems, space: &mut Space)
-    requires { IsLinked (expanded ems.now space.old.memory) }
+    requires { IsConsistent (expanded ems.now space.old.memory) }
     ensures { caller cpu.new ems.now space.new.memory ≡ map_many (caller cpu.old ems.now space.old.memory) }
 {
     let mode = cpu.byte(ByteRegister::Al);

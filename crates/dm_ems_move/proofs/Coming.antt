@@ -7,10 +7,10 @@ use Rattle.dm_ems.specs.declared.status.Status.{Status}
 use Rattle.dm_ems.specs.declared.status.Status.TheVariants.{UnknownHandle, OverTotal, OverFree}
 use Rattle.dm_ems.specs.declared.tables.Handle.{Handle}
 use Rattle.dm_ems.specs.Tables.{Expanded, page_count, blocks_of, unallocated, appended, cut}
-use Rattle.dm_ems.specs.Linked.{IsUsed, IsLinked, HasNumbers}
+use Rattle.dm_ems.specs.Consistent.{IsUsed, IsConsistent, HasNumbers}
 use Rattle.dm_ems.specs.Calls.{need, slot}
 use Rattle.dm_ems.specs.Coming.{HasPages}
-use Rattle.dm_ems.proofs.Linked.{linked_cut}
+use Rattle.dm_ems.proofs.Consistent.{consistent_cut}
 use Rattle.dm_ems.proofs.HandleBlocks.{cut_blocks, count_blocks}
 use Rattle.dm_ems.proofs.Coming.{grows, may_come}
 use Rattle.dm_ems_move.specs.declared.reallocation.Reallocated.{Reallocated}
@@ -30,7 +30,7 @@ take_beyond zero (b ∷ bs) le = absurd (omega (arith, le))
 take_beyond (suc n) (b ∷ bs) le = ap (λ l. b ∷ l) (take_beyond n bs (omega (arith, le)))
 
 -- the last pages went
-fewer : (x : Expanded) (h n : ℕ) → IsLinked x → n < page_count x.ems h → HasPages x (cut x h n) h n
+fewer : (x : Expanded) (h n : ℕ) → IsConsistent x → n < page_count x.ems h → HasPages x (cut x h n) h n
 fewer x h n l lt =
     let bs = blocks_of x.ems h in
     let is = cut_blocks x h n l in
@@ -40,11 +40,11 @@ fewer x h n l lt =
       new = [];
       blocks = is ∙ sym (append-nil (take n bs));
       zeros = λ k d no. absurd (omega (arith, no));
-      link = linked_cut x h n l;
+      consistency = consistent_cut x h n l;
     }
 
 -- pages came behind those that there were
-more : (x : Expanded) (h n : ℕ) → IsLinked x → HasNumbers x → IsUsed x.ems.handles h → page_count x.ems h ≤ n → nat_lt (unallocated x) (n - page_count x.ems h) ≡ false
+more : (x : Expanded) (h n : ℕ) → IsConsistent x → HasNumbers x → IsUsed x.ems.handles h → page_count x.ems h ≤ n → nat_lt (unallocated x) (n - page_count x.ems h) ≡ false
     → HasPages x (appended x h (n - page_count x.ems h)) h n
 more x h n l few u le e =
     let m = n - page_count x.ems h in
@@ -58,10 +58,10 @@ more x h n l few u le e =
       new = g.new;
       blocks = g.blocks ∙ ap (λ l. l ++ g.new) (sym (take_beyond n bs (omega (arith, long, le))));
       zeros = g.zeros;
-      link = g.link;
+      consistency = g.consistency;
     }
 
-counted : (x : Expanded) (h n : ℕ) (b : Bool) → nat_lt n (page_count x.ems h) ≡ b → IsLinked x → HasNumbers x → IsUsed x.ems.handles h → nat_lt (unallocated x) (n - page_count x.ems h) ≡ false
+counted : (x : Expanded) (h n : ℕ) (b : Bool) → nat_lt n (page_count x.ems h) ≡ b → IsConsistent x → HasNumbers x → IsUsed x.ems.handles h → nat_lt (unallocated x) (n - page_count x.ems h) ≡ false
     → HasPages x (cond b (cut x h n) (appended x h (n - page_count x.ems h))) h n
 counted x h n true e l few u f = fewer x h n l (less n (page_count x.ems h) e)
 counted x h n false e l few u f = more x h n l few u (not_less n (page_count x.ems h) e) f

@@ -11,9 +11,9 @@ use Rattle.dm_ems.specs.declared.status.Status.{Status}
 use Rattle.dm_ems.specs.declared.status.Status.TheVariants.{UnknownHandle, NoSuchPage, PastPages, OffsetPastPage, UnknownKind, PastMemory}
 use Rattle.dm_ems.specs.declared.tables.Page.{Page}
 use Rattle.dm_ems.specs.Tables.{Tables, Expanded, is_of, blocks_of, page_count}
-use Rattle.dm_ems.specs.Linked.{IsLinked}
+use Rattle.dm_ems.specs.Consistent.{IsConsistent}
 use Rattle.dm_ems.specs.Calls.{need}
-use Rattle.dm_ems.proofs.Linked.{mapped_page}
+use Rattle.dm_ems.proofs.Consistent.{mapped_page}
 use Rattle.dm_ems_move.specs.declared.description.Description.{Description}
 use Rattle.dm_ems_move.specs.Steps.{and_then}
 use Rattle.dm_ems_move.specs.RegionMoves.{described, conventional, expanded_region, region_of, regions_of}
@@ -38,7 +38,7 @@ count-blocks ems h = length-map (filter (is_of h) ems.pages) (λ (page : Page). 
 few-pages : (ems : Tables) (h : ℕ) → length ems.pages ≤ 512 → page_count ems h ≤ 512
 few-pages ems h few = omega (arith, few, count_by-le-length (is_of h) ems.pages)
 
-block-there : (x : Expanded) (h k : ℕ) → IsLinked x → k < length (blocks_of x.ems h) → IsPage x.memory (slice_index (blocks_of x.ems h) k)
+block-there : (x : Expanded) (h k : ℕ) → IsConsistent x → k < length (blocks_of x.ems h) → IsPage x.memory (slice_index (blocks_of x.ems h) k)
 block-there x h k l low = mapped_page x h k (slice_index (blocks_of x.ems h) k) l (slice_get-get_or (blocks_of x.ems h) k 0 low)
 
 conventional-lies : (m : Memory) (d : Description) (n : ℕ) → Lies m n (conventional d n)
@@ -47,7 +47,7 @@ conventional-lies m d n =
     if-lies m n (nat_lt 0x100000 end) (Err PastMemory) _ (λ _. refuses m n PastMemory)
     (λ e. let low : end ≤ 0x100000 = grind (arith, nat_tests, e) in record { inside = record { small = omega (arith, low); within = omega (arith, low) } })
 
-expanded-lies : (x : Expanded) (d : Description) (n : ℕ) → IsLinked x → length x.ems.pages ≤ 512 → Lies x.memory n (expanded_region x.ems d n)
+expanded-lies : (x : Expanded) (d : Description) (n : ℕ) → IsConsistent x → length x.ems.pages ≤ 512 → Lies x.memory n (expanded_region x.ems d n)
 expanded-lies x d n l few =
     let m = x.memory in let count = page_count x.ems d.handle in let end = d.page * 0x4000 + d.offset + n in
     need-lies m n (slice_index_or x.ems.handles d.handle None) UnknownHandle _ (λ s.
@@ -62,7 +62,7 @@ expanded-lies x d n l few =
       };
     }))))
 
-region-lies : (x : Expanded) (d : Description) (n : ℕ) → IsLinked x → length x.ems.pages ≤ 512 → Lies x.memory n (region_of x.ems d n)
+region-lies : (x : Expanded) (d : Description) (n : ℕ) → IsConsistent x → length x.ems.pages ≤ 512 → Lies x.memory n (region_of x.ems d n)
 unfolding region_of
 region-lies x d n l few =
     if-lies x.memory n (nat_lt 1 d.kind) (Err UnknownKind) _ (λ _. refuses x.memory n UnknownKind) (λ _.
@@ -82,10 +82,10 @@ both-then m n (Err e) s p q = record { inside = tt }
 both-then m n (Ok v) (Err e) p q = record { inside = tt }
 both-then m n (Ok v) (Ok w) p q = record { inside = record { from = p.inside; to = q.inside } }
 
-both-lie : (x : Expanded) (segment offset n : ℕ) → IsLinked x → length x.ems.pages ≤ 512 → Both x.memory n (regions_of x segment offset n)
+both-lie : (x : Expanded) (segment offset n : ℕ) → IsConsistent x → length x.ems.pages ≤ 512 → Both x.memory n (regions_of x segment offset n)
 unfolding regions_of
 both-lie x segment offset n l few =
     both-then x.memory n _ _ (region-lies x (described x.memory segment offset 4) n l few) (region-lies x (described x.memory segment offset 11) n l few)
 
-pub regions-inside : (x : Expanded) (segment offset n : ℕ) (r : Region × Region) → IsLinked x → length x.ems.pages ≤ 512 → Ok r ≡ regions_of x segment offset n → AreInside x.memory n r
+pub regions-inside : (x : Expanded) (segment offset n : ℕ) (r : Region × Region) → IsConsistent x → length x.ems.pages ≤ 512 → Ok r ≡ regions_of x segment offset n → AreInside x.memory n r
 regions-inside x segment offset n r l few e = subst (λ (t : Result (Region × Region) Status). IfOk t (AreInside x.memory n)) (sym e) (both-lie x segment offset n l few).inside

@@ -9,7 +9,7 @@ use Rattle.dm_ems.specs.declared.status.Status.{Status}
 use Rattle.dm_ems.specs.declared.status.Status.TheVariants.{NoSuchPage, NoSuchWindow}
 use Rattle.dm_ems.specs.declared.tables.Page.{Page}
 use Rattle.dm_ems.specs.Tables.{Tables, Expanded, blocks_of}
-use Rattle.dm_ems.specs.Linked.{IsOwned, ShowsPages, IsLinked}
+use Rattle.dm_ems.specs.Consistent.{IsOwned, ShowsPages, IsConsistent}
 use Rattle.dm_ems.specs.Calls.{need}
 use Rattle.dm_ems.specs.Names.{writing}
 use Rattle.dm_ems.proofs.Owned.{each_block}
@@ -43,14 +43,14 @@ paired_shows ems h by page value ws l =
     (need_shows ems.pages (slice_get (blocks_of ems h) page) NoSuchPage _ (λ b is.
     record { shown = window_set ems.pages ws w (Some b) l (each_block (IsOwned ems.pages) ems.pages h page b (λ k j. (k, j, refl)) is) })))
 
-after_shows : (x : Expanded) (h : ℕ) (by : Bool) (s o n : ℕ) → IsLinked x → Shows x.ems.pages (after_pairs x.memory (blocks_of x.ems h) by s o n)
+after_shows : (x : Expanded) (h : ℕ) (by : Bool) (s o n : ℕ) → IsConsistent x → Shows x.ems.pages (after_pairs x.memory (blocks_of x.ems h) by s o n)
 after_shows x h by s o zero l = record { shown = l.shown }
 after_shows x h by s o (suc n) l = then_shows x.ems.pages _ _ (after_shows x h by s o n l) (λ ws p. paired_shows x.ems h by _ _ ws p)
 
 of_ok : (ps : List Page) (r : Result (List (Option ℕ)) Status) (ws : List (Option ℕ)) → Shows ps r → r ≡ Ok ws → ShowsPages ps ws
 of_ok ps r ws s e = subst (λ (t : Result (List (Option ℕ)) Status). IfOk t (ShowsPages ps)) e s.shown
 
-pub after_shown : (x : Expanded) (h : ℕ) (by : Bool) (s o n : ℕ) (ws : List (Option ℕ)) → IsLinked x → after_pairs x.memory (blocks_of x.ems h) by s o n ≡ Ok ws → ShowsPages x.ems.pages ws
+pub after_shown : (x : Expanded) (h : ℕ) (by : Bool) (s o n : ℕ) (ws : List (Option ℕ)) → IsConsistent x → after_pairs x.memory (blocks_of x.ems h) by s o n ≡ Ok ws → ShowsPages x.ems.pages ws
 after_shown x h by s o n ws l e = of_ok x.ems.pages _ ws (after_shows x h by s o n l) e
 
 -- ---- the whole map
@@ -100,5 +100,5 @@ bytes_shaped m s o (b ∷ bytes) =
     let n = poke m (linear m.a20 s (o % 65536)) b in
     shaped-then m n (with_bytes n s (suc o) bytes) (poke-shaped m (linear m.a20 s (o % 65536)) b) (bytes_shaped n s (suc o) bytes)
 
-pub written_linked : (x : Expanded) (s o : ℕ) (bytes : List ℕ) → IsLinked x → IsLinked (writing x s o bytes)
-written_linked x s o bytes l = writes_keep x (with_bytes x.memory s o bytes) (bytes_shaped x.memory s o bytes) l
+pub written_consistent : (x : Expanded) (s o : ℕ) (bytes : List ℕ) → IsConsistent x → IsConsistent (writing x s o bytes)
+written_consistent x s o bytes l = writes_keep x (with_bytes x.memory s o bytes) (bytes_shaped x.memory s o bytes) l

@@ -1,8 +1,8 @@
--- That tables and memory stay together through each call, that what is outside stays, and that pages which are promised
--- come.
+-- That tables and memory stay consistent through each call, that what is outside stays, and that pages which are
+-- promised come.
 use Rattle.std.specs.Prelude.{ℕ, ◌≡◌, None, Ok}
 use Rattle.dm_ems.specs.Tables.{Expanded}
-use Rattle.dm_ems.specs.Linked.{IsLinked, HasNumbers}
+use Rattle.dm_ems.specs.Consistent.{IsConsistent, HasNumbers}
 use Rattle.dm_ems.specs.Coming.{HasPages}
 use Rattle.dm_ems.specs.Outside.{LeavesOutside}
 use Rattle.dm_ems.specs.Calls.{left}
@@ -12,13 +12,13 @@ use Rattle.dm_ems_move.specs.Many.{map_many}
 use Rattle.dm_ems_move.specs.Maps.{whole_map}
 use Rattle.dm_ems_move.specs.RegionMoves.{move_region, exchange_region}
 
--- each of these calls keeps tables and memory together, and leaves what is outside of expanded memory
-pub record MovesKeepTheLink : Type 0 where
-  pub reallocating : (x : Expanded) (handle n : ℕ) → IsLinked x → IsLinked (left x (reallocate x handle n))
-  pub mapping : (x : Expanded) (mode handle count segment offset : ℕ) → IsLinked x → IsLinked (left x (map_many x mode handle count segment offset))
-  pub setting : (x : Expanded) (mode to_segment to_offset from_segment from_offset : ℕ) → IsLinked x → IsLinked (left x (whole_map x mode to_segment to_offset from_segment from_offset))
-  pub moving : (x : Expanded) (segment offset : ℕ) → IsLinked x → IsLinked (left x (move_region x segment offset))
-  pub exchanging : (x : Expanded) (segment offset : ℕ) → IsLinked x → IsLinked (left x (exchange_region x segment offset))
+-- each of these calls keeps tables and memory consistent, and leaves what is outside of expanded memory
+pub record MovesKeepConsistency : Type 0 where
+  pub reallocating : (x : Expanded) (handle n : ℕ) → IsConsistent x → IsConsistent (left x (reallocate x handle n))
+  pub mapping : (x : Expanded) (mode handle count segment offset : ℕ) → IsConsistent x → IsConsistent (left x (map_many x mode handle count segment offset))
+  pub setting : (x : Expanded) (mode to_segment to_offset from_segment from_offset : ℕ) → IsConsistent x → IsConsistent (left x (whole_map x mode to_segment to_offset from_segment from_offset))
+  pub moving : (x : Expanded) (segment offset : ℕ) → IsConsistent x → IsConsistent (left x (move_region x segment offset))
+  pub exchanging : (x : Expanded) (segment offset : ℕ) → IsConsistent x → IsConsistent (left x (exchange_region x segment offset))
 
 pub record MovesLeaveOutside : Type 0 where
   pub reallocating : (x : Expanded) (handle n : ℕ) → LeavesOutside x (left x (reallocate x handle n))
@@ -29,4 +29,4 @@ pub record MovesLeaveOutside : Type 0 where
 
 -- a handle has as many pages as were asked for, if that was not refused
 abbrev pub PagesCome : Type 0
-PagesCome = (x y : Expanded) (handle n : ℕ) (r : Reallocated) → IsLinked x → HasNumbers x → reallocate x handle n ≡ Ok (r, y) → r.refused ≡ None → HasPages x y handle n
+PagesCome = (x y : Expanded) (handle n : ℕ) (r : Reallocated) → IsConsistent x → HasNumbers x → reallocate x handle n ≡ Ok (r, y) → r.refused ≡ None → HasPages x y handle n

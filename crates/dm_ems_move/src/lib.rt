@@ -9,7 +9,7 @@ mod maps;
 mod reallocation;
 mod region_moves;
 
-pub use laws::{moves_keep_the_link, moves_leave_outside, pages_come};
+pub use laws::{moves_keep_consistency, moves_leave_outside, pages_come};
 pub use many::map_many;
 pub use maps::whole_map;
 pub use reallocation::{Reallocated, reallocate};

@@ -3,7 +3,7 @@
 ghost use Rattle.std.specs.Prelude.{◌≡◌, ◌<◌, ◌==◌, IfOk, IfSome, ℕ, None, slice_index_or};
 ghost use Rattle.dm_space.specs.Memory.{IsPage};
 ghost use Rattle.dm_ems.specs.Tables.{expanded, blocks_of};
-ghost use Rattle.dm_ems.specs.Linked.{IsLinked};
+ghost use Rattle.dm_ems.specs.Consistent.{IsConsistent};
 ghost use Rattle.dm_ems.specs.Calls.{answer, left};
 ghost use Rattle.dm_ems_move.specs.Many.{map_many, window_of, paired, after_pairs};
 
@@ -101,7 +101,7 @@ pub fn map_many(
     segment: u16,
     offset: u16,
 ) -> Result<(), Status>
-    requires { IsLinked (expanded ems.now space.old.memory) }
+    requires { IsConsistent (expanded ems.now space.old.memory) }
     ensures answer { result ≡ answer (map_many (expanded ems.now space.old.memory) mode handle count segment offset) }
     ensures left { expanded ems.now space.new.memory ≡ left (expanded ems.now space.old.memory) (map_many (expanded ems.now space.old.memory) mode handle count segment offset) }
     ensures kept { space.new ≡ record space.old { memory = space.new.memory } }

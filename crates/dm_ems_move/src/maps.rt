@@ -4,7 +4,7 @@ ghost use Rattle.std.specs.Prelude.{◌≡◌, ◌<◌, ◌≤◌, ◌+◌, ◌+
 ghost use Rattle.arrayvec.specs.ArrayVec.{array_vec_len};
 ghost use Rattle.dm_space.specs.Buffers.{with_bytes};
 ghost use Rattle.dm_ems.specs.Tables.{expanded, is_block, is_of};
-ghost use Rattle.dm_ems.specs.Linked.{IsLinked};
+ghost use Rattle.dm_ems.specs.Consistent.{IsConsistent};
 ghost use Rattle.dm_ems.specs.Calls.{answer, left};
 ghost use Rattle.dm_ems_move.specs.Maps.{whole_map, numbers, entry, entries, meant, meant_at, map_at};
 
@@ -149,7 +149,7 @@ pub fn whole_map(
     from_segment: u16,
     from_offset: u16,
 ) -> Result<Option<u8>, Status>
-    requires { IsLinked (expanded ems.now space.old.memory) }
+    requires { IsConsistent (expanded ems.now space.old.memory) }
     ensures answer { result ≡ answer (whole_map (expanded ems.now space.old.memory) mode to_segment to_offset from_segment from_offset) }
     ensures left { expanded ems.now space.new.memory ≡ left (expanded ems.now space.old.memory) (whole_map (expanded ems.now space.old.memory) mode to_segment to_offset from_segment from_offset) }
     ensures kept { space.new ≡ record space.old { memory = space.new.memory } }

@@ -2,7 +2,7 @@
 
 ghost use Rattle.std.specs.Prelude.{◌≡◌, ◌+◌, ◌≤◌, length, Some};
 ghost use Rattle.dm_ems.specs.Tables.{expanded, appended};
-ghost use Rattle.dm_ems.specs.Linked.{IsLinked};
+ghost use Rattle.dm_ems.specs.Consistent.{IsConsistent};
 ghost use Rattle.dm_ems.specs.Calls.{answer, left};
 ghost use Rattle.dm_ems_move.specs.Reallocation.{reallocate, reallocated};
 
@@ -52,7 +52,7 @@ pub fn reallocate(
     handle: u16,
     count: u16,
 ) -> Result<Reallocated, Status>
-    requires { IsLinked (expanded ems.old space.old.memory) }
+    requires { IsConsistent (expanded ems.old space.old.memory) }
     ensures answer { result ≡ answer (reallocate (expanded ems.old space.old.memory) handle count) }
     ensures left { expanded ems.new space.new.memory ≡ left (expanded ems.old space.old.memory) (reallocate (expanded ems.old space.old.memory) handle count) }
     ensures kept { space.new ≡ record space.old { memory = space.new.memory } }

@@ -2,7 +2,7 @@
 
 ghost use Rattle.std.specs.Prelude.{◌≡◌, ◌≤◌, ◌+◌, IfOk, OnErr};
 ghost use Rattle.dm_ems.specs.Tables.{expanded};
-ghost use Rattle.dm_ems.specs.Linked.{IsLinked};
+ghost use Rattle.dm_ems.specs.Consistent.{IsConsistent};
 ghost use Rattle.dm_ems.specs.Calls.{answer, left};
 ghost use Rattle.dm_moves.specs.Regions.{IsInside};
 ghost use Rattle.dm_ems_move.specs.RegionMoves.{length_at, conventional, expanded_region, region_of, regions_of, is_linear, are_mixed, move_between, exchange_between, move_region, exchange_region, moved_code};
@@ -204,7 +204,7 @@ fn exchange_between(
 /// Then neither memory nor the scratch bytes have changed.
 #[tactic(auto, unfolding(crate::specs::RegionMoves::move_region))]
 pub fn move_region(ems: &Ems, space: &mut Space, segment: u16, offset: u16) -> Result<Moved, Status>
-    requires { IsLinked (expanded ems.now space.old.memory) }
+    requires { IsConsistent (expanded ems.now space.old.memory) }
     ensures answer { result ≡ answer (move_region (expanded ems.now space.old.memory) segment offset) }
     ensures left { expanded ems.now space.new.memory ≡ left (expanded ems.now space.old.memory) (move_region (expanded ems.now space.old.memory) segment offset) }
     ensures refused { OnErr result (space.new ≡ space.old) }
@@ -240,7 +240,7 @@ pub fn exchange_region(
     segment: u16,
     offset: u16,
 ) -> Result<(), Status>
-    requires { IsLinked (expanded ems.now space.old.memory) }
+    requires { IsConsistent (expanded ems.now space.old.memory) }
     ensures answer { result ≡ answer (exchange_region (expanded ems.now space.old.memory) segment offset) }
     ensures left { expanded ems.now space.new.memory ≡ left (expanded ems.now space.old.memory) (exchange_region (expanded ems.now space.old.memory) segment offset) }
     ensures refused { OnErr result (space.new ≡ space.old) }

@@ -9,11 +9,11 @@ use Rattle.dm_exec.specs.declared.effect.Next.TheVariants.{Go, Halt}
 use Rattle.dm_cpu.specs.Guest.{Guest}
 use Rattle.dm_exec.specs.Effect.{next_of}
 use Rattle.dm_xms.specs.declared.tables.Handle.{Handle}
-use Rattle.dm_xms.specs.Linked.{handle_at}
+use Rattle.dm_xms.specs.Consistent.{handle_at}
 use Rattle.dm_xms.specs.Tables as xms
 use Rattle.dm_state.specs.declared.stop.Stop.{Stop}
 use Rattle.dm_state.specs.declared.stop.Stop.TheVariants.{Memory as NoMemory}
-use Rattle.dm_state.specs.State.{State, Answer, AreLinked}
+use Rattle.dm_state.specs.State.{State, Answer, AreConsistent}
 use Rattle.dm_services.specs.declared.services.Service.{Service}
 use Rattle.dm_services.specs.Services.{service_at}
 use Rattle.dm_services.proofs.Map.{tables-kept}
@@ -105,7 +105,7 @@ if_some : {A : Type 0} (o : Option A) (P Q : A → Type 0) → ((a : A) → P a 
 if_some (Some a) P Q f h = f a h
 if_some None P Q f h = tt
 
-hidden : (s : State) (block : ℕ) → AreLinked s → is_extended s.xms.handles block ≡ true → shows s.memory.windows block ≡ false
+hidden : (s : State) (block : ℕ) → AreConsistent s → is_extended s.xms.handles block ≡ true → shows s.memory.windows block ≡ false
 hidden s block l e =
     each s.xms.handles (λ b. shows s.memory.windows b ≡ false) block
     (λ k. if_some (handle_at s.xms.handles k) _ _ (λ h x. x.hidden) (l.xms.blocks k)) e

@@ -7,7 +7,7 @@ mod Kept
 mod Extended
 mod NoRoom
 mod Rooms
-mod Links
+mod Consistency
 mod UntilLaws
 mod UntilRuns
 pub mod OneUntil

@@ -5,7 +5,7 @@ use Rattle.dm_space.specs.Unseen.{shows, mixed, unseen_as, IsUnseen}
 use Rattle.dm_xms.specs.declared.tables.Handle.{Handle}
 use Rattle.dm_state.specs.declared.stop.Stop.{Stop}
 use Rattle.dm_state.specs.declared.stop.Stop.TheVariants.{Memory as NoMemory}
-use Rattle.dm_state.specs.State.{State, Answer, AreLinked}
+use Rattle.dm_state.specs.State.{State, Answer, AreConsistent}
 use Rattle.dm_services.specs.Laws.{with_change}
 use Rattle.dm_drivers.specs.declared.drivers.Driver.{Driver}
 use Rattle.dm_drivers.specs.declared.drivers.Driver.TheVariants.{ExpandedMemory, Multiplex, ExtendedMemory}
@@ -80,11 +80,11 @@ extended_as handles other m = with_blocks m (record m.blocks { contents = mixed 
 abbrev pub with_extended_blocks : (ℕ → List ℕ) → State → State
 with_extended_blocks other s = record s { memory = extended_as s.xms.handles other s.memory }
 
--- where tables and memory go together, as they do in each machine, a run doesn't depend on the bytes of any block of
+-- where tables and memory are consistent, as they do in each machine, a run doesn't depend on the bytes of any block of
 -- extended memory
 abbrev pub ExtendedBlocksChangeNoRun : Type 0
 ExtendedBlocksChangeNoRun =
-    (other : ℕ → List ℕ) (s t : State) (n : ℕ) (stop : Stop) → AreLinked s → StaysQuiet s n →
+    (other : ℕ → List ℕ) (s t : State) (n : ℕ) (stop : Stop) → AreConsistent s → StaysQuiet s n →
     IsRun s n stop t → IsRun (with_extended_blocks other s) n stop (with_extended_blocks other t)
 
 -- what it leaves: the tables of expanded and of extended memory, and the bytes of each block of extended memory
@@ -94,7 +94,7 @@ pub record LeavesExtended (s t : State) : Type 0 where
   pub bytes : (block : ℕ) → is_extended s.xms.handles block ≡ true → page_bytes t.memory block ≡ page_bytes s.memory block
 
 abbrev pub RunLeavesExtended : Type 0
-RunLeavesExtended = (s t : State) (n : ℕ) (stop : Stop) → AreLinked s → StaysQuiet s n → IsRun s n stop t → LeavesExtended s t
+RunLeavesExtended = (s t : State) (n : ℕ) (stop : Stop) → AreConsistent s → StaysQuiet s n → IsRun s n stop t → LeavesExtended s t
 
 -- steps and runs one after another, and between them changes of memory from outside, and more room
 pub data Follows (s : State) : State → Type 0 where

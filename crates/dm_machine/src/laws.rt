@@ -1,7 +1,7 @@
 //! Laws of steps and runs, each the contract of a function that does nothing.
 ghost use Rattle.dm_machine.specs.Laws.{StepHasOneAnswer, ThereIsOneRun, RunHasOneStop, UnseenBytesChangeNoStep, UnseenBytesChangeNoRun, UnseenBlocksChangeNoRun, RunLeavesUnseen, ExtendedBlocksChangeNoRun, RunLeavesExtended, RoomIsEnoughForRuns, RoomIsEnoughForSteps};
 ghost use Rattle.dm_machine.specs.Until.{UntilHasOneStop};
-ghost use Rattle.dm_state.specs.State.{AreLinked};
+ghost use Rattle.dm_state.specs.State.{AreConsistent};
 
 use crate::machine::Machine;
 
@@ -9,8 +9,8 @@ use crate::machine::Machine;
 /// its own and has a handle in use; each handle of extended memory has a block of its own, as large as it says, that no
 /// window shows; there is no other block; and windows, saved ones too, show pages alone. So pages that are promised
 /// come (`dm_drivers::pages_come`).
-pub fn tables_and_memory_go_together(machine: &Machine)
-    ensures { AreLinked machine.now }
+pub fn tables_and_memory_are_consistent(machine: &Machine)
+    ensures { AreConsistent machine.now }
 {
     let _steps = machine.parts.steps;
 }
@@ -41,7 +41,7 @@ pub fn there_is_one_run_until()
 /// In particular this holds for the pages of expanded memory that no window shows (LIM EMS 4.0, section 2) and for all
 /// blocks of extended memory (XMS 3.0). Such a run leaves the windows as they are, each block where it lies, and the
 /// bytes of each block that no window shows. Where tables and memory are consistent, as in each machine
-/// (`tables_and_memory_go_together`), it leaves the tables of both drivers and the bytes of all blocks of extended
+/// (`tables_and_memory_are_consistent`), it leaves the tables of both drivers and the bytes of all blocks of extended
 /// memory, and with other bytes in all of these it is the same run. The two drivers may map, move, give or free such
 /// bytes.
 pub fn unseen_bytes_change_nothing()

@@ -16,7 +16,7 @@ pub use dm_proc::{AddError, Programs};
 pub use dm_space::Space;
 pub use dm_state::{Config, Stop};
 pub use laws::{
-    a_step_has_one_answer, room_is_enough, tables_and_memory_go_together, there_is_one_run,
+    a_step_has_one_answer, room_is_enough, tables_and_memory_are_consistent, there_is_one_run,
     there_is_one_run_until, unseen_bytes_change_nothing,
 };
 pub use loading::LoadError;

@@ -42,13 +42,13 @@ pub struct Machine {
 }
 
 impl Model for Machine {
-    ghost use Rattle.dm_state.specs.State.{State, AreLinked};
+    ghost use Rattle.dm_state.specs.State.{State, AreConsistent};
 
     ghost Value = { State };
 
     ghost view = { λ m. m.parts };
 
-    ghost invariant = { λ m. AreLinked m.parts };
+    ghost invariant = { λ m. AreConsistent m.parts };
 }
 
 /// Registers before a program is loaded.

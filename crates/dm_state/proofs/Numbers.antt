@@ -9,11 +9,11 @@ use Rattle.dm_pool.specs.declared.places.Place.{Place}
 use Rattle.dm_pool.proofs.FreeRuns.{below_length}
 use Rattle.dm_ems.specs.declared.tables.Page.{Page}
 use Rattle.dm_ems.specs.Tables.{expanded}
-use Rattle.dm_ems.specs.Linked.{block_at, IsOwned, HasNumbers}
+use Rattle.dm_ems.specs.Consistent.{block_at, IsOwned, HasNumbers}
 use Rattle.dm_xms.specs.declared.tables.Handle.{Handle}
-use Rattle.dm_xms.specs.Linked.{handle_at}
-use Rattle.dm_xms.proofs.Linked.{there_at}
-use Rattle.dm_state.specs.State.{State, IsHandled, AreLinked}
+use Rattle.dm_xms.specs.Consistent.{handle_at}
+use Rattle.dm_xms.proofs.Consistent.{there_at}
+use Rattle.dm_state.specs.State.{State, IsHandled, AreConsistent}
 
 -- ---- blocks whose numbers are n numbers are n at most
 
@@ -82,7 +82,7 @@ handle_owner ps hs b all h =
       ap (λ t. cond t (block_at ps k) (block_or (handle_at hs (k - length ps)))) (le-ltb k (length ps) (omega arith)) ∙ ap (λ j. block_or (handle_at hs j)) back ∙ ap block_or h.2 ∙ h.3,
     )
 
-pub numbers : (s : State) → AreLinked s → HasNumbers (expanded s.ems s.memory)
+pub numbers : (s : State) → AreConsistent s → HasNumbers (expanded s.ems s.memory)
 numbers s l = covered (length s.ems.pages + 64) (owner s.ems.pages s.xms.handles) s.memory.blocks.places (λ i b e.
     let short : i < 576 = omega (arith, below_length s.memory.blocks.places i b e, l.ems.places) in
     elim (l.whole i (short, (b, e))) [

@@ -3,11 +3,11 @@ use Rattle.std.specs.Prelude.{◌≡◌, ◌⊎◌, ℕ, ◌+◌, ◌-◌, ◌^�
 use Rattle.dm_pool.specs.Blocks.{IsLive}
 use Rattle.dm_space.specs.Memory.{Memory}
 use Rattle.dm_ems.specs.Tables.{Tables, expanded}
-use Rattle.dm_ems.specs.Linked.{IsOwned, IsLinked}
+use Rattle.dm_ems.specs.Consistent.{IsOwned, IsConsistent}
 use Rattle.dm_xms.specs.Tables as xms
 use Rattle.dm_xms.specs.Tables.{extended}
-use Rattle.dm_xms.specs.Linked as extended_memory
-use Rattle.dm_xms.specs.Linked.{handle_at}
+use Rattle.dm_xms.specs.Consistent as extended_memory
+use Rattle.dm_xms.specs.Consistent.{handle_at}
 use Rattle.dm_xms.specs.declared.tables.Handle.{Handle}
 use Rattle.dm_cpu.specs.declared.cpu.Cpu.{Cpu}
 use Rattle.dm_cpu.specs.Guest.{Guest, guest}
@@ -51,16 +51,16 @@ HasProgram s = 0 < s.processes.present
 abbrev pub IsHandled : List (Option Handle) → ℕ → Type 0
 IsHandled handles block = (k : ℕ) × (h : Handle) × (handle_at handles k ≡ Some h) × (h.block ≡ block)
 
--- the tables of expanded and of extended memory and the memory go together, no block is a page and a handle's at once,
--- and each that is there is one of them
-pub record GoTogether (pages : Tables) (blocks : xms.Tables) (m : Memory) : Type 0 where
-  pub ems : IsLinked (expanded pages m)
-  pub xms : extended_memory.IsLinked (extended blocks m)
+-- the tables of expanded and of extended memory and the memory are consistent, no block is a page and a handle's at
+-- once, and each that is there is one of them
+pub record AreConsistentWith (pages : Tables) (blocks : xms.Tables) (m : Memory) : Type 0 where
+  pub ems : IsConsistent (expanded pages m)
+  pub xms : extended_memory.IsConsistent (extended blocks m)
   pub apart : (k : ℕ) → IfSome (handle_at blocks.handles k) (λ h. IsOwned pages.pages h.block → ⊥)
   pub whole : (block : ℕ) → IsLive m.blocks block → IsOwned pages.pages block ⊎ IsHandled blocks.handles block
 
-abbrev pub AreLinked : State → Type 0
-AreLinked s = GoTogether s.ems s.xms s.memory
+abbrev pub AreConsistent : State → Type 0
+AreConsistent s = AreConsistentWith s.ems s.xms s.memory
 
 -- what a step answers
 pub record Answer : Type 0 where

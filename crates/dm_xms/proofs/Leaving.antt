@@ -19,12 +19,12 @@ use Rattle.dm_xms.specs.Uppers.{at_least_one, largest_upper, lowest_upper, new_u
 use Rattle.dm_xms.specs.Line.{is_on, switched, enable_globally, disable_globally, enable_locally, disable_locally}
 use Rattle.dm_xms.specs.Moves.{and_then, double_after, described, side, move_between, move_memory}
 use Rattle.dm_xms.specs.Blocks.{allocate, deallocate, lock, unlock, reallocate}
-use Rattle.dm_xms.specs.Linked.{handle_at}
+use Rattle.dm_xms.specs.Consistent.{handle_at}
 use Rattle.dm_xms.specs.Outside.{IsOutside, LeavesOutside}
 use Rattle.dm_xms.specs.Laws.{CallsLeaveOutside}
 use Rattle.dm_moves.specs.Regions as regions
 use Rattle.dm_moves.proofs.Shapes.{moves_keep}
-use Rattle.dm_xms.proofs.Linked.{IsChanged, changed_block, live_stays, if_handle, turned, set_at, set_beside, slot_at, there_at, taken_new, not_live, same_pool, at_sized}
+use Rattle.dm_xms.proofs.Consistent.{IsChanged, changed_block, live_stays, if_handle, turned, set_at, set_beside, slot_at, there_at, taken_new, not_live, same_pool, at_sized}
 
 pub leaves_all : (x : Extended) → LeavesOutside x x
 leaves_all x = record { blocks = λ b n o. o; others = λ b live none. (live, none); windows = refl }

@@ -1,6 +1,6 @@
 pub mod Bases
 pub mod Gaps
 pub mod Rising
-pub mod Linked
+pub mod Consistent
 pub mod Leaving
 pub mod Sides

@@ -6,7 +6,7 @@ pub mod Line
 pub mod Blocks
 pub mod Uppers
 pub mod Moves
-pub mod Linked
+pub mod Consistent
 pub mod Outside
 pub mod Laws
 pub mod inner

@@ -3,7 +3,7 @@ use Rattle.std.specs.Prelude.{ℕ, ◌≡◌, ◌≢◌, length, IfSome}
 use Rattle.dm_pool.specs.Blocks.{IsLive}
 use Rattle.dm_space.specs.Memory.{page_bytes}
 use Rattle.dm_xms.specs.Tables.{Extended}
-use Rattle.dm_xms.specs.Linked.{handle_at}
+use Rattle.dm_xms.specs.Consistent.{handle_at}
 
 -- the block is no handle's
 abbrev pub IsNoHandles : Extended → ℕ → Type 0

@@ -3,7 +3,7 @@
 ghost use Rattle.std.specs.Prelude.{◌≡◌};
 ghost use Rattle.dm_xms.specs.Tables.{extended};
 ghost use Rattle.dm_xms.specs.Calls.{answer, left};
-ghost use Rattle.dm_xms.specs.Linked.{IsLinked};
+ghost use Rattle.dm_xms.specs.Consistent.{IsConsistent};
 ghost use Rattle.dm_xms.specs.Blocks.{address, free_memory, allocate, deallocate, lock, unlock, information, reallocate};
 
 use crate::status::Status;
@@ -107,7 +107,7 @@ impl Xms {
     /// In this order: `UnknownHandle`; `Locked`. Then nothing has changed.
     #[tactic(auto, unfolding(crate::specs::Blocks::deallocate))]
     pub fn deallocate(&mut self, space: &mut Space, handle: u16) -> Result<(), Status>
-        requires { IsLinked (extended self.old space.old.memory) }
+        requires { IsConsistent (extended self.old space.old.memory) }
         ensures answer { result ≡ answer (deallocate (extended self.old space.old.memory) handle) }
         ensures left { extended self.new space.new.memory ≡ left (extended self.old space.old.memory) (deallocate (extended self.old space.old.memory) handle) }
         ensures kept { space.new ≡ record space.old { memory = space.new.memory } }
@@ -192,7 +192,7 @@ impl Xms {
     /// In this order: `UnknownHandle`; `Locked`; `NoMemory` where it fits nowhere. Then nothing has changed.
     #[tactic(auto, unfolding(crate::specs::Blocks::reallocate))]
     pub fn reallocate(&mut self, space: &mut Space, handle: u16, kib: u16) -> Result<(), Status>
-        requires { IsLinked (extended self.old space.old.memory) }
+        requires { IsConsistent (extended self.old space.old.memory) }
         ensures answer { result ≡ answer (reallocate (extended self.old space.old.memory) handle kib) }
         ensures left { extended self.new space.new.memory ≡ left (extended self.old space.old.memory) (reallocate (extended self.old space.old.memory) handle kib) }
         ensures kept { space.new ≡ record space.old { memory = space.new.memory } }

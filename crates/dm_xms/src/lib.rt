@@ -14,7 +14,7 @@ mod tables;
 mod uppers;
 
 pub use blocks::{FreeMemory, HandleInformation};
-pub use laws::{calls_keep_the_link, calls_leave_outside, writes_keep_the_link};
+pub use laws::{calls_keep_consistency, calls_leave_outside, writes_keep_consistency};
 pub use moves::Description;
 pub use status::Status;
 pub use tables::{Handle, Upper, Xms};

@@ -3,7 +3,7 @@
 ghost use Rattle.std.specs.Prelude.{◌≡◌, ◌<◌, ◌≤◌, ◌+◌, ◌^◌, IfOk, OnErr};
 ghost use Rattle.dm_xms.specs.Tables.{extended};
 ghost use Rattle.dm_xms.specs.Calls.{answer, left};
-ghost use Rattle.dm_xms.specs.Linked.{IsLinked};
+ghost use Rattle.dm_xms.specs.Consistent.{IsConsistent};
 ghost use Rattle.dm_xms.specs.inner.Sides.{is_single, Reaches};
 ghost use Rattle.dm_xms.specs.Moves.{double_after, described, side, move_between, move_memory};
 
@@ -111,7 +111,7 @@ impl Xms {
         unknown: Status,
         past: Status,
     ) -> Result<Side, Status>
-        requires { IsLinked (extended self.now space.now.memory) }
+        requires { IsConsistent (extended self.now space.now.memory) }
         ensures side { result ≡ side (extended self.now space.now.memory) described unknown past }
         ensures reaches { IfOk result (Reaches space.now.memory) }
     {
@@ -145,7 +145,7 @@ impl Xms {
     /// nor the scratch bytes have changed.
     #[tactic(auto, unfolding(crate::specs::Moves::move_memory))]
     pub fn move_memory(&self, space: &mut Space, segment: u16, offset: u16) -> Result<(), Status>
-        requires { IsLinked (extended self.now space.old.memory) }
+        requires { IsConsistent (extended self.now space.old.memory) }
         ensures answer { result ≡ answer (move_memory (extended self.now space.old.memory) segment offset) }
         ensures left { extended self.now space.new.memory ≡ left (extended self.now space.old.memory) (move_memory (extended self.now space.old.memory) segment offset) }
         ensures refused { OnErr result (space.new ≡ space.old) }

@@ -1,11 +1,11 @@
--- Laws of the driver's calls: tables and memory stay together, and what is outside of extended memory stays.
+-- Laws of the driver's calls: tables and memory stay consistent, and what is outside of extended memory stays.
 use Rattle.std.specs.Prelude.{Bool}
-use Rattle.dm_xms.specs.Linked.{IsLinked}
+use Rattle.dm_xms.specs.Consistent.{IsConsistent}
 use Rattle.dm_xms.specs.Outside.{LeavesOutside}
 use Rattle.dm_xms_calls.specs.Caller.{Caller}
 use Rattle.dm_xms_calls.specs.Functions.{called}
 
--- tables and memory stay together, and what is outside stays
+-- tables and memory stay consistent, and what is outside stays
 pub record ExtendedMemoryCallsKeep : Type 0 where
-  pub link : (upper : Bool) (c : Caller) → IsLinked c.x → IsLinked (called upper c).x
+  pub consistency : (upper : Bool) (c : Caller) → IsConsistent c.x → IsConsistent (called upper c).x
   pub outside : (upper : Bool) (c : Caller) → LeavesOutside c.x (called upper c).x

@@ -1,7 +1,7 @@
 //! The functions of the driver (XMS 3.0).
 ghost use Rattle.std.specs.Prelude.{◌≡◌};
 ghost use Rattle.dm_xms.specs.Tables.{extended};
-ghost use Rattle.dm_xms.specs.Linked.{IsLinked};
+ghost use Rattle.dm_xms.specs.Consistent.{IsConsistent};
 ghost use Rattle.dm_xms_calls.specs.Caller.{caller};
 ghost use Rattle.dm_xms_calls.specs.Functions.{no_function, call, called};
 
@@ -96,7 +96,7 @@ fn function_of(number: u8) -> Function
 /// Does what a call asks for.
 #[tactic(auto, unfolding(crate::specs::Functions::no_function))]
 fn call(cpu: &mut Cpu, xms: &mut Xms, space: &mut Space, upper: bool, function: Function)
-    requires { IsLinked (extended xms.old space.old.memory) }
+    requires { IsConsistent (extended xms.old space.old.memory) }
     ensures { caller cpu.new xms.new space.new.memory ≡ call upper (caller cpu.old xms.old space.old.memory) function }
 {
     match function {
@@ -124,11 +124,11 @@ fn call(cpu: &mut Cpu, xms: &mut Xms, space: &mut Space, upper: bool, function: 
 }
 
 /// Does the function that AH names, on the registers of the program that calls, the tables of extended memory and the
-/// memory, which go together. AX is then 1, or 0 where the call was refused, and BL tells why; functions 00h and 08h
+/// memory, which are consistent. AX is then 1, or 0 where the call was refused, and BL tells why; functions 00h and 08h
 /// answer otherwise. `upper` is whether DOS has upper memory in its arena: then the driver gives no upper memory
 /// blocks.
 pub fn extended_memory_call(cpu: &mut Cpu, xms: &mut Xms, space: &mut Space, upper: bool)
-    requires { IsLinked (extended xms.old space.old.memory) }
+    requires { IsConsistent (extended xms.old space.old.memory) }
     ensures { caller cpu.new xms.new space.new.memory ≡ called upper (caller cpu.old xms.old space.old.memory) }
 {
     let function = function_of(cpu.byte(ByteRegister::Ah));

@@ -1,8 +1,8 @@
 //! Laws of the driver's calls: the contract of a function that does nothing.
 ghost use Rattle.dm_xms_calls.specs.Laws.{ExtendedMemoryCallsKeep};
 
-/// The law that each call keeps the tables of extended memory and the memory together, if they were before, and leaves
-/// the windows and the blocks of the pool that are no handle's. It does nothing when called.
+/// The law that each call keeps the tables of extended memory and the memory consistent, if they were before, and
+/// leaves the windows and the blocks of the pool that are no handle's. It does nothing when called.
 pub fn extended_memory_calls_keep()
     ensures { ExtendedMemoryCallsKeep }
 {}

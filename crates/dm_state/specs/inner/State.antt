@@ -1,7 +1,7 @@
 -- For private contracts and proofs alone: beside specs/State.antt.
 use Rattle.std.specs.Prelude.{◌-◌, ◌<◌, All, List, ◌≡◌, ◌⊎◌, ◌+◌, ◌^◌}
 use Rattle.dm_xms.specs.Tables as xms
-use Rattle.dm_xms.specs.Linked as extended_memory
+use Rattle.dm_xms.specs.Consistent as extended_memory
 use Rattle.dm_cpu.specs.Stack as stack
 use Rattle.dm_proc.specs.declared.parent.Parent.{Parent}
 

@@ -25,4 +25,4 @@ returns-in_default-clause-ok c =
     let is = rw c.in-Some-Exited.is at c.in-Some-Exited.field-0-is in
     let exited : c.step-stop.result ≡ Some (Exited code) = c.in-Some-Exited.is ∙ ap (λ (x : Stop). Some x) is in
     subst F (sym exited)
-    (was_over s t c.of-before.result code c.args.kept.now c.args.report.now (subst A exited c.step-stop.ensures.answers) c.of-before.ensures c.in_default.is c.requires.watch c.tables_and_memory_go_together.ensures)
+    (was_over s t c.of-before.result code c.args.kept.now c.args.report.now (subst A exited c.step-stop.ensures.answers) c.of-before.ensures c.in_default.is c.requires.watch c.tables_and_memory_are_consistent.ensures)

@@ -1,7 +1,7 @@
 use Rattle.std.proofs.Common.{◌≡◌, Ok, sym}
 use Rattle.std.specs.Prelude.{◌==◌}
 use Rattle.dm_ems.specs.Tables.{expanded, blocks_of}
-use Rattle.dm_ems.proofs.Linked.{shown_pages}
+use Rattle.dm_ems.proofs.Consistent.{shown_pages}
 use Rattle.dm_ems_move.specs.Many.{after_pairs}
 use Rattle.dm_ems_move.proofs.Shown.{after_shown}
 use Rattle.dm_ems_move.proofs.many.map_many.Goals as goal

@@ -1,7 +1,7 @@
 use Rattle.std.proofs.Common.{◌≡◌, sym, ◌∙◌, ap, arith, length}
 use Rattle.dm_space.specs.Memory.{Held}
 use Rattle.dm_ems.specs.Tables.{Expanded, expanded, appended_page}
-use Rattle.dm_ems.proofs.Linked.{appended_more, one_page, same_total}
+use Rattle.dm_ems.proofs.Consistent.{appended_more, one_page, same_total}
 use Rattle.dm_ems_move.proofs.reallocation.append_pages.Goals as goal
 
 pub loop-preserved : goal.loop-preserved

@@ -1,7 +1,7 @@
 use Rattle.std.proofs.Common.{◌≡◌, sym, ◌∙◌, ap, take, arith}
 use Rattle.dm_space.specs.Memory.{Held}
 use Rattle.dm_ems.specs.Tables.{Expanded, expanded, forgotten, forgotten_all}
-use Rattle.dm_ems.proofs.Linked.{forgotten_all_more, linked_forget}
+use Rattle.dm_ems.proofs.Consistent.{forgotten_all_more, consistent_forget}
 use Rattle.dm_ems.proofs.tables.Ems.cut.Goals as goal
 
 pub loop-block-preserved : goal.loop-block-preserved
@@ -14,5 +14,5 @@ loop-block-preserved c =
       e ∙ ap (λ y. forgotten y block) c.loop-block.invariant.0 ∙ ap (forgotten (forgotten_all start (take c.loop-block.block-index blocks))) c.block-item.is
           ∙ sym (forgotten_all_more start blocks c.loop-block.block-index block (omega arith)),
       c.forget.ensures.kept ∙ ap (λ (s : Held). record s { memory = c.forget.new.space.memory }) c.loop-block.invariant.1,
-      rw e (linked_forget x block c.loop-block.invariant.2),
+      rw e (consistent_forget x block c.loop-block.invariant.2),
     )

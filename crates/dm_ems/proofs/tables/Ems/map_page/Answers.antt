@@ -1,6 +1,6 @@
 use Rattle.std.proofs.Common.{sym}
 use Rattle.dm_ems.specs.Tables.{expanded}
-use Rattle.dm_ems.proofs.Linked.{mapped_page}
+use Rattle.dm_ems.proofs.Consistent.{mapped_page}
 use Rattle.dm_ems.proofs.tables.Ems.map_page.Goals as goal
 
 pub set_window-requires-in-Some-clause-page : goal.set_window-requires-in-Some-clause-page

@@ -1,6 +1,6 @@
 use Rattle.std.proofs.Common.{◌∙◌, ap, refl, sym}
 use Rattle.dm_machine.specs.contracts.machine.Machine.{the_view}
-use Rattle.dm_machine.proofs.Links.{linked-loads}
+use Rattle.dm_machine.proofs.Consistency.{consistent-loads}
 use Rattle.dm_machine.proofs.NoRoom.{no_room, had_room}
 use Rattle.dm_machine.proofs.machine.Machine.load.Goals as goal
 
@@ -20,4 +20,4 @@ returns-in-Ok-loaded-clause-short c = (
 )
 
 pub invariant_of-self : goal.invariant_of-self
-invariant_of-self c = linked-loads _ _ _ _ _ _ _ _ _ _ (ap the_view c.self-inside.view_is) c.self.invariant c.load-loaded.ensures.loads
+invariant_of-self c = consistent-loads _ _ _ _ _ _ _ _ _ _ (ap the_view c.self-inside.view_is) c.self.invariant c.load-loaded.ensures.loads

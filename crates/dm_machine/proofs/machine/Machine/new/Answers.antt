@@ -1,6 +1,6 @@
 use Rattle.std.proofs.Common.{ap, length, refl, arith}
 use Rattle.dm_proc.specs.Processes.{Processes}
-use Rattle.dm_machine.proofs.Links.{linked-start}
+use Rattle.dm_machine.proofs.Consistency.{consistent-start}
 use Rattle.dm_machine.proofs.machine.Machine.new.Goals as goal
 
 pub returns-in_default-clause-too_large : goal.returns-in_default-clause-too_large
@@ -13,4 +13,4 @@ pub returns-clause-ok : goal.returns-clause-ok
 returns-clause-ok c = record { memory = c.in_ok-space.ensures.start; others = rw (c.clear_registers.ensures, c.new-2.ensures, c.new-3.ensures, c.new-4.ensures, c.new-5.ensures) refl }
 
 pub invariant_of-result : goal.invariant_of-result
-invariant_of-result c = linked-start _ _ _ _ _ _ (omega (arith, c.in_ok-space.ensures.few)) c.new-2.ensures c.new-3.ensures c.in_ok-space.ensures.start
+invariant_of-result c = consistent-start _ _ _ _ _ _ (omega (arith, c.in_ok-space.ensures.few)) c.new-2.ensures c.new-3.ensures c.in_ok-space.ensures.start

@@ -1,5 +1,5 @@
 use Rattle.dm_ems.proofs.Keeping.{writes_keep}
-use Rattle.dm_ems.proofs.laws.writes_keep_the_link.Goals as goal
+use Rattle.dm_ems.proofs.laws.writes_keep_consistency.Goals as goal
 
 pub returns : goal.returns
 returns c = writes_keep

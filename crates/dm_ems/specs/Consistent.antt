@@ -1,4 +1,4 @@
--- That the tables of expanded memory and the memory go together: each page is a block of its own and has a handle in
+-- That the tables of expanded memory and the memory are consistent: each page is a block of its own and has a handle in
 -- use, and windows, saved ones too, show pages alone.
 use Rattle.std.specs.Prelude.{ℕ, ◌+◌, ◌<◌, ◌≤◌, ◌≡◌, ◌≢◌, List, length, slice_index_or, AllPairs, count_by, is_some, Option, Some, None, IfSome, IsSome}
 use Rattle.dm_pool.specs.FreeList.{AreBased}
@@ -31,7 +31,7 @@ abbrev pub SavesPages : List Page → Option Handle → Type 0
 SavesPages pages None = Unit {0}
 SavesPages pages (Some handle) = IfSome handle.saved (ShowsPages pages)
 
-pub record IsLinked (x : Expanded) : Type 0 where
+pub record IsConsistent (x : Expanded) : Type 0 where
   pub places : length x.memory.blocks.places ≡ 576
   pub contents : length x.memory.blocks.contents ≡ 576
   pub based : AreBased x.memory.blocks.places

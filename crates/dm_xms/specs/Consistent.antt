@@ -1,5 +1,5 @@
--- That the tables of extended memory and the memory go together: each handle in use has a block of its own, as large as
--- it says, that no window shows, and A20 is as the tables say. Windows show blocks that are there.
+-- That the tables of extended memory and the memory are consistent: each handle in use has a block of its own, as large
+-- as it says, that no window shows, and A20 is as the tables say. Windows show blocks that are there.
 use Rattle.std.specs.Prelude.{ℕ, ◌*◌, ◌≡◌, ◌≢◌, true, false, List, length, slice_index_or, Option, None, IfSome}
 use Rattle.dm_pool.specs.Blocks.{IsLive}
 use Rattle.dm_pool.specs.FreeList.{AreBased}
@@ -21,7 +21,7 @@ HasOther s t = IfSome t (λ other. other.block ≢ s.block)
 abbrev pub handle_at : List (Option Handle) → ℕ → Option Handle
 handle_at handles k = slice_index_or handles k None
 
-pub record IsLinked (x : Extended) : Type 0 where
+pub record IsConsistent (x : Extended) : Type 0 where
   pub places : length x.memory.blocks.places ≡ 576
   pub contents : length x.memory.blocks.contents ≡ 576
   pub based : AreBased x.memory.blocks.places

@@ -1,4 +1,4 @@
--- Each call keeps the tables and the memory together.
+-- Each call keeps the tables and the memory consistent.
 use Rattle.std.proofs.Common.{◌≡◌, ◌≢◌, ℕ, zero, suc, ◌+◌, ◌-◌, ◌*◌, ◌%◌, ◌<◌, ◌==◌, Bool, true, false, cond, List, [], ◌∷◌, ◌++◌, Option, Some, None, length, get_or, set, position, replicate, refl, sym, ◌∙◌, ap, subst, inl, inr, arith}
 use Rattle.std.specs.Prelude.{Result, Ok, Err, IfSome, is_none, nat_lt, remove, ◌||◌}
 use Rattle.std.proofs.Math.Bool.{true≢false}
@@ -30,8 +30,8 @@ use Rattle.dm_moves.proofs.Shapes.{moves_keep}
 use Rattle.dm_xms.specs.declared.moves.Side.{Side}
 use Rattle.dm_xms.specs.Moves.{and_then, double_after, described, side, move_between, move_memory}
 use Rattle.dm_xms.specs.Blocks.{allocate, deallocate, lock, unlock, reallocate}
-use Rattle.dm_xms.specs.Laws.{StartIsLinked, CallsKeepTheLink, WritesKeepTheLink}
-use Rattle.dm_xms.specs.Linked.{IsExtended, HasOther, handle_at, IsLinked}
+use Rattle.dm_xms.specs.Laws.{StartIsConsistent, CallsKeepConsistency, WritesKeepConsistency}
+use Rattle.dm_xms.specs.Consistent.{IsExtended, HasOther, handle_at, IsConsistent}
 
 -- ---- the pool changes at one block
 
@@ -91,7 +91,7 @@ both_hold : (o : Option Handle) (P Q R : Handle → Type 0) → ((h : Handle) �
 both_hold None P Q R f p q = tt
 both_hold (Some h) P Q R f p q = f h p q
 
-blocks_turned : (x : Extended) (k i : ℕ) (new : Option Handle) (t : Blocks) → IsLinked x → IsTurn x k i new t → (j : ℕ) → IfSome (handle_at (set x.xms.handles k new) j) (IsExtended (with_blocks x.memory t))
+blocks_turned : (x : Extended) (k i : ℕ) (new : Option Handle) (t : Blocks) → IsConsistent x → IsTurn x k i new t → (j : ℕ) → IfSome (handle_at (set x.xms.handles k new) j) (IsExtended (with_blocks x.memory t))
 blocks_turned x k i new t l u j = elim (cases_eq j k) [
   | inl e ↦
       let at : handle_at (set x.xms.handles k new) j ≡ new = ap (handle_at (set x.xms.handles k new)) e ∙ set_at x k new u.within in
@@ -112,7 +112,7 @@ this_way None o i m t q p = tt
 this_way (Some g) None i m t q p = tt
 this_way (Some g) (Some h) i m t q p = λ e. p (e ∙ q.0)
 
-apart_turned : (x : Extended) (k i : ℕ) (new : Option Handle) (t : Blocks) → IsLinked x → IsTurn x k i new t → (j n : ℕ) → j ≢ n → IfSome (handle_at (set x.xms.handles k new) j) (λ h. HasOther h (handle_at (set x.xms.handles k new) n))
+apart_turned : (x : Extended) (k i : ℕ) (new : Option Handle) (t : Blocks) → IsConsistent x → IsTurn x k i new t → (j n : ℕ) → j ≢ n → IfSome (handle_at (set x.xms.handles k new) j) (λ h. HasOther h (handle_at (set x.xms.handles k new) n))
 apart_turned x k i new t l u j n ne =
     let hs = set x.xms.handles k new in
     let Two : Option Handle → Option Handle → Type 0 = λ a b. IfSome a (λ h. HasOther h b) in
@@ -129,11 +129,11 @@ apart_turned x k i new t l u j n ne =
       ]
     ]
 
-shown_turned : (x : Extended) (t : Blocks) (i : ℕ) → IsLinked x → IsChanged x.memory.blocks t i → shows x.memory.windows i ≡ false → (b : ℕ) → shows x.memory.windows b ≡ true → IsLive t b
+shown_turned : (x : Extended) (t : Blocks) (i : ℕ) → IsConsistent x → IsChanged x.memory.blocks t i → shows x.memory.windows i ≡ false → (b : ℕ) → shows x.memory.windows b ≡ true → IsLive t b
 shown_turned x t i l c hidden b s = live_stays x.memory.blocks t i b c (λ e. true≢false (sym s ∙ ap (shows x.memory.windows) e ∙ hidden)) (l.shown b s)
 
-turn_linked : (x : Extended) (k i : ℕ) (new : Option Handle) (t : Blocks) → IsLinked x → IsTurn x k i new t → IsLinked (turned x k new t)
-turn_linked x k i new t l u = record {
+turn_consistent : (x : Extended) (k i : ℕ) (new : Option Handle) (t : Blocks) → IsConsistent x → IsTurn x k i new t → IsConsistent (turned x k new t)
+turn_consistent x k i new t l u = record {
   places = u.changed.places ∙ l.places;
   contents = u.changed.contents ∙ l.contents;
   based = u.based;
@@ -147,68 +147,68 @@ turn_linked x k i new t l u = record {
 -- ---- rows
 
 pub record Keeps {A : Type 0} (x : Extended) (r : Result (A × Extended) Status) : Type 0 where
-  pub kept : IsLinked (left x r)
+  pub kept : IsConsistent (left x r)
 
 if_keeps : {A : Type 0} (x : Extended) (b : Bool) (r s : Result (A × Extended) Status) → Keeps x r → Keeps x s → Keeps x (cond b r s)
 if_keeps x true r s p q = p
 if_keeps x false r s p q = q
 
-need_keeps : {A B : Type 0} (x : Extended) (o : Option A) (e : Status) (f : A → Result (B × Extended) Status) → IsLinked x → ((v : A) → o ≡ Some v → Keeps x (f v)) → Keeps x (need o e f)
+need_keeps : {A B : Type 0} (x : Extended) (o : Option A) (e : Status) (f : A → Result (B × Extended) Status) → IsConsistent x → ((v : A) → o ≡ Some v → Keeps x (f v)) → Keeps x (need o e f)
 need_keeps x None e f l h = record { kept = l }
 need_keeps x (Some v) e f l h = h v refl
 
-refused : {A : Type 0} (x : Extended) (e : Status) → IsLinked x → Keeps {A = A} x (Err e)
+refused : {A : Type 0} (x : Extended) (e : Status) → IsConsistent x → Keeps {A = A} x (Err e)
 refused x e l = record { kept = l }
 
 -- ---- rows of the tables alone
 
 pub record KeepsTables {A E : Type 0} (x : Extended) (r : Result (A × Tables) E) : Type 0 where
-  pub kept : IsLinked (extended (left x.xms r) x.memory)
+  pub kept : IsConsistent (extended (left x.xms r) x.memory)
 
 if_tables : {A E : Type 0} (x : Extended) (b : Bool) (r s : Result (A × Tables) E) → KeepsTables x r → KeepsTables x s → KeepsTables x (cond b r s)
 if_tables x true r s p q = p
 if_tables x false r s p q = q
 
-need_tables : {A B E : Type 0} (x : Extended) (o : Option A) (e : E) (f : A → Result (B × Tables) E) → IsLinked x → ((v : A) → o ≡ Some v → KeepsTables x (f v)) → KeepsTables x (need o e f)
+need_tables : {A B E : Type 0} (x : Extended) (o : Option A) (e : E) (f : A → Result (B × Tables) E) → IsConsistent x → ((v : A) → o ≡ Some v → KeepsTables x (f v)) → KeepsTables x (need o e f)
 need_tables x None e f l h = record { kept = l }
 need_tables x (Some v) e f l h = h v refl
 
-refused_tables : {A E : Type 0} (x : Extended) (e : E) → IsLinked x → KeepsTables {A = A} x (Err e)
+refused_tables : {A E : Type 0} (x : Extended) (e : E) → IsConsistent x → KeepsTables {A = A} x (Err e)
 refused_tables x e l = record { kept = l }
 
 -- ---- the high memory area and upper memory
 
-with_area : (x : Extended) (b : Bool) → IsLinked x → IsLinked (extended (record x.xms { area = b }) x.memory)
+with_area : (x : Extended) (b : Bool) → IsConsistent x → IsConsistent (extended (record x.xms { area = b }) x.memory)
 with_area x b l = record { places = l.places; contents = l.contents; based = l.based; handles = l.handles; blocks = l.blocks; apart = l.apart; shown = l.shown; line = l.line }
 
-with_blocks_above : (x : Extended) (us : List Upper) → IsLinked x → IsLinked (extended (with_uppers x.xms us) x.memory)
+with_blocks_above : (x : Extended) (us : List Upper) → IsConsistent x → IsConsistent (extended (with_uppers x.xms us) x.memory)
 with_blocks_above x us l = record { places = l.places; contents = l.contents; based = l.based; handles = l.handles; blocks = l.blocks; apart = l.apart; shown = l.shown; line = l.line }
 
-take_keeps : (x : Extended) → IsLinked x → KeepsTables x (take_area x.xms)
+take_keeps : (x : Extended) → IsConsistent x → KeepsTables x (take_area x.xms)
 unfolding take_area
 take_keeps x l = if_tables x x.xms.area (Err AreaTaken) _ (refused_tables x AreaTaken l) (record { kept = with_area x true l })
 
-release_keeps : (x : Extended) → IsLinked x → KeepsTables x (release_area x.xms)
+release_keeps : (x : Extended) → IsConsistent x → KeepsTables x (release_area x.xms)
 unfolding release_area
 release_keeps x l = if_tables x x.xms.area _ (Err AreaNotTaken) (record { kept = with_area x false l }) (refused_tables x AreaNotTaken l)
 
-new_keeps : (x : Extended) (n : ℕ) (o : Option ℕ) → IsLinked x → KeepsTables x (new_upper x.xms n o)
+new_keeps : (x : Extended) (n : ℕ) (o : Option ℕ) → IsConsistent x → KeepsTables x (new_upper x.xms n o)
 new_keeps x n None l = refused_tables x (refusal.Smaller (largest_upper x.xms.uppers)) l
 new_keeps x n (Some p) l = record { kept = with_blocks_above x (inserted (record { segment = first_segment + p; paragraphs = n }) x.xms.uppers) l }
 
-request_keeps : (x : Extended) (n : ℕ) → IsLinked x → KeepsTables x (request_upper x.xms n)
+request_keeps : (x : Extended) (n : ℕ) → IsConsistent x → KeepsTables x (request_upper x.xms n)
 unfolding request_upper
 request_keeps x n l =
     if_tables x ((length x.xms.uppers == 64) || (largest_upper x.xms.uppers == 0)) (Err refusal.NoneFree) _ (refused_tables x refusal.NoneFree l)
     (new_keeps x (at_least_one n) (lowest_upper x.xms.uppers (at_least_one n)) l)
 
-release_upper_keeps : (x : Extended) (segment : ℕ) → IsLinked x → KeepsTables x (release_upper x.xms segment)
+release_upper_keeps : (x : Extended) (segment : ℕ) → IsConsistent x → KeepsTables x (release_upper x.xms segment)
 unfolding release_upper
 release_upper_keeps x segment l =
     need_tables x (position (begins_at segment) x.xms.uppers) refusal.Unknown _ l (λ k e.
     record { kept = with_blocks_above x (remove x.xms.uppers k) l })
 
-resize_upper_keeps : (x : Extended) (segment n : ℕ) → IsLinked x → KeepsTables x (resize_upper x.xms segment n)
+resize_upper_keeps : (x : Extended) (segment n : ℕ) → IsConsistent x → KeepsTables x (resize_upper x.xms segment n)
 unfolding resize_upper
 resize_upper_keeps x segment n l =
     need_tables x (position (begins_at segment) x.xms.uppers) refusal.Unknown _ l (λ k e.
@@ -230,11 +230,11 @@ there_at [] k s e = absurd (none-some s e)
 there_at (h ∷ hs) zero s e = omega arith
 there_at (h ∷ hs) (suc k) s e = omega (arith, there_at hs k s e)
 
-extended_at : (x : Extended) (k : ℕ) (s : Handle) → IsLinked x → handle_at x.xms.handles k ≡ Some s → IsExtended x.memory s
+extended_at : (x : Extended) (k : ℕ) (s : Handle) → IsConsistent x → handle_at x.xms.handles k ≡ Some s → IsExtended x.memory s
 extended_at x k s l e = subst (λ (o : Option Handle). IfSome o (IsExtended x.memory)) e (l.blocks k)
 
 -- the blocks of the other handles are others
-others_at : (x : Extended) (k : ℕ) (s : Handle) → IsLinked x → handle_at x.xms.handles k ≡ Some s → (j : ℕ) → j ≢ k → IfSome (handle_at x.xms.handles j) (λ h. h.block ≢ s.block)
+others_at : (x : Extended) (k : ℕ) (s : Handle) → IsConsistent x → handle_at x.xms.handles k ≡ Some s → (j : ℕ) → j ≢ k → IfSome (handle_at x.xms.handles j) (λ h. h.block ≢ s.block)
 others_at x k s l e j ne = subst (λ (o : Option Handle). IfSome o (λ a. HasOther a (handle_at x.xms.handles j))) e (l.apart k j (λ f. ne (sym f)))
 
 -- ---- a block comes
@@ -271,11 +271,11 @@ taken_new s u i t h = placed_new s u (first_empty s.places) (lowest s.places s.u
 pub not_live : (s : Blocks) (i : ℕ) → get_or s.places i None ≡ None → IsLive s i → ⊥
 not_live s i free live = none-some live.1.0 (sym free ∙ live.1.1)
 
-not_shown : (x : Extended) (i : ℕ) (b : Bool) → shows x.memory.windows i ≡ b → IsLinked x → get_or x.memory.blocks.places i None ≡ None → shows x.memory.windows i ≡ false
+not_shown : (x : Extended) (i : ℕ) (b : Bool) → shows x.memory.windows i ≡ b → IsConsistent x → get_or x.memory.blocks.places i None ≡ None → shows x.memory.windows i ≡ false
 not_shown x i true e l free = absurd (not_live x.memory.blocks i free (l.shown i e))
 not_shown x i false e l free = e
 
-comes : (x : Extended) (k kib i : ℕ) (t : Blocks) → IsLinked x → k < length x.xms.handles → AreBased t.places → IsNew x.memory.blocks kib i t → IsTurn x k i (Some (record { block = i; kib = kib; locks = 0 })) t
+comes : (x : Extended) (k kib i : ℕ) (t : Blocks) → IsConsistent x → k < length x.xms.handles → AreBased t.places → IsNew x.memory.blocks kib i t → IsTurn x k i (Some (record { block = i; kib = kib; locks = 0 })) t
 comes x k kib i t l within based n =
     let hidden = not_shown x i (shows x.memory.windows i) refl l n.free in
     record {
@@ -294,7 +294,7 @@ comes x k kib i t l within based n =
       based = based;
     }
 
-allocate_keeps : (x : Extended) (kib : ℕ) → IsLinked x → Keeps x (allocate x kib)
+allocate_keeps : (x : Extended) (kib : ℕ) → IsConsistent x → Keeps x (allocate x kib)
 unfolding allocate
 allocate_keeps x kib l =
     need_keeps x (position is_none x.xms.handles) NoHandleLeft _ l (λ k at.
@@ -302,12 +302,12 @@ allocate_keeps x kib l =
     let h : Option Handle = Some (record { block = p.0; kib = kib; locks = 0 }) in
     let there = position-Some is_none x.xms.handles k None at in
     let same : k ≡ k + 1 - 1 = omega arith in
-    let made : IsLinked (turned x k h p.1) = turn_linked x k p.0 h p.1 l (comes x k kib p.0 p.1 l there.0 (taken_based x.memory.blocks kib p.0 p.1 is l.based) (taken_new x.memory.blocks kib p.0 p.1 is)) in
-    record { kept = subst (λ j. IsLinked (turned x j h p.1)) same made }))
+    let made : IsConsistent (turned x k h p.1) = turn_consistent x k p.0 h p.1 l (comes x k kib p.0 p.1 l there.0 (taken_based x.memory.blocks kib p.0 p.1 is l.based) (taken_new x.memory.blocks kib p.0 p.1 is)) in
+    record { kept = subst (λ j. IsConsistent (turned x j h p.1)) same made }))
 
 -- ---- a block goes
 
-goes : (x : Extended) (k : ℕ) (s : Handle) → IsLinked x → handle_at x.xms.handles k ≡ Some s → IsTurn x k s.block None (without x.memory.blocks s.block)
+goes : (x : Extended) (k : ℕ) (s : Handle) → IsConsistent x → handle_at x.xms.handles k ≡ Some s → IsTurn x k s.block None (without x.memory.blocks s.block)
 goes x k s l e = record {
   within = there_at x.xms.handles k s e;
   changed = changed_block x.memory.blocks s.block None [];
@@ -317,23 +317,23 @@ goes x k s l e = record {
   based = without_based x.memory.blocks s.block l.based;
 }
 
-deallocate_keeps : (x : Extended) (n : ℕ) → IsLinked x → Keeps x (deallocate x n)
+deallocate_keeps : (x : Extended) (n : ℕ) → IsConsistent x → Keeps x (deallocate x n)
 unfolding deallocate
 deallocate_keeps x n l =
     need_keeps x (slot x.xms n) UnknownHandle _ l (λ s e.
     if_keeps x (nat_lt 0 s.locks) (Err Locked) _ (refused x Locked l)
     (let at = slot_at x.xms n s e in
-    record { kept = turn_linked x (n - 1) s.block None (without x.memory.blocks s.block) l (goes x (n - 1) s l at) }))
+    record { kept = turn_consistent x (n - 1) s.block None (without x.memory.blocks s.block) l (goes x (n - 1) s l at) }))
 
 -- ---- locks
 
 pub same_pool : (s : Blocks) (i : ℕ) → IsChanged s s i
 same_pool s i = record { others = λ j ne. refl; kept = λ j ne. refl; places = refl; contents = refl }
 
-locks_change : (x : Extended) (k locks : ℕ) (s : Handle) → IsLinked x → handle_at x.xms.handles k ≡ Some s → IsLinked (turned x k (Some (record s { locks = locks })) x.memory.blocks)
+locks_change : (x : Extended) (k locks : ℕ) (s : Handle) → IsConsistent x → handle_at x.xms.handles k ≡ Some s → IsConsistent (turned x k (Some (record s { locks = locks })) x.memory.blocks)
 locks_change x k locks s l e =
     let old = extended_at x k s l e in
-    turn_linked x k s.block (Some (record s { locks = locks })) x.memory.blocks l (record {
+    turn_consistent x k s.block (Some (record s { locks = locks })) x.memory.blocks l (record {
       within = there_at x.xms.handles k s e;
       changed = same_pool x.memory.blocks s.block;
       others = others_at x k s l e;
@@ -342,14 +342,14 @@ locks_change x k locks s l e =
       based = l.based;
     })
 
-lock_keeps : (x : Extended) (n : ℕ) → IsLinked x → Keeps x (lock x n)
+lock_keeps : (x : Extended) (n : ℕ) → IsConsistent x → Keeps x (lock x n)
 unfolding lock
 lock_keeps x n l =
     need_keeps x (slot x.xms n) UnknownHandle _ l (λ s e.
     if_keeps x (s.locks == 255) (Err TooManyLocks) _ (refused x TooManyLocks l)
     (record { kept = locks_change x (n - 1) (s.locks + 1) s l (slot_at x.xms n s e) }))
 
-unlock_keeps : (x : Extended) (n : ℕ) → IsLinked x → KeepsTables x (unlock x.xms n)
+unlock_keeps : (x : Extended) (n : ℕ) → IsConsistent x → KeepsTables x (unlock x.xms n)
 unfolding unlock
 unlock_keeps x n l =
     need_tables x (slot x.xms n) UnknownHandle _ l (λ s e.
@@ -386,7 +386,7 @@ pub at_sized : (s : Blocks) (i u : ℕ) (o : Option Place) (t : Blocks) → at_p
 at_sized s i u None t e = absurd (none-some t e)
 at_sized s i u (Some b) t e = moved_sized s i u (new_base s i b u) t e
 
-grows : (x : Extended) (k kib : ℕ) (s : Handle) (t : Blocks) → IsLinked x → handle_at x.xms.handles k ≡ Some s → resized x.memory.blocks s.block kib ≡ Some t → IsTurn x k s.block (Some (record s { kib = kib })) t
+grows : (x : Extended) (k kib : ℕ) (s : Handle) (t : Blocks) → IsConsistent x → handle_at x.xms.handles k ≡ Some s → resized x.memory.blocks s.block kib ≡ Some t → IsTurn x k s.block (Some (record s { kib = kib })) t
 grows x k kib s t l e r =
     let old = extended_at x k s l e in
     let z = at_sized x.memory.blocks s.block kib (get_or x.memory.blocks.places s.block None) t r in
@@ -406,17 +406,17 @@ grows x k kib s t l e r =
       based = resized_based x.memory.blocks s.block kib t r l.based;
     }
 
-reallocate_keeps : (x : Extended) (n kib : ℕ) → IsLinked x → Keeps x (reallocate x n kib)
+reallocate_keeps : (x : Extended) (n kib : ℕ) → IsConsistent x → Keeps x (reallocate x n kib)
 unfolding reallocate
 reallocate_keeps x n kib l =
     need_keeps x (slot x.xms n) UnknownHandle _ l (λ s e.
     if_keeps x (nat_lt 0 s.locks) (Err Locked) _ (refused x Locked l)
     (need_keeps x (resized x.memory.blocks s.block kib) NoMemory _ l (λ t r.
-    record { kept = turn_linked x (n - 1) s.block (Some (record s { kib = kib })) t l (grows x (n - 1) kib s t l (slot_at x.xms n s e) r) })))
+    record { kept = turn_consistent x (n - 1) s.block (Some (record s { kib = kib })) t l (grows x (n - 1) kib s t l (slot_at x.xms n s e) r) })))
 
 -- ---- A20
 
-switched_keeps : (x : Extended) (global : Bool) (local : ℕ) → IsLinked x → IsLinked (switched x global local)
+switched_keeps : (x : Extended) (global : Bool) (local : ℕ) → IsConsistent x → IsConsistent (switched x global local)
 switched_keeps x global local l = record {
   places = l.places;
   contents = l.contents;
@@ -428,30 +428,30 @@ switched_keeps x global local l = record {
   line = refl;
 }
 
-enable_keeps : (x : Extended) → IsLinked x → IsLinked (enable_globally x)
+enable_keeps : (x : Extended) → IsConsistent x → IsConsistent (enable_globally x)
 unfolding enable_globally
 enable_keeps x l = switched_keeps x true x.xms.local l
 
-disable_keeps : (x : Extended) → IsLinked x → IsLinked (disable_globally x).1
+disable_keeps : (x : Extended) → IsConsistent x → IsConsistent (disable_globally x).1
 unfolding disable_globally
 disable_keeps x l = switched_keeps x false x.xms.local l
 
-enabled_if : (x : Extended) (b : Bool) → IsLinked x → Keeps {A = Unit {0}} x (cond b (Err LineError) (Ok (tt, switched x x.xms.global (x.xms.local + 1))))
+enabled_if : (x : Extended) (b : Bool) → IsConsistent x → Keeps {A = Unit {0}} x (cond b (Err LineError) (Ok (tt, switched x x.xms.global (x.xms.local + 1))))
 enabled_if x true l = refused x LineError l
 enabled_if x false l = record { kept = switched_keeps x x.xms.global (x.xms.local + 1) l }
 
-enable_locally_keeps : (x : Extended) → IsLinked x → Keeps x (enable_locally x)
+enable_locally_keeps : (x : Extended) → IsConsistent x → Keeps x (enable_locally x)
 unfolding enable_locally
 enable_locally_keeps x l = enabled_if x (x.xms.local == 0xFFFF) l
 
 abbrev disabled_row : Extended → Bool → Bool → (Result (Unit {0}) Status × Extended)
 disabled_row x b c = cond b (Err LineError, x) (cond c (Err LineStillOn) (Ok tt), switched x x.xms.global (x.xms.local - 1))
 
-disabled_if : (x : Extended) (b c : Bool) → IsLinked x → IsLinked (disabled_row x b c).1
+disabled_if : (x : Extended) (b c : Bool) → IsConsistent x → IsConsistent (disabled_row x b c).1
 disabled_if x true c l = l
 disabled_if x false c l = switched_keeps x x.xms.global (x.xms.local - 1) l
 
-disable_locally_keeps : (x : Extended) → IsLinked x → IsLinked (disable_locally x).1
+disable_locally_keeps : (x : Extended) → IsConsistent x → IsConsistent (disable_locally x).1
 unfolding disable_locally
 disable_locally_keeps x l = disabled_if x (x.xms.local == 0) (is_on x.xms.global (x.xms.local - 1)) l
 
@@ -464,7 +464,7 @@ extended_kept m n h s p = record {
   hidden = ap (λ (ws : List (Option ℕ)). shows ws h.block) s.windows ∙ p.hidden;
 }
 
-pub writes_keep : WritesKeepTheLink
+pub writes_keep : WritesKeepConsistency
 writes_keep x m s l = record {
   places = ap length s.places ∙ l.places;
   contents = s.page_count ∙ l.contents;
@@ -478,17 +478,17 @@ writes_keep x m s l = record {
 
 -- ---- moves
 
-then_keeps : {A B : Type 0} (x : Extended) (r : Result A Status) (f : A → Result (B × Extended) Status) → IsLinked x → ((v : A) → Keeps x (f v)) → Keeps x (and_then r f)
+then_keeps : {A B : Type 0} (x : Extended) (r : Result A Status) (f : A → Result (B × Extended) Status) → IsConsistent x → ((v : A) → Keeps x (f v)) → Keeps x (and_then r f)
 then_keeps x (Ok v) f l h = h v
 then_keeps x (Err e) f l h = record { kept = l }
 
-between_keeps : (x : Extended) (n : ℕ) (from to : Side) → IsLinked x → Keeps x (move_between x n from to)
+between_keeps : (x : Extended) (n : ℕ) (from to : Side) → IsConsistent x → Keeps x (move_between x n from to)
 unfolding move_between
 between_keeps x n from to l =
     if_keeps x (nat_lt from.end (from.region.start + n) || nat_lt to.end (to.region.start + n)) (Err BadLength) _ (refused x BadLength l)
     (record { kept = writes_keep x (regions.moved x.memory from.region to.region n) (moves_keep.moving x.memory from.region to.region n) l })
 
-move_keeps : (x : Extended) (segment offset : ℕ) → IsLinked x → Keeps x (move_memory x segment offset)
+move_keeps : (x : Extended) (segment offset : ℕ) → IsConsistent x → Keeps x (move_memory x segment offset)
 unfolding move_memory
 move_keeps x segment offset l =
     if_keeps x (double_after x.memory segment offset 0 % 2 == 1) (Err BadLength) _ (refused x BadLength l)
@@ -498,7 +498,7 @@ move_keeps x segment offset l =
 
 -- ---- all calls
 
-pub calls_keep : CallsKeepTheLink
+pub calls_keep : CallsKeepConsistency
 calls_keep = record {
   taking_area = λ x l. (take_keeps x l).kept;
   releasing_area = λ x l. (release_keeps x l).kept;
@@ -532,8 +532,8 @@ none_based : (units : ℕ) → AreBased (no_blocks units).places
 unfolding no_blocks
 none_based units i b e z = absurd (none-some b (sym (no_place 576 i) ∙ e))
 
-pub start_linked : StartIsLinked
-start_linked units low = record {
+pub start_consistent : StartIsConsistent
+start_consistent units low = record {
   places = (sizes units).0;
   contents = (sizes units).1;
   based = none_based units;
