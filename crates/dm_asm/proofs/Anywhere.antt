@@ -7,19 +7,19 @@ use Rattle.dm_ins.specs.declared.operand.Base.TheVariants.{Direct}
 use Rattle.dm_ins.specs.declared.operand.Operand.{Operand}
 use Rattle.dm_ins.specs.Preferred.{IsPreferred}
 use Rattle.dm_ins.proofs.Preferred.{has_preferred}
-use Rattle.dm_read.specs.declared.written.Size.{Size}
-use Rattle.dm_read.specs.declared.written.Written.{Written}
-use Rattle.dm_read.specs.declared.written.Written.TheVariants as w
-use Rattle.dm_read.specs.declared.written.Words.{Words}
-use Rattle.dm_read.specs.Words.{AreWords, IsNumber, IsWritten, word_written}
-use Rattle.dm_read.specs.StandIns.{StandsFor}
-use Rattle.dm_read.specs.Laws.{StandInsAreRead, LengthsAreKnown}
+use Rattle.dm_words.specs.declared.written.Size.{Size}
+use Rattle.dm_words.specs.declared.written.Written.{Written}
+use Rattle.dm_words.specs.declared.written.Written.TheVariants as w
+use Rattle.dm_words.specs.declared.written.Words.{Words}
+use Rattle.dm_words.specs.Words.{AreWords, IsNumber, IsWritten, word_written}
+use Rattle.dm_words.specs.StandIns.{StandsFor}
+use Rattle.dm_words.specs.Laws.{StandInsAreRead, LengthsAreKnown}
 use Rattle.dm_lines.specs.declared.token.Name as Name'
 use Rattle.dm_lines.specs.declared.term.Amount.{Amount}
 use Rattle.dm_lines.specs.declared.term.Term.{Term}
 use Rattle.dm_lines.specs.declared.term.Term.TheVariants as term
 use Rattle.dm_lines.specs.declared.statement.Instruction.{Instruction}
-use Rattle.dm_lines.specs.Operands.{word_of}
+use Rattle.dm_lines.specs.Operands.{amount_word}
 use Rattle.dm_lines.specs.Placing.{number_at, written_of}
 use Rattle.dm_lines.specs.Laws.{TermFits, OutlinesStand}
 use Rattle.dm_asm.specs.Labels.{Label}
@@ -46,7 +46,7 @@ module _ (m : Mnemonic) (labels : List Label) (next : ℕ) (o : Operand) (old : 
   }
 
   address_again : (s : Size) (l : Option Name'.Name) (n : Amount) → is_none l ≡ true → written_of m (term.Address s (record { label = l; amount = n })) 0 0 ≡ Some old → IsWritten old o → Again m (term.Address s (record { label = l; amount = n })) labels next o old
-  address_again s None n f e h = same_again (term.Address s (record { label = None; amount = n })) (w.Memory s (record { base = Direct; displacement = word_of n })) refl e h
+  address_again s None n f e h = same_again (term.Address s (record { label = None; amount = n })) (w.Memory s (record { base = Direct; displacement = amount_word n })) refl e h
   address_again s (Some l) n f e h = absurd cc
 
   number_moved : (n : Amount) → targets o ≡ false → IsNumber (number_at n 0) o → IsNumber (number_at n next) o
@@ -71,7 +71,7 @@ module _ (m : Mnemonic) (labels : List Label) (next : ℕ) (o : Operand) (old : 
   again (term.ByteRegister r) f t e h = same_again (term.ByteRegister r) (w.ByteRegister r) refl e h
   again (term.WordRegister r) f t e h = same_again (term.WordRegister r) (w.WordRegister r) refl e h
   again (term.SegmentRegister r) f t e h = same_again (term.SegmentRegister r) (w.SegmentRegister r) refl e h
-  again (term.Memory s b n) f t e h = same_again (term.Memory s b n) (w.Memory s (record { base = b; displacement = word_of n })) refl e h
+  again (term.Memory s b n) f t e h = same_again (term.Memory s b n) (w.Memory s (record { base = b; displacement = amount_word n })) refl e h
   again (term.Address s v) f t e h = address_again s v.label v.amount f e h
   again (term.Number v) f t e h = number_again v.label v.amount f t e h
   again (term.Far s n) f t e h = same_again (term.Far s n) (w.Far s n) refl e h

@@ -18,13 +18,13 @@ use Rattle.dm_ins.proofs.Shortest.{action_fits}
 use Rattle.dm_ins.proofs.Preferred.{has_preferred}
 use Rattle.dm_text.specs.Pieces.{digit, byte_digits}
 use Rattle.dm_text.specs.Texts.{text_of}
-use Rattle.dm_read.specs.declared.written.Size.{Size}
-use Rattle.dm_read.specs.declared.written.Words.{Words}
-use Rattle.dm_read.specs.Words.{AreWords, size_word}
-use Rattle.dm_read.specs.Own as read
-use Rattle.dm_read.specs.Own.{words_of}
-use Rattle.dm_read.specs.StandIns.{StandsFor}
-use Rattle.dm_read.specs.Laws.{OwnWordsAreRead, StandInsAreRead, LengthsAreKnown}
+use Rattle.dm_words.specs.declared.written.Size.{Size}
+use Rattle.dm_words.specs.declared.written.Words.{Words}
+use Rattle.dm_words.specs.Words.{AreWords, size_word}
+use Rattle.dm_words.specs.Own as read
+use Rattle.dm_words.specs.Own.{words_of_action}
+use Rattle.dm_words.specs.StandIns.{StandsFor}
+use Rattle.dm_words.specs.Laws.{OwnWordsAreRead, StandInsAreRead, LengthsAreKnown}
 use Rattle.dm_lines.specs.declared.term.Amount.TheVariants.{Plus}
 use Rattle.dm_lines.specs.declared.statement.Instruction.{Instruction}
 use Rattle.dm_lines.specs.Own.{memory_term, own_term, own_instruction, own_statement}
@@ -32,9 +32,9 @@ use Rattle.dm_lines.specs.Placing.{byte_of}
 use Rattle.dm_lines.specs.Statements.{Statement, line_of}
 use Rattle.dm_lines.specs.Laws as line
 use Rattle.dm_lines.specs.Laws.{TermFits, IsComment, data_statement, OwnTermsAreWritten, OutlinesStand, TextsAreRead, TextsArePlain, DataIsRead}
-use Rattle.dm_listing.specs.Listing.{bytes_at, data_text, instruction_text, Shows, preferred, other, single, Lists, none, more, IsListing}
-use Rattle.dm_listing.proofs.Lines.{IsPart, shows_part}
-use Rattle.dm_listing.proofs.Once.{bytes_long}
+use Rattle.dm_disassembler.specs.Listing.{bytes_at, data_text, instruction_text, IsListedLine, preferred, other, single, Lists, none, more, IsListing}
+use Rattle.dm_disassembler.proofs.Lines.{IsPart, shows_part}
+use Rattle.dm_disassembler.proofs.Once.{bytes_long}
 use Rattle.dm_lines.specs.declared.token.Name as Name'
 use Rattle.dm_asm.specs.Labels.{Label, term_place}
 use Rattle.dm_asm.specs.Codes.{Codes, HasLength, HasShape, IsCoded, outlined, placed, placed_words}
@@ -179,15 +179,15 @@ own_fits a next (operand.FarTarget n s) h = (h.1, h.0)
 own_placed : Laws → (a : Action) (next : ℕ) (o : Operand) → placed [] a.mnemonic next (own_term a next o) ≡ Some (read.written_of a next o)
 own_placed g a next o = rw (own_bare a next o) (g.own_terms a next 0 o)
 
-own_words : Laws → (i : Ins) (next : ℕ) → placed_words [] next (own_instruction i next) ≡ Some (words_of i.action next)
-unfolding words_of
+own_words : Laws → (i : Ins) (next : ℕ) → placed_words [] next (own_instruction i next) ≡ Some (words_of_action i.action next)
+unfolding words_of_action
 own_words g i next = rw (own_placed g i.action next i.action.first, own_placed g i.action next i.action.second) refl
 
 -- an instruction's own statement has its bytes
 own_coded : Laws → (i : Ins) (x : List ℕ) (at next : ℕ) → IsPreferred i x → next ≡ at + length x → next < 2 ^ 16 → IsCoded [] at (own_instruction i next) x
 own_coded g i x at next p e lt =
     let own : Instruction = own_instruction i next in
-    let w : Words = words_of i.action next in
+    let w : Words = words_of_action i.action next in
     let s : SpellsAction i.action p.spells.rest = p.spells.action in
     let f = action_fits i.action p.spells.rest s in
     let h : placed_words [] next own ≡ Some w = own_words g i next in
@@ -242,7 +242,7 @@ data_at g bytes at k comment fit some few within is printed short =
 behind_data : Laws → (i : Ins) (next : ℕ) → Printed (codes " ; " ++ text_of i next) × (length (codes " ; " ++ text_of i next) ≤ 66)
 behind_data g i next = let t = g.plain i next in ((omega arith, (omega arith, (omega arith, t.printed))), omega (arith, t.short))
 
-shown_line : Laws → (bytes : List ℕ) (at k : ℕ) (line : List ℕ) → AllByRecursion (λ b. b < 2 ^ 8) bytes → length bytes ≤ most → IsPart bytes at k → Shows bytes at k line → IsLine (bytes_at bytes at k) (0x100 + at) k line
+shown_line : Laws → (bytes : List ℕ) (at k : ℕ) (line : List ℕ) → AllByRecursion (λ b. b < 2 ^ 8) bytes → length bytes ≤ most → IsPart bytes at k → IsListedLine bytes at k line → IsLine (bytes_at bytes at k) (0x100 + at) k line
 shown_line g bytes at k line fit few part (preferred i j s p) =
     own_line g i (bytes_at bytes at k) (0x100 + at) k (0x100 + at + k) p (bytes_long bytes at k part.within) refl (omega (arith, few, part.within))
 shown_line g bytes at k line fit few part (other i j s p) =

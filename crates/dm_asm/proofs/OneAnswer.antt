@@ -4,12 +4,12 @@ use Rattle.std.specs.List.{AllByRecursion}
 use Rattle.dm_lines.specs.declared.token.Name as Name'
 use Rattle.dm_lines.specs.declared.term.Value.{Value}
 use Rattle.dm_lines.specs.Statements.{Item, nothing, instruction, bytes, words}
-use Rattle.dm_read.specs.Laws.{WordsAreOne}
+use Rattle.dm_words.specs.Laws.{WordsAreOne}
 use Rattle.dm_asm.specs.declared.refusal.Refusal.{Refusal}
 use Rattle.dm_asm.specs.declared.refusal.Refusal.TheVariants as refusal
 use Rattle.dm_asm.specs.Lines.{lines_of}
 use Rattle.dm_asm.specs.Labels.{Label, IsFree, place_of, term_place}
-use Rattle.dm_asm.specs.Codes.{Codes, Knows, placed, word_of}
+use Rattle.dm_asm.specs.Codes.{Codes, Knows, placed, value_word}
 use Rattle.dm_asm.specs.Programs.{Sized, Reads, AreRead, AreOnce, AreCoded, joined, total, labelled, labels_from, labels_of, Laid, most, IsBehindGood, IsBehindCoded, Assembles, Refuses, syntax, twice, too_long, unknown, range, IsAnswer}
 use Rattle.dm_asm.proofs.Found.{once_free}
 use Rattle.dm_asm.proofs.Placed.{bind_some, coded_once}
@@ -117,13 +117,13 @@ some_at r x e = is_some_at r x (sym e)
 known_term : (labels : List Label) (m : _) (next : ℕ) (t : _) (w : _) → placed labels m next t ≡ Some w → IsSome (term_place labels t)
 known_term labels m next t w h = let p = bind_some (term_place labels t) _ w h in some_at (term_place labels t) p.0 p.1
 
-known_words : (labels : List Label) (vs : List Value) (ws : List ℕ) → map (word_of labels) vs ≡ map Some ws → AllByRecursion (λ v. IsSome (place_of labels v)) vs
+known_words : (labels : List Label) (vs : List Value) (ws : List ℕ) → map (value_word labels) vs ≡ map Some ws → AllByRecursion (λ v. IsSome (place_of labels v)) vs
 known_words labels [] ws h = tt
 known_words labels (v ∷ vs) [] h = absurd cc
 known_words labels (v ∷ vs) (w ∷ ws) h =
-    let e : word_of labels v ≡ Some w = heads (word_of labels v) (Some w) (map (word_of labels) vs) (map Some ws) h in
+    let e : value_word labels v ≡ Some w = heads (value_word labels v) (Some w) (map (value_word labels) vs) (map Some ws) h in
     let p = bind_some (place_of labels v) _ w e in
-    (some_at (place_of labels v) p.0 p.1, known_words labels vs ws (tails (word_of labels v) (Some w) (map (word_of labels) vs) (map Some ws) h))
+    (some_at (place_of labels v) p.0 p.1, known_words labels vs ws (tails (value_word labels v) (Some w) (map (value_word labels) vs) (map Some ws) h))
 
 knows_coded : (labels : List Label) (at : ℕ) (i : Item) (code : List ℕ) → Codes labels at i code → Knows labels i
 knows_coded labels at nothing code c = tt

@@ -4,10 +4,10 @@ use Rattle.std.proofs.lemmas.List.{append_assoc, append-nil, length-append}
 use Rattle.std.specs.Str.{bytes_eq}
 use Rattle.dm_lines.specs.declared.token.Name as Name'
 use Rattle.dm_lines.specs.Statements.{Item, Statement, nothing, instruction, bytes, words}
-use Rattle.dm_read.specs.Laws.{WordsAreOne}
+use Rattle.dm_words.specs.Laws.{WordsAreOne}
 use Rattle.dm_asm.specs.Labels.{Label, IsFree, find}
 use Rattle.dm_lines.specs.Placing.{byte_of}
-use Rattle.dm_asm.specs.Codes.{Codes, HasLength, low_high, word_of}
+use Rattle.dm_asm.specs.Codes.{Codes, HasLength, low_high, value_word}
 use Rattle.dm_asm.specs.Programs.{Sized, Reads, AreRead, total, labelled, labels_from, labels_of, AreOnce, Laid, AreCoded, joined}
 use Rattle.dm_asm.proofs.Chosen.{shape_once}
 use Rattle.dm_asm.proofs.Placed.{some_same}
@@ -138,5 +138,5 @@ code_long one labels at (instruction i) code n c h = shape_once one i (length co
 code_long one labels at (bytes b) code n c h = sym (same_length byte_of b code c) ∙ sym h
 code_long one labels at (words w) code n c h =
     let a : length code ≡ length (flat_map low_high c.values) = ap length c.bytes in
-    let b : length w ≡ length c.values = same_length (word_of labels) w c.values c.are in
+    let b : length w ≡ length c.values = same_length (value_word labels) w c.values c.are in
     omega (arith, a, b, h, flat_length c.values)

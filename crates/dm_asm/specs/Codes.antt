@@ -6,9 +6,9 @@ use Rattle.dm_ins.specs.Preferred.{IsPreferred}
 use Rattle.dm_ins.specs.Walks.{◌>>=◌}
 use Rattle.dm_ins.specs.declared.ins.Ins.{Ins}
 use Rattle.dm_ins.specs.declared.action.Mnemonic.{Mnemonic}
-use Rattle.dm_read.specs.declared.written.Written.{Written}
-use Rattle.dm_read.specs.declared.written.Words.{Words}
-use Rattle.dm_read.specs.Words.{AreWords}
+use Rattle.dm_words.specs.declared.written.Written.{Written}
+use Rattle.dm_words.specs.declared.written.Words.{Words}
+use Rattle.dm_words.specs.Words.{AreWords}
 use Rattle.dm_lines.specs.declared.term.Value.{Value}
 use Rattle.dm_lines.specs.declared.term.Term.{Term}
 use Rattle.dm_lines.specs.declared.statement.Instruction.{Instruction}
@@ -32,8 +32,8 @@ placed_words labels next i = do
   Some (record { mnemonic = i.mnemonic; first = first; second = second })
 
 -- the word that a value is
-abbrev pub word_of : List Label → Value → Option ℕ
-word_of labels v = do
+abbrev pub value_word : List Label → Value → Option ℕ
+value_word labels v = do
   place ← place_of labels v
   standing v place
 
@@ -81,7 +81,7 @@ pub record IsCoded (labels : List Label) (at : ℕ) (i : Instruction) (code : Li
 -- the bytes of words, each of a value
 pub record AreWordsOf (labels : List Label) (vs : List Value) (code : List ℕ) : Type 0 where
   pub values : List ℕ
-  pub are : map (word_of labels) vs ≡ map Some values
+  pub are : map (value_word labels) vs ≡ map Some values
   pub bytes : code ≡ flat_map low_high values
 
 -- the bytes of what stands at an offset

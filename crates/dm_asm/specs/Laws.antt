@@ -3,9 +3,9 @@ use Rattle.std.specs.Prelude.{◌≡◌, ℕ, ◌+◌, ◌<◌, ◌≤◌, ◌^�
 use Rattle.std.specs.List.{AllByRecursion}
 use Rattle.dm_ins.specs.declared.ins.Ins.{Ins}
 use Rattle.dm_ins.specs.Preferred.{IsPreferred}
-use Rattle.dm_read.specs.declared.written.Words.{Words}
-use Rattle.dm_read.specs.Words.{AreWords}
-use Rattle.dm_listing.specs.Listing.{bytes_at, Stands, IsListing}
+use Rattle.dm_words.specs.declared.written.Words.{Words}
+use Rattle.dm_words.specs.Words.{AreWords}
+use Rattle.dm_disassembler.specs.Listing.{bytes_at, StandsInFile, IsListing}
 use Rattle.dm_lines.specs.declared.statement.Instruction.{Instruction}
 use Rattle.dm_lines.specs.Statements.{instruction}
 use Rattle.dm_asm.specs.declared.refusal.Refusal.{Refusal}
@@ -34,7 +34,7 @@ pub record IsSpelled (labels : List Label) (bytes : List ℕ) (at long : ℕ) (i
   pub ins : Ins
   pub prefixes : ins.prefixes ≡ i.prefixes
   pub words : AreWords written ins.action
-  pub stands : Stands bytes at ins long
+  pub stands : StandsInFile bytes at ins long
   pub preferred : IsPreferred ins (bytes_at bytes at long)
 
 -- the bytes of a text spell each of its instructions at the instruction's place, which is behind the bytes of all

@@ -9,14 +9,14 @@ ghost use Rattle.dm_lines.specs.Placing.{byte_of};
 ghost use Rattle.dm_lines.specs.Laws.{AmountFits, TermFits};
 ghost use Rattle.dm_asm.specs.Labels.{Label};
 ghost use Rattle.dm_asm.specs.inner.Kept.{AreKept, AreNear};
-ghost use Rattle.dm_asm.specs.Codes.{placed as placed_of, placed_words as words_of, word_of as value_of, IsCoded, AreWordsOf, HasShape, HasLength, Codes, Knows};
+ghost use Rattle.dm_asm.specs.Codes.{placed as placed_of, placed_words as words_of, value_word as value_of, IsCoded, AreWordsOf, HasShape, HasLength, Codes, Knows};
 
 use crate::labels::Labels;
 use arrayvec::ArrayVec;
 use dm_lines::{
     Amount, Instruction, Item, Items, Term, Value, byte, outlines_stand, word_at, written,
 };
-use dm_read::{Words, Written, read_encoded, stand_ins_have_the_length, words_are_one_instruction};
+use dm_words::{Words, Written, read_encoded, stand_ins_have_the_length, words_are_one_instruction};
 
 /// The bytes of one line.
 pub(crate) type Code = ArrayVec<u8, 256>;

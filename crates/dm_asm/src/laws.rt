@@ -5,7 +5,7 @@ ghost use Rattle.dm_asm.specs.Laws.{TextsHaveOneAnswer, ListingsAssemble, Listin
 use dm_lines::{
     data_is_read, outlines_stand, own_terms_are_written, texts_are_plain, texts_are_read,
 };
-use dm_read::{own_words_are_read, stand_ins_have_the_length, words_are_one_instruction};
+use dm_words::{own_words_are_read, stand_ins_have_the_length, words_are_one_instruction};
 
 /// The law that a text has one result: the same bytes always, or no bytes and the same error. So `assemble` finds bytes
 /// exactly where the text has some, where it finds memory. It does nothing when called.

@@ -10,7 +10,7 @@ use Rattle.dm_cli.specs.declared.fault.Fault.{Fault}
 use Rattle.dm_cli.specs.declared.fault.Fault.TheVariants.{OutOfMemory, TooLong}
 use Rattle.dm_cli.specs.Faults.{IsUnwritten, IsWriteFault, refusal_fault}
 use Rattle.dm_cli.specs.Saving.{Saves}
-use Rattle.dm_listing.specs.Listing.{IsListing}
+use Rattle.dm_disassembler.specs.Listing.{IsListing}
 use Rattle.dm_cli.specs.Stores.{IsInputFault, IsRead}
 
 -- the bytes of the file's text

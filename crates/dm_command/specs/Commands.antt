@@ -8,7 +8,7 @@ use Rattle.dm_command.specs.declared.command.Command.TheVariants as command
 use Rattle.dm_command.specs.declared.names.Name.{Name}
 use Rattle.dm_command.specs.declared.names.Name.TheVariants as name
 use Rattle.dm_command.specs.Words.{words_of}
-use Rattle.dm_command.specs.Numbers.{◌>>=◌, number_of, up_to, address_of, bytes_of}
+use Rattle.dm_command.specs.Numbers.{◌>>=◌, number_of, up_to, address_of, bytes_from_digits}
 use Rattle.dm_command.specs.Names.{name_of}
 
 -- nothing behind the name
@@ -54,7 +54,7 @@ at_address name.Dump a w = do
   n ← up_to 0x10000 (number_of w)
   Some (command.Dump a n)
 at_address name.Enter a w = do
-  bytes ← bytes_of w
+  bytes ← bytes_from_digits w
   Some (command.Enter a bytes)
 at_address _ a w = None
 

@@ -4,8 +4,8 @@ use Rattle.std.specs.Prelude.{ℕ, ◌-◌, ◌&&◌, ◌==◌, nat_le, if◌the
 use Rattle.dm_command.specs.declared.names.Name.{Name}
 use Rattle.dm_command.specs.declared.names.Name.TheVariants.{Registers, Unassemble, Dump, Arena, Pages, Extended, Go, Trace, Break, Clear, Breakpoints, Enter, Output}
 
-abbrev pub upper : ℕ → ℕ
-upper b = if nat_le 97 b && nat_le b 122 then b - 32 else b
+abbrev pub uppercase : ℕ → ℕ
+uppercase b = if nat_le 97 b && nat_le b 122 then b - 32 else b
 
 abbrev pub letter_name : ℕ → Option Name
 letter_name b =
@@ -28,6 +28,6 @@ pair_name a b =
     if a == 66 then (if b == 67 then Some Clear else if b == 76 then Some Breakpoints else None) else None
 
 abbrev pub name_of : List ℕ → Option Name
-name_of (a ∷ []) = letter_name (upper a)
-name_of (a ∷ b ∷ []) = pair_name (upper a) (upper b)
+name_of (a ∷ []) = letter_name (uppercase a)
+name_of (a ∷ b ∷ []) = pair_name (uppercase a) (uppercase b)
 name_of _ = None

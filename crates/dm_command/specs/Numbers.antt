@@ -26,8 +26,8 @@ abbrev pub up_to : ℕ → Option ℕ → Option ℕ
 up_to most None = None
 up_to most (Some n) = if nat_le n most then Some n else None
 
-abbrev pub word_of : List ℕ → Option ℕ
-word_of w = up_to 0xFFFF (number_of w)
+abbrev pub word_from_digits : List ℕ → Option ℕ
+word_from_digits w = up_to 0xFFFF (number_of w)
 
 -- what stands before the first colon, behind the bytes `front`, and what stands behind it
 abbrev pub parts_of : List ℕ → List ℕ → Option (List ℕ × List ℕ)
@@ -38,8 +38,8 @@ parts_of front (b ∷ bs) = if b == 58 then Some (front, bs) else parts_of (fron
 abbrev pub address_of : List ℕ → Option Address
 address_of w = do
   p ← parts_of [] w
-  segment ← word_of p.0
-  offset ← word_of p.1
+  segment ← word_from_digits p.0
+  offset ← word_from_digits p.1
   Some (record { segment = segment; offset = offset })
 
 abbrev pub if_good : Result (List ℕ) FromHexError → Option (List ℕ)
@@ -47,5 +47,5 @@ if_good (Ok bytes) = Some bytes
 if_good (Err e) = None
 
 -- one to 64 bytes, each two digits, with nothing between them
-unfoldable pub bytes_of : List ℕ → Option (List ℕ)
-bytes_of w = if length w / 2 == 0 || nat_lt 64 (length w / 2) then None else if_good (decode_of w)
+unfoldable pub bytes_from_digits : List ℕ → Option (List ℕ)
+bytes_from_digits w = if length w / 2 == 0 || nat_lt 64 (length w / 2) then None else if_good (decode_of w)

@@ -1,7 +1,7 @@
 //! The names of commands: one letter or two.
 
 ghost use Rattle.std.specs.Prelude.{◌≡◌};
-ghost use Rattle.dm_command.specs.Names.{upper, letter_name, pair_name, name_of};
+ghost use Rattle.dm_command.specs.Names.{uppercase, letter_name, pair_name, name_of};
 
 /// The name of a command.
 #[derive(Clone, Copy, Debug, PartialEq, Eq)]
@@ -23,7 +23,7 @@ pub(crate) enum Name {
 
 /// A letter in upper case; any other byte as it is.
 fn upper_byte(byte: u8) -> u8
-    ensures { result ≡ upper byte }
+    ensures { result ≡ uppercase byte }
 {
     if b'a' <= byte && byte <= b'z' {
         byte - 32

@@ -2,7 +2,7 @@
 
 ghost use Rattle.std.specs.Prelude.{◌≡◌, ◌<◌, ◌≤◌, [], IfSome, option_map};
 ghost use Rattle.hex.specs.Hex.{hex_digit_value};
-ghost use Rattle.dm_command.specs.Numbers.{number_of, up_to, word_of, parts_of, address_of, bytes_of};
+ghost use Rattle.dm_command.specs.Numbers.{number_of, up_to, word_from_digits, parts_of, address_of, bytes_from_digits};
 
 use crate::command::{Address, Bytes};
 
@@ -51,7 +51,7 @@ pub(crate) fn read_up_to(word: &[u8], most: u32) -> Option<u32>
 
 /// A number of at most FFFFh.
 fn read_word(word: &[u8]) -> Option<u16>
-    ensures { result ≡ word_of word.now }
+    ensures { result ≡ word_from_digits word.now }
 {
     let n = read_up_to(word, 0xFFFF)?;
     Some(n as u16)
@@ -81,9 +81,9 @@ pub(crate) fn read_address(word: &[u8]) -> Option<Address>
 }
 
 /// One to 64 bytes, each two digits, with nothing between them.
-#[tactic(auto, unfolding(crate::specs::Numbers::bytes_of))]
+#[tactic(auto, unfolding(crate::specs::Numbers::bytes_from_digits))]
 pub(crate) fn read_bytes(word: &[u8]) -> Option<Bytes>
-    ensures { result ≡ bytes_of word.now }
+    ensures { result ≡ bytes_from_digits word.now }
 {
     let count = word.len() / 2;
     if count == 0 || BYTES < count {

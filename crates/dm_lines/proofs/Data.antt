@@ -5,7 +5,7 @@ use Rattle.std.specs.List.{AllByRecursion}
 use Rattle.std.proofs.lemmas.Bool.Decides.{nat_tests}
 use Rattle.dm_ins.specs.Walks.{◌>>=◌}
 use Rattle.dm_text.specs.Names.{name_of}
-use Rattle.dm_text.specs.Pieces.{Piece, name, byte, space, comma, byte_digits, bytes_of, parted}
+use Rattle.dm_text.specs.Pieces.{Piece, name, byte, space, comma, byte_digits, text_bytes, parted}
 use Rattle.dm_lines.specs.declared.token.Token.{Token}
 use Rattle.dm_lines.specs.declared.token.Token.TheVariants as t
 use Rattle.dm_lines.specs.declared.term.Amount.TheVariants.{Plus}
@@ -27,7 +27,7 @@ more_tokens : List ℕ → List Token
 more_tokens [] = []
 more_tokens (c ∷ cs) = t.Comma ∷ t.Number c ∷ more_tokens cs
 
-more_bytes : (cs : List ℕ) → bytes_of (more_pieces cs) ≡ flat_map (λ c. codes "," ++ byte_digits c) cs
+more_bytes : (cs : List ℕ) → text_bytes (more_pieces cs) ≡ flat_map (λ c. codes "," ++ byte_digits c) cs
 unfolding more_pieces
 more_bytes [] = refl
 more_bytes (c ∷ cs) = ap (λ (z : List ℕ). 44 ∷ (byte_digits c ++ z)) (more_bytes cs)
@@ -54,7 +54,7 @@ data_word = refl
 pieces_of : ℕ → List ℕ → List Piece
 pieces_of b bs = name (codes "DB") ∷ space ∷ byte b ∷ more_pieces bs
 
-data_bytes : (b : ℕ) (bs : List ℕ) → data_text b bs ≡ bytes_of (pieces_of b bs)
+data_bytes : (b : ℕ) (bs : List ℕ) → data_text b bs ≡ text_bytes (pieces_of b bs)
 unfolding pieces_of
 data_bytes b bs = ap (λ (z : List ℕ). 68 ∷ 66 ∷ 32 ∷ (byte_digits b ++ z)) (sym (more_bytes bs))
 
@@ -72,7 +72,7 @@ unfolding more_tokens single
 parts_of b [] = refl
 parts_of b (c ∷ cs) = ap (λ (z : List (List Token)). (t.Number b ∷ []) ∷ z) (parts_of c cs)
 
-items_of : (bs : List ℕ) → line.bytes_of (map single bs) ≡ Some (map Plus bs)
+items_of : (bs : List ℕ) → line.byte_items (map single bs) ≡ Some (map Plus bs)
 unfolding single
 items_of [] = refl
 items_of (b ∷ bs) = ap (joined_to (Plus b ∷ [])) (items_of bs)

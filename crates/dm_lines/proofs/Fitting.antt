@@ -9,8 +9,8 @@ use Rattle.dm_ins.specs.declared.action.Mnemonic.{Mnemonic}
 use Rattle.dm_ins.specs.declared.prefix.Prefixes.{Prefixes}
 use Rattle.dm_ins.specs.Spelling.{no_prefix}
 use Rattle.dm_ins.specs.Walks.{◌>>=◌}
-use Rattle.dm_read.specs.declared.written.Size.{Size}
-use Rattle.dm_read.specs.declared.written.Size.TheVariants.{Absent}
+use Rattle.dm_words.specs.declared.written.Size.{Size}
+use Rattle.dm_words.specs.declared.written.Size.TheVariants.{Absent}
 use Rattle.dm_text.specs.Names.{named}
 use Rattle.dm_lines.specs.declared.words.Keyword.{Keyword}
 use Rattle.dm_lines.specs.declared.words.Keyword.TheVariants.{Nop}
@@ -26,10 +26,10 @@ use Rattle.dm_lines.specs.declared.term.Term.{Term}
 use Rattle.dm_lines.specs.declared.term.Term.TheVariants as term
 use Rattle.dm_lines.specs.declared.statement.Instruction.{Instruction}
 use Rattle.dm_lines.specs.Words.{all_words, spelling_of, meaning_of, keyword_token, reserved}
-use Rattle.dm_lines.specs.Tokens.{upper, is_word_byte, digit_of, magnitude_of, number_of, padded_of, or_name, word_token, closed, with_front, then_tokens, marked, inside_quotes, lexed, tokens_of}
-use Rattle.dm_lines.specs.Operands.{minus, amount_of, added_of, plain, value_of, word_of, base_at, based, onto, is_close, inside, memory_of, far_of, from_number, term_of, begin, is_comma, parts, term_pair, terms_of}
+use Rattle.dm_lines.specs.Tokens.{uppercase, is_word_byte, digit_of, magnitude_of, number_of, padded_of, or_name, word_token, closed, with_front, then_tokens, marked, inside_quotes, lexed, tokens_of}
+use Rattle.dm_lines.specs.Operands.{minus, amount_of, added_of, plain, value_of, amount_word, base_at, based, onto, is_close, inside, memory_of, far_pointer, from_number, term_of, begin, is_comma, parts, term_pair, terms_of}
 use Rattle.dm_lines.specs.Statements as line
-use Rattle.dm_lines.specs.Statements.{Item, Statement, instruction, joined_to, then_list, one, letters, bytes_item, words_of, mnemonic_at, prefixed, exchanges, is_memory, with_terms, operated, action_of, instruction_of, item_of, labelled, statement_of, line_of}
+use Rattle.dm_lines.specs.Statements.{Item, Statement, instruction, joined_to, then_list, one, letters, bytes_item, word_items, mnemonic_at, prefixed, exchanges, is_memory, with_terms, operated, action_of, instruction_of, item_of, labelled, statement_of, line_of}
 use Rattle.dm_lines.specs.Laws.{AmountFits, TermFits, ItemFits, NumbersFit}
 
 -- a fact of what is there
@@ -139,7 +139,7 @@ lexed_fits true w [] h = tt
 lexed_fits true w (b ∷ bs) h = front_fits (inside_quotes b ∷ []) (lexed (not (b == 39)) w bs) (quoted_fits b h.0, tt) (lexed_fits (not (b == 39)) w bs h.1)
 lexed_fits false w [] h = closed_fits w
 lexed_fits false w (b ∷ bs) h =
-    either_holds TokensFit (is_word_byte b) _ _ (lexed_fits false (w ++ upper b ∷ []) bs h.1)
+    either_holds TokensFit (is_word_byte b) _ _ (lexed_fits false (w ++ uppercase b ∷ []) bs h.1)
     (either_holds TokensFit (b == 59) _ _ (closed_fits w)
     (tokens_then (closed w) (then_tokens (marked b) (lexed (b == 39) [] bs)) (closed_fits w) (tokens_then (marked b) (lexed (b == 39) [] bs) (marked_fits b) (lexed_fits (b == 39) [] bs h.1))))
 
@@ -201,11 +201,11 @@ inside_fits (x ∷ y ∷ ts) h = onto_fits x (inside (y ∷ ts)) h.0 (inside_fit
 memory_fits : (s : Size) (ts : List Token) → TokensFit ts → Holds TermFits (memory_of s ts)
 memory_fits s ts h = then_holds TokensFit TermFits (inside ts) _ (inside_fits ts h) (λ xs k. based_fits s (base_at xs) xs (base_fits xs k) k)
 
-word_of_fits : (n : Amount) → AmountFits n → word_of n < 2 ^ 16
+word_of_fits : (n : Amount) → AmountFits n → amount_word n < 2 ^ 16
 word_of_fits (Plus n) h = h
 word_of_fits (Minus n) h = omega arith
 
-far_fits : (n : Amount) (ts : List Token) → AmountFits n → TokensFit ts → Holds TermFits (far_of n ts)
+far_fits : (n : Amount) (ts : List Token) → AmountFits n → TokensFit ts → Holds TermFits (far_pointer n ts)
 far_fits n ts h k = then_holds AmountFits TermFits (amount_of ts) _ (amount_fits ts k) (λ m l. (word_of_fits n h, word_of_fits m l))
 
 number_term_fits : (ts : List Token) → TokensFit ts → Holds TermFits (from_number ts)
@@ -260,7 +260,7 @@ mnemonic_fits (t.Mnemonic m ∷ t.Short ∷ ts) h = then_holds (λ j. Unit {0}) 
     any : (o : Option Mnemonic) → Holds (λ j. Unit {0}) o
     any None = tt
     any (Some j) = tt
-mnemonic_fits (t.Mnemonic m ∷ t.Far ∷ ts) h = then_holds (λ j. Unit {0}) RestFits (line.far_of m) (λ j. Some (j, ts)) (any (line.far_of m)) (λ j k. h.1.1)
+mnemonic_fits (t.Mnemonic m ∷ t.Far ∷ ts) h = then_holds (λ j. Unit {0}) RestFits (line.far_mnemonic m) (λ j. Some (j, ts)) (any (line.far_mnemonic m)) (λ j k. h.1.1)
   where
     any : (o : Option Mnemonic) → Holds (λ j. Unit {0}) o
     any None = tt
@@ -325,21 +325,21 @@ bytes_item_fits : (ts : List Token) → TokensFit ts → Holds (ListFits AmountF
 bytes_item_fits (t.Quote ∷ ts) h = letters_fit ts h.1
 bytes_item_fits ts h = one_fits AmountFits (amount_of ts) (amount_fits ts h)
 
-bytes_fit : (ps : List (List Token)) → PartsFit ps → Holds (ListFits AmountFits) (line.bytes_of ps)
+bytes_fit : (ps : List (List Token)) → PartsFit ps → Holds (ListFits AmountFits) (line.byte_items ps)
 unfolding ListFits PartsFit
 bytes_fit [] h = tt
-bytes_fit (p ∷ ps) h = then_list_fits AmountFits (bytes_item p) (line.bytes_of ps) (bytes_item_fits p h.0) (bytes_fit ps h.1)
+bytes_fit (p ∷ ps) h = then_list_fits AmountFits (bytes_item p) (line.byte_items ps) (bytes_item_fits p h.0) (bytes_fit ps h.1)
 
-words_fit : (ps : List (List Token)) → PartsFit ps → Holds (ListFits ValueFits) (words_of ps)
+words_fit : (ps : List (List Token)) → PartsFit ps → Holds (ListFits ValueFits) (word_items ps)
 unfolding ListFits PartsFit
 words_fit [] h = tt
-words_fit (p ∷ ps) h = then_list_fits ValueFits (one (value_of p)) (words_of ps) (one_fits ValueFits (value_of p) (value_fits p h.0)) (words_fit ps h.1)
+words_fit (p ∷ ps) h = then_list_fits ValueFits (one (value_of p)) (word_items ps) (one_fits ValueFits (value_of p) (value_fits p h.0)) (words_fit ps h.1)
 
 item_fits : (ts : List Token) → TokensFit ts → Holds ItemFits (item_of ts)
 unfolding ListFits
 item_fits [] h = tt
-item_fits (t.DataBytes ∷ ts) h = then_holds (ListFits AmountFits) ItemFits (line.bytes_of (parts ts)) (λ bs. Some (line.bytes bs)) (bytes_fit (parts ts) (parts_fit ts h.1)) (λ bs k. k)
-item_fits (t.DataWords ∷ ts) h = then_holds (ListFits ValueFits) ItemFits (words_of (parts ts)) (λ ws. Some (line.words ws)) (words_fit (parts ts) (parts_fit ts h.1)) (λ ws k. k)
+item_fits (t.DataBytes ∷ ts) h = then_holds (ListFits AmountFits) ItemFits (line.byte_items (parts ts)) (λ bs. Some (line.bytes bs)) (bytes_fit (parts ts) (parts_fit ts h.1)) (λ bs k. k)
+item_fits (t.DataWords ∷ ts) h = then_holds (ListFits ValueFits) ItemFits (word_items (parts ts)) (λ ws. Some (line.words ws)) (words_fit (parts ts) (parts_fit ts h.1)) (λ ws k. k)
 item_fits ts h = then_holds InstructionFits ItemFits (instruction_of ts) (λ i. Some (instruction i)) (instruction_fits ts h) (λ i k. k)
 
 abbrev StatementFits : Statement → Type 0

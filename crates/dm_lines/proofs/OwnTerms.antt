@@ -6,19 +6,19 @@ use Rattle.dm_ins.specs.declared.operand.Base.TheVariants.{Direct}
 use Rattle.dm_ins.specs.declared.operand.Operand.TheVariants as operand
 use Rattle.dm_ins.specs.declared.action.Mnemonic.{Mnemonic}
 use Rattle.dm_ins.specs.declared.action.Mnemonic.TheVariants.{Mov}
-use Rattle.dm_read.specs.declared.written.Size.{Size}
-use Rattle.dm_read.specs.declared.written.Written.{Written}
-use Rattle.dm_read.specs.declared.written.Written.TheVariants as w
-use Rattle.dm_read.specs.Words.{size_word}
-use Rattle.dm_read.specs.StandIns.{is_move, OperandStands, NumberStands}
+use Rattle.dm_words.specs.declared.written.Size.{Size}
+use Rattle.dm_words.specs.declared.written.Written.{Written}
+use Rattle.dm_words.specs.declared.written.Written.TheVariants as w
+use Rattle.dm_words.specs.Words.{size_word}
+use Rattle.dm_words.specs.StandIns.{is_move, OperandStands, NumberStands}
 use Rattle.dm_ins.specs.Walks.{◌>>=◌}
 use Rattle.dm_lines.specs.declared.token.Name as Name'
-use Rattle.dm_lines.specs.Operands.{word_of}
+use Rattle.dm_lines.specs.Operands.{amount_word}
 use Rattle.dm_lines.specs.declared.term.Amount.{Amount}
 use Rattle.dm_lines.specs.declared.term.Amount.TheVariants.{Plus, Minus}
 use Rattle.dm_lines.specs.declared.term.Value.{Value}
 use Rattle.dm_lines.specs.declared.term.Term.TheVariants as term
-use Rattle.dm_lines.specs.Placing.{moved, word_from, standing, low_byte_of, byte_of, distance_of, takes_labels, number_at, label_at, numeral_from, numeral_at, written_of, number_outline, label_outline, numeral_without, numeral_outline, word_without, word_outline}
+use Rattle.dm_lines.specs.Placing.{displaced, word_from, standing, low_byte_of, byte_of, distance_of, takes_labels, number_at, label_at, numeral_from, numeral_at, written_of, number_outline, label_outline, numeral_without, numeral_outline, word_without, word_outline}
 use Rattle.dm_lines.specs.Own.{memory_term}
 use Rattle.dm_lines.specs.Laws.{AmountFits, OwnTermsAreWritten, OutlinesStand}
 
@@ -44,7 +44,7 @@ same_move : (m : Mnemonic) → takes_labels m ≡ is_move m
 same_move Mov = refl
 same_move m = refl
 
-word_fits : (n : Amount) → AmountFits n → word_of n < 2 ^ 16
+word_fits : (n : Amount) → AmountFits n → amount_word n < 2 ^ 16
 word_fits (Plus n) h = h
 word_fits (Minus n) h = omega arith
 
@@ -55,7 +55,7 @@ low_stands m n = by (nat_lt n 256)
     by true = (omega arith, λ _. refl)
     by false = tt
 
-byte_stands : (m : Mnemonic) (n : Amount) → IfSome (byte_of n) (λ b. (word_of n % 64 < 2 ^ 8) × (is_move m ≡ false → word_of n % 64 ≡ b % 64))
+byte_stands : (m : Mnemonic) (n : Amount) → IfSome (byte_of n) (λ b. (amount_word n % 64 < 2 ^ 8) × (is_move m ≡ false → amount_word n % 64 ≡ b % 64))
 byte_stands m (Plus n) = low_stands m n
 byte_stands m (Minus n) = by (nat_le n 128) refl
   where
@@ -88,7 +88,7 @@ standing_number m v place next x h = by v.label
 
     by : (l : Option Name'.Name) → (numeral_from m l v.amount place next >>= λ n. Some (w.Number n)) ≡ Some x → OperandStands m (w.Number (numeral_without m l v.amount)) x
     by None e = let k : w.Number (number_at v.amount next) ≡ x = cc in subst (λ (z : Written). OperandStands m (w.Number (number_outline v.amount)) z) k (number_stands m v.amount next h)
-    by (Some l) e = moved_to l (moved v.amount place) e
+    by (Some l) e = moved_to l (displaced v.amount place) e
 
 standing_address : (m : Mnemonic) (s : Size) (v : Value) (place : ℕ) (x : Written) → AmountFits v.amount → (standing v place >>= λ d. Some (w.Memory s (record { base = Direct; displacement = d }))) ≡ Some x → OperandStands m (w.Memory s (record { base = Direct; displacement = word_outline v })) x
 standing_address m s v place x h = by v.label
@@ -101,8 +101,8 @@ standing_address m s v place x h = by v.label
     moved_to (Some d) e = let k : w.Memory s (record { base = Direct; displacement = d }) ≡ x = cc in subst (λ (z : Written). OperandStands m (w.Memory s (record { base = Direct; displacement = 0 })) z) k (refl, record { base = refl; displacement = λ f. absurd cc; fits = omega arith })
 
     by : (l : Option Name'.Name) → (word_from l v.amount place >>= λ d. Some (w.Memory s (record { base = Direct; displacement = d }))) ≡ Some x → OperandStands m (w.Memory s (record { base = Direct; displacement = word_without l v.amount })) x
-    by None e = let k : w.Memory s (record { base = Direct; displacement = word_of v.amount }) ≡ x = cc in subst (λ (z : Written). OperandStands m (w.Memory s (record { base = Direct; displacement = word_of v.amount })) z) k (refl, record { base = refl; displacement = λ _. refl; fits = word_fits v.amount h })
-    by (Some l) e = moved_to (moved v.amount place) e
+    by None e = let k : w.Memory s (record { base = Direct; displacement = amount_word v.amount }) ≡ x = cc in subst (λ (z : Written). OperandStands m (w.Memory s (record { base = Direct; displacement = amount_word v.amount })) z) k (refl, record { base = refl; displacement = λ _. refl; fits = word_fits v.amount h })
+    by (Some l) e = moved_to (displaced v.amount place) e
 
 pub outlines_stand : OutlinesStand
 outlines_stand m term.Nothing place next x h e = let k : w.Nothing ≡ x = cc in subst (λ (z : Written). OperandStands m w.Nothing z) k refl
@@ -110,8 +110,8 @@ outlines_stand m (term.ByteRegister r) place next x h e = let k : w.ByteRegister
 outlines_stand m (term.WordRegister r) place next x h e = let k : w.WordRegister r ≡ x = cc in subst (λ (z : Written). OperandStands m (w.WordRegister r) z) k refl
 outlines_stand m (term.SegmentRegister r) place next x h e = let k : w.SegmentRegister r ≡ x = cc in subst (λ (z : Written). OperandStands m (w.SegmentRegister r) z) k refl
 outlines_stand m (term.Memory s b n) place next x h e =
-    let k : w.Memory s (record { base = b; displacement = word_of n }) ≡ x = cc in
-    subst (λ (z : Written). OperandStands m (w.Memory s (record { base = b; displacement = word_of n })) z) k (refl, record { base = refl; displacement = λ _. refl; fits = word_fits n h })
+    let k : w.Memory s (record { base = b; displacement = amount_word n }) ≡ x = cc in
+    subst (λ (z : Written). OperandStands m (w.Memory s (record { base = b; displacement = amount_word n })) z) k (refl, record { base = refl; displacement = λ _. refl; fits = word_fits n h })
 outlines_stand m (term.Address s v) place next x h e = standing_address m s v place x h e
 outlines_stand m (term.Number v) place next x h e = standing_number m v place next x h e
 outlines_stand m (term.Far s o) place next x h e = let k : w.Far s o ≡ x = cc in subst (λ (z : Written). OperandStands m (w.Far s o) z) k refl

@@ -5,10 +5,10 @@ use Rattle.std.specs.List.{list_all}
 use Rattle.std.proofs.lemmas.Bool.{eqb-true}
 use Rattle.std.proofs.lemmas.Bool.Decides.{nat_tests}
 use borrow.Author.Count.{below_none, below_more}
-use Rattle.dm_text.specs.Pieces.{Piece, name, byte, word, sign, digit, byte_digits, word_digits, bytes_of, is_in_names, is_mark, parted}
+use Rattle.dm_text.specs.Pieces.{Piece, name, byte, word, sign, digit, byte_digits, word_digits, text_bytes, is_in_names, is_mark, parted}
 use Rattle.dm_lines.specs.declared.token.Token.{Token}
 use Rattle.dm_lines.specs.declared.token.Token.TheVariants as t
-use Rattle.dm_lines.specs.Tokens.{upper, is_word_byte, digit_of, magnitude_of, word_token, closed, with_front, then_tokens, marked, lexed, tokens_of}
+use Rattle.dm_lines.specs.Tokens.{uppercase, is_word_byte, digit_of, magnitude_of, word_token, closed, with_front, then_tokens, marked, lexed, tokens_of}
 use Rattle.dm_lines.specs.Laws.{all_tokens, AllFit, IsComment, PiecesAreRead}
 
 both_true : (a b : Bool) → (a && b) ≡ true → (a ≡ true) × (b ≡ true)
@@ -27,12 +27,12 @@ all_words [] = true
 all_words (b ∷ bs) = is_word_byte b && all_words bs
 
 -- a run of letters and digits goes on with the word, in upper case
-run_read : (v u rest : List ℕ) → all_words u ≡ true → lexed false v (u ++ rest) ≡ lexed false (v ++ map upper u) rest
+run_read : (v u rest : List ℕ) → all_words u ≡ true → lexed false v (u ++ rest) ≡ lexed false (v ++ map uppercase u) rest
 unfolding all_words
 run_read v [] rest h = ap (λ (z : List ℕ). lexed false z rest) (sym (append-nil v))
 run_read v (b ∷ u) rest h =
     let x = both_true (is_word_byte b) (all_words u) h in
-    rw x.0 (run_read (v ++ upper b ∷ []) u rest x.1 ∙ ap (λ (z : List ℕ). lexed false z rest) (append_assoc v (upper b ∷ []) (map upper u)))
+    rw x.0 (run_read (v ++ uppercase b ∷ []) u rest x.1 ∙ ap (λ (z : List ℕ). lexed false z rest) (append_assoc v (uppercase b ∷ []) (map uppercase u)))
 
 name_byte : (digits letters small line : Bool) → (digits || letters) ≡ true → (letters || small || digits || line) ≡ true
 name_byte true true small line e = refl
@@ -47,13 +47,13 @@ below_small b h = grind (arith, nat_tests)
 not_small : (b : ℕ) (x : Bool) → leb 97 b ≡ false → (if leb 97 b && x then b - 32 else b) ≡ b
 not_small b x h = rw h refl
 
-name_words : (w : List ℕ) → list_all is_in_names w ≡ true → (all_words w ≡ true) × (map upper w ≡ w)
+name_words : (w : List ℕ) → list_all is_in_names w ≡ true → (all_words w ≡ true) × (map uppercase w ≡ w)
 unfolding all_words
 name_words [] h = (refl, refl)
 name_words (b ∷ w) h =
     let x = both_true (is_in_names b) (list_all is_in_names w) h in
     let r = name_words w x.1 in
-    (rw (name_byte _ _ (nat_le 97 b && nat_le b 122) (b == 95) x.0, r.0) refl, let e : upper b ≡ b = not_small b (nat_le b 122) (below_small b x.0) in cc)
+    (rw (name_byte _ _ (nat_le 97 b && nat_le b 122) (b == 95) x.0, r.0) refl, let e : uppercase b ≡ b = not_small b (nat_le b 122) (below_small b x.0) in cc)
 
 record IsSign (b : ℕ) : Type 0 where
   no_word : is_word_byte b ≡ false
@@ -88,11 +88,11 @@ from P a0 a1 a2 a3 a4 a5 a6 a7 a8 a9 a10 a11 a12 a13 a14 a15 =
 -- a digit is a byte of a word, keeps its case, and stands for itself
 record IsDigit (d : ℕ) : Type 0 where
   word : is_word_byte (digit d) ≡ true
-  upper : upper (digit d) ≡ digit d
+  uppercase : uppercase (digit d) ≡ digit d
   spells : digit_of (digit d) ≡ Some d
 
 is_digit : (d : ℕ) → d < 16 → IsDigit d
-is_digit = from IsDigit (record { word = refl; upper = refl; spells = refl }) (record { word = refl; upper = refl; spells = refl }) (record { word = refl; upper = refl; spells = refl }) (record { word = refl; upper = refl; spells = refl }) (record { word = refl; upper = refl; spells = refl }) (record { word = refl; upper = refl; spells = refl }) (record { word = refl; upper = refl; spells = refl }) (record { word = refl; upper = refl; spells = refl }) (record { word = refl; upper = refl; spells = refl }) (record { word = refl; upper = refl; spells = refl }) (record { word = refl; upper = refl; spells = refl }) (record { word = refl; upper = refl; spells = refl }) (record { word = refl; upper = refl; spells = refl }) (record { word = refl; upper = refl; spells = refl }) (record { word = refl; upper = refl; spells = refl }) (record { word = refl; upper = refl; spells = refl })
+is_digit = from IsDigit (record { word = refl; uppercase = refl; spells = refl }) (record { word = refl; uppercase = refl; spells = refl }) (record { word = refl; uppercase = refl; spells = refl }) (record { word = refl; uppercase = refl; spells = refl }) (record { word = refl; uppercase = refl; spells = refl }) (record { word = refl; uppercase = refl; spells = refl }) (record { word = refl; uppercase = refl; spells = refl }) (record { word = refl; uppercase = refl; spells = refl }) (record { word = refl; uppercase = refl; spells = refl }) (record { word = refl; uppercase = refl; spells = refl }) (record { word = refl; uppercase = refl; spells = refl }) (record { word = refl; uppercase = refl; spells = refl }) (record { word = refl; uppercase = refl; spells = refl }) (record { word = refl; uppercase = refl; spells = refl }) (record { word = refl; uppercase = refl; spells = refl }) (record { word = refl; uppercase = refl; spells = refl })
 
 not_le : (a b : ℕ) → b < a → leb a b ≡ false
 not_le a b h = grind (arith, nat_tests)
@@ -118,8 +118,8 @@ spelled a b c d n ha hb hc hd e =
 -- what a run of letters and digits is, once it has ended
 record IsNumber (u : List ℕ) (n : ℕ) : Type 0 where
   words : all_words u ≡ true
-  token : closed (map upper u) ≡ Some (t.Number n ∷ [])
-  begun : is_begun (map upper u) ≡ true
+  token : closed (map uppercase u) ≡ Some (t.Number n ∷ [])
+  begun : is_begun (map uppercase u) ≡ true
 
 byte_number : (n : ℕ) → n < 256 → IsNumber (byte_digits n) n
 unfolding byte_digits all_words is_begun word_token
@@ -158,12 +158,12 @@ comment_ends v (b ∷ bs) (inr e) = rw (e.0, comment_ends [] bs e.1) (nothing_be
 
 module _ (comment : List ℕ) (is_comment : IsComment comment) where
   Reads : List ℕ → List Piece → Type 0
-  Reads v ps = lexed false v (bytes_of ps ++ comment) ≡ then_tokens (closed v) (all_tokens ps)
+  Reads v ps = lexed false v (text_bytes ps ++ comment) ≡ then_tokens (closed v) (all_tokens ps)
 
-  number_read : (u : List ℕ) (n : ℕ) (ps : List Piece) → IsNumber u n → Reads (map upper u) ps → lexed false [] ((u ++ bytes_of ps) ++ comment) ≡ then_tokens (closed []) (with_front (t.Number n ∷ []) (all_tokens ps))
+  number_read : (u : List ℕ) (n : ℕ) (ps : List Piece) → IsNumber u n → Reads (map uppercase u) ps → lexed false [] ((u ++ text_bytes ps) ++ comment) ≡ then_tokens (closed []) (with_front (t.Number n ∷ []) (all_tokens ps))
   unfolding Reads
   number_read u n ps i r =
-      ap (lexed false []) (append_assoc u (bytes_of ps) comment) ∙ run_read [] u (bytes_of ps ++ comment) i.words ∙ r ∙ ap (λ (z : Option (List Token)). then_tokens z (all_tokens ps)) i.token ∙ sym (none_before (with_front (t.Number n ∷ []) (all_tokens ps)))
+      ap (lexed false []) (append_assoc u (text_bytes ps) comment) ∙ run_read [] u (text_bytes ps ++ comment) i.words ∙ r ∙ ap (λ (z : Option (List Token)). then_tokens z (all_tokens ps)) i.token ∙ sym (none_before (with_front (t.Number n ∷ []) (all_tokens ps)))
 
   reads : (v : List ℕ) (ps : List Piece) → parted (is_begun v) ps ≡ true → AllFit ps → Reads v ps
   unfolding Reads is_begun
@@ -175,19 +175,19 @@ module _ (comment : List ℕ) (is_comment : IsComment comment) where
   reads [] (name (c ∷ u) ∷ ps) h f =
       let x = both_true (list_all is_in_names (c ∷ u)) (parted true ps) h in
       let n = name_words (c ∷ u) x.0 in
-      ap (lexed false []) (append_assoc (c ∷ u) (bytes_of ps) comment) ∙ run_read [] (c ∷ u) (bytes_of ps ++ comment) n.0 ∙ ap (λ (z : List ℕ). lexed false z (bytes_of ps ++ comment)) n.1 ∙ reads (c ∷ u) ps x.1 f.1 ∙ sym (none_before (then_tokens (closed (c ∷ u)) (all_tokens ps)))
+      ap (lexed false []) (append_assoc (c ∷ u) (text_bytes ps) comment) ∙ run_read [] (c ∷ u) (text_bytes ps ++ comment) n.0 ∙ ap (λ (z : List ℕ). lexed false z (text_bytes ps ++ comment)) n.1 ∙ reads (c ∷ u) ps x.1 f.1 ∙ sym (none_before (then_tokens (closed (c ∷ u)) (all_tokens ps)))
   reads [] (byte n ∷ ps) h f =
       let i = byte_number n f.0 in
-      number_read (byte_digits n) n ps i (reads (map upper (byte_digits n)) ps (subst (λ (z : Bool). parted z ps ≡ true) (sym i.begun) h) f.1)
+      number_read (byte_digits n) n ps i (reads (map uppercase (byte_digits n)) ps (subst (λ (z : Bool). parted z ps ≡ true) (sym i.begun) h) f.1)
   reads [] (word n ∷ ps) h f =
       let i = word_number n f.0 in
-      number_read (word_digits n) n ps i (reads (map upper (word_digits n)) ps (subst (λ (z : Bool). parted z ps ≡ true) (sym i.begun) h) f.1)
+      number_read (word_digits n) n ps i (reads (map uppercase (word_digits n)) ps (subst (λ (z : Bool). parted z ps ≡ true) (sym i.begun) h) f.1)
   reads [] (sign b ∷ ps) h f =
       let x = both_true (is_mark b) (parted false ps) h in
-      sign_read [] b (bytes_of ps ++ comment) (is_sign b x.0) ∙ ap (λ (z : Option (List Token)). then_tokens (Some []) (then_tokens (marked b) z)) (reads [] ps x.1 f.1 ∙ none_before (all_tokens ps))
+      sign_read [] b (text_bytes ps ++ comment) (is_sign b x.0) ∙ ap (λ (z : Option (List Token)). then_tokens (Some []) (then_tokens (marked b) z)) (reads [] ps x.1 f.1 ∙ none_before (all_tokens ps))
   reads (c ∷ v) (sign b ∷ ps) h f =
       let x = both_true (is_mark b) (parted false ps) h in
-      sign_read (c ∷ v) b (bytes_of ps ++ comment) (is_sign b x.0) ∙ ap (λ (z : Option (List Token)). then_tokens (closed (c ∷ v)) (then_tokens (marked b) z)) (reads [] ps x.1 f.1 ∙ none_before (all_tokens ps))
+      sign_read (c ∷ v) b (text_bytes ps ++ comment) (is_sign b x.0) ∙ ap (λ (z : Option (List Token)). then_tokens (closed (c ∷ v)) (then_tokens (marked b) z)) (reads [] ps x.1 f.1 ∙ none_before (all_tokens ps))
 
 pub pieces_are_read : PiecesAreRead
 unfolding tokens_of Reads is_begun

@@ -27,15 +27,15 @@ use Rattle.dm_ins.specs.Walks.{◌>>=◌}
 use Rattle.dm_ins.proofs.TableRules.{both_true}
 use Rattle.dm_ins.proofs.Shortest.{action_fits}
 use Rattle.dm_text.specs.Names.{byte_name, word_name, segment_name, name_of}
-use Rattle.dm_text.specs.Pieces.{byte, digit, is_in_names, is_mark, parted, Piece, name, word, sign, space, plus, comma, left_bracket, right_bracket, byte_digits, word_digits, bytes_of}
+use Rattle.dm_text.specs.Pieces.{byte, digit, is_in_names, is_mark, parted, Piece, name, word, sign, space, plus, comma, left_bracket, right_bracket, byte_digits, word_digits, text_bytes}
 use Rattle.dm_text.specs.Texts.{base_pieces, displacement_pieces, address_pieces, size_pieces, memory_pieces, operand_pieces, behind, second_pieces, operands_pieces, mnemonic_pieces, is_nop, action_pieces, segment_pieces, lock_pieces, repeat_pieces, prefix_pieces, pieces, text_of}
 use Rattle.dm_text.proofs.Pieces.{bytes-append}
 use Rattle.dm_text.proofs.Parted.{texts_are_parted}
-use Rattle.dm_read.specs.declared.written.Size.{Size}
-use Rattle.dm_read.specs.declared.written.Size.TheVariants.{Absent, Byte, Word, Near}
-use Rattle.dm_read.specs.Words.{size_word}
-use Rattle.dm_read.specs.Laws.{word_pieces}
-use Rattle.dm_read.proofs.Sizes.{sizes_are_shown}
+use Rattle.dm_words.specs.declared.written.Size.{Size}
+use Rattle.dm_words.specs.declared.written.Size.TheVariants.{Absent, Byte, Word, Near}
+use Rattle.dm_words.specs.Words.{size_word}
+use Rattle.dm_words.specs.Laws.{word_pieces}
+use Rattle.dm_words.proofs.Sizes.{sizes_are_shown}
 use Rattle.dm_lines.specs.Tokens.{tokens_of}
 use Rattle.dm_lines.specs.Statements.{statement_of, line_of}
 use Rattle.dm_lines.specs.Laws.{AllFit, TextsArePlain, TextsAreRead}
@@ -156,7 +156,7 @@ pieces_fit i next h k = fit-append (prefix_pieces i.prefixes) (action_pieces i.a
 
 -- at most so many bytes
 Long : ℕ → List Piece → Type 0
-Long n ps = length (bytes_of ps) ≤ n
+Long n ps = length (text_bytes ps) ≤ n
 
 long-append : (m n : ℕ) (ps qs : List Piece) → Long m ps → Long n qs → Long (m + n) (ps ++ qs)
 unfolding Long
@@ -319,7 +319,7 @@ word_printed : (n : ℕ) → Printed (word_digits n)
 unfolding Printed word_digits
 word_printed n = (omega arith, (digit_printed (n / 4096), (digit_printed (n / 256 % 16), (digit_printed (n / 16 % 16), (digit_printed (n % 16), (omega arith, tt))))))
 
-pieces_printed : (b : Bool) (ps : List Piece) → parted b ps ≡ true → Printed (bytes_of ps)
+pieces_printed : (b : Bool) (ps : List Piece) → parted b ps ≡ true → Printed (text_bytes ps)
 unfolding Printed
 pieces_printed b [] h = tt
 pieces_printed true (name w ∷ ps) h = absurd cc
@@ -328,9 +328,9 @@ pieces_printed true (word n ∷ ps) h = absurd cc
 pieces_printed false (name [] ∷ ps) h = absurd cc
 pieces_printed false (name (c ∷ w) ∷ ps) h =
     let x = both_true (list_all is_in_names (c ∷ w)) (parted true ps) h in
-    printed-append (c ∷ w) (bytes_of ps) (name_printed (c ∷ w) x.0) (pieces_printed true ps x.1)
-pieces_printed false (byte n ∷ ps) h = printed-append (byte_digits n) (bytes_of ps) (byte_printed n) (pieces_printed true ps h)
-pieces_printed false (word n ∷ ps) h = printed-append (word_digits n) (bytes_of ps) (word_printed n) (pieces_printed true ps h)
+    printed-append (c ∷ w) (text_bytes ps) (name_printed (c ∷ w) x.0) (pieces_printed true ps x.1)
+pieces_printed false (byte n ∷ ps) h = printed-append (byte_digits n) (text_bytes ps) (byte_printed n) (pieces_printed true ps h)
+pieces_printed false (word n ∷ ps) h = printed-append (word_digits n) (text_bytes ps) (word_printed n) (pieces_printed true ps h)
 pieces_printed true (sign c ∷ ps) h = let x = both_true (is_mark c) (parted false ps) h in (mark_printed c x.0, pieces_printed false ps x.1)
 pieces_printed false (sign c ∷ ps) h = let x = both_true (is_mark c) (parted false ps) h in (mark_printed c x.0, pieces_printed false ps x.1)
 
@@ -347,5 +347,5 @@ pub texts_are_read : TextsAreRead
 unfolding line_of text_of Long
 texts_are_read i x next s =
     let f = action_fits i.action x s in
-    rw (within (length (bytes_of (pieces i next))) (pieces_long i next))
-    (ap (λ o. o >>= statement_of) (ap tokens_of (sym (append-nil (bytes_of (pieces i next)))) ∙ pieces_are_read (pieces i next) [] (texts_are_parted i next) (pieces_fit i next f.0 f.1) tt ∙ pieces_again i next) ∙ tokens_read i next (can_be_written i.action x next s))
+    rw (within (length (text_bytes (pieces i next))) (pieces_long i next))
+    (ap (λ o. o >>= statement_of) (ap tokens_of (sym (append-nil (text_bytes (pieces i next)))) ∙ pieces_are_read (pieces i next) [] (texts_are_parted i next) (pieces_fit i next f.0 f.1) tt ∙ pieces_again i next) ∙ tokens_read i next (can_be_written i.action x next s))

@@ -7,9 +7,9 @@ use Rattle.dm_ins.specs.declared.action.Action.{Action}
 use Rattle.dm_ins.specs.declared.ins.Ins.{Ins}
 use Rattle.dm_ins.specs.Spelling.{SpellsAction}
 use Rattle.dm_text.specs.Texts.{text_of}
-use Rattle.dm_read.specs.declared.written.Written.{Written}
-use Rattle.dm_read.specs.StandIns.{OperandStands}
-use Rattle.dm_read.specs.Own as read
+use Rattle.dm_words.specs.declared.written.Written.{Written}
+use Rattle.dm_words.specs.StandIns.{OperandStands}
+use Rattle.dm_words.specs.Own as read
 use Rattle.dm_lines.specs.declared.term.Amount.{Amount}
 use Rattle.dm_lines.specs.declared.term.Amount.TheVariants.{Plus, Minus}
 use Rattle.dm_lines.specs.declared.term.Term.{Term}
@@ -17,7 +17,7 @@ use Rattle.dm_lines.specs.declared.term.Term.TheVariants as term
 use Rattle.dm_lines.specs.Statements.{Item, Statement, nothing, instruction, bytes, words, line_of}
 use Rattle.dm_lines.specs.Placing.{written_of, outline_of}
 use Rattle.dm_lines.specs.Own.{own_term, own_statement}
-use Rattle.dm_text.specs.Pieces.{Piece, name, byte, word, sign, byte_digits, bytes_of, parted}
+use Rattle.dm_text.specs.Pieces.{Piece, name, byte, word, sign, byte_digits, text_bytes, parted}
 use Rattle.dm_lines.specs.declared.token.Token.{Token}
 use Rattle.dm_lines.specs.declared.token.Token.TheVariants as t
 use Rattle.dm_lines.specs.Tokens.{closed, then_tokens, marked, tokens_of}
@@ -51,7 +51,7 @@ IsComment (b ∷ bs) = (b ≡ 59) ⊎ ((b ≡ 32) × IsComment bs)
 -- a text whose pieces stand apart is read piece by piece, before a comment too: a name is a word, a number is that
 -- number
 abbrev pub PiecesAreRead : Type 0
-PiecesAreRead = (ps : List Piece) (comment : List ℕ) → parted false ps ≡ true → AllFit ps → IsComment comment → tokens_of (bytes_of ps ++ comment) ≡ all_tokens ps
+PiecesAreRead = (ps : List Piece) (comment : List ℕ) → parted false ps ≡ true → AllFit ps → IsComment comment → tokens_of (text_bytes ps ++ comment) ≡ all_tokens ps
 
 -- ---- instructions
 

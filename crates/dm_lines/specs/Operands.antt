@@ -6,8 +6,8 @@ use Rattle.dm_ins.specs.declared.operand.WordRegister.TheVariants.{Bx, Bp, Si, D
 use Rattle.dm_ins.specs.declared.operand.Base.{Base}
 use Rattle.dm_ins.specs.declared.operand.Base.TheVariants.{BxSi, BxDi, BpSi, BpDi, OnSi, OnDi, OnBp, OnBx}
 use Rattle.dm_ins.specs.Walks.{◌>>=◌}
-use Rattle.dm_read.specs.declared.written.Size.{Size}
-use Rattle.dm_read.specs.declared.written.Size.TheVariants.{Absent}
+use Rattle.dm_words.specs.declared.written.Size.{Size}
+use Rattle.dm_words.specs.declared.written.Size.TheVariants.{Absent}
 use Rattle.dm_lines.specs.declared.token.Token.{Token}
 use Rattle.dm_lines.specs.declared.token.Token.TheVariants as t
 use Rattle.dm_lines.specs.declared.term.Amount.{Amount}
@@ -47,9 +47,9 @@ value_of (t.Name l ∷ ts) = do
 value_of ts = plain (amount_of ts)
 
 -- a number as a word, modulo 10000h
-abbrev pub word_of : Amount → ℕ
-word_of (Plus n) = n
-word_of (Minus n) = (65536 - n) % 65536
+abbrev pub amount_word : Amount → ℕ
+amount_word (Plus n) = n
+amount_word (Minus n) = (65536 - n) % 65536
 
 -- ---- memory
 
@@ -98,17 +98,17 @@ memory_of s ts = do
 
 -- ---- operands
 
-abbrev pub far_of : Amount → List Token → Option Term
-far_of segment ts = do
+abbrev pub far_pointer : Amount → List Token → Option Term
+far_pointer segment ts = do
   offset ← amount_of ts
-  Some (term.Far (word_of segment) (word_of offset))
+  Some (term.Far (amount_word segment) (amount_word offset))
 
 -- a segment and an offset, which are numbers, or a value
 abbrev pub from_number : List Token → Option Term
-from_number (t.Number n ∷ t.Colon ∷ ts) = far_of (Plus n) ts
+from_number (t.Number n ∷ t.Colon ∷ ts) = far_pointer (Plus n) ts
 from_number (t.Minus ∷ t.Number n ∷ t.Colon ∷ ts) = do
   segment ← minus n
-  far_of segment ts
+  far_pointer segment ts
 from_number ts = do
   v ← value_of ts
   Some (term.Number v)

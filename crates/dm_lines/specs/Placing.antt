@@ -6,27 +6,27 @@ use Rattle.dm_ins.specs.declared.action.Mnemonic.{Mnemonic}
 use Rattle.dm_ins.specs.declared.action.Mnemonic.TheVariants.{Mov}
 use Rattle.dm_ins.specs.declared.operand.Base.TheVariants.{Direct}
 use Rattle.dm_ins.specs.Walks.{◌>>=◌}
-use Rattle.dm_read.specs.declared.written.Numeral.{Numeral}
-use Rattle.dm_read.specs.declared.written.Written.{Written}
-use Rattle.dm_read.specs.declared.written.Written.TheVariants as w
+use Rattle.dm_words.specs.declared.written.Numeral.{Numeral}
+use Rattle.dm_words.specs.declared.written.Written.{Written}
+use Rattle.dm_words.specs.declared.written.Written.TheVariants as w
 use Rattle.dm_lines.specs.declared.token.Name as Name'
 use Rattle.dm_lines.specs.declared.term.Amount.{Amount}
 use Rattle.dm_lines.specs.declared.term.Amount.TheVariants.{Plus, Minus}
 use Rattle.dm_lines.specs.declared.term.Value.{Value}
 use Rattle.dm_lines.specs.declared.term.Term.{Term}
 use Rattle.dm_lines.specs.declared.term.Term.TheVariants as term
-use Rattle.dm_lines.specs.Operands.{word_of}
+use Rattle.dm_lines.specs.Operands.{amount_word}
 
 -- ---- values
 
 -- a label's place and what is added to it: 0 to FFFFh
-abbrev pub moved : Amount → ℕ → Option ℕ
-moved (Plus n) place = if nat_lt (place + n) 65536 then Some (place + n) else None
-moved (Minus n) place = if nat_le n place then Some (place - n) else None
+abbrev pub displaced : Amount → ℕ → Option ℕ
+displaced (Plus n) place = if nat_lt (place + n) 65536 then Some (place + n) else None
+displaced (Minus n) place = if nat_le n place then Some (place - n) else None
 
 abbrev pub word_from : Option Name'.Name → Amount → ℕ → Option ℕ
-word_from None n place = Some (word_of n)
-word_from (Some l) n place = moved n place
+word_from None n place = Some (amount_word n)
+word_from (Some l) n place = displaced n place
 
 -- the word that a value is where its label stands at a place
 abbrev pub standing : Value → ℕ → Option ℕ
@@ -56,7 +56,7 @@ takes_labels Mov = true
 takes_labels _ = false
 
 abbrev pub number_at : Amount → ℕ → Numeral
-number_at n next = record { byte = byte_of n; word = Some (word_of n); distance = distance_of (word_of n) next; is_one = is_one_of n }
+number_at n next = record { byte = byte_of n; word = Some (amount_word n); distance = distance_of (amount_word n) next; is_one = is_one_of n }
 
 abbrev pub label_at : Mnemonic → ℕ → ℕ → Numeral
 label_at m target next =
@@ -67,7 +67,7 @@ label_at m target next =
 abbrev pub numeral_from : Mnemonic → Option Name'.Name → Amount → ℕ → ℕ → Option Numeral
 numeral_from m None n place next = Some (number_at n next)
 numeral_from m (Some l) n place next = do
-  target ← moved n place
+  target ← displaced n place
   Some (label_at m target next)
 
 abbrev pub numeral_at : Mnemonic → Value → ℕ → ℕ → Option Numeral
@@ -80,7 +80,7 @@ written_of m term.Nothing place next = Some w.Nothing
 written_of m (term.ByteRegister r) place next = Some (w.ByteRegister r)
 written_of m (term.WordRegister r) place next = Some (w.WordRegister r)
 written_of m (term.SegmentRegister r) place next = Some (w.SegmentRegister r)
-written_of m (term.Memory s b n) place next = Some (w.Memory s (record { base = b; displacement = word_of n }))
+written_of m (term.Memory s b n) place next = Some (w.Memory s (record { base = b; displacement = amount_word n }))
 written_of m (term.Address s v) place next = do
   d ← standing v place
   Some (w.Memory s (record { base = Direct; displacement = d }))
@@ -93,7 +93,7 @@ written_of m (term.Far s o) place next = Some (w.Far s o)
 
 -- a byte counts modulo 64: it is in range then, and the number of ESC, which decides its first byte, is below 64
 abbrev pub number_outline : Amount → Numeral
-number_outline n = record { byte = Some (word_of n % 64); word = Some (word_of n); distance = 0; is_one = is_one_of n }
+number_outline n = record { byte = Some (amount_word n % 64); word = Some (amount_word n); distance = 0; is_one = is_one_of n }
 
 abbrev pub label_outline : Mnemonic → Numeral
 label_outline m =
@@ -109,7 +109,7 @@ abbrev pub numeral_outline : Mnemonic → Value → Numeral
 numeral_outline m v = numeral_without m v.label v.amount
 
 abbrev pub word_without : Option Name'.Name → Amount → ℕ
-word_without None n = word_of n
+word_without None n = amount_word n
 word_without (Some l) n = 0
 
 abbrev pub word_outline : Value → ℕ
@@ -120,7 +120,7 @@ outline_of m term.Nothing = w.Nothing
 outline_of m (term.ByteRegister r) = w.ByteRegister r
 outline_of m (term.WordRegister r) = w.WordRegister r
 outline_of m (term.SegmentRegister r) = w.SegmentRegister r
-outline_of m (term.Memory s b n) = w.Memory s (record { base = b; displacement = word_of n })
+outline_of m (term.Memory s b n) = w.Memory s (record { base = b; displacement = amount_word n })
 outline_of m (term.Address s v) = w.Memory s (record { base = Direct; displacement = word_outline v })
 outline_of m (term.Number v) = w.Number (numeral_outline m v)
 outline_of m (term.Far s o) = w.Far s o

@@ -70,14 +70,14 @@ abbrev pub bytes_item : List Token → Option (List Amount)
 bytes_item (t.Quote ∷ ts) = letters ts
 bytes_item ts = one (amount_of ts)
 
-abbrev pub bytes_of : List (List Token) → Option (List Amount)
-bytes_of [] = Some []
-bytes_of (p ∷ ps) = then_list (bytes_item p) (bytes_of ps)
+abbrev pub byte_items : List (List Token) → Option (List Amount)
+byte_items [] = Some []
+byte_items (p ∷ ps) = then_list (bytes_item p) (byte_items ps)
 
 -- an item of a DW is a number, or a label and what is added to it
-abbrev pub words_of : List (List Token) → Option (List Value)
-words_of [] = Some []
-words_of (p ∷ ps) = then_list (one (value_of p)) (words_of ps)
+abbrev pub word_items : List (List Token) → Option (List Value)
+word_items [] = Some []
+word_items (p ∷ ps) = then_list (one (value_of p)) (word_items ps)
 
 -- ---- instructions
 
@@ -86,10 +86,10 @@ abbrev pub short_of : Mnemonic → Option Mnemonic
 short_of op.Jmp = Some op.JmpShort
 short_of _ = None
 
-abbrev pub far_of : Mnemonic → Option Mnemonic
-far_of op.Jmp = Some op.JmpFar
-far_of op.Call = Some op.CallFar
-far_of _ = None
+abbrev pub far_mnemonic : Mnemonic → Option Mnemonic
+far_mnemonic op.Jmp = Some op.JmpFar
+far_mnemonic op.Call = Some op.CallFar
+far_mnemonic _ = None
 
 -- a mnemonic of one or two words, and what follows it
 abbrev pub mnemonic_at : List Token → Option (Mnemonic × List Token)
@@ -97,7 +97,7 @@ mnemonic_at (t.Mnemonic m ∷ t.Short ∷ ts) = do
   j ← short_of m
   Some (j, ts)
 mnemonic_at (t.Mnemonic m ∷ t.Far ∷ ts) = do
-  j ← far_of m
+  j ← far_mnemonic m
   Some (j, ts)
 mnemonic_at (t.Mnemonic m ∷ ts) = Some (m, ts)
 mnemonic_at _ = None
@@ -147,10 +147,10 @@ instruction_of ts = do
 abbrev pub item_of : List Token → Option Item
 item_of [] = Some nothing
 item_of (t.DataBytes ∷ ts) = do
-  bs ← bytes_of (parts ts)
+  bs ← byte_items (parts ts)
   Some (bytes bs)
 item_of (t.DataWords ∷ ts) = do
-  ws ← words_of (parts ts)
+  ws ← word_items (parts ts)
   Some (words ws)
 item_of ts = do
   i ← instruction_of ts

@@ -10,8 +10,8 @@ use Rattle.dm_lines.specs.declared.token.Token.TheVariants.{Name, Number, Comma,
 
 -- ---- bytes
 
-abbrev pub upper : ℕ → ℕ
-upper b = if nat_le 97 b && nat_le b 122 then b - 32 else b
+abbrev pub uppercase : ℕ → ℕ
+uppercase b = if nat_le 97 b && nat_le b 122 then b - 32 else b
 
 -- letters, digits and _
 abbrev pub is_word_byte : ℕ → Bool
@@ -91,7 +91,7 @@ lexed true w [] = None
 lexed true w (b ∷ bs) = with_front (inside_quotes b ∷ []) (lexed (not (b == 39)) w bs)
 lexed false w [] = closed w
 lexed false w (b ∷ bs) =
-    if is_word_byte b then lexed false (w ++ upper b ∷ []) bs
+    if is_word_byte b then lexed false (w ++ uppercase b ∷ []) bs
     else if b == 59 then closed w
     else then_tokens (closed w) (then_tokens (marked b) (lexed (b == 39) [] bs))
 

@@ -9,7 +9,7 @@ pub fn pieces_are_read()
     ensures { PiecesAreRead }
 {}
 
-/// The law that what an instruction's operand is read as is what its text shows: `dm_read` reads these words as that
+/// The law that what an instruction's operand is read as is what its text shows: `dm_words` reads these words as that
 /// instruction. It does nothing when called.
 #[tactic(auto, using(crate::proofs::OwnTerms::own_terms_are_written))]
 pub fn own_terms_are_written()

@@ -3,7 +3,7 @@
 
 ghost use Rattle.std.specs.Prelude.{◌≡◌, ◌<◌, ◌≤◌, ◌+◌, length, option_map, IfSome, drop, replicate, ◌++◌, []};
 ghost use Rattle.arrayvec.specs.ArrayVec.{array_vec_len};
-ghost use Rattle.dm_lines.specs.Tokens.{upper, is_word_byte, digit_of, magnitude_of, number_of, word_token, closed, with_front, marked, inside_quotes, lexed, tokens_of};
+ghost use Rattle.dm_lines.specs.Tokens.{uppercase, is_word_byte, digit_of, magnitude_of, number_of, word_token, closed, with_front, marked, inside_quotes, lexed, tokens_of};
 
 use crate::token::{Name, Token};
 use crate::words::reserved_token;
@@ -17,7 +17,7 @@ type Letters = ArrayVec<u8, 255>;
 
 /// A letter in upper case; any other byte as it is.
 fn upper_byte(byte: u8) -> u8
-    ensures { result ≡ upper byte }
+    ensures { result ≡ uppercase byte }
 {
     if b'a' <= byte && byte <= b'z' {
         byte - 32

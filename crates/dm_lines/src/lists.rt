@@ -3,7 +3,7 @@
 ghost use Rattle.std.specs.Prelude.{◌≡◌, ◌<◌, ◌≤◌, ◌+◌, length, option_map, IfSome};
 ghost use Rattle.arrayvec.specs.ArrayVec.{array_vec_len};
 ghost use Rattle.dm_lines.specs.Operands.{amount_of, parts};
-ghost use Rattle.dm_lines.specs.Statements.{joined_to, letters, one, bytes_item, bytes_of, words_of};
+ghost use Rattle.dm_lines.specs.Statements.{joined_to, letters, one, bytes_item, byte_items, word_items};
 
 use crate::operands::{amount, front, value};
 use crate::statement::{Bytes, Words};
@@ -55,7 +55,7 @@ fn put_item(bytes: &mut Bytes, tokens: &[Token]) -> Option<()>
 /// Puts the numbers of a DB in the place of what was there.
 pub(crate) fn put_bytes(found: &mut Bytes, tokens: &[Token]) -> Option<()>
     requires { length tokens.now ≤ 255 }
-    ensures { option_map (λ _. found.new.items) result ≡ bytes_of (parts tokens.now) }
+    ensures { option_map (λ _. found.new.items) result ≡ byte_items (parts tokens.now) }
 {
     found.clear();
     let mut rest = tokens;
@@ -72,7 +72,7 @@ pub(crate) fn put_bytes(found: &mut Bytes, tokens: &[Token]) -> Option<()>
 /// Puts the values of a DW in the place of what was there.
 pub(crate) fn put_words(found: &mut Words, tokens: &[Token]) -> Option<()>
     requires { length tokens.now ≤ 255 }
-    ensures { option_map (λ _. found.new.items) result ≡ words_of (parts tokens.now) }
+    ensures { option_map (λ _. found.new.items) result ≡ word_items (parts tokens.now) }
 {
     found.clear();
     let mut rest = tokens;

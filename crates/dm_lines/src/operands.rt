@@ -2,13 +2,13 @@
 //! section 2.9).
 
 ghost use Rattle.std.specs.Prelude.{◌≡◌, ◌<◌, ◌≤◌, ◌+◌, ◌∷◌, length, IfSome};
-ghost use Rattle.dm_lines.specs.Operands.{is_close, is_comma, minus, amount_of, added_of, value_of, plain, word_of, inside, base_at, based, place_of, memory_of, far_of, from_number, term_of, parts, term_pair, terms_of};
+ghost use Rattle.dm_lines.specs.Operands.{is_close, is_comma, minus, amount_of, added_of, value_of, plain, amount_word, inside, base_at, based, place_of, memory_of, far_pointer, from_number, term_of, parts, term_pair, terms_of};
 ghost use Rattle.dm_lines.specs.inner.Operands.{seen, option_now, parts_behind};
 
 use crate::term::{Amount, Term, Value};
 use crate::token::Token;
 use dm_ins::{Base, WordRegister};
-use dm_read::Size;
+use dm_words::Size;
 
 /// A number below zero, where it is not too far.
 fn negative(n: u16) -> Option<Amount>
@@ -76,7 +76,7 @@ pub(crate) fn value(tokens: &[Token]) -> Option<Value>
 
 /// The word that a number is, modulo 65,536.
 pub(crate) fn word(amount: Amount) -> u16
-    ensures { result ≡ word_of amount }
+    ensures { result ≡ amount_word amount }
 {
     match amount {
         Amount::Plus(n) => n,
@@ -167,7 +167,7 @@ fn memory(size: Size, tokens: &[Token]) -> Option<Term>
 
 /// A target in the segment of a number that stood before a colon.
 fn far(segment: Amount, tokens: &[Token]) -> Option<Term>
-    ensures { result ≡ far_of segment tokens.now }
+    ensures { result ≡ far_pointer segment tokens.now }
 {
     let offset = amount(tokens)?;
     Some(Term::Far(word(segment), word(offset)))

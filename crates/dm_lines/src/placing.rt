@@ -2,16 +2,16 @@
 //! before any label has a place.
 
 ghost use Rattle.std.specs.Prelude.{◌≡◌};
-ghost use Rattle.dm_lines.specs.Placing.{moved, standing, low_byte_of, byte_of, distance_of, is_one_of, takes_labels, number_at, label_at, numeral_at, written_of, number_outline, label_outline, numeral_outline, word_outline, outline_of};
+ghost use Rattle.dm_lines.specs.Placing.{displaced, standing, low_byte_of, byte_of, distance_of, is_one_of, takes_labels, number_at, label_at, numeral_at, written_of, number_outline, label_outline, numeral_outline, word_outline, outline_of};
 
 use crate::operands::word;
 use crate::term::{Amount, Term, Value};
 use dm_ins::{Address, Base, Mnemonic};
-use dm_read::{Numeral, Written};
+use dm_words::{Numeral, Written};
 
 /// A label's place and what is added to it; None outside 0 to FFFFh.
 fn moved_by(amount: Amount, place: u16) -> Option<u16>
-    ensures { result ≡ moved amount place }
+    ensures { result ≡ displaced amount place }
 {
     match amount {
         Amount::Plus(n) => {

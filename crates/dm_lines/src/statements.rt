@@ -3,7 +3,7 @@
 ghost use Rattle.std.specs.Prelude.{◌≡◌, ◌<◌, ◌≤◌, length, option_map, IfSome};
 ghost use Rattle.dm_ins.specs.Spelling.{no_prefix};
 ghost use Rattle.dm_lines.specs.inner.Operands.{seen};
-ghost use Rattle.dm_lines.specs.Statements.{seen_item, seen_statement, short_of, far_of, mnemonic_at, prefixed, is_memory, exchanges, with_terms, operated, action_of, instruction_of, item_of, statement_of, line_of};
+ghost use Rattle.dm_lines.specs.Statements.{seen_item, seen_statement, short_of, far_mnemonic, mnemonic_at, prefixed, is_memory, exchanges, with_terms, operated, action_of, instruction_of, item_of, statement_of, line_of};
 
 use crate::lexing::{Tokens, put_tokens};
 use crate::lists::{put_bytes, put_words};
@@ -25,7 +25,7 @@ fn short(mnemonic: Mnemonic) -> Option<Mnemonic>
 
 /// The mnemonic with FAR behind it: a jump's or a call's.
 fn far(mnemonic: Mnemonic) -> Option<Mnemonic>
-    ensures { result ≡ far_of mnemonic }
+    ensures { result ≡ far_mnemonic mnemonic }
 {
     match mnemonic {
         Mnemonic::Jmp => Some(Mnemonic::JmpFar),

@@ -1,7 +1,7 @@
 //! The tokens of a line.
 
 use dm_ins::{ByteRegister, Mnemonic, Repeat, SegmentRegister, WordRegister};
-use dm_read::Size;
+use dm_words::Size;
 
 /// A label: a letter or an underscore, then letters, digits and underscores, at most 31 in all. Letters are in upper
 /// case, and zeros stand behind.

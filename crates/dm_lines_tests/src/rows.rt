@@ -12,7 +12,7 @@ use crate::checks::same;
 use arrayvec::ArrayVec;
 use dm_ins::{Prefixes, Repeat};
 use dm_lines::{Amount, Instruction, Item, Items, Name, Statement, Term, Tokens, Value, read_line};
-use dm_read::{Numeral, Written};
+use dm_words::{Numeral, Written};
 use dm_text::mnemonic_name;
 use std::alloc::Global;
 use std::process::Abort;

@@ -3,14 +3,14 @@ use Rattle.std.proofs.Common.{◌≡◌, ℕ, List, [], ◌∷◌, ◌++◌, ref
 use Rattle.dm_ins.specs.declared.action.Mnemonic.{Mnemonic}
 use Rattle.dm_ins.specs.declared.action.Mnemonic.TheVariants.{CallFar, JmpFar, JmpShort}
 use Rattle.dm_text.specs.Names.{name_of}
-use Rattle.dm_text.specs.Pieces.{Piece, piece_bytes, bytes_of}
+use Rattle.dm_text.specs.Pieces.{Piece, piece_bytes, text_bytes}
 use Rattle.dm_text.specs.Texts.{mnemonic_pieces}
 
-pub bytes-append : (ps qs : List Piece) → bytes_of (ps ++ qs) ≡ bytes_of ps ++ bytes_of qs
+pub bytes-append : (ps qs : List Piece) → text_bytes (ps ++ qs) ≡ text_bytes ps ++ text_bytes qs
 bytes-append [] qs = refl
-bytes-append (p ∷ ps) qs = ap (λ (z : List ℕ). piece_bytes p ++ z) (bytes-append ps qs) ∙ sym (append_assoc (piece_bytes p) (bytes_of ps) (bytes_of qs))
+bytes-append (p ∷ ps) qs = ap (λ (z : List ℕ). piece_bytes p ++ z) (bytes-append ps qs) ∙ sym (append_assoc (piece_bytes p) (text_bytes ps) (text_bytes qs))
 
-pub mnemonic_bytes : (m : Mnemonic) → bytes_of (mnemonic_pieces m) ≡ name_of m
+pub mnemonic_bytes : (m : Mnemonic) → text_bytes (mnemonic_pieces m) ≡ name_of m
 unfolding name_of
 mnemonic_bytes CallFar = refl
 mnemonic_bytes JmpFar = refl

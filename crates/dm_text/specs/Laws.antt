@@ -6,13 +6,13 @@ use Rattle.dm_ins.specs.declared.operand.ByteRegister.{ByteRegister}
 use Rattle.dm_ins.specs.declared.operand.SegmentRegister.{SegmentRegister}
 use Rattle.dm_ins.specs.Registers.{word_registers, byte_registers}
 use Rattle.dm_ins.specs.declared.ins.Ins.{Ins}
-use Rattle.dm_text.specs.Pieces.{bytes_of, parted}
+use Rattle.dm_text.specs.Pieces.{text_bytes, parted}
 use Rattle.dm_text.specs.Texts.{mnemonic_pieces, pieces}
 use Rattle.dm_text.specs.Names.{name_of, byte_name, word_name, segment_name, mnemonics, segment_registers, named}
 
 -- each name names what it is the name of; a mnemonic's name is that of its one or two words
 pub record NamesAreRead : Type 0 where
-  pub words : (m : Mnemonic) → bytes_of (mnemonic_pieces m) ≡ name_of m
+  pub words : (m : Mnemonic) → text_bytes (mnemonic_pieces m) ≡ name_of m
   pub mnemonic : (m : Mnemonic) → named name_of mnemonics (name_of m) ≡ Some m
   pub word_register : (r : WordRegister) → named word_name word_registers (word_name r) ≡ Some r
   pub byte_register : (r : ByteRegister) → named byte_name byte_registers (byte_name r) ≡ Some r

@@ -30,9 +30,9 @@ piece_bytes (byte n) = byte_digits n
 piece_bytes (word n) = word_digits n
 piece_bytes (sign b) = b ∷ []
 
-abbrev pub bytes_of : List Piece → List ℕ
-bytes_of [] = []
-bytes_of (p ∷ ps) = piece_bytes p ++ bytes_of ps
+abbrev pub text_bytes : List Piece → List ℕ
+text_bytes [] = []
+text_bytes (p ∷ ps) = piece_bytes p ++ text_bytes ps
 
 -- ---- the signs
 

@@ -21,7 +21,7 @@ use Rattle.dm_ins.specs.declared.prefix.Prefixes.{Prefixes}
 use Rattle.dm_ins.specs.declared.action.Action.{Action}
 use Rattle.dm_ins.specs.declared.ins.Ins.{Ins}
 use Rattle.dm_text.specs.Names.{name_of, byte_name, word_name, segment_name}
-use Rattle.dm_text.specs.Pieces.{Piece, name, byte, word, space, plus, comma, colon, left_bracket, right_bracket, bytes_of}
+use Rattle.dm_text.specs.Pieces.{Piece, name, byte, word, space, plus, comma, colon, left_bracket, right_bracket, text_bytes}
 
 -- ---- memory
 
@@ -157,4 +157,4 @@ pieces i next = prefix_pieces i.prefixes ++ action_pieces i.action next
 
 -- the text of an instruction, where the next one stands at an offset
 unfoldable pub text_of : Ins → ℕ → List ℕ
-text_of i next = bytes_of (pieces i next)
+text_of i next = text_bytes (pieces i next)

@@ -2,7 +2,7 @@
 //! 8086 Family User's Manual, section 2.7 and section 2.8).
 
 ghost use Rattle.std.specs.Prelude.{◌≡◌, ◌+◌, ◌≤◌, ◌++◌, length};
-ghost use Rattle.dm_text.specs.Pieces.{bytes_of};
+ghost use Rattle.dm_text.specs.Pieces.{text_bytes};
 ghost use Rattle.dm_text.specs.Texts.{register_pair, base_pieces, displacement_pieces, address_pieces, is_shift, is_general, gives_size, size_pieces, memory_pieces, operand_pieces, second_pieces, operands_pieces, is_accumulator, is_nop, action_pieces, segment_pieces, lock_pieces, repeat_pieces, prefix_pieces, text_of};
 
 use crate::line::Line;
@@ -15,7 +15,7 @@ use dm_ins::{
 /// Puts two registers that are added.
 fn put_pair(line: &mut Line, first: WordRegister, second: WordRegister)
     requires { length line.old + 5 ≤ 64 }
-    ensures items { line.new ≡ line.old ++ bytes_of (register_pair first second) }
+    ensures items { line.new ≡ line.old ++ text_bytes (register_pair first second) }
     ensures len { length line.new ≡ length line.old + 5 }
 {
     line.put(word_register_name(first));
@@ -26,7 +26,7 @@ fn put_pair(line: &mut Line, first: WordRegister, second: WordRegister)
 /// Puts the registers of an address.
 fn put_base(line: &mut Line, base: Base)
     requires { length line.old + 5 ≤ 64 }
-    ensures items { line.new ≡ line.old ++ bytes_of (base_pieces base) }
+    ensures items { line.new ≡ line.old ++ text_bytes (base_pieces base) }
     ensures within { length line.new ≤ length line.old + 5 }
 {
     match base {
@@ -45,7 +45,7 @@ fn put_base(line: &mut Line, base: Base)
 /// Puts the displacement behind registers: 0 is left out.
 fn put_displacement(line: &mut Line, n: u16)
     requires { length line.old + 7 ≤ 64 }
-    ensures items { line.new ≡ line.old ++ bytes_of (displacement_pieces n) }
+    ensures items { line.new ≡ line.old ++ text_bytes (displacement_pieces n) }
     ensures within { length line.new ≤ length line.old + 7 }
 {
     if n != 0 {
@@ -58,7 +58,7 @@ fn put_displacement(line: &mut Line, n: u16)
 #[tactic(auto, using(crate::proofs::Pieces::appended))]
 fn put_address(line: &mut Line, address: Address)
     requires { length line.old + 12 ≤ 64 }
-    ensures items { line.new ≡ line.old ++ bytes_of (address_pieces address) }
+    ensures items { line.new ≡ line.old ++ text_bytes (address_pieces address) }
     ensures within { length line.new ≤ length line.old + 12 }
 {
     match address.base {
@@ -102,7 +102,7 @@ pub fn size_is_given(action: &Action) -> bool
 
 /// The word before a memory operand, with a space behind it.
 fn size(action: &Action, width: Width) -> &'static [u8]
-    ensures value { result.now ≡ bytes_of (size_pieces action.now width) }
+    ensures value { result.now ≡ text_bytes (size_pieces action.now width) }
     ensures within { length result.now ≤ 5 }
 {
     match action.mnemonic {
@@ -125,7 +125,7 @@ fn size(action: &Action, width: Width) -> &'static [u8]
 #[tactic(auto, using(crate::proofs::Pieces::appended))]
 fn put_memory(line: &mut Line, action: &Action, width: Width, address: Address)
     requires { length line.old + 19 ≤ 64 }
-    ensures items { line.new ≡ line.old ++ bytes_of (memory_pieces action.now width address) }
+    ensures items { line.new ≡ line.old ++ text_bytes (memory_pieces action.now width address) }
     ensures within { length line.new ≤ length line.old + 19 }
 {
     line.put(size(action, width));
@@ -137,7 +137,7 @@ fn put_memory(line: &mut Line, action: &Action, width: Width, address: Address)
 /// Puts an operand; `next` is the offset of the next instruction, from which a target counts.
 fn put_operand(line: &mut Line, action: &Action, next: u16, operand: Operand)
     requires { length line.old + 19 ≤ 64 }
-    ensures items { line.new ≡ line.old ++ bytes_of (operand_pieces action.now next operand) }
+    ensures items { line.new ≡ line.old ++ text_bytes (operand_pieces action.now next operand) }
     ensures within { length line.new ≤ length line.old + 19 }
 {
     match operand {
@@ -161,7 +161,7 @@ fn put_operand(line: &mut Line, action: &Action, next: u16, operand: Operand)
 /// Puts the second operand behind a comma, if there is one.
 fn put_second(line: &mut Line, action: &Action, next: u16)
     requires { length line.old + 20 ≤ 64 }
-    ensures items { line.new ≡ line.old ++ bytes_of (second_pieces action.now next) }
+    ensures items { line.new ≡ line.old ++ text_bytes (second_pieces action.now next) }
     ensures within { length line.new ≤ length line.old + 20 }
 {
     match action.second {
@@ -177,7 +177,7 @@ fn put_second(line: &mut Line, action: &Action, next: u16)
 #[tactic(auto, using(crate::proofs::Pieces::appended))]
 fn put_operands(line: &mut Line, action: &Action, next: u16)
     requires { length line.old + 40 ≤ 64 }
-    ensures { line.new ≡ line.old ++ bytes_of (operands_pieces action.now next) }
+    ensures { line.new ≡ line.old ++ text_bytes (operands_pieces action.now next) }
 {
     match action.first {
         Operand::Nothing => {}
@@ -210,7 +210,7 @@ fn nop(action: &Action) -> bool
 #[tactic(auto, using(crate::proofs::Pieces::appended), unfolding(crate::specs::Texts::action_pieces))]
 fn put_action(line: &mut Line, action: &Action, next: u16)
     requires { length line.old + 49 ≤ 64 }
-    ensures { line.new ≡ line.old ++ bytes_of (action_pieces action.now next) }
+    ensures { line.new ≡ line.old ++ text_bytes (action_pieces action.now next) }
 {
     if nop(action) {
         line.put(b"NOP");
@@ -223,7 +223,7 @@ fn put_action(line: &mut Line, action: &Action, next: u16)
 /// Puts a segment override, with a space behind it.
 fn put_segment(line: &mut Line, segment: Option<SegmentRegister>)
     requires { length line.old + 3 ≤ 64 }
-    ensures items { line.new ≡ line.old ++ bytes_of (segment_pieces segment) }
+    ensures items { line.new ≡ line.old ++ text_bytes (segment_pieces segment) }
     ensures within { length line.new ≤ length line.old + 3 }
 {
     if let Some(register) = segment {
@@ -234,7 +234,7 @@ fn put_segment(line: &mut Line, segment: Option<SegmentRegister>)
 
 /// The word of a LOCK prefix, with a space behind it.
 fn lock_word(lock: bool) -> &'static [u8]
-    ensures value { result.now ≡ bytes_of (lock_pieces lock) }
+    ensures value { result.now ≡ text_bytes (lock_pieces lock) }
     ensures within { length result.now ≤ 5 }
 {
     if lock { b"LOCK " } else { b"" }
@@ -242,7 +242,7 @@ fn lock_word(lock: bool) -> &'static [u8]
 
 /// The word of a repeat prefix, with a space behind it.
 fn repeat_word(repeat: Option<Repeat>) -> &'static [u8]
-    ensures value { result.now ≡ bytes_of (repeat_pieces repeat) }
+    ensures value { result.now ≡ text_bytes (repeat_pieces repeat) }
     ensures within { length result.now ≤ 6 }
 {
     match repeat {
@@ -256,7 +256,7 @@ fn repeat_word(repeat: Option<Repeat>) -> &'static [u8]
 #[tactic(auto, using(crate::proofs::Pieces::appended))]
 fn put_prefixes(line: &mut Line, prefixes: Prefixes)
     requires { length line.old + 14 ≤ 64 }
-    ensures items { line.new ≡ line.old ++ bytes_of (prefix_pieces prefixes) }
+    ensures items { line.new ≡ line.old ++ text_bytes (prefix_pieces prefixes) }
     ensures within { length line.new ≤ length line.old + 14 }
 {
     put_segment(line, prefixes.segment);

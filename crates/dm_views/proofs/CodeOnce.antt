@@ -6,7 +6,7 @@ use Rattle.dm_space.specs.Memory.{Memory}
 use Rattle.dm_ins.specs.declared.ins.Ins.{Ins}
 use Rattle.dm_decode.proofs.Exact.{no_front}
 use Rattle.dm_cpu.specs.declared.cpu.Cpu.{Cpu}
-use Rattle.dm_views.specs.Code.{up, sixteen, listed_line, Stands, IsLine, listed, unlisted, AreLines, none, more, IsCode}
+use Rattle.dm_views.specs.Code.{up, sixteen, listed_line, StandsInMemory, IsLine, listed, unlisted, AreLines, none, more, IsCode}
 use Rattle.dm_views.specs.Registers.{fields_text, general, special, IsRegistersText}
 
 -- ---- one instruction stands at an address
@@ -19,7 +19,7 @@ record Same (i j : Ins) (k l : ℕ) : Type 0 where
   instruction : i ≡ j
   size : k ≡ l
 
-same_before : (bytes : List ℕ) (m : Memory) (s o : ℕ) (i j : Ins) (k l : ℕ) → bytes ≡ sixteen m s o → k ≤ l → Stands m s o i k → Stands m s o j l → Same i j k l
+same_before : (bytes : List ℕ) (m : Memory) (s o : ℕ) (i j : Ins) (k l : ℕ) → bytes ≡ sixteen m s o → k ≤ l → StandsInMemory m s o i k → StandsInMemory m s o j l → Same i j k l
 same_before bytes m s o i j k l e h b c =
     let long : length (sixteen m s o) ≡ 16 = length_sixteen m s o in
     let short = b.short in
@@ -30,7 +30,7 @@ same_before bytes m s o i j k l e h b c =
     let lengths : length (take k (sixteen m s o)) ≡ length (take l (sixteen m s o)) = ap length both.0 in
     record { instruction = both.1; size = omega (arith, length-take k (sixteen m s o), length-take l (sixteen m s o)) }
 
-stands_once : (m : Memory) (s o : ℕ) (i j : Ins) (k l : ℕ) → Stands m s o i k → Stands m s o j l → Same i j k l
+stands_once : (m : Memory) (s o : ℕ) (i j : Ins) (k l : ℕ) → StandsInMemory m s o i k → StandsInMemory m s o j l → Same i j k l
 stands_once m s o i j k l b c = elim (cases_lt k l) [
   | inl low ↦ same_before (sixteen m s o) m s o i j k l refl (omega arith) b c
   | inr high ↦ let e = same_before (sixteen m s o) m s o j i l k refl high c b in record { instruction = sym e.instruction; size = sym e.size }

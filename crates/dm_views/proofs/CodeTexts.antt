@@ -3,16 +3,16 @@ use Rattle.std.proofs.Common.{◌≡◌, ℕ, ◌+◌, ◌≤◌, List, [], ◌+
 use Rattle.dm_space.specs.Memory.{Memory}
 use Rattle.dm_ins.specs.declared.ins.Ins.{Ins}
 use Rattle.dm_decode.specs.Decoded.{Decodes}
-use Rattle.dm_views.specs.Code.{up, byte_after, sixteen, listed_line, unlisted_line, Stands, IsLine, listed, unlisted, AreLines, none, more, IsCode}
+use Rattle.dm_views.specs.Code.{up, byte_after, sixteen, listed_line, unlisted_line, StandsInMemory, IsLine, listed, unlisted, AreLines, none, more, IsCode}
 
 -- the bytes there begin with a spelling of the instruction
-pub stands : (m : Memory) (s o : ℕ) (window : List ℕ) (i : Ins) (k : ℕ) → window ≡ sixteen m s o → Decodes window (Some (i, k)) → Stands m s o i k
+pub stands : (m : Memory) (s o : ℕ) (window : List ℕ) (i : Ins) (k : ℕ) → window ≡ sixteen m s o → Decodes window (Some (i, k)) → StandsInMemory m s o i k
 stands m s o window i k w d =
     let told = (subst (λ (x : List ℕ). Decodes x (Some (i, k))) w d i k).0 refl in
     record { short = told.0; spells = told.1 }
 
 -- they begin with none
-pub none_stands : (m : Memory) (s o : ℕ) (window : List ℕ) → window ≡ sixteen m s o → Decodes window None → (i : Ins) (k : ℕ) → Stands m s o i k → ⊥
+pub none_stands : (m : Memory) (s o : ℕ) (window : List ℕ) → window ≡ sixteen m s o → Decodes window None → (i : Ins) (k : ℕ) → StandsInMemory m s o i k → ⊥
 none_stands m s o window w d i k x =
     let e = (subst (λ (y : List ℕ). Decodes y None) w d i k).1 (x.short, x.spells) in cc
 

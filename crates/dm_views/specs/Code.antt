@@ -30,14 +30,14 @@ abbrev pub unlisted_line : ℕ → ℕ → ℕ → List ℕ
 unlisted_line segment offset byte = address_text segment offset ++ codes " " ++ two byte ++ codes " DB" ++ 10 ∷ []
 
 -- the first bytes there, as many as the length, spell the instruction
-pub record Stands (m : Memory) (segment offset : ℕ) (i : Ins) (k : ℕ) : Type 0 where
+pub record StandsInMemory (m : Memory) (segment offset : ℕ) (i : Ins) (k : ℕ) : Type 0 where
   pub short : k ≤ 16
   pub spells : Spells i (take k (sixteen m segment offset))
 
 -- the line of the k bytes at segment:offset
 pub data IsLine (m : Memory) (segment offset : ℕ) : ℕ → List ℕ → Type 0 where
-  listed : (i : Ins) (k : ℕ) → Stands m segment offset i k → IsLine m segment offset k (listed_line segment offset (take k (sixteen m segment offset)) i (up offset k))
-  unlisted : ((i : Ins) (k : ℕ) → Stands m segment offset i k → ⊥) → IsLine m segment offset 1 (unlisted_line segment offset (byte_after m segment offset 0))
+  listed : (i : Ins) (k : ℕ) → StandsInMemory m segment offset i k → IsLine m segment offset k (listed_line segment offset (take k (sixteen m segment offset)) i (up offset k))
+  unlisted : ((i : Ins) (k : ℕ) → StandsInMemory m segment offset i k → ⊥) → IsLine m segment offset 1 (unlisted_line segment offset (byte_after m segment offset 0))
 
 -- so many lines, each of what stands behind the bytes of the line before it, and the offset behind the last
 pub data AreLines (m : Memory) (segment offset : ℕ) : ℕ → ℕ → List ℕ → Type 0 where

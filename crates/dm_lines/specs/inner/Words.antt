@@ -1,7 +1,7 @@
 -- For private contracts and proofs alone: beside specs/Words.antt.
 use Rattle.std.specs.Prelude.{ℕ, Bool, ◌==◌, slice_index, ◌∷◌, ◌++◌}
 use Rattle.dm_ins.specs.declared.action.Mnemonic.TheVariants as op
-use Rattle.dm_read.specs.declared.written.Size.TheVariants as size
+use Rattle.dm_words.specs.declared.written.Size.TheVariants as size
 use Rattle.dm_lines.specs.declared.words.Alias.TheVariants as alias
 use Rattle.dm_lines.specs.declared.words.Keyword.TheVariants as keyword
 use Rattle.dm_lines.specs.declared.words.Reserved.{Reserved}

@@ -1,13 +1,13 @@
 use Rattle.std.proofs.Common.{◌≡◌, ◌≤◌, ◌+◌, ◌*◌, length}
 use Rattle.arrayvec.specs.ArrayVec.{array_vec_len}
 use Rattle.dm_lines.specs.Operands.{parts}
-use Rattle.dm_lines.specs.Statements.{joined_to, words_of}
+use Rattle.dm_lines.specs.Statements.{joined_to, word_items}
 use Rattle.dm_lines.proofs.lists.put_words.Given as goal
 
 abbrev pub invariant-loop-tail : goal.invariant-loop-tail
 invariant-loop-tail l = record {
   room : 2 * array_vec_len l.found + length l.rest ≤ 255;
-  same : joined_to l.found.items (words_of (parts l.rest)) ≡ words_of (parts l.tokens);
+  same : joined_to l.found.items (word_items (parts l.rest)) ≡ word_items (parts l.tokens);
 }
 
 abbrev pub decreases-loop-tail : goal.decreases-loop-tail

@@ -1,0 +1,7 @@
+-- What holds of all listings.
+use Rattle.std.specs.Prelude.{◌≡◌, ℕ, List}
+use Rattle.dm_disassembler.specs.Listing.{IsListing}
+
+-- some bytes have one listing
+abbrev pub BytesHaveOneListing : Type 0
+BytesHaveOneListing = (bytes a b : List ℕ) → IsListing bytes a → IsListing bytes b → a ≡ b

@@ -1,7 +1,0 @@
--- What holds of all listings.
-use Rattle.std.specs.Prelude.{◌≡◌, ℕ, List}
-use Rattle.dm_listing.specs.Listing.{IsListing}
-
--- some bytes have one listing
-abbrev pub BytesHaveOneListing : Type 0
-BytesHaveOneListing = (bytes a b : List ℕ) → IsListing bytes a → IsListing bytes b → a ≡ b

@@ -1,0 +1,75 @@
+-- Which instruction some written words are.
+-- Source: Intel 8086 Family User's Manual, section 2.7 (instructions and their operands) and section 2.8 (addressing
+-- modes); where a word says the size of memory is this machine's own (docs/DECISIONS.md).
+use Rattle.std.specs.Prelude.{◌≡◌, true, ◌⊎◌, IsSomeAnd, if◌then◌else◌}
+use Rattle.dm_ins.specs.declared.operand.Width.{Width}
+use Rattle.dm_ins.specs.declared.operand.Width.TheVariants as width
+use Rattle.dm_ins.specs.declared.operand.Operand.{Operand}
+use Rattle.dm_ins.specs.declared.operand.Operand.TheVariants as operand
+use Rattle.dm_ins.specs.declared.action.Mnemonic.{Mnemonic}
+use Rattle.dm_ins.specs.declared.action.Mnemonic.TheVariants as op
+use Rattle.dm_ins.specs.declared.action.Action.{Action}
+use Rattle.dm_text.specs.Texts.{gives_size}
+use Rattle.dm_words.specs.declared.written.Size.{Size}
+use Rattle.dm_words.specs.declared.written.Size.TheVariants.{Absent, Byte, Word, Near}
+use Rattle.dm_words.specs.declared.written.Numeral.{Numeral}
+use Rattle.dm_words.specs.declared.written.Written.{Written}
+use Rattle.dm_words.specs.declared.written.Written.TheVariants as w
+use Rattle.dm_words.specs.declared.written.Words.{Words}
+
+-- ---- operands
+
+-- a number is the byte or the word that it can be, the target at its displacement, or a shift's 1
+abbrev pub IsNumber : Numeral → Operand → Type 0
+IsNumber n o =
+    IsSomeAnd n.byte (λ b. o ≡ operand.ByteValue b)
+    ⊎ IsSomeAnd n.word (λ v. o ≡ operand.WordValue v)
+    ⊎ (o ≡ operand.Target n.distance)
+    ⊎ ((n.is_one ≡ true) × (o ≡ operand.One))
+
+-- what is written is the operand; memory may be a byte's or a word's
+abbrev pub IsWritten : Written → Operand → Type 0
+IsWritten w.Nothing o = o ≡ operand.Nothing
+IsWritten (w.ByteRegister r) o = o ≡ operand.ByteRegister r
+IsWritten (w.WordRegister r) o = o ≡ operand.WordRegister r
+IsWritten (w.SegmentRegister r) o = o ≡ operand.SegmentRegister r
+IsWritten (w.Memory s a) o = (o ≡ operand.Memory width.Byte a) ⊎ (o ≡ operand.Memory width.Word a)
+IsWritten (w.Number n) o = IsNumber n o
+IsWritten (w.Far s n) o = o ≡ operand.FarTarget n s
+
+-- ---- the word before memory
+
+abbrev pub width_word : Width → Size
+width_word width.Byte = Byte
+width_word width.Word = Word
+
+-- jumps and calls to what memory holds have NEAR in place of a size, and the far ones none
+abbrev pub jump_word : Mnemonic → Size → Size
+jump_word op.CallFar s = Absent
+jump_word op.JmpFar s = Absent
+jump_word op.Call s = Near
+jump_word op.Jmp s = Near
+jump_word m s = s
+
+-- BYTE or WORD where no general register gives the size
+abbrev pub size_word : Action → Width → Size
+size_word a v = jump_word a.mnemonic (if gives_size a then Absent else width_word v)
+
+-- the word that an operand has before it, and the one that is written
+abbrev pub word_before : Action → Operand → Size
+word_before a (operand.Memory v m) = size_word a v
+word_before a _ = Absent
+
+abbrev pub word_written : Written → Size
+word_written (w.Memory s m) = s
+word_written _ = Absent
+
+-- ---- instructions
+
+-- the words are the action: its mnemonic and its operands, each with the word before it that the action asks for
+pub record AreWords (words : Words) (a : Action) : Type 0 where
+  pub mnemonic : a.mnemonic ≡ words.mnemonic
+  pub first : IsWritten words.first a.first
+  pub second : IsWritten words.second a.second
+  pub first_word : word_written words.first ≡ word_before a a.first
+  pub second_word : word_written words.second ≡ word_before a a.second

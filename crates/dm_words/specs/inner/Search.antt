@@ -1,0 +1,76 @@
+-- Only for the search of the instruction that words are, and no part of what is promised: the contract of `read_words`
+-- speaks of `AreWords` alone (Words.antt). A written operand may be up to four operands, in four ways.
+use Rattle.std.specs.Prelude.{◌≡◌, ℕ, ◌<◌, List, [], ◌∷◌, slice_index_or, if◌then◌else◌, Option, Some, None}
+use Rattle.dm_ins.specs.declared.operand.Width.TheVariants as width
+use Rattle.dm_ins.specs.declared.operand.Address.{Address}
+use Rattle.dm_ins.specs.declared.operand.Operand.{Operand}
+use Rattle.dm_ins.specs.declared.operand.Operand.TheVariants as operand
+use Rattle.dm_ins.specs.declared.action.Action.{Action}
+use Rattle.dm_ins.specs.Spelling.{SpellsAction}
+use Rattle.dm_words.specs.declared.written.Numeral.{Numeral}
+use Rattle.dm_words.specs.declared.written.Written.{Written}
+use Rattle.dm_words.specs.declared.written.Written.TheVariants as w
+use Rattle.dm_words.specs.declared.written.Words.{Words}
+use Rattle.dm_words.specs.declared.reading.Way.{Way}
+use Rattle.dm_words.specs.declared.reading.Way.TheVariants.{AsByte, AsWord, AsTarget, AsOne}
+use Rattle.dm_words.specs.Words.{word_before, word_written}
+
+abbrev pub ways : List Way
+ways = AsByte ∷ AsWord ∷ AsTarget ∷ AsOne ∷ []
+
+-- what can be taken in one way only
+abbrev pub first_way : Way → Operand → Option Operand
+first_way AsByte o = Some o
+first_way _ o = None
+
+abbrev pub memory_as : Way → Address → Option Operand
+memory_as AsByte a = Some (operand.Memory width.Byte a)
+memory_as AsWord a = Some (operand.Memory width.Word a)
+memory_as _ a = None
+
+abbrev pub byte_as : Option ℕ → Option Operand
+byte_as None = None
+byte_as (Some n) = Some (operand.ByteValue n)
+
+abbrev pub word_as : Option ℕ → Option Operand
+word_as None = None
+word_as (Some n) = Some (operand.WordValue n)
+
+abbrev pub number_as : Way → Numeral → Option Operand
+number_as AsByte n = byte_as n.byte
+number_as AsWord n = word_as n.word
+number_as AsTarget n = Some (operand.Target n.distance)
+number_as AsOne n = if n.is_one then Some operand.One else None
+
+-- the operand that a written one is, taken in this way
+unfoldable pub taken : Way → Written → Option Operand
+taken v w.Nothing = first_way v operand.Nothing
+taken v (w.ByteRegister r) = first_way v (operand.ByteRegister r)
+taken v (w.WordRegister r) = first_way v (operand.WordRegister r)
+taken v (w.SegmentRegister r) = first_way v (operand.SegmentRegister r)
+taken v (w.Memory s a) = memory_as v a
+taken v (w.Number n) = number_as v n
+taken v (w.Far s n) = first_way v (operand.FarTarget n s)
+
+abbrev pub action_of : Words → Operand → Operand → Action
+action_of words one two = record { mnemonic = words.mnemonic; first = one; second = two }
+
+-- the words before memory are those that the action asks for
+pub record HaveWords (words : Words) (a : Action) : Type 0 where
+  pub first_word : word_written words.first ≡ word_before a a.first
+  pub second_word : word_written words.second ≡ word_before a a.second
+
+-- the action has the words' mnemonic and operands, taken in these ways
+pub record Taken (words : Words) (way other : Way) (a : Action) : Type 0 where
+  pub mnemonic : a.mnemonic ≡ words.mnemonic
+  pub first : taken way words.first ≡ Some a.first
+  pub second : taken other words.second ≡ Some a.second
+  pub have : HaveWords words a
+
+-- so taken, the words are no instruction of the table
+abbrev pub IsNot : Words → Way → Way → Type 0
+IsNot words way other = (a : Action) (b : List ℕ) → Taken words way other a → SpellsAction a b → ⊥
+
+-- a fact of the first n ways
+abbrev pub FirstWays : ℕ → (Way → Type 0) → Type 0
+FirstWays n P = (k : ℕ) → k < n → P (slice_index_or ways k AsByte)
