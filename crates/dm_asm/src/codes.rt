@@ -16,7 +16,9 @@ use arrayvec::ArrayVec;
 use dm_lines::{
     Amount, Instruction, Item, Items, Term, Value, byte, outlines_stand, word_at, written,
 };
-use dm_words::{Words, Written, read_encoded, stand_ins_have_the_length, words_are_one_instruction};
+use dm_words::{
+    Words, Written, read_encoded, stand_ins_have_the_length, words_are_one_instruction,
+};
 
 /// The bytes of one line.
 pub(crate) type Code = ArrayVec<u8, 256>;
