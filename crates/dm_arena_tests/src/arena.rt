@@ -155,7 +155,8 @@ fn rest_of_a_block_may_be_empty(rt: HostRuntime) -> Result<(), Fail> {
 
 /// Definitions: dm_blocks Chain Becomes DiffersInHeaders
 /// Definitions: dm_arena Blocks IsFit fits is_candidate prefers prefers_in prefers_by largest cut cut_low cut_high
-/// taken Definitions: dm_arena Allocation Allocates Taking changed
+/// Definitions: dm_arena Blocks taken
+/// Definitions: dm_arena Allocation Allocates Taking changed
 #[test]
 fn strategies_take_other_blocks(rt: HostRuntime) -> Result<(), Fail> {
     let rows = [

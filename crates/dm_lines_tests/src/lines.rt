@@ -363,14 +363,14 @@ fn lines_of_a_program(rt: HostRuntime) -> Result<(), Fail> {
     check(&rt, rt.alloc(), PROGRAM)
 }
 
-/// Definitions: dm_lines Operands amount_of added_of value_of minus word_of
-/// Definitions: dm_lines Tokens word_token number_of magnitude_of digit_of padded_of upper is_word_byte
+/// Definitions: dm_lines Operands amount_of added_of value_of minus amount_word
+/// Definitions: dm_lines Tokens word_token number_of magnitude_of digit_of padded_of uppercase is_word_byte
 #[test]
 fn numbers_are_decimal_or_hexadecimal(rt: HostRuntime) -> Result<(), Fail> {
     check(&rt, rt.alloc(), NUMBERS)
 }
 
-/// Definitions: dm_lines Tokens word_token number_of magnitude_of digit_of padded_of upper is_word_byte
+/// Definitions: dm_lines Tokens word_token number_of magnitude_of digit_of padded_of uppercase is_word_byte
 /// Definitions: dm_lines Words reserved all_words aliases keywords is_one_word spelling_of meaning_of alias_mnemonic
 /// keyword_token
 #[test]
@@ -385,13 +385,13 @@ fn mnemonics_have_other_names(rt: HostRuntime) -> Result<(), Fail> {
     check(&rt, rt.alloc(), ALIASES)
 }
 
-/// Definitions: dm_lines Statements instruction_of prefixed action_of operated mnemonic_at short_of far_of
+/// Definitions: dm_lines Statements instruction_of prefixed action_of operated mnemonic_at short_of far_mnemonic
 #[test]
 fn prefixes_stand_once_in_any_order(rt: HostRuntime) -> Result<(), Fail> {
     check(&rt, rt.alloc(), PREFIXES)
 }
 
-/// Definitions: dm_lines Operands terms_of term_pair term_of from_number far_of
+/// Definitions: dm_lines Operands terms_of term_pair term_of from_number far_pointer
 #[test]
 fn operands_are_registers_and_values(rt: HostRuntime) -> Result<(), Fail> {
     check(&rt, rt.alloc(), OPERANDS)
@@ -409,13 +409,13 @@ fn memory_comes_first_in_exchanges(rt: HostRuntime) -> Result<(), Fail> {
     check(&rt, rt.alloc(), EXCHANGES)
 }
 
-/// Definitions: dm_lines Statements instruction_of prefixed action_of operated mnemonic_at short_of far_of
+/// Definitions: dm_lines Statements instruction_of prefixed action_of operated mnemonic_at short_of far_mnemonic
 #[test]
 fn jumps_and_calls_have_targets(rt: HostRuntime) -> Result<(), Fail> {
     check(&rt, rt.alloc(), TARGETS)
 }
 
-/// Definitions: dm_lines Statements bytes_of bytes_item letters words_of; dm_lines Operands parts
+/// Definitions: dm_lines Statements byte_items bytes_item letters word_items; dm_lines Operands parts
 #[test]
 fn data_are_numbers_texts_and_labels(rt: HostRuntime) -> Result<(), Fail> {
     check(&rt, rt.alloc(), DATA)

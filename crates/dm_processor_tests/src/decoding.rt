@@ -244,7 +244,8 @@ fn is_prefix(byte: u8) -> bool {
 
 /// Definitions: dm_ins Ins Spells
 /// Definitions: dm_ins Table entries entry_of groups member_of row two one bare each_word pair zeroth six arithmetics
-/// immediate shifts unary conditions Definitions: dm_decode Decoded Decodes
+/// Definitions: dm_ins Table immediate shifts unary conditions
+/// Definitions: dm_decode Decoded Decodes
 #[test]
 fn each_first_and_second_byte_is_listed_or_not(rt: HostRuntime) {
     for first in 0..=255u8 {

@@ -57,7 +57,8 @@ fn shifts_by_a_count_of_1_set_overflow(rt: HostRuntime) -> Result<(), Fail> {
 
 /// Definitions: dm_cpu Stack push top popped
 /// Definitions: dm_exec Stack stack_effect pushed_value popped_into flags_popped interrupt_effect interrupt
-/// through_vector Definitions: dm_exec Jumps transferred far_jumped called far_called returned
+/// Definitions: dm_exec Stack through_vector
+/// Definitions: dm_exec Jumps transferred far_jumped called far_called returned
 #[test]
 fn stacks_go_over_the_end_of_their_segment(rt: HostRuntime) -> Result<(), Fail> {
     check(&rt, rt.alloc(), STACKS)

@@ -662,7 +662,8 @@ fn moves_between_registers_memory_and_values(rt: HostRuntime) -> Result<(), Fail
 /// Definitions: dm_cpu Guest up down at_ip on_cpu with_flags
 /// Definitions: dm_cpu EffectiveAddress first_of second_of segment_by own_segment
 /// Definitions: dm_cpu Operands base_of offset_of segment_for data_segment value_of with_operand with_result address_of
-/// far_segment_of Definitions: dm_exec Moves move_effect moved exchanged pointer_loaded translated byte_extended
+/// Definitions: dm_cpu Operands far_segment_of
+/// Definitions: dm_exec Moves move_effect moved exchanged pointer_loaded translated byte_extended
 /// word_extended flags_loaded flags_stored input
 #[test]
 fn bases_and_overrides_name_the_place(rt: HostRuntime) -> Result<(), Fail> {
@@ -729,7 +730,8 @@ fn logic_clears_carry_and_keeps_adjust(rt: HostRuntime) -> Result<(), Fail> {
 }
 
 /// Definitions: dm_alu Shifts shift_value shifted moves one_move to_left to_right flags_after_shift flags_of_move
-/// overflow_after_move second_bit differ Definitions: dm_exec Shifts shifted
+/// Definitions: dm_alu Shifts overflow_after_move second_bit differ
+/// Definitions: dm_exec Shifts shifted
 #[test]
 fn shifts_and_rotates(rt: HostRuntime) -> Result<(), Fail> {
     check(&rt, rt.alloc(), SHIFTS)

@@ -26,7 +26,8 @@ fn check(
 
 /// Definitions: dm_ins Ins Spells
 /// Definitions: dm_ins Spelling SpellsAction HasRow MaySpellFields has_fields uses_fields no_fields SpellsFields
-/// SpellsMemory based direct word extended Definitions: dm_ins Order before; dm_ins Preferred IsPreferred
+/// Definitions: dm_ins Spelling SpellsMemory based direct word extended
+/// Definitions: dm_ins Order before; dm_ins Preferred IsPreferred
 #[test]
 fn encode_gives_the_shortest_and_least(rt: HostRuntime) {
     let al = Operand::ByteRegister(ByteRegister::Al);

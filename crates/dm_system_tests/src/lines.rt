@@ -161,40 +161,40 @@ E 0:0 0x| none
 E 0:0 'hi'| none";
 
 /// Definitions: dm_command Commands command_of of_words named alone with_one with_two at_address
-/// Definitions: dm_command Names name_of letter_name pair_name upper
+/// Definitions: dm_command Names name_of letter_name pair_name uppercase
 #[test]
 fn each_command_has_its_letters(rt: HostRuntime) -> Result<(), Fail> {
     check(&rt, rt.alloc(), COMMANDS)
 }
 
 /// Definitions: dm_command Commands command_of of_words named alone with_one with_two at_address
-/// Definitions: dm_command Names name_of letter_name pair_name upper; dm_command Words words_of words_behind ended
+/// Definitions: dm_command Names name_of letter_name pair_name uppercase; dm_command Words words_of words_behind ended
 #[test]
 fn spaces_part_words(rt: HostRuntime) -> Result<(), Fail> {
     check(&rt, rt.alloc(), SPACES)
 }
 
 /// Definitions: dm_command Commands alone with_one with_two at_address
-/// Definitions: dm_command Numbers number_of digits_of up_to word_of
+/// Definitions: dm_command Numbers number_of digits_of up_to word_from_digits
 #[test]
 fn numbers_are_hexadecimal(rt: HostRuntime) -> Result<(), Fail> {
     check(&rt, rt.alloc(), NUMBERS)
 }
 
-/// Definitions: dm_command Numbers number_of digits_of up_to word_of address_of parts_of
+/// Definitions: dm_command Numbers number_of digits_of up_to word_from_digits address_of parts_of
 #[test]
 fn addresses_are_two_words(rt: HostRuntime) -> Result<(), Fail> {
     check(&rt, rt.alloc(), ADDRESSES)
 }
 
-/// Definitions: dm_command Numbers bytes_of if_good
+/// Definitions: dm_command Numbers bytes_from_digits if_good
 #[test]
 fn bytes_are_pairs_of_digits(rt: HostRuntime) -> Result<(), Fail> {
     check(&rt, rt.alloc(), BYTES)
 }
 
 /// 64 bytes and one more, and a digit more.
-/// Definitions: dm_command Numbers bytes_of if_good
+/// Definitions: dm_command Numbers bytes_from_digits if_good
 #[test]
 fn at_most_64_bytes_are_typed(rt: HostRuntime) -> Result<(), Fail> {
     let mut line = Vec::new(rt.alloc());

@@ -141,7 +141,8 @@ const STEPS: [Step; 38] = [
 ];
 
 /// Definitions: dm_space Memory Memory Held with_blocks page_bytes place shown byte_at with_byte peek16 poke16
-/// with_window Definitions: dm_space Lending LendsScratch LendsBlock
+/// Definitions: dm_space Memory with_window
+/// Definitions: dm_space Lending LendsScratch LendsBlock
 #[test]
 fn windows_show_pages(rt: HostRuntime) -> Result<(), Fail> {
     let mut space = new_space(rt.alloc())?;

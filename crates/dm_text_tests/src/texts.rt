@@ -271,7 +271,7 @@ fn sizes_stand_where_no_register_gives_them(rt: HostRuntime) -> Result<(), Fail>
 }
 
 /// Definitions: dm_text Texts operands_pieces second_pieces behind operand_pieces
-/// Definitions: dm_text Pieces Piece bytes_of byte_digits word_digits digit
+/// Definitions: dm_text Pieces Piece text_bytes byte_digits word_digits digit
 #[test]
 fn numbers_have_two_or_four_digits(rt: HostRuntime) -> Result<(), Fail> {
     check(&rt, NUMBERS)
