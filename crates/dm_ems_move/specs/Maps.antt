@@ -1,32 +1,26 @@
 -- The map of the frame as bytes (LIM EMS 4.0, function 15): of each window the handle and the logical page that it
 -- shows, two words, or FFFFh twice where it shows none. (The standard leaves the form open.)
-use Rattle.std.specs.Prelude.{ℕ, ◌+◌, ◌*◌, ◌==◌, ◌&&◌, if◌then◌else◌, List, [], ◌∷◌, ◌++◌, take, count_by, position, slice_get, slice_index_or, Option, Some, None, Result, Ok, Err}
+use Rattle.std.specs.Prelude.{ℕ, ◌+◌, ◌*◌, ◌==◌, ◌&&◌, if◌then◌else◌, List, [], ◌∷◌, ◌++◌, slice_get, slice_index_or, Option, Some, None, Result, Ok, Err}
 use Rattle.dm_space.specs.Memory.{Memory}
 use Rattle.dm_ems.specs.declared.status.Status.{Status}
 use Rattle.dm_ems.specs.declared.status.Status.TheVariants.{NoSubfunction, BadMap}
 use Rattle.dm_ems.specs.declared.tables.Page.{Page}
-use Rattle.dm_ems.specs.Tables.{Tables, Expanded, blocks_of, is_of, is_block, with_windows}
+use Rattle.dm_ems.specs.Tables.{Tables, Expanded, blocks_of, with_windows}
+use Rattle.dm_ems.specs.Readers.{numbers_of}
 use Rattle.dm_ems.specs.Calls.{need, with_memory}
 use Rattle.dm_ems.specs.Names.{word, writing}
 use Rattle.dm_moves.specs.Buffers.{word_after}
 
 -- ---- from windows to bytes
 
-abbrev pub page_at : List Page → ℕ → Page
-page_at pages i = slice_index_or pages i (record { handle = 0; block = 0 })
-
-abbrev pub no_numbers : ℕ × ℕ
-no_numbers = (0xFFFF, 0xFFFF)
-
--- a page's handle, and its logical number there: how many pages of the handle stand before it
-abbrev pub numbers_at : List Page → Option ℕ → ℕ × ℕ
-numbers_at pages None = no_numbers
-numbers_at pages (Some i) = ((page_at pages i).handle, count_by (is_of (page_at pages i).handle) (take i pages))
+-- a page's handle and logical number; FFFFh twice where there is none
+abbrev pub or_none : Option (ℕ × ℕ) → ℕ × ℕ
+or_none None = (0xFFFF, 0xFFFF)
+or_none (Some n) = n
 
 -- those of the page that a window shows
 abbrev pub numbers : List Page → Option ℕ → ℕ × ℕ
-numbers pages None = no_numbers
-numbers pages (Some block) = numbers_at pages (position (is_block block) pages)
+numbers pages window = or_none (numbers_of pages window)
 
 abbrev pub entry : ℕ × ℕ → List ℕ
 entry n = word n.0 ++ word n.1

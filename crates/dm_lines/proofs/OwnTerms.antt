@@ -5,7 +5,6 @@ use Rattle.dm_ins.specs.declared.operand.Base.{Base}
 use Rattle.dm_ins.specs.declared.operand.Base.TheVariants.{Direct}
 use Rattle.dm_ins.specs.declared.operand.Operand.TheVariants as operand
 use Rattle.dm_ins.specs.declared.action.Mnemonic.{Mnemonic}
-use Rattle.dm_ins.specs.declared.action.Mnemonic.TheVariants.{Mov}
 use Rattle.dm_words.specs.declared.written.Size.{Size}
 use Rattle.dm_words.specs.declared.written.Written.{Written}
 use Rattle.dm_words.specs.declared.written.Written.TheVariants as w
@@ -18,7 +17,7 @@ use Rattle.dm_lines.specs.declared.term.Amount.{Amount}
 use Rattle.dm_lines.specs.declared.term.Amount.TheVariants.{Plus, Minus}
 use Rattle.dm_lines.specs.declared.term.Value.{Value}
 use Rattle.dm_lines.specs.declared.term.Term.TheVariants as term
-use Rattle.dm_lines.specs.Placing.{displaced, word_from, standing, low_byte_of, byte_of, distance_of, takes_labels, number_at, label_at, numeral_from, numeral_at, written_of, number_outline, label_outline, numeral_without, numeral_outline, word_without, word_outline}
+use Rattle.dm_lines.specs.Placing.{displaced, word_from, standing, low_byte_of, byte_of, distance_of, number_at, label_at, numeral_from, numeral_at, written_of, number_outline, label_outline, numeral_without, numeral_outline, word_without, word_outline}
 use Rattle.dm_lines.specs.Own.{memory_term}
 use Rattle.dm_lines.specs.Laws.{AmountFits, OwnTermsAreWritten, OutlinesStand}
 
@@ -39,10 +38,6 @@ own_terms_are_written a next place (operand.Target d) = refl
 own_terms_are_written a next place (operand.FarTarget n s) = refl
 
 -- ---- what stands for a value before its label has a place
-
-same_move : (m : Mnemonic) → takes_labels m ≡ is_move m
-same_move Mov = refl
-same_move m = refl
 
 word_fits : (n : Amount) → AmountFits n → amount_word n < 2 ^ 16
 word_fits (Plus n) h = h
@@ -67,7 +62,7 @@ number_stands : (m : Mnemonic) (n : Amount) (next : ℕ) → AmountFits n → Nu
 number_stands m n next h = record { byte = byte_stands m n; word = (word_fits n h, λ _. refl); distance = refl; is_one = refl }
 
 label_stands : (m : Mnemonic) (target next : ℕ) → NumberStands m (label_outline m) (label_at m target next)
-label_stands m target next = by (takes_labels m) (same_move m)
+label_stands m target next = by (is_move m) refl
   where
     low : (z : Bool) → is_move m ≡ true → IfSome (if z then Some target else None) (λ b. (0 < 2 ^ 8) × (is_move m ≡ false → 0 ≡ b % 64))
     low true e = (omega arith, λ f. absurd cc)

@@ -3,12 +3,12 @@
 -- this machine's own (docs/DECISIONS.md).
 use Rattle.std.specs.Prelude.{ℕ, ◌+◌, ◌-◌, ◌%◌, Bool, true, false, ◌==◌, Option, Some, None, nat_lt, nat_le, if◌then◌else◌}
 use Rattle.dm_ins.specs.declared.action.Mnemonic.{Mnemonic}
-use Rattle.dm_ins.specs.declared.action.Mnemonic.TheVariants.{Mov}
 use Rattle.dm_ins.specs.declared.operand.Base.TheVariants.{Direct}
 use Rattle.dm_ins.specs.Walks.{◌>>=◌}
 use Rattle.dm_words.specs.declared.written.Numeral.{Numeral}
 use Rattle.dm_words.specs.declared.written.Written.{Written}
 use Rattle.dm_words.specs.declared.written.Written.TheVariants as w
+use Rattle.dm_words.specs.StandIns.{is_move}
 use Rattle.dm_lines.specs.declared.token.Name as Name'
 use Rattle.dm_lines.specs.declared.term.Amount.{Amount}
 use Rattle.dm_lines.specs.declared.term.Amount.TheVariants.{Plus, Minus}
@@ -50,17 +50,13 @@ is_one_of (Minus n) = false
 
 -- ---- as each kind of operand
 
--- a label is an immediate value of MOV alone
-abbrev pub takes_labels : Mnemonic → Bool
-takes_labels Mov = true
-takes_labels _ = false
-
 abbrev pub number_at : Amount → ℕ → Numeral
 number_at n next = record { byte = byte_of n; word = Some (amount_word n); distance = distance_of (amount_word n) next; is_one = is_one_of n }
 
+-- a label is an immediate value of MOV alone
 abbrev pub label_at : Mnemonic → ℕ → ℕ → Numeral
 label_at m target next =
-    if takes_labels m
+    if is_move m
     then record { byte = low_byte_of target; word = Some target; distance = distance_of target next; is_one = false }
     else record { byte = None; word = None; distance = distance_of target next; is_one = false }
 
@@ -97,7 +93,7 @@ number_outline n = record { byte = Some (amount_word n % 64); word = Some (amoun
 
 abbrev pub label_outline : Mnemonic → Numeral
 label_outline m =
-    if takes_labels m
+    if is_move m
     then record { byte = Some 0; word = Some 0; distance = 0; is_one = false }
     else record { byte = None; word = None; distance = 0; is_one = false }
 

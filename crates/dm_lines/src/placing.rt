@@ -2,7 +2,8 @@
 //! before any label has a place.
 
 ghost use Rattle.std.specs.Prelude.{◌≡◌};
-ghost use Rattle.dm_lines.specs.Placing.{displaced, standing, low_byte_of, byte_of, distance_of, is_one_of, takes_labels, number_at, label_at, numeral_at, written_of, number_outline, label_outline, numeral_outline, word_outline, outline_of};
+ghost use Rattle.dm_words.specs.StandIns.{is_move};
+ghost use Rattle.dm_lines.specs.Placing.{displaced, standing, low_byte_of, byte_of, distance_of, is_one_of, number_at, label_at, numeral_at, written_of, number_outline, label_outline, numeral_outline, word_outline, outline_of};
 
 use crate::operands::word;
 use crate::term::{Amount, Term, Value};
@@ -75,7 +76,7 @@ fn is_one(amount: Amount) -> bool
 
 /// Whether this mnemonic takes labels as immediate values.
 fn takes(mnemonic: Mnemonic) -> bool
-    ensures { result ≡ takes_labels mnemonic }
+    ensures { result ≡ is_move mnemonic }
 {
     matches!(mnemonic, Mnemonic::Mov)
 }
