@@ -8,7 +8,7 @@ use Rattle.dm_ems.specs.Consistent.{IsUsed, IsConsistent}
 use Rattle.dm_ems.specs.Calls.{slot, with_memory}
 use Rattle.dm_space.specs.Memory.{Memory}
 use Rattle.dm_space.specs.Places.{IsShaped}
-use Rattle.dm_moves.specs.Regions.{Region}
+use Rattle.dm_moves.specs.Spans.{Span}
 use Rattle.dm_moves.specs.Overlaps.{overlap}
 use Rattle.dm_moves.proofs.Shapes.{moves_keep as moves_keep_map}
 use Rattle.dm_ems.proofs.Consistent.{consistent_cut, consistent_appended}
@@ -71,14 +71,14 @@ map_keeps x mode ts to fs fo l =
 shaped_keeps : {A : Type 0} (x : Expanded) (v : A) (m : Memory) → IsShaped x.memory m → IsConsistent x → Keeps x (Ok (v, with_memory x m))
 shaped_keeps x v m s l = record { kept = writes_keep x m s l }
 
-move_keeps : (x : Expanded) (n : ℕ) (from to : Region) → IsConsistent x → Keeps x (move_between x n from to)
+move_keeps : (x : Expanded) (n : ℕ) (from to : Span) → IsConsistent x → Keeps x (move_between x n from to)
 unfolding move_between
 move_keeps x n from to l =
     if_keeps x (overlap x.memory from to n) _ _
     (if_keeps x (are_mixed from to) (Err KindsOverlap) _ (refused x KindsOverlap l) (shaped_keeps x Overlapping _ (moves_keep_map.moving x.memory from to n) l))
     (shaped_keeps x Apart _ (moves_keep_map.moving x.memory from to n) l)
 
-exchange_keeps : (x : Expanded) (n : ℕ) (from to : Region) → IsConsistent x → Keeps x (exchange_between x n from to)
+exchange_keeps : (x : Expanded) (n : ℕ) (from to : Span) → IsConsistent x → Keeps x (exchange_between x n from to)
 unfolding exchange_between
 exchange_keeps x n from to l =
     if_keeps x (overlap x.memory from to n) _ _

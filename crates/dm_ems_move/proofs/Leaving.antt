@@ -8,7 +8,7 @@ use Rattle.dm_ems.specs.declared.status.Status.TheVariants.{OverTotal, OverFree,
 use Rattle.dm_ems.specs.Tables.{Expanded, page_count, unallocated, blocks_of, cut, appended}
 use Rattle.dm_ems.specs.Outside.{LeavesOutside}
 use Rattle.dm_ems.specs.Calls.{slot, with_memory}
-use Rattle.dm_moves.specs.Regions.{Region}
+use Rattle.dm_moves.specs.Spans.{Span}
 use Rattle.dm_moves.specs.Overlaps.{overlap}
 use Rattle.dm_moves.proofs.Shapes.{moves_keep as moves_keep_map}
 use Rattle.dm_ems.proofs.Leaving.{Leaves, if_leaves, need_leaves, refused, leaves_all, leaves_then, leaves_windows, leaves_shaped, appended_leaves, cut_leaves}
@@ -70,14 +70,14 @@ map_leaves x mode ts to fs fo =
 shaped_leaves : {A : Type 0} (x : Expanded) (v : A) (m : Memory) → IsShaped x.memory m → Leaves x (Ok (v, with_memory x m))
 shaped_leaves x v m s = record { kept = leaves_shaped x m s }
 
-move_leaves : (x : Expanded) (n : ℕ) (from to : Region) → Leaves x (move_between x n from to)
+move_leaves : (x : Expanded) (n : ℕ) (from to : Span) → Leaves x (move_between x n from to)
 unfolding move_between
 move_leaves x n from to =
     if_leaves x (overlap x.memory from to n) _ _
     (if_leaves x (are_mixed from to) (Err KindsOverlap) _ (refused x KindsOverlap) (shaped_leaves x Overlapping _ (moves_keep_map.moving x.memory from to n)))
     (shaped_leaves x Apart _ (moves_keep_map.moving x.memory from to n))
 
-exchange_leaves : (x : Expanded) (n : ℕ) (from to : Region) → Leaves x (exchange_between x n from to)
+exchange_leaves : (x : Expanded) (n : ℕ) (from to : Span) → Leaves x (exchange_between x n from to)
 unfolding exchange_between
 exchange_leaves x n from to =
     if_leaves x (overlap x.memory from to n) _ _

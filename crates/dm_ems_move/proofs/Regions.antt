@@ -6,7 +6,7 @@ use Rattle.std.proofs.lemmas.Option.{slice_get-get_or}
 use Rattle.std.proofs.lemmas.List.{length-map}
 use Rattle.std.proofs.lemmas.List.Sums.{length-filter, count_by-le-length}
 use Rattle.dm_space.specs.Memory.{Memory, IsPage}
-use Rattle.dm_moves.specs.Regions.{Region, IsInside}
+use Rattle.dm_moves.specs.Spans.{Span, IsInside}
 use Rattle.dm_ems.specs.declared.status.Status.{Status}
 use Rattle.dm_ems.specs.declared.status.Status.TheVariants.{UnknownHandle, NoSuchPage, PastPages, OffsetPastPage, UnknownKind, PastMemory}
 use Rattle.dm_ems.specs.declared.tables.Page.{Page}
@@ -18,17 +18,17 @@ use Rattle.dm_ems_move.specs.declared.description.Description.{Description}
 use Rattle.dm_ems_move.specs.Steps.{and_then}
 use Rattle.dm_ems_move.specs.RegionMoves.{described, conventional, expanded_region, region_of, regions_of}
 
-record Lies (m : Memory) (n : ℕ) (r : Result Region Status) : Type 0 where
+record Lies (m : Memory) (n : ℕ) (r : Result Span Status) : Type 0 where
   pub inside : IfOk r (λ r. IsInside m r n)
 
 refuses : (m : Memory) (n : ℕ) (e : Status) → Lies m n (Err e)
 refuses m n e = record { inside = tt }
 
-if-lies : (m : Memory) (n : ℕ) (b : Bool) (r s : Result Region Status) → (b ≡ true → Lies m n r) → (b ≡ false → Lies m n s) → Lies m n (cond b r s)
+if-lies : (m : Memory) (n : ℕ) (b : Bool) (r s : Result Span Status) → (b ≡ true → Lies m n r) → (b ≡ false → Lies m n s) → Lies m n (cond b r s)
 if-lies m n true r s p q = p refl
 if-lies m n false r s p q = q refl
 
-need-lies : {A : Type 0} (m : Memory) (n : ℕ) (o : Option A) (e : Status) (f : A → Result Region Status) → ((v : A) → Lies m n (f v)) → Lies m n (need o e f)
+need-lies : {A : Type 0} (m : Memory) (n : ℕ) (o : Option A) (e : Status) (f : A → Result Span Status) → ((v : A) → Lies m n (f v)) → Lies m n (need o e f)
 need-lies m n None e f h = refuses m n e
 need-lies m n (Some v) e f h = h v
 
@@ -70,14 +70,14 @@ region-lies x d n l few =
 
 -- ---- both
 
-pub record AreInside (m : Memory) (n : ℕ) (r : Region × Region) : Type 0 where
+pub record AreInside (m : Memory) (n : ℕ) (r : Span × Span) : Type 0 where
   pub from : IsInside m r.0 n
   pub to : IsInside m r.1 n
 
-record Both (m : Memory) (n : ℕ) (r : Result (Region × Region) Status) : Type 0 where
+record Both (m : Memory) (n : ℕ) (r : Result (Span × Span) Status) : Type 0 where
   pub inside : IfOk r (AreInside m n)
 
-both-then : (m : Memory) (n : ℕ) (r s : Result Region Status) → Lies m n r → Lies m n s → Both m n (and_then r (λ from. and_then s (λ to. Ok (from, to))))
+both-then : (m : Memory) (n : ℕ) (r s : Result Span Status) → Lies m n r → Lies m n s → Both m n (and_then r (λ from. and_then s (λ to. Ok (from, to))))
 both-then m n (Err e) s p q = record { inside = tt }
 both-then m n (Ok v) (Err e) p q = record { inside = tt }
 both-then m n (Ok v) (Ok w) p q = record { inside = record { from = p.inside; to = q.inside } }
@@ -87,5 +87,5 @@ unfolding regions_of
 both-lie x segment offset n l few =
     both-then x.memory n _ _ (region-lies x (described x.memory segment offset 4) n l few) (region-lies x (described x.memory segment offset 11) n l few)
 
-pub regions-inside : (x : Expanded) (segment offset n : ℕ) (r : Region × Region) → IsConsistent x → length x.ems.pages ≤ 512 → Ok r ≡ regions_of x segment offset n → AreInside x.memory n r
-regions-inside x segment offset n r l few e = subst (λ (t : Result (Region × Region) Status). IfOk t (AreInside x.memory n)) (sym e) (both-lie x segment offset n l few).inside
+pub regions-inside : (x : Expanded) (segment offset n : ℕ) (r : Span × Span) → IsConsistent x → length x.ems.pages ≤ 512 → Ok r ≡ regions_of x segment offset n → AreInside x.memory n r
+regions-inside x segment offset n r l few e = subst (λ (t : Result (Span × Span) Status). IfOk t (AreInside x.memory n)) (sym e) (both-lie x segment offset n l few).inside

@@ -3,9 +3,9 @@
 use Rattle.std.specs.Prelude.{ℕ, ◌+◌, ◌*◌, Bool, true, false, nat_lt, nat_le, ◌==◌, if◌then◌else◌, [], slice_index_or, None, Result, Ok, Err}
 use Rattle.dm_space.specs.Memory.{Memory}
 use Rattle.dm_space.specs.EightBytes.{byte_after}
-use Rattle.dm_moves.specs.declared.regions.Kind.{Kind}
-use Rattle.dm_moves.specs.declared.regions.Kind.TheVariants.{Linear, Pages, Single}
-use Rattle.dm_moves.specs.Regions.{Region, region, moved, exchanged}
+use Rattle.dm_moves.specs.declared.spans.SpanKind.{SpanKind}
+use Rattle.dm_moves.specs.declared.spans.SpanKind.TheVariants.{Linear, Pages, Single}
+use Rattle.dm_moves.specs.Spans.{Span, span, moved, exchanged}
 use Rattle.dm_moves.specs.Overlaps.{overlap}
 use Rattle.dm_ems.specs.declared.status.Status.{Status}
 use Rattle.dm_ems.specs.declared.status.Status.TheVariants.{UnknownHandle, NoSuchPage, PastPages, KindsOverlap, OffsetPastPage, TooLong, ExchangeOverlaps, UnknownKind, PastMemory}
@@ -34,47 +34,47 @@ described m segment offset k = record {
 -- ---- regions
 
 -- n bytes of conventional memory: none lies behind FFFFFh
-abbrev pub conventional : Description → ℕ → Result Region Status
-conventional d n = if nat_lt 0x100000 (d.page * 16 + d.offset + n) then Err PastMemory else Ok (region Linear (d.page * 16 + d.offset) [])
+abbrev pub conventional : Description → ℕ → Result Span Status
+conventional d n = if nat_lt 0x100000 (d.page * 16 + d.offset + n) then Err PastMemory else Ok (span Linear (d.page * 16 + d.offset) [])
 
 -- n bytes of the pages of a handle
-abbrev pub expanded_region : Tables → Description → ℕ → Result Region Status
+abbrev pub expanded_region : Tables → Description → ℕ → Result Span Status
 expanded_region ems d n =
     need (slice_index_or ems.handles d.handle None) UnknownHandle (λ s.
     if nat_lt 0x3FFF d.offset then Err OffsetPastPage else
     if nat_le (page_count ems d.handle) d.page then Err NoSuchPage else
     if nat_lt (page_count ems d.handle * 0x4000) (d.page * 0x4000 + d.offset + n) then Err PastPages else
-    Ok (region Pages (d.page * 0x4000 + d.offset) (blocks_of ems d.handle)))
+    Ok (span Pages (d.page * 0x4000 + d.offset) (blocks_of ems d.handle)))
 
-unfoldable pub region_of : Tables → Description → ℕ → Result Region Status
+unfoldable pub region_of : Tables → Description → ℕ → Result Span Status
 region_of ems d n =
     if nat_lt 1 d.kind then Err UnknownKind else
     if d.kind == 0 then conventional d n else expanded_region ems d n
 
 -- the source is tried whole, and then the destination
-unfoldable pub regions_of : Expanded → ℕ → ℕ → ℕ → Result (Region × Region) Status
+unfoldable pub regions_of : Expanded → ℕ → ℕ → ℕ → Result (Span × Span) Status
 regions_of x segment offset n =
     and_then (region_of x.ems (described x.memory segment offset 4) n) (λ from.
     and_then (region_of x.ems (described x.memory segment offset 11) n) (λ to. Ok (from, to)))
 
-abbrev pub is_linear : Kind → Bool
+abbrev pub is_linear : SpanKind → Bool
 is_linear Linear = true
 is_linear Pages = false
 is_linear Single = false
 
 -- one is of conventional memory, and the other is not
-abbrev pub are_mixed : Region → Region → Bool
+abbrev pub are_mixed : Span → Span → Bool
 are_mixed from to = if is_linear from.kind then (if is_linear to.kind then false else true) else is_linear to.kind
 
 -- ---- the calls
 
-unfoldable pub move_between : Expanded → ℕ → Region → Region → Result (Moved × Expanded) Status
+unfoldable pub move_between : Expanded → ℕ → Span → Span → Result (Moved × Expanded) Status
 move_between x n from to =
     if overlap x.memory from to n
     then (if are_mixed from to then Err KindsOverlap else Ok (moved_is.Overlapping, with_memory x (moved x.memory from to n)))
     else Ok (moved_is.Apart, with_memory x (moved x.memory from to n))
 
-unfoldable pub exchange_between : Expanded → ℕ → Region → Region → Result (Unit {0} × Expanded) Status
+unfoldable pub exchange_between : Expanded → ℕ → Span → Span → Result (Unit {0} × Expanded) Status
 exchange_between x n from to =
     if overlap x.memory from to n
     then (if are_mixed from to then Err KindsOverlap else Err ExchangeOverlaps)

@@ -4,12 +4,12 @@ ghost use Rattle.std.specs.Prelude.{◌≡◌, ◌≤◌, ◌+◌, IfOk, OnErr};
 ghost use Rattle.dm_ems.specs.Tables.{expanded};
 ghost use Rattle.dm_ems.specs.Consistent.{IsConsistent};
 ghost use Rattle.dm_ems.specs.Calls.{answer, left};
-ghost use Rattle.dm_moves.specs.Regions.{IsInside};
+ghost use Rattle.dm_moves.specs.Spans.{IsInside};
 ghost use Rattle.dm_ems_move.specs.RegionMoves.{length_at, conventional, expanded_region, region_of, regions_of, is_linear, are_mixed, move_between, exchange_between, move_region, exchange_region, moved_code};
 
 use crate::description::{DESTINATION, Description, SOURCE, described, length_at};
 use dm_ems::{Ems, Status};
-use dm_moves::{Kind, Region, exchange_bytes, move_bytes, overlap};
+use dm_moves::{Span, SpanKind, exchange_bytes, move_bytes, overlap};
 use dm_space::Space;
 
 /// The most bytes that a call moves or exchanges: 1 MiB.
@@ -43,7 +43,7 @@ impl Moved {
 }
 
 /// The region of conventional memory that is described.
-fn conventional(described: Description, len: usize) -> Result<Region, Status>
+fn conventional(described: Description, len: usize) -> Result<Span, Status>
     requires { len ≤ 0x100000 }
     ensures { result ≡ conventional described len }
 {
@@ -51,11 +51,11 @@ fn conventional(described: Description, len: usize) -> Result<Region, Status>
     if start + len > END {
         return Err(Status::PastMemory);
     }
-    Ok(Region::linear(start))
+    Ok(Span::linear(start))
 }
 
 /// The region of pages that is described.
-fn expanded_region(ems: &Ems, described: Description, len: usize) -> Result<Region, Status>
+fn expanded_region(ems: &Ems, described: Description, len: usize) -> Result<Span, Status>
     requires { len ≤ 0x100000 }
     ensures { result ≡ expanded_region ems.now described len }
 {
@@ -73,12 +73,12 @@ fn expanded_region(ems: &Ems, described: Description, len: usize) -> Result<Regi
     if start + len > pages as usize * PAGE {
         return Err(Status::PastPages);
     }
-    Ok(Region::pages(ems.blocks(described.handle), start))
+    Ok(Span::pages(ems.blocks(described.handle), start))
 }
 
 /// The region that is described.
 #[tactic(auto, unfolding(crate::specs::RegionMoves::region_of))]
-fn region_of(ems: &Ems, described: Description, len: usize) -> Result<Region, Status>
+fn region_of(ems: &Ems, described: Description, len: usize) -> Result<Span, Status>
     requires { len ≤ 0x100000 }
     ensures { result ≡ region_of ems.now described len }
 {
@@ -100,7 +100,7 @@ fn regions_of(
     segment: u16,
     offset: u16,
     len: usize,
-) -> Result<(Region, Region), Status>
+) -> Result<(Span, Span), Status>
     requires { len ≤ 0x100000 }
     ensures { result ≡ regions_of (expanded ems.now space.now.memory) segment offset len }
 {
@@ -115,18 +115,18 @@ fn regions_of(
     }
 }
 
-fn is_linear(region: &Region) -> bool
+fn is_linear(region: &Span) -> bool
     ensures { result ≡ is_linear region.now.kind }
 {
     match region.kind() {
-        Kind::Linear => true,
-        Kind::Pages => false,
-        Kind::Single => false,
+        SpanKind::Linear => true,
+        SpanKind::Pages => false,
+        SpanKind::Single => false,
     }
 }
 
 /// Whether one region is of conventional memory and the other is not.
-fn are_mixed(from: &Region, to: &Region) -> bool
+fn are_mixed(from: &Span, to: &Span) -> bool
     ensures { result ≡ are_mixed from.now to.now }
 {
     if is_linear(from) {
@@ -141,8 +141,8 @@ fn move_between(
     ems: &Ems,
     space: &mut Space,
     len: usize,
-    from: &Region,
-    to: &Region,
+    from: &Span,
+    to: &Span,
 ) -> Result<Moved, Status>
     requires len { len ≤ 0x100000 }
     requires from { IsInside space.old.memory from.now len }
@@ -167,8 +167,8 @@ fn exchange_between(
     ems: &Ems,
     space: &mut Space,
     len: usize,
-    from: &Region,
-    to: &Region,
+    from: &Span,
+    to: &Span,
 ) -> Result<(), Status>
     requires len { len ≤ 0x100000 }
     requires from { IsInside space.old.memory from.now len }

@@ -1,4 +1,4 @@
--- Regions met run by run.
+-- Spans met run by run.
 use Rattle.std.proofs.Common.{◌≡◌, ℕ, ◌+◌, ◌-◌, ◌%◌, ◌<◌, ◌≤◌, true, false, sym, ◌∙◌, ap, arith, inl, inr}
 use Rattle.std.proofs.lemmas.Bool.{cases_lt}
 use Rattle.dm_space.specs.declared.place.Place.{Place}
@@ -6,7 +6,7 @@ use Rattle.std.specs.Prelude.{◌==◌, ◌&&◌}
 use Rattle.dm_space.specs.declared.place.Place.TheVariants.{Page}
 use Rattle.dm_space.specs.Memory.{Memory}
 use Rattle.dm_space.specs.inner.Runs.{shift}
-use Rattle.dm_moves.specs.Regions.{Region, place_in, IsInside}
+use Rattle.dm_moves.specs.Spans.{Span, place_in, IsInside}
 use Rattle.dm_moves.specs.Overlaps.{is_shared, any_two, overlap}
 use Rattle.dm_moves.proofs.Some.{two-true, two-none, none-two, two-found}
 use Rattle.dm_moves.proofs.Inside.{place-in-run}
@@ -18,12 +18,12 @@ never p q s t n l e f h = sym (two-none n l (λ i j. is_shared (shift p i) (shif
 pub other_page : (p k q l : ℕ) → (p == q) ≡ false → (i j : ℕ) → is_shared (shift (Page p k) i) (shift (Page q l) j) ≡ false
 other_page p k q l e i j = ap (λ b. b && (k + i == l + j)) e
 
--- ---- a run of places, and the first bytes of a region
+-- ---- a run of places, and the first bytes of a span
 
-pub record IsRunApart (m : Memory) (p : Place) (r : Region) (n done : ℕ) : Type 0 where
+pub record IsRunApart (m : Memory) (p : Place) (r : Span) (n done : ℕ) : Type 0 where
   pub none : (i j : ℕ) → i < n → j < done → is_shared (shift p i) (place_in m r j) ≡ false
 
-module _ (m : Memory) (p : Place) (r : Region) (n done run : ℕ) (inside : IsInside m r (done + run)) (cell : (r.start + done) % 0x4000 + run ≤ 0x4000) where
+module _ (m : Memory) (p : Place) (r : Span) (n done run : ℕ) (inside : IsInside m r (done + run)) (cell : (r.start + done) % 0x4000 + run ≤ 0x4000) where
   pub run-apart : any_two n run (λ i j. is_shared (shift p i) (shift (place_in m r done) j)) ≡ false → IsRunApart m p r n done → IsRunApart m p r n (done + run)
   run-apart e a = record {
     none = λ i j h g. elim (cases_lt j done) [
@@ -41,17 +41,17 @@ module _ (m : Memory) (p : Place) (r : Region) (n done run : ℕ) (inside : IsIn
       two-true n len (λ i j. is_shared (shift p i) (place_in m r j)) f.0 (done + f.1) f.2 (omega (arith, f.3, le))
       (ap (λ q. is_shared (shift p f.0) q) (place-in-run m r done run f.1 inside cell f.3) ∙ f.4)
 
-pub run-all : (m : Memory) (p : Place) (r : Region) (n done len : ℕ) → len ≤ done → IsRunApart m p r n done → any_two n len (λ i j. is_shared (shift p i) (place_in m r j)) ≡ false
+pub run-all : (m : Memory) (p : Place) (r : Span) (n done len : ℕ) → len ≤ done → IsRunApart m p r n done → any_two n len (λ i j. is_shared (shift p i) (place_in m r j)) ≡ false
 run-all m p r n done len le a = two-none n len (λ i j. is_shared (shift p i) (place_in m r j)) (λ i j h g. a.none i j h (omega (arith, g, le)))
 
--- ---- two regions
+-- ---- two spans
 
-pub record AreApart (m : Memory) (from to : Region) (done len : ℕ) : Type 0 where
+pub record AreApart (m : Memory) (from to : Span) (done len : ℕ) : Type 0 where
   pub none : (i j : ℕ) → i < done → j < len → is_shared (place_in m from i) (place_in m to j) ≡ false
 
-module _ (m : Memory) (from to : Region) (done run len : ℕ) (inside : IsInside m from (done + run)) (cell : (from.start + done) % 0x4000 + run ≤ 0x4000) where
-  pub regions-apart : any_two run len (λ i j. is_shared (shift (place_in m from done) i) (place_in m to j)) ≡ false → AreApart m from to done len → AreApart m from to (done + run) len
-  regions-apart e a = record {
+module _ (m : Memory) (from to : Span) (done run len : ℕ) (inside : IsInside m from (done + run)) (cell : (from.start + done) % 0x4000 + run ≤ 0x4000) where
+  pub spans-apart : any_two run len (λ i j. is_shared (shift (place_in m from done) i) (place_in m to j)) ≡ false → AreApart m from to done len → AreApart m from to (done + run) len
+  spans-apart e a = record {
     none = λ i j h g. elim (cases_lt i done) [
       | inl low ↦ a.none i j low g
       | inr high ↦
@@ -61,13 +61,13 @@ module _ (m : Memory) (from to : Region) (done run len : ℕ) (inside : IsInside
     ];
   }
 
-  pub regions-shared : done + run ≤ len → any_two run len (λ i j. is_shared (shift (place_in m from done) i) (place_in m to j)) ≡ true → overlap m from to len ≡ true
+  pub spans-shared : done + run ≤ len → any_two run len (λ i j. is_shared (shift (place_in m from done) i) (place_in m to j)) ≡ true → overlap m from to len ≡ true
   unfolding overlap
-  regions-shared le e =
+  spans-shared le e =
       let f = two-found run len (λ x y. is_shared (shift (place_in m from done) x) (place_in m to y)) e in
       two-true len len (λ i j. is_shared (place_in m from i) (place_in m to j)) (done + f.0) f.1 (omega (arith, f.2, le)) f.3
       (ap (λ q. is_shared q (place_in m to f.1)) (place-in-run m from done run f.0 inside cell f.2) ∙ f.4)
 
-pub regions-all : (m : Memory) (from to : Region) (done len : ℕ) → len ≤ done → AreApart m from to done len → overlap m from to len ≡ false
+pub spans-all : (m : Memory) (from to : Span) (done len : ℕ) → len ≤ done → AreApart m from to done len → overlap m from to len ≡ false
 unfolding overlap
-regions-all m from to done len le a = two-none len len (λ i j. is_shared (place_in m from i) (place_in m to j)) (λ i j h g. a.none i j (omega (arith, h, le)) g)
+spans-all m from to done len le a = two-none len len (λ i j. is_shared (place_in m from i) (place_in m to j)) (λ i j h g. a.none i j (omega (arith, h, le)) g)

@@ -1,4 +1,4 @@
--- Runs of a region's bytes, and one run after another.
+-- Runs of a span's bytes, and one run after another.
 use Rattle.std.proofs.Common.{◌≡◌, ℕ, zero, suc, ◌+◌, ◌/◌, ◌%◌, ◌<◌, ◌≤◌, List, [], ◌∷◌, ◌++◌, length, get_or, set, refl, sym, ◌∙◌, ap, subst, arith, inl, get_or-set_same}
 use Rattle.std.specs.Prelude.{slice_index}
 use Rattle.std.proofs.lemmas.List.{length-set, get_or_default}
@@ -12,8 +12,8 @@ use Rattle.dm_space.specs.Memory.{Memory, Held, place, peek, poke, byte_at, page
 use Rattle.dm_space.specs.inner.Runs.{with_run}
 use Rattle.dm_space.proofs.Copies.{length-values, values-more, values-part, part-more, none-written, one-more, same-content}
 use Rattle.dm_space.proofs.Places.{peek-place, page-there}
-use Rattle.dm_moves.specs.declared.regions.Kind.TheVariants.{Linear, Pages, Single}
-use Rattle.dm_moves.specs.Regions.{Region, spot, place_in, byte_in, bytes_in, stored, moved, exchanged, IsInside}
+use Rattle.dm_moves.specs.declared.spans.SpanKind.TheVariants.{Linear, Pages, Single}
+use Rattle.dm_moves.specs.Spans.{Span, spot, place_in, byte_in, bytes_in, stored, moved, exchanged, IsInside}
 use Rattle.dm_moves.specs.inner.Copying.{read_in, written_out}
 use Rattle.dm_moves.proofs.Inside.{page-of, single-of, inside-shaped}
 use Rattle.dm_moves.proofs.Shapes.{stored-shaped}
@@ -26,7 +26,7 @@ values-from f g s k (suc n) h =
     let e : suc (s + k) ≡ s + suc k = omega arith in
     ap (λ v. v ∷ values f (suc (s + k)) n) (h k) ∙ ap (λ xs. g k ∷ xs) (ap (λ a. values f a n) e ∙ values-from f g s (suc k) n h)
 
-pub read-linear : (h : Held) (r : Region) (k at n : ℕ) → r.kind ≡ Linear → copied_in h (r.start + k) at n ≡ read_in h r k at n
+pub read-linear : (h : Held) (r : Span) (k at n : ℕ) → r.kind ≡ Linear → copied_in h (r.start + k) at n ≡ read_in h r k at n
 read-linear h r k at n e =
     ap (λ (xs : List ℕ). record h { scratch = with_part h.scratch at n xs })
     (values-from (peek h.memory) (byte_in h.memory r) r.start k n
@@ -36,7 +36,7 @@ poked : (m : Memory) (a v : ℕ) → poke m a v ≡ with_byte m (place m a) v
 unfolding poke
 poked m a v = refl
 
-stored-linear : (vs : List ℕ) (m : Memory) (r : Region) (k : ℕ) → r.kind ≡ Linear → writes m (r.start + k) vs ≡ stored m r k vs
+stored-linear : (vs : List ℕ) (m : Memory) (r : Span) (k : ℕ) → r.kind ≡ Linear → writes m (r.start + k) vs ≡ stored m r k vs
 stored-linear [] m r k e = refl
 stored-linear (v ∷ vs) m r k e =
     let next : suc (r.start + k) ≡ r.start + suc k = omega arith in
@@ -44,22 +44,22 @@ stored-linear (v ∷ vs) m r k e =
     ap (λ (t : Memory). writes t (suc (r.start + k)) vs) first ∙ ap (λ a. writes (with_byte m (place_in m r k) v) a vs) next
     ∙ stored-linear vs (with_byte m (place_in m r k) v) r (suc k) e
 
-pub write-linear : (h : Held) (r : Region) (k at n : ℕ) → r.kind ≡ Linear → copied_out h at (r.start + k) n ≡ written_out h r k at n
+pub write-linear : (h : Held) (r : Span) (k at n : ℕ) → r.kind ≡ Linear → copied_out h at (r.start + k) n ≡ written_out h r k at n
 write-linear h r k at n e = ap (λ (m : Memory). record h { memory = m }) (stored-linear (part h.scratch at n) h.memory r k e)
 
 -- ---- blocks
 
--- the n bytes of a region from its byte k on are those of a block from its byte o on, in each memory
-abbrev IsBlockRun : Region → ℕ → ℕ → ℕ → ℕ → Type 0
+-- the n bytes of a span from its byte k on are those of a block from its byte o on, in each memory
+abbrev IsBlockRun : Span → ℕ → ℕ → ℕ → ℕ → Type 0
 IsBlockRun r k p o n = (t : Memory) (i : ℕ) → i < n → place_in t r (k + i) ≡ Page p (o + i)
 
-block-read : (m : Memory) (r : Region) (k p o n : ℕ) → IsBlockRun r k p o n → o + n ≤ length (page_bytes m p) → part (page_bytes m p) o n ≡ values (byte_in m r) k n
+block-read : (m : Memory) (r : Span) (k p o n : ℕ) → IsBlockRun r k p o n → o + n ≤ length (page_bytes m p) → part (page_bytes m p) o n ≡ values (byte_in m r) k n
 block-read m r k p o n run fits = sym (values-part (byte_in m r) k n (page_bytes m p) o fits (λ i h. ap (byte_at m) (run m i h)))
 
 with_contents : Memory → List (List ℕ) → Memory
 with_contents m cs = with_blocks m (record m.blocks { contents = cs })
 
-block-stored : (vs : List ℕ) (m : Memory) (r : Region) (k p o : ℕ) → IsBlockRun r k p o (length vs) → p < length m.blocks.contents → o + length vs ≤ length (page_bytes m p) → stored m r k vs ≡ with_run m (Page p o) (length vs) vs
+block-stored : (vs : List ℕ) (m : Memory) (r : Span) (k p o : ℕ) → IsBlockRun r k p o (length vs) → p < length m.blocks.contents → o + length vs ≤ length (page_bytes m p) → stored m r k vs ≡ with_run m (Page p o) (length vs) vs
 unfolding with_contents
 block-stored [] m r k p o run live fits = ap (with_contents m) (sym (ap (set m.blocks.contents p) (none-written (page_bytes m p) o) ∙ same-content m.blocks.contents p))
 block-stored (v ∷ vs) m r k p o run live fits =
@@ -79,10 +79,10 @@ block-stored (v ∷ vs) m r k p o run live fits =
     ∙ ap (with_contents m) (set_twice cs p (set xs o v) (with_part (set xs o v) (suc o) (length vs) vs))
     ∙ ap (λ (ys : List ℕ). with_contents m (set cs p ys)) (one-more xs vs o v (omega (arith, fits)))
 
-read-block : (h : Held) (r : Region) (k p o at n : ℕ) → IsBlockRun r k p o n → o + n ≤ length (page_bytes h.memory p) → block_copied_in h p o at n ≡ read_in h r k at n
+read-block : (h : Held) (r : Span) (k p o at n : ℕ) → IsBlockRun r k p o n → o + n ≤ length (page_bytes h.memory p) → block_copied_in h p o at n ≡ read_in h r k at n
 read-block h r k p o at n run fits = ap (λ (xs : List ℕ). record h { scratch = with_part h.scratch at n xs }) (block-read h.memory r k p o n run fits)
 
-write-block : (h : Held) (r : Region) (k p o at n : ℕ) → IsBlockRun r k p o n → 0 < n → at + n ≤ length h.scratch → o + n ≤ length (page_bytes h.memory p) → block_copied_out h at p o n ≡ written_out h r k at n
+write-block : (h : Held) (r : Span) (k p o at n : ℕ) → IsBlockRun r k p o n → 0 < n → at + n ≤ length h.scratch → o + n ≤ length (page_bytes h.memory p) → block_copied_out h at p o n ≡ written_out h r k at n
 write-block h r k p o at n run some room fits =
     let vs = part h.scratch at n in
     let long : length vs ≡ n = part_length h.scratch at n room in
@@ -92,7 +92,7 @@ write-block h r k p o at n run some room fits =
     (sym (block-stored vs h.memory r k p o (subst (IsBlockRun r k p o) back run) live (omega (arith, fits, long)) ∙ ap (λ j. with_run h.memory (Page p o) j vs) long))
 
 -- the places of a run of pages, in each memory
-pages-run : (r : Region) (k n : ℕ) → r.kind ≡ Pages → (r.start + k) % 0x4000 + n ≤ 0x4000 → IsBlockRun r k (slice_index r.blocks ((r.start + k) / 0x4000)) ((r.start + k) % 0x4000) n
+pages-run : (r : Span) (k n : ℕ) → r.kind ≡ Pages → (r.start + k) % 0x4000 + n ≤ 0x4000 → IsBlockRun r k (slice_index r.blocks ((r.start + k) / 0x4000)) ((r.start + k) % 0x4000) n
 pages-run r k n e cell t i h =
     let a = r.start + k in
     let s : r.start + (k + i) ≡ a + i = omega arith in
@@ -100,39 +100,39 @@ pages-run r k n e cell t i h =
     let m : (a + i) % 0x4000 ≡ a % 0x4000 + i = omega arith in
     ap (λ kind. spot t kind r.blocks (r.start + (k + i))) e ∙ rw (s, q, m) refl
 
-single-run : (r : Region) (k n : ℕ) → r.kind ≡ Single → IsBlockRun r k (slice_index r.blocks 0) (r.start + k) n
+single-run : (r : Span) (k n : ℕ) → r.kind ≡ Single → IsBlockRun r k (slice_index r.blocks 0) (r.start + k) n
 single-run r k n e t i h = let s : r.start + (k + i) ≡ r.start + k + i = omega arith in ap (λ kind. spot t kind r.blocks (r.start + (k + i))) e ∙ ap (Page (slice_index r.blocks 0)) s
 
-pub read-pages : (h : Held) (r : Region) (k at n : ℕ) → r.kind ≡ Pages → IsInside h.memory r (k + n) → 0 < n → (r.start + k) % 0x4000 + n ≤ 0x4000
+pub read-pages : (h : Held) (r : Span) (k at n : ℕ) → r.kind ≡ Pages → IsInside h.memory r (k + n) → 0 < n → (r.start + k) % 0x4000 + n ≤ 0x4000
     → block_copied_in h (slice_index r.blocks ((r.start + k) / 0x4000)) ((r.start + k) % 0x4000) at n ≡ read_in h r k at n
 read-pages h r k at n e inside some cell =
     read-block h r k _ _ at n (pages-run r k n e cell) (omega (arith, cell, (page-of h.memory r k n inside some e).1))
 
-pub write-pages : (h : Held) (r : Region) (k at n : ℕ) → r.kind ≡ Pages → IsInside h.memory r (k + n) → 0 < n → (r.start + k) % 0x4000 + n ≤ 0x4000 → at + n ≤ length h.scratch
+pub write-pages : (h : Held) (r : Span) (k at n : ℕ) → r.kind ≡ Pages → IsInside h.memory r (k + n) → 0 < n → (r.start + k) % 0x4000 + n ≤ 0x4000 → at + n ≤ length h.scratch
     → block_copied_out h at (slice_index r.blocks ((r.start + k) / 0x4000)) ((r.start + k) % 0x4000) n ≡ written_out h r k at n
 write-pages h r k at n e inside some cell room =
     write-block h r k _ _ at n (pages-run r k n e cell) some room (omega (arith, cell, (page-of h.memory r k n inside some e).1))
 
-pub read-single : (h : Held) (r : Region) (k at n : ℕ) → r.kind ≡ Single → IsInside h.memory r (k + n) → block_copied_in h (slice_index r.blocks 0) (r.start + k) at n ≡ read_in h r k at n
+pub read-single : (h : Held) (r : Span) (k at n : ℕ) → r.kind ≡ Single → IsInside h.memory r (k + n) → block_copied_in h (slice_index r.blocks 0) (r.start + k) at n ≡ read_in h r k at n
 read-single h r k at n e inside = read-block h r k _ _ at n (single-run r k n e) (omega (arith, (single-of h.memory r (k + n) inside e).2))
 
-pub write-single : (h : Held) (r : Region) (k at n : ℕ) → r.kind ≡ Single → IsInside h.memory r (k + n) → 0 < n → at + n ≤ length h.scratch
+pub write-single : (h : Held) (r : Span) (k at n : ℕ) → r.kind ≡ Single → IsInside h.memory r (k + n) → 0 < n → at + n ≤ length h.scratch
     → block_copied_out h at (slice_index r.blocks 0) (r.start + k) n ≡ written_out h r k at n
 write-single h r k at n e inside some room = write-block h r k _ _ at n (single-run r k n e) some room (omega (arith, (single-of h.memory r (k + n) inside e).2))
 
 -- ---- one run after another
 
-stored-more : (xs ys : List ℕ) (m : Memory) (r : Region) (k : ℕ) → stored m r k (xs ++ ys) ≡ stored (stored m r k xs) r (k + length xs) ys
+stored-more : (xs ys : List ℕ) (m : Memory) (r : Span) (k : ℕ) → stored m r k (xs ++ ys) ≡ stored (stored m r k xs) r (k + length xs) ys
 stored-more [] ys m r k = let e : k ≡ k + 0 = omega arith in ap (λ j. stored m r j ys) e
 stored-more (x ∷ xs) ys m r k =
     let t = with_byte m (place_in m r k) x in
     let e : suc k + length xs ≡ k + suc (length xs) = omega arith in
     stored-more xs ys t r (suc k) ∙ ap (λ j. stored (stored t r (suc k) xs) r j ys) e
 
-pub read-none : (h : Held) (r : Region) (k at : ℕ) → h ≡ read_in h r k at 0
+pub read-none : (h : Held) (r : Span) (k at : ℕ) → h ≡ read_in h r k at 0
 read-none h r k at = ap (λ (s : List ℕ). record h { scratch = s }) (sym (none-written h.scratch at))
 
-pub read-more : (h : Held) (r : Region) (at n k : ℕ) → at + n + k ≤ length h.scratch → read_in (read_in h r 0 at n) r n (at + n) k ≡ read_in h r 0 at (n + k)
+pub read-more : (h : Held) (r : Span) (at n k : ℕ) → at + n + k ≤ length h.scratch → read_in (read_in h r 0 at n) r n (at + n) k ≡ read_in h r 0 at (n + k)
 read-more h r at n k fits =
     let f = byte_in h.memory r in
     let e : 0 + n ≡ n = omega arith in
@@ -140,10 +140,10 @@ read-more h r at n k fits =
     (twice h.scratch (values f 0 n) (values f n k) at n k (length-values f 0 n) (length-values f n k) fits
     ∙ ap (with_part h.scratch at (n + k)) (sym (values-more f 0 n k ∙ ap (λ a. values f 0 n ++ values f a k) e)))
 
-pub write-none : (h : Held) (r : Region) (k at : ℕ) → h ≡ written_out h r k at 0
+pub write-none : (h : Held) (r : Span) (k at : ℕ) → h ≡ written_out h r k at 0
 write-none h r k at = refl
 
-pub write-more : (h : Held) (r : Region) (at n k : ℕ) → at + n ≤ length h.scratch → written_out (written_out h r 0 at n) r n (at + n) k ≡ written_out h r 0 at (n + k)
+pub write-more : (h : Held) (r : Span) (at n k : ℕ) → at + n ≤ length h.scratch → written_out (written_out h r 0 at n) r n (at + n) k ≡ written_out h r 0 at (n + k)
 write-more h r at n k fits =
     let e : n ≡ 0 + length (part h.scratch at n) = omega (arith, part_length h.scratch at n fits) in
     ap (λ (m : Memory). record h { memory = m })
@@ -156,14 +156,14 @@ indexed {xs} {ys} {i} {j} {b} is same at low = is ∙ ap (λ l. get_or l i b) sa
 
 -- ---- whole moves
 
-pub move-done : (h s t : Held) (from to : Region) (n : ℕ) → n ≤ length h.scratch → s ≡ read_in h from 0 0 n → t ≡ written_out s to 0 0 n → t.memory ≡ moved h.memory from to n
+pub move-done : (h s t : Held) (from to : Span) (n : ℕ) → n ≤ length h.scratch → s ≡ read_in h from 0 0 n → t ≡ written_out s to 0 0 n → t.memory ≡ moved h.memory from to n
 move-done h s t from to n fits e f =
     let vs = bytes_in h.memory from n in
     ap (λ (x : Held). x.memory) (f ∙ ap (λ (x : Held). written_out x to 0 0 n) e)
     ∙ ap (stored h.memory to 0) (written h.scratch vs 0 n (length-values (byte_in h.memory from) 0 n) (omega (arith, fits)))
 
 -- bytes of one block, written to another or the same
-pub blocks-done : (h : Held) (from to : Region) (p q n : ℕ) → from.kind ≡ Single → to.kind ≡ Single → p ≡ slice_index from.blocks 0 → q ≡ slice_index to.blocks 0 → 0 < n → IsInside h.memory from n → IsInside h.memory to n
+pub blocks-done : (h : Held) (from to : Span) (p q n : ℕ) → from.kind ≡ Single → to.kind ≡ Single → p ≡ slice_index from.blocks 0 → q ≡ slice_index to.blocks 0 → 0 < n → IsInside h.memory from n → IsInside h.memory to n
     → with_blocks h.memory (moved_bytes h.memory.blocks p (from.start + 0) q (to.start + 0) n) ≡ moved h.memory from to n
 blocks-done h from to p q n e f is js some inside there =
     let m = h.memory in
@@ -179,12 +179,12 @@ blocks-done h from to p q n e f is js some inside there =
     sym (block-stored xs m to 0 q (to.start + 0) (subst (IsBlockRun to 0 q (to.start + 0)) back goes) live (omega (arith, in_to, long)) ∙ ap (λ j. with_run m (Page q (to.start + 0)) j xs) long)
     ∙ ap (stored m to 0) read
 
-pub still-inside : (m : Memory) (t u : Held) (to from : Region) (at n len : ℕ) → t.memory ≡ m → u ≡ written_out t to 0 at n → IsInside m from len → IsInside u.memory from len
+pub still-inside : (m : Memory) (t u : Held) (to from : Span) (at n len : ℕ) → t.memory ≡ m → u ≡ written_out t to 0 at n → IsInside m from len → IsInside u.memory from len
 still-inside m t u to from at n len e f inside =
     subst (λ (x : Held). IsInside x.memory from len) (sym f)
     (inside-shaped t.memory (written_out t to 0 at n).memory from len (stored-shaped t.memory to 0 (part t.scratch at n)) (subst (λ (x : Memory). IsInside x from len) (sym e) inside))
 
-pub exchange-done : (h s t u v : Held) (from to : Region) (n : ℕ) → n + n ≤ length h.scratch → s ≡ read_in h from 0 0 n → t ≡ read_in s to 0 n n → u ≡ written_out t to 0 0 n → v ≡ written_out u from 0 n n → v.memory ≡ exchanged h.memory from to n
+pub exchange-done : (h s t u v : Held) (from to : Span) (n : ℕ) → n + n ≤ length h.scratch → s ≡ read_in h from 0 0 n → t ≡ read_in s to 0 n n → u ≡ written_out t to 0 0 n → v ≡ written_out u from 0 n n → v.memory ≡ exchanged h.memory from to n
 exchange-done h s t u v from to n fits e f g i =
     let xs = bytes_in h.memory from n in let ys = bytes_in h.memory to n in
     let ex = length-values (byte_in h.memory from) 0 n in let ey = length-values (byte_in h.memory to) 0 n in

@@ -3,10 +3,10 @@ use Rattle.std.proofs.Common.{ℕ, suc, List, [], ◌∷◌}
 use Rattle.dm_space.specs.Memory.{Memory, with_byte}
 use Rattle.dm_space.specs.Places.{IsShaped}
 use Rattle.dm_space.proofs.Places.{shaped-same, shaped-then, shaped-with}
-use Rattle.dm_moves.specs.Regions.{Region, place_in, stored, bytes_in, exchanged}
+use Rattle.dm_moves.specs.Spans.{Span, place_in, stored, bytes_in, exchanged}
 use Rattle.dm_moves.specs.Laws.{MovesKeepTheMap}
 
-pub stored-shaped : (m : Memory) (r : Region) (k : ℕ) (vs : List ℕ) → IsShaped m (stored m r k vs)
+pub stored-shaped : (m : Memory) (r : Span) (k : ℕ) (vs : List ℕ) → IsShaped m (stored m r k vs)
 stored-shaped m r k [] = shaped-same m
 stored-shaped m r k (v ∷ vs) =
     let t = with_byte m (place_in m r k) v in

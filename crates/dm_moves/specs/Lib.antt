@@ -1,4 +1,4 @@
-pub mod Regions
+pub mod Spans
 pub mod Overlaps
 pub mod Laws
 pub mod Buffers

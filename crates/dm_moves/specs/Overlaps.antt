@@ -1,9 +1,9 @@
--- Regions that overlap: they share a place (LIM EMS 4.0, function 24).
+-- Spans that overlap: they share a place (LIM EMS 4.0, function 24).
 use Rattle.std.specs.Prelude.{ℕ, zero, suc, ◌==◌, ◌&&◌, ◌||◌, Bool, false}
 use Rattle.dm_space.specs.declared.place.Place.{Place}
 use Rattle.dm_space.specs.declared.place.Place.TheVariants.{Low, Page, Rom, Nothing}
 use Rattle.dm_space.specs.Memory.{Memory}
-use Rattle.dm_moves.specs.Regions.{Region, place_in}
+use Rattle.dm_moves.specs.Spans.{Span, place_in}
 
 -- both are one place, and not nothing
 abbrev pub is_shared : Place → Place → Bool
@@ -31,5 +31,5 @@ abbrev pub any_two : ℕ → ℕ → (ℕ → ℕ → Bool) → Bool
 any_two n l f = any_below n (λ i. any_below l (f i))
 
 -- a byte of the one and a byte of the other, of n bytes each, have one place
-unfoldable pub overlap : Memory → Region → Region → ℕ → Bool
+unfoldable pub overlap : Memory → Span → Span → ℕ → Bool
 overlap m from to n = any_two n n (λ i j. is_shared (place_in m from i) (place_in m to j))

@@ -1,10 +1,10 @@
-//! Bytes of regions, copied through the scratch bytes.
+//! Bytes of spans, copied through the scratch bytes.
 
 ghost use Rattle.std.specs.Prelude.{◌≡◌, ◌+◌, ◌%◌, ◌<◌, ◌≤◌};
 ghost use Rattle.dm_moves.specs.inner.Copying.{read_in, written_out};
-ghost use Rattle.dm_moves.specs.Regions.{moved, exchanged, IsInside};
+ghost use Rattle.dm_moves.specs.Spans.{moved, exchanged, IsInside};
 
-use crate::regions::{Kind, PAGE, Region};
+use crate::spans::{PAGE, Span, SpanKind};
 use dm_space::Space;
 
 /// How many of the next `left` bytes have places side by side for sure, from a byte on.
@@ -17,73 +17,73 @@ pub(crate) fn run_len(at: usize, left: usize) -> usize
     (PAGE - at % PAGE).min(left)
 }
 
-/// Reads `len` bytes of a region from its byte `k` on, a run of them, into the scratch bytes from `at` on.
-fn read_run(space: &mut Space, region: &Region, k: usize, at: usize, len: usize)
-    requires inside { IsInside space.old.memory region.now (k + len) }
+/// Reads `len` bytes of a span from its byte `k` on, a run of them, into the scratch bytes from `at` on.
+fn read_run(space: &mut Space, span: &Span, k: usize, at: usize, len: usize)
+    requires inside { IsInside space.old.memory span.now (k + len) }
     requires some { 0 < len }
-    requires run { (region.now.start + k) % 0x4000 + len ≤ 0x4000 }
+    requires run { (span.now.start + k) % 0x4000 + len ≤ 0x4000 }
     requires scratch { at + len ≤ 0x200000 }
-    ensures { space.new ≡ read_in space.old region.now k at len }
+    ensures { space.new ≡ read_in space.old span.now k at len }
 {
     let _sizes = space.a20();
-    let from = region.at(k);
-    match region.kind() {
-        Kind::Linear => space.copy_in(from, at, len),
-        Kind::Pages => space.copy_block_in(region.blocks()[from / PAGE], from % PAGE, at, len),
-        Kind::Single => space.copy_block_in(region.blocks()[0], from, at, len),
+    let from = span.at(k);
+    match span.kind() {
+        SpanKind::Linear => space.copy_in(from, at, len),
+        SpanKind::Pages => space.copy_block_in(span.blocks()[from / PAGE], from % PAGE, at, len),
+        SpanKind::Single => space.copy_block_in(span.blocks()[0], from, at, len),
     }
 }
 
-/// Writes `len` scratch bytes from `at` on to a run of a region, from its byte `k` on.
-fn write_run(space: &mut Space, region: &Region, k: usize, at: usize, len: usize)
-    requires inside { IsInside space.old.memory region.now (k + len) }
+/// Writes `len` scratch bytes from `at` on to a run of a span, from its byte `k` on.
+fn write_run(space: &mut Space, span: &Span, k: usize, at: usize, len: usize)
+    requires inside { IsInside space.old.memory span.now (k + len) }
     requires some { 0 < len }
-    requires run { (region.now.start + k) % 0x4000 + len ≤ 0x4000 }
+    requires run { (span.now.start + k) % 0x4000 + len ≤ 0x4000 }
     requires scratch { at + len ≤ 0x200000 }
-    ensures { space.new ≡ written_out space.old region.now k at len }
+    ensures { space.new ≡ written_out space.old span.now k at len }
 {
     let _sizes = space.a20();
-    let to = region.at(k);
-    match region.kind() {
-        Kind::Linear => space.copy_out(at, to, len),
-        Kind::Pages => space.copy_block_out(at, region.blocks()[to / PAGE], to % PAGE, len),
-        Kind::Single => space.copy_block_out(at, region.blocks()[0], to, len),
+    let to = span.at(k);
+    match span.kind() {
+        SpanKind::Linear => space.copy_out(at, to, len),
+        SpanKind::Pages => space.copy_block_out(at, span.blocks()[to / PAGE], to % PAGE, len),
+        SpanKind::Single => space.copy_block_out(at, span.blocks()[0], to, len),
     }
 }
 
-/// Reads the first `len` bytes of a region into the scratch bytes from `at` on.
-fn read(space: &mut Space, region: &Region, at: usize, len: usize)
-    requires inside { IsInside space.old.memory region.now len }
+/// Reads the first `len` bytes of a span into the scratch bytes from `at` on.
+fn read(space: &mut Space, span: &Span, at: usize, len: usize)
+    requires inside { IsInside space.old.memory span.now len }
     requires scratch { at + len ≤ 0x200000 }
-    ensures { space.new ≡ read_in space.old region.now 0 at len }
+    ensures { space.new ≡ read_in space.old span.now 0 at len }
 {
     let _sizes = space.a20();
     let mut done = 0;
     while done < len {
-        let run = run_len(region.at(done), len - done);
-        read_run(space, region, done, at + done, run);
+        let run = run_len(span.at(done), len - done);
+        read_run(space, span, done, at + done, run);
         done += run;
     }
 }
 
-/// Writes `len` scratch bytes from `at` on to the first bytes of a region, upwards.
-fn write(space: &mut Space, at: usize, region: &Region, len: usize)
-    requires inside { IsInside space.old.memory region.now len }
+/// Writes `len` scratch bytes from `at` on to the first bytes of a span, upwards.
+fn write(space: &mut Space, at: usize, span: &Span, len: usize)
+    requires inside { IsInside space.old.memory span.now len }
     requires scratch { at + len ≤ 0x200000 }
-    ensures { space.new ≡ written_out space.old region.now 0 at len }
+    ensures { space.new ≡ written_out space.old span.now 0 at len }
 {
     let _sizes = space.a20();
     let mut done = 0;
     while done < len {
-        let run = run_len(region.at(done), len - done);
-        write_run(space, region, done, at + done, run);
+        let run = run_len(span.at(done), len - done);
+        write_run(space, span, done, at + done, run);
         done += run;
     }
 }
 
-/// Moves `len` bytes of a region to another: the source is read whole, and then written upwards. The scratch bytes are
+/// Moves `len` bytes of a span to another: the source is read whole, and then written upwards. The scratch bytes are
 /// overwritten.
-pub fn move_bytes(space: &mut Space, from: &Region, to: &Region, len: usize)
+pub fn move_bytes(space: &mut Space, from: &Span, to: &Span, len: usize)
     requires from { IsInside space.old.memory from.now len }
     requires to { IsInside space.old.memory to.now len }
     requires scratch { len ≤ 0x200000 }
@@ -96,8 +96,8 @@ pub fn move_bytes(space: &mut Space, from: &Region, to: &Region, len: usize)
 
 /// Moves `len` bytes of one block to another, or within one: the source is read whole, and then written upwards. The
 /// scratch bytes stay as they are, so `len` may be more than they are.
-pub fn move_blocks(space: &mut Space, from: &Region, to: &Region, len: usize)
-    requires blocks { (from.now.kind ≡ Kind.Single) × (to.now.kind ≡ Kind.Single) }
+pub fn move_blocks(space: &mut Space, from: &Span, to: &Span, len: usize)
+    requires blocks { (from.now.kind ≡ SpanKind.Single) × (to.now.kind ≡ SpanKind.Single) }
     requires from { IsInside space.old.memory from.now len }
     requires to { IsInside space.old.memory to.now len }
     ensures memory { space.new.memory ≡ moved space.old.memory from.now to.now len }
@@ -111,9 +111,9 @@ pub fn move_blocks(space: &mut Space, from: &Region, to: &Region, len: usize)
     space.move_bytes(source, from.at(0), destination, to.at(0), len);
 }
 
-/// Exchanges `len` bytes of two regions: both are read whole, and then each is written upwards where the other was. The
+/// Exchanges `len` bytes of two spans: both are read whole, and then each is written upwards where the other was. The
 /// scratch bytes are overwritten.
-pub fn exchange_bytes(space: &mut Space, from: &Region, to: &Region, len: usize)
+pub fn exchange_bytes(space: &mut Space, from: &Span, to: &Span, len: usize)
     requires from { IsInside space.old.memory from.now len }
     requires to { IsInside space.old.memory to.now len }
     requires scratch { len ≤ 0x100000 }

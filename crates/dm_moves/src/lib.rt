@@ -1,6 +1,6 @@
-//! Regions of memory that are moved and exchanged, and whether they overlap (LIM EMS 4.0, function 24).
+//! Spans of memory that are moved and exchanged, and whether they overlap (LIM EMS 4.0, function 24).
 //!
-//! A region is read whole into the scratch bytes of the space before a byte of another is written. Bytes are copied by
+//! A span is read whole into the scratch bytes of the space before a byte of another is written. Bytes are copied by
 //! runs, whose places lie side by side.
 #![tactic(auto)]
 
@@ -8,10 +8,10 @@ mod buffers;
 mod copies;
 mod laws;
 mod overlaps;
-mod regions;
+mod spans;
 
 pub use buffers::{byte_after, word_after};
 pub use copies::{exchange_bytes, move_blocks, move_bytes};
 pub use laws::moves_keep_the_map;
 pub use overlaps::overlap;
-pub use regions::{Kind, Region};
+pub use spans::{Span, SpanKind};

@@ -1,12 +1,12 @@
-//! Whether regions overlap: whether they share a place.
+//! Whether spans overlap: whether they share a place.
 
 ghost use Rattle.std.specs.Prelude.{◌≡◌, ◌==◌, ◌+◌, ◌<◌};
 ghost use Rattle.dm_space.specs.inner.Runs.{shift};
 ghost use Rattle.dm_moves.specs.Overlaps.{is_shared, any_two, overlap};
-ghost use Rattle.dm_moves.specs.Regions.{place_in, IsInside};
+ghost use Rattle.dm_moves.specs.Spans.{place_in, IsInside};
 
 use crate::copies::run_len;
-use crate::regions::Region;
+use crate::spans::Span;
 use dm_space::{Place, Space};
 
 /// Whether the `n` numbers from `a` on and the `l` numbers from `b` on have one in common.
@@ -59,16 +59,16 @@ fn runs_meet(p: Place, n: usize, q: Place, l: usize) -> bool
     }
 }
 
-/// Whether the `n` places from one on and the first `len` bytes of a region share a place.
-fn run_meets(space: &Space, p: &Place, n: usize, region: &Region, len: usize) -> bool
+/// Whether the `n` places from one on and the first `len` bytes of a span share a place.
+fn run_meets(space: &Space, p: &Place, n: usize, span: &Span, len: usize) -> bool
     requires n { 0 < n }
-    requires inside { IsInside space.now.memory region.now len }
-    ensures { result ≡ any_two n len (λ i j. is_shared (shift p.now i) (place_in space.now.memory region.now j)) }
+    requires inside { IsInside space.now.memory span.now len }
+    ensures { result ≡ any_two n len (λ i j. is_shared (shift p.now i) (place_in space.now.memory span.now j)) }
 {
     let mut done = 0;
     while done < len {
-        let run = run_len(region.at(done), len - done);
-        if runs_meet(*p, n, region.place(space, done), run) {
+        let run = run_len(span.at(done), len - done);
+        if runs_meet(*p, n, span.place(space, done), run) {
             return true;
         }
         done += run;
@@ -76,9 +76,9 @@ fn run_meets(space: &Space, p: &Place, n: usize, region: &Region, len: usize) ->
     false
 }
 
-/// Whether the first `len` bytes of two regions share a place that is memory or ROM.
+/// Whether the first `len` bytes of two spans share a place that is memory or ROM.
 #[tactic(auto, unfolding(crate::specs::Overlaps::overlap))]
-pub fn overlap(space: &Space, from: &Region, to: &Region, len: usize) -> bool
+pub fn overlap(space: &Space, from: &Span, to: &Span, len: usize) -> bool
     requires from { IsInside space.now.memory from.now len }
     requires to { IsInside space.now.memory to.now len }
     ensures { result ≡ overlap space.now.memory from.now to.now len }

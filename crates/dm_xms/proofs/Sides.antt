@@ -1,10 +1,10 @@
 -- What the kind of a side tells.
 use Rattle.std.proofs.Common.{◌≡◌, true, refl}
-use Rattle.dm_moves.specs.declared.regions.Kind.{Kind}
-use Rattle.dm_moves.specs.declared.regions.Kind.TheVariants.{Linear, Pages, Single}
+use Rattle.dm_moves.specs.declared.spans.SpanKind.{SpanKind}
+use Rattle.dm_moves.specs.declared.spans.SpanKind.TheVariants.{Linear, Pages, Single}
 use Rattle.dm_xms.specs.inner.Sides.{is_single}
 
-pub single_kind : (k : Kind) → is_single k ≡ true → k ≡ Single
+pub single_kind : (k : SpanKind) → is_single k ≡ true → k ≡ Single
 single_kind Linear e = absurd cc
 single_kind Pages e = absurd cc
 single_kind Single e = refl

@@ -2,8 +2,8 @@
 use Rattle.std.specs.Prelude.{ℕ, ◌+◌, ◌*◌, ◌/◌, ◌%◌, nat_lt, ◌==◌, ◌||◌, if◌then◌else◌, [], ◌∷◌, Result, Ok, Err}
 use Rattle.dm_space.specs.Memory.{Memory}
 use Rattle.dm_moves.specs.Buffers.{word_after}
-use Rattle.dm_moves.specs.declared.regions.Kind.TheVariants.{Linear, Single}
-use Rattle.dm_moves.specs.Regions.{region, moved}
+use Rattle.dm_moves.specs.declared.spans.SpanKind.TheVariants.{Linear, Single}
+use Rattle.dm_moves.specs.Spans.{span, moved}
 use Rattle.dm_xms.specs.declared.status.Status.{Status}
 use Rattle.dm_xms.specs.declared.status.Status.TheVariants.{UnknownSource, PastSource, UnknownDestination, PastDestination, BadLength}
 use Rattle.dm_xms.specs.declared.tables.Handle.{Handle}
@@ -27,10 +27,10 @@ described m segment offset k = record { handle = word_after m segment offset k; 
 
 -- handle 0 is memory below the end of the high memory area: its offset is an offset and a segment, met with A20 on
 abbrev pub conventional : ℕ → Side
-conventional offset = record { region = region Linear (offset / 65536 * 16 + offset % 65536) []; end = 0x10FFF0 }
+conventional offset = record { region = span Linear (offset / 65536 * 16 + offset % 65536) []; end = 0x10FFF0 }
 
 abbrev pub of_block : Handle → ℕ → Side
-of_block s offset = record { region = region Single offset (s.block ∷ []); end = 0x400 * s.kib }
+of_block s offset = record { region = span Single offset (s.block ∷ []); end = 0x400 * s.kib }
 
 -- the side that is described, or which of two refusals
 unfoldable pub side : Extended → Description → Status → Status → Result Side Status

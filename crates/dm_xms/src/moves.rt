@@ -9,7 +9,7 @@ ghost use Rattle.dm_xms.specs.Moves.{double_after, described, side, move_between
 
 use crate::status::Status;
 use crate::tables::{Handle, Xms};
-use dm_moves::{Kind, Region, move_blocks, move_bytes, word_after};
+use dm_moves::{Span, SpanKind, move_blocks, move_bytes, word_after};
 use dm_space::Space;
 
 /// Where memory that has addresses ends: after the high memory area.
@@ -37,7 +37,7 @@ pub struct Description {
 #[derive(Drop)]
 pub struct Side {
     /// Where it begins.
-    pub region: Region,
+    pub region: Span,
     /// Where the memory ends in which it lies, counted as the region's start.
     pub end: usize,
 }
@@ -68,9 +68,9 @@ fn is_single(side: &Side) -> bool
     ensures { result ≡ is_single side.now.region.kind }
 {
     match side.region.kind() {
-        Kind::Linear => false,
-        Kind::Pages => false,
-        Kind::Single => true,
+        SpanKind::Linear => false,
+        SpanKind::Pages => false,
+        SpanKind::Single => true,
     }
 }
 
@@ -118,7 +118,7 @@ impl Xms {
         let offset = described.offset as usize;
         if described.handle == 0 {
             let start = offset / 0x1_0000 * 16 + offset % 0x1_0000;
-            let region = Region::linear(start);
+            let region = Span::linear(start);
             return Ok(Side { region, end: END });
         }
         let Some(slot) = self.handle(described.handle) else {
@@ -128,7 +128,7 @@ impl Xms {
         if offset > end {
             return Err(past);
         }
-        let region = Region::block(slot.block, offset);
+        let region = Span::block(slot.block, offset);
         Ok(Side { region, end })
     }
 

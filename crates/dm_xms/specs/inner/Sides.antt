@@ -1,12 +1,12 @@
 -- Where the bytes of a side of a move lie. No public contract mentions it.
 use Rattle.std.specs.Prelude.{◌≡◌, ◌⊎◌, ℕ, ◌+◌, ◌≤◌, ◌<◌, ◌^◌, Bool, true, false}
 use Rattle.dm_space.specs.Memory.{Memory}
-use Rattle.dm_moves.specs.declared.regions.Kind.{Kind}
-use Rattle.dm_moves.specs.declared.regions.Kind.TheVariants.{Linear, Pages, Single}
-use Rattle.dm_moves.specs.Regions.{IsInside}
+use Rattle.dm_moves.specs.declared.spans.SpanKind.{SpanKind}
+use Rattle.dm_moves.specs.declared.spans.SpanKind.TheVariants.{Linear, Pages, Single}
+use Rattle.dm_moves.specs.Spans.{IsInside}
 use Rattle.dm_xms.specs.declared.moves.Side.{Side}
 
-abbrev pub is_single : Kind → Bool
+abbrev pub is_single : SpanKind → Bool
 is_single Linear = false
 is_single Pages = false
 is_single Single = true

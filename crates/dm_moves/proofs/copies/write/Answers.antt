@@ -2,7 +2,7 @@ use Rattle.std.proofs.Common.{◌+◌, ap, ◌∙◌, sym, subst, arith}
 use Rattle.dm_region.specs.Parts.{part}
 use Rattle.dm_space.specs.Memory.{Held}
 use Rattle.dm_moves.specs.inner.Copying.{written_out}
-use Rattle.dm_moves.specs.Regions.{IsInside}
+use Rattle.dm_moves.specs.Spans.{IsInside}
 use Rattle.dm_moves.proofs.Inside.{inside-less, inside-shaped}
 use Rattle.dm_moves.proofs.Shapes.{stored-shaped}
 use Rattle.dm_moves.proofs.Runs.{write-more}
@@ -10,7 +10,7 @@ use Rattle.dm_moves.proofs.copies.write.Goals as goal
 
 pub write_run-requires-clause-inside : goal.write_run-requires-clause-inside
 write_run-requires-clause-inside c =
-    let a = c.args in let h = a.space.now in let r = a.region.now in
+    let a = c.args in let h = a.space.now in let r = a.span.now in
     let done = c.loop-done.done in let run = c.run_len-run.result in
     let then = inside-less _ r (done + run) a.len (omega (arith, c.loop-done.invariant.within, c.run_len-run.ensures.left)) (inside-shaped h.memory _ r a.len (stored-shaped h.memory r 0 (part h.scratch a.at done)) c.requires.inside) in
     subst (λ (g : Held). IsInside g.memory r (done + run)) (sym c.loop-done.invariant.copied) then
@@ -20,6 +20,6 @@ loop-done-preserved c =
     let a = c.args in let done = c.loop-done.done in let run = c.run_len-run.result in
     record {
       within = omega (arith, c.loop-done.invariant.within, c.run_len-run.ensures.left);
-      copied = c.write_run.ensures ∙ ap (λ (h : Held). written_out h a.region.now done (a.at + done) run) c.loop-done.invariant.copied
-          ∙ write-more a.space.now a.region.now a.at done run (omega (arith, c.requires.scratch, c.loop-done.invariant.within, c.a20-sizes.ensures.held.scratch_length));
+      copied = c.write_run.ensures ∙ ap (λ (h : Held). written_out h a.span.now done (a.at + done) run) c.loop-done.invariant.copied
+          ∙ write-more a.space.now a.span.now a.at done run (omega (arith, c.requires.scratch, c.loop-done.invariant.within, c.a20-sizes.ensures.held.scratch_length));
     }

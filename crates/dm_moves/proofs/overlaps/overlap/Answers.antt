@@ -1,9 +1,9 @@
 use Rattle.std.proofs.Common.{◌+◌, ◌%◌, ◌≤◌, sym, ◌∙◌, ap, arith}
 use Rattle.dm_space.specs.inner.Runs.{shift}
-use Rattle.dm_moves.specs.Regions.{place_in}
+use Rattle.dm_moves.specs.Spans.{place_in}
 use Rattle.dm_moves.specs.Overlaps.{is_shared, any_two}
 use Rattle.dm_moves.proofs.Inside.{inside-less}
-use Rattle.dm_moves.proofs.Meets.{regions-apart, regions-shared, regions-all}
+use Rattle.dm_moves.proofs.Meets.{spans-apart, spans-shared, spans-all}
 use Rattle.dm_moves.proofs.overlaps.overlap.Goals as goal
 
 pub returns-then-run_meets : goal.returns-then-run_meets
@@ -12,7 +12,7 @@ returns-then-run_meets c =
     let le : done + run ≤ a.len = omega (arith, c.loop-done.invariant.within, c.run_len-run.ensures.left) in
     let cell : (r.start + done) % 0x4000 + run ≤ 0x4000 = omega (arith, c.at.ensures, c.run_len-run.ensures.run) in
     let met = c.if-run_meets.ensures ∙ ap (λ q. any_two run a.len (λ i j. is_shared (shift q i) (place_in m a.to.now j))) c.place.ensures in
-    sym (regions-shared m r a.to.now done run a.len (inside-less m r (done + run) a.len le c.requires.from) cell le (sym met))
+    sym (spans-shared m r a.to.now done run a.len (inside-less m r (done + run) a.len le c.requires.from) cell le (sym met))
 
 pub loop-done-preserved : goal.loop-done-preserved
 loop-done-preserved c =
@@ -20,7 +20,7 @@ loop-done-preserved c =
     let le : done + run ≤ a.len = omega (arith, c.loop-done.invariant.within, c.run_len-run.ensures.left) in
     let cell : (r.start + done) % 0x4000 + run ≤ 0x4000 = omega (arith, c.at.ensures, c.run_len-run.ensures.run) in
     let apart = c.if-run_meets.ensures ∙ ap (λ q. any_two run a.len (λ i j. is_shared (shift q i) (place_in m a.to.now j))) c.place.ensures in
-    record { within = le; apart = regions-apart m r a.to.now done run a.len (inside-less m r (done + run) a.len le c.requires.from) cell (sym apart) c.loop-done.invariant.apart }
+    record { within = le; apart = spans-apart m r a.to.now done run a.len (inside-less m r (done + run) a.len le c.requires.from) cell (sym apart) c.loop-done.invariant.apart }
 
 pub returns : goal.returns
-returns c = let a = c.args in sym (regions-all a.space.now.memory a.from.now a.to.now c.loop-done.done a.len c.loop-done-test.false c.loop-done.invariant.apart)
+returns c = let a = c.args in sym (spans-all a.space.now.memory a.from.now a.to.now c.loop-done.done a.len c.loop-done-test.false c.loop-done.invariant.apart)

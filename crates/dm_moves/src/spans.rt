@@ -1,7 +1,7 @@
-//! Regions of memory.
+//! Spans of memory.
 
 ghost use Rattle.std.specs.Prelude.{◌≡◌, ◌+◌, ◌^◌, ◌<◌, ◌∷◌, []};
-ghost use Rattle.dm_moves.specs.Regions.{region, place_in, IsInside};
+ghost use Rattle.dm_moves.specs.Spans.{span, place_in, IsInside};
 
 use arrayvec::ArrayVec;
 use dm_pool::Block;
@@ -11,9 +11,9 @@ use std::marker::Model;
 /// How many bytes a page of expanded memory has.
 pub(crate) const PAGE: usize = 0x4000;
 
-/// What a region lies in.
+/// What a span lies in.
 #[derive(Clone, Copy, Debug, PartialEq, Eq)]
-pub enum Kind {
+pub enum SpanKind {
     /// Linear addresses, with A20 on.
     Linear,
     /// Pages, one behind the other.
@@ -22,60 +22,60 @@ pub enum Kind {
     Single,
 }
 
-/// Where a region begins. Its bytes are counted from there; how many there are is told where it is used.
+/// Where a span begins. Its bytes are counted from there; how many there are is told where it is used.
 #[derive(Drop)]
-pub struct Region {
-    kind: Kind,
+pub struct Span {
+    kind: SpanKind,
     start: usize,
     blocks: ArrayVec<Block, 512>,
 }
 
-impl Model for Region {
-    ghost use Rattle.dm_moves.specs.Regions.{Region, region};
+impl Model for Span {
+    ghost use Rattle.dm_moves.specs.Spans.{Span, span};
 
-    ghost Value = { Region };
+    ghost Value = { Span };
 
-    ghost view = { λ r. region r.kind r.start r.blocks.items };
+    ghost view = { λ r. span r.kind r.start r.blocks.items };
 }
 
-impl Region {
-    /// The region from a linear address on.
-    pub fn linear(address: usize) -> Region
-        ensures { result ≡ region Kind.Linear address [] }
+impl Span {
+    /// The span from a linear address on.
+    pub fn linear(address: usize) -> Span
+        ensures { result ≡ span SpanKind.Linear address [] }
     {
-        Region {
-            kind: Kind::Linear,
+        Span {
+            kind: SpanKind::Linear,
             start: address,
             blocks: ArrayVec::new(),
         }
     }
 
-    /// The region from a byte of pages on, which are counted through.
-    pub fn pages(blocks: ArrayVec<Block, 512>, start: usize) -> Region
-        ensures { result ≡ region Kind.Pages start blocks.items }
+    /// The span from a byte of pages on, which are counted through.
+    pub fn pages(blocks: ArrayVec<Block, 512>, start: usize) -> Span
+        ensures { result ≡ span SpanKind.Pages start blocks.items }
     {
-        Region {
-            kind: Kind::Pages,
+        Span {
+            kind: SpanKind::Pages,
             start,
             blocks,
         }
     }
 
-    /// The region from a byte of a block on.
-    pub fn block(block: Block, start: usize) -> Region
-        ensures { result ≡ region Kind.Single start (block ∷ []) }
+    /// The span from a byte of a block on.
+    pub fn block(block: Block, start: usize) -> Span
+        ensures { result ≡ span SpanKind.Single start (block ∷ []) }
     {
         let mut blocks = ArrayVec::new();
         blocks.push(block);
-        Region {
-            kind: Kind::Single,
+        Span {
+            kind: SpanKind::Single,
             start,
             blocks,
         }
     }
 
     /// What it lies in.
-    pub fn kind(&self) -> Kind
+    pub fn kind(&self) -> SpanKind
         ensures { result ≡ self.now.kind }
     {
         self.kind
@@ -102,9 +102,9 @@ impl Region {
     {
         let at = self.start + k;
         match self.kind {
-            Kind::Linear => space.place(at),
-            Kind::Pages => Place::Page(self.blocks.as_slice()[at / PAGE], at % PAGE),
-            Kind::Single => Place::Page(self.blocks.as_slice()[0], at),
+            SpanKind::Linear => space.place(at),
+            SpanKind::Pages => Place::Page(self.blocks.as_slice()[at / PAGE], at % PAGE),
+            SpanKind::Single => Place::Page(self.blocks.as_slice()[0], at),
         }
     }
 }

@@ -1,4 +1,4 @@
--- Regions of memory, and what a move or an exchange of two of them leaves (LIM EMS 4.0, function 24): bytes are read
+-- Spans of memory, and what a move or an exchange of two of them leaves (LIM EMS 4.0, function 24): bytes are read
 -- through places.
 use Rattle.std.specs.Prelude.{◌≡◌, ℕ, suc, ◌+◌, ◌*◌, ◌/◌, ◌%◌, ◌≤◌, ◌<◌, List, [], ◌∷◌, length, slice_index}
 use Rattle.dm_pool.specs.Blocks.{IsLive}
@@ -6,59 +6,59 @@ use Rattle.dm_space.specs.declared.place.Place.{Place}
 use Rattle.dm_space.specs.declared.place.Place.TheVariants.{Page}
 use Rattle.dm_space.specs.Memory.{Memory, place, byte_at, with_byte, page_bytes, IsPage}
 use Rattle.dm_space.specs.Copies.{values}
-use Rattle.dm_moves.specs.declared.regions.Kind.{Kind}
-use Rattle.dm_moves.specs.declared.regions.Kind.TheVariants.{Linear, Pages, Single}
+use Rattle.dm_moves.specs.declared.spans.SpanKind.{SpanKind}
+use Rattle.dm_moves.specs.declared.spans.SpanKind.TheVariants.{Linear, Pages, Single}
 
-pub record Region : Type 0 where
-  pub kind : Kind
+pub record Span : Type 0 where
+  pub kind : SpanKind
   -- where it begins: a linear address; a byte of the pages, counted through; a byte of the one block
   pub start : ℕ
   -- the blocks of the pages, or the one block
   pub blocks : List ℕ
 
-abbrev pub region : Kind → ℕ → List ℕ → Region
-region kind start blocks = record { kind = kind; start = start; blocks = blocks }
+abbrev pub span : SpanKind → ℕ → List ℕ → Span
+span kind start blocks = record { kind = kind; start = start; blocks = blocks }
 
 -- the place of a byte, counted from linear address 0, or from the first byte of the pages or of the block
-abbrev pub spot : Memory → Kind → List ℕ → ℕ → Place
+abbrev pub spot : Memory → SpanKind → List ℕ → ℕ → Place
 spot m Linear blocks a = place m a
 spot m Pages blocks a = Page (slice_index blocks (a / 0x4000)) (a % 0x4000)
 spot m Single blocks a = Page (slice_index blocks 0) a
 
--- the place of byte k of a region; linear addresses are those that are met with A20 on
-abbrev pub place_in : Memory → Region → ℕ → Place
+-- the place of byte k of a span; linear addresses are those that are met with A20 on
+abbrev pub place_in : Memory → Span → ℕ → Place
 place_in m r k = spot m r.kind r.blocks (r.start + k)
 
 -- ---- bytes
 
-abbrev pub byte_in : Memory → Region → ℕ → ℕ
+abbrev pub byte_in : Memory → Span → ℕ → ℕ
 byte_in m r k = byte_at m (place_in m r k)
 
--- the first n bytes of a region
-abbrev pub bytes_in : Memory → Region → ℕ → List ℕ
+-- the first n bytes of a span
+abbrev pub bytes_in : Memory → Span → ℕ → List ℕ
 bytes_in m r n = values (byte_in m r) 0 n
 
 -- bytes written upwards, the first of them as byte k
-abbrev pub stored : Memory → Region → ℕ → List ℕ → Memory
+abbrev pub stored : Memory → Span → ℕ → List ℕ → Memory
 stored m r k [] = m
 stored m r k (v ∷ vs) = stored (with_byte m (place_in m r k) v) r (suc k) vs
 
 -- the whole source is read, and then written
-abbrev pub moved : Memory → Region → Region → ℕ → Memory
+abbrev pub moved : Memory → Span → Span → ℕ → Memory
 moved m from to n = stored m to 0 (bytes_in m from n)
 
 -- both are read, and then each is written where the other was
-abbrev pub exchanged : Memory → Region → Region → ℕ → Memory
+abbrev pub exchanged : Memory → Span → Span → ℕ → Memory
 exchanged m from to n = stored (stored m to 0 (bytes_in m from n)) from 0 (bytes_in m to n)
 
--- ---- where a region of n bytes may lie
+-- ---- where a span of n bytes may lie
 
 -- up to linear address 10FFF0h, within pages, or within a block
-abbrev pub IsWithin : Memory → Kind → List ℕ → ℕ → Type 0
+abbrev pub IsWithin : Memory → SpanKind → List ℕ → ℕ → Type 0
 IsWithin m Linear blocks end = end ≤ 0x10FFF0
 IsWithin m Pages blocks end = (end ≤ 0x4000 * length blocks) × ((k : ℕ) → k < length blocks → IsPage m (slice_index blocks k))
 IsWithin m Single blocks end = (length blocks ≡ 1) × IsLive m.blocks (slice_index blocks 0) × (end ≤ length (page_bytes m (slice_index blocks 0)))
 
-pub record IsInside (m : Memory) (r : Region) (n : ℕ) : Type 0 where
+pub record IsInside (m : Memory) (r : Span) (n : ℕ) : Type 0 where
   pub small : r.start + n < 0x100000000
   pub within : IsWithin m r.kind r.blocks (r.start + n)
