@@ -126,7 +126,7 @@ unfolding byte_digits all_words is_begun word_token
 byte_number n h =
     let a = is_digit (n / 16) (omega arith) in
     let b = is_digit (n % 16) (omega arith) in
-    record { words = rw (a.word, b.word) refl; token = rw (a.upper, b.upper, two n h) refl; begun = refl }
+    record { words = rw (a.word, b.word) refl; token = rw (a.uppercase, b.uppercase, two n h) refl; begun = refl }
 
 word_number : (n : ℕ) → n < 65536 → IsNumber (word_digits n) n
 unfolding word_digits all_words is_begun word_token
@@ -137,7 +137,7 @@ word_number n h =
     let d = is_digit (n % 16) (omega arith) in
     record {
       words = rw (a.word, b.word, c.word, d.word) refl;
-      token = rw (a.upper, b.upper, c.upper, d.upper, spelled (n / 4096) (n / 256 % 16) (n / 16 % 16) (n % 16) n (omega arith) (omega arith) (omega arith) (omega arith) (omega arith)) refl;
+      token = rw (a.uppercase, b.uppercase, c.uppercase, d.uppercase, spelled (n / 4096) (n / 256 % 16) (n / 16 % 16) (n % 16) n (omega arith) (omega arith) (omega arith) (omega arith) (omega arith)) refl;
       begun = refl;
     }
 
