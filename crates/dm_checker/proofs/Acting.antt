@@ -13,7 +13,7 @@ use Rattle.dm_services.specs.declared.services.Service.{Service}
 use Rattle.dm_services.specs.Services.{service_at}
 use Rattle.dm_drivers.specs.declared.drivers.Driver.{Driver}
 use Rattle.dm_drivers.specs.Drivers.{driver_at}
-use Rattle.dm_machine.specs.Step.{Steps, Runs, Acts, Drives, Instructs, listed, unlisted, Begins, fetched, after}
+use Rattle.dm_machine.specs.Step.{MakesStep, Runs, Acts, Drives, Instructs, listed, unlisted, BeginsWith, fetched, after}
 use Rattle.dm_machine.specs.Run.{Answers}
 use Rattle.dm_findings.specs.declared.calls.Call.{Call}
 use Rattle.dm_findings.specs.declared.finding.Act.TheVariants as act
@@ -25,12 +25,12 @@ use Rattle.dm_checker.specs.inner.Steps.{IsBefore, IsUnlisted}
 pub call_acts : (b : Before) (call : Call) → b.call ≡ Some call → (s : State) → IsBefore s b → IsAct s (act.Call call)
 call_acts b call e s h = called call (sym h.call ∙ e) refl
 
-begins : (bytes : List ℕ) (o : Option (Ins × ℕ)) (i : Ins) (k : ℕ) → Decodes bytes o → o ≡ Some (i, k) → Begins bytes i k
+begins : (bytes : List ℕ) (o : Option (Ins × ℕ)) (i : Ins) (k : ℕ) → Decodes bytes o → o ≡ Some (i, k) → BeginsWith bytes i k
 begins bytes o i k d e = let both = (d i k).0 e in record { short = both.0; spells = both.1 }
 
 pub instruction_acts : (b : Before) (o : Option (Ins × ℕ)) (i : Ins) (k behind : ℕ) → b.call ≡ None → Decodes b.bytes o → o ≡ Some (i, k) → behind ≡ up b.cpu.ip k → (s : State) → IsBefore s b → IsAct s (act.Instruction i behind)
 instruction_acts b o i k behind none d e is s h =
-    let F : List ℕ → Type 0 = λ bytes. Begins bytes i k in
+    let F : List ℕ → Type 0 = λ bytes. BeginsWith bytes i k in
     instructed i k (sym h.call ∙ none) (subst F h.bytes (begins b.bytes o i k d e))
     (ap (λ (n : ℕ). act.Instruction i n) (is ∙ ap (λ (c : Cpu). up c.ip k) h.cpu))
 
@@ -40,8 +40,8 @@ some_none a e = cc
 pub nothing_acts : (b : Before) (o : Option (Ins × ℕ)) → b.call ≡ None → Decodes b.bytes o → o ≡ None → (s : State) → IsBefore s b → IsUnlisted s
 nothing_acts b o none d e s h = record {
   call = sym h.call ∙ none;
-  none = λ i k x. (let F : List ℕ → Type 0 = λ bytes. Begins bytes i k in
-      let y : Begins b.bytes i k = subst F (sym h.bytes) x in
+  none = λ i k x. (let F : List ℕ → Type 0 = λ bytes. BeginsWith bytes i k in
+      let y : BeginsWith b.bytes i k = subst F (sym h.bytes) x in
       some_none (i, k) (sym ((d i k).1 (y.short, y.spells)) ∙ e));
 }
 
@@ -57,7 +57,7 @@ uncalled_acts : (s : State) (x : Answer) → call_of s.cpu ≡ None → Acts s (
 unfolding call_of
 uncalled_acts s x none h = uncalled s x (service_at s.cpu) (driver_at s.cpu) refl none h
 
-unlisted_acts : (s t : State) → ((i : Ins) (k : ℕ) → Begins (fetched s.memory s.cpu) i k → ⊥) → Instructs s (record { stop = None; state = t }) → ⊥
+unlisted_acts : (s t : State) → ((i : Ins) (k : ℕ) → BeginsWith (fetched s.memory s.cpu) i k → ⊥) → Instructs s (record { stop = None; state = t }) → ⊥
 unlisted_acts s t none (listed i k b e) = none i k b
 unlisted_acts s t none (unlisted f e) = (let stop : None ≡ Some Unlisted = ap (λ (x : Answer). x.stop) e in cc)
 
@@ -67,7 +67,7 @@ unlisted_runs s t None u h = unlisted_acts s t u.none (uncalled_acts s _ u.call 
 
 -- a step that was made began with a call or an instruction
 pub unlisted_stops : (s t : State) → IsUnlisted s → Answers s None t → ⊥
-unfolding Steps
+unfolding MakesStep
 unlisted_stops s t u h = unlisted_runs s t s.exited u h
 
 -- ---- exits without a call
@@ -86,5 +86,5 @@ exits_over s t code None none h = absurd (instructs_none s t code (uncalled_acts
 
 -- the program had ended before
 pub exit_changes_nothing : (s t : State) (code : ℕ) → call_of s.cpu ≡ None → Answers s (Some (Exited code)) t → t ≡ s
-unfolding Steps
+unfolding MakesStep
 exit_changes_nothing s t code none h = exits_over s t code s.exited none h

@@ -10,7 +10,7 @@ use Rattle.dm_cpu.specs.Guest.{up}
 use Rattle.dm_state.specs.declared.stop.Stop.{Stop}
 use Rattle.dm_state.specs.declared.stop.Stop.TheVariants.{Exited, Steps as AllSteps, Halted, Unlisted, InputEnded, Destroyed, Memory as NoMemory}
 use Rattle.dm_state.specs.State.{State}
-use Rattle.dm_machine.specs.Step.{Begins, fetched}
+use Rattle.dm_machine.specs.Step.{BeginsWith, fetched}
 use Rattle.dm_machine.proofs.OneStop.{some-none}
 use Rattle.dm_findings.specs.declared.calls.Call.{Call}
 use Rattle.dm_findings.specs.declared.finding.Act.{Act}
@@ -39,7 +39,7 @@ record Same (i j : Ins) (k m : ℕ) : Type 0 where
   instruction : i ≡ j
   length_is : k ≡ m
 
-same-before : (bytes : List ℕ) (i j : Ins) (k m : ℕ) → length bytes ≡ 16 → k ≤ m → Begins bytes i k → Begins bytes j m → Same i j k m
+same-before : (bytes : List ℕ) (i j : Ins) (k m : ℕ) → length bytes ≡ 16 → k ≤ m → BeginsWith bytes i k → BeginsWith bytes j m → Same i j k m
 same-before bytes i j k m len h b c =
     let short = b.short in
     let long = c.short in
@@ -49,7 +49,7 @@ same-before bytes i j k m len h b c =
     let lengths : length (take k bytes) ≡ length (take m bytes) = ap length same.0 in
     record { instruction = same.1; length_is = omega (arith, length-take k bytes, length-take m bytes) }
 
-same-begins : (bytes : List ℕ) (i j : Ins) (k m : ℕ) → length bytes ≡ 16 → Begins bytes i k → Begins bytes j m → Same i j k m
+same-begins : (bytes : List ℕ) (i j : Ins) (k m : ℕ) → length bytes ≡ 16 → BeginsWith bytes i k → BeginsWith bytes j m → Same i j k m
 same-begins bytes i j k m len b c = elim (cases_lt k m) [
   | inl low ↦ same-before bytes i j k m len (omega arith) b c
   | inr high ↦ let s = same-before bytes j i m k len high c b in record { instruction = sym s.instruction; length_is = sym s.length_is }

@@ -4,7 +4,7 @@ use Rattle.std.proofs.lemmas.Bool.{cases_lt}
 use Rattle.dm_state.specs.declared.stop.Stop.{Stop}
 use Rattle.dm_state.specs.declared.stop.Stop.TheVariants.{Memory as NoMemory}
 use Rattle.dm_state.specs.State.{State}
-use Rattle.dm_machine.specs.Step.{Steps}
+use Rattle.dm_machine.specs.Step.{MakesStep}
 use Rattle.dm_machine.specs.Run.{Answers, Goes, StopsWithin}
 use Rattle.dm_machine.specs.Run as run
 use Rattle.dm_machine.proofs.OneRun.{goes-one}
@@ -30,7 +30,7 @@ record Last (s : State) (n : ℕ) (found : List Found) (u : State) : Type 0 wher
   front : List Found
   more : List Found
   finds : FindsIn s n before front
-  steps : Steps before (record { stop = None; state = u })
+  steps : MakesStep before (record { stop = None; state = u })
   at : FindsAt before u more
   is : found ≡ front ++ more
 

@@ -3,7 +3,7 @@ use Rattle.std.specs.Prelude.{◌≡◌, ℕ, ◌+◌, ◌<◌, ◌≤◌, if◌
 use Rattle.dm_state.specs.declared.stop.Stop.{Stop}
 use Rattle.dm_state.specs.declared.stop.Stop.TheVariants.{Exited, Steps as AllSteps, Halted, Unlisted, InputEnded, Destroyed, Memory as NoMemory}
 use Rattle.dm_state.specs.State.{State}
-use Rattle.dm_machine.specs.Step.{Steps}
+use Rattle.dm_machine.specs.Step.{MakesStep}
 use Rattle.dm_machine.specs.Run.{Answers, IsRun}
 use Rattle.dm_findings.specs.declared.finding.Finding.{Finding}
 use Rattle.dm_findings.specs.declared.finding.Found.{Found}
@@ -43,7 +43,7 @@ FindsAtStop s NoMemory t found = found ≡ []
 -- n steps lead from s to t, none of them ended the program, and this is found in them, in their order
 pub data FindsIn (s : State) : ℕ → State → List Found → Type 0 where
   here : FindsIn s 0 s []
-  further : (n : ℕ) (t u : State) (fs gs : List Found) → FindsIn s n t fs → Steps t (record { stop = None; state = u }) → FindsAt t u gs → FindsIn s (n + 1) u (fs ++ gs)
+  further : (n : ℕ) (t u : State) (fs gs : List Found) → FindsIn s n t fs → MakesStep t (record { stop = None; state = u }) → FindsAt t u gs → FindsIn s (n + 1) u (fs ++ gs)
 
 -- a run of at most n steps, and what is found in it: the program had ended before; or n steps were made; or a stop comes earlier
 pub data Checks (s : State) (n : ℕ) (stop : Stop) (t : State) (found : List Found) : Type 0 where

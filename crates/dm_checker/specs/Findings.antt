@@ -7,7 +7,7 @@ use Rattle.dm_ins.specs.declared.ins.Ins.{Ins}
 use Rattle.dm_cpu.specs.Guest.{up}
 use Rattle.dm_blocks.specs.declared.header.Header.{Header}
 use Rattle.dm_state.specs.State.{State}
-use Rattle.dm_machine.specs.Step.{Begins, fetched}
+use Rattle.dm_machine.specs.Step.{BeginsWith, fetched}
 use Rattle.dm_findings.specs.declared.calls.Call.{Call}
 use Rattle.dm_findings.specs.declared.finding.Act.{Act}
 use Rattle.dm_findings.specs.declared.finding.Act.TheVariants as act
@@ -51,7 +51,7 @@ pub record Finds (s t : State) (found : List Finding) : Type 0 where
 
 pub data IsAct (s : State) (a : Act) : Type 0 where
   called : (call : Call) → call_of s.cpu ≡ Some call → a ≡ act.Call call → IsAct s a
-  instructed : (i : Ins) (length : ℕ) → call_of s.cpu ≡ None → Begins (fetched s.memory s.cpu) i length → a ≡ act.Instruction i (up s.cpu.ip length) → IsAct s a
+  instructed : (i : Ins) (length : ℕ) → call_of s.cpu ≡ None → BeginsWith (fetched s.memory s.cpu) i length → a ≡ act.Instruction i (up s.cpu.ip length) → IsAct s a
 
 -- the findings of a step with its number, which is how many steps were made with it, CS and IP before it, and what acted
 abbrev pub found_at : State → State → Act → List Finding → List Found

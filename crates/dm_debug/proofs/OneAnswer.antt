@@ -4,7 +4,7 @@ use Rattle.std.proofs.lemmas.Bool.{cases_lt}
 use Rattle.dm_state.specs.declared.stop.Stop.{Stop}
 use Rattle.dm_state.specs.declared.stop.Stop.TheVariants.{Memory as NoMemory}
 use Rattle.dm_state.specs.State.{State, Answer}
-use Rattle.dm_machine.specs.Step.{Steps}
+use Rattle.dm_machine.specs.Step.{MakesStep}
 use Rattle.dm_machine.specs.Run.{Answers, Goes, StopsWithin}
 use Rattle.dm_machine.specs.Run as run
 use Rattle.dm_machine.proofs.OneRun.{steps-one}
@@ -41,7 +41,7 @@ record Last (s : State) (n : ℕ) (out : List ℕ) (u : State) : Type 0 where
   told : List ℕ
   registers : List ℕ
   traces : Traces s n told before
-  steps : Steps before (record { stop = None; state = u })
+  steps : MakesStep before (record { stop = None; state = u })
   shown : IsRegistersText u.cpu u.memory registers
   is : out ≡ told ++ registers
 
@@ -65,7 +65,7 @@ traces_once s t u (suc n) a b x y =
     let j = last s u (suc n) n b y (omega arith) in
     let one = traces_once s i.before j.before n i.told j.told i.traces j.traces in
     let same : t ≡ u
-    = ap (λ (z : Answer). z.state) (steps-one j.before _ _ (subst (λ (v : State). Steps v (record { stop = None; state = t })) one.1 i.steps) j.steps) in
+    = ap (λ (z : Answer). z.state) (steps-one j.before _ _ (subst (λ (v : State). MakesStep v (record { stop = None; state = t })) one.1 i.steps) j.steps) in
     (i.is ∙ both i.told j.told i.registers j.registers one.0 (shown_once t u i.registers j.registers same i.shown j.shown) ∙ sym j.is, same)
 
 -- ---- traces that a stop cuts short
@@ -90,8 +90,8 @@ not_further s t v n m told text x c less =
 same_made : (s t u : State) (n : ℕ) (a b : List ℕ) → (c : Cut s n a t) → (d : Cut s n b u) → c.made ≡ d.made → (a ≡ b) × (t ≡ u)
 same_made s t u n a b c d e =
     let one = traces_once s c.before d.before d.made c.told d.told (subst (λ k. Traces s k c.told c.before) e c.traces) d.traces in
-    let x : Steps d.before (record { stop = Some c.why; state = t })
-    = subst (λ (v : State). Steps v (record { stop = Some c.why; state = t })) one.1 (answers-stop c.before c.why t c.other c.answers) in
+    let x : MakesStep d.before (record { stop = Some c.why; state = t })
+    = subst (λ (v : State). MakesStep v (record { stop = Some c.why; state = t })) one.1 (answers-stop c.before c.why t c.other c.answers) in
     let same = steps-one d.before _ _ x (answers-stop d.before d.why u d.other d.answers) in
     let why : c.why ≡ d.why = stop-same c.why d.why _ (ap (λ (z : Answer). z.stop) same) refl in
     let lines : stop_line (Some c.why) ≡ stop_line (Some d.why) = ap (λ (w : Stop). stop_line (Some w)) why in

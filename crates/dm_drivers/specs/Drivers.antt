@@ -6,7 +6,7 @@ use Rattle.dm_ems_calls.specs.Caller as expanded
 use Rattle.dm_ems_calls.specs.Functions as expanded_memory
 use Rattle.dm_xms_calls.specs.Caller as extended
 use Rattle.dm_xms_calls.specs.Functions as extended_memory
-use Rattle.dm_state.specs.State.{State, Answer, go, returned, far_returned}
+use Rattle.dm_state.specs.State.{State, Answer, go, interrupt_returned, far_returned}
 use Rattle.dm_drivers.specs.declared.drivers.Driver.{Driver}
 use Rattle.dm_drivers.specs.declared.drivers.Driver.TheVariants.{ExpandedMemory, Multiplex, ExtendedMemory}
 use Rattle.dm_drivers.specs.Multiplex.{told}
@@ -38,8 +38,8 @@ acted s ExtendedMemory = after_extended s (extended_memory.called s.upper (exten
 
 -- back where the program called, by an interrupt or by a far call
 abbrev pub given_back : State → Driver → State
-given_back s ExpandedMemory = returned s
-given_back s Multiplex = returned s
+given_back s ExpandedMemory = interrupt_returned s
+given_back s Multiplex = interrupt_returned s
 given_back s ExtendedMemory = far_returned s
 
 -- the driver acts, and what the call pushed is popped from memory as it is then

@@ -22,7 +22,7 @@ use Rattle.dm_drivers.specs.Drivers.{driver_at, driven}
 use Rattle.dm_state.specs.State.{State, Answer, go, with_guest}
 use Rattle.dm_services.specs.Services.{service_at}
 use Rattle.dm_services.specs.Wanting.{MayWant}
-use Rattle.dm_machine.specs.Step.{Steps, Runs, Acts, Drives, Instructs, listed, unlisted, Begins, fetched, after, instructed}
+use Rattle.dm_machine.specs.Step.{MakesStep, Runs, Acts, Drives, Instructs, listed, unlisted, BeginsWith, fetched, after, instructed}
 use Rattle.dm_machine.specs.Run.{Answers, here, further, StopsWithin, over, whole, cut}
 use Rattle.dm_services.specs.Laws.{with_change, answer_with}
 use Rattle.dm_machine.specs.Laws.{IsQuiet, StaysQuiet, UnseenBytesChangeNoStep, UnseenBytesChangeNoRun, UnseenBlocksChangeNoRun}
@@ -43,9 +43,9 @@ instructed-unseen f u s i k =
 
 instructs-unseen : (f : Memory → Memory) (u : IsUnseen f) (s : State) (x : Answer) → Instructs s x → Instructs (with_change f s) (answer_with f x)
 instructs-unseen f u s x (listed i k b e) =
-    listed i k (subst (λ xs. Begins xs i k) (sym (fetched-unseen f u s.memory s.cpu)) b) (ap (answer_with f) e ∙ sym (instructed-unseen f u s i k))
+    listed i k (subst (λ xs. BeginsWith xs i k) (sym (fetched-unseen f u s.memory s.cpu)) b) (ap (answer_with f) e ∙ sym (instructed-unseen f u s i k))
 instructs-unseen f u s x (unlisted h e) =
-    unlisted (λ i k b. h i k (subst (λ xs. Begins xs i k) (fetched-unseen f u s.memory s.cpu) b)) (ap (answer_with f) e)
+    unlisted (λ i k b. h i k (subst (λ xs. BeginsWith xs i k) (fetched-unseen f u s.memory s.cpu) b)) (ap (answer_with f) e)
 
 -- INT 2Fh changes registers alone
 multiplex-unseen : (f : Memory → Memory) (u : IsUnseen f) (s : State) → driven (with_change f s) Multiplex ≡ answer_with f (driven s Multiplex)
@@ -65,11 +65,11 @@ runs-unseen : (f : Memory → Memory) (u : IsUnseen f) (s : State) (o : Option �
 runs-unseen f u s (Some code) x q e = ap (answer_with f) e
 runs-unseen f u s None x q h = acts-unseen f u s (service_at s.cpu) x q h
 
-pub steps-unseen : (f : Memory → Memory) (u : IsUnseen f) (s : State) (x : Answer) → IsQuiet (driver_at s.cpu) → Steps s x → Steps (with_change f s) (answer_with f x)
-unfolding Steps
+pub steps-unseen : (f : Memory → Memory) (u : IsUnseen f) (s : State) (x : Answer) → IsQuiet (driver_at s.cpu) → MakesStep s x → MakesStep (with_change f s) (answer_with f x)
+unfolding MakesStep
 steps-unseen f u s x q h = runs-unseen f u s s.exited x q h
 
-wants-unseen : (f : Memory → Memory) (u : IsUnseen f) (s : State) → IsQuiet (driver_at s.cpu) → MayWant s (Steps s) → MayWant (with_change f s) (Steps (with_change f s))
+wants-unseen : (f : Memory → Memory) (u : IsUnseen f) (s : State) → IsQuiet (driver_at s.cpu) → MayWant s (MakesStep s) → MayWant (with_change f s) (MakesStep (with_change f s))
 wants-unseen f u s q w = record { answer = answer_with f w.answer; gives = steps-unseen f u s w.answer q w.gives; overflows = w.overflows }
 
 answers-unseen : (f : Memory → Memory) (u : IsUnseen f) (s : State) (stop : Option Stop) (t : State) → IsQuiet (driver_at s.cpu) → Answers s stop t → Answers (with_change f s) stop (with_change f t)

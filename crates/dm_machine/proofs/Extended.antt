@@ -20,7 +20,7 @@ use Rattle.dm_services.proofs.Map.{tables-kept}
 use Rattle.dm_drivers.specs.declared.drivers.Driver.{Driver}
 use Rattle.dm_drivers.specs.declared.drivers.Driver.TheVariants.{ExpandedMemory, Multiplex, ExtendedMemory}
 use Rattle.dm_drivers.specs.Drivers.{driver_at, driven}
-use Rattle.dm_machine.specs.Step.{Steps, Runs, Acts, Drives, Instructs, listed, unlisted, after, instructed}
+use Rattle.dm_machine.specs.Step.{MakesStep, Runs, Acts, Drives, Instructs, listed, unlisted, after, instructed}
 use Rattle.dm_machine.specs.Run.{Answers, Goes, here, further, IsRun, over, whole, cut}
 use Rattle.dm_machine.specs.Laws.{IsQuiet, StaysQuiet, is_extended, with_unseen_blocks, with_extended_blocks, ExtendedBlocksChangeNoRun, RunLeavesExtended}
 use Rattle.dm_machine.proofs.Confined.{fewer-quiet, run-unseen}
@@ -62,8 +62,8 @@ runs-same : (s : State) (o : Option ℕ) (x : Answer) → IsQuiet (driver_at s.c
 runs-same s (Some code) x q e = answer-same s x _ e (same s)
 runs-same s None x q h = acts-same s (service_at s.cpu) x q h
 
-steps-same : (s : State) (x : Answer) → IsQuiet (driver_at s.cpu) → Steps s x → SameTables s x.state
-unfolding Steps
+steps-same : (s : State) (x : Answer) → IsQuiet (driver_at s.cpu) → MakesStep s x → SameTables s x.state
+unfolding MakesStep
 steps-same s x q h = runs-same s s.exited x q h
 
 goes-same : (s t : State) (n : ℕ) → StaysQuiet s n → Goes s n t → SameTables s t

@@ -23,7 +23,7 @@ use Rattle.dm_services.proofs.Map.{serves-kept}
 use Rattle.dm_drivers.specs.declared.drivers.Driver.{Driver}
 use Rattle.dm_drivers.specs.declared.drivers.Driver.TheVariants.{ExpandedMemory, Multiplex, ExtendedMemory}
 use Rattle.dm_drivers.specs.Drivers.{driver_at, driven}
-use Rattle.dm_machine.specs.Step.{Steps, Runs, Acts, Drives, Instructs, listed, unlisted, after, instructed}
+use Rattle.dm_machine.specs.Step.{MakesStep, Runs, Acts, Drives, Instructs, listed, unlisted, after, instructed}
 use Rattle.dm_machine.specs.Run.{Answers, Goes, here, further, IsRun, over, whole, cut}
 use Rattle.dm_machine.specs.Laws.{IsQuiet, StaysQuiet, RunLeavesUnseen}
 use Rattle.dm_machine.proofs.Confined.{steps-unseen, fewer-quiet}
@@ -60,8 +60,8 @@ runs-shaped : (s : State) (o : Option ℕ) (x : Answer) → IsQuiet (driver_at s
 runs-shaped s (Some code) x q e = memory-shaped s x _ e (shaped-same s.memory)
 runs-shaped s None x q h = acts-shaped s (service_at s.cpu) x q h
 
-steps-shaped : (s : State) (x : Answer) → IsQuiet (driver_at s.cpu) → Steps s x → IsShaped s.memory x.state.memory
-unfolding Steps
+steps-shaped : (s : State) (x : Answer) → IsQuiet (driver_at s.cpu) → MakesStep s x → IsShaped s.memory x.state.memory
+unfolding MakesStep
 steps-shaped s x q h = runs-shaped s s.exited x q h
 
 -- ---- the bytes
@@ -70,10 +70,10 @@ steps-shaped s x q h = runs-shaped s s.exited x q h
 abbrev Has : (ℕ → List ℕ) → State → Type 0
 Has other s = with_change (λ m. unseen_as m other) s ≡ s
 
-steps-has : (other : ℕ → List ℕ) (s : State) (x : Answer) → IsQuiet (driver_at s.cpu) → Has other s → Steps s x → Has other x.state
+steps-has : (other : ℕ → List ℕ) (s : State) (x : Answer) → IsQuiet (driver_at s.cpu) → Has other s → MakesStep s x → Has other x.state
 steps-has other s x q has h =
     let f : Memory → Memory = λ m. unseen_as m other in
-    ap (λ (y : Answer). y.state) (steps-one s (answer_with f x) x (subst (λ (r : State). Steps r (answer_with f x)) has (steps-unseen f (pages-unseen other) s x q h)) h)
+    ap (λ (y : Answer). y.state) (steps-one s (answer_with f x) x (subst (λ (r : State). MakesStep r (answer_with f x)) has (steps-unseen f (pages-unseen other) s x q h)) h)
 
 -- ---- runs
 

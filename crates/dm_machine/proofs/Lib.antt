@@ -1,7 +1,7 @@
 mod StepLaws
 pub mod OneRun
 pub mod OneStop
-mod Memos
+mod DecodeCaches
 mod Confined
 mod Kept
 mod Extended

@@ -4,7 +4,7 @@ use Rattle.std.proofs.lemmas.Bool.{cases_lt}
 use Rattle.dm_state.specs.declared.stop.Stop.{Stop}
 use Rattle.dm_state.specs.declared.stop.Stop.TheVariants.{Exited, Memory as NoMemory}
 use Rattle.dm_state.specs.State.{State, Answer}
-use Rattle.dm_machine.specs.Step.{Steps}
+use Rattle.dm_machine.specs.Step.{MakesStep}
 use Rattle.dm_machine.specs.Run.{Answers, Goes, here, further, StopsWithin, over, whole, cut}
 use Rattle.dm_machine.specs.Laws.{RunHasOneStop}
 use Rattle.dm_machine.proofs.OneRun.{steps-one, goes-one}
@@ -14,7 +14,7 @@ pub record Within (s : State) (k : ℕ) : Type 0 where
   pub before : State
   pub next : State
   pub goes : Goes s k before
-  pub steps : Steps before (record { stop = None; state = next })
+  pub steps : MakesStep before (record { stop = None; state = next })
 
 pub within : (s t : State) (n k : ℕ) → Goes s n t → k < n → Within s k
 within s t n k here less = absurd (omega (arith, less))
@@ -25,7 +25,7 @@ within s t n k (further m u v goes h) less = elim (cases_lt k m) [
       record { before = u; next = v; goes = subst (λ j. Goes s j u) same goes; steps = h })
 ]
 
-pub answers-stop : (s : State) (stop : Stop) (t : State) → stop ≢ NoMemory → Answers s (Some stop) t → Steps s (record { stop = Some stop; state = t })
+pub answers-stop : (s : State) (stop : Stop) (t : State) → stop ≢ NoMemory → Answers s (Some stop) t → MakesStep s (record { stop = Some stop; state = t })
 answers-stop s NoMemory t p h = absurd (p refl)
 answers-stop s stop t p h = h
 
@@ -40,16 +40,16 @@ pub not_beyond : (s t u : State) (n : ℕ) (stop : Stop) → stop ≢ NoMemory �
 not_beyond s t u n stop p goes w =
     let v = within s t n w.made goes w.fewer in
     let same : v.before ≡ w.before = goes-one s v.before w.before w.made v.goes w.goes in
-    let stops : Steps w.before (record { stop = Some stop; state = u }) = answers-stop w.before stop u p w.answers in
-    let on : Steps w.before (record { stop = None; state = v.next }) = subst (λ z. Steps z (record { stop = None; state = v.next })) same v.steps in
+    let stops : MakesStep w.before (record { stop = Some stop; state = u }) = answers-stop w.before stop u p w.answers in
+    let on : MakesStep w.before (record { stop = None; state = v.next }) = subst (λ z. MakesStep z (record { stop = None; state = v.next })) same v.steps in
     let one = steps-one w.before _ _ stops on in
     some-none (Some stop) stop refl (ap (λ (x : Answer). x.stop) one)
 
 cut-one : (s t u : State) (n : ℕ) (a b : Stop) → a ≢ NoMemory → b ≢ NoMemory → (w : StopsWithin s n a t) → (v : StopsWithin s n b u) → w.made ≡ v.made → (a ≡ b) × (t ≡ u)
 cut-one s t u n a b p q w v e =
     let same : w.before ≡ v.before = goes-one s w.before v.before v.made (subst (λ k. Goes s k w.before) e w.goes) v.goes in
-    let x : Steps v.before (record { stop = Some a; state = t })
-    = subst (λ z. Steps z (record { stop = Some a; state = t })) same (answers-stop w.before a t p w.answers) in
+    let x : MakesStep v.before (record { stop = Some a; state = t })
+    = subst (λ z. MakesStep z (record { stop = Some a; state = t })) same (answers-stop w.before a t p w.answers) in
     let one = steps-one v.before _ _ x (answers-stop v.before b u q v.answers) in
     (stop-same a b _ (ap (λ (z : Answer). z.stop) one) refl, ap (λ (z : Answer). z.state) one)
 

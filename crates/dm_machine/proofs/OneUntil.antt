@@ -5,7 +5,7 @@ use Rattle.dm_state.specs.declared.stop.Stop.{Stop}
 use Rattle.dm_state.specs.declared.stop.Stop.TheVariants.{Exited, Steps as AllSteps, Memory as NoMemory}
 use Rattle.dm_state.specs.State.{State, Answer}
 use Rattle.dm_machine.specs.declared.until.Breakpoint.{Breakpoint}
-use Rattle.dm_machine.specs.Step.{Steps}
+use Rattle.dm_machine.specs.Step.{MakesStep}
 use Rattle.dm_machine.specs.Run.{Goes}
 use Rattle.dm_machine.specs.Until.{GoesPast, here, further, stands_at, RunsUntil, over, broken, whole, cut, UntilHasOneStop}
 use Rattle.dm_machine.proofs.OneRun.{steps-one, goes-one}
@@ -17,7 +17,7 @@ record Within (ps : List Breakpoint) (s : State) (k : ℕ) : Type 0 where
   before : State
   next : State
   goes : Goes s k before
-  steps : Steps before (record { stop = None; state = next })
+  steps : MakesStep before (record { stop = None; state = next })
   past : stands_at ps next.cpu ≡ false
 
 within : (ps : List Breakpoint) (s t : State) (n k : ℕ) → GoesPast ps s n t → k < n → Within ps s k
@@ -35,7 +35,7 @@ record Ended (ps : List Breakpoint) (s : State) (n : ℕ) (x : Answer) : Type 0 
   before : State
   fewer : made < n
   goes : GoesPast ps s made before
-  steps : Steps before x
+  steps : MakesStep before x
   ends : x.stop ≡ None → stands_at ps x.state.cpu ≡ true
 
 -- no such run goes on beyond the step at which another one ends
@@ -43,7 +43,7 @@ not_further : (ps : List Breakpoint) (s t : State) (n m : ℕ) (x : Answer) → 
 not_further ps s t n m x g e less =
     let v = within ps s t n e.made g less in
     let same : v.before ≡ e.before = goes-one s v.before e.before e.made v.goes (past_goes ps s e.before e.made e.goes) in
-    let on : Steps e.before (record { stop = None; state = v.next }) = subst (λ (z : State). Steps z (record { stop = None; state = v.next })) same v.steps in
+    let on : MakesStep e.before (record { stop = None; state = v.next }) = subst (λ (z : State). MakesStep z (record { stop = None; state = v.next })) same v.steps in
     let one : x ≡ record { stop = None; state = v.next } = steps-one e.before x _ e.steps on in
     let at : stands_at ps x.state.cpu ≡ true = e.ends (ap (λ (y : Answer). y.stop) one) in
     let no : true ≡ false = sym at ∙ ap (λ (y : Answer). stands_at ps y.state.cpu) one ∙ v.past in
@@ -53,7 +53,7 @@ same-made : (ps : List Breakpoint) (s : State) (n : ℕ) (x y : Answer) → (e :
 same-made ps s n x y e f same =
     let at : e.before ≡ f.before
     = goes-one s e.before f.before f.made (subst (λ k. Goes s k e.before) same (past_goes ps s e.before e.made e.goes)) (past_goes ps s f.before f.made f.goes) in
-    steps-one f.before x y (subst (λ (z : State). Steps z x) at e.steps) f.steps
+    steps-one f.before x y (subst (λ (z : State). MakesStep z x) at e.steps) f.steps
 
 ended-one : (ps : List Breakpoint) (s : State) (n : ℕ) (x y : Answer) → Ended ps s n x → Ended ps s n y → x ≡ y
 ended-one ps s n x y e f = elim (cases_lt e.made f.made) [
@@ -82,7 +82,7 @@ ends ps s t n stop p (broken before e f c h x) =
       before = before;
       fewer = c.fewer;
       goes = c.goes;
-      steps = subst (λ (o : Option Stop). Steps before (record { stop = o; state = t })) (sym f) h;
+      steps = subst (λ (o : Option Stop). MakesStep before (record { stop = o; state = t })) (sym f) h;
       ends = λ _. x;
     })
 ends ps s t n stop p (whole e f g) = all_made e f g
@@ -93,7 +93,7 @@ ends ps s t n stop p (cut why before e f c a) =
       before = before;
       fewer = c.fewer;
       goes = c.goes;
-      steps = subst (λ (o : Option Stop). Steps before (record { stop = o; state = t })) (sym f) (answers-stop before why t other a);
+      steps = subst (λ (o : Option Stop). MakesStep before (record { stop = o; state = t })) (sym f) (answers-stop before why t other a);
       ends = λ none. not-none stop why _ f none;
     })
 

@@ -12,7 +12,7 @@ use Rattle.dm_drivers.specs.declared.drivers.Driver.TheVariants.{ExpandedMemory,
 use Rattle.dm_drivers.specs.Drivers.{driver_at}
 use Rattle.dm_state.specs.State.{State, Answer}
 use Rattle.dm_services.specs.Services.{service_at}
-use Rattle.dm_machine.specs.Step.{Steps, Runs, Acts, Drives, Instructs, listed, unlisted, after}
+use Rattle.dm_machine.specs.Step.{MakesStep, Runs, Acts, Drives, Instructs, listed, unlisted, after}
 use Rattle.dm_machine.specs.Run.{Answers, Goes, here, further, IsRun, over, whole, cut}
 use Rattle.dm_machine.specs.Laws.{Follows, none, step_on, run_on, changed, reserved, RoomIsEnoughForRuns, RoomIsEnoughForSteps}
 use Rattle.dm_machine.proofs.OneRun.{steps-one}
@@ -41,8 +41,8 @@ runs-keep : (s : State) (o : Option ℕ) (x : Answer) → Runs s o x → Keeps s
 runs-keep s (Some code) x e = by s x _ e (same _)
 runs-keep s None x h = acts-keep s (service_at s.cpu) x h
 
-steps-keep : (s : State) (x : Answer) → Steps s x → Keeps s x
-unfolding Steps
+steps-keep : (s : State) (x : Answer) → MakesStep s x → Keeps s x
+unfolding MakesStep
 steps-keep s x h = runs-keep s s.exited x h
 
 goes-keep : (s t : State) (n : ℕ) → Goes s n t → limit s.console ≤ limit t.console
@@ -79,13 +79,13 @@ follows-keep s t (changed r m f) = follows-keep s r f
 follows-keep s t (reserved r n f) = (let before = follows-keep s r f in omega (arith, before))
 
 -- the step at which memory is wanting
-step-wants : (s t : State) (x : Answer) → Answers s (Some NoMemory) t → Steps t x → limit s.console < length x.state.console.output
+step-wants : (s t : State) (x : Answer) → Answers s (Some NoMemory) t → MakesStep t x → limit s.console < length x.state.console.output
 step-wants s t x answers step =
     let want = answers.0 in
-    let one : x ≡ want.answer = steps-one s x want.answer (subst (λ u. Steps u x) answers.1 step) want.gives in
+    let one : x ≡ want.answer = steps-one s x want.answer (subst (λ u. MakesStep u x) answers.1 step) want.gives in
     subst (λ (y : Answer). limit s.console < length y.state.console.output) (sym one) want.overflows
 
-run-wants : (s t : State) (n : ℕ) (x : Answer) → IsRun s n NoMemory t → Steps t x → limit s.console < length x.state.console.output
+run-wants : (s t : State) (n : ℕ) (x : Answer) → IsRun s n NoMemory t → MakesStep t x → limit s.console < length x.state.console.output
 run-wants s t n x (over code e g h) step = cc
 run-wants s t n x (whole e g goes) step = cc
 run-wants s t n x (cut e w) step =

@@ -10,11 +10,11 @@ use Rattle.dm_services.specs.Laws.{with_change}
 use Rattle.dm_drivers.specs.declared.drivers.Driver.{Driver}
 use Rattle.dm_drivers.specs.declared.drivers.Driver.TheVariants.{ExpandedMemory, Multiplex, ExtendedMemory}
 use Rattle.dm_drivers.specs.Drivers.{driver_at}
-use Rattle.dm_machine.specs.Step.{Steps}
+use Rattle.dm_machine.specs.Step.{MakesStep}
 use Rattle.dm_machine.specs.Run.{Answers, Goes, IsRun}
 
 abbrev pub StepHasOneAnswer : Type 0
-StepHasOneAnswer = (s : State) (x y : Answer) → Steps s x → Steps s y → x ≡ y
+StepHasOneAnswer = (s : State) (x y : Answer) → MakesStep s x → MakesStep s y → x ≡ y
 
 abbrev pub ThereIsOneRun : Type 0
 ThereIsOneRun = (s t u : State) (n : ℕ) → Goes s n t → Goes s n u → t ≡ u
@@ -106,7 +106,7 @@ pub data Follows (s : State) : State → Type 0 where
 
 -- each answer of a step from t leaves more output than so many bytes
 abbrev pub WantsBeyond : ℕ → State → Type 0
-WantsBeyond bytes t = (x : Answer) → Steps t x → bytes < length x.state.console.output
+WantsBeyond bytes t = (x : Answer) → MakesStep t x → bytes < length x.state.console.output
 
 -- where there is room for so many bytes, steps and runs that write no more of them don't want memory: one that does
 -- stands before a step with which more would have gone out

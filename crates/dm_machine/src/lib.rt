@@ -1,10 +1,10 @@
 //! The machine: load, step and run, and their laws.
 #![tactic(auto)]
 
+mod decode_cache;
 mod laws;
 mod loading;
 mod machine;
-mod memo;
 mod quick;
 mod steps;
 mod until;

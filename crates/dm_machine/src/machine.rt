@@ -5,7 +5,7 @@ ghost use Rattle.dm_pool.specs.Stored.{IsTooLarge};
 ghost use Rattle.dm_machine.specs.Start.{IsNew, IsStartWith, with_headers};
 ghost use Rattle.dm_state.specs.State.{HasProgram};
 
-use crate::memo::Memo;
+use crate::decode_cache::DecodeCache;
 use dm_alu::Flags;
 use dm_arena::{Area, Fit, Strategy};
 use dm_console::Console;
@@ -38,7 +38,7 @@ pub enum NewError {
 #[derive(Drop)]
 pub struct Machine {
     pub(crate) parts: Parts,
-    pub(crate) memo: Memo,
+    pub(crate) decode_cache: DecodeCache,
 }
 
 impl Model for Machine {
@@ -132,7 +132,7 @@ impl Machine {
             upper,
         } = config;
         let space = start_space(alloc, sizes, upper)?;
-        let Ok(memo) = Memo::new(alloc) else {
+        let Ok(decode_cache) = DecodeCache::new(alloc) else {
             return Err(NewError::Memory);
         };
         let parts = Parts {
@@ -153,7 +153,10 @@ impl Machine {
             sizes,
             upper,
         };
-        Ok(Machine { parts, memo })
+        Ok(Machine {
+            parts,
+            decode_cache,
+        })
     }
 
     /// Whether a program is loaded.

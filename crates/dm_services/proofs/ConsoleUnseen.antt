@@ -4,7 +4,7 @@ use Rattle.dm_space.specs.Memory.{Memory}
 use Rattle.dm_space.specs.Unseen.{IsUnseen}
 use Rattle.dm_cpu.specs.Cpu.{byte_of}
 use Rattle.dm_ins.specs.declared.operand.ByteRegister.TheVariants.{Al}
-use Rattle.dm_state.specs.State.{State, go, returned}
+use Rattle.dm_state.specs.State.{State, go, interrupt_returned}
 use Rattle.dm_services.specs.Characters.{with_al, character_of, read_character, echo_of, echo_character, write_character, poll_of, poll_character, direct_character, check_input}
 use Rattle.dm_services.specs.Lines.{line_length, line_read, line_into, read_line}
 use Rattle.dm_services.specs.Flush.{flush_and_read}
@@ -54,7 +54,7 @@ line_read-unseen : (f : Memory → Memory) (u : IsUnseen f) (s : State) (m : ℕ
 line_read-unseen f u s m None = refl
 line_read-unseen f u s m (Some n) = simp (with_bytes-unseen f u, return-parts f u)
 
-returned-unseen : (f : Memory → Memory) (u : IsUnseen f) (s : State) → go (returned (with_change f s)) ≡ answer_with f (go (returned s))
+returned-unseen : (f : Memory → Memory) (u : IsUnseen f) (s : State) → go (interrupt_returned (with_change f s)) ≡ answer_with f (go (interrupt_returned s))
 returned-unseen f u s = simp (return-parts f u)
 
 line_into-unseen : (f : Memory → Memory) (u : IsUnseen f) (s : State) (m : ℕ) → line_into (with_change f s) m ≡ answer_with f (line_into s m)
@@ -64,7 +64,7 @@ pub read_line-unseen : (f : Memory → Memory) (u : IsUnseen f) (s : State) → 
 unfolding read_line
 read_line-unseen f u s = ap (line_into (with_change f s)) (byte-unseen f u s.memory s.cpu.ds s.cpu.dx) ∙ line_into-unseen f u s _
 
-al-unseen : (f : Memory → Memory) (u : IsUnseen f) (s : State) (b : ℕ) → go (returned (with_al (with_change f s) b)) ≡ answer_with f (go (returned (with_al s b)))
+al-unseen : (f : Memory → Memory) (u : IsUnseen f) (s : State) (b : ℕ) → go (interrupt_returned (with_al (with_change f s) b)) ≡ answer_with f (go (interrupt_returned (with_al s b)))
 al-unseen f u s b = simp (return-parts f u)
 
 pub flush_and_read-unseen : (f : Memory → Memory) (u : IsUnseen f) (s : State) → flush_and_read (with_change f s) ≡ answer_with f (flush_and_read s)

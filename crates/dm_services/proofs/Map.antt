@@ -13,7 +13,7 @@ use Rattle.dm_services.specs.declared.services.Service.TheVariants as service
 use Rattle.dm_services.specs.declared.services.Service.TheVariants.{DivideError, Dos}
 use Rattle.dm_services.specs.declared.functions.Function.{Function}
 use Rattle.dm_services.specs.declared.functions.Function.TheVariants.{EchoCharacter, WriteCharacter, DirectCharacter, ReadCharacter, WriteText, ReadLine, CheckInput, FlushAndRead, SetVector, Version, Keep, GetVector, ReadHandle, WriteHandle, Allocate, Free, Resize, LoadProgram, Exit, ExitCode, Process, AllocationStrategy, Terminate, Unknown}
-use Rattle.dm_state.specs.State.{State, Answer, returned}
+use Rattle.dm_state.specs.State.{State, Answer, interrupt_returned}
 use Rattle.dm_services.specs.Text.{print}
 use Rattle.dm_services.specs.Characters.{character_of, read_character, echo_of, echo_character, write_character, poll_of, poll_character, direct_character, check_input}
 use Rattle.dm_services.specs.Lines.{line_length, line_read, line_into, read_line}
@@ -46,7 +46,7 @@ fixed : (s : State) → IsShaped s.memory s.memory × (s.ems ≡ s.ems) × (s.xm
 fixed s = (shaped-same s.memory, refl, refl)
 
 -- back in the program, with memory as it was
-still : (s : State) (c : Cpu) → IsShaped s.memory (returned (record s { cpu = c })).memory × (s.ems ≡ s.ems) × (s.xms ≡ s.xms)
+still : (s : State) (c : Cpu) → IsShaped s.memory (interrupt_returned (record s { cpu = c })).memory × (s.ems ≡ s.ems) × (s.xms ≡ s.xms)
 still s c = (return-kept s.memory c s.memory (shaped-same s.memory), refl, refl)
 
 choice-kept : (s : State) (b : Bool) (x y : Answer) → Kept s x → Kept s y → Kept s (cond b x y)

@@ -8,11 +8,11 @@ use Rattle.dm_arena.specs.declared.refusal.Refusal.{Refusal}
 use Rattle.dm_arena.specs.declared.refusal.Refusal.TheVariants.{Destroyed, Short, NoBlock}
 use Rattle.dm_arena.specs.Allocation.{Allocates}
 use Rattle.dm_arena.specs.Owned.{Frees, Resizes}
-use Rattle.dm_state.specs.State.{State, Answer, go, returned, with_carry}
+use Rattle.dm_state.specs.State.{State, Answer, go, interrupt_returned, with_carry}
 
 -- back in the program with these registers, this memory and CF
 abbrev pub answered : State → Cpu → Memory → Bool → Answer
-answered s c m carry = go (with_carry (returned (record s { cpu = c; memory = m })) carry)
+answered s c m carry = go (with_carry (interrupt_returned (record s { cpu = c; memory = m })) carry)
 
 -- AX is the error; where there is not enough memory, BX is how many paragraphs there are
 abbrev pub refused : Cpu → Refusal → Cpu

@@ -6,7 +6,7 @@ use Rattle.std.specs.Prelude.{ℕ, ◌==◌, Bool, true, false, if◌then◌else
 use Rattle.dm_cpu.specs.Cpu.{byte_of, with_byte}
 use Rattle.dm_ins.specs.declared.operand.ByteRegister.TheVariants.{Al, Dl}
 use Rattle.dm_state.specs.declared.stop.Stop.TheVariants.{InputEnded}
-use Rattle.dm_state.specs.State.{State, Answer, go, stop_at, returned}
+use Rattle.dm_state.specs.State.{State, Answer, go, stop_at, interrupt_returned}
 use Rattle.dm_services.specs.Text.{written}
 
 abbrev pub with_al : State → ℕ → State
@@ -26,7 +26,7 @@ with_zero s b = record s { cpu = record s.cpu { flags = record s.cpu.flags { zer
 -- 07h, 08h: AL is the next byte
 abbrev pub character_of : State → List ℕ → Answer
 character_of s [] = stop_at InputEnded s
-character_of s (byte ∷ rest) = go (returned (with_al (with_input s rest) byte))
+character_of s (byte ∷ rest) = go (interrupt_returned (with_al (with_input s rest) byte))
 
 -- 07h, 08h: AL is the next byte of the input
 unfoldable pub read_character : State → Answer
@@ -35,7 +35,7 @@ read_character s = character_of s s.console.input
 -- 01h: so it is, and that byte is written
 abbrev pub echo_of : State → List ℕ → Answer
 echo_of s [] = stop_at InputEnded s
-echo_of s (byte ∷ rest) = go (returned (with_al (with_written (with_input s rest) (byte ∷ [])) byte))
+echo_of s (byte ∷ rest) = go (interrupt_returned (with_al (with_written (with_input s rest) (byte ∷ [])) byte))
 
 -- 01h: AL is the next byte of the input, which is written
 unfoldable pub echo_character : State → Answer
@@ -43,12 +43,12 @@ echo_character s = echo_of s s.console.input
 
 -- 02h: DL is written
 unfoldable pub write_character : State → Answer
-write_character s = go (returned (with_written s (byte_of s.cpu Dl ∷ [])))
+write_character s = go (interrupt_returned (with_written s (byte_of s.cpu Dl ∷ [])))
 
 -- 06h with DL = FFh: AL is the next byte and ZF = 0; where none is left, AL = 0 and ZF = 1
 abbrev pub poll_of : State → List ℕ → Answer
-poll_of s [] = go (with_zero (returned (with_al s 0)) true)
-poll_of s (byte ∷ rest) = go (with_zero (returned (with_al (with_input s rest) byte)) false)
+poll_of s [] = go (with_zero (interrupt_returned (with_al s 0)) true)
+poll_of s (byte ∷ rest) = go (with_zero (interrupt_returned (with_al (with_input s rest) byte)) false)
 
 unfoldable pub poll_character : State → Answer
 poll_character s = poll_of s s.console.input
@@ -63,4 +63,4 @@ status_of [] = 0
 status_of (byte ∷ rest) = 0xFF
 
 unfoldable pub check_input : State → Answer
-check_input s = go (returned (with_al s (status_of s.console.input)))
+check_input s = go (interrupt_returned (with_al s (status_of s.console.input)))

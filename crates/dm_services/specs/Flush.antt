@@ -3,7 +3,7 @@
 use Rattle.std.specs.Prelude.{ℕ, ◌==◌, if◌then◌else◌}
 use Rattle.dm_cpu.specs.Cpu.{byte_of}
 use Rattle.dm_ins.specs.declared.operand.ByteRegister.TheVariants.{Al}
-use Rattle.dm_state.specs.State.{State, Answer, go, returned}
+use Rattle.dm_state.specs.State.{State, Answer, go, interrupt_returned}
 use Rattle.dm_services.specs.Characters.{with_al, echo_character, direct_character, read_character}
 use Rattle.dm_services.specs.Lines.{read_line}
 
@@ -14,7 +14,7 @@ read_by s function =
     if function == 0x06 then direct_character s else
     if function == 0x07 then read_character s else
     if function == 0x08 then read_character s else
-    if function == 0x0A then read_line s else go (returned (with_al s 0))
+    if function == 0x0A then read_line s else go (interrupt_returned (with_al s 0))
 
 -- 0Ch: AL is the number of the call; AH stays
 unfoldable pub flush_and_read : State → Answer

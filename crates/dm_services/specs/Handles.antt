@@ -2,7 +2,7 @@
 -- Device" (40h). Handles 0 to 2 are the console, each in both directions; that 3 and 4 are bad is this machine's own.
 use Rattle.std.specs.Prelude.{ℕ, nat_lt, true, false, if◌then◌else◌, List, take, drop, length}
 use Rattle.dm_proc.specs.Writes.{bytes_from}
-use Rattle.dm_state.specs.State.{State, Answer, go, returned, with_carry}
+use Rattle.dm_state.specs.State.{State, Answer, go, interrupt_returned, with_carry}
 use Rattle.dm_services.specs.Characters.{with_input, with_written}
 use Rattle.dm_space.specs.Buffers.{with_bytes}
 
@@ -11,7 +11,7 @@ with_ax s ax = record s { cpu = record s.cpu { ax = ax } }
 
 -- a bad handle: AX = 6, CF = 1
 unfoldable pub bad_handle : State → Answer
-bad_handle s = go (with_carry (returned (with_ax s 6)) true)
+bad_handle s = go (with_carry (interrupt_returned (with_ax s 6)) true)
 
 -- the bytes stand at DS:DX and upwards
 abbrev pub with_read : State → List ℕ → State
@@ -20,7 +20,7 @@ with_read s bytes = record s { memory = with_bytes s.memory s.cpu.ds s.cpu.dx by
 -- the same, they are taken from the input, AX is their count, CF = 0
 abbrev pub read_from_console : State → List ℕ → Answer
 read_from_console s bytes =
-    go (with_carry (returned (with_ax (with_input (with_read s bytes) (drop (length bytes) s.console.input)) (length bytes))) false)
+    go (with_carry (interrupt_returned (with_ax (with_input (with_read s bytes) (drop (length bytes) s.console.input)) (length bytes))) false)
 
 -- 3Fh: the next CX bytes of the input, or all that are left
 unfoldable pub read_handle : State → Answer
@@ -29,7 +29,7 @@ read_handle s = if nat_lt s.cpu.bx 3 then read_from_console s (take s.cpu.cx s.c
 -- 40h: the CX bytes at DS:DX are written, AX = CX, CF = 0
 abbrev pub write_to_console : State → Answer
 write_to_console s =
-    go (with_carry (returned (with_ax (with_written s (bytes_from s.memory s.cpu.ds s.cpu.dx s.cpu.cx)) s.cpu.cx)) false)
+    go (with_carry (interrupt_returned (with_ax (with_written s (bytes_from s.memory s.cpu.ds s.cpu.dx s.cpu.cx)) s.cpu.cx)) false)
 
 -- 40h: to handles 0 to 2, the CX bytes at DS:DX are written
 unfoldable pub write_handle : State → Answer

@@ -5,7 +5,7 @@ use Rattle.std.specs.List.{filter, position}
 use Rattle.dm_space.specs.Memory.{Memory, linear, peek}
 use Rattle.dm_cpu.specs.Guest.{up}
 use Rattle.dm_state.specs.declared.stop.Stop.TheVariants.{InputEnded}
-use Rattle.dm_state.specs.State.{State, Answer, go, stop_at, returned}
+use Rattle.dm_state.specs.State.{State, Answer, go, stop_at, interrupt_returned}
 use Rattle.dm_space.specs.Buffers.{with_bytes}
 
 -- how many bytes stand before the first 0Dh, if there is one
@@ -31,11 +31,11 @@ with_line s m line = record s {
 -- where no 0Dh is left, the machine stops
 abbrev pub line_read : State → ℕ → Option ℕ → Answer
 line_read s m None = stop_at InputEnded s
-line_read s m (Some line) = go (returned (with_line s m line))
+line_read s m (Some line) = go (interrupt_returned (with_line s m line))
 
 -- a buffer for no byte stays as it is, and no input is taken
 abbrev pub line_into : State → ℕ → Answer
-line_into s m = if m == 0 then go (returned s) else line_read s m (line_length s.console.input)
+line_into s m = if m == 0 then go (interrupt_returned s) else line_read s m (line_length s.console.input)
 
 -- 0Ah: a line of the input goes into the buffer at DS:DX, whose byte 0 says for how many bytes it is
 unfoldable pub read_line : State → Answer

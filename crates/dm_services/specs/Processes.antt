@@ -13,7 +13,7 @@ use Rattle.dm_proc.specs.declared.parent.Ending.{Ending}
 use Rattle.dm_proc.specs.declared.parent.Ending.TheVariants.{Returned, Exited}
 use Rattle.dm_proc.specs.Processes.{Processes, Executes, Overlays, Terminates, Keeps}
 use Rattle.dm_state.specs.declared.stop.Stop.TheVariants as stop
-use Rattle.dm_state.specs.State.{State, Answer, go, stop_at, returned}
+use Rattle.dm_state.specs.State.{State, Answer, go, stop_at, interrupt_returned}
 use Rattle.dm_services.specs.Allocation.{answered}
 
 abbrev pub code_of : Refusal → ℕ
@@ -96,4 +96,4 @@ pub record Keeping (s : State) (x : Answer) : Type 0 where
 -- 4Dh: AX is the word of the last ending, which is told once
 unfoldable pub tell_code : State → Answer
 tell_code s =
-    go (returned (record s { cpu = record s.cpu { ax = s.processes.code }; processes = record s.processes { code = 0 } }))
+    go (interrupt_returned (record s { cpu = record s.cpu { ax = s.processes.code }; processes = record s.processes { code = 0 } }))

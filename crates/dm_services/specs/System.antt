@@ -1,11 +1,11 @@
 -- INT 21h, what the system tells of itself: MS-DOS Programmer's Reference, "Get MS-DOS Version Number" (30h), "Get PSP
 -- Address" (51h, 62h).
-use Rattle.dm_state.specs.State.{State, Answer, go, returned}
+use Rattle.dm_state.specs.State.{State, Answer, go, interrupt_returned}
 
 -- 30h: version 5.0, so AL = 5 and AH = 0; no serial number, BX = CX = 0
 unfoldable pub tell_version : State → Answer
-tell_version s = go (returned (record s { cpu = record s.cpu { ax = 5; bx = 0; cx = 0 } }))
+tell_version s = go (interrupt_returned (record s { cpu = record s.cpu { ax = 5; bx = 0; cx = 0 } }))
 
 -- 51h, 62h: BX is the present process's segment
 unfoldable pub tell_process : State → Answer
-tell_process s = go (returned (record s { cpu = record s.cpu { bx = s.processes.present } }))
+tell_process s = go (interrupt_returned (record s { cpu = record s.cpu { bx = s.processes.present } }))

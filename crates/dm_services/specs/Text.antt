@@ -3,7 +3,7 @@ use Rattle.std.specs.Prelude.{ℕ, ◌-◌, ◌++◌, ◌==◌, not, max, length
 use Rattle.dm_space.specs.Memory.{Memory}
 use Rattle.dm_console.specs.Streams.{Streams}
 use Rattle.dm_proc.specs.Writes.{bytes_from}
-use Rattle.dm_state.specs.State.{State, Answer, go, returned}
+use Rattle.dm_state.specs.State.{State, Answer, go, interrupt_returned}
 
 -- the bytes from segment:offset on, up to the first `$`, and at most n of them; offsets wrap
 unfoldable pub text_within : Memory → ℕ → ℕ → ℕ → List ℕ
@@ -19,4 +19,4 @@ written c text = record c { output = c.output ++ text; room = max c.room (length
 
 -- 09h: the text at DS:DX is written
 unfoldable pub print : State → Answer
-print s = go (returned (record s { console = written s.console (text_at s.memory s.cpu.ds s.cpu.dx) }))
+print s = go (interrupt_returned (record s { console = written s.console (text_at s.memory s.cpu.ds s.cpu.dx) }))

@@ -4,18 +4,18 @@ use Rattle.std.specs.Prelude.{ℕ, ◌+◌, ◌*◌}
 use Rattle.dm_space.specs.Memory.{Memory, peek16, poke16}
 use Rattle.dm_cpu.specs.Cpu.{byte_of}
 use Rattle.dm_ins.specs.declared.operand.ByteRegister.TheVariants.{Al}
-use Rattle.dm_state.specs.State.{State, Answer, go, returned}
+use Rattle.dm_state.specs.State.{State, Answer, go, interrupt_returned}
 
 abbrev pub with_vector : Memory → ℕ → ℕ → ℕ → Memory
 with_vector m number segment offset = poke16 (poke16 m 0 (4 * number) offset) 0 (4 * number + 2) segment
 
 -- 25h: vector AL is DS:DX
 unfoldable pub set_vector : State → Answer
-set_vector s = go (returned (record s { memory = with_vector s.memory (byte_of s.cpu Al) s.cpu.ds s.cpu.dx }))
+set_vector s = go (interrupt_returned (record s { memory = with_vector s.memory (byte_of s.cpu Al) s.cpu.ds s.cpu.dx }))
 
 -- 35h: ES:BX is vector AL
 unfoldable pub get_vector : State → Answer
-get_vector s = go (returned (record s {
+get_vector s = go (interrupt_returned (record s {
   cpu = record s.cpu {
     es = peek16 s.memory 0 (4 * byte_of s.cpu Al + 2);
     bx = peek16 s.memory 0 (4 * byte_of s.cpu Al);

@@ -79,8 +79,8 @@ abbrev pub with_guest : State → Guest → State
 with_guest s g = record s { cpu = g.cpu; memory = g.memory }
 
 -- IP, CS and FLAGS are popped
-abbrev pub returned : State → State
-returned s = with_guest s (interrupt_return (guest s.cpu s.memory))
+abbrev pub interrupt_returned : State → State
+interrupt_returned s = with_guest s (interrupt_return (guest s.cpu s.memory))
 
 -- IP and CS are popped
 abbrev pub far_returned : State → State

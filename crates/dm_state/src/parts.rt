@@ -1,6 +1,6 @@
 //! What services act on.
 ghost use Rattle.std.specs.Prelude.{◌≡◌};
-ghost use Rattle.dm_state.specs.State.{go, returned, far_returned};
+ghost use Rattle.dm_state.specs.State.{go, interrupt_returned, far_returned};
 
 use dm_arena::Strategy;
 use dm_console::Console;
@@ -83,7 +83,7 @@ impl Parts {
 
     /// Goes back to where the program called.
     pub fn give_back(&mut self)
-        ensures { self.new ≡ returned self.old }
+        ensures { self.new ≡ interrupt_returned self.old }
     {
         interrupt_return(&mut self.cpu, &self.space);
     }

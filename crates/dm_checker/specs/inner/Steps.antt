@@ -3,7 +3,7 @@ use Rattle.std.specs.Prelude.{◌≡◌, ℕ, List, ◌++◌, Option, Some, None
 use Rattle.dm_ins.specs.declared.ins.Ins.{Ins}
 use Rattle.dm_state.specs.declared.stop.Stop.{Stop}
 use Rattle.dm_state.specs.State.{State}
-use Rattle.dm_machine.specs.Step.{Begins, fetched}
+use Rattle.dm_machine.specs.Step.{BeginsWith, fetched}
 use Rattle.dm_machine.specs.Run.{Answers}
 use Rattle.dm_findings.specs.declared.finding.Act.{Act}
 use Rattle.dm_findings.specs.declared.finding.Finding.{Finding}
@@ -25,7 +25,7 @@ pub record IsBefore (s : State) (b : Before) : Type 0 where
 -- no call is served, and the bytes there begin no instruction
 pub record IsUnlisted (s : State) : Type 0 where
   pub call : call_of s.cpu ≡ None
-  pub none : (i : Ins) (length : ℕ) → Begins (fetched s.memory s.cpu) i length → ⊥
+  pub none : (i : Ins) (length : ℕ) → BeginsWith (fetched s.memory s.cpu) i length → ⊥
 
 abbrev pub found_by : Before → ℕ → Act → Finding → Found
 found_by b step a f = record { step = step; segment = b.cpu.cs; offset = b.cpu.ip; act = a; finding = f }
