@@ -9,5 +9,6 @@ mod runs;
 mod session;
 
 pub use laws::runs_have_one_answer;
+pub use points::Points;
 pub use refusal::Refusal;
 pub use session::Session;

@@ -14,7 +14,7 @@ use std::alloc::AllocError;
 pub(crate) const MOST: usize = 16;
 
 /// The breakpoints of a session.
-pub(crate) type Points = ArrayVec<Breakpoint, 16>;
+pub type Points = ArrayVec<Breakpoint, 16>;
 
 /// The breakpoint at an address.
 pub(crate) fn point_at(address: Address) -> Breakpoint

@@ -76,8 +76,9 @@ pub(crate) fn enter(machine: &mut Machine, segment: u16, offset: u16, bytes: &[u
     requires { HasProgram machine.old }
     ensures { machine.new ≡ record machine.old { memory = entered machine.old.memory segment offset bytes.now } }
 {
-    if let [byte, rest @ ..] = bytes {
-        machine.poke(segment, offset, *byte);
-        enter(machine, segment, offset.wrapping_add(1), rest);
+    let mut at = offset;
+    for byte in bytes {
+        machine.poke(segment, at, *byte);
+        at = at.wrapping_add(1);
     }
 }

@@ -5,8 +5,11 @@ ghost use Rattle.dm_state.specs.State.{HasProgram};
 ghost use Rattle.dm_out.specs.Out.{HasFailed};
 ghost use Rattle.dm_command.specs.declared.command.Command.TheVariants.{Break};
 ghost use Rattle.dm_command.specs.Commands.{command_of};
+ghost use Rattle.dm_machine.specs.Run.{IsRun};
+ghost use Rattle.dm_machine.specs.Until.{RunsUntil};
 ghost use Rattle.dm_debug.specs.Points.{with_point, without_point};
-ghost use Rattle.dm_debug.specs.Sessions.{new_session, done, with_points, with_entered, Does, DoesPart, clears_none, is_over, is_syntax, is_full, IsAnswered, IsCutOff, IsPartlyWritten};
+ghost use Rattle.dm_debug.specs.Runs.{entered};
+ghost use Rattle.dm_debug.specs.Sessions.{new_session, done, with_machine, with_points, with_entered, Does, DoesPart, clears_none, is_over, is_syntax, is_full, IsAnswered, IsCutOff, IsPartlyWritten};
 
 use crate::listings::{arena, dump, extended, output, pages, put_machine, unassemble};
 use crate::points::{MOST, Points, place_of, point_at, put_points};
@@ -14,7 +17,7 @@ use crate::refusal::Refusal;
 use crate::runs::{enter, go, trace};
 use arrayvec::ArrayVec;
 use dm_command::{Address, Bytes, Command, read_command};
-use dm_machine::{Machine, Out};
+use dm_machine::{Breakpoint, Machine, Out, Stop};
 use dm_out::write_all;
 use std::alloc::{AllocError, Global};
 use std::marker::Model;
@@ -52,6 +55,54 @@ impl Session {
             machine,
             points: ArrayVec::new(),
         }
+    }
+
+    /// A session over a machine on which a program is loaded, with these breakpoints.
+    pub fn from_parts(machine: Machine, points: Points) -> Session
+        requires { HasProgram machine }
+        ensures { result ≡ record { machine = machine; points = points.items } }
+    {
+        Session { machine, points }
+    }
+
+    /// The machine, on which a program is loaded, and the breakpoints.
+    pub fn into_parts(self) -> (Machine, Points)
+        ensures parts { self ≡ record { machine = result.0; points = result.1.items } }
+        ensures loaded { HasProgram result.0 }
+    {
+        (self.machine, self.points)
+    }
+
+    /// The machine that is debugged.
+    pub fn machine(&self) -> &Machine
+        ensures { result.now ≡ self.now.machine }
+    {
+        &self.machine
+    }
+
+    /// Makes at most `n` steps, but none after a step that led to one of these breakpoints, as `Machine::run_until`.
+    /// The breakpoints of the session do not count, and stay.
+    pub fn run_until(&mut self, n: u64, breakpoints: &[Breakpoint]) -> Option<Stop>
+        ensures run { RunsUntil self.old.machine n breakpoints.now result self.new.machine }
+        ensures points { self.new.points ≡ self.old.points }
+    {
+        self.machine.run_until(n, breakpoints)
+    }
+
+    /// Makes at most `n` steps, as `Machine::run`. The breakpoints of the session do not count, and stay.
+    pub fn run(&mut self, n: u64) -> Stop
+        ensures run { IsRun self.old.machine n result self.new.machine }
+        ensures points { self.new.points ≡ self.old.points }
+    {
+        self.machine.run(n)
+    }
+
+    /// Writes bytes upwards from segment:offset on; offsets wrap in their segment. Bytes of the ROM, and where there is
+    /// no memory, stay.
+    pub fn write(&mut self, segment: u16, offset: u16, bytes: &[u8])
+        ensures { self.new ≡ with_machine self.old (record self.old.machine { memory = entered self.old.machine.memory segment offset bytes.now }) }
+    {
+        enter(&mut self.machine, segment, offset, bytes);
     }
 
     /// Whether a breakpoint is set at an address.
@@ -185,6 +236,7 @@ impl Session {
         out: &mut O,
     ) -> Result<(), Refusal>
         ensures ok { OnOk result (IsAnswered self.old line.now self.new (O.taken out.old) (O.taken out.new)) }
+        ensures no_failure { OnOk result (O.failures out.new ≡ O.failures out.old) }
         ensures syntax { IsErrOf result Refusal.Syntax ↔ (is_syntax self.old (command_of line.now) ≡ true) }
         ensures full { IsErrOf result Refusal.Full ↔ (is_full self.old (command_of line.now) ≡ true) }
         ensures unchanged { IsErrOf result Refusal.Syntax ⊎ IsErrOf result Refusal.Full → (self.new ≡ self.old) × (out.new ≡ out.old) }
