@@ -5,6 +5,7 @@ use Rattle.std.specs.Io.{StopsAt, appended_bytes}
 use Rattle.std.specs.Io.BufRead.{take_through, drop_through, ends_with_byte, strip_last, DropsThrough}
 use Rattle.std.specs.Io.KnownBytes.{Appends, Consumes, IsAtEnd}
 use Rattle.dm_debug.specs.Debugged.{Debugged}
+use Rattle.dm_out.specs.Out.{HasFailed}
 use Rattle.dm_cli.specs.declared.fault.Fault.{Fault}
 use Rattle.dm_cli.specs.declared.fault.Fault.TheVariants.{InputTooLong, OutOfMemory}
 use Rattle.dm_cli.specs.Faults.{IsReadFault}
@@ -87,9 +88,9 @@ begun n s known before = record {
 
 -- what becomes of the rest, if it is all that is left
 concludes : {n left : ℕ} {s t : Debugged} {known before rest after : Option (List ℕ)} {more : Bool} → Spoken n s known before left t rest after more
-    → (ys further : List ℕ) (u : Debugged) (end : Option Fault) (whole : Bool) (final : Option (List ℕ)) (failures : ℕ) → (more ≡ false → ys ≡ []) → IfSome rest (λ xs. ys ≡ xs)
-    → Converses left t ys further u end whole → Appends after final further → (whole ≡ false → 0 < failures) → IsConversation n known s u before final failures end
-concludes {known} {before} {rest} {after} spoken ys further u end is_whole final failures none is h appends failed = record {
+    → (ys further : List ℕ) (u : Debugged) (end : Option Fault) (whole : Bool) (final : Option (List ℕ)) (opened failures : ℕ) → (more ≡ false → ys ≡ []) → IfSome rest (λ xs. ys ≡ xs)
+    → Converses left t ys further u end whole → Appends after final further → (whole ≡ false → HasFailed opened failures) → IsConversation n known s u before final opened failures end
+concludes {known} {before} {rest} {after} spoken ys further u end is_whole final opened failures none is h appends failed = record {
   whole = is_whole;
   failed = failed;
   text = spoken.consumed ++ ys;
@@ -155,9 +156,9 @@ never e = absurd (let c : true ≡ false = e in cc)
 going : {ys : List ℕ} → true ≡ false → ys ≡ []
 going e = absurd (let c : true ≡ false = e in cc)
 
-module _ {n left : ℕ} {s t : Debugged} {known before rest after : Option (List ℕ)} (failures : ℕ) where
+module _ {n left : ℕ} {s t : Debugged} {known before rest after : Option (List ℕ)} (opened failures : ℕ) where
   -- no line is left
-  pub ends : Spoken n s known before left t rest after false → IsConversation n known s t before after failures None
+  pub ends : Spoken n s known before left t rest after false → IsConversation n known s t before after opened failures None
   ends spoken = record {
     text = spoken.consumed ++ [];
     told = spoken.told ++ [];
@@ -174,9 +175,9 @@ module _ {n left : ℕ} {s t : Debugged} {known before rest after : Option (List
       all (Some x) (Some y) h e = ap (λ l. spoken.consumed ++ l) (sym e) ∙ sym h
 
   -- a line of no byte was read
-  pub ends_at : Spoken n s known before left t rest after true → (rest' : Option (List ℕ)) → Reads rest rest' [] → IsConversation n known s t before after failures None
+  pub ends_at : Spoken n s known before left t rest after true → (rest' : Option (List ℕ)) → Reads rest rest' [] → IsConversation n known s t before after opened failures None
   ends_at spoken rest' reads =
-      concludes spoken [] [] t None true after failures going (nothing rest rest' reads.consumes (reads.last refl)) (ended left t) (Appends-nil after) never
+      concludes spoken [] [] t None true after opened failures going (nothing rest rest' reads.consumes (reads.last refl)) (ended left t) (Appends-nil after) never
     where
       nothing : (a b : Option (List ℕ)) → Consumes a b [] → OnSome a (IsAtEnd b) → IfSome a (λ xs. [] ≡ xs)
       nothing None b h e = tt
@@ -185,68 +186,68 @@ module _ {n left : ℕ} {s t : Debugged} {known before rest after : Option (List
 
   -- the line ends the session
   pub quitted : Spoken n s known before left t rest after true → (line : List ℕ) (rest' : Option (List ℕ)) → Reads rest rest' line → length line ≤ left
-      → IsQuit (strip_last 10 line) → IsConversation n known s t before after failures None
+      → IsQuit (strip_last 10 line) → IsConversation n known s t before after opened failures None
   quitted spoken line rest' reads fits quit =
       let first = first_read rest rest' line reads in
-      concludes spoken (line ++ behind_of rest rest') [] t None true after failures going (whole_read rest rest' line reads.consumes)
+      concludes spoken (line ++ behind_of rest rest') [] t None true after opened failures going (whole_read rest rest' line reads.consumes)
       (quits left t (line ++ behind_of rest rest') (rw (first.0) fits) (rw (first.0) quit)) (Appends-nil after) never
 
   -- standard input can't be read
-  pub broken : Spoken n s known before left t rest after true → (fault : Fault) → IsReadFault fault → IsConversation n known s t before after failures (Some fault)
+  pub broken : Spoken n s known before left t rest after true → (fault : Fault) → IsReadFault fault → IsConversation n known s t before after opened failures (Some fault)
   broken spoken fault is =
-      concludes spoken (left_of rest) [] t (Some fault) true after failures going (left_is rest) (unread left t (left_of rest) fault is) (Appends-nil after) never
+      concludes spoken (left_of rest) [] t (Some fault) true after opened failures going (left_is rest) (unread left t (left_of rest) fault is) (Appends-nil after) never
 
   -- memory for the line was refused
-  pub lacking : Spoken n s known before left t rest after true → IsConversation n known s t before after failures (Some OutOfMemory)
-  lacking spoken = concludes spoken (left_of rest) [] t (Some OutOfMemory) true after failures going (left_is rest) (no_memory left t (left_of rest)) (Appends-nil after) never
+  pub lacking : Spoken n s known before left t rest after true → IsConversation n known s t before after opened failures (Some OutOfMemory)
+  lacking spoken = concludes spoken (left_of rest) [] t (Some OutOfMemory) true after opened failures going (left_is rest) (no_memory left t (left_of rest)) (Appends-nil after) never
 
   -- the line is too long
   pub exceeded : Spoken n s known before left t rest after true → (line : List ℕ) (rest' : Option (List ℕ)) → Reads rest rest' line → left < length line
-      → IsConversation n known s t before after failures (Some InputTooLong)
+      → IsConversation n known s t before after opened failures (Some InputTooLong)
   exceeded spoken line rest' reads long =
       let more = first_long line (behind_of rest rest') reads.stops in
-      concludes spoken (line ++ behind_of rest rest') [] t (Some InputTooLong) true after failures going (whole_read rest rest' line reads.consumes)
+      concludes spoken (line ++ behind_of rest rest') [] t (Some InputTooLong) true after opened failures going (whole_read rest rest' line reads.consumes)
       (too_long left t (line ++ behind_of rest rest') (omega (arith, long, more))) (Appends-nil after) never
 
   -- the line was not answered
   pub unanswered : Spoken n s known before left t rest after true → (line : List ℕ) (u : Debugged) (rest' after' : Option (List ℕ)) (fault : Fault) → Reads rest rest' line
-      → 0 < length line → length line ≤ left → ¬ IsQuit (strip_last 10 line) → IsUnanswered t (strip_last 10 line) u after after' failures fault
-      → IsConversation n known s u before after' failures (Some fault)
+      → 0 < length line → length line ≤ left → ¬ IsQuit (strip_last 10 line) → IsUnanswered t (strip_last 10 line) u after after' opened failures fault
+      → IsConversation n known s u before after' opened failures (Some fault)
   unanswered spoken line u rest' after' fault reads some fits other (cut_short cut kept) =
       let first = first_read rest rest' line reads in
-      concludes spoken (line ++ behind_of rest rest') [] u (Some OutOfMemory) true after' failures going (whole_read rest rest' line reads.consumes)
+      concludes spoken (line ++ behind_of rest rest') [] u (Some OutOfMemory) true after' opened failures going (whole_read rest rest' line reads.consumes)
       (cut_off left t u (line ++ behind_of rest rest') (not_empty line _ some) (rw (first.0) fits) (rw (first.0) other) (rw (first.0) cut)) (Appends-kept _ _ _ [] (Appends-nil after) kept) never
   unanswered spoken line u rest' after' fault reads some fits other (partly text f tells part failed is) =
       let first = first_read rest rest' line reads in
-      concludes spoken (line ++ behind_of rest rest') (take part.0 text) u (Some fault) false after' failures going (whole_read rest rest' line reads.consumes)
+      concludes spoken (line ++ behind_of rest rest') (take part.0 text) u (Some fault) false after' opened failures going (whole_read rest rest' line reads.consumes)
       (unwritten left t u (line ++ behind_of rest rest') text part.0 fault (not_empty line _ some) (rw (first.0) fits) (rw (first.0) other) (rw (first.0) tells) part.1 is) part.2
       (λ e. failed)
   unanswered spoken line u rest' after' fault reads some fits other (unflushed text f tells all failed is) =
       let first = first_read rest rest' line reads in
-      concludes spoken (line ++ behind_of rest rest') text u (Some fault) false after' failures going (whole_read rest rest' line reads.consumes)
+      concludes spoken (line ++ behind_of rest rest') text u (Some fault) false after' opened failures going (whole_read rest rest' line reads.consumes)
       (not_handed_on left t u (line ++ behind_of rest rest') text fault (not_empty line _ some) (rw (first.0) fits) (rw (first.0) other) (rw (first.0) tells) is) all (λ e. failed)
 
   -- ---- as the loop has them
 
   pub at_nothing : Spoken n s known before left t rest after true → (line : List ℕ) (rest' : Option (List ℕ)) (count : ℕ) → Counts left rest line rest' count → count ≡ 0
-      → IsConversation n known s t before after failures None
+      → IsConversation n known s t before after opened failures None
   at_nothing spoken [] rest' count read none = ends_at spoken rest' read.2
   at_nothing spoken (x ∷ xs) rest' count read none = absurd (let e = read.1 in omega (arith, e, none))
 
   pub at_quit : Spoken n s known before left t rest after true → (line shown : List ℕ) (rest' : Option (List ℕ)) (count : ℕ) → Counts left rest line rest' count
-      → shown ≡ strip_last 10 line → IsQuit shown → IsConversation n known s t before after failures None
+      → shown ≡ strip_last 10 line → IsQuit shown → IsConversation n known s t before after opened failures None
   at_quit spoken line shown rest' count read is quit = quitted spoken line rest' read.2 (rw read.1 at read.0) (rw is at quit)
 
   pub at_fault : Spoken n s known before left t rest after true → (line : List ℕ) (rest' : Option (List ℕ)) (fault : Fault)
       → IsReadFault fault ⊎ (fault ≡ OutOfMemory) ⊎ ((fault ≡ InputTooLong) × (left < length line) × Reads rest rest' line)
-      → IsConversation n known s t before after failures (Some fault)
+      → IsConversation n known s t before after opened failures (Some fault)
   at_fault spoken line rest' fault (inl why) = broken spoken fault why
   at_fault spoken line rest' fault (inr (inl is)) = rw is (lacking spoken)
   at_fault spoken line rest' fault (inr (inr long)) = rw (long.0) (exceeded spoken line rest' long.2 long.1)
 
   pub at_unanswered : Spoken n s known before left t rest after true → (line shown : List ℕ) (u : Debugged) (rest' after' : Option (List ℕ)) (count : ℕ) (fault : Fault)
-      → Counts left rest line rest' count → (0 < count) → shown ≡ strip_last 10 line → ¬ IsQuit shown → IsUnanswered t shown u after after' failures fault
-      → IsConversation n known s u before after' failures (Some fault)
+      → Counts left rest line rest' count → (0 < count) → shown ≡ strip_last 10 line → ¬ IsQuit shown → IsUnanswered t shown u after after' opened failures fault
+      → IsConversation n known s u before after' opened failures (Some fault)
   at_unanswered spoken line shown u rest' after' count fault read some is other h =
       unanswered spoken line u rest' after' fault read.2 (rw read.1 at some) (rw read.1 at read.0) (rw is at other) (rw is at h)
 

@@ -60,10 +60,10 @@ uncut _ _ _ _ _ _ _ (unwritten n s t ys told k fault h fits other tells within i
 uncut _ _ _ _ _ _ _ (not_handed_on n s t ys told fault h fits other tells is_fault) xs e =
     let is = (same n ys xs e fits).0 in not_handed_on n s t xs told fault (some n ys xs h e) (rw is at fits) (rw is at other) (rw is at tells) is_fault
 
-pub whole_conversation : (n : ℕ) (known : Option (List ℕ)) (s t : Debugged) (a b : Option (List ℕ)) (failures : ℕ) (end : Option Fault) → IsConversation n (option_map (take (suc n)) known) s t a b failures end
-    → IsConversation n known s t a b failures end
-whole_conversation n None s t a b failures end h = record { text = h.text; told = h.told; whole = h.whole; read = tt; converses = h.converses; written = h.written; failed = h.failed }
-whole_conversation n (Some xs) s t a b failures end h = record {
+pub whole_conversation : (n : ℕ) (known : Option (List ℕ)) (s t : Debugged) (a b : Option (List ℕ)) (opened failures : ℕ) (end : Option Fault) → IsConversation n (option_map (take (suc n)) known) s t a b opened failures end
+    → IsConversation n known s t a b opened failures end
+whole_conversation n None s t a b opened failures end h = record { text = h.text; told = h.told; whole = h.whole; read = tt; converses = h.converses; written = h.written; failed = h.failed }
+whole_conversation n (Some xs) s t a b opened failures end h = record {
   whole = h.whole;
   failed = h.failed;
   text = xs;
@@ -73,10 +73,10 @@ whole_conversation n (Some xs) s t a b failures end h = record {
   written = h.written;
 }
 
-pub session_end : {A : Type 0} (r : Result A Fault) (n : ℕ) (known : Option (List ℕ)) (s t : Debugged) (a b : Option (List ℕ)) (failures : ℕ) → OnOk r (IsConversation n known s t a b failures None)
-    → IfErr r (λ e. IsConversation n known s t a b failures (Some e)) → IsConversation n known s t a b failures (end_of r)
-session_end (Ok x) n known s t a b failures ok err = ok
-session_end (Err e) n known s t a b failures ok err = err
+pub session_end : {A : Type 0} (r : Result A Fault) (n : ℕ) (known : Option (List ℕ)) (s t : Debugged) (a b : Option (List ℕ)) (opened failures : ℕ) → OnOk r (IsConversation n known s t a b opened failures None)
+    → IfErr r (λ e. IsConversation n known s t a b opened failures (Some e)) → IsConversation n known s t a b opened failures (end_of r)
+session_end (Ok x) n known s t a b opened failures ok err = ok
+session_end (Err e) n known s t a b opened failures ok err = err
 
 -- ---- the reader of a session
 

@@ -30,14 +30,9 @@ told_command s t line a b no_syntax no_full h = record {
 pub has_risen : (old new : ℕ) → new ≡ min (old + 1) most_failures → HasFailed old new
 has_risen old new is = grind (arith, common_steps, is)
 
--- a call has failed at some time
-pub ever_failed : (old new : ℕ) → HasFailed old new → 0 < new
-ever_failed old new (inl h) = omega (arith, h)
-ever_failed old new (inr h) = omega (arith, h)
-
-pub part_of_command : (s t : Debugged) (line : List ℕ) (a b : Option (List ℕ)) (failures : ℕ) (fault : Fault) → ¬ (is_syntax s (command_of line) ≡ true) → ¬ (is_full s (command_of line) ≡ true)
-    → IsPartlyWritten s line t a b → 0 < failures → IsWriteFault fault → IsUnanswered s line t a b failures fault
-part_of_command s t line a b failures fault no_syntax no_full h failed is =
+pub part_of_command : (s t : Debugged) (line : List ℕ) (a b : Option (List ℕ)) (opened failures : ℕ) (fault : Fault) → ¬ (is_syntax s (command_of line) ≡ true) → ¬ (is_full s (command_of line) ≡ true)
+    → IsPartlyWritten s line t a b → HasFailed opened failures → IsWriteFault fault → IsUnanswered s line t a b opened failures fault
+part_of_command s t line a b opened failures fault no_syntax no_full h failed is =
     partly h.text fault (answered h.command t h.text h.read (rw h.read at (not_true _ no_syntax)) (rw h.read at (not_true _ no_full)) h.does) h.written failed is
 
 -- why a line is refused
@@ -48,18 +43,18 @@ told_refusal s t line text a b c tells same kept h = record {
   written = subst (λ o. Appends o c text) kept h;
 }
 
-pub part_of_refusal : (s t : Debugged) (line text : List ℕ) (a b c : Option (List ℕ)) (failures : ℕ) (fault : Fault) → Tells s line s text → t ≡ s → b ≡ a
-    → IsWriteFault fault × AppendsPart b c text × (0 < failures) → IsUnanswered s line t a c failures fault
-part_of_refusal s t line text a b c failures fault tells same kept h =
+pub part_of_refusal : (s t : Debugged) (line text : List ℕ) (a b c : Option (List ℕ)) (opened failures : ℕ) (fault : Fault) → Tells s line s text → t ≡ s → b ≡ a
+    → IsWriteFault fault × AppendsPart b c text × (HasFailed opened failures) → IsUnanswered s line t a c opened failures fault
+part_of_refusal s t line text a b c opened failures fault tells same kept h =
     partly text fault (subst (λ u. Tells s line u text) (sym same) tells) (subst (λ o. AppendsPart o c text) kept h.1) h.2 h.0
 
 -- an answer that was written, and then not handed on
-pub not_flushed : (s t : Debugged) (line : List ℕ) (a b c : Option (List ℕ)) (failures : ℕ) (fault : Fault) → IsAnsweredBy s line t a b → Keeps b c → 0 < failures
-    → IsWriteFault fault → IsUnanswered s line t a c failures fault
-not_flushed s t line a b c failures fault h kept failed is = unflushed h.text fault h.tells (Appends-kept a b c h.text h.written kept) failed is
+pub not_flushed : (s t : Debugged) (line : List ℕ) (a b c : Option (List ℕ)) (opened failures : ℕ) (fault : Fault) → IsAnsweredBy s line t a b → Keeps b c → HasFailed opened failures
+    → IsWriteFault fault → IsUnanswered s line t a c opened failures fault
+not_flushed s t line a b c opened failures fault h kept failed is = unflushed h.text fault h.tells (Appends-kept a b c h.text h.written kept) failed is
 
 pub handed_on : (s t : Debugged) (line : List ℕ) (a b c : Option (List ℕ)) → IsAnsweredBy s line t a b → Keeps b c → IsAnsweredBy s line t a c
 handed_on s t line a b c h kept = record { text = h.text; tells = h.tells; written = Appends-kept a b c h.text h.written kept }
 
-pub cut_at : (s t : Debugged) (line : List ℕ) (a b : Option (List ℕ)) (failures : ℕ) → IsCutOff s line t → b ≡ a → IsUnanswered s line t a b failures OutOfMemory
-cut_at s t line a b failures h kept = cut_short h (subst (λ o. Keeps a o) (sym kept) (Keeps-refl a))
+pub cut_at : (s t : Debugged) (line : List ℕ) (a b : Option (List ℕ)) (opened failures : ℕ) → IsCutOff s line t → b ≡ a → IsUnanswered s line t a b opened failures OutOfMemory
+cut_at s t line a b opened failures h kept = cut_short h (subst (λ o. Keeps a o) (sym kept) (Keeps-refl a))

@@ -7,6 +7,7 @@ use Rattle.dm_command.specs.Commands.{command_of}
 use Rattle.dm_debug.specs.Debugged.{Debugged}
 use Rattle.dm_debug.specs.Sessions.{Does, IsCutOff, is_syntax, is_full, new_session}
 use Rattle.dm_options.specs.declared.command_line.DebugOptions.{DebugOptions}
+use Rattle.dm_out.specs.Out.{HasFailed}
 use Rattle.dm_state.specs.State.{State}
 use Rattle.dm_cli.specs.Faults.{IsReadFault, IsWriteFault}
 use Rattle.dm_cli.specs.Starting.{IsStartedBy, IsStartFault, typed_in}
@@ -49,24 +50,24 @@ pub data Converses : ℕ → Debugged → List ℕ → List ℕ → Debugged →
   not_handed_on : (n : ℕ) (s t : Debugged) (text told : List ℕ) (fault : Fault) → text ≢ [] → length (take_through 10 text) ≤ n
       → ¬ IsQuit (first_piece 10 text) → Tells s (first_piece 10 text) t told → IsWriteFault fault → Converses n s text told t (Some fault) false
 
--- the lines of a reader, whose bytes are known or not, and what was appended to a writer: an answer is cut or not
--- handed on only where a write or a flush failed
-pub record IsConversation (n : ℕ) (known : Option (List ℕ)) (s t : Debugged) (before after : Option (List ℕ)) (failures : ℕ) (end : Option Fault) : Type 0 where
+-- the lines of a reader, whose bytes are known or not, what was appended to a writer, and the count of its failures
+-- before and after: an answer is cut or not handed on only where a write or a flush failed in between
+pub record IsConversation (n : ℕ) (known : Option (List ℕ)) (s t : Debugged) (before after : Option (List ℕ)) (opened failures : ℕ) (end : Option Fault) : Type 0 where
   pub text : List ℕ
   pub told : List ℕ
   pub whole : Bool
   pub read : IfSome known (λ xs. text ≡ xs)
   pub converses : Converses n s text told t end whole
   pub written : Appends before after told
-  pub failed : whole ≡ false → 0 < failures
+  pub failed : whole ≡ false → HasFailed opened failures
 
 -- ---- the command
 
 -- `dm debug`: the answers to the lines of standard input, which may have 16 MiB in all, up to a fault if there is one;
 -- or nothing
-pub data Debugs (files : List ℕ → Option (List ℕ)) (typed : Option (List ℕ)) (o : DebugOptions) (before after : Option (List ℕ)) (failures : ℕ) : Option Fault → Type 0 where
+pub data Debugs (files : List ℕ → Option (List ℕ)) (typed : Option (List ℕ)) (o : DebugOptions) (before after : Option (List ℕ)) (opened failures : ℕ) : Option Fault → Type 0 where
   conversed : (m : State) (t : Debugged) (end : Option Fault) → IsStartedBy files (typed_in files o) o.machine m
-      → IsConversation 16777216 typed (new_session m) t before after failures end → Debugs files typed o before after failures end
+      → IsConversation 16777216 typed (new_session m) t before after opened failures end → Debugs files typed o before after opened failures end
   not_begun : (fault : Fault) → IsStartFault files (typed_in files o) (option_map (λ path. path.now) o.input) o.machine fault → Keeps before after
-      → Debugs files typed o before after failures (Some fault)
-  no_buffer : Keeps before after → Debugs files typed o before after failures (Some OutOfMemory)
+      → Debugs files typed o before after opened failures (Some fault)
+  no_buffer : Keeps before after → Debugs files typed o before after opened failures (Some OutOfMemory)

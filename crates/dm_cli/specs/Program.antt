@@ -74,7 +74,7 @@ pub data Does (g : Given) (words : List Text) (l : Left) : Type 0 where
       → IfOk outcome (λ stop. Prints (stop_text stop) g.messages l.messages) → l.saved ≡ g.saved → l.status ≡ status_of outcome → Does g words l
   checks : (o : MachineOptions) (outcome : Result ℕ Fault) → Asks words (command.Check o) → Checks g.files g.typed o g.output l.output g.failures l.failures g.messages l.messages outcome
       → l.saved ≡ g.saved → l.status ≡ check_status outcome → Does g words l
-  debugs : (o : DebugOptions) (end : Option Fault) → Asks words (command.Debug o) → Debugs g.files g.typed o g.output l.output l.failures end
+  debugs : (o : DebugOptions) (end : Option Fault) → Asks words (command.Debug o) → Debugs g.files g.typed o g.output l.output g.failures l.failures end
       → l.saved ≡ g.saved → l.status ≡ status_after end → Does g words l
   assembles : (o : AsmOptions) (end : Option Fault) → Asks words (command.Asm o) → Assembles g.files o g.saved l.saved g.failed_saves l.failed_saves end
       → Keeps g.output l.output → l.status ≡ status_after end → Does g words l

@@ -2,7 +2,7 @@
 ghost use Rattle.std.specs.Prelude.{◌≡◌, ◌<◌, ◌≤◌, ◌⊎◌, ◌↔◌, Some, None, IfErr, IfOk, IsTrue, OnOk, length};
 ghost use Rattle.std.specs.Io.BufRead.{ends_with_byte, strip_last};
 ghost use Rattle.std.specs.Io.KnownBytes.{Appends};
-ghost use Rattle.dm_out.specs.Out.{AppendsPart};
+ghost use Rattle.dm_out.specs.Out.{AppendsPart, HasFailed};
 ghost use Rattle.dm_cli.specs.inner.Statuses.{end_of};
 ghost use Rattle.dm_cli.specs.Debugging.{Debugs, IsConversation, IsQuit};
 ghost use Rattle.dm_cli.specs.inner.Debugging.{IsAnsweredBy, IsUnanswered, Reads};
@@ -80,7 +80,8 @@ fn next_line<R: BufRead>(
 /// Writes that a line has an error.
 fn refuse<W: Out>(out: &mut W, told: &[u8]) -> Result<(), Fault<'static>>
     ensures ok { OnOk result (Appends (W.taken out.old) (W.taken out.new) told.now) }
-    ensures err { IfErr result (λ e. IsWriteFault e × AppendsPart (W.taken out.old) (W.taken out.new) told.now × (0 < W.failures out.new)) }
+    ensures no_failure { OnOk result (W.failures out.new ≡ W.failures out.old) }
+    ensures err { IfErr result (λ e. IsWriteFault e × AppendsPart (W.taken out.old) (W.taken out.new) told.now × HasFailed (W.failures out.old) (W.failures out.new)) }
 {
     match write_all(out, told) {
         Ok(()) => Ok(()),
@@ -96,7 +97,8 @@ fn answer<W: Out>(
     out: &mut W,
 ) -> Result<(), Fault<'static>>
     ensures ok { OnOk result (IsAnsweredBy session.old line.now session.new (W.taken out.old) (W.taken out.new)) }
-    ensures err { IfErr result (IsUnanswered session.old line.now session.new (W.taken out.old) (W.taken out.new) (W.failures out.new)) }
+    ensures no_failure { OnOk result (W.failures out.new ≡ W.failures out.old) }
+    ensures err { IfErr result (IsUnanswered session.old line.now session.new (W.taken out.old) (W.taken out.new) (W.failures out.old) (W.failures out.new)) }
 {
     match session.command(alloc, line, out) {
         Ok(()) => Ok(()),
@@ -115,7 +117,8 @@ fn answer_at_once<W: Out>(
     out: &mut W,
 ) -> Result<(), Fault<'static>>
     ensures ok { OnOk result (IsAnsweredBy session.old line.now session.new (W.taken out.old) (W.taken out.new)) }
-    ensures err { IfErr result (IsUnanswered session.old line.now session.new (W.taken out.old) (W.taken out.new) (W.failures out.new)) }
+    ensures no_failure { OnOk result (W.failures out.new ≡ W.failures out.old) }
+    ensures err { IfErr result (IsUnanswered session.old line.now session.new (W.taken out.old) (W.taken out.new) (W.failures out.old) (W.failures out.new)) }
 {
     answer(alloc, session, line, out)?;
     match out.flush() {
@@ -132,8 +135,8 @@ fn converse<R: BufRead, W: Out>(
     commands: &mut R,
     out: &mut W,
 ) -> Result<(), Fault<'static>>
-    ensures ok { OnOk result (IsConversation 16777216 (R.remaining commands.old) session.old session.new (W.taken out.old) (W.taken out.new) (W.failures out.new) None) }
-    ensures err { IfErr result (λ e. IsConversation 16777216 (R.remaining commands.old) session.old session.new (W.taken out.old) (W.taken out.new) (W.failures out.new) (Some e)) }
+    ensures ok { OnOk result (IsConversation 16777216 (R.remaining commands.old) session.old session.new (W.taken out.old) (W.taken out.new) (W.failures out.old) (W.failures out.new) None) }
+    ensures err { IfErr result (λ e. IsConversation 16777216 (R.remaining commands.old) session.old session.new (W.taken out.old) (W.taken out.new) (W.failures out.old) (W.failures out.new) (Some e)) }
 {
     let mut line = Vec::new(alloc);
     let mut left = MOST_BYTES;
@@ -159,7 +162,7 @@ pub(crate) fn debug<'a, F: Storage, I: Read + Drop, W: Out>(
     commands: I,
     out: &mut W,
 ) -> Result<(), Fault<'a>>
-    ensures { Debugs (F.contents storage.now) (I.remaining commands) options.now (W.taken out.old) (W.taken out.new) (W.failures out.new) (end_of result) }
+    ensures { Debugs (F.contents storage.now) (I.remaining commands) options.now (W.taken out.old) (W.taken out.new) (W.failures out.old) (W.failures out.new) (end_of result) }
 {
     let machine = loaded_for_debug(alloc, storage, options)?;
     let mut session = Session::new(machine);

@@ -1,11 +1,11 @@
 -- For private contracts and proofs alone: beside specs/Debugging.antt.
-use Rattle.std.specs.Prelude.{ℕ, ◌≡◌, ◌<◌, false, List, Option, OnSome}
+use Rattle.std.specs.Prelude.{ℕ, ◌≡◌, false, List, Option, OnSome}
 use Rattle.std.specs.Io.{StopsAt}
 use Rattle.std.specs.Io.BufRead.{ends_with_byte}
 use Rattle.std.specs.Io.KnownBytes.{Appends, Consumes, IsAtEnd, Keeps}
 use Rattle.dm_debug.specs.Debugged.{Debugged}
 use Rattle.dm_debug.specs.Sessions.{IsCutOff}
-use Rattle.dm_out.specs.Out.{AppendsPart}
+use Rattle.dm_out.specs.Out.{AppendsPart, HasFailed}
 use Rattle.dm_cli.specs.Faults.{IsWriteFault}
 use Rattle.dm_cli.specs.declared.fault.Fault.{Fault}
 use Rattle.dm_cli.specs.declared.fault.Fault.TheVariants.{OutOfMemory}
@@ -26,7 +26,7 @@ pub record IsAnsweredBy (s : Debugged) (line : List ℕ) (t : Debugged) (before 
 
 -- it was not: memory for its answer was refused, and nothing was written; or a first part of its answer was written,
 -- and a write failed; or all of it, and the flush that hands it on failed
-pub data IsUnanswered (s : Debugged) (line : List ℕ) (t : Debugged) (before after : Option (List ℕ)) (failures : ℕ) : Fault → Type 0 where
-  cut_short : IsCutOff s line t → Keeps before after → IsUnanswered s line t before after failures OutOfMemory
-  partly : (text : List ℕ) (fault : Fault) → Tells s line t text → AppendsPart before after text → 0 < failures → IsWriteFault fault → IsUnanswered s line t before after failures fault
-  unflushed : (text : List ℕ) (fault : Fault) → Tells s line t text → Appends before after text → 0 < failures → IsWriteFault fault → IsUnanswered s line t before after failures fault
+pub data IsUnanswered (s : Debugged) (line : List ℕ) (t : Debugged) (before after : Option (List ℕ)) (opened failures : ℕ) : Fault → Type 0 where
+  cut_short : IsCutOff s line t → Keeps before after → IsUnanswered s line t before after opened failures OutOfMemory
+  partly : (text : List ℕ) (fault : Fault) → Tells s line t text → AppendsPart before after text → HasFailed opened failures → IsWriteFault fault → IsUnanswered s line t before after opened failures fault
+  unflushed : (text : List ℕ) (fault : Fault) → Tells s line t text → Appends before after text → HasFailed opened failures → IsWriteFault fault → IsUnanswered s line t before after opened failures fault
