@@ -4,7 +4,7 @@ use Rattle.std.proofs.lemmas.Bool.{false≢true}
 use Rattle.std.proofs.lemmas.Bool.Decides.{nat_tests}
 use Rattle.std.proofs.lemmas.List.{get_or_default}
 use Rattle.std.specs.Prelude.{if◌then◌else◌, slice_index_or, is_some, get_or, ◌&&◌, IfSome, IsTrue}
-use Rattle.dm_pool.specs.declared.places.Place.{Place as Span}
+use Rattle.dm_pool.specs.declared.places.Place.{Place as Extent}
 use Rattle.dm_pool.specs.Blocks.{Blocks, IsLive}
 use Rattle.dm_space.specs.declared.place.Place.{Place}
 use Rattle.dm_space.specs.declared.place.Place.TheVariants.{Low, Page, Rom, Nothing}
@@ -127,7 +127,7 @@ kept_page S T h block c low high e live is = (
   is ∙ contents_by_five _ _ (λ k less. sym (ap (byte_at T) (page_there S h k block low high (omega arith) e))),
 )
 
-live_false : (s : Blocks) (block : ℕ) (o : Option Span) → get_or s.places block None ≡ o → (IsLive s block → ⊥) → (b : Bool) → nat_lt block 576 ≡ b → is_live s block ≡ false
+live_false : (s : Blocks) (block : ℕ) (o : Option Extent) → get_or s.places block None ≡ o → (IsLive s block → ⊥) → (b : Bool) → nat_lt block 576 ≡ b → is_live s block ≡ false
 live_false s block o e dead false t = ap (λ (x : Bool). x && is_some (get_or s.places block None)) t
 live_false s block None e dead true t = ap₂ (λ (x y : Bool). x && y) t (ap is_some e)
 live_false s block (Some p) e dead true t = absurd (dead (grind (arith, nat_tests), (p, e)))

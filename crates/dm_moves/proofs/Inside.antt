@@ -1,7 +1,7 @@
 -- Where the bytes of a span are.
 use Rattle.std.proofs.Common.{◌≡◌, ℕ, ◌+◌, ◌*◌, ◌/◌, ◌%◌, ◌<◌, ◌≤◌, List, Option, None, length, get_or, refl, ◌∙◌, ap, subst, arith}
 use Rattle.std.specs.Prelude.{slice_index}
-use Rattle.dm_pool.specs.declared.places.Place.{Place as Span}
+use Rattle.dm_pool.specs.declared.places.Place.{Place as Extent}
 use Rattle.dm_pool.specs.Blocks.{IsLive}
 use Rattle.dm_space.specs.Memory.{Memory, IsPage, page_bytes}
 use Rattle.dm_space.specs.Places.{IsShaped}
@@ -22,7 +22,7 @@ pub inside-less : (m : Memory) (r : Span) (k n : ℕ) → k ≤ n → IsInside m
 inside-less m r k n h i = record { small = omega (arith, h, i.small); within = within-less m r.kind r.blocks (r.start + k) (r.start + n) (omega (arith, h)) i.within }
 
 live_kept : (m t : Memory) (b : ℕ) → IsShaped m t → IsLive m.blocks b → IsLive t.blocks b
-live_kept m t b s p = (p.0, (p.1.0, ap (λ (xs : List (Option Span)). get_or xs b None) s.places ∙ p.1.1))
+live_kept m t b s p = (p.0, (p.1.0, ap (λ (xs : List (Option Extent)). get_or xs b None) s.places ∙ p.1.1))
 
 within-shaped : (m t : Memory) (kind : SpanKind) (blocks : List ℕ) (e : ℕ) → IsShaped m t → IsWithin m kind blocks e → IsWithin t kind blocks e
 within-shaped m t Linear blocks e s w = w

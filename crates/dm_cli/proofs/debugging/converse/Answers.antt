@@ -27,10 +27,12 @@ returns-in_err-answer_at_once-clause-err g c =
     (subst (λ opened. IsUnanswered _ _ _ _ _ opened _ _) c.loop-has_more.invariant.1 c.in_err-answer_at_once.ensures.err))
 
 pub loop-has_more-preserved : goal.loop-has_more-preserved
-loop-has_more-preserved g c =
-    (rw c.drop_end-has_more.ensures.had (at_answered 0 0 (rw c.loop-has_more-test.true at c.loop-has_more.invariant.0) _ _ _ _ _ _ c.in_ok-count.ensures.line (omega (arith, c.if-count-eq0.false))
-    (c.as_slice-text.ensures.value ∙ c.drop_end-has_more.ensures.dropped) (λ q. let u : false ≡ true = sym c.if-is_quit.false ∙ c.is_quit.ensures.1 q in cc)
-    c.in_ok-answer_at_once.ensures.ok), c.in_ok-answer_at_once.ensures.no_failure ∙ c.loop-has_more.invariant.1)
+loop-has_more-preserved g c = (
+  rw c.drop_end-has_more.ensures.had (at_answered 0 0 (rw c.loop-has_more-test.true at c.loop-has_more.invariant.0) _ _ _ _ _ _ c.in_ok-count.ensures.line (omega (arith, c.if-count-eq0.false))
+      (c.as_slice-text.ensures.value ∙ c.drop_end-has_more.ensures.dropped) (λ q. let u : false ≡ true = sym c.if-is_quit.false ∙ c.is_quit.ensures.1 q in cc)
+      c.in_ok-answer_at_once.ensures.ok),
+  c.in_ok-answer_at_once.ensures.no_failure ∙ c.loop-has_more.invariant.1,
+)
 
 pub returns-clause-ok : goal.returns-clause-ok
 returns-clause-ok g c = ends _ _ (rw c.loop-has_more-test.false at c.loop-has_more.invariant.0)
