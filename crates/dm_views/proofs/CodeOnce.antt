@@ -6,7 +6,8 @@ use Rattle.dm_space.specs.Memory.{Memory}
 use Rattle.dm_ins.specs.declared.ins.Ins.{Ins}
 use Rattle.dm_decode.proofs.Exact.{no_front}
 use Rattle.dm_cpu.specs.declared.cpu.Cpu.{Cpu}
-use Rattle.dm_views.specs.Code.{up, sixteen, listed_line, StandsInMemory, IsLine, listed, unlisted, AreLines, none, more, IsCode}
+use Rattle.dm_cpu.specs.Guest.{up}
+use Rattle.dm_views.specs.Code.{sixteen, listed_line, StandsInMemory, IsLine, listed, unlisted, AreLines, none, more, IsCode}
 use Rattle.dm_views.specs.Registers.{fields_text, general, special, IsRegistersText}
 
 -- ---- one instruction stands at an address

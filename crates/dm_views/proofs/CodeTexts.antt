@@ -3,7 +3,9 @@ use Rattle.std.proofs.Common.{◌≡◌, ℕ, ◌+◌, ◌≤◌, List, [], ◌+
 use Rattle.dm_space.specs.Memory.{Memory}
 use Rattle.dm_ins.specs.declared.ins.Ins.{Ins}
 use Rattle.dm_decode.specs.Decoded.{Decodes}
-use Rattle.dm_views.specs.Code.{up, byte_after, sixteen, listed_line, unlisted_line, StandsInMemory, IsLine, listed, unlisted, AreLines, none, more, IsCode}
+use Rattle.dm_cpu.specs.Guest.{up}
+use Rattle.dm_space.specs.EightBytes.{byte_after}
+use Rattle.dm_views.specs.Code.{sixteen, listed_line, unlisted_line, StandsInMemory, IsLine, listed, unlisted, AreLines, none, more, IsCode}
 
 -- the bytes there begin with a spelling of the instruction
 pub stands : (m : Memory) (s o : ℕ) (window : List ℕ) (i : Ins) (k : ℕ) → window ≡ sixteen m s o → Decodes window (Some (i, k)) → StandsInMemory m s o i k

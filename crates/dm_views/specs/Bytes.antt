@@ -3,7 +3,8 @@
 use Rattle.std.specs.Prelude.{ℕ, ◌+◌, ◌-◌, ◌*◌, ◌/◌, ◌&&◌, min, nat_le, if◌then◌else◌, List, [], ◌∷◌, ◌++◌, codes}
 use Rattle.dm_space.specs.Memory.{Memory}
 use Rattle.dm_views.specs.Digits.{two, address_text, numbered}
-use Rattle.dm_views.specs.Code.{up, byte_after}
+use Rattle.dm_cpu.specs.Guest.{up}
+use Rattle.dm_space.specs.EightBytes.{byte_after}
 
 -- what can be printed is told as it is, all else as a point
 abbrev pub shown : ℕ → ℕ

@@ -1,21 +1,15 @@
 -- Instructions that stand in memory, as lines: the address, the bytes as joined pairs of digits, and the text.
 -- Source: MS-DOS User's Reference, "DEBUG" (Unassemble); Intel 8086 Family User's Manual, section 4 (encoding). The
 -- form is this machine's own.
-use Rattle.std.specs.Prelude.{ℕ, ◌+◌, ◌%◌, ◌≤◌, List, [], ◌∷◌, ◌++◌, map, take, codes}
+use Rattle.std.specs.Prelude.{ℕ, ◌+◌, ◌≤◌, List, [], ◌∷◌, ◌++◌, map, take, codes}
 use Rattle.std.specs.List.{flat_map}
-use Rattle.dm_space.specs.Memory.{Memory, linear, peek}
+use Rattle.dm_space.specs.Memory.{Memory}
+use Rattle.dm_space.specs.EightBytes.{byte_after}
 use Rattle.dm_ins.specs.declared.ins.Ins.{Ins}
 use Rattle.dm_ins.specs.Ins.{Spells}
+use Rattle.dm_cpu.specs.Guest.{up}
 use Rattle.dm_text.specs.Texts.{text_of}
 use Rattle.dm_views.specs.Digits.{two, address_text}
-
--- offsets wrap at 65,536
-abbrev pub up : ℕ → ℕ → ℕ
-up offset k = (offset + k) % 65536
-
--- the byte k places behind segment:offset
-abbrev pub byte_after : Memory → ℕ → ℕ → ℕ → ℕ
-byte_after m segment offset k = peek m (linear m.a20 segment (up offset k))
 
 -- the sixteen bytes from segment:offset on; no instruction is longer
 unfoldable pub sixteen : Memory → ℕ → ℕ → List ℕ
