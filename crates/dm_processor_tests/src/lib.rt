@@ -25,4 +25,6 @@ mod memory;
 #[cfg(test)]
 mod operands;
 #[cfg(test)]
+mod registers;
+#[cfg(test)]
 mod rows;
