@@ -53,7 +53,7 @@ uncalled s x (Some service) d e none h = absurd (some_none _ none)
 uncalled s x None (Some driver) e none h = absurd (some_none _ none)
 uncalled s x None None e none h = (let F : Option Driver → Type 0 = λ d. Drives s d x in subst F e h)
 
-uncalled_acts : (s : State) (x : Answer) → call_of s.cpu ≡ None → Acts s (service_at s.cpu) x → Instructs s x
+pub uncalled_acts : (s : State) (x : Answer) → call_of s.cpu ≡ None → Acts s (service_at s.cpu) x → Instructs s x
 unfolding call_of
 uncalled_acts s x none h = uncalled s x (service_at s.cpu) (driver_at s.cpu) refl none h
 

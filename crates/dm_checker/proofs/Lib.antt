@@ -15,3 +15,6 @@ pub mod Looking
 pub mod Stepping
 pub mod Checking
 pub mod Fetched
+pub mod Writing
+pub mod Reading
+pub mod Once

@@ -1,7 +1,8 @@
 -- One checked step.
 use Rattle.std.proofs.Common.{◌≡◌, ℕ, Bool, true, false, List, [], ◌++◌, map, Option, Some, None, refl, sym, ◌∙◌, ap, ap₂, subst, append-nil}
 use Rattle.std.specs.Prelude.{if◌then◌else◌, slice_index_or, IfSome}
-use Rattle.dm_space.specs.Memory.{IsPage}
+use Rattle.dm_space.specs.Memory.{Memory, IsPage}
+use Rattle.dm_blocks.specs.declared.header.Header.{Header}
 use Rattle.dm_state.specs.declared.stop.Stop.{Stop}
 use Rattle.dm_state.specs.declared.stop.Stop.TheVariants.{Exited, Steps as AllSteps, Halted, Unlisted, InputEnded, Destroyed, Memory as NoMemory}
 use Rattle.dm_ems.specs.Consistent.{IsOwned}
@@ -22,7 +23,10 @@ use Rattle.dm_checker.specs.Checks.{FindsAtEnd, FindsAtStop, left_behind}
 use Rattle.dm_checker.specs.inner.Watching.{IsWatch, IsSeen}
 use Rattle.dm_checker.specs.inner.Steps.{IsBefore, found_by, ReportsMore, Looks, ChecksOne}
 use Rattle.dm_checker.proofs.Acting.{some_none, call_acts, exit_changes_nothing}
+use Rattle.dm_checker.specs.inner.Writes.{OnlyReads}
+use Rattle.dm_checker.proofs.Seen.{seen_watch}
 use Rattle.dm_checker.proofs.Still.{shown_of, seen_findings}
+use Rattle.dm_checker.proofs.Reading.{no_call, Leaves, reading_leaves}
 use Rattle.dm_checker.proofs.Telling.{reports_none, tells}
 
 -- what is put behind nothing is all
@@ -113,3 +117,41 @@ none_at s t NoMemory other = refl
 -- no step was made
 pub stops : (s t : State) (stop : Stop) (w : Watch) (r : Reported) → Answers s (Some stop) t → ((code : ℕ) → stop ≡ Exited code → ⊥) → ChecksOne s (Some stop) t w r r
 stops s t stop w r a other = record { answers = a; found = []; finds = none_at s t stop other; reports = reports_none r; watch = λ e. absurd (some_none stop e) }
+
+-- ---- a step that writes no memory
+
+none_of_call : (s t : State) (hs : List Header) → call_of s.cpu ≡ None → freed_twice s.cpu t.cpu (call_of s.cpu) hs ++ refused s.cpu t.cpu (call_of s.cpu) ≡ []
+none_of_call s t hs uncalled = ap (λ (k : Option Call). freed_twice s.cpu t.cpu k hs ++ refused s.cpu t.cpu k) uncalled
+
+passes_on : (s t : State) (w : Watch) (r : Reported) → call_of s.cpu ≡ None → AreConsistent s → Leaves s t → Answers s None t → IsWatch s.upper s.memory w → ChecksOne s None t w r r
+passes_on s t w r uncalled linked same a x =
+    let G : Bool → Type 0 = λ b. IsSeen b t.memory w in
+    let H : Memory → Type 0 = λ m. IsSeen s.upper m w in
+    let seen : IsSeen t.upper t.memory w = subst G (sym same.upper) (subst H (sym same.memory) (seen_there s w x (pages_there s linked))) in
+    let after = seen_watch s.upper t.upper s.memory t.memory w x seen in
+    record {
+      answers = a;
+      found = [];
+      finds = record {
+        findings = [];
+        finds = record { old = shown_of w; new = shown_of w; before = x.shown; after = after.shown; is = sym (seen_findings s t w x seen ∙ none_of_call s t _ uncalled) };
+        told = none refl refl;
+      };
+      reports = reports_none r;
+      watch = λ e. after;
+    }
+
+passes : (s t : State) (stop : Option Stop) (w : Watch) (r : Reported) → call_of s.cpu ≡ None → AreConsistent s → (Answers s None t → Leaves s t) → Answers s stop t → IsWatch s.upper s.memory w → ChecksOne s stop t w r r
+passes s t None w r uncalled linked leaves a x = passes_on s t w r uncalled linked (leaves a) a x
+passes s t (Some (Exited code)) w r uncalled linked leaves a x =
+    let F : State → Type 0 = λ u. FindsAtEnd s u [] in
+    exits s t code w r r a ([], subst F (sym (exit_changes_nothing s t code uncalled a)) (nothing_found s w uncalled x (pages_there s linked)), reports_none r)
+passes s t (Some AllSteps) w r uncalled linked leaves a x = stops s t AllSteps w r a (λ code e. cc)
+passes s t (Some Halted) w r uncalled linked leaves a x = stops s t Halted w r a (λ code e. cc)
+passes s t (Some Unlisted) w r uncalled linked leaves a x = stops s t Unlisted w r a (λ code e. cc)
+passes s t (Some InputEnded) w r uncalled linked leaves a x = stops s t InputEnded w r a (λ code e. cc)
+passes s t (Some Destroyed) w r uncalled linked leaves a x = stops s t Destroyed w r a (λ code e. cc)
+passes s t (Some NoMemory) w r uncalled linked leaves a x = stops s t NoMemory w r a (λ code e. cc)
+
+pub reading_passes : (s t : State) (stop : Option Stop) (w : Watch) (r : Reported) → OnlyReads s.memory s.cpu → AreConsistent s → Answers s stop t → IsWatch s.upper s.memory w → ChecksOne s stop t w r r
+reading_passes s t stop w r reads linked a x = passes s t stop w r (no_call s.cpu reads.below) linked (reading_leaves s t reads) a x

@@ -1,3 +1,4 @@
 -- Definitions that private contracts and proofs alone name.
 pub mod Watching
 pub mod Steps
+pub mod Writes

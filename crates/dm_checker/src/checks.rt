@@ -7,6 +7,7 @@ ghost use Rattle.dm_checker.specs.Checks.{IsReport, RunsPart};
 
 use crate::steps::check_step;
 use crate::watch::read_arena;
+use crate::writes::Known;
 use dm_findings::Report;
 use dm_machine::{Machine, Stop};
 use std::alloc::{AllocError, Global};
@@ -30,8 +31,9 @@ pub fn check(alloc: Global, machine: &mut Machine, n: u64) -> Result<(Stop, Repo
         return Ok((Stop::Exited(code), report));
     }
     let mut kept = read_arena(alloc, machine)?;
+    let mut known = Known::new(alloc)?;
     for _ in 0..n {
-        if let Some(stop) = check_step(alloc, machine, &mut kept, &mut report)? {
+        if let Some(stop) = check_step(alloc, machine, &mut known, &mut kept, &mut report)? {
             return Ok((stop, report));
         }
     }

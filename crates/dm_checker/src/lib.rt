@@ -11,6 +11,7 @@ mod leaks;
 mod put;
 mod steps;
 mod watch;
+mod writes;
 
 pub use checks::check;
 pub use laws::{a_check_has_one_report, a_checked_run_is_a_run};

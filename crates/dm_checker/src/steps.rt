@@ -1,6 +1,10 @@
 //! What is found of one step.
 
 ghost use Rattle.std.specs.Prelude.{◌≡◌, ◌++◌, map, IfOk, OnOk, OnErr, Option, None, Some, List};
+ghost use Rattle.dm_findings.specs.Calls.{call_of};
+ghost use Rattle.dm_findings.specs.Report.{Reported};
+ghost use Rattle.dm_checker.specs.declared.watch.Watch.{Watch};
+ghost use Rattle.dm_checker.specs.inner.Writes.{OnlyReads};
 ghost use Rattle.dm_state.specs.declared.stop.Stop.{Stop};
 ghost use Rattle.dm_state.specs.State.{HasProgram, State};
 ghost use Rattle.dm_machine.specs.Run.{Answers};
@@ -17,6 +21,7 @@ use crate::headers::{put_all_mapped_away, put_all_overwritten};
 use crate::leaks::put_leaks;
 use crate::put::put;
 use crate::watch::{Broken, Watch, read_arena};
+use crate::writes::Known;
 use dm_findings::{Act, Call, Finding, Found, Report};
 use dm_machine::{Machine, Stop, tables_and_memory_are_consistent};
 use std::alloc::{AllocError, Global};
@@ -143,10 +148,50 @@ fn check_end(
     tell(report, before, machine.steps(), Act::Call(call), &found)
 }
 
+/// Makes a step of an instruction. (A run repeats instructions that were decoded before; it tells no steps from a stop
+/// only where a call is served.)
+fn run_once(machine: &mut Machine) -> Option<Stop>
+    requires program { HasProgram machine.old }
+    requires uncalled { call_of machine.old.cpu ≡ None }
+    ensures answers { Answers machine.old result machine.new }
+    ensures program { HasProgram machine.new }
+{
+    match machine.run(1) {
+        Stop::Steps => None,
+        stop => Some(stop),
+    }
+}
+
+/// Makes a step in which a call is served, or an instruction acts.
+fn make_step(machine: &mut Machine, call: Option<Call>) -> Option<Stop>
+    requires program { HasProgram machine.old }
+    requires call { call ≡ call_of machine.old.cpu }
+    ensures answers { Answers machine.old result machine.new }
+    ensures program { HasProgram machine.new }
+{
+    if call.is_some() {
+        return machine.step();
+    }
+    run_once(machine)
+}
+
+/// Makes a step that writes no memory, of which nothing is found.
+fn pass(machine: &mut Machine) -> Option<Stop>
+    requires program { HasProgram machine.old }
+    requires reads { OnlyReads machine.old.memory machine.old.cpu }
+    ensures passed { (w : Watch) (r : Reported) → IsWatch machine.old.upper machine.old.memory w → ChecksOne machine.old result machine.new w r r }
+    ensures program { HasProgram machine.new }
+{
+    // Each page that a window shows is there.
+    tables_and_memory_are_consistent(machine);
+    run_once(machine)
+}
+
 /// Makes a step, and reports what is found of it.
 pub(crate) fn check_step(
     alloc: Global,
     machine: &mut Machine,
+    known: &mut Known,
     kept: &mut Watch,
     report: &mut Report,
 ) -> Result<Option<Stop>, AllocError>
@@ -156,8 +201,11 @@ pub(crate) fn check_step(
     ensures err { OnErr result ((stop : Option Stop) × Answers machine.old stop machine.new) }
     ensures program { HasProgram machine.new }
 {
+    if known.only_reads(&machine.cpu(), machine.space()) {
+        return Ok(pass(machine));
+    }
     let before = Before::of(machine);
-    let stop = machine.step();
+    let stop = make_step(machine, before.call);
     match stop {
         None => {
             let mut found = Vec::new(alloc);
