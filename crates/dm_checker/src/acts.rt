@@ -20,15 +20,24 @@ pub(crate) struct Before {
     pub(crate) bytes: [u8; 16],
 }
 
+/// Eight bytes from CS:IP on, behind so many others, one by one.
+#[inline(never)]
+fn fetch_each(cpu: &Cpu, space: &Space, skipped: u16) -> [u8; 8]
+    ensures { result ≡ map (λ k. code_byte space.now.memory cpu.now (skipped + k)) (0 ∷ 1 ∷ 2 ∷ 3 ∷ 4 ∷ 5 ∷ 6 ∷ 7 ∷ []) }
+{
+    let at = |k: u16| space.peek(cpu.cs, cpu.ip.wrapping_add(skipped).wrapping_add(k));
+    [at(0), at(1), at(2), at(3), at(4), at(5), at(6), at(7)]
+}
+
 /// Eight bytes from CS:IP on, behind so many others.
+#[inline(always)]
 fn fetch_eight(cpu: &Cpu, space: &Space, skipped: u16) -> [u8; 8]
     ensures { result ≡ map (λ k. code_byte space.now.memory cpu.now (skipped + k)) (0 ∷ 1 ∷ 2 ∷ 3 ∷ 4 ∷ 5 ∷ 6 ∷ 7 ∷ []) }
 {
-    if let Some(eight) = space.eight_bytes(cpu.cs, cpu.ip.wrapping_add(skipped)) {
-        return eight.to_le_bytes();
+    match space.eight_bytes(cpu.cs, cpu.ip.wrapping_add(skipped)) {
+        Some(eight) => eight.to_le_bytes(),
+        None => fetch_each(cpu, space, skipped),
     }
-    let at = |k: u16| space.peek(cpu.cs, cpu.ip.wrapping_add(skipped).wrapping_add(k));
-    [at(0), at(1), at(2), at(3), at(4), at(5), at(6), at(7)]
 }
 
 /// The sixteen bytes from CS:IP on.

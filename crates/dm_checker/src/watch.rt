@@ -36,19 +36,28 @@ pub(crate) struct Watch {
     pub(crate) windows: [Option<Block>; 4],
 }
 
-/// The five bytes from a segment on as one number, the first byte lowest.
-pub(crate) fn bits_at(space: &Space, segment: u16) -> u64
+/// The five bytes from a segment on as one number, read one by one.
+#[inline(never)]
+fn bits_of_each(space: &Space, segment: u16) -> u64
     ensures { IsBits space.now.memory segment result }
 {
-    if let Some(eight) = space.eight_bytes(segment, 0) {
-        return eight % FIVE;
-    }
     let first = space.peek(segment, 0) as u64;
     let second = space.peek(segment, 1) as u64;
     let third = space.peek(segment, 2) as u64;
     let fourth = space.peek(segment, 3) as u64;
     let fifth = space.peek(segment, 4) as u64;
     first + 256 * (second + 256 * (third + 256 * (fourth + 256 * fifth)))
+}
+
+/// The five bytes from a segment on as one number, the first byte lowest.
+#[inline(always)]
+pub(crate) fn bits_at(space: &Space, segment: u16) -> u64
+    ensures { IsBits space.now.memory segment result }
+{
+    match space.eight_bytes(segment, 0) {
+        Some(eight) => eight % FIVE,
+        None => bits_of_each(space, segment),
+    }
 }
 
 fn watched_of(space: &Space, header: Header) -> Watched
