@@ -1,6 +1,5 @@
-use Rattle.std.proofs.Common.{◌∙◌, ◌≡◌, arith, sym, subst, false, true}
+use Rattle.std.proofs.Common.{◌∙◌, ◌≡◌, arith, sym, false, true}
 use Rattle.std.proofs.lemmas.Result.{err_from_is_err_and}
-use Rattle.dm_cli.specs.inner.Debugging.{IsUnanswered}
 use Rattle.dm_cli.proofs.Conversations.{at_nothing, at_quit, at_fault, at_unanswered, at_answered, ends}
 use Rattle.dm_cli.proofs.debugging.converse.Goals as goal
 use Rattle.dm_cli.proofs.debugging.converse.Goals.{then-count-eq0-via-then-count-eq0, then-count-eq0-via-else-count-eq0+then-is_quit}
@@ -24,7 +23,7 @@ returns-in_err-answer_at_once-clause-err g c =
     let p = err_from_is_err_and c.from_residual-in_err-answer_at_once.result c.from_residual-in_err-answer_at_once.ensures.1 in
     rw (p.1, p.2) (at_unanswered _ _ (rw c.loop-has_more-test.true at c.loop-has_more.invariant.0) _ _ _ _ _ _ _ c.in_ok-count.ensures.line (omega (arith, c.if-count-eq0.false))
     (c.as_slice-text.ensures.value ∙ c.drop_end-has_more.ensures.dropped) (λ q. let u : false ≡ true = sym c.if-is_quit.false ∙ c.is_quit.ensures.1 q in cc)
-    (subst (λ opened. IsUnanswered _ _ _ _ _ opened _ _) c.loop-has_more.invariant.1 c.in_err-answer_at_once.ensures.err))
+    (rw c.loop-has_more.invariant.1 at c.in_err-answer_at_once.ensures.err))
 
 pub loop-has_more-preserved : goal.loop-has_more-preserved
 loop-has_more-preserved g c = (
