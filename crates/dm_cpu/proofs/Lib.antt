@@ -1,1 +1,3 @@
+mod Bytes
+mod Results
 pub mod Unseen

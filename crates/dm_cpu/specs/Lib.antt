@@ -1,6 +1,7 @@
 pub mod Cpu
 pub mod Guest
 pub mod EffectiveAddress
+pub mod Halves
 pub mod Operands
 pub mod Values
 pub mod Stack

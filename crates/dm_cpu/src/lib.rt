@@ -2,20 +2,23 @@
 //! their values and addresses, and the stack with the two returns.
 //!
 //! The registers stand in a record with a field for each, [`Cpu`], or as the emulation's inner loop keeps them,
-//! [`Registers`]: in arrays, where the number of a register finds it without a jump. Contracts see the same [`Cpu`] of
+//! [`Registers`]: as bytes, where a word or a byte register is found without a jump. Contracts see the same [`Cpu`] of
 //! both.
 #![tactic(auto)]
 
 mod cpu;
 mod effective_address;
+mod halves;
 mod named;
 pub mod operands;
 mod registers;
+mod result_flags;
 pub mod stack;
 pub mod values;
 
 pub use cpu::Cpu;
 pub use dm_alu::Flags;
 pub use effective_address::EffectiveAddress;
+pub use halves::Half;
 pub use registers::Registers;
 pub use stack::{far_return, interrupt_return};

@@ -3,102 +3,115 @@
 ghost use Rattle.std.specs.Prelude.{◌≡◌};
 
 use crate::registers::Registers;
+use dm_ins::WordRegister;
 
 impl Registers {
     /// AX.
     #[inline(always)]
+    #[tactic(auto, unfolding(crate::specs::Cpu::word_of))]
     pub fn ax(&self) -> u16
         ensures { result ≡ self.now.ax }
     {
-        self.words[0]
+        self.word(WordRegister::Ax)
     }
 
     /// Another AX.
     #[inline(always)]
+    #[tactic(auto, unfolding(crate::specs::Cpu::with_word))]
     pub fn set_ax(&mut self, value: u16)
         ensures { self.new ≡ record self.old { ax = value } }
     {
-        self.words[0] = value;
+        self.set_word(WordRegister::Ax, value);
     }
 
     /// CX.
     #[inline(always)]
+    #[tactic(auto, unfolding(crate::specs::Cpu::word_of))]
     pub fn cx(&self) -> u16
         ensures { result ≡ self.now.cx }
     {
-        self.words[1]
+        self.word(WordRegister::Cx)
     }
 
     /// Another CX.
     #[inline(always)]
+    #[tactic(auto, unfolding(crate::specs::Cpu::with_word))]
     pub fn set_cx(&mut self, value: u16)
         ensures { self.new ≡ record self.old { cx = value } }
     {
-        self.words[1] = value;
+        self.set_word(WordRegister::Cx, value);
     }
 
     /// DX.
     #[inline(always)]
+    #[tactic(auto, unfolding(crate::specs::Cpu::word_of))]
     pub fn dx(&self) -> u16
         ensures { result ≡ self.now.dx }
     {
-        self.words[2]
+        self.word(WordRegister::Dx)
     }
 
     /// Another DX.
     #[inline(always)]
+    #[tactic(auto, unfolding(crate::specs::Cpu::with_word))]
     pub fn set_dx(&mut self, value: u16)
         ensures { self.new ≡ record self.old { dx = value } }
     {
-        self.words[2] = value;
+        self.set_word(WordRegister::Dx, value);
     }
 
     /// SP.
     #[inline(always)]
+    #[tactic(auto, unfolding(crate::specs::Cpu::word_of))]
     pub fn sp(&self) -> u16
         ensures { result ≡ self.now.sp }
     {
-        self.words[4]
+        self.word(WordRegister::Sp)
     }
 
     /// Another SP.
     #[inline(always)]
+    #[tactic(auto, unfolding(crate::specs::Cpu::with_word))]
     pub fn set_sp(&mut self, value: u16)
         ensures { self.new ≡ record self.old { sp = value } }
     {
-        self.words[4] = value;
+        self.set_word(WordRegister::Sp, value);
     }
 
     /// SI.
     #[inline(always)]
+    #[tactic(auto, unfolding(crate::specs::Cpu::word_of))]
     pub fn si(&self) -> u16
         ensures { result ≡ self.now.si }
     {
-        self.words[6]
+        self.word(WordRegister::Si)
     }
 
     /// Another SI.
     #[inline(always)]
+    #[tactic(auto, unfolding(crate::specs::Cpu::with_word))]
     pub fn set_si(&mut self, value: u16)
         ensures { self.new ≡ record self.old { si = value } }
     {
-        self.words[6] = value;
+        self.set_word(WordRegister::Si, value);
     }
 
     /// DI.
     #[inline(always)]
+    #[tactic(auto, unfolding(crate::specs::Cpu::word_of))]
     pub fn di(&self) -> u16
         ensures { result ≡ self.now.di }
     {
-        self.words[7]
+        self.word(WordRegister::Di)
     }
 
     /// Another DI.
     #[inline(always)]
+    #[tactic(auto, unfolding(crate::specs::Cpu::with_word))]
     pub fn set_di(&mut self, value: u16)
         ensures { self.new ≡ record self.old { di = value } }
     {
-        self.words[7] = value;
+        self.set_word(WordRegister::Di, value);
     }
 
     /// ES.

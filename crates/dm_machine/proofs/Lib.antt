@@ -1,4 +1,5 @@
 mod StepLaws
+mod Quicks
 pub mod OneRun
 pub mod OneStop
 mod DecodeCaches

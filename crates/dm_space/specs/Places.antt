@@ -1,9 +1,9 @@
 -- What a write does, told by places: for layers that compare the places of addresses and see nothing of the map.
 -- Two addresses with one place that is written to are aliased.
-use Rattle.std.specs.Prelude.{◌≡◌, ◌≢◌, ℕ, length}
+use Rattle.std.specs.Prelude.{◌≡◌, ℕ, length}
 use Rattle.dm_space.specs.declared.place.Place.{Place}
 use Rattle.dm_space.specs.declared.place.Place.TheVariants.{Low, Page, Rom, Nothing}
-use Rattle.dm_space.specs.Memory.{Memory, place, page_bytes}
+use Rattle.dm_space.specs.Memory.{Memory, page_bytes}
 
 -- what is written to the place stays there
 abbrev pub IsWritable : Place → Type 0

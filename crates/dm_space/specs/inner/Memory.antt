@@ -1,5 +1,5 @@
 -- For private contracts and proofs alone: beside specs/Memory.antt.
-use Rattle.std.specs.Prelude.{ℕ, ◌-◌, Bool, List, Option, ◌≡◌, ◌+◌, ◌*◌, ◌/◌, ◌%◌, ◌<◌, if◌then◌else◌, ◌∷◌}
+use Rattle.std.specs.Prelude.{ℕ, Bool, List, Option}
 use Rattle.dm_pool.specs.Stored.{Stored}
 use Rattle.dm_space.specs.Memory.{Held}
 
