@@ -14,5 +14,5 @@ copy_crates() {
 
 # The crates that are listed in the copy $1.
 crate_names() {
-  sed -n 's/^\([a-z0-9_]*\):.*/\1/p' "$1/crates.txt"
+  sed -n 's/^\([a-z0-9_]*\)\( staticlib\)\{0,1\}:.*/\1/p' "$1/crates.txt"
 }

@@ -30,7 +30,7 @@ def crate_names():
         if line.startswith("#"):
             group = line[2:].split(":")[0]
         elif ":" in line and not group.startswith("Tests"):
-            found.append((line.split(":")[0], group))
+            found.append((line.split(":")[0].split()[0], group))
     return found
 
 

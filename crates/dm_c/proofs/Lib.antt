@@ -1,0 +1,3 @@
+pub mod Looses
+pub mod Insides
+pub mod Taken

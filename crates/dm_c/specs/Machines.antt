@@ -1,0 +1,75 @@
+-- What each export does with a machine: its status, what it writes, and the machine behind it.
+use Rattle.std.specs.Prelude.{◌≡◌, ◌⊎◌, ℕ, Bool, List, [], map, length, Option, Some, None}
+use Rattle.dm_pool.specs.declared.sizes.Sizes.{Sizes}
+use Rattle.dm_state.specs.declared.stop.Stop.{Stop}
+use Rattle.dm_machine.specs.Run.{IsRun}
+use Rattle.dm_machine.specs.Until.{RunsUntil}
+use Rattle.dm_debug.specs.Runs.{entered}
+use Rattle.dm_debug.specs.Sessions.{with_machine}
+use Rattle.dm_host.specs.declared.refusal.Refusal.{Refusal}
+use Rattle.dm_host.specs.declared.refusal.Refusal.TheVariants.{Memory as NoMemory, NotLoaded}
+use Rattle.dm_host.specs.Setups.{IsNewFault}
+use Rattle.dm_host.specs.Hosts.{Hosted, new_host, Works, Shows, IsNotLoaded}
+use Rattle.dm_host.specs.Loading.{Adds, IsUnadded, Loads, IsUnloaded}
+use Rattle.dm_host.specs.Memory.{bytes_at}
+use Rattle.dm_host.specs.Commands.{IsCommanded, IsUncommanded}
+use Rattle.dm_host.specs.Checking.{Checks, IsUnchecked}
+use Rattle.dm_c.specs.declared.values.Stopped.{Stopped}
+use Rattle.dm_c.specs.declared.values.Registers.{Registers}
+use Rattle.dm_c.specs.declared.values.Point.{Point}
+use Rattle.dm_c.specs.Statuses.{status_of, stopped_of, registers_of, point_of}
+use Rattle.dm_c.specs.Calls.{Ends, Gives}
+
+-- a machine is made in a handle that holds none
+pub data Makes (old new : Option Hosted) (sizes : Sizes) (variables : List ℕ) (upper : Bool) (status : ℕ) : Type 0 where
+  in_use : (h : Hosted) → old ≡ Some h → new ≡ Some h → status ≡ 2 → Makes old new sizes variables upper status
+  made : old ≡ None → new ≡ Some (new_host (record { sizes = sizes; variables = variables; upper = upper; programs = [] })) → status ≡ 0
+      → Makes old new sizes variables upper status
+  refused : (why : Refusal) → old ≡ None → new ≡ None → status ≡ status_of why → IsNewFault sizes variables why → Makes old new sizes variables upper status
+
+abbrev pub AddsTo : Hosted → List ℕ → List ℕ → ℕ → Hosted → Type 0
+AddsTo h name program status g = Ends status (Adds h name program g) (λ why. IsUnadded h name why × (g ≡ h))
+
+abbrev pub LoadsTo : Hosted → List ℕ → List ℕ → List ℕ → ℕ → Hosted → Type 0
+LoadsTo h name tail input status g = Ends status (Loads h name tail input g) (λ why. IsUnloaded h name tail input why g)
+
+abbrev pub RunsTo : Hosted → ℕ → Stopped → Stopped → ℕ → Hosted → Type 0
+RunsTo h n before after status g =
+    Ends status ((stop : Stop) × Works h (λ s t. IsRun s.machine n stop t.machine × (t.points ≡ s.points)) g × (after ≡ stopped_of (Some stop)))
+    (λ why. IsNotLoaded h why × (g ≡ h) × (after ≡ before))
+
+abbrev pub RunsUntilTo : Hosted → ℕ → List Point → Stopped → Stopped → ℕ → Hosted → Type 0
+RunsUntilTo h n points before after status g =
+    Ends status ((stop : Option Stop) × Works h (λ s t. RunsUntil s.machine n (map point_of points) stop t.machine × (t.points ≡ s.points)) g × (after ≡ stopped_of stop))
+    (λ why. (IsNotLoaded h why ⊎ (why ≡ NoMemory)) × (g ≡ h) × (after ≡ before))
+
+abbrev pub StepsTo : Hosted → ℕ → ℕ → ℕ → Hosted → Type 0
+StepsTo h before after status g = Ends status (Shows h (λ s. after ≡ s.steps)) (λ why. IsNotLoaded h why × (after ≡ before)) × (g ≡ h)
+
+abbrev pub RegistersTo : Hosted → Registers → Registers → ℕ → Hosted → Type 0
+RegistersTo h before after status g = Ends status (Shows h (λ s. after ≡ registers_of s.cpu)) (λ why. IsNotLoaded h why × (after ≡ before)) × (g ≡ h)
+
+abbrev pub ReadsTo : Hosted → ℕ → ℕ → List ℕ → List ℕ → ℕ → Hosted → Type 0
+ReadsTo h segment offset before after status g =
+    Ends status (Shows h (λ s. after ≡ bytes_at s.memory segment offset (length before))) (λ why. IsNotLoaded h why × (after ≡ before)) × (g ≡ h)
+
+abbrev pub WritesTo : Hosted → ℕ → ℕ → List ℕ → ℕ → Hosted → Type 0
+WritesTo h segment offset bytes status g =
+    Ends status (Works h (λ s t. t ≡ with_machine s (record s.machine { memory = entered s.machine.memory segment offset bytes })) g) (λ why. IsNotLoaded h why × (g ≡ h))
+
+abbrev pub OutputTo : Hosted → List ℕ → List ℕ → ℕ → ℕ → ℕ → Hosted → Type 0
+OutputTo h before after wanted_before wanted status g =
+    (Shows h (λ s. Gives s.console.output before after wanted status)
+    ⊎ (IsNotLoaded h NotLoaded × (status ≡ status_of NotLoaded) × (after ≡ before) × (wanted ≡ wanted_before))) × (g ≡ h)
+
+abbrev pub CommandsTo : Hosted → List ℕ → ℕ → ℕ → ℕ → Hosted → Type 0
+CommandsTo h line before wanted status g =
+    Ends status (IsCommanded h line g × (wanted ≡ length g.answer)) (λ why. IsUncommanded h line why g × (wanted ≡ before))
+
+abbrev pub ChecksTo : Hosted → ℕ → Stopped → Stopped → ℕ → ℕ → ℕ → Hosted → Type 0
+ChecksTo h n before after wanted_before wanted status g =
+    Ends status ((stop : Stop) × Checks h n stop g × (after ≡ stopped_of (Some stop)) × (wanted ≡ length g.answer))
+    (λ why. IsUnchecked h n why g × (after ≡ before) × (wanted ≡ wanted_before))
+
+abbrev pub AnswersTo : Hosted → List ℕ → List ℕ → ℕ → ℕ → Hosted → Type 0
+AnswersTo h before after wanted status g = Gives h.answer before after wanted status × (g ≡ h)

@@ -1,0 +1,81 @@
+-- What C sees of a refusal, of a stop and of the registers.
+use Rattle.std.specs.Prelude.{ℕ, Option, Some, None}
+use Rattle.dm_state.specs.declared.stop.Stop.{Stop}
+use Rattle.dm_state.specs.declared.stop.Stop.TheVariants as stop
+use Rattle.dm_alu.specs.Flags as flags
+use Rattle.dm_cpu.specs.declared.cpu.Cpu.{Cpu}
+use Rattle.dm_machine.specs.declared.until.Breakpoint.{Breakpoint}
+use Rattle.dm_asm.specs.declared.refusal.Refusal as asm
+use Rattle.dm_asm.specs.declared.refusal.Refusal.TheVariants as text
+use Rattle.dm_host.specs.declared.refusal.Refusal.{Refusal}
+use Rattle.dm_host.specs.declared.refusal.Refusal.TheVariants as why
+use Rattle.dm_c.specs.declared.values.Stopped.{Stopped}
+use Rattle.dm_c.specs.declared.values.Registers.{Registers}
+use Rattle.dm_c.specs.declared.values.Point.{Point}
+
+-- 0: done. 1: no machine. 2: in use. 4: too small
+abbrev pub status_of : Refusal → ℕ
+status_of why.Memory = 3
+status_of why.TooLarge = 5
+status_of why.VariablesTooLong = 6
+status_of why.BadName = 7
+status_of why.NameTwice = 8
+status_of why.Started = 9
+status_of why.TailTooLong = 10
+status_of why.NotFound = 11
+status_of why.BadFormat = 12
+status_of why.Short = 13
+status_of why.NotLoaded = 14
+status_of why.Syntax = 15
+status_of why.Full = 16
+
+-- why a text has no bytes
+abbrev pub text_status_of : asm.Refusal → ℕ
+text_status_of (text.Syntax line) = 17
+text_status_of (text.Unknown line) = 18
+text_status_of (text.Range line) = 19
+text_status_of (text.Twice line) = 20
+text_status_of text.TooLong = 21
+text_status_of text.Memory = 3
+
+-- the line that is wrong, or what stood there before
+abbrev pub line_of : asm.Refusal → ℕ → ℕ
+line_of (text.Syntax line) before = line
+line_of (text.Unknown line) before = line
+line_of (text.Range line) before = line
+line_of (text.Twice line) before = line
+line_of text.TooLong before = before
+line_of text.Memory before = before
+
+-- why a run stopped; none: at a breakpoint
+abbrev pub stopped_of : Option Stop → Stopped
+stopped_of (Some stop.Steps) = record { why = 0; code = 0 }
+stopped_of (Some (stop.Exited code)) = record { why = 1; code = code }
+stopped_of (Some stop.Halted) = record { why = 2; code = 0 }
+stopped_of (Some stop.Unlisted) = record { why = 3; code = 0 }
+stopped_of (Some stop.InputEnded) = record { why = 4; code = 0 }
+stopped_of (Some stop.Destroyed) = record { why = 5; code = 0 }
+stopped_of (Some stop.Memory) = record { why = 6; code = 0 }
+stopped_of None = record { why = 7; code = 0 }
+
+-- `flags` is the word that PUSHF stores
+abbrev pub registers_of : Cpu → Registers
+registers_of cpu = record {
+  ax = cpu.ax;
+  bx = cpu.bx;
+  cx = cpu.cx;
+  dx = cpu.dx;
+  sp = cpu.sp;
+  bp = cpu.bp;
+  si = cpu.si;
+  di = cpu.di;
+  cs = cpu.cs;
+  ds = cpu.ds;
+  es = cpu.es;
+  ss = cpu.ss;
+  ip = cpu.ip;
+  flags = flags.word_of cpu.flags;
+}
+
+abbrev pub point_of : Point → Breakpoint
+point_of p = record { segment = p.segment; offset = p.offset }

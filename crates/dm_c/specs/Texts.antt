@@ -1,0 +1,20 @@
+-- What the exports of the assembler and the disassembler return and write.
+use Rattle.std.specs.Prelude.{◌≡◌, ◌⊎◌, ℕ, ◌<◌, ◌≤◌, List, length}
+use Rattle.dm_asm.specs.declared.refusal.Refusal.{Refusal}
+use Rattle.dm_asm.specs.declared.refusal.Refusal.TheVariants.{Memory}
+use Rattle.dm_asm.specs.Programs.{Assembles, Refuses}
+use Rattle.dm_disassembler.specs.Listing.{IsListing}
+use Rattle.dm_c.specs.Statuses.{text_status_of, line_of}
+use Rattle.dm_c.specs.Calls.{Gives}
+
+-- the bytes of a text, or what is first wrong with it, or memory was refused
+pub data AssemblesTo (text before after : List ℕ) (wanted_before wanted line_before line status : ℕ) : Type 0 where
+  assembled : (bytes : List ℕ) → Assembles text bytes → Gives bytes before after wanted status → line ≡ line_before → AssemblesTo text before after wanted_before wanted line_before line status
+  refused : (why : Refusal) → (why ≡ Memory) ⊎ Refuses text why → status ≡ text_status_of why → line ≡ line_of why line_before → after ≡ before → wanted ≡ wanted_before
+      → AssemblesTo text before after wanted_before wanted line_before line status
+
+-- the lines of a program, or it is too long, or memory was refused
+pub data DisassemblesTo (program before after : List ℕ) (wanted_before wanted status : ℕ) : Type 0 where
+  listed : (text : List ℕ) → IsListing program text → Gives text before after wanted status → DisassemblesTo program before after wanted_before wanted status
+  too_long : 65278 < length program → status ≡ 21 → after ≡ before → wanted ≡ wanted_before → DisassemblesTo program before after wanted_before wanted status
+  no_memory : length program ≤ 65278 → status ≡ 3 → after ≡ before → wanted ≡ wanted_before → DisassemblesTo program before after wanted_before wanted status

@@ -1,0 +1,69 @@
+//! What C holds of a machine.
+ghost use Rattle.std.specs.Prelude.{◌≡◌, Some, None, is_some, option_map};
+ghost use Rattle.dm_c.specs.Held.{IsMarked};
+
+use crate::inside::Inside;
+use crate::loose::Loose;
+use dm_host::Host;
+use std::alloc::Global;
+
+/// The mark of a handle that holds a machine; any other mark is that of a handle that holds none.
+const HELD: u64 = 0x6D65_7A67_756C_6431;
+
+/// A machine, or none, as C holds it.
+#[repr(C)]
+#[derive(Drop)]
+pub struct Handle {
+    pub(crate) inside: Inside,
+    mark: u64,
+    ghost marked: { IsMarked inside.value mark },
+}
+
+impl Handle {
+    /// A handle of no machine.
+    fn none() -> Handle
+        ensures { result.inside.value ≡ None }
+    {
+        Handle {
+            inside: Inside::none(),
+            mark: 0,
+        }
+    }
+
+    /// A handle of a boxed machine.
+    fn of(host: Box<Host>) -> Handle
+        ensures { result.inside.value ≡ Some host.value }
+    {
+        Handle {
+            inside: Inside::of(Loose::of(host)),
+            mark: HELD,
+        }
+    }
+
+    /// Whether it holds a machine.
+    pub(crate) fn is_held(&self) -> bool
+        ensures { result ≡ is_some self.now.inside.value }
+    {
+        self.mark == HELD
+    }
+
+    /// Takes the machine out, if there is one.
+    pub(crate) fn take(&mut self, alloc: Global) -> Option<Box<Host>>
+        ensures machine { option_map (λ b. b.value) result ≡ self.old.inside.value }
+        ensures left { self.new.inside.value ≡ None }
+    {
+        if !self.is_held() {
+            return None;
+        }
+        let Handle { inside, mark: _ } = std::mem::replace(self, Handle::none());
+        Some(inside.into_loose(alloc).into_box())
+    }
+
+    /// Puts a machine in, where there is none.
+    pub(crate) fn put(&mut self, host: Box<Host>)
+        requires { self.old.inside.value ≡ None }
+        ensures { self.new.inside.value ≡ Some host.value }
+    {
+        *self = Handle::of(host);
+    }
+}

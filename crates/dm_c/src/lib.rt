@@ -1,0 +1,21 @@
+//! The exports of the library for hosts: each calls a function of `dm_host` or `dm_asm`, on the machine of a handle.
+#![tactic(auto)]
+
+mod exports;
+mod handle;
+mod inside;
+mod loose;
+mod machines;
+mod texts;
+mod values;
+
+pub use exports::{
+    mezguld_add, mezguld_answer, mezguld_check, mezguld_command, mezguld_free, mezguld_load,
+    mezguld_new, mezguld_output, mezguld_read, mezguld_registers, mezguld_run, mezguld_run_until,
+    mezguld_steps, mezguld_write,
+};
+pub use handle::Handle;
+pub use inside::Inside;
+pub use loose::Loose;
+pub use texts::{mezguld_assemble, mezguld_disassemble};
+pub use values::{Point, Registers, Stopped};

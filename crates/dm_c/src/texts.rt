@@ -1,0 +1,77 @@
+//! The exports of the assembler and the disassembler. `include/mezguld.h` declares them for C.
+ghost use Rattle.std.specs.Prelude.{◌≡◌};
+ghost use Rattle.dm_c.specs.Statuses.{text_status_of, line_of};
+ghost use Rattle.dm_c.specs.Texts.{AssemblesTo, DisassemblesTo};
+
+use crate::values::{OUT_OF_MEMORY, TOO_LONG, give};
+use dm_asm::{Refusal, assemble, disassemble};
+use std::alloc::Global;
+
+/// The most bytes of a program that is disassembled.
+const MOST_PROGRAM_BYTES: usize = 65_278;
+
+/// The status of a text that has no bytes.
+fn text_status_of(refusal: Refusal) -> u32
+    ensures { result ≡ text_status_of refusal }
+{
+    match refusal {
+        Refusal::Syntax(_) => 17,
+        Refusal::Unknown(_) => 18,
+        Refusal::Range(_) => 19,
+        Refusal::Twice(_) => 20,
+        Refusal::TooLong => TOO_LONG,
+        Refusal::Memory => OUT_OF_MEMORY,
+    }
+}
+
+/// The line that is wrong, or the number before.
+fn line_of(refusal: Refusal, before: usize) -> usize
+    ensures { result ≡ line_of refusal before }
+{
+    match refusal {
+        Refusal::Syntax(line)
+        | Refusal::Unknown(line)
+        | Refusal::Range(line)
+        | Refusal::Twice(line) => line,
+        Refusal::TooLong | Refusal::Memory => before,
+    }
+}
+
+/// Assembles a text to the bytes of a COM program.
+#[unsafe(no_mangle)]
+pub extern "C" fn mezguld_assemble(
+    alloc: Global,
+    text: &[u8],
+    buffer: &mut [u8],
+    wanted: &mut usize,
+    line: &mut usize,
+) -> u32
+    ensures { AssemblesTo text.now buffer.old buffer.new wanted.old wanted.new line.old line.new result }
+{
+    match assemble(alloc, text) {
+        Ok(bytes) => give(bytes.as_slice(), buffer, wanted),
+        Err(refusal) => {
+            *line = line_of(refusal, *line);
+            text_status_of(refusal)
+        }
+    }
+}
+
+/// Disassembles a COM program to lines.
+#[unsafe(no_mangle)]
+pub extern "C" fn mezguld_disassemble(
+    alloc: Global,
+    program: &[u8],
+    buffer: &mut [u8],
+    wanted: &mut usize,
+) -> u32
+    ensures { DisassemblesTo program.now buffer.old buffer.new wanted.old wanted.new result }
+{
+    if program.len() > MOST_PROGRAM_BYTES {
+        return TOO_LONG;
+    }
+    match disassemble(alloc, program) {
+        Ok(text) => give(text.as_slice(), buffer, wanted),
+        Err(_) => OUT_OF_MEMORY,
+    }
+}

@@ -1,0 +1,157 @@
+//! What passes between C and the library beside numbers and bytes: statuses, stops, registers, breakpoints.
+ghost use Rattle.std.specs.Prelude.{◌≡◌, ◌++◌, ◌∷◌, [], IfOk, map, OnOk};
+ghost use Rattle.dm_c.specs.Statuses.{status_of, stopped_of, registers_of, point_of};
+ghost use Rattle.dm_c.specs.Calls.{Gives};
+
+use dm_host::{Refusal, copy_all};
+use dm_machine::{Breakpoint, Cpu, Stop};
+use std::alloc::{AllocError, Global};
+
+/// It was done.
+pub(crate) const OK: u32 = 0;
+
+/// The handle holds no machine.
+pub(crate) const NO_MACHINE: u32 = 1;
+
+/// The handle holds a machine already.
+pub(crate) const IN_USE: u32 = 2;
+
+/// Memory was refused.
+pub(crate) const OUT_OF_MEMORY: u32 = 3;
+
+/// The buffer has too little room.
+pub(crate) const TOO_SMALL: u32 = 4;
+
+/// The program is too long.
+pub(crate) const TOO_LONG: u32 = 21;
+
+/// How a run ended.
+#[repr(C)]
+#[derive(Clone, Copy, Debug, PartialEq, Eq)]
+pub struct Stopped {
+    pub why: u32,
+    pub code: u32,
+}
+
+/// The registers; `flags` is the word that PUSHF stores.
+#[repr(C)]
+#[derive(Clone, Copy, Debug, PartialEq, Eq)]
+pub struct Registers {
+    pub ax: u16,
+    pub bx: u16,
+    pub cx: u16,
+    pub dx: u16,
+    pub sp: u16,
+    pub bp: u16,
+    pub si: u16,
+    pub di: u16,
+    pub cs: u16,
+    pub ds: u16,
+    pub es: u16,
+    pub ss: u16,
+    pub ip: u16,
+    pub flags: u16,
+}
+
+/// An exact pair of CS and IP.
+#[repr(C)]
+#[derive(Clone, Copy, Debug, PartialEq, Eq)]
+pub struct Point {
+    pub segment: u16,
+    pub offset: u16,
+}
+
+/// The status of a refusal.
+pub(crate) fn status_of(refusal: Refusal) -> u32
+    ensures { result ≡ status_of refusal }
+{
+    match refusal {
+        Refusal::Memory => OUT_OF_MEMORY,
+        Refusal::TooLarge => 5,
+        Refusal::VariablesTooLong => 6,
+        Refusal::BadName => 7,
+        Refusal::NameTwice => 8,
+        Refusal::Started => 9,
+        Refusal::TailTooLong => 10,
+        Refusal::NotFound => 11,
+        Refusal::BadFormat => 12,
+        Refusal::Short => 13,
+        Refusal::NotLoaded => 14,
+        Refusal::Syntax => 15,
+        Refusal::Full => 16,
+    }
+}
+
+/// Why a run stopped; None stands for a breakpoint.
+pub(crate) fn stopped_of(stop: Option<Stop>) -> Stopped
+    ensures { result ≡ stopped_of stop }
+{
+    match stop {
+        Some(Stop::Steps) => Stopped { why: 0, code: 0 },
+        Some(Stop::Exited(code)) => Stopped {
+            why: 1,
+            code: code as u32,
+        },
+        Some(Stop::Halted) => Stopped { why: 2, code: 0 },
+        Some(Stop::Unlisted) => Stopped { why: 3, code: 0 },
+        Some(Stop::InputEnded) => Stopped { why: 4, code: 0 },
+        Some(Stop::Destroyed) => Stopped { why: 5, code: 0 },
+        Some(Stop::Memory) => Stopped { why: 6, code: 0 },
+        None => Stopped { why: 7, code: 0 },
+    }
+}
+
+/// The registers as C sees them.
+pub(crate) fn registers_of(cpu: Cpu) -> Registers
+    ensures { result ≡ registers_of cpu }
+{
+    Registers {
+        ax: cpu.ax,
+        bx: cpu.bx,
+        cx: cpu.cx,
+        dx: cpu.dx,
+        sp: cpu.sp,
+        bp: cpu.bp,
+        si: cpu.si,
+        di: cpu.di,
+        cs: cpu.cs,
+        ds: cpu.ds,
+        es: cpu.es,
+        ss: cpu.ss,
+        ip: cpu.ip,
+        flags: cpu.flags.to_word(),
+    }
+}
+
+/// The breakpoint at a pair of CS and IP.
+fn point_of(point: Point) -> Breakpoint
+    ensures { result ≡ point_of point }
+{
+    Breakpoint {
+        segment: point.segment,
+        offset: point.offset,
+    }
+}
+
+/// The breakpoints at some pairs of CS and IP.
+pub(crate) fn points_of(alloc: Global, points: &[Point]) -> Result<Vec<Breakpoint>, AllocError>
+    ensures { IfOk result (λ v. v.items ≡ map point_of points.now) }
+{
+    let mut breakpoints = Vec::new(alloc);
+    for point in points {
+        breakpoints.push(point_of(*point))?;
+    }
+    Ok(breakpoints)
+}
+
+/// Copies bytes to the front of a buffer that has room for them, and says how many they are.
+pub(crate) fn give(bytes: &[u8], buffer: &mut [u8], wanted: &mut usize) -> u32
+    ensures { Gives bytes.now buffer.old buffer.new wanted.new result }
+{
+    *wanted = bytes.len();
+    if copy_all(bytes, buffer) {
+        OK
+    } else {
+        TOO_SMALL
+    }
+}

@@ -1,0 +1,4 @@
+pub mod Loads
+pub mod Lines
+pub mod Filled
+pub mod Checked

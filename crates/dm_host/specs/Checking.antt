@@ -1,0 +1,40 @@
+-- Runs under the memory checker, and their reports.
+use Rattle.std.specs.Prelude.{◌≡◌, ℕ, List, None}
+use Rattle.dm_state.specs.declared.stop.Stop.{Stop}
+use Rattle.dm_machine.specs.Run.{IsRun}
+use Rattle.dm_findings.specs.Report.{Reported}
+use Rattle.dm_reports.specs.Reports.{report_text}
+use Rattle.dm_checker.specs.Checks.{IsReport, RunsPart}
+use Rattle.dm_debug.specs.Debugged.{Debugged}
+use Rattle.dm_host.specs.declared.refusal.Refusal.{Refusal}
+use Rattle.dm_host.specs.declared.refusal.Refusal.TheVariants.{NotLoaded, Memory}
+use Rattle.dm_host.specs.declared.host.Stage.TheVariants.{Loaded}
+use Rattle.dm_host.specs.Hosts.{Hosted, with_stage, machine_of}
+
+-- a run of at most n steps, and the text of its report; the breakpoints stay
+pub record IsChecked (s : Debugged) (n : ℕ) (stop : Stop) (text : List ℕ) (t : Debugged) : Type 0 where
+  pub report : Reported
+  pub run : IsRun s.machine n stop t.machine
+  pub reported : IsReport s.machine n stop t.machine report
+  pub told : text ≡ report_text report
+  pub points : t.points ≡ s.points
+
+-- a first part of the run; the breakpoints stay
+pub record IsPartlyChecked (s : Debugged) (n : ℕ) (t : Debugged) : Type 0 where
+  pub part : RunsPart s.machine n t.machine
+  pub points : t.points ≡ s.points
+
+-- a checked run, whose report is the answer
+pub record Checks (h : Hosted) (n : ℕ) (stop : Stop) (g : Hosted) : Type 0 where
+  pub before : Debugged
+  pub after : Debugged
+  pub text : List ℕ
+  pub loaded : h.stage ≡ Loaded before
+  pub checked : IsChecked before n stop text after
+  pub is : g ≡ record { stage = Loaded after; answer = text }
+
+-- why there is no report, and what is left: no program is loaded, and nothing has changed; or memory was refused, and a first part of the run
+-- was made
+pub data IsUnchecked (h : Hosted) (n : ℕ) (why : Refusal) (g : Hosted) : Type 0 where
+  not_loaded : machine_of h.stage ≡ None → why ≡ NotLoaded → g ≡ h → IsUnchecked h n why g
+  no_memory : (s t : Debugged) → h.stage ≡ Loaded s → IsPartlyChecked s n t → why ≡ Memory → g ≡ with_stage h (Loaded t) → IsUnchecked h n why g

@@ -1,0 +1,18 @@
+-- An answer that is kept in memory.
+use Rattle.std.specs.Prelude.{ℕ, List}
+use Rattle.dm_debug.specs.declared.refusal.Refusal as session
+use Rattle.dm_debug.specs.declared.refusal.Refusal.TheVariants as why
+use Rattle.dm_host.specs.declared.refusal.Refusal.{Refusal}
+use Rattle.dm_host.specs.declared.refusal.Refusal.TheVariants.{Syntax, Full, Memory}
+
+-- the bytes, and how many writes failed
+pub record Kept : Type 0 where
+  pub bytes : List ℕ
+  pub failures : ℕ
+
+-- why a session did not answer
+abbrev pub refusal_of : session.Refusal → Refusal
+refusal_of why.Syntax = Syntax
+refusal_of why.Full = Full
+refusal_of why.Memory = Memory
+refusal_of why.Write = Memory

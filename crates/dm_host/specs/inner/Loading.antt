@@ -1,0 +1,40 @@
+-- For private contracts and proofs alone: beside specs/Loading.antt.
+use Rattle.std.specs.Prelude.{◌≡◌, ℕ, ◌<◌, ◌≤◌, List, Result, Ok, Err, length}
+use Rattle.dm_state.specs.State.{State}
+use Rattle.dm_machine.specs.Start.{IsLoaded, HasNoRoom}
+use Rattle.dm_proc.specs.Programs.{IsName}
+use Rattle.dm_debug.specs.Debugged.{Debugged}
+use Rattle.dm_debug.specs.Sessions.{new_session}
+use Rattle.dm_host.specs.declared.refusal.Refusal.{Refusal}
+use Rattle.dm_host.specs.declared.refusal.Refusal.TheVariants.{Memory, Short, BadName, TailTooLong}
+use Rattle.dm_host.specs.Setups.{Prepared, IsFound, IsNoProgram}
+use Rattle.dm_host.specs.Loading.{IsMachine}
+
+-- a session over a new machine of the setup with the program loaded
+pub record IsBegun (s : Prepared) (name tail input : List ℕ) (session : Debugged) : Type 0 where
+  pub start : State
+  pub machine : State
+  pub new : IsMachine s input start
+  pub loaded : IsLoaded start name tail machine
+  pub is : session ≡ new_session machine
+
+-- memory has no room for the program, or the host's memory was refused
+pub data IsUnbegun (s : Prepared) (name input : List ℕ) (why : Refusal) : Type 0 where
+  no_room : (m : State) → IsMachine s input m → HasNoRoom m name → why ≡ Short → IsUnbegun s name input why
+  no_memory : why ≡ Memory → IsUnbegun s name input why
+
+-- why nothing can be loaded by the name and with the tail
+pub data IsUntested (s : Prepared) (name tail : List ℕ) (why : Refusal) : Type 0 where
+  bad_name : (IsName name → ⊥) → why ≡ BadName → IsUntested s name tail why
+  long_tail : IsName name → 126 < length tail → why ≡ TailTooLong → IsUntested s name tail why
+  no_program : IsName name → length tail ≤ 126 → IsNoProgram s name why → IsUntested s name tail why
+
+-- the program of the name can be loaded with the tail
+pub record IsTestedGood (s : Prepared) (name tail : List ℕ) : Type 0 where
+  pub name_is : IsName name
+  pub short : length tail ≤ 126
+  pub found : IsFound s name
+
+abbrev pub IsTestedWith : Prepared → List ℕ → List ℕ → Result (Unit {0}) Refusal → Type 0
+IsTestedWith s name tail (Ok x) = IsTestedGood s name tail
+IsTestedWith s name tail (Err e) = IsUntested s name tail e

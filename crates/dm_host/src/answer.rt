@@ -1,0 +1,66 @@
+//! An answer that is kept in memory.
+ghost use Rattle.std.specs.Prelude.{◌≡◌, []};
+
+use dm_machine::{Failed, Out};
+use std::alloc::Global;
+use std::marker::Model;
+
+/// A writer that keeps what it takes.
+///
+/// A contract sees the bytes, and how many writes failed because memory was refused.
+#[derive(Drop)]
+pub(crate) struct Answer {
+    bytes: Vec<u8>,
+    failures: u64,
+}
+
+impl Model for Answer {
+    ghost use Rattle.dm_host.specs.inner.Answers.{Kept};
+
+    ghost Value = { Kept };
+
+    ghost view = { λ a. record { bytes = a.bytes.items; failures = a.failures } };
+}
+
+impl Answer {
+    /// One with no bytes.
+    pub(crate) fn new(alloc: Global) -> Answer
+        ensures { result ≡ record { bytes = []; failures = 0 } }
+    {
+        Answer {
+            bytes: Vec::new(alloc),
+            failures: 0,
+        }
+    }
+
+    /// The bytes.
+    pub(crate) fn into_bytes(self) -> Vec<u8>
+        ensures { result.items ≡ self.bytes }
+    {
+        self.bytes
+    }
+}
+
+impl Out for Answer {
+    ghost use Rattle.std.specs.Prelude.{Some};
+
+    ghost taken = { λ a. Some a.bytes };
+
+    ghost failures = { λ a. a.failures };
+
+    fn write(&mut self, bytes: &[u8]) -> Result<usize, Failed> {
+        match self.bytes.extend_from_slice(bytes) {
+            Ok(()) => Ok(bytes.len()),
+            Err(_) => {
+                if !bytes.is_empty() {
+                    self.failures = self.failures.saturating_add(1);
+                }
+                Err(Failed)
+            }
+        }
+    }
+
+    fn flush(&mut self) -> Result<(), Failed> {
+        Ok(())
+    }
+}

@@ -1,0 +1,66 @@
+//! Runs under the memory checker.
+ghost use Rattle.std.specs.Prelude.{◌≡◌, ◌++◌, [], IfOk, IfErr, OnOk, option_map};
+ghost use Rattle.dm_reports.specs.Reports.{report_text};
+ghost use Rattle.dm_host.specs.Checking.{Checks, IsUnchecked};
+ghost use Rattle.dm_host.specs.inner.Checking.{ChecksTo};
+
+use crate::host::{Host, Stage};
+use crate::refusal::Refusal;
+use dm_checker::check;
+use dm_debug::Session;
+use dm_findings::Report;
+use dm_machine::Stop;
+use dm_reports::put_report;
+use std::alloc::{AllocError, Global};
+
+/// The text of a report.
+fn text_of(alloc: Global, report: &Report) -> Result<Vec<u8>, AllocError>
+    ensures { IfOk result (λ text. text.items ≡ report_text report.now) }
+{
+    let mut text = Vec::new(alloc);
+    put_report(&mut text, report)?;
+    Ok(text)
+}
+
+/// Runs a session under the checker, and returns it with the stop and the text of the report, if memory was not refused.
+fn checked(alloc: Global, session: Session, n: u64) -> (Session, Option<(Stop, Vec<u8>)>)
+    ensures { ChecksTo session n (option_map (λ r. (r.0, r.1.items)) result.1) result.0 }
+{
+    let (mut machine, points) = session.into_parts();
+    let Ok((stop, report)) = check(alloc, &mut machine, n) else {
+        return (Session::from_parts(machine, points), None);
+    };
+    let text = text_of(alloc, &report);
+    let session = Session::from_parts(machine, points);
+    match text {
+        Ok(text) => (session, Some((stop, text))),
+        Err(_) => (session, None),
+    }
+}
+
+impl Host {
+    /// Makes at most `n` steps, as `run`, under the memory checker, and keeps the text of its report as the answer.
+    ///
+    /// # Errors
+    ///
+    /// `NotLoaded` exactly where no program is loaded. Nothing has changed then. `Memory` where memory was refused: a first part of the run was
+    /// made, and the answer before stays.
+    pub fn check(&mut self, alloc: Global, n: u64) -> Result<Stop, Refusal>
+        ensures ok { IfOk result (λ stop. Checks self.old n stop self.new) }
+        ensures err { IfErr result (λ e. IsUnchecked self.old n e self.new) }
+    {
+        let Stage::Loaded(_) = &self.stage else {
+            return Err(Refusal::NotLoaded);
+        };
+        let Stage::Loaded(session) = std::mem::replace(&mut self.stage, Stage::Spent) else {
+            unreachable!()
+        };
+        let (session, found) = checked(alloc, session, n);
+        self.stage = Stage::Loaded(session);
+        let Some((stop, text)) = found else {
+            return Err(Refusal::Memory);
+        };
+        self.answer = text;
+        Ok(stop)
+    }
+}

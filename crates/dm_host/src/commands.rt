@@ -1,0 +1,47 @@
+//! Commands of the debugger.
+ghost use Rattle.std.specs.Prelude.{◌≡◌, OnOk, IfErr};
+ghost use Rattle.dm_host.specs.Commands.{IsCommanded, IsUncommanded};
+ghost use Rattle.dm_host.specs.inner.Answers;
+
+use crate::answer::Answer;
+use crate::host::{Host, Stage};
+use crate::refusal::Refusal;
+use std::alloc::Global;
+
+/// Why a session did not answer. Where a write failed, memory for the answer was refused.
+fn refusal_of(refusal: dm_debug::Refusal) -> Refusal
+    ensures { result ≡ Answers.refusal_of refusal }
+{
+    match refusal {
+        dm_debug::Refusal::Syntax => Refusal::Syntax,
+        dm_debug::Refusal::Full => Refusal::Full,
+        dm_debug::Refusal::Memory => Refusal::Memory,
+        dm_debug::Refusal::Write => Refusal::Memory,
+    }
+}
+
+impl Host {
+    /// Does the command that a line of the debugger asks for, and keeps the answer. The line has no line end.
+    ///
+    /// # Errors
+    ///
+    /// In this order: `NotLoaded` where no program is loaded; `Syntax` where the line is no command, or clears a breakpoint that is not set;
+    /// `Full` where it sets a seventeenth breakpoint. Nothing has changed then, and the answer before stays. `Memory` where memory was refused: the
+    /// command may then be done, whole or in some first part, and the answer before stays.
+    pub fn command(&mut self, alloc: Global, line: &[u8]) -> Result<(), Refusal>
+        ensures ok { OnOk result (IsCommanded self.old line.now self.new) }
+        ensures err { IfErr result (λ e. IsUncommanded self.old line.now e self.new) }
+    {
+        let Stage::Loaded(session) = &mut self.stage else {
+            return Err(Refusal::NotLoaded);
+        };
+        let mut answer = Answer::new(alloc);
+        match session.command(alloc, line, &mut answer) {
+            Ok(()) => {
+                self.answer = answer.into_bytes();
+                Ok(())
+            }
+            Err(refusal) => Err(refusal_of(refusal)),
+        }
+    }
+}

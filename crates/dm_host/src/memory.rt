@@ -1,0 +1,68 @@
+//! Bytes of guest memory, and bytes that are copied out.
+ghost use Rattle.std.specs.Prelude.{◌≡◌, ◌≤◌, ◌<◌, ◌++◌, OnOk, IfErr, MatchBool, Some, None, length, drop};
+ghost use Rattle.dm_state.specs.State.{State};
+ghost use Rattle.dm_host.specs.declared.refusal.Refusal.TheVariants.{NotLoaded};
+ghost use Rattle.dm_debug.specs.Runs.{entered};
+ghost use Rattle.dm_debug.specs.Sessions.{with_machine};
+ghost use Rattle.dm_host.specs.Memory.{bytes_at, Copies};
+ghost use Rattle.dm_host.specs.Hosts.{Works, Shows, IsNotLoaded};
+
+use crate::host::{Host, Stage};
+use crate::refusal::Refusal;
+use dm_machine::Machine;
+
+/// Fills a buffer with the bytes from segment:offset on.
+fn read_each(machine: &Machine, segment: u16, offset: u16, buffer: &mut [u8])
+    ensures { buffer.new ≡ bytes_at machine.now.memory segment offset (length buffer.old) }
+{
+    let mut at = offset;
+    for place in 0..buffer.len() {
+        buffer[place] = machine.peek(segment, at);
+        at = at.wrapping_add(1);
+    }
+}
+
+/// Copies all bytes to the front of a buffer, if it has room for them, and returns whether it has; without room the buffer stays.
+pub fn copy_all(bytes: &[u8], buffer: &mut [u8]) -> bool
+    ensures { Copies bytes.now buffer.old buffer.new result }
+{
+    if bytes.len() > buffer.len() {
+        return false;
+    }
+    buffer[..bytes.len()].copy_from_slice(bytes);
+    true
+}
+
+impl Host {
+    /// Fills a buffer with the bytes of memory from segment:offset on; offsets wrap in their segment. FFh stands where there is no memory.
+    ///
+    /// # Errors
+    ///
+    /// `NotLoaded` exactly where no program is loaded. The buffer stays then.
+    pub fn read(&self, segment: u16, offset: u16, buffer: &mut [u8]) -> Result<(), Refusal>
+        ensures ok { OnOk result (Shows self.now (λ s. buffer.new ≡ bytes_at s.memory segment offset (length buffer.old))) }
+        ensures err { IfErr result (λ e. IsNotLoaded self.now e × (buffer.new ≡ buffer.old)) }
+    {
+        let Some(machine) = self.machine() else {
+            return Err(Refusal::NotLoaded);
+        };
+        read_each(machine, segment, offset, buffer);
+        Ok(())
+    }
+
+    /// Writes bytes to memory from segment:offset on; offsets wrap in their segment. Bytes of the ROM, and where there is no memory, stay.
+    ///
+    /// # Errors
+    ///
+    /// `NotLoaded` exactly where no program is loaded.
+    pub fn write(&mut self, segment: u16, offset: u16, bytes: &[u8]) -> Result<(), Refusal>
+        ensures ok { OnOk result (Works self.old (λ s t. t ≡ with_machine s (record s.machine { memory = entered s.machine.memory segment offset bytes.now })) self.new) }
+        ensures err { IfErr result (λ e. IsNotLoaded self.old e × (self.new ≡ self.old)) }
+    {
+        let Stage::Loaded(session) = &mut self.stage else {
+            return Err(Refusal::NotLoaded);
+        };
+        session.write(segment, offset, bytes);
+        Ok(())
+    }
+}

@@ -1,0 +1,42 @@
+//! Runs.
+ghost use Rattle.std.specs.Prelude.{◌≡◌, IfOk, IfErr, None};
+ghost use Rattle.dm_machine.specs.Run.{IsRun};
+ghost use Rattle.dm_machine.specs.Until.{RunsUntil};
+ghost use Rattle.dm_host.specs.Hosts.{Works, IsNotLoaded};
+
+use crate::host::{Host, Stage};
+use crate::refusal::Refusal;
+use dm_machine::{Breakpoint, Stop};
+
+impl Host {
+    /// Makes at most `n` steps, as `Machine::run`, and returns the stop.
+    ///
+    /// # Errors
+    ///
+    /// `NotLoaded` exactly where no program is loaded. Nothing has changed then.
+    pub fn run(&mut self, n: u64) -> Result<Stop, Refusal>
+        ensures ok { IfOk result (λ stop. Works self.old (λ s t. IsRun s.machine n stop t.machine × (t.points ≡ s.points)) self.new) }
+        ensures err { IfErr result (λ e. IsNotLoaded self.old e × (self.new ≡ self.old)) }
+    {
+        let Stage::Loaded(session) = &mut self.stage else {
+            return Err(Refusal::NotLoaded);
+        };
+        Ok(session.run(n))
+    }
+
+    /// Makes at most `n` steps, but none behind a step that led to one of these breakpoints, as `Machine::run_until`: it returns None where the
+    /// last step led to one.
+    ///
+    /// # Errors
+    ///
+    /// `NotLoaded` exactly where no program is loaded. Nothing has changed then.
+    pub fn run_until(&mut self, n: u64, breakpoints: &[Breakpoint]) -> Result<Option<Stop>, Refusal>
+        ensures ok { IfOk result (λ stop. Works self.old (λ s t. RunsUntil s.machine n breakpoints.now stop t.machine × (t.points ≡ s.points)) self.new) }
+        ensures err { IfErr result (λ e. IsNotLoaded self.old e × (self.new ≡ self.old)) }
+    {
+        let Stage::Loaded(session) = &mut self.stage else {
+            return Err(Refusal::NotLoaded);
+        };
+        Ok(session.run_until(n, breakpoints))
+    }
+}

@@ -1,0 +1,68 @@
+/* A libFuzzer harness: feeds console input to a guest program until its block list breaks.
+ *
+ * MEZGULD_GUEST names the COM file. The run may make 100,000 steps.
+ */
+#include <stdio.h>
+#include <stdlib.h>
+#include <string.h>
+
+#include "mezguld.h"
+
+static uint8_t program[65278];
+static size_t program_count;
+
+int LLVMFuzzerInitialize(int *argc, char ***argv)
+{
+    (void)argc;
+    (void)argv;
+    const char *path = getenv("MEZGULD_GUEST");
+    FILE *file = path ? fopen(path, "rb") : NULL;
+    if (!file) {
+        fprintf(stderr, "MEZGULD_GUEST must name a COM file\n");
+        exit(1);
+    }
+    program_count = fread(program, 1, sizeof program, file);
+    fclose(file);
+    return 0;
+}
+
+static void must(uint32_t status)
+{
+    if (status != MEZGULD_OK) {
+        fprintf(stderr, "status %u\n", status);
+        exit(1);
+    }
+}
+
+/* Whether the debugger's listing of the arena says that a block list is destroyed. */
+static int is_broken(const uint8_t *text, size_t count)
+{
+    static const char word[] = "destroyed";
+    for (size_t at = 0; at + sizeof word - 1 <= count; at++)
+        if (memcmp(text + at, word, sizeof word - 1) == 0)
+            return 1;
+    return 0;
+}
+
+int LLVMFuzzerTestOneInput(const uint8_t *data, size_t size)
+{
+    static const uint8_t nothing[1];
+    static uint8_t text[1 << 16];
+    const uint8_t *name = (const uint8_t *)"MAIN.COM";
+    mezguld machine = MEZGULD_NONE;
+    must(mezguld_new(&machine, 0, 0, nothing, 0, 0));
+    must(mezguld_add(&machine, name, 8, program, program_count));
+    must(mezguld_load(&machine, name, 8, nothing, 0, data ? data : nothing, size));
+    mezguld_stopped stopped;
+    size_t wanted = 0;
+    must(mezguld_run(&machine, 100000, &stopped));
+    must(mezguld_command(&machine, (const uint8_t *)"M", 1, &wanted));
+    must(mezguld_answer(&machine, text, sizeof text, &wanted));
+    int broken = is_broken(text, wanted);
+    mezguld_free(&machine);
+    if (broken) {
+        fprintf(stderr, "the block list is destroyed:\n%.*s", (int)wanted, (const char *)text);
+        abort();
+    }
+    return 0;
+}
