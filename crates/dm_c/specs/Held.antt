@@ -5,15 +5,20 @@ use Rattle.std.specs.Coded.{coded_option}
 use base.Fml.{ftrue}
 use base.Stored.{Coded}
 use denote.RawPtr.{Ptr}
-use Rattle.libc.specs.Heap.{chunk}
+use Rattle.std.specs.declared.alloc.Global.{Global}
+use Rattle.std.specs.contracts.impls.GlobalAllocator.TheImpl.{ghosts}
 use Rattle.std.specs.Box.Ownership.{box_owns}
 use Rattle.dm_host.specs.Hosts.{Hosted}
 use Rattle.dm_host.specs.contracts.host.Host.{the_row}
 
--- a box of the C library's memory at p with the machine in it, or nothing
+-- the allocator of C's memory, as `Global` of the exports stands for it
+abbrev pub heap : Global
+heap = record { memory = record { seal = tt } }
+
+-- a box of that memory at p with the machine in it, or nothing
 abbrev pub held : Ptr → Option Hosted → Fml
 held p None = ftrue
-held p (Some h) = box_owns (λ ty at. chunk ty at) the_row p h
+held p (Some h) = box_owns (ghosts.dealloc_token heap) the_row p h
 
 abbrev pub held_coded : Coded (Option Hosted)
 held_coded = coded_option (the_row).coded

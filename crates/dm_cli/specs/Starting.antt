@@ -12,9 +12,11 @@ use Rattle.dm_cli.specs.declared.fault.Fault.TheVariants.{OutOfMemory, TooLarge,
 use Rattle.dm_cli.specs.Names.{last_part}
 use Rattle.dm_cli.specs.Stores.{IsFaultOf, IsInputFault, IsRead, IsStarted, Stores, bytes_if_any}
 
+-- the sizes of expanded and extended memory that the options ask for
 abbrev pub sizes_of : MachineOptions → Sizes
 sizes_of o = record { ems_pages = o.ems_pages; xms_kib = o.xms_kib }
 
+-- the paths of FILES, in order
 abbrev pub paths_of : MachineOptions → List (List ℕ)
 paths_of o = map (λ path. path.now) o.files.items
 

@@ -1,5 +1,5 @@
--- The drivers, and where they act: this machine's own. Vector 67h leads to the expanded memory driver, vector 2Fh to
--- what tells where the extended memory driver is called.
+-- The drivers, and the addresses where they act, which are this machine's own. Interrupt vector 67h points to the
+-- expanded memory driver, vector 2Fh to the multiplex handler, which returns the address of the extended memory driver.
 use Rattle.std.specs.Prelude.{◌==◌, if◌then◌else◌, Option, Some, None}
 use Rattle.dm_cpu.specs.declared.cpu.Cpu.{Cpu}
 use Rattle.dm_ems_calls.specs.Caller as expanded
@@ -11,13 +11,13 @@ use Rattle.dm_drivers.specs.declared.drivers.Driver.{Driver}
 use Rattle.dm_drivers.specs.declared.drivers.Driver.TheVariants.{ExpandedMemory, Multiplex, ExtendedMemory}
 use Rattle.dm_drivers.specs.Multiplex.{told}
 
--- a driver acts at exactly its CS:IP pair
+-- the driver that acts at CS:IP; another segment and offset of the same address is no entry point
 unfoldable pub driver_at : Cpu → Option Driver
 driver_at c =
     if c.cs == 0xF100 then (if c.ip == 0x0020 then Some ExpandedMemory else None) else
     if c.cs == 0xF000 then (if c.ip == 0x00BC then Some Multiplex else if c.ip == 0x0400 then Some ExtendedMemory else None) else None
 
--- the program that calls, and the memory that the driver keeps
+-- what a driver acts on: the caller's registers, the driver's tables and memory
 abbrev pub expanded_caller : State → expanded.Caller
 expanded_caller s = expanded.caller s.cpu s.ems s.memory
 

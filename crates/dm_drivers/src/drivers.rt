@@ -14,7 +14,7 @@ use dm_xms_calls::extended_memory_call;
 pub enum Driver {
     /// INT 67h, expanded memory.
     ExpandedMemory,
-    /// INT 2Fh, which tells where extended memory is called.
+    /// INT 2Fh, which returns the entry point of the extended memory driver.
     Multiplex,
     /// Extended memory, by a far call.
     ExtendedMemory,

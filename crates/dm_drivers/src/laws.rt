@@ -1,4 +1,4 @@
-//! Laws of the drivers, the contracts of functions that do nothing.
+//! Laws of the drivers: each is the contract of a function that does nothing.
 ghost use Rattle.dm_drivers.specs.Laws.{DriversKeep, PagesCome};
 
 /// No driver stops the machine, or changes anything but the registers, memory, the tables of expanded and of extended

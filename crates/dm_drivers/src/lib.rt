@@ -1,5 +1,5 @@
-//! The drivers that act in place of interrupt handlers and of code that is called far, beside the services of DOS: INT
-//! 67h, the expanded memory driver (LIM EMS 4.0); INT 2Fh and F000:0400, the extended memory driver (XMS 3.0).
+//! The memory drivers, beside the services of DOS: INT 67h is the expanded memory driver (LIM EMS 4.0), INT 2Fh returns
+//! the entry point of the extended memory driver, and a far call of F000:0400 is that driver (XMS 3.0).
 #![tactic(auto)]
 
 mod drivers;

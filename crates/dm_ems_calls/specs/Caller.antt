@@ -14,6 +14,7 @@ pub record Caller : Type 0 where
   pub cpu : Cpu
   pub x : Expanded
 
+-- the state of a call, from its parts
 abbrev pub caller : Cpu → Tables → Memory → Caller
 caller cpu ems memory = record { cpu = cpu; x = expanded ems memory }
 
@@ -29,11 +30,11 @@ on_cpu c cpu = record c { cpu = cpu }
 abbrev pub succeeded : Cpu → Cpu
 succeeded cpu = with_status cpu 0
 
--- a refusal: AH tells why
+-- a refusal: AH is the status
 abbrev pub refused : Cpu → Status → Cpu
 refused cpu e = with_status cpu (code_of e)
 
--- the registers after an answer: success sets those that `set` tells, a refusal none
+-- the registers after an answer: success changes them as `set` does, a refusal not at all
 abbrev pub settled : {A : Type 0} → Cpu → Result A Status → (A → Cpu) → Cpu
 settled cpu (Ok v) set = succeeded (set v)
 settled cpu (Err e) set = refused cpu e

@@ -23,7 +23,7 @@ list_frame c = record { cpu = succeeded (record c.cpu { cx = 4 }); x = rows.list
 unfoldable pub count_windows : Cpu → Cpu
 count_windows cpu = succeeded (record cpu { cx = 4 })
 
--- 58h
+-- 58h: AL selects the array or the number of windows
 unfoldable pub mappable : Caller → Caller
 mappable c =
     if byte_of c.cpu Al == 0 then list_frame c else

@@ -39,7 +39,7 @@ function_of number =
 unfoldable pub no_function : Cpu → Cpu
 no_function cpu = with_status cpu 0x84
 
--- what a call leaves: 40h tells by success alone that the driver is there
+-- what a call leaves; 40h returns success alone
 abbrev pub call : Caller → Function → Caller
 call c Status = on_cpu c (succeeded c.cpu)
 call c Frame = on_cpu c (tell_frame c.cpu)

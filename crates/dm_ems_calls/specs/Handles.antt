@@ -38,6 +38,7 @@ list_pages c =
     let told = lists.list_pages c.x c.cpu.es c.cpu.di in
     record { cpu = succeeded (record c.cpu { bx = told.0 }); x = told.1 }
 
+-- the status of a call: 0 for success
 abbrev pub status_of : Option Status → ℕ
 status_of None = 0
 status_of (Some e) = code_of e

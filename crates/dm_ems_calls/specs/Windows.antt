@@ -29,6 +29,6 @@ numbered cpu (Some n) = with_byte cpu Al n
 unfoldable pub whole_map : Caller → Caller
 whole_map c = after c (maps.whole_map c.x (byte_of c.cpu Al) c.cpu.es c.cpu.di c.cpu.ds c.cpu.si) (numbered c.cpu)
 
--- 50h: pages of the handle in DX come into windows, by CX pairs at DS:SI; AL says how a pair tells its window
+-- 50h: pages of the handle in DX come into windows, by CX pairs at DS:SI; AL says how a pair names its window
 unfoldable pub map_many : Caller → Caller
 map_many c = after c (many.map_many c.x (byte_of c.cpu Al) c.cpu.dx c.cpu.cx c.cpu.ds c.cpu.si) (λ done. c.cpu)

@@ -17,7 +17,7 @@ pub(crate) fn succeed(cpu: &mut Cpu)
     cpu.set_byte(ByteRegister::Ah, 0);
 }
 
-/// A refusal: AH tells why.
+/// A refusal: AH is the status.
 pub(crate) fn refuse(cpu: &mut Cpu, status: Status)
     ensures { cpu.new ≡ refused cpu.old status }
 {
@@ -34,7 +34,7 @@ pub(crate) fn settle(cpu: &mut Cpu, res: Result<(), Status>)
     }
 }
 
-/// The status of a call that tells a number in BX.
+/// The status of a call that returns a number in BX.
 pub(crate) fn settle_bx(cpu: &mut Cpu, res: Result<u16, Status>)
     ensures { cpu.new ≡ settled cpu.old res (λ number. record cpu.old { bx = number }) }
 {
@@ -47,7 +47,7 @@ pub(crate) fn settle_bx(cpu: &mut Cpu, res: Result<u16, Status>)
     }
 }
 
-/// The status of a call that tells a handle in DX.
+/// The status of a call that returns a handle in DX.
 pub(crate) fn settle_dx(cpu: &mut Cpu, res: Result<u16, Status>)
     ensures { cpu.new ≡ settled cpu.old res (λ handle. record cpu.old { dx = handle }) }
 {
@@ -60,7 +60,7 @@ pub(crate) fn settle_dx(cpu: &mut Cpu, res: Result<u16, Status>)
     }
 }
 
-/// The status of a call that may tell a number in AL.
+/// The status of a call that may return a number in AL.
 pub(crate) fn settle_al(cpu: &mut Cpu, res: Result<Option<u8>, Status>)
     ensures { cpu.new ≡ settled cpu.old res (numbered cpu.old) }
 {
@@ -75,7 +75,7 @@ pub(crate) fn settle_al(cpu: &mut Cpu, res: Result<Option<u8>, Status>)
     }
 }
 
-/// The status of a call that was to give a handle another number of pages; BX tells how many it has.
+/// The status of a call that was to give a handle another number of pages; BX is how many it has.
 pub(crate) fn settle_pages(cpu: &mut Cpu, res: Result<Reallocated, Status>)
     ensures { cpu.new ≡ concluded cpu.old res (recounted cpu.old) }
 {
@@ -91,7 +91,7 @@ pub(crate) fn settle_pages(cpu: &mut Cpu, res: Result<Reallocated, Status>)
     }
 }
 
-/// The status of a move, which tells whether the regions overlapped.
+/// The status of a move: 92h where the regions overlapped.
 pub(crate) fn settle_move(cpu: &mut Cpu, res: Result<Moved, Status>)
     ensures { cpu.new ≡ concluded cpu.old res (λ how. with_status cpu.old (moved_code how)) }
 {

@@ -26,41 +26,41 @@ const NO_FUNCTION: u8 = 0x84;
 pub(crate) enum Function {
     /// 40h: whether the driver is there.
     Status,
-    /// 41h: tells the frame's segment in BX.
+    /// 41h: returns the frame's segment in BX.
     Frame,
-    /// 42h: tells in BX the pages that no handle has, in DX all pages.
+    /// 42h: returns in BX the pages that no handle has, in DX all pages.
     Pages,
-    /// 43h: gives a new handle BX pages, and tells it in DX.
+    /// 43h: gives a new handle BX pages, and returns it in DX.
     Allocate,
     /// 44h: makes window AL show logical page BX of handle DX.
     MapPage,
     /// 45h: gives up handle DX and its pages.
     Deallocate,
-    /// 46h: tells the version in AL.
+    /// 46h: returns the version in AL.
     Version,
     /// 47h: keeps under handle DX what the windows show.
     SaveMap,
     /// 48h: the windows show again what was kept under handle DX.
     RestoreMap,
-    /// 4Bh: tells in BX how many handles are in use.
+    /// 4Bh: returns in BX how many handles are in use.
     HandleCount,
-    /// 4Ch: tells in BX how many pages handle DX has.
+    /// 4Ch: returns in BX how many pages handle DX has.
     PageCount,
     /// 4Dh: writes the handles and their pages at ES:DI.
     PageList,
-    /// 4Eh: tells or sets what all windows show.
+    /// 4Eh: gets or sets what all windows show.
     WholeMap,
     /// 50h: makes windows show pages of handle DX.
     MapMany,
     /// 51h: gives handle DX another number of pages.
     Reallocate,
-    /// 53h: tells or sets the name of handle DX.
+    /// 53h: gets or sets the name of handle DX.
     HandleName,
-    /// 54h: tells all names, searches one, or tells how many handles there are.
+    /// 54h: gets all names, searches for one, or returns how many handles there are.
     Directory,
     /// 57h: moves or exchanges regions of memory.
     Regions,
-    /// 58h: tells the windows' segments and numbers.
+    /// 58h: returns the windows' segments and numbers.
     Mappable,
     /// Any other number.
     Unknown,

@@ -40,7 +40,7 @@ pub(crate) fn restore_map(cpu: &mut Cpu, ems: &mut Ems, space: &mut Space)
     settle(cpu, res);
 }
 
-/// 4Eh: writes the map of the windows at ES:DI, sets it from DS:SI, or both, or tells its size in AL, as AL says.
+/// 4Eh: writes the map of the windows at ES:DI, sets it from DS:SI, does both, or returns its size in AL; AL selects which.
 #[tactic(auto, unfolding(crate::specs::Windows::whole_map))]
 pub(crate) fn whole_map(cpu: &mut Cpu, ems: &Ems, space: &mut Space)
     requires { IsConsistent (expanded ems.now space.old.memory) }
@@ -51,7 +51,7 @@ pub(crate) fn whole_map(cpu: &mut Cpu, ems: &Ems, space: &mut Space)
     settle_al(cpu, res);
 }
 
-/// 50h: pages of the handle in DX come into windows, by CX pairs at DS:SI; AL says how a pair tells its window.
+/// 50h: pages of the handle in DX come into windows, by CX pairs at DS:SI; AL says how a pair names its window.
 #[tactic(auto, unfolding(crate::specs::Windows::map_many))]
 pub(crate) fn map_many(cpu: &mut Cpu, ems: &Ems, space: &mut Space)
     requires { IsConsistent (expanded ems.now space.old.memory) }

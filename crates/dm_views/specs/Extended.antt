@@ -13,6 +13,7 @@ use Rattle.dm_views.specs.Digits.{two, four, eight, numbered}
 abbrev pub block_line : ℕ → ℕ → ℕ → ℕ → List ℕ
 block_line number base kib locks = four number ++ codes " " ++ eight base ++ codes " " ++ four kib ++ codes " " ++ two locks ++ 10 ∷ []
 
+-- nothing for a handle that is not in use
 abbrev pub if_used : Memory → ℕ → Option Handle → List ℕ
 if_used m number None = []
 if_used m number (Some h) = block_line number (address m h.block) h.kib h.locks
@@ -26,9 +27,11 @@ abbrev pub upper_line : Option Upper → List ℕ
 upper_line None = []
 upper_line (Some u) = codes "upper " ++ four u.segment ++ codes " " ++ four u.paragraphs ++ 10 ∷ []
 
+-- the line of upper memory block k
 abbrev pub upper_text : Tables → ℕ → List ℕ
 upper_text xms k = upper_line (slice_get xms.uppers k)
 
+-- the state of A20 and of the high memory area
 abbrev pub switches_text : Bool → Bool → List ℕ
 switches_text on taken = (if on then codes "A20 on" else codes "A20 off") ++ (if taken then codes " HMA used" ++ 10 ∷ [] else codes " HMA free" ++ 10 ∷ [])
 

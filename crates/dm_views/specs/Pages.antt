@@ -15,6 +15,7 @@ use Rattle.dm_views.specs.Digits.{two, four, numbered}
 abbrev pub holding_text : ℕ → Holding → List ℕ
 holding_text number h = four number ++ codes " " ++ four h.pages ++ codes " " ++ flat_map two h.name ++ 10 ∷ []
 
+-- nothing for a handle that is not in use
 abbrev pub if_used : ℕ → Option Holding → List ℕ
 if_used number None = []
 if_used number (Some h) = holding_text number h
@@ -25,6 +26,7 @@ handle_text ems number = if_used number (holding ems number)
 
 -- ---- windows
 
+-- the handle and the page that a window shows
 abbrev pub shown_text : Option (ℕ × ℕ) → List ℕ
 shown_text None = codes "none" ++ 10 ∷ []
 shown_text (Some n) = four n.0 ++ codes " " ++ four n.1 ++ 10 ∷ []

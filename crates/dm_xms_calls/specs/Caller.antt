@@ -30,7 +30,7 @@ succeeded cpu = record cpu { ax = 1 }
 abbrev pub refused : Cpu → ℕ → Cpu
 refused cpu code = with_byte (record cpu { ax = 0 }) Bl code
 
--- the registers after an answer: success sets those that `set` tells, a refusal none but AX and BL
+-- the registers after an answer: success changes them as `set` does, a refusal not at all but AX and BL
 abbrev pub settled : {A : Type 0} → Cpu → Result A Status → (A → Cpu) → Cpu
 settled cpu (Ok v) set = succeeded (set v)
 settled cpu (Err e) set = refused cpu (code_of e)

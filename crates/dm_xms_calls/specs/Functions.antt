@@ -34,7 +34,7 @@ function_of number =
     if number == 0x11 then ReleaseUpper else
     if number == 0x12 then ResizeUpper else Unknown
 
--- there is no such function
+-- a function that the driver does not have: error 80h, not implemented
 unfoldable pub no_function : Cpu → Cpu
 no_function cpu = refused cpu 0x80
 

@@ -23,7 +23,7 @@ const NO_FUNCTION: u8 = 0x80;
 /// What a call asks for.
 #[derive(Clone, Copy, Debug, PartialEq, Eq)]
 pub(crate) enum Function {
-    /// 00h: tells the version.
+    /// 00h: returns the version.
     Version,
     /// 01h: takes the high memory area.
     TakeArea,
@@ -37,21 +37,21 @@ pub(crate) enum Function {
     EnableLocally,
     /// 06h: switches A20 off locally.
     DisableLocally,
-    /// 07h: tells whether A20 is on.
+    /// 07h: returns whether A20 is on.
     Line,
-    /// 08h: tells what is free.
+    /// 08h: returns what is free.
     FreeMemory,
-    /// 09h: gives a new handle a block of DX KiB, and tells it in DX.
+    /// 09h: gives a new handle a block of DX KiB, and returns it in DX.
     Allocate,
     /// 0Ah: frees handle DX and its block.
     Deallocate,
     /// 0Bh: moves memory.
     Move,
-    /// 0Ch: locks the block of handle DX, and tells its address in DX:BX.
+    /// 0Ch: locks the block of handle DX, and returns its address in DX:BX.
     Lock,
     /// 0Dh: unlocks the block of handle DX.
     Unlock,
-    /// 0Eh: tells of handle DX.
+    /// 0Eh: returns information on handle DX.
     Information,
     /// 0Fh: gives the block of handle DX BX KiB.
     Reallocate,
