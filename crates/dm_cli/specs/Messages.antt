@@ -1,5 +1,5 @@
 -- What `dm` prints on standard error: the line about a stop.
-use Rattle.std.specs.Prelude.{ℕ, ◌++◌, List, [], ◌∷◌, Option, codes}
+use Rattle.std.specs.Prelude.{ℕ, ◌≡◌, ◌++◌, List, [], ◌∷◌, Option, codes}
 use Rattle.std.specs.Io.KnownBytes.{Appends}
 use Rattle.dm_out.specs.Out.{AppendsPart, HasFailed}
 use Rattle.dm_state.specs.declared.stop.Stop.{Stop}
@@ -20,7 +20,7 @@ pub record Stream : Type 0 where
   pub bytes : Option (List ℕ)
   pub failures : ℕ
 
--- a text is written to a stream: all of it; or a first part, and then a write failed
+-- a text is written to a stream: all of it, and no write failed; or a first part, and then a write failed
 pub data Prints (text : List ℕ) (before after : Stream) : Type 0 where
-  all : Appends before.bytes after.bytes text → Prints text before after
+  all : Appends before.bytes after.bytes text → after.failures ≡ before.failures → Prints text before after
   part : AppendsPart before.bytes after.bytes text → HasFailed before.failures after.failures → Prints text before after

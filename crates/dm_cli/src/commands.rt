@@ -96,7 +96,8 @@ fn concluded<E: Out>(outcome: Result<u8, Fault<'_>>, error: &mut E) -> u8
 /// Reports the fault of a command, if there is one, and returns the status. If the report cannot be written, the status
 /// is the same.
 fn told<E: Out>(outcome: Result<(), Fault<'_>>, error: &mut E) -> u8
-    ensures { result ≡ status_after (end_of outcome.entry) }
+    ensures status { result ≡ status_after (end_of outcome.entry) }
+    ensures ok { OnOk outcome.entry (error.new ≡ error.old) }
 {
     match outcome {
         Ok(()) => 0,
