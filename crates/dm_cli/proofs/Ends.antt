@@ -4,7 +4,6 @@ use Rattle.std.specs.Prelude.{◌==◌, if◌then◌else◌}
 use Rattle.std.specs.Io.BufRead.{take_through, drop_through}
 use Rattle.std.specs.Io.Buffered.{reader_buffer, reader_capacity, reader_inner, reader_remaining}
 use Rattle.std.specs.Io.KnownBytes.{prepend_known}
-use Rattle.std.specs.Option.{IfNone}
 use Rattle.std.specs.Io.Take.{take_inner, take_limit, take_remaining}
 use Rattle.std.specs.declared.io.buffered.BufReader.{BufReader}
 use Rattle.std.specs.declared.io.traits.Take.{Take}
@@ -17,7 +16,6 @@ use Rattle.dm_cli.specs.Assembling.{IsAsmFault, text_refused, text_no_memory}
 use Rattle.dm_cli.specs.Debugging.{Converses, IsConversation, ended, quits, answers, too_long, unread, no_memory, cut_off, unwritten, not_handed_on}
 use Rattle.dm_cli.specs.Faults.{refusal_fault}
 use Rattle.dm_cli.specs.inner.Statuses.{end_of}
-use Rattle.dm_cli.specs.Messages.{Stream}
 use Rattle.dm_cli.specs.Stores.{IsRead}
 use Rattle.dm_cli.proofs.Lines.{first_cut, first_cut_short}
 
@@ -80,11 +78,6 @@ pub session_end : {A : Type 0} (r : Result A Fault) (n : ℕ) (known : Option (L
     → IfErr r (λ e. IsConversation n known s t a b opened failures (Some e)) → IsConversation n known s t a b opened failures (end_of r)
 session_end (Ok x) n known s t a b opened failures ok err = ok
 session_end (Err e) n known s t a b opened failures ok err = err
-
--- a command that ended without a fault left standard error as it was
-pub quiet : {A E : Type 0} (stream : E → Stream) (old new : E) (r : Result A Fault) → OnOk r (new ≡ old) → IfNone (end_of r) (stream new ≡ stream old)
-quiet stream old new (Ok x) same = ap stream same
-quiet stream old new (Err fault) same = tt
 
 -- ---- the reader of a session
 

@@ -1,7 +1,6 @@
 -- What `dm` does for the words of its command line, from their reading to its exit status.
-use Rattle.std.specs.Prelude.{ℕ, ◌≡◌, ◌≢◌, List, [], Option, Some, IsSomeAnd, IfOk, Result, Ok, Err, codes}
+use Rattle.std.specs.Prelude.{ℕ, ◌≡◌, ◌≢◌, List, [], Option, Some, IsSomeAnd, IfErr, Result, Ok, Err, codes}
 use Rattle.std.specs.Io.KnownBytes.{Appends, Keeps}
-use Rattle.std.specs.Option.{IfNone}
 use denote.Ref.{Bor}
 use Rattle.clap.specs.Words.{Text, fault_of, subcommand_of}
 use Rattle.dm_options.specs.Arguments.{dm_app}
@@ -16,11 +15,12 @@ use Rattle.dm_state.specs.declared.stop.Stop.{Stop}
 use Rattle.dm_state.specs.State.{State}
 use Rattle.dm_machine.specs.Run.{IsRun}
 use Rattle.dm_cli.specs.declared.fault.Fault.{Fault}
+use Rattle.dm_cli.specs.declared.fault.Fault.TheVariants.{OutOfMemory}
 use Rattle.dm_cli.specs.Assembling.{Assembles, Disassembles}
 use Rattle.dm_cli.specs.Checking.{Checks, check_status}
 use Rattle.dm_cli.specs.Debugging.{Debugs}
-use Rattle.dm_cli.specs.Faults.{IsWriteFault}
-use Rattle.dm_cli.specs.Messages.{Stream, Prints, stop_text}
+use Rattle.dm_cli.specs.Faults.{IsWriteFault, fault_line}
+use Rattle.dm_cli.specs.Messages.{Stream, Prints, Reports, outcome_text}
 use Rattle.dm_cli.specs.Starting.{IsStartedBy, IsStartFault}
 use Rattle.dm_cli.specs.Statuses.{status_of, status_after}
 
@@ -75,20 +75,20 @@ abbrev pub SavesNothing : Given → Left → Type 0
 SavesNothing g l = (l.saved ≡ g.saved) × (l.failed_saves ≡ g.failed_saves)
 
 -- a wrong line, or a call for help, does nothing; a right one does what its command does; an allocation may fail while
--- the words are read. A command without a fault writes nothing to standard error but what is said here
+-- the words are read. Of a wrong line or a call for help standard error has `clap`'s text, of which nothing is said here
 pub data Does (g : Given) (words : List Text) (l : Left) : Type 0 where
   usage : fault_of dm_app words ≢ [] → IsSilent g l → SavesNothing g l → l.status ≡ 2 → Does g words l
-  no_memory : IsSilent g l → SavesNothing g l → l.status ≡ 126 → Does g words l
+  no_memory : Prints (fault_line OutOfMemory) g.messages l.messages → IsSilent g l → SavesNothing g l → l.status ≡ 126 → Does g words l
   runs : (o : MachineOptions) (outcome : Result Stop Fault) → Asks words (command.Run o) → Runs g.files g.typed o g.output l.output g.failures l.failures outcome
-      → IfOk outcome (λ stop. Prints (stop_text stop) g.messages l.messages) → SavesNothing g l → l.status ≡ status_of outcome → Does g words l
+      → Prints (outcome_text outcome) g.messages l.messages → SavesNothing g l → l.status ≡ status_of outcome → Does g words l
   checks : (o : MachineOptions) (outcome : Result ℕ Fault) → Asks words (command.Check o) → Checks g.files g.typed o g.output l.output g.failures l.failures g.messages l.messages outcome
-      → SavesNothing g l → l.status ≡ check_status outcome → Does g words l
+      → IfErr outcome (λ fault. Prints (fault_line fault) g.messages l.messages) → SavesNothing g l → l.status ≡ check_status outcome → Does g words l
   debugs : (o : DebugOptions) (end : Option Fault) → Asks words (command.Debug o) → Debugs g.files g.typed o g.output l.output g.failures l.failures end
-      → IfNone end (l.messages ≡ g.messages) → SavesNothing g l → l.status ≡ status_after end → Does g words l
+      → Reports g.messages l.messages end → SavesNothing g l → l.status ≡ status_after end → Does g words l
   assembles : (o : AsmOptions) (end : Option Fault) → Asks words (command.Asm o) → Assembles g.files o g.saved l.saved g.failed_saves l.failed_saves end
-      → IfNone end (l.messages ≡ g.messages) → IsSilent g l → l.status ≡ status_after end → Does g words l
+      → Reports g.messages l.messages end → IsSilent g l → l.status ≡ status_after end → Does g words l
   disassembles : (path : Bor (List ℕ)) (end : Option Fault) → Asks words (command.Disasm path) → Disassembles g.files path.now g.output l.output g.failures l.failures end
-      → IfNone end (l.messages ≡ g.messages) → SavesNothing g l → l.status ≡ status_after end → Does g words l
+      → Reports g.messages l.messages end → SavesNothing g l → l.status ≡ status_after end → Does g words l
 
 -- the exit status of the program over files and streams of which nothing is known
 pub record EndsWith (words : List Text) (status : ℕ) : Type 0 where

@@ -2,7 +2,7 @@ use Rattle.std.proofs.Common.{refl}
 use Rattle.std.proofs.KnownBytes.{Keeps-refl}
 use Rattle.dm_cli.specs.Program.{runs, checks, debugs, assembles, disassembles}
 use Rattle.dm_cli.proofs.Checked.{reported_fault}
-use Rattle.dm_cli.proofs.Ends.{quiet}
+use Rattle.dm_cli.proofs.Printed.{fault_printed}
 use Rattle.dm_cli.proofs.commands.dm_main.Goals as goal
 
 pub returns-in-Ok-Run : goal.returns-in-Ok-Run
@@ -12,20 +12,21 @@ returns-in-Ok-Run g c =
 pub returns-in-Ok-Check : goal.returns-in-Ok-Check
 returns-in-Ok-Check g c =
     let told = reported_fault _ _ _ _ _ _ _ _ (λ e. record { bytes = g.E.Out.taken e; failures = g.E.Out.failures e }) c.check.new.error c.concluded.new.error
-    c.check.result (rw c.in-Ok-Check.field-0-is at c.check.ensures) c.concluded.ensures.ok in
-    checks _ _ (record { right = c.in-Ok-Check.ensures.no_fault; says = rw c.in-Ok-Check.field-0-is at c.in-Ok-Check.ensures.ok }) told (refl, refl) c.concluded.ensures.status
+    c.check.result (rw c.in-Ok-Check.field-0-is at c.check.ensures.does) c.concluded.ensures.ok in
+    let fault = fault_printed (λ e. record { bytes = g.E.Out.taken e; failures = g.E.Out.failures e }) _ _ _ c.check.result c.check.ensures.silent c.concluded.ensures.fault in
+    checks _ _ (record { right = c.in-Ok-Check.ensures.no_fault; says = rw c.in-Ok-Check.field-0-is at c.in-Ok-Check.ensures.ok }) told fault (refl, refl) c.concluded.ensures.status
 
 pub returns-in-Ok-Debug : goal.returns-in-Ok-Debug
 returns-in-Ok-Debug g c =
     debugs _ _ (record { right = c.in-Ok-Debug.ensures.no_fault; says = rw c.in-Ok-Debug.field-0-is at c.in-Ok-Debug.ensures.ok }) (rw c.in-Ok-Debug.field-0-is at c.debug.ensures)
-    (quiet (λ e. record { bytes = g.E.Out.taken e; failures = g.E.Out.failures e }) _ _ c.debug.result c.told.ensures.ok) (refl, refl) c.told.ensures.status
+    c.told.ensures.line (refl, refl) c.told.ensures.status
 
 pub returns-in-Ok-Asm : goal.returns-in-Ok-Asm
 returns-in-Ok-Asm g c =
     assembles _ _ (record { right = c.in-Ok-Asm.ensures.no_fault; says = rw c.in-Ok-Asm.field-0-is at c.in-Ok-Asm.ensures.ok }) (rw c.in-Ok-Asm.field-0-is at c.asm.ensures)
-    (quiet (λ e. record { bytes = g.E.Out.taken e; failures = g.E.Out.failures e }) _ _ c.asm.result c.told-in-Ok-Asm.ensures.ok) (Keeps-refl _, refl) c.told-in-Ok-Asm.ensures.status
+    c.told-in-Ok-Asm.ensures.line (Keeps-refl _, refl) c.told-in-Ok-Asm.ensures.status
 
 pub returns-in-Ok-Disasm : goal.returns-in-Ok-Disasm
 returns-in-Ok-Disasm g c =
     disassembles c.in-Ok-Disasm.path _ (record { right = c.in-Ok-Disasm.ensures.no_fault; says = rw c.in-Ok-Disasm.field-0-is at c.in-Ok-Disasm.ensures.ok }) (rw c.in-Ok-Disasm.field-0-is at c.disasm.ensures)
-    (quiet (λ e. record { bytes = g.E.Out.taken e; failures = g.E.Out.failures e }) _ _ c.disasm.result c.told-in-Ok-Disasm.ensures.ok) (refl, refl) c.told-in-Ok-Disasm.ensures.status
+    c.told-in-Ok-Disasm.ensures.line (refl, refl) c.told-in-Ok-Disasm.ensures.status
