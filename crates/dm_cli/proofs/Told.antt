@@ -1,5 +1,5 @@
 -- What is written for one line.
-use Rattle.std.proofs.Common.{◌+◌, ◌<◌, min, inl, inr, ◌≡◌, ℕ, Bool, true, false, List, Option, sym, subst, refl, arith}
+use Rattle.std.proofs.Common.{◌+◌, min, ◌≡◌, ℕ, Bool, true, false, List, Option, sym, subst, refl, arith}
 use Rattle.std.proofs.KnownBytes.{Appends-kept, Keeps-refl}
 use Rattle.std.proofs.lemmas.Grind.{common_steps}
 use Rattle.std.specs.Io.KnownBytes.{Appends, Keeps}
