@@ -1,5 +1,5 @@
 -- Writing one block's bytes leaves those of the others.
-use Rattle.std.proofs.Common.{◌≡◌, ℕ, zero, suc, ◌+◌, ◌*◌, ◌<◌, ◌≤◌, Bool, true, false, not, List, [], ◌∷◌, ◌++◌, take, drop, set, length, get_or, replicate, Option, Some, None, refl, sym, ap, ◌∙◌, subst, inl, inr, ◌⊎◌, arith}
+use Rattle.std.proofs.Common.{◌≡◌, ℕ, zero, suc, ◌+◌, ◌*◌, ◌<◌, ◌≤◌, Bool, true, false, not, List, [], ◌∷◌, ◌++◌, take, drop, set, length, get_or, replicate, Option, Some, None, refl, sym, ap, ◌∙◌, inl, inr, ◌⊎◌, arith}
 use Rattle.std.specs.Prelude.{nat_lt, nat_le, ◌&&◌, if◌then◌else◌}
 use Rattle.std.proofs.Math.Seq.{take-append_seam}
 use Rattle.std.proofs.Math.Bool.{true≢false}
@@ -7,8 +7,7 @@ use Rattle.std.proofs.lemmas.Bool.{le-ltb, leb-true}
 use Rattle.std.specs.Cmp.Derive.{both_true}
 use Rattle.std.proofs.lemmas.List.{append_assoc, append-nil}
 use Rattle.std.specs.Prelude.{min, ◌-◌, IfSome}
-use Rattle.std.proofs.lemmas.List.{map-set, length-set, get_or-set_same, get_or-set_other}
-use Rattle.dm_region.proofs.Bytes.{length-with_part}
+use Rattle.std.proofs.lemmas.List.{map-set, get_or-set_same, get_or-set_other}
 use Rattle.std.proofs.lemmas.Option.{none-some, same_Some}
 use Rattle.dm_region.specs.Parts.{part, with_part}
 use Rattle.dm_pool.specs.declared.extent.Extent.{Extent}
@@ -141,32 +140,8 @@ module _ (n : ℕ) (places : List (Option Extent)) (xs : List ℕ) (is : IsPool 
   fits : b.base * 1024 + b.units * 1024 ≤ length xs
   fits = omega (arith, is.whole)
 
-  at_new : (i : ℕ) (d : Extent) → i ≡ k → get_or (set places k (Some b)) i None ≡ Some d → b ≡ d
-  at_new i d e f = same_Some b d (sym (ap (λ j. get_or (set places k (Some b)) j None) e ∙ get_or-set_same places k (Some b) None free) ∙ f)
-
   at_old : (i : ℕ) (d : Extent) → ¬ (i ≡ k) → get_or (set places k (Some b)) i None ≡ Some d → get_or places i None ≡ Some d
   at_old i d e f = sym (get_or-set_other places k i (Some b) None e) ∙ f
-
-  turned : (d e : Extent) → Apart d e → Apart e d
-  turned d e a = elim a [ inl h ↦ inr h | inr h ↦ inl h ]
-
-  pub still_pool : IsPool n (set places k (Some b)) ys
-  still_pool = record {
-    count = length-set places k (Some b) ∙ is.count;
-    whole = length-with_part xs ws (b.base * 1024) (b.units * 1024) fits long ∙ is.whole;
-    small = is.small;
-    within = λ i d f. elim (same_or_not i k) [ inl e ↦ subst (λ z. z.base + z.units ≤ n) (at_new i d e f) inside | inr e ↦ is.within i d (at_old i d e f) ];
-    apart = λ i j d c ne f g. elim (same_or_not i k) [
-      | inl e ↦ elim (same_or_not j k) [
-        | inl h ↦ absurd (ne (e ∙ sym h))
-        | inr h ↦ subst (λ z. Apart z c) (at_new i d e f) (turned c b (far j c h (at_old j c h g)))
-      ]
-      | inr e ↦ elim (same_or_not j k) [
-        | inl h ↦ subst (λ z. Apart d z) (at_new j c h g) (far i d e (at_old i d e f))
-        | inr h ↦ is.apart i j d c ne (at_old i d e f) (at_old j c h g)
-      ]
-    ];
-  }
 
   pub new_contents : contents_of (set places k (Some b)) ys ≡ set (contents_of places xs) k ws
   new_contents =
@@ -240,9 +215,9 @@ refilled n old ws e = ap (λ m. take m (ws ++ drop (length ws) old)) (sym e) ∙
 pub lent : (n : ℕ) (places : List (Option Extent)) (xs : List ℕ) → IsPool n places xs → (k : ℕ) (b : Extent) → get_or places k None ≡ Some b → (ws : List ℕ) → length ws ≡ b.units * 1024
     → contents_of places (with_part xs (b.base * 1024) (b.units * 1024) ws) ≡ set (contents_of places xs) k ws
 lent n places xs is k b e ws long =
-    let within = is.within k b e in let fits : b.base * 1024 + b.units * 1024 ≤ length xs = omega (arith, is.whole) in
+    let within = is.laid.within k b e in let fits : b.base * 1024 + b.units * 1024 ≤ length xs = omega (arith, is.whole) in
     let ys = with_part xs (b.base * 1024) (b.units * 1024) ws in
-    one_written places k b xs ys e (λ i d ne f. beside xs ws b d long fits (is.apart i k d b ne f e)) ∙ ap (set (contents_of places xs) k) (written xs ws (b.base * 1024) (b.units * 1024) long fits)
+    one_written places k b xs ys e (λ i d ne f. beside xs ws b d long fits (is.laid.apart i k d b ne f e)) ∙ ap (set (contents_of places xs) k) (written xs ws (b.base * 1024) (b.units * 1024) long fits)
 
 -- the pool once the bytes of a block have been lent
 pub lent_is : (n : ℕ) (places : List (Option Extent)) (xs : List ℕ) → IsPool n places xs → (k : ℕ) (b : Extent) → get_or places k None ≡ Some b → (w : List ℕ)
@@ -250,7 +225,7 @@ pub lent_is : (n : ℕ) (places : List (Option Extent)) (xs : List ℕ) → IsPo
     record { units = n; places = places; contents = contents_of places (with_part xs (b.base * 1024) (b.units * 1024) (refill (b.units * 1024) (part xs (b.base * 1024) (b.units * 1024)) w)) } ≡ with_content s k (refill (length old) old w)
 lent_is n places xs is k b e w =
     let s : Blocks = record { units = n; places = places; contents = contents_of places xs } in
-    let within = is.within k b e in let fits : b.base * 1024 + b.units * 1024 ≤ length xs = omega (arith, is.whole) in
+    let within = is.laid.within k b e in let fits : b.base * 1024 + b.units * 1024 ≤ length xs = omega (arith, is.whole) in
     let own = part xs (b.base * 1024) (b.units * 1024) in let N = b.units * 1024 in
     let long : length own ≡ N = part_length xs (b.base * 1024) N fits in
     ap (λ l. record { units = n; places = places; contents = l }) (lent n places xs is k b e (refill N own w) (sym (length_refill N own w (sym long))))

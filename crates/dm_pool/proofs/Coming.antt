@@ -24,14 +24,14 @@ use Rattle.dm_pool.proofs.Told.{lowest_zero}
 
 -- ---- blocks of no unit stay at unit 0
 
-come_based : (ps : List (Option Extent)) (k : ℕ) (b : Extent) → AreBased ps → (b.units ≡ 0 → b.base ≡ 0) → AreBased (set ps k (Some b))
+pub come_based : (ps : List (Option Extent)) (k : ℕ) (b : Extent) → AreBased ps → (b.units ≡ 0 → b.base ≡ 0) → AreBased (set ps k (Some b))
 come_based [] k b h f i c e z = h i c e z
 come_based (p ∷ ps) zero b h f zero c e z = let same = same_Some b c e in sym (ap (λ (x : Extent). x.base) same) ∙ f (ap (λ (x : Extent). x.units) same ∙ z)
 come_based (p ∷ ps) zero b h f (suc i) c e z = h (suc i) c e z
 come_based (p ∷ ps) (suc k) b h f zero c e z = h 0 c e z
 come_based (p ∷ ps) (suc k) b h f (suc i) c e z = come_based ps k b (λ j. h (suc j)) f i c e z
 
-go_based : (ps : List (Option Extent)) (k : ℕ) → AreBased ps → AreBased (set ps k None)
+pub go_based : (ps : List (Option Extent)) (k : ℕ) → AreBased ps → AreBased (set ps k None)
 go_based [] k h i c e z = h i c e z
 go_based (p ∷ ps) zero h zero c e z = absurd (none-some c e)
 go_based (p ∷ ps) zero h (suc i) c e z = h (suc i) c e z

@@ -6,8 +6,9 @@ use Rattle.std.proofs.lemmas.List.{length-set, get_or-set_same, get_or-set_other
 use Rattle.std.proofs.lemmas.List.Folds.{sum_by-replicate}
 use Rattle.dm_pool.specs.declared.extent.Extent.{Extent}
 use Rattle.dm_pool.specs.Gaps.{is_clear}
-use Rattle.dm_pool.specs.Blocks.{Apart, IsPool}
-use Rattle.dm_pool.specs.inner.Order.{has_units, IsOrder, IsLaid}
+use Rattle.dm_pool.specs.Blocks.{Apart, IsLaid, IsPool}
+use Rattle.dm_pool.specs.FreeList.{AreBased}
+use Rattle.dm_pool.specs.inner.Order.{has_units, IsOrder}
 use Rattle.dm_pool.proofs.Blocks.{same_or_not, no_place, clear_apart}
 
 none : (n : ℕ) → 0 ≡ count_by has_units (replicate n None)
@@ -29,8 +30,10 @@ none_laid units n c s = record {
   small = s;
   within = λ i b e. absurd (none-some b (sym (no_place n i) ∙ e));
   apart = λ i j b d ne e f. absurd (none-some b (sym (no_place n i) ∙ e));
-  based = λ i b e z. absurd (none-some b (sym (no_place n i) ∙ e));
 }
+
+pub none_based : (n : ℕ) → AreBased (replicate n None)
+none_based n i b e z = absurd (none-some b (sym (no_place n i) ∙ e))
 
 at_set : (ps : List (Option Extent)) (k i : ℕ) (o : Option Extent) (b : Extent) → k < length ps → get_or (set ps k o) i None ≡ Some b → (o ≡ Some b) × (i ≡ k) ⊎ (get_or ps i None ≡ Some b) × ¬ (i ≡ k)
 at_set ps k i o b lt e = elim (same_or_not i k) [
@@ -41,8 +44,8 @@ at_set ps k i o b lt e = elim (same_or_not i k) [
 turned : (d e : Extent) → Apart d e → Apart e d
 turned d e a = elim a [ inl h ↦ inr h | inr h ↦ inl h ]
 
-pub come_laid : (n : ℕ) (ps : List (Option Extent)) (k : ℕ) (b : Extent) → k < 576 → IsLaid n ps → b.base + b.units ≤ n → is_clear ps b.base b.units ≡ true → (b.units ≡ 0 → b.base ≡ 0) → IsLaid n (set ps k (Some b))
-come_laid n ps k b lt is inside clear low =
+pub come_laid : (n : ℕ) (ps : List (Option Extent)) (k : ℕ) (b : Extent) → k < 576 → IsLaid n ps → b.base + b.units ≤ n → is_clear ps b.base b.units ≡ true → IsLaid n (set ps k (Some b))
+come_laid n ps k b lt is inside clear =
     let short : k < length ps = omega (arith, lt, is.count) in
     let far : (i : ℕ) (d : Extent) → get_or ps i None ≡ Some d → Apart d b = λ i d e. clear_apart ps b.base b.units clear i d e in
     record {
@@ -59,10 +62,6 @@ come_laid n ps k b lt is inside clear low =
           | inr p ↦ is.apart i j d c ne o.0 p.0
         ]
       ];
-      based = λ i d e z. elim (at_set ps k i (Some b) d short e) [
-        | inl s ↦ let same = same_Some b d s.0 in subst (λ (x : Extent). x.base ≡ 0) same (low (ap (λ (x : Extent). x.units) same ∙ z))
-        | inr o ↦ is.based i d o.0 z
-      ];
     }
 
 pub go_laid : (n : ℕ) (ps : List (Option Extent)) (k : ℕ) → k < 576 → IsLaid n ps → IsLaid n (set ps k None)
@@ -74,8 +73,7 @@ go_laid n ps k lt is =
       small = is.small;
       within = λ i d e. is.within i d (old i d e);
       apart = λ i j d c ne e f. is.apart i j d c ne (old i d e) (old j c f);
-      based = λ i d e z. is.based i d (old i d e) z;
     }
 
 pub pool_of : (n : ℕ) (ps : List (Option Extent)) (xs : List ℕ) → IsLaid n ps → length xs ≡ n * 1024 → IsPool n ps xs
-pool_of n ps xs is e = record { count = is.count; whole = e; small = is.small; within = is.within; apart = is.apart }
+pool_of n ps xs is e = record { laid = is; whole = e }

@@ -3,8 +3,8 @@ use Rattle.std.proofs.Common.{◌≡◌, ℕ, ◌+◌, ◌*◌, ◌≤◌, List,
 use Rattle.dm_region.specs.Parts.{part, with_part}
 use Rattle.dm_region.proofs.Bytes.{length-with_part}
 use Rattle.dm_pool.specs.declared.extent.Extent.{Extent}
-use Rattle.dm_pool.specs.Blocks.{Blocks, contents_of, with_content, moved_bytes}
-use Rattle.dm_pool.specs.inner.Order.{Layout, IsLaid, blocks_in}
+use Rattle.dm_pool.specs.Blocks.{Blocks, contents_of, with_content, moved_bytes, IsLaid}
+use Rattle.dm_pool.specs.inner.Order.{Layout, blocks_in}
 use Rattle.dm_pool.specs.Stored.{Stored, refit}
 use Rattle.dm_pool.specs.inner.Stored.{IsStore, stored, low_part, scratch_part, pool_part}
 use Rattle.dm_pool.proofs.Blocks.{part_length, refilled, content_of}

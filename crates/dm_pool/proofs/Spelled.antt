@@ -3,8 +3,10 @@ use Rattle.std.proofs.Common.{◌≡◌, ℕ, ◌+◌, ◌-◌, ◌<◌, ◌≤�
 use Rattle.std.proofs.lemmas.Bool.{cases_lt, cases_order}
 use Rattle.std.proofs.lemmas.Option.{same_Some}
 use Rattle.dm_pool.specs.declared.extent.Extent.{Extent}
+use Rattle.dm_pool.specs.Blocks.{IsLaid}
+use Rattle.dm_pool.specs.FreeList.{AreBased}
 use Rattle.dm_pool.specs.inner.FreeList.{IsBelow}
-use Rattle.dm_pool.specs.inner.Order.{IsNth, IsOrder, IsLaid, IsCut}
+use Rattle.dm_pool.specs.inner.Order.{IsNth, IsOrder, IsCut}
 use Rattle.dm_pool.proofs.FreeRuns.{free_above}
 
 -- all blocks, below the end of the pool
@@ -12,12 +14,12 @@ pub cut_all : (units : ℕ) (places : List (Option Extent)) (order : List ℕ) �
 cut_all units places order laid = record { within = omega arith; lower = λ p b h at. laid.within (get_or order p 0) b at; upper = λ p b h in' at. absurd (omega (arith, h, in')) }
 
 -- no block: each of those there begins at `end` or above
-pub none_below : (units end : ℕ) (places : List (Option Extent)) (order : List ℕ) → IsLaid units places → IsOrder places order → IsCut places order 0 end → IsBelow places end (record { base = 0; units = 0 })
-none_below units end places order laid is cut = record {
+pub none_below : (end : ℕ) (places : List (Option Extent)) (order : List ℕ) → AreBased places → IsOrder places order → IsCut places order 0 end → IsBelow places end (record { base = 0; units = 0 })
+none_below end places order based is cut = record {
   edge = omega arith;
   free = free_above places (0 + 0) end (omega arith) (λ i b e lt. elim (cases_lt 0 b.units) [
     | inl pos ↦ let q = is.whole i b e pos in let up = cut.upper q.0 b (omega arith) q.1 (ap (λ j. get_or places j None) q.2 ∙ e) in absurd (omega (arith, up, lt))
-    | inr none ↦ let z : b.units ≡ 0 = omega (arith, none) in omega (arith, laid.based i b e z, z)
+    | inr none ↦ let z : b.units ≡ 0 = omega (arith, none) in omega (arith, based i b e z, z)
   ]);
   there = inl (refl, refl);
 }
@@ -25,7 +27,7 @@ none_below units end places order laid is cut = record {
 pub cut_none : (places : List (Option Extent)) (order : List ℕ) (end : ℕ) → IsCut places order 0 end → IsCut places order (0 - 1) 0
 cut_none places order end cut = record { within = omega arith; lower = λ p b h at. absurd (omega (arith, h)); upper = λ p b h in' at. omega arith }
 
-module _ (units end rest : ℕ) (places : List (Option Extent)) (order : List ℕ) (top : Extent) (laid : IsLaid units places) (is : IsOrder places order) (some : 0 < rest) (cut : IsCut places order rest end) (at : IsNth places order (rest - 1) top) where
+module _ (end rest : ℕ) (places : List (Option Extent)) (order : List ℕ) (top : Extent) (based : AreBased places) (is : IsOrder places order) (some : 0 < rest) (cut : IsCut places order rest end) (at : IsNth places order (rest - 1) top) where
   last : rest - 1 < length order
   last = omega (arith, some, cut.within)
 
@@ -49,7 +51,7 @@ module _ (units end rest : ℕ) (places : List (Option Extent)) (order : List �
       | inl pos ↦
           let q = is.whole i b e pos in let to = ap (λ j. get_or places j None) q.2 ∙ e in
           elim (cases_lt q.0 rest) [ inl x ↦ under q.0 b x to | inr x ↦ let up = cut.upper q.0 b x q.1 to in absurd (omega (arith, up, lt)) ]
-      | inr none ↦ let z : b.units ≡ 0 = omega (arith, none) in omega (arith, laid.based i b e z, z)
+      | inr none ↦ let z : b.units ≡ 0 = omega (arith, none) in omega (arith, based i b e z, z)
     ]);
     there = inr (some_units, (get_or order (rest - 1) 0, at));
   }

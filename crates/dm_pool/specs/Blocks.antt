@@ -57,13 +57,17 @@ contents_of places bytes = map (content bytes) places
 abbrev pub Apart : Extent → Extent → Type 0
 Apart b d = (b.base + b.units ≤ d.base) ⊎ (d.base + d.units ≤ b.base)
 
--- the blocks of a pool lie within it, apart, in its bytes
-pub record IsPool (units : ℕ) (places : List (Option Extent)) (bytes : List ℕ) : Type 0 where
+-- the blocks of a pool lie within it, apart
+pub record IsLaid (units : ℕ) (places : List (Option Extent)) : Type 0 where
   pub count : length places ≡ 576
-  pub whole : length bytes ≡ units * 1024
   pub small : units < 2 ^ 31
   pub within : (i : ℕ) (b : Extent) → get_or places i None ≡ Some b → b.base + b.units ≤ units
   pub apart : (i j : ℕ) (b d : Extent) → ¬ (i ≡ j) → get_or places i None ≡ Some b → get_or places j None ≡ Some d → Apart b d
+
+-- they lie so in its bytes
+pub record IsPool (units : ℕ) (places : List (Option Extent)) (bytes : List ℕ) : Type 0 where
+  pub laid : IsLaid units places
+  pub whole : length bytes ≡ units * 1024
 
 -- where a block is to lie that gets u units: where it is, if the units there are its own or free, else in the lowest
 -- gap, its own units taken

@@ -1,7 +1,7 @@
 -- The blocks in the order in which they lie, for the code's own use: no public contract speaks of it.
-use Rattle.std.specs.Prelude.{ℕ, ◌+◌, ◌*◌, ◌^◌, ◌<◌, ◌≤◌, ◌≡◌, Bool, false, List, length, get_or, nat_lt, count_by, replicate, [], Option, Some, None}
+use Rattle.std.specs.Prelude.{ℕ, ◌+◌, ◌*◌, ◌<◌, ◌≤◌, ◌≡◌, Bool, false, List, length, get_or, nat_lt, count_by, replicate, [], Option, Some, None}
 use Rattle.dm_pool.specs.declared.extent.Extent.{Extent}
-use Rattle.dm_pool.specs.Blocks.{Blocks, Apart, contents_of}
+use Rattle.dm_pool.specs.Blocks.{Blocks, IsLaid, contents_of}
 use Rattle.dm_pool.specs.FreeList.{AreBased}
 use Rattle.dm_pool.specs.inner.FreeList.{Tells}
 
@@ -28,16 +28,10 @@ pub record IsOrder (places : List (Option Extent)) (order : List ℕ) : Type 0 w
   pub counted : length order ≡ count_by has_units places
   pub small : (p : ℕ) → p < length order → get_or order p 0 < 576
 
--- no two blocks share a unit, and each lies within the pool
-pub record IsLaid (units : ℕ) (places : List (Option Extent)) : Type 0 where
-  pub count : length places ≡ 576
-  pub small : units < 2 ^ 31
-  pub within : (i : ℕ) (b : Extent) → get_or places i None ≡ Some b → b.base + b.units ≤ units
-  pub apart : (i j : ℕ) (b d : Extent) → ¬ (i ≡ j) → get_or places i None ≡ Some b → get_or places j None ≡ Some d → Apart b d
-  pub based : AreBased places
-
+-- no two blocks share a unit, and each lies within the pool; those of no unit at unit 0
 pub record IsTable (l : Layout) : Type 0 where
   pub laid : IsLaid l.units l.places
+  pub based : AreBased l.places
   pub order : IsOrder l.places l.order
 
 -- no block
