@@ -4,8 +4,8 @@ use Rattle.dm_region.specs.Parts.{part, with_part}
 use Rattle.dm_region.proofs.Bytes.{length-with_part}
 use Rattle.dm_pool.specs.declared.part.Part.{Part}
 use Rattle.dm_pool.specs.declared.part.Part.TheVariants.{Low, Scratch, Block}
-use Rattle.dm_pool.specs.Blocks.{Blocks, contents_of, with_content}
-use Rattle.dm_pool.specs.inner.Order.{Layout, IsLaid, IsToldIn, blocks_in}
+use Rattle.dm_pool.specs.Blocks.{Blocks, contents_of, with_content, IsLaid}
+use Rattle.dm_pool.specs.inner.Order.{Layout, IsToldIn, blocks_in}
 use Rattle.dm_pool.specs.Parts.{HasPart, part_bytes, with_part_bytes, copied}
 use Rattle.dm_pool.specs.inner.Parts.{IsLaidOut, IsSpan}
 use Rattle.dm_pool.specs.Stored.{Stored}
