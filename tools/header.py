@@ -3,7 +3,6 @@ import ast
 import glob
 import os
 import re
-import tokenize
 
 ROOT = os.path.dirname(os.path.dirname(os.path.abspath(__file__)))
 # The C type of a number, and of each type of the exports.
@@ -172,8 +171,6 @@ def faults():
 
 
 def words():
-    """The names that the header and the Python module declare, and those of C's library and of Python that documents speak of."""
-    code = re.sub(r"/\*.*?\*/", " ", text_of("include/mezguld.h"), flags=re.S)
-    with open(f"{ROOT}/python/mezguld.py", "rb") as file:
-        names = {token.string for token in tokenize.tokenize(file.readline) if token.type == tokenize.NAME}
-    return {*re.findall(r"[A-Za-z_]\w*", code), *names, "malloc", "realloc", "free", "unittest"}
+    """The words of the header and of the Python module, the header's names also without their prefix; and those of C and Python that documents speak of."""
+    names = re.findall(r"[A-Za-z_]\w*", text_of("include/mezguld.h") + text_of("python/mezguld.py"))
+    return {*names, *[name.removeprefix("MEZGULD_") for name in names], "MEZGULD_", "malloc", "realloc", "free", "unittest"}
