@@ -11,7 +11,7 @@ PATH = re.compile(r"Rattle\.([\w.]+)")
 # A name, and the names after its dots: `rows.allocate`, `s.cpu.bx`.
 WORD = re.compile(r"[A-Za-z_][\w'>=-]*(?:\.[A-Za-z_][\w'-]*)*|◌[^\s◌]+◌")
 CLAUSE = re.compile(r"^\s+(?:requires|ensures)\b")
-FUNCTION = re.compile(r"^\s*(pub(?:\(crate\))? )?fn (\w+)")
+FUNCTION = re.compile(r"^\s*(pub(?:\(crate\))? )?(?:extern \"C\" )?fn (\w+)")
 TRIED = re.compile(r"^\s*(?:#|///) Definitions: (.*)$")
 BLOCK = re.compile(r"^impl(?:<[^>]*>)? (?:(\w+)(?:<[^>]*>)? for )?(\w+)")
 TRAIT = re.compile(r"^pub trait (\w+)")

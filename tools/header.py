@@ -1,0 +1,176 @@
+"""Compares include/mezguld.h with the exports of crates/dm_c, and python/mezguld.py with the header."""
+import ast
+import glob
+import os
+import re
+
+ROOT = os.path.dirname(os.path.dirname(os.path.abspath(__file__)))
+# The C type of a number, and of each type of the exports.
+NUMBERS = {"u8": "uint8_t", "u16": "uint16_t", "u32": "uint32_t", "u64": "uint64_t", "usize": "size_t"}
+TYPES = {**NUMBERS, "Handle": "mezguld", "Stopped": "mezguld_stopped", "Registers": "mezguld_cpu", "Point": "mezguld_point"}
+# What a letter of `_PARAMETERS` in the Python module stands for; `p` is a pointer that a count follows.
+LETTERS = {
+    "m": "mezguld *", "s": "mezguld_stopped *", "r": "mezguld_cpu *", "w": "size_t *", "q": "uint64_t *",
+    "n": "size_t", "I": "uint32_t", "B": "uint32_t", "Q": "uint64_t", "H": "uint16_t",
+}
+EXPORT = re.compile(r'#\[unsafe\(no_mangle\)\]\s*pub extern "C" fn (\w+)\s*\(([^)]*)\)\s*(?:->\s*([\w&\[\] ]+?))?\s*(?=\bensures\b|\brequires\b|\{)')
+STRUCT = re.compile(r"#\[repr\(C\)\]\s*(?:#\[[^\]]*\]\s*)*pub struct (\w+) \{([^}]*)\}")
+CONSTANT = re.compile(r"^pub(?:\(crate\))? const (\w+): u32 = (\d+);", re.M)
+# (a status that is a named constant has its own line)
+STATUS = re.compile(r"\bRefusal::(\w+)(?:\(_\))? => (\d+)")
+STOP = re.compile(r"(?:Some\(Stop::(\w+)(?:\(\w+\))?\)|None) => Stopped \{\s*why: (\d+)")
+PROTOTYPE = re.compile(r"^([\w ]+?[ *]+)(mezguld_\w+)\(([^)]*)\);", re.M | re.S)
+TYPEDEF = re.compile(r"typedef struct (\w+) \{([^}]*)\} (\w+);")
+ENUMERATOR = re.compile(r"\bMEZGULD_(\w+) = (\d+)")
+
+
+def text_of(path):
+    with open(f"{ROOT}/{path}", encoding="utf-8") as file:
+        return file.read()
+
+
+def upper(name):
+    """`NotFound` as `NOT_FOUND`."""
+    return re.sub(r"(?<=[a-z])(?=[A-Z])", "_", name).upper()
+
+
+def c_parameters(name, kind):
+    """The types and names that a parameter of an export has in C; a name of None may be any, as that of a count."""
+    slice_of = re.fullmatch(r"&(mut )?\[(\w+)\]", kind)
+    if slice_of:
+        return [(f"{'' if slice_of[1] else 'const '}{TYPES.get(slice_of[2], slice_of[2])} *", name), ("size_t", None)]
+    lent = re.fullmatch(r"&(mut )?(\w+)", kind)
+    if lent:
+        return [(f"{'' if lent[1] else 'const '}{TYPES.get(lent[2], lent[2])} *", name)]
+    return [] if kind == "Global" else [(TYPES.get(kind, kind), name)]
+
+
+def declared(words):
+    """`const uint8_t *name` as its type and its name."""
+    found = re.fullmatch(r"(.*?)(\w+)", " ".join(words.split()))
+    return (found[1].strip().replace("* ", "*"), found[2]) if found else (words.strip(), "")
+
+
+class Exports:
+    """What the crate exports, as C would declare it."""
+
+    def __init__(self):
+        code = {path: text_of(os.path.relpath(path, ROOT)) for path in sorted(glob.glob(f"{ROOT}/crates/dm_c/src/*.rt"))}
+        whole = "\n".join(code.values())
+        self.marked = len(re.findall(r"#\[unsafe\(no_mangle\)\]", whole))
+        self.functions, self.structs = {}, {}
+        for name, parameters, result in EXPORT.findall(whole):
+            pairs = [pair.split(":") for pair in parameters.split(",") if pair.strip()]
+            given = [it for word, kind in pairs for it in c_parameters(word.strip(), " ".join(kind.split()))]
+            self.functions[name] = (TYPES.get(result, result or "void"), given)
+        for name, fields in STRUCT.findall(whole):
+            found = [declared_field(line) for line in fields.split(",") if line.strip()]
+            self.structs[name] = [it for it in found if it]
+        self.statuses = {name: int(value) for name, value in CONSTANT.findall(whole)}
+        for path, text in code.items():
+            prefix = "LINE_" if os.path.basename(path) == "texts.rt" else ""
+            self.statuses.update({prefix + upper(name): int(value) for name, value in STATUS.findall(text)})
+        self.stops = {upper(name) if name else "BREAKPOINT": int(value) for name, value in STOP.findall(whole)}
+
+
+def declared_field(line):
+    """A field of a struct of the crate, as C declares it, or None for a ghost one."""
+    found = re.fullmatch(r"(?:pub(?:\(crate\))? )?(\w+): (\*mut u8|\w+)", " ".join(line.split()))
+    if not found:
+        return None
+    pointer = found[2] in ("*mut u8", "Inside")
+    return ("void *" if pointer else TYPES.get(found[2], found[2]), found[1])
+
+
+class Header:
+    """What the header declares."""
+
+    def __init__(self):
+        text = re.sub(r"/\*.*?\*/", " ", text_of("include/mezguld.h"), flags=re.S)
+        self.declarations = len(re.findall(r"\bmezguld_\w+\s*\(", text))
+        self.functions = {}
+        for result, name, parameters in PROTOTYPE.findall(text):
+            self.functions[name] = (result.strip(), [declared(it) for it in parameters.split(",") if it.strip() != "void"])
+        self.structs = {}
+        for _, fields, name in TYPEDEF.findall(text):
+            found = []
+            for line in fields.split(";"):
+                words = line.strip().split(",")
+                if words[0]:
+                    kind, first = declared(words[0])
+                    found += [(kind, first), *[(kind, word.strip()) for word in words[1:]]]
+            self.structs[name] = found
+        enums = [dict(ENUMERATOR.findall(it)) for it in re.findall(r"enum \{([^}]*)\}", text)]
+        self.statuses, self.stops = ({name: int(value) for name, value in it.items()} for it in (enums + [{}, {}])[:2])
+
+
+def shown(parameters):
+    return ", ".join(f"{kind}{'' if kind.endswith('*') else ' '}{name or '..'}" for kind, name in parameters)
+
+
+def fits(given, wanted):
+    return len(given) == len(wanted) and all(one[0] == other[0] and other[1] in (one[1], None) for one, other in zip(given, wanted))
+
+
+def compare_numbers(what, given, wanted):
+    """The faults of a table of named numbers of the header against that of the exports."""
+    for name in sorted({*given, *wanted}):
+        if given.get(name) != wanted.get(name):
+            yield f"the {what} MEZGULD_{name} is {given.get(name, 'missing')} in the header and {wanted.get(name, 'missing')} in the exports"
+
+
+def header_faults(header, exports):
+    if exports.marked != len(exports.functions) or header.declarations != len(header.functions):
+        yield "an export or a prototype cannot be read"
+    for name in sorted({*header.functions, *exports.functions}):
+        if name not in header.functions or name not in exports.functions:
+            yield f"{name} is {'exported and not declared' if name in exports.functions else 'declared and not exported'}"
+            continue
+        (result, given), (of_export, wanted) = header.functions[name], exports.functions[name]
+        if result != of_export:
+            yield f"{name} returns {result} in the header and {of_export} in the exports"
+        if not fits(given, wanted):
+            yield f"{name}({shown(given)}) in the header is ({shown(wanted)}) in the exports"
+    for name, kind in TYPES.items():
+        if name not in NUMBERS and header.structs.get(kind) != exports.structs.get(name):
+            yield f"the struct {kind} has {shown(header.structs.get(kind, []))} in the header and {shown(exports.structs.get(name, []))} in the exports"
+    yield from compare_numbers("status", header.statuses, exports.statuses)
+    yield from compare_numbers("stop", header.stops, exports.stops)
+
+
+def python_faults(header):
+    """The faults of the Python module's table of parameters, of its stops and of the fields of its registers."""
+    tables, classes = {}, {}
+    for node in ast.parse(text_of("python/mezguld.py")).body:
+        if isinstance(node, ast.Assign) and isinstance(node.targets[0], ast.Name) and isinstance(node.value, ast.Dict):
+            tables[node.targets[0].id] = node.value
+        elif isinstance(node, ast.ClassDef):
+            classes[node.name] = node.body
+    parameters = ast.literal_eval(tables["_PARAMETERS"])
+    for name in sorted({*header.functions, *parameters}):
+        letters = parameters.get(name, "").replace(" ", "")
+        given = [kind for kind, _ in header.functions.get(name, ("", []))[1]]
+        wanted = [LETTERS.get(letter) for letter in letters]
+        counted = [kind.endswith("*") and given[at + 1 : at + 2] == ["size_t"] for at, kind in enumerate(given)]
+        pairs = zip(letters, given, wanted, counted)
+        if len(letters) != len(given) or not all(is_counted if letter == "p" else kind == want for letter, kind, want, is_counted in pairs):
+            yield f"{name} has the parameters `{parameters.get(name, '')}` in the Python module"
+    stops = {it.targets[0].id: it.value.value for it in classes["Stop"] if isinstance(it, ast.Assign)}
+    if stops != header.stops:
+        yield "the stops of the Python module are not those of the header"
+    registers = [it.target.id for it in classes["Registers"] if isinstance(it, ast.AnnAssign)]
+    if registers != [name for _, name in header.structs.get("mezguld_cpu", [])]:
+        yield "the registers of the Python module are not those of the header"
+
+
+def faults():
+    """Each difference, as a line."""
+    header, exports = Header(), Exports()
+    yield from (f"include/mezguld.h: {fault}" for fault in header_faults(header, exports))
+    yield from (f"python/mezguld.py: {fault}" for fault in python_faults(header))
+
+
+def words():
+    """The words of the header and of the Python module, the header's names also without their prefix; and those of C and Python that documents speak of."""
+    names = re.findall(r"[A-Za-z_]\w*", text_of("include/mezguld.h") + text_of("python/mezguld.py"))
+    return {*names, *[name.removeprefix("MEZGULD_") for name in names], "MEZGULD_", "malloc", "realloc", "free", "unittest"}
