@@ -1,7 +1,7 @@
 -- For private contracts and proofs alone: beside specs/Gaps.antt.
-use Rattle.std.specs.Prelude.{ℕ, ◌+◌, ◌<◌, ◌≤◌, true, false, nat_le, List, [], ◌∷◌, Option, Some, None, ◌≡◌, ◌/◌, ◌==◌, ◌&&◌, if◌then◌else◌}
+use Rattle.std.specs.Prelude.{ℕ, ◌+◌, ◌<◌, ◌≤◌, true, false, nat_le, List, [], ◌∷◌, Option, Some, None, ◌≡◌, if◌then◌else◌}
 use Rattle.dm_pool.specs.declared.extent.Extent.{Extent}
-use Rattle.dm_pool.specs.Gaps.{is_clear, Run, gaps}
+use Rattle.dm_pool.specs.Gaps.{is_clear, Run}
 
 -- a unit of the pool that a block covers
 abbrev pub IsCovered : List (Option Extent) → ℕ → Type 0

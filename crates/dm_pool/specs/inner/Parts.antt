@@ -1,6 +1,5 @@
 -- For private contracts and proofs alone: beside specs/Parts.antt.
 use Rattle.std.specs.Prelude.{◌≡◌, ℕ, ◌+◌, ◌*◌, get_or, Some, None}
-use Rattle.dm_region.specs.Parts.{part}
 use Rattle.dm_pool.specs.declared.part.Part.{Part}
 use Rattle.dm_pool.specs.declared.part.Part.TheVariants.{Low, Scratch, Block}
 use Rattle.dm_pool.specs.declared.extent.Extent.{Extent}

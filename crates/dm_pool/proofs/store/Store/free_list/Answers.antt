@@ -1,4 +1,4 @@
-use Rattle.std.proofs.Common.{◌≡◌, ◌*◌, sym, ap, ◌∙◌, subst}
+use Rattle.std.proofs.Common.{◌≡◌, sym, ap, ◌∙◌, subst}
 use Rattle.dm_region.specs.Parts.{part}
 use Rattle.dm_pool.specs.Gaps.{gaps}
 use Rattle.dm_pool.specs.Blocks.{contents_of, IsPool}
