@@ -6,7 +6,7 @@ import re
 ROOT = os.path.dirname(os.path.dirname(os.path.abspath(__file__)))
 # What begins a definition: its words, and its name.
 BEGINS = re.compile(r"^(\s*)(abbrev|unfoldable|pub record|pub data)(?: pub)? ([^\s{]+)")
-USE = re.compile(r"^\s*(?:ghost )?use Rattle\.([\w.]+?)(?:\.\{([^}]*)\})?(?: as (\w+))?;?$")
+USE = re.compile(r"^\s*(?:ghost |pub )?use Rattle\.([\w.]+?)(?:\.\{([^}]*)\})?(?: as (\w+))?;?$")
 PATH = re.compile(r"Rattle\.([\w.]+)")
 # A name, and the names after its dots: `rows.allocate`, `s.cpu.bx`.
 WORD = re.compile(r"[A-Za-z_][\w'>=-]*(?:\.[A-Za-z_][\w'-]*)*|◌[^\s◌]+◌")

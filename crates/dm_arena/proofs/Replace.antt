@@ -3,7 +3,7 @@ use Rattle.std.proofs.Common.{◌≡◌, ℕ, ◌<◌, ◌≤◌, Bool, List, []
 use Rattle.dm_space.specs.Memory.{Memory}
 use Rattle.dm_space.proofs.Places.{place-shaped, shaped-then}
 use Rattle.dm_blocks.specs.declared.header.Header.{Header}
-use Rattle.dm_blocks.specs.Chain.{IsHeader, signature, Spells, HasHeader, next, IsClear, mark}
+use Rattle.dm_blocks.specs.Chain.{IsHeader, signature, Spells, HasHeader, next, IsClear, signature_byte}
 use Rattle.dm_arena.specs.inner.Walks.{IsHeaderWritten, Fills, IsReplaceable, IsReplaced}
 use Rattle.dm_blocks.proofs.Chains.{Agrees, spells_kept, spells_replace, spells_above, spells_below, spells_end, header_kept, has_left, has_right, clear_map, mark-signature}
 use Rattle.dm_arena.proofs.Written.{agrees_written, byte_kept}
@@ -14,7 +14,7 @@ after_fills S h t [] Q f s = let P : ℕ → Type 0 = λ x. Spells S x Q in subs
 after_fills S h t (b ∷ B) Q f s = after_fills S (next b) t B Q f.1 s.2
 
 -- one header
-pub replaced_one : (S T : Memory) (start : ℕ) (P B Q : List Header) (h t : ℕ) (c : Header) (last : Bool) → IsReplaceable S start P B Q (c ∷ []) last h t → IsHeaderWritten S c (mark last) T → IsReplaced S start P Q (c ∷ []) T
+pub replaced_one : (S T : Memory) (start : ℕ) (P B Q : List Header) (h t : ℕ) (c : Header) (last : Bool) → IsReplaceable S start P B Q (c ∷ []) last h t → IsHeaderWritten S c (signature_byte last) T → IsReplaced S start P Q (c ∷ []) T
 replaced_one S T start P [] Q h t c last r x = absurd r.nonempty
 replaced_one S T start P (b ∷ B) Q h t c last r x =
     let M = P ++ c ∷ Q in
@@ -34,7 +34,7 @@ replaced_one S T start P (b ∷ B) Q h t c last r x =
     }
 
 -- two headers, the upper one first
-pub replaced_two : (S U T : Memory) (start : ℕ) (P B Q : List Header) (h t : ℕ) (c d : Header) (last : Bool) → IsReplaceable S start P B Q (c ∷ d ∷ []) last h t → IsHeaderWritten S d (mark last) U → IsHeaderWritten U c 0x4D T → IsReplaced S start P Q (c ∷ d ∷ []) T
+pub replaced_two : (S U T : Memory) (start : ℕ) (P B Q : List Header) (h t : ℕ) (c d : Header) (last : Bool) → IsReplaceable S start P B Q (c ∷ d ∷ []) last h t → IsHeaderWritten S d (signature_byte last) U → IsHeaderWritten U c 0x4D T → IsReplaced S start P Q (c ∷ d ∷ []) T
 replaced_two S U T start P [] Q h t c d last r x z = absurd r.nonempty
 replaced_two S U T start P (b ∷ B) Q h t c d last r x z =
     let M = P ++ c ∷ d ∷ Q in

@@ -3,7 +3,7 @@
 ghost use Rattle.std.specs.Prelude.{◌≡◌, ◌+◌, ◌*◌, ◌<◌, ◌≤◌};
 ghost use Rattle.dm_space.specs.Memory.{IsHeld};
 ghost use Rattle.dm_space.specs.inner.Places.{IsPoked};
-ghost use Rattle.dm_blocks.specs.Chain.{mark, next};
+ghost use Rattle.dm_blocks.specs.Chain.{signature_byte, next};
 ghost use Rattle.dm_arena.specs.inner.Walks.{IsHeaderWritten};
 
 use dm_blocks::Entry;
@@ -29,7 +29,7 @@ fn set_byte(space: &mut Space, segment: u16, offset: u16, value: u8)
 /// Writes a header's five bytes.
 pub(crate) fn write_header(space: &mut Space, entry: Entry)
     requires { next entry.header ≤ 0xFFFF }
-    ensures memory { IsHeaderWritten space.old.memory entry.header (mark entry.last) space.new.memory }
+    ensures memory { IsHeaderWritten space.old.memory entry.header (signature_byte entry.last) space.new.memory }
     ensures scratch { space.new.scratch ≡ space.old.scratch }
 {
     let segment = entry.header.segment;

@@ -51,7 +51,7 @@ fn shrunk(space: &mut Space) -> Result<(), Refusal> {
     resize(space, OWNER, 0x1000, false)
 }
 
-/// Definitions: dm_blocks Chain IsHeader word next signature mark
+/// Definitions: dm_blocks Chain IsHeader word next signature signature_byte
 #[test]
 fn first_header_holds_all_of_memory(rt: HostRuntime) -> Result<(), Fail> {
     let space = new_space(rt.alloc())?;

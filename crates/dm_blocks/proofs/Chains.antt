@@ -3,7 +3,7 @@ use Rattle.std.proofs.Common.{◌≡◌, ℕ, ◌+◌, ◌*◌, ◌<◌, ◌≤�
 use Rattle.dm_space.specs.Memory.{Memory, place, peek}
 use Rattle.dm_space.specs.Places.{IsWritable}
 use Rattle.dm_blocks.specs.declared.header.Header.{Header}
-use Rattle.dm_blocks.specs.Chain.{IsHeader, signature, Spells, HasHeader, next, IsClear, mark}
+use Rattle.dm_blocks.specs.Chain.{IsHeader, signature, Spells, HasHeader, next, IsClear, signature_byte}
 use Rattle.dm_blocks.specs.Reading.{is_nil}
 
 -- bytes 0 to 4 of the headers of L are the same
@@ -85,6 +85,6 @@ clear_map S T L map c = record {
   apart = λ h g w v e. c.apart h g w v (sym (map _) ∙ e ∙ map _);
 }
 
-pub mark-signature : (last : Bool) (K : List Header) → last ≡ is_nil K → mark last ≡ signature K
-mark-signature last [] e = ap mark e
-mark-signature last (c ∷ K) e = ap mark e
+pub mark-signature : (last : Bool) (K : List Header) → last ≡ is_nil K → signature_byte last ≡ signature K
+mark-signature last [] e = ap signature_byte e
+mark-signature last (c ∷ K) e = ap signature_byte e

@@ -5,7 +5,7 @@ use Rattle.dm_space.specs.Memory.{Memory, place}
 use Rattle.dm_space.specs.Places.{IsWritable}
 use Rattle.dm_blocks.specs.declared.header.Header.{Header}
 use Rattle.dm_blocks.specs.declared.header.Entry.{Entry}
-use Rattle.dm_blocks.specs.Chain.{IsHeader, signature, Spells, HasHeader, IsNonEmpty, next, IsClear, IsArena, IsArenaBehind, NoArenaBehind, AreApart, first_header, mark}
+use Rattle.dm_blocks.specs.Chain.{IsHeader, signature, Spells, HasHeader, IsNonEmpty, next, IsClear, IsArena, IsArenaBehind, NoArenaBehind, AreApart, first_header, signature_byte}
 use Rattle.dm_blocks.specs.Reading.{is_nil}
 use Rattle.dm_blocks.specs.inner.Reading.{HasCaughtUp, IsCursor}
 use Rattle.dm_blocks.specs.declared.listing.Step.{Step}
@@ -77,7 +77,7 @@ behind_either F P b g w = elim (has_either F (P ++ b ∷ []) g w) [
   ]
 ]
 
-told : (S : Memory) (F : List Header) (f : ℕ) (P : List Header) (t : ℕ) (e : Entry) → Leads S F f P t → MayStand S (F ++ P) t → (HasHeader F t → ⊥) → e.header.segment ≡ t → IsHeader S e.header (mark e.last) → Follows S F P t e
+told : (S : Memory) (F : List Header) (f : ℕ) (P : List Header) (t : ℕ) (e : Entry) → Leads S F f P t → MayStand S (F ++ P) t → (HasHeader F t → ⊥) → e.header.segment ≡ t → IsHeader S e.header (signature_byte e.last) → Follows S F P t e
 told S F f P t e l may new at x = record {
   at = at;
   header = x;
@@ -111,16 +111,16 @@ stood S F f P t e l x =
     }
 
 closes : (S : Memory) (F : List Header) (f : ℕ) (P : List Header) (t : ℕ) (e : Entry) → Leads S F f P t → Follows S F P t e → Closes S F f P e
-closes S F f P t e l x last = ((nonempty P e.header [], path-spells S f P t e.header l.path x.at (header-mark S e.header _ _ (ap mark last) x.header)), x.clear, x.apart)
+closes S F f P t e l x last = ((nonempty P e.header [], path-spells S f P t e.header l.path x.at (header-mark S e.header _ _ (ap signature_byte last) x.header)), x.clear, x.apart)
 
 bad-by : (S : Memory) (F P : List Header) (t : ℕ) (e : Entry) (r : Bool) → e.last ≡ r → ((b : Header) (L : List Header) → b.segment ≡ t → IsHeader S b (signature L) → ⊥) → Follows S F P t e → ⊥
-bad-by S F P t e true last bad f = bad e.header [] f.at (header-mark S e.header _ _ (ap mark last) f.header)
-bad-by S F P t e false last bad f = bad e.header (e.header ∷ []) f.at (header-mark S e.header _ _ (ap mark last) f.header)
+bad-by S F P t e true last bad f = bad e.header [] f.at (header-mark S e.header _ _ (ap signature_byte last) f.header)
+bad-by S F P t e false last bad f = bad e.header (e.header ∷ []) f.at (header-mark S e.header _ _ (ap signature_byte last) f.header)
 
 pub bad-header : (S : Memory) (F P : List Header) (t : ℕ) (e : Entry) → ((b : Header) (L : List Header) → b.segment ≡ t → IsHeader S b (signature L) → ⊥) → Follows S F P t e → ⊥
 bad-header S F P t e bad f = bad-by S F P t e _ refl bad f
 
-mark-nil : (K : List Header) → mark (is_nil K) ≡ signature K
+mark-nil : (K : List Header) → signature_byte (is_nil K) ≡ signature K
 mark-nil [] = refl
 mark-nil (c ∷ K) = refl
 
@@ -161,7 +161,7 @@ under_way m true F b P t e cursor new true last l x a k = tt
 under_way m second F b P t e cursor new false last l x a k = (
   P ++ e.header ∷ [],
   record {
-    path = path-more m (start_of second) P t e.header l.path x.at (header-mark m e.header _ _ (ap mark last) x.header);
+    path = path-more m (start_of second) P t e.header l.path x.at (header-mark m e.header _ _ (ap signature_byte last) x.header);
     clear = x.clear;
     apart = x.apart;
   },
@@ -250,7 +250,7 @@ module _ (m : Memory) (second : Bool) (o : Option ℕ) (cursor : Option ℕ) (ma
         stays = let G : List Bool → Type 0 = λ x. IsMarkedWalk (record { memory = m; second = second; at = o }) caught x in subst G (sym (refuses (u.0 ++ stands.0) stands.2 none_there).1) stays_moved
 
       -- the header of e is told
-      module _ (new : List Bool) (admits : (Q : List Header) → AreMarked m Q marks → (HasHeader Q t → ⊥) → MayStand m Q t × ((b : Header) → b.segment ≡ t → AreMarked m (Q ++ b ∷ []) new)) (e : Entry) (at : e.header.segment ≡ t) (x : IsHeader m e.header (mark e.last)) where
+      module _ (new : List Bool) (admits : (Q : List Header) → AreMarked m Q marks → (HasHeader Q t → ⊥) → MayStand m Q t × ((b : Header) → b.segment ≡ t → AreMarked m (Q ++ b ∷ []) new)) (e : Entry) (at : e.header.segment ≡ t) (x : IsHeader m e.header (signature_byte e.last)) where
         follows : (P : List Header) → Leads m u.0 (start_of second) P t → Follows m u.0 P t e
         follows P l =
             let G : List Header → Type 0 = λ X. MayStand m (u.0 ++ X) t in

@@ -3,7 +3,7 @@
 -- MS-DOS Programmer's Reference, "Arena header": byte 0 of a header is `M`, or `Z` in the last one; the word at 1 is
 -- the owner, 0 for a free block; the word at 3 is the size of the block in paragraphs. The block follows its header of
 -- one paragraph, and the next header follows the block.
-use Rattle.std.specs.Prelude.{Bool, List, [], cond, false, not, ℕ, ◌&&◌, ◌*◌, ◌++◌, ◌+◌, ◌<◌, ◌==◌, ◌∷◌, ◌≡◌, ◌≢◌, ◌≤◌, ◌||◌, ◌⊎◌}
+use Rattle.std.specs.Prelude.{Bool, List, [], cond, true, false, not, ℕ, ◌&&◌, ◌*◌, ◌++◌, ◌+◌, ◌<◌, ◌==◌, ◌∷◌, ◌≡◌, ◌≢◌, ◌≤◌, ◌||◌, ◌⊎◌}
 use Rattle.dm_space.specs.declared.place.Place.{Place}
 use Rattle.dm_space.specs.Memory.{Memory, byte_at, peek, place}
 use Rattle.dm_space.specs.Places.{IsShaped, IsWritable}
@@ -42,10 +42,14 @@ pub record IsHeader (S : Memory) (b : Header) (signature : ℕ) : Type 0 where
   pub owned : word S (16 * b.segment + 1) ≡ b.owner
   pub sized : word S (16 * b.segment + 3) ≡ b.size
 
--- the signature of a header before the headers L: `Z` in the last one, else `M`
+-- the signature of a header: `Z` in the last one, else `M`
+abbrev pub signature_byte : Bool → ℕ
+signature_byte last = cond last 0x5A 0x4D
+
+-- the signature of a header before the headers L
 abbrev pub signature : List Header → ℕ
-signature [] = 0x5A
-signature (c ∷ L) = 0x4D
+signature [] = signature_byte true
+signature (c ∷ L) = signature_byte false
 
 abbrev pub IsNonEmpty : List Header → Type 0
 IsNonEmpty [] = ⊥
@@ -114,7 +118,3 @@ pub record Becomes (S : Memory) (start : ℕ) (L : List Header) (T : Memory) : T
   pub clear : IsClear S L
   pub chain : IsChain T start L
   pub differs : DiffersInHeaders S L T
-
--- the signature of an entry
-abbrev pub mark : Bool → ℕ
-mark last = cond last 0x5A 0x4D

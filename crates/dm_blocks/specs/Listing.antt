@@ -6,7 +6,7 @@ use Rattle.dm_blocks.specs.declared.header.Header.{Header}
 use Rattle.dm_blocks.specs.declared.header.Entry.{Entry}
 use Rattle.dm_blocks.specs.declared.listing.Step.{Step}
 use Rattle.dm_blocks.specs.declared.listing.Step.TheVariants.{Told, End, Destroyed}
-use Rattle.dm_blocks.specs.Chain.{first_header, link_header, next, mark, AreApart, IsHeader, IsClear, IsArena, IsArenaBehind, NoArenaBehind}
+use Rattle.dm_blocks.specs.Chain.{first_header, link_header, next, signature_byte, AreApart, IsHeader, IsClear, IsArena, IsArenaBehind, NoArenaBehind}
 
 -- the memory that is walked over; whether it is the second list, behind the first one; and the segment where the next
 -- header has to stand, none once the last was told
@@ -38,7 +38,7 @@ pub record Leads (S : Memory) (F : List Header) (start : ℕ) (P : List Header) 
 -- after the headers P comes that of e, which may stand there
 pub record Follows (S : Memory) (F P : List Header) (t : ℕ) (e : Entry) : Type 0 where
   pub at : e.header.segment ≡ t
-  pub header : IsHeader S e.header (mark e.last)
+  pub header : IsHeader S e.header (signature_byte e.last)
   pub clear : IsClear S (F ++ (P ++ e.header ∷ []))
   pub apart : AreApart F (P ++ e.header ∷ [])
 

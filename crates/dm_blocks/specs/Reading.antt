@@ -3,12 +3,12 @@ use Rattle.std.specs.Prelude.{Bool, List, None, Option, Some, [], false, true, �
 use Rattle.dm_space.specs.Memory.{Memory}
 use Rattle.dm_blocks.specs.declared.header.Header.{Header}
 use Rattle.dm_blocks.specs.declared.header.Entry.{Entry}
-use Rattle.dm_blocks.specs.Chain.{IsHeader, IsNonEmpty, NoBlockAt, Spells, mark, next, signature}
+use Rattle.dm_blocks.specs.Chain.{IsHeader, IsNonEmpty, NoBlockAt, Spells, signature_byte, next, signature}
 
 -- what stands at segment h: the header of an entry, or none that a list could have there
 abbrev pub IsEntryAt : Memory → ℕ → Option Entry → Type 0
 IsEntryAt S h None = (b : Header) (L : List Header) → b.segment ≡ h → IsHeader S b (signature L) → ⊥
-IsEntryAt S h (Some e) = (e.header.segment ≡ h) × IsHeader S e.header (mark e.last)
+IsEntryAt S h (Some e) = (e.header.segment ≡ h) × IsHeader S e.header (signature_byte e.last)
 
 -- the list L is spelled from h on
 pub record IsSpelledFrom (S : Memory) (h : ℕ) (L : List Header) : Type 0 where

@@ -5,7 +5,7 @@
 ghost use Rattle.std.specs.Prelude.{◌≡◌, ℕ, ◌+◌, ◌*◌, ◌<◌, ◌≤◌, ◌==◌};
 ghost use Rattle.dm_blocks.specs.Chain;
 ghost use Rattle.dm_space.specs.Memory.{peek};
-ghost use Rattle.dm_blocks.specs.Chain.{next, word, mark};
+ghost use Rattle.dm_blocks.specs.Chain.{next, word, signature_byte};
 ghost use Rattle.dm_blocks.specs.Reading.{IsEntryAt};
 
 use crate::list::LINK;
@@ -59,7 +59,7 @@ impl Header {
 impl Entry {
     /// The signature of the header.
     pub fn signature(self) -> u8
-        ensures { result ≡ mark self.last }
+        ensures { result ≡ signature_byte self.last }
     {
         if self.last { LAST } else { MORE }
     }

@@ -8,7 +8,7 @@ use Rattle.dm_blocks.specs.declared.header.Header.{Header}
 use Rattle.dm_blocks.specs.declared.header.Entry.{Entry}
 use Rattle.dm_blocks.specs.declared.listing.Step.{Step}
 use Rattle.dm_blocks.specs.declared.listing.Step.TheVariants as step
-use Rattle.dm_blocks.specs.Chain.{first_header, next, mark, IsHeader, IsClear, IsArenaBehind}
+use Rattle.dm_blocks.specs.Chain.{first_header, next, signature_byte, IsHeader, IsClear, IsArenaBehind}
 use Rattle.dm_blocks.specs.Listing.{Walking, Path, Leads, Follows, Closes, IsBehind, IsStep, IsStepFrom, Steps, start_of}
 use Rattle.dm_blocks.proofs.Unique.{arena_unique}
 use Rattle.dm_checker.specs.declared.watch.Watched.{Watched}
@@ -44,7 +44,7 @@ path_more S h (q ∷ P) t b p at x = (p.0, p.1, path_more S (next q) P t b p.2 a
 -- a header that others follow, or the last one
 leads_more : (m : Memory) (F : List Header) (start : ℕ) (P : List Header) (t : ℕ) (e : Entry) → Leads m F start P t → Follows m F P t e → e.last ≡ false → Leads m F start (P ++ e.header ∷ []) (next e.header)
 leads_more m F start P t e l f more = record {
-  path = path_more m start P t e.header l.path f.at (subst (λ (s : ℕ). IsHeader m e.header s) (ap mark more) f.header);
+  path = path_more m start P t e.header l.path f.at (subst (λ (s : ℕ). IsHeader m e.header s) (ap signature_byte more) f.header);
   clear = f.clear;
   apart = f.apart;
 }

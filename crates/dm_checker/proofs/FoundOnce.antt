@@ -3,6 +3,7 @@ use Rattle.std.proofs.Common.{◌≡◌, ℕ, ◌≤◌, List, ◌++◌, length,
 use Rattle.std.proofs.lemmas.Bool.{cases_lt}
 use Rattle.std.proofs.lemmas.List.{take-append-drop, length-take, take-take}
 use Rattle.dm_space.specs.Memory.{Memory}
+use Rattle.dm_space.specs.EightBytes.{sixteen_after}
 use Rattle.dm_ins.specs.declared.ins.Ins.{Ins}
 use Rattle.dm_decode.proofs.Exact.{no_front}
 use Rattle.dm_cpu.specs.declared.cpu.Cpu.{Cpu}
@@ -10,7 +11,8 @@ use Rattle.dm_cpu.specs.Guest.{up}
 use Rattle.dm_state.specs.declared.stop.Stop.{Stop}
 use Rattle.dm_state.specs.declared.stop.Stop.TheVariants.{Exited, Steps as AllSteps, Halted, Unlisted, InputEnded, Destroyed, Memory as NoMemory}
 use Rattle.dm_state.specs.State.{State}
-use Rattle.dm_machine.specs.Step.{BeginsWith, fetched}
+use Rattle.dm_machine.specs.Step.{fetched}
+use Rattle.dm_ins.specs.Ins.{BeginsWith}
 use Rattle.dm_machine.proofs.OneStop.{some-none}
 use Rattle.dm_findings.specs.declared.calls.Call.{Call}
 use Rattle.dm_findings.specs.declared.finding.Act.{Act}
@@ -32,7 +34,7 @@ finds_once s t a b x y =
 -- ---- what acts
 
 length-fetched : (m : Memory) (c : Cpu) → length (fetched m c) ≡ 16
-unfolding fetched
+unfolding sixteen_after
 length-fetched m c = refl
 
 record Same (i j : Ins) (k m : ℕ) : Type 0 where

@@ -4,7 +4,7 @@ use Rattle.std.proofs.lemmas.Bool.{false≢true}
 use Rattle.std.proofs.lemmas.Bool.Decides.{nat_tests}
 use Rattle.std.proofs.lemmas.List.{get_or_default}
 use Rattle.std.specs.Prelude.{if◌then◌else◌, slice_index_or, is_some, get_or, ◌&&◌, IfSome, IsTrue}
-use Rattle.dm_pool.specs.declared.places.Place.{Place as Extent}
+use Rattle.dm_pool.specs.declared.extent.Extent.{Extent}
 use Rattle.dm_pool.specs.Blocks.{Blocks, IsLive}
 use Rattle.dm_space.specs.declared.place.Place.{Place}
 use Rattle.dm_space.specs.declared.place.Place.TheVariants.{Low, Page, Rom, Nothing}

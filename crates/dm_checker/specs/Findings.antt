@@ -7,7 +7,8 @@ use Rattle.dm_ins.specs.declared.ins.Ins.{Ins}
 use Rattle.dm_cpu.specs.Guest.{up}
 use Rattle.dm_blocks.specs.declared.header.Header.{Header}
 use Rattle.dm_state.specs.State.{State}
-use Rattle.dm_machine.specs.Step.{BeginsWith, fetched}
+use Rattle.dm_machine.specs.Step.{fetched}
+use Rattle.dm_ins.specs.Ins.{BeginsWith}
 use Rattle.dm_findings.specs.declared.calls.Call.{Call}
 use Rattle.dm_findings.specs.declared.finding.Act.{Act}
 use Rattle.dm_findings.specs.declared.finding.Act.TheVariants as act

@@ -1,7 +1,8 @@
 //! What acts in a step.
 
 ghost use Rattle.std.specs.Prelude.{◌≡◌, ◌+◌, ◌∷◌, [], map, MatchOption};
-ghost use Rattle.dm_machine.specs.Step.{code_byte, fetched};
+ghost use Rattle.dm_space.specs.EightBytes.{byte_after};
+ghost use Rattle.dm_machine.specs.Step.{fetched};
 ghost use Rattle.dm_state.specs.State.{State};
 ghost use Rattle.dm_checker.specs.Findings.{IsAct};
 ghost use Rattle.dm_checker.specs.inner.Steps.{IsBefore, IsUnlisted};
@@ -23,7 +24,7 @@ pub(crate) struct Before {
 /// Eight bytes from CS:IP on, behind so many others, one by one.
 #[inline(never)]
 fn fetch_each(cpu: &Cpu, space: &Space, skipped: u16) -> [u8; 8]
-    ensures { result ≡ map (λ k. code_byte space.now.memory cpu.now (skipped + k)) (0 ∷ 1 ∷ 2 ∷ 3 ∷ 4 ∷ 5 ∷ 6 ∷ 7 ∷ []) }
+    ensures { result ≡ map (λ k. byte_after space.now.memory cpu.now.cs cpu.now.ip (skipped + k)) (0 ∷ 1 ∷ 2 ∷ 3 ∷ 4 ∷ 5 ∷ 6 ∷ 7 ∷ []) }
 {
     let at = |k: u16| space.peek(cpu.cs, cpu.ip.wrapping_add(skipped).wrapping_add(k));
     [at(0), at(1), at(2), at(3), at(4), at(5), at(6), at(7)]
@@ -32,7 +33,7 @@ fn fetch_each(cpu: &Cpu, space: &Space, skipped: u16) -> [u8; 8]
 /// Eight bytes from CS:IP on, behind so many others.
 #[inline(always)]
 fn fetch_eight(cpu: &Cpu, space: &Space, skipped: u16) -> [u8; 8]
-    ensures { result ≡ map (λ k. code_byte space.now.memory cpu.now (skipped + k)) (0 ∷ 1 ∷ 2 ∷ 3 ∷ 4 ∷ 5 ∷ 6 ∷ 7 ∷ []) }
+    ensures { result ≡ map (λ k. byte_after space.now.memory cpu.now.cs cpu.now.ip (skipped + k)) (0 ∷ 1 ∷ 2 ∷ 3 ∷ 4 ∷ 5 ∷ 6 ∷ 7 ∷ []) }
 {
     match space.eight_bytes(cpu.cs, cpu.ip.wrapping_add(skipped)) {
         Some(eight) => eight.to_le_bytes(),
@@ -41,7 +42,7 @@ fn fetch_eight(cpu: &Cpu, space: &Space, skipped: u16) -> [u8; 8]
 }
 
 /// The sixteen bytes from CS:IP on.
-#[tactic(auto, unfolding(dm_machine::specs::Step::fetched))]
+#[tactic(auto, unfolding(dm_space::specs::EightBytes::sixteen_after))]
 fn fetch(cpu: &Cpu, space: &Space) -> [u8; 16]
     ensures { result ≡ fetched space.now.memory cpu.now }
 {

@@ -10,8 +10,8 @@ module _ (files : List ℕ → Option (List ℕ)) (typed : Option (List ℕ)) (o
   faulty : (error_after later : Stream) (fault : Fault) → Checks files typed o before after failed_before failed_after error_before error_after (Err fault)
       → Checks files typed o before after failed_before failed_after error_before later (Err fault)
   faulty error_after later fault (partly_written m t stop report f started run reported part failed is) = partly_written m t stop report fault started run reported part failed is
-  faulty error_after later fault (no_memory kept) = no_memory kept
-  faulty error_after later fault (not_started f why kept) = not_started fault why kept
+  faulty error_after later fault (no_memory kept same) = no_memory kept same
+  faulty error_after later fault (not_started f why kept same) = not_started fault why kept same
 
   pub reported_fault : {E : Type 0} (stream : E → Stream) (old new : E) (r : Result ℕ Fault) → Checks files typed o before after failed_before failed_after error_before (stream old) r
       → OnOk r (new ≡ old) → Checks files typed o before after failed_before failed_after error_before (stream new) r

@@ -89,10 +89,11 @@ begun n s known before = record {
 -- what becomes of the rest, if it is all that is left
 concludes : {n left : ℕ} {s t : Debugged} {known before rest after : Option (List ℕ)} {more : Bool} → Spoken n s known before left t rest after more
     → (ys further : List ℕ) (u : Debugged) (end : Option Fault) (whole : Bool) (final : Option (List ℕ)) (opened failures : ℕ) → (more ≡ false → ys ≡ []) → IfSome rest (λ xs. ys ≡ xs)
-    → Converses left t ys further u end whole → Appends after final further → (whole ≡ false → HasFailed opened failures) → IsConversation n known s u before final opened failures end
-concludes {known} {before} {rest} {after} spoken ys further u end is_whole final opened failures none is h appends failed = record {
+    → Converses left t ys further u end whole → Appends after final further → (whole ≡ false → HasFailed opened failures) → (whole ≡ true → failures ≡ opened) → IsConversation n known s u before final opened failures end
+concludes {known} {before} {rest} {after} spoken ys further u end is_whole final opened failures none is h appends failed none_failed = record {
   whole = is_whole;
   failed = failed;
+  none_failed = none_failed;
   text = spoken.consumed ++ ys;
   told = spoken.told ++ further;
   read = whole known rest spoken.read is;
@@ -156,10 +157,15 @@ never e = absurd (let c : true ≡ false = e in cc)
 going : {ys : List ℕ} → true ≡ false → ys ≡ []
 going e = absurd (let c : true ≡ false = e in cc)
 
+-- no whole answer is one that failed
+cut : {P : Type 0} → false ≡ true → P
+cut e = absurd (let c : false ≡ true = e in cc)
+
 module _ {n left : ℕ} {s t : Debugged} {known before rest after : Option (List ℕ)} (opened failures : ℕ) where
   -- no line is left
-  pub ends : Spoken n s known before left t rest after false → IsConversation n known s t before after opened failures None
-  ends spoken = record {
+  pub ends : failures ≡ opened → Spoken n s known before left t rest after false → IsConversation n known s t before after opened failures None
+  ends same spoken = record {
+    none_failed = λ e. same;
     text = spoken.consumed ++ [];
     told = spoken.told ++ [];
     read = all known rest spoken.read (spoken.over refl);
@@ -175,9 +181,9 @@ module _ {n left : ℕ} {s t : Debugged} {known before rest after : Option (List
       all (Some x) (Some y) h e = ap (λ l. spoken.consumed ++ l) (sym e) ∙ sym h
 
   -- a line of no byte was read
-  pub ends_at : Spoken n s known before left t rest after true → (rest' : Option (List ℕ)) → Reads rest rest' [] → IsConversation n known s t before after opened failures None
-  ends_at spoken rest' reads =
-      concludes spoken [] [] t None true after opened failures going (nothing rest rest' reads.consumes (reads.last refl)) (ended left t) (Appends-nil after) never
+  pub ends_at : failures ≡ opened → Spoken n s known before left t rest after true → (rest' : Option (List ℕ)) → Reads rest rest' [] → IsConversation n known s t before after opened failures None
+  ends_at same spoken rest' reads =
+      concludes spoken [] [] t None true after opened failures going (nothing rest rest' reads.consumes (reads.last refl)) (ended left t) (Appends-nil after) never (λ e. same)
     where
       nothing : (a b : Option (List ℕ)) → Consumes a b [] → OnSome a (IsAtEnd b) → IfSome a (λ xs. [] ≡ xs)
       nothing None b h e = tt
@@ -185,65 +191,65 @@ module _ {n left : ℕ} {s t : Debugged} {known before rest after : Option (List
       nothing (Some x) (Some y) h e = sym (h ∙ e)
 
   -- the line ends the session
-  pub quitted : Spoken n s known before left t rest after true → (line : List ℕ) (rest' : Option (List ℕ)) → Reads rest rest' line → length line ≤ left
+  pub quitted : failures ≡ opened → Spoken n s known before left t rest after true → (line : List ℕ) (rest' : Option (List ℕ)) → Reads rest rest' line → length line ≤ left
       → IsQuit (strip_last 10 line) → IsConversation n known s t before after opened failures None
-  quitted spoken line rest' reads fits quit =
+  quitted same spoken line rest' reads fits quit =
       let first = first_read rest rest' line reads in
       concludes spoken (line ++ behind_of rest rest') [] t None true after opened failures going (whole_read rest rest' line reads.consumes)
-      (quits left t (line ++ behind_of rest rest') (rw (first.0) fits) (rw (first.0) quit)) (Appends-nil after) never
+      (quits left t (line ++ behind_of rest rest') (rw (first.0) fits) (rw (first.0) quit)) (Appends-nil after) never (λ e. same)
 
   -- standard input can't be read
-  pub broken : Spoken n s known before left t rest after true → (fault : Fault) → IsReadFault fault → IsConversation n known s t before after opened failures (Some fault)
-  broken spoken fault is =
-      concludes spoken (left_of rest) [] t (Some fault) true after opened failures going (left_is rest) (unread left t (left_of rest) fault is) (Appends-nil after) never
+  pub broken : failures ≡ opened → Spoken n s known before left t rest after true → (fault : Fault) → IsReadFault fault → IsConversation n known s t before after opened failures (Some fault)
+  broken same spoken fault is =
+      concludes spoken (left_of rest) [] t (Some fault) true after opened failures going (left_is rest) (unread left t (left_of rest) fault is) (Appends-nil after) never (λ e. same)
 
   -- memory for the line was refused
-  pub lacking : Spoken n s known before left t rest after true → IsConversation n known s t before after opened failures (Some OutOfMemory)
-  lacking spoken = concludes spoken (left_of rest) [] t (Some OutOfMemory) true after opened failures going (left_is rest) (no_memory left t (left_of rest)) (Appends-nil after) never
+  pub lacking : failures ≡ opened → Spoken n s known before left t rest after true → IsConversation n known s t before after opened failures (Some OutOfMemory)
+  lacking same spoken = concludes spoken (left_of rest) [] t (Some OutOfMemory) true after opened failures going (left_is rest) (no_memory left t (left_of rest)) (Appends-nil after) never (λ e. same)
 
   -- the line is too long
-  pub exceeded : Spoken n s known before left t rest after true → (line : List ℕ) (rest' : Option (List ℕ)) → Reads rest rest' line → left < length line
+  pub exceeded : failures ≡ opened → Spoken n s known before left t rest after true → (line : List ℕ) (rest' : Option (List ℕ)) → Reads rest rest' line → left < length line
       → IsConversation n known s t before after opened failures (Some InputTooLong)
-  exceeded spoken line rest' reads long =
+  exceeded same spoken line rest' reads long =
       let more = first_long line (behind_of rest rest') reads.stops in
       concludes spoken (line ++ behind_of rest rest') [] t (Some InputTooLong) true after opened failures going (whole_read rest rest' line reads.consumes)
-      (too_long left t (line ++ behind_of rest rest') (omega (arith, long, more))) (Appends-nil after) never
+      (too_long left t (line ++ behind_of rest rest') (omega (arith, long, more))) (Appends-nil after) never (λ e. same)
 
   -- the line was not answered
   pub unanswered : Spoken n s known before left t rest after true → (line : List ℕ) (u : Debugged) (rest' after' : Option (List ℕ)) (fault : Fault) → Reads rest rest' line
       → 0 < length line → length line ≤ left → ¬ IsQuit (strip_last 10 line) → IsUnanswered t (strip_last 10 line) u after after' opened failures fault
       → IsConversation n known s u before after' opened failures (Some fault)
-  unanswered spoken line u rest' after' fault reads some fits other (cut_short cut kept) =
+  unanswered spoken line u rest' after' fault reads some fits other (cut_short cut kept same) =
       let first = first_read rest rest' line reads in
       concludes spoken (line ++ behind_of rest rest') [] u (Some OutOfMemory) true after' opened failures going (whole_read rest rest' line reads.consumes)
-      (cut_off left t u (line ++ behind_of rest rest') (not_empty line _ some) (rw (first.0) fits) (rw (first.0) other) (rw (first.0) cut)) (Appends-kept _ _ _ [] (Appends-nil after) kept) never
+      (cut_off left t u (line ++ behind_of rest rest') (not_empty line _ some) (rw (first.0) fits) (rw (first.0) other) (rw (first.0) cut)) (Appends-kept _ _ _ [] (Appends-nil after) kept) never (λ e. same)
   unanswered spoken line u rest' after' fault reads some fits other (partly text f tells part failed is) =
       let first = first_read rest rest' line reads in
       concludes spoken (line ++ behind_of rest rest') (take part.0 text) u (Some fault) false after' opened failures going (whole_read rest rest' line reads.consumes)
       (unwritten left t u (line ++ behind_of rest rest') text part.0 fault (not_empty line _ some) (rw (first.0) fits) (rw (first.0) other) (rw (first.0) tells) part.1 is) part.2
-      (λ e. failed)
+      (λ e. failed) cut
   unanswered spoken line u rest' after' fault reads some fits other (unflushed text f tells all failed is) =
       let first = first_read rest rest' line reads in
       concludes spoken (line ++ behind_of rest rest') text u (Some fault) false after' opened failures going (whole_read rest rest' line reads.consumes)
-      (not_handed_on left t u (line ++ behind_of rest rest') text fault (not_empty line _ some) (rw (first.0) fits) (rw (first.0) other) (rw (first.0) tells) is) all (λ e. failed)
+      (not_handed_on left t u (line ++ behind_of rest rest') text fault (not_empty line _ some) (rw (first.0) fits) (rw (first.0) other) (rw (first.0) tells) is) all (λ e. failed) cut
 
   -- ---- as the loop has them
 
-  pub at_nothing : Spoken n s known before left t rest after true → (line : List ℕ) (rest' : Option (List ℕ)) (count : ℕ) → Counts left rest line rest' count → count ≡ 0
+  pub at_nothing : failures ≡ opened → Spoken n s known before left t rest after true → (line : List ℕ) (rest' : Option (List ℕ)) (count : ℕ) → Counts left rest line rest' count → count ≡ 0
       → IsConversation n known s t before after opened failures None
-  at_nothing spoken [] rest' count read none = ends_at spoken rest' read.2
-  at_nothing spoken (x ∷ xs) rest' count read none = absurd (let e = read.1 in omega (arith, e, none))
+  at_nothing same spoken [] rest' count read none = ends_at same spoken rest' read.2
+  at_nothing same spoken (x ∷ xs) rest' count read none = absurd (let e = read.1 in omega (arith, e, none))
 
-  pub at_quit : Spoken n s known before left t rest after true → (line shown : List ℕ) (rest' : Option (List ℕ)) (count : ℕ) → Counts left rest line rest' count
+  pub at_quit : failures ≡ opened → Spoken n s known before left t rest after true → (line shown : List ℕ) (rest' : Option (List ℕ)) (count : ℕ) → Counts left rest line rest' count
       → shown ≡ strip_last 10 line → IsQuit shown → IsConversation n known s t before after opened failures None
-  at_quit spoken line shown rest' count read is quit = quitted spoken line rest' read.2 (rw read.1 at read.0) (rw is at quit)
+  at_quit same spoken line shown rest' count read is quit = quitted same spoken line rest' read.2 (rw read.1 at read.0) (rw is at quit)
 
-  pub at_fault : Spoken n s known before left t rest after true → (line : List ℕ) (rest' : Option (List ℕ)) (fault : Fault)
+  pub at_fault : failures ≡ opened → Spoken n s known before left t rest after true → (line : List ℕ) (rest' : Option (List ℕ)) (fault : Fault)
       → IsReadFault fault ⊎ (fault ≡ OutOfMemory) ⊎ ((fault ≡ InputTooLong) × (left < length line) × Reads rest rest' line)
       → IsConversation n known s t before after opened failures (Some fault)
-  at_fault spoken line rest' fault (inl why) = broken spoken fault why
-  at_fault spoken line rest' fault (inr (inl is)) = rw is (lacking spoken)
-  at_fault spoken line rest' fault (inr (inr long)) = rw (long.0) (exceeded spoken line rest' long.2 long.1)
+  at_fault same spoken line rest' fault (inl why) = broken same spoken fault why
+  at_fault same spoken line rest' fault (inr (inl is)) = rw is (lacking same spoken)
+  at_fault same spoken line rest' fault (inr (inr long)) = rw (long.0) (exceeded same spoken line rest' long.2 long.1)
 
   pub at_unanswered : Spoken n s known before left t rest after true → (line shown : List ℕ) (u : Debugged) (rest' after' : Option (List ℕ)) (count : ℕ) (fault : Fault)
       → Counts left rest line rest' count → (0 < count) → shown ≡ strip_last 10 line → ¬ IsQuit shown → IsUnanswered t shown u after after' opened failures fault

@@ -62,10 +62,11 @@ uncut _ _ _ _ _ _ _ (not_handed_on n s t ys told fault h fits other tells is_fau
 
 pub whole_conversation : (n : ℕ) (known : Option (List ℕ)) (s t : Debugged) (a b : Option (List ℕ)) (opened failures : ℕ) (end : Option Fault) → IsConversation n (option_map (take (suc n)) known) s t a b opened failures end
     → IsConversation n known s t a b opened failures end
-whole_conversation n None s t a b opened failures end h = record { text = h.text; told = h.told; whole = h.whole; read = tt; converses = h.converses; written = h.written; failed = h.failed }
+whole_conversation n None s t a b opened failures end h = record { text = h.text; told = h.told; whole = h.whole; read = tt; converses = h.converses; written = h.written; failed = h.failed; none_failed = h.none_failed }
 whole_conversation n (Some xs) s t a b opened failures end h = record {
   whole = h.whole;
   failed = h.failed;
+  none_failed = h.none_failed;
   text = xs;
   told = h.told;
   read = refl;

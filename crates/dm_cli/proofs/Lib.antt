@@ -6,3 +6,4 @@ pub mod Told
 pub mod Begins
 pub mod Ends
 pub mod Checked
+pub mod Printed

@@ -1,5 +1,5 @@
 -- What is written for one line.
-use Rattle.std.proofs.Common.{◌+◌, ◌<◌, min, inl, inr, ◌≡◌, ℕ, Bool, true, false, List, Option, sym, subst, refl, arith}
+use Rattle.std.proofs.Common.{◌+◌, min, ◌≡◌, ℕ, Bool, true, false, List, Option, sym, subst, refl, arith}
 use Rattle.std.proofs.KnownBytes.{Appends-kept, Keeps-refl}
 use Rattle.std.proofs.lemmas.Grind.{common_steps}
 use Rattle.std.specs.Io.KnownBytes.{Appends, Keeps}
@@ -56,5 +56,5 @@ not_flushed s t line a b c opened failures fault h kept failed is = unflushed h.
 pub handed_on : (s t : Debugged) (line : List ℕ) (a b c : Option (List ℕ)) → IsAnsweredBy s line t a b → Keeps b c → IsAnsweredBy s line t a c
 handed_on s t line a b c h kept = record { text = h.text; tells = h.tells; written = Appends-kept a b c h.text h.written kept }
 
-pub cut_at : (s t : Debugged) (line : List ℕ) (a b : Option (List ℕ)) (opened failures : ℕ) → IsCutOff s line t → b ≡ a → IsUnanswered s line t a b opened failures OutOfMemory
-cut_at s t line a b opened failures h kept = cut_short h (subst (λ o. Keeps a o) (sym kept) (Keeps-refl a))
+pub cut_at : (s t : Debugged) (line : List ℕ) (a b : Option (List ℕ)) (opened failures : ℕ) → IsCutOff s line t → b ≡ a → failures ≡ opened → IsUnanswered s line t a b opened failures OutOfMemory
+cut_at s t line a b opened failures h kept same = cut_short h (subst (λ o. Keeps a o) (sym kept) (Keeps-refl a)) same

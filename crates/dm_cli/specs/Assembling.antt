@@ -32,14 +32,14 @@ pub data IsAsmFault (known : Option (List ℕ)) (path : List ℕ) : Fault → Ty
   text_refused : (text : List ℕ) (why : Refusal) → IsRead known text → Refuses text why → IsAsmFault known path (refusal_fault why)
   text_no_memory : IsAsmFault known path OutOfMemory
 
--- `dm asm`: the bytes of the text are written to a file; or that failed, as the counts of failed saves before and after
--- tell; or the text has a fault. In the last two no file was written
+-- `dm asm`: the bytes of the text are written to a file; or that failed, and only then has the count of failed saves
+-- risen; or the text has a fault. In the last two no file was written
 pub data Assembles (files : List ℕ → Option (List ℕ)) (o : AsmOptions) (before after : Option (List (List ℕ × List ℕ))) (failed_before failed_after : ℕ) : Option Fault → Type 0 where
-  saved : (bytes : List ℕ) → IsAssembled (files o.input.now) bytes → Saves before after o.output.now bytes
+  saved : (bytes : List ℕ) → IsAssembled (files o.input.now) bytes → Saves before after o.output.now bytes → failed_after ≡ failed_before
       → Assembles files o before after failed_before failed_after None
   unsaved : (bytes : List ℕ) (fault : Fault) → IsAssembled (files o.input.now) bytes → IsUnwritten o.output.now fault ⊎ (fault ≡ OutOfMemory)
       → HasFailed failed_before failed_after → after ≡ before → Assembles files o before after failed_before failed_after (Some fault)
-  not_assembled : (fault : Fault) → IsAsmFault (files o.input.now) o.input.now fault → after ≡ before
+  not_assembled : (fault : Fault) → IsAsmFault (files o.input.now) o.input.now fault → after ≡ before → failed_after ≡ failed_before
       → Assembles files o before after failed_before failed_after (Some fault)
 
 -- the fault of bytes that have no lines: they can't be read, they are too many, or memory was refused
@@ -48,9 +48,11 @@ pub data IsDisasmFault (known : Option (List ℕ)) (path : List ℕ) : Fault →
   bytes_too_long : (bytes : List ℕ) → IsRead known bytes → 65278 < length bytes → IsDisasmFault known path TooLong
   bytes_no_memory : IsDisasmFault known path OutOfMemory
 
--- `dm disasm`: the lines of the bytes; or a first part of them, where a write failed; or nothing
+-- `dm disasm`: the lines of the bytes; or a first part of them, where a write failed, and only there; or nothing
 pub data Disassembles (files : List ℕ → Option (List ℕ)) (path : List ℕ) (before after : Option (List ℕ)) (failed_before failed_after : ℕ) : Option Fault → Type 0 where
-  listed : (text : List ℕ) → IsDisassembled (files path) text → Appends before after text → Disassembles files path before after failed_before failed_after None
+  listed : (text : List ℕ) → IsDisassembled (files path) text → Appends before after text → failed_after ≡ failed_before
+      → Disassembles files path before after failed_before failed_after None
   partly_listed : (text : List ℕ) (fault : Fault) → IsDisassembled (files path) text → AppendsPart before after text → HasFailed failed_before failed_after → IsWriteFault fault
       → Disassembles files path before after failed_before failed_after (Some fault)
-  not_listed : (fault : Fault) → IsDisasmFault (files path) path fault → Keeps before after → Disassembles files path before after failed_before failed_after (Some fault)
+  not_listed : (fault : Fault) → IsDisasmFault (files path) path fault → Keeps before after → failed_after ≡ failed_before
+      → Disassembles files path before after failed_before failed_after (Some fault)

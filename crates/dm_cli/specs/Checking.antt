@@ -22,16 +22,16 @@ checked_status report stop = if nat_lt 0 report.errors then 124 else stop_status
 
 -- `dm check`: the machine runs as for `dm run`; the status of that run, after its whole output was written to standard
 -- output, and its report with the line about the stop to standard error; or a fault. If a write of the output failed, a
--- first part of it was written; after any other fault nothing was
+-- first part of it was written; after any other fault nothing was, and no write failed
 pub data Checks (files : List ℕ → Option (List ℕ)) (typed : Option (List ℕ)) (o : MachineOptions) (before after : Option (List ℕ)) (failed_before failed_after : ℕ) (error_before error_after : Stream) : Result ℕ Fault → Type 0 where
   checked : (m t : State) (stop : Stop) (report : Reported) (status : ℕ) → IsStartedBy files typed o m → IsRun m o.steps stop t → IsReport m o.steps stop t report
-      → Appends before after t.console.output → Prints (report_text report ++ stop_text stop) error_before error_after → status ≡ checked_status report stop
+      → Appends before after t.console.output → failed_after ≡ failed_before → Prints (report_text report ++ stop_text stop) error_before error_after → status ≡ checked_status report stop
       → Checks files typed o before after failed_before failed_after error_before error_after (Ok status)
   partly_written : (m t : State) (stop : Stop) (report : Reported) (fault : Fault) → IsStartedBy files typed o m → IsRun m o.steps stop t → IsReport m o.steps stop t report
       → AppendsPart before after t.console.output → HasFailed failed_before failed_after → IsWriteFault fault
       → Checks files typed o before after failed_before failed_after error_before error_after (Err fault)
-  no_memory : Keeps before after → Checks files typed o before after failed_before failed_after error_before error_after (Err OutOfMemory)
-  not_started : (fault : Fault) → IsStartFault files typed (Some (codes "standard input")) o fault → Keeps before after
+  no_memory : Keeps before after → failed_after ≡ failed_before → Checks files typed o before after failed_before failed_after error_before error_after (Err OutOfMemory)
+  not_started : (fault : Fault) → IsStartFault files typed (Some (codes "standard input")) o fault → Keeps before after → failed_after ≡ failed_before
       → Checks files typed o before after failed_before failed_after error_before error_after (Err fault)
 
 -- the status of the command, or 126 at a fault

@@ -51,7 +51,7 @@ pub data Converses : ℕ → Debugged → List ℕ → List ℕ → Debugged →
       → ¬ IsQuit (first_piece 10 text) → Tells s (first_piece 10 text) t told → IsWriteFault fault → Converses n s text told t (Some fault) false
 
 -- the lines of a reader, whose bytes are known or not, what was appended to a writer, and the count of its failures
--- before and after: an answer is cut or not handed on only where a write or a flush failed in between
+-- before and after: an answer is cut or not handed on exactly where a write or a flush failed in between
 pub record IsConversation (n : ℕ) (known : Option (List ℕ)) (s t : Debugged) (before after : Option (List ℕ)) (opened failures : ℕ) (end : Option Fault) : Type 0 where
   pub text : List ℕ
   pub told : List ℕ
@@ -60,6 +60,7 @@ pub record IsConversation (n : ℕ) (known : Option (List ℕ)) (s t : Debugged)
   pub converses : Converses n s text told t end whole
   pub written : Appends before after told
   pub failed : whole ≡ false → HasFailed opened failures
+  pub none_failed : whole ≡ true → failures ≡ opened
 
 -- ---- the command
 
@@ -68,6 +69,6 @@ pub record IsConversation (n : ℕ) (known : Option (List ℕ)) (s t : Debugged)
 pub data Debugs (files : List ℕ → Option (List ℕ)) (typed : Option (List ℕ)) (o : DebugOptions) (before after : Option (List ℕ)) (opened failures : ℕ) : Option Fault → Type 0 where
   conversed : (m : State) (t : Debugged) (end : Option Fault) → IsStartedBy files (typed_in files o) o.machine m
       → IsConversation 16777216 typed (new_session m) t before after opened failures end → Debugs files typed o before after opened failures end
-  not_begun : (fault : Fault) → IsStartFault files (typed_in files o) (option_map (λ path. path.now) o.input) o.machine fault → Keeps before after
+  not_begun : (fault : Fault) → IsStartFault files (typed_in files o) (option_map (λ path. path.now) o.input) o.machine fault → Keeps before after → failures ≡ opened
       → Debugs files typed o before after opened failures (Some fault)
-  no_buffer : Keeps before after → Debugs files typed o before after opened failures (Some OutOfMemory)
+  no_buffer : Keeps before after → failures ≡ opened → Debugs files typed o before after opened failures (Some OutOfMemory)

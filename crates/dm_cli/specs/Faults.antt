@@ -1,6 +1,6 @@
 -- The faults of commands: those that a refusal of the machine or of the assembler becomes, and those of files and
 -- streams by their names.
-use Rattle.std.specs.Prelude.{ℕ, ◌≡◌, List, codes}
+use Rattle.std.specs.Prelude.{ℕ, ◌≡◌, ◌++◌, List, [], ◌∷◌, codes, decimal}
 use Rattle.dm_asm.specs.declared.refusal.Refusal.{Refusal}
 use Rattle.dm_asm.specs.declared.refusal.Refusal.TheVariants as refusal
 use Rattle.dm_cli.specs.declared.fault.Fault.{Fault}
@@ -13,6 +13,29 @@ refusal_fault (refusal.Range line) = fault.Range line
 refusal_fault (refusal.Twice line) = fault.Twice line
 refusal_fault refusal.TooLong = fault.TooLong
 refusal_fault refusal.Memory = fault.OutOfMemory
+
+-- the text of a fault
+abbrev pub fault_text : Fault → List ℕ
+fault_text (fault.CannotRead name) = codes "cannot read " ++ name.now
+fault_text (fault.CannotWrite name) = codes "cannot write " ++ name.now
+fault_text fault.NotFound = codes "not found"
+fault_text fault.BadFormat = codes "bad format"
+fault_text fault.Short = codes "short"
+fault_text fault.TooLarge = codes "too large"
+fault_text fault.TailTooLong = codes "tail too long"
+fault_text fault.NameTooLong = codes "name too long"
+fault_text fault.NameTwice = codes "name twice"
+fault_text fault.InputTooLong = codes "input too long"
+fault_text fault.TooLong = codes "too long"
+fault_text (fault.Syntax line) = codes "line " ++ decimal line ++ codes ": syntax"
+fault_text (fault.Unknown line) = codes "line " ++ decimal line ++ codes ": unknown"
+fault_text (fault.Range line) = codes "line " ++ decimal line ++ codes ": range"
+fault_text (fault.Twice line) = codes "line " ++ decimal line ++ codes ": twice"
+fault_text fault.OutOfMemory = codes "out of memory"
+
+-- what is printed for it on standard error
+abbrev pub fault_line : Fault → List ℕ
+fault_line f = codes "dm: " ++ fault_text f ++ 10 ∷ []
 
 -- what has this name can't be read
 abbrev pub IsUnread : List ℕ → Fault → Type 0

@@ -1,7 +1,9 @@
--- What `dm` prints on standard error: the line about a stop.
-use Rattle.std.specs.Prelude.{ℕ, ◌++◌, List, [], ◌∷◌, Option, codes}
+-- What `dm` prints on standard error: the line about a stop, or about a fault.
+use Rattle.std.specs.Prelude.{ℕ, ◌≡◌, ◌++◌, List, [], ◌∷◌, Option, Some, None, Result, Ok, Err, codes}
 use Rattle.std.specs.Io.KnownBytes.{Appends}
 use Rattle.dm_out.specs.Out.{AppendsPart, HasFailed}
+use Rattle.dm_cli.specs.declared.fault.Fault.{Fault}
+use Rattle.dm_cli.specs.Faults.{fault_line}
 use Rattle.dm_state.specs.declared.stop.Stop.{Stop}
 use Rattle.dm_state.specs.declared.stop.Stop.TheVariants.{Steps, Exited, Halted, Unlisted, InputEnded, Destroyed, Memory}
 
@@ -20,7 +22,17 @@ pub record Stream : Type 0 where
   pub bytes : Option (List ℕ)
   pub failures : ℕ
 
--- a text is written to a stream: all of it; or a first part, and then a write failed
+-- a text is written to a stream: all of it, and no write failed; or a first part, and then a write failed
 pub data Prints (text : List ℕ) (before after : Stream) : Type 0 where
-  all : Appends before.bytes after.bytes text → Prints text before after
+  all : Appends before.bytes after.bytes text → after.failures ≡ before.failures → Prints text before after
   part : AppendsPart before.bytes after.bytes text → HasFailed before.failures after.failures → Prints text before after
+
+-- a fault is printed, if there is one; otherwise the stream stays as it was
+pub data Reports (before after : Stream) : Option Fault → Type 0 where
+  silent : after ≡ before → Reports before after None
+  faulty : (fault : Fault) → Prints (fault_line fault) before after → Reports before after (Some fault)
+
+-- what is printed of a run: the line about its stop, or about its fault
+abbrev pub outcome_text : Result Stop Fault → List ℕ
+outcome_text (Ok stop) = stop_text stop
+outcome_text (Err fault) = fault_line fault

@@ -1,5 +1,5 @@
 -- What `dm` does for the words of its command line, from their reading to its exit status.
-use Rattle.std.specs.Prelude.{ℕ, ◌≡◌, ◌≢◌, List, [], Option, Some, IsSomeAnd, IfOk, Result, Ok, Err, codes}
+use Rattle.std.specs.Prelude.{ℕ, ◌≡◌, ◌≢◌, List, [], Option, Some, IsSomeAnd, IfErr, Result, Ok, Err, codes}
 use Rattle.std.specs.Io.KnownBytes.{Appends, Keeps}
 use denote.Ref.{Bor}
 use Rattle.clap.specs.Words.{Text, fault_of, subcommand_of}
@@ -15,11 +15,12 @@ use Rattle.dm_state.specs.declared.stop.Stop.{Stop}
 use Rattle.dm_state.specs.State.{State}
 use Rattle.dm_machine.specs.Run.{IsRun}
 use Rattle.dm_cli.specs.declared.fault.Fault.{Fault}
+use Rattle.dm_cli.specs.declared.fault.Fault.TheVariants.{OutOfMemory}
 use Rattle.dm_cli.specs.Assembling.{Assembles, Disassembles}
 use Rattle.dm_cli.specs.Checking.{Checks, check_status}
 use Rattle.dm_cli.specs.Debugging.{Debugs}
-use Rattle.dm_cli.specs.Faults.{IsWriteFault}
-use Rattle.dm_cli.specs.Messages.{Stream, Prints, stop_text}
+use Rattle.dm_cli.specs.Faults.{IsWriteFault, fault_line}
+use Rattle.dm_cli.specs.Messages.{Stream, Prints, Reports, outcome_text}
 use Rattle.dm_cli.specs.Starting.{IsStartedBy, IsStartFault}
 use Rattle.dm_cli.specs.Statuses.{status_of, status_after}
 
@@ -28,11 +29,11 @@ use Rattle.dm_cli.specs.Statuses.{status_of, status_after}
 -- `dm run`: the whole output of the run, behind what was written before; or a first part of it, where a write failed;
 -- or nothing
 pub data Runs (files : List ℕ → Option (List ℕ)) (typed : Option (List ℕ)) (o : MachineOptions) (before after : Option (List ℕ)) (failed_before failed_after : ℕ) : Result Stop Fault → Type 0 where
-  ran : (m t : State) (stop : Stop) → IsStartedBy files typed o m → IsRun m o.steps stop t → Appends before after t.console.output
+  ran : (m t : State) (stop : Stop) → IsStartedBy files typed o m → IsRun m o.steps stop t → Appends before after t.console.output → failed_after ≡ failed_before
       → Runs files typed o before after failed_before failed_after (Ok stop)
   partly_written : (m t : State) (stop : Stop) (fault : Fault) → IsStartedBy files typed o m → IsRun m o.steps stop t → AppendsPart before after t.console.output
       → HasFailed failed_before failed_after → IsWriteFault fault → Runs files typed o before after failed_before failed_after (Err fault)
-  not_started : (fault : Fault) → IsStartFault files typed (Some (codes "standard input")) o fault → Keeps before after
+  not_started : (fault : Fault) → IsStartFault files typed (Some (codes "standard input")) o fault → Keeps before after → failed_after ≡ failed_before
       → Runs files typed o before after failed_before failed_after (Err fault)
 
 -- ---- the program
@@ -65,21 +66,29 @@ pub record Asks (words : List Text) (o : Options) : Type 0 where
   pub right : fault_of dm_app words ≡ []
   pub says : IsSomeAnd (subcommand_of dm_app words) (λ given. HasOptions given o)
 
--- a wrong line, or a call for help, does nothing; a right one does what its command does; memory may be refused while
--- the words are read
+-- nothing was written to standard output, and no write or flush of it failed
+abbrev pub IsSilent : Given → Left → Type 0
+IsSilent g l = Keeps g.output l.output × (l.failures ≡ g.failures)
+
+-- no file was saved, and no save failed
+abbrev pub SavesNothing : Given → Left → Type 0
+SavesNothing g l = (l.saved ≡ g.saved) × (l.failed_saves ≡ g.failed_saves)
+
+-- a wrong line, or a call for help, does nothing; a right one does what its command does; an allocation may fail while
+-- the words are read. Of a wrong line or a call for help standard error has `clap`'s text, of which nothing is said here
 pub data Does (g : Given) (words : List Text) (l : Left) : Type 0 where
-  usage : fault_of dm_app words ≢ [] → Keeps g.output l.output → l.saved ≡ g.saved → l.status ≡ 2 → Does g words l
-  no_memory : Keeps g.output l.output → l.saved ≡ g.saved → l.status ≡ 126 → Does g words l
+  usage : fault_of dm_app words ≢ [] → IsSilent g l → SavesNothing g l → l.status ≡ 2 → Does g words l
+  no_memory : Prints (fault_line OutOfMemory) g.messages l.messages → IsSilent g l → SavesNothing g l → l.status ≡ 126 → Does g words l
   runs : (o : MachineOptions) (outcome : Result Stop Fault) → Asks words (command.Run o) → Runs g.files g.typed o g.output l.output g.failures l.failures outcome
-      → IfOk outcome (λ stop. Prints (stop_text stop) g.messages l.messages) → l.saved ≡ g.saved → l.status ≡ status_of outcome → Does g words l
+      → Prints (outcome_text outcome) g.messages l.messages → SavesNothing g l → l.status ≡ status_of outcome → Does g words l
   checks : (o : MachineOptions) (outcome : Result ℕ Fault) → Asks words (command.Check o) → Checks g.files g.typed o g.output l.output g.failures l.failures g.messages l.messages outcome
-      → l.saved ≡ g.saved → l.status ≡ check_status outcome → Does g words l
+      → IfErr outcome (λ fault. Prints (fault_line fault) g.messages l.messages) → SavesNothing g l → l.status ≡ check_status outcome → Does g words l
   debugs : (o : DebugOptions) (end : Option Fault) → Asks words (command.Debug o) → Debugs g.files g.typed o g.output l.output g.failures l.failures end
-      → l.saved ≡ g.saved → l.status ≡ status_after end → Does g words l
+      → Reports g.messages l.messages end → SavesNothing g l → l.status ≡ status_after end → Does g words l
   assembles : (o : AsmOptions) (end : Option Fault) → Asks words (command.Asm o) → Assembles g.files o g.saved l.saved g.failed_saves l.failed_saves end
-      → Keeps g.output l.output → l.status ≡ status_after end → Does g words l
+      → Reports g.messages l.messages end → IsSilent g l → l.status ≡ status_after end → Does g words l
   disassembles : (path : Bor (List ℕ)) (end : Option Fault) → Asks words (command.Disasm path) → Disassembles g.files path.now g.output l.output g.failures l.failures end
-      → l.saved ≡ g.saved → l.status ≡ status_after end → Does g words l
+      → Reports g.messages l.messages end → SavesNothing g l → l.status ≡ status_after end → Does g words l
 
 -- the exit status of the program over files and streams of which nothing is known
 pub record EndsWith (words : List Text) (status : ℕ) : Type 0 where

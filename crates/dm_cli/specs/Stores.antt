@@ -7,6 +7,7 @@ use Rattle.dm_cli.specs.Names.{last_part}
 use Rattle.dm_machine.specs.Start.{IsNew, IsLoaded}
 use Rattle.dm_proc.specs.Programs.{IsName, has_name}
 use Rattle.dm_pool.specs.declared.sizes.Sizes.{Sizes}
+use Rattle.dm_pool.specs.Stored.{IsTooLarge}
 use Rattle.dm_state.specs.State.{State}
 
 -- all bytes of a file or of standard input, at most 16 MiB, where it is known which it has
@@ -39,9 +40,10 @@ pub data IsFaultOf (known : Option (List ℕ)) (store : List (List ℕ × List �
   twice : (bytes : List ℕ) → IsRead known bytes → IsName (last_part path) → has_name store (last_part path) ≡ true → IsFaultOf known store path NameTwice
   no_memory : IsFaultOf known store path OutOfMemory
 
--- a new machine of these sizes, with upper memory in its arena or not, with no variables, over a store and an input,
+-- a new machine of these sizes, which are not too large, with upper memory in its arena or not, with no variables, over a store and an input,
 -- and its first program loaded with a tail of at most 126 bytes
 pub record IsBegun (store : List (List ℕ × List ℕ)) (input : List ℕ) (sizes : Sizes) (upper : Bool) (paths : List (List ℕ)) (tail : List ℕ) (m : State) : Type 0 where
+  pub small : ¬ IsTooLarge sizes
   pub fresh : State
   pub new : IsNew sizes [] upper store input fresh
   pub first : List ℕ

@@ -1,5 +1,5 @@
 //! `dm check`: a run whose findings are reported on standard error.
-ghost use Rattle.std.specs.Prelude.{◌≡◌, ◌++◌, OnOk};
+ghost use Rattle.std.specs.Prelude.{◌≡◌, ◌++◌, OnErr, OnOk};
 ghost use Rattle.dm_reports.specs.Reports.{report_text};
 ghost use Rattle.dm_cli.specs.Checking.{Checks, checked_status};
 ghost use Rattle.dm_cli.specs.Messages.{stop_text};
@@ -49,8 +49,9 @@ pub(crate) fn check<'a, F: Storage, I: Read + Drop, W: Out, E: Out>(
     out: &mut W,
     error: &mut E,
 ) -> Result<u8, Fault<'a>>
-    ensures { Checks (F.contents storage.now) (I.remaining input) options.now (W.taken out.old) (W.taken out.new) (W.failures out.old) (W.failures out.new)
+    ensures does { Checks (F.contents storage.now) (I.remaining input) options.now (W.taken out.old) (W.taken out.new) (W.failures out.old) (W.failures out.new)
         (record { bytes = E.taken error.old; failures = E.failures error.old }) (record { bytes = E.taken error.new; failures = E.failures error.new }) result }
+    ensures silent { OnErr result (error.new ≡ error.old) }
 {
     let mut machine = loaded(alloc, storage, options, input)?;
     let Ok((stop, report)) = check_run(alloc, &mut machine, options.steps) else {

@@ -1,7 +1,8 @@
 //! The commands of `dm`, with their fault texts and statuses.
-ghost use Rattle.std.specs.Prelude.{◌≡◌, ◌⊎◌, IfOk, OnOk, map};
+ghost use Rattle.std.specs.Prelude.{◌≡◌, ◌⊎◌, IfErr, OnOk, map};
 ghost use Rattle.dm_cli.specs.Checking.{check_status};
-ghost use Rattle.dm_cli.specs.Messages.{Prints, stop_text};
+ghost use Rattle.dm_cli.specs.Faults.{fault_line};
+ghost use Rattle.dm_cli.specs.Messages.{Prints, Reports, outcome_text};
 ghost use Rattle.dm_cli.specs.Program.{Does, Runs};
 ghost use Rattle.dm_cli.specs.Statuses.{status_after, status_of, stop_status};
 ghost use Rattle.dm_cli.specs.inner.Statuses.{end_of};
@@ -12,7 +13,7 @@ use crate::debugging::debug;
 use crate::fault::Fault;
 use crate::files::Storage;
 use crate::loading::loaded;
-use crate::messages::{Messages, print, stop_line};
+use crate::messages::{Messages, print, print_fault, stop_line};
 use crate::output::run_program;
 use dm_machine::{Out, Stop};
 use dm_options::command_line::{MachineOptions, Options, OptionsError};
@@ -59,9 +60,11 @@ pub(crate) fn status_of_stop(stop: Stop) -> u8
 
 /// Reports a fault, and returns its status. If the report cannot be written, the status is the same.
 fn report_fault<E: Out>(fault: &Fault<'_>, error: &mut E) -> u8
-    ensures { result ≡ 126 }
+    ensures status { result ≡ 126 }
+    ensures line { Prints (fault_line fault.now) (record { bytes = E.taken error.old; failures = E.failures error.old })
+        (record { bytes = E.taken error.new; failures = E.failures error.new }) }
 {
-    let _ = writeln!(Messages::new(error), "dm: {fault}");
+    print_fault(fault, error);
     FAULT
 }
 
@@ -69,8 +72,8 @@ fn report_fault<E: Out>(fault: &Fault<'_>, error: &mut E) -> u8
 /// status is the same.
 fn report<E: Out>(outcome: Result<Stop, Fault<'_>>, error: &mut E) -> u8
     ensures status { result ≡ status_of outcome.entry }
-    ensures line { IfOk outcome.entry (λ stop. Prints (stop_text stop) (record { bytes = E.taken error.old; failures = E.failures error.old })
-        (record { bytes = E.taken error.new; failures = E.failures error.new })) }
+    ensures line { Prints (outcome_text outcome.entry) (record { bytes = E.taken error.old; failures = E.failures error.old })
+        (record { bytes = E.taken error.new; failures = E.failures error.new }) }
 {
     match outcome {
         Ok(stop) => {
@@ -86,6 +89,8 @@ fn report<E: Out>(outcome: Result<Stop, Fault<'_>>, error: &mut E) -> u8
 fn concluded<E: Out>(outcome: Result<u8, Fault<'_>>, error: &mut E) -> u8
     ensures status { result ≡ check_status outcome.entry }
     ensures ok { OnOk outcome.entry (error.new ≡ error.old) }
+    ensures fault { IfErr outcome.entry (λ fault. Prints (fault_line fault) (record { bytes = E.taken error.old; failures = E.failures error.old })
+        (record { bytes = E.taken error.new; failures = E.failures error.new })) }
 {
     match outcome {
         Ok(status) => status,
@@ -96,7 +101,9 @@ fn concluded<E: Out>(outcome: Result<u8, Fault<'_>>, error: &mut E) -> u8
 /// Reports the fault of a command, if there is one, and returns the status. If the report cannot be written, the status
 /// is the same.
 fn told<E: Out>(outcome: Result<(), Fault<'_>>, error: &mut E) -> u8
-    ensures { result ≡ status_after (end_of outcome.entry) }
+    ensures status { result ≡ status_after (end_of outcome.entry) }
+    ensures line { Reports (record { bytes = E.taken error.old; failures = E.failures error.old })
+        (record { bytes = E.taken error.new; failures = E.failures error.new }) (end_of outcome.entry) }
 {
     match outcome {
         Ok(()) => 0,

@@ -3,42 +3,25 @@ ghost use Rattle.std.specs.Prelude.{◌≡◌};
 
 use dm_asm::Refusal;
 use dm_machine::{AddError, LoadError, NewError};
-use thiserror::Error;
 
-/// A fault of a command. Its text is printed after `dm: `, and the status is 126.
-#[derive(Clone, Copy, Debug, PartialEq, Eq, Error)]
+/// A fault of a command. `report_fault` prints it, and the status is 126.
+#[derive(Clone, Copy, Debug, PartialEq, Eq)]
 pub(crate) enum Fault<'a> {
-    #[error("cannot read {0}")]
     CannotRead(&'a str),
-    #[error("cannot write {0}")]
     CannotWrite(&'a str),
-    #[error("not found")]
     NotFound,
-    #[error("bad format")]
     BadFormat,
-    #[error("short")]
     Short,
-    #[error("too large")]
     TooLarge,
-    #[error("tail too long")]
     TailTooLong,
-    #[error("name too long")]
     NameTooLong,
-    #[error("name twice")]
     NameTwice,
-    #[error("input too long")]
     InputTooLong,
-    #[error("too long")]
     TooLong,
-    #[error("line {0}: syntax")]
     Syntax(usize),
-    #[error("line {0}: unknown")]
     Unknown(usize),
-    #[error("line {0}: range")]
     Range(usize),
-    #[error("line {0}: twice")]
     Twice(usize),
-    #[error("out of memory")]
     OutOfMemory,
 }
 

@@ -1,9 +1,12 @@
 //! What `dm` prints on standard error.
-ghost use Rattle.std.specs.Prelude.{◌≡◌};
+ghost use Rattle.std.specs.Prelude.{◌≡◌, ◌++◌, codes, decimal};
+ghost use Rattle.dm_cli.specs.Faults.{fault_line};
 ghost use Rattle.dm_cli.specs.Messages.{Prints, stop_text};
 
+use crate::fault::Fault;
 use dm_machine::{Out, Stop};
 use dm_out::write_all;
+use itoa::Buffer;
 use std::io;
 use std::io::{ErrorKind, Write};
 
@@ -47,6 +50,54 @@ pub(crate) fn stop_line(stop: Stop) -> &'static [u8]
         Stop::InputEnded => b"stopped: input ended\n",
         Stop::Destroyed => b"stopped: destroyed\n",
         Stop::Memory => b"stopped: memory\n",
+    }
+}
+
+/// Prints three texts, one after the other. If a write fails, the rest of them is lost.
+fn print_each<E: Out>(error: &mut E, first: &[u8], second: &[u8], third: &[u8])
+    ensures { Prints (first.now ++ second.now ++ third.now) (record { bytes = E.taken error.old; failures = E.failures error.old })
+        (record { bytes = E.taken error.new; failures = E.failures error.new }) }
+{
+    if let Err(_) = write_all(error, first) {
+        return;
+    }
+    if let Err(_) = write_all(error, second) {
+        return;
+    }
+    print(error, third);
+}
+
+/// Prints a fault of a line of a text.
+fn print_line_fault<E: Out>(error: &mut E, line: usize, fault: &[u8])
+    ensures { Prints (codes "dm: line " ++ decimal line ++ fault.now) (record { bytes = E.taken error.old; failures = E.failures error.old })
+        (record { bytes = E.taken error.new; failures = E.failures error.new }) }
+{
+    let mut digits = Buffer::new();
+    print_each(error, b"dm: line ", digits.format(line).as_bytes(), fault);
+}
+
+/// Prints a fault, after `dm: `. If a write fails, the rest of the line is lost.
+pub(crate) fn print_fault<E: Out>(fault: &Fault<'_>, error: &mut E)
+    ensures { Prints (fault_line fault.now) (record { bytes = E.taken error.old; failures = E.failures error.old })
+        (record { bytes = E.taken error.new; failures = E.failures error.new }) }
+{
+    match fault {
+        Fault::CannotRead(name) => print_each(error, b"dm: cannot read ", name.as_bytes(), b"\n"),
+        Fault::CannotWrite(name) => print_each(error, b"dm: cannot write ", name.as_bytes(), b"\n"),
+        Fault::NotFound => print(error, b"dm: not found\n"),
+        Fault::BadFormat => print(error, b"dm: bad format\n"),
+        Fault::Short => print(error, b"dm: short\n"),
+        Fault::TooLarge => print(error, b"dm: too large\n"),
+        Fault::TailTooLong => print(error, b"dm: tail too long\n"),
+        Fault::NameTooLong => print(error, b"dm: name too long\n"),
+        Fault::NameTwice => print(error, b"dm: name twice\n"),
+        Fault::InputTooLong => print(error, b"dm: input too long\n"),
+        Fault::TooLong => print(error, b"dm: too long\n"),
+        Fault::Syntax(line) => print_line_fault(error, *line, b": syntax\n"),
+        Fault::Unknown(line) => print_line_fault(error, *line, b": unknown\n"),
+        Fault::Range(line) => print_line_fault(error, *line, b": range\n"),
+        Fault::Twice(line) => print_line_fault(error, *line, b": twice\n"),
+        Fault::OutOfMemory => print(error, b"dm: out of memory\n"),
     }
 }
 

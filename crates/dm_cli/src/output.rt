@@ -30,6 +30,7 @@ pub fn run_program<W: Out>(
     requires { HasProgram machine.old }
     ensures run { IfOk result (λ stop. IsRun machine.old steps stop machine.new) }
     ensures ok { OnOk result (Appends (W.taken out.old) (W.taken out.new) machine.new.console.output) }
+    ensures no_failure { OnOk result (W.failures out.new ≡ W.failures out.old) }
     ensures ran { OnErr result ((stop : Stop) × IsRun machine.old steps stop machine.new) }
     ensures err { OnErr result (HasFailed (W.failures out.old) (W.failures out.new)) }
     ensures part { OnErr result (AppendsPart (W.taken out.old) (W.taken out.new) machine.new.console.output) }

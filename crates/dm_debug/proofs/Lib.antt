@@ -1,3 +1,4 @@
+pub mod Entered
 pub mod Traced
 pub mod Performed
 mod OneAnswer

@@ -1,7 +1,8 @@
 -- What the commands do that change the machine, and what they tell: runs, single steps, and bytes that are written.
 -- Source: MS-DOS User's Reference, "DEBUG" (Go, Trace, Enter). The words are this machine's own.
-use Rattle.std.specs.Prelude.{◌≡◌, ℕ, ◌+◌, ◌%◌, ◌<◌, ◌≤◌, List, [], ◌∷◌, ◌++◌, codes, Option, Some, None}
-use Rattle.dm_space.specs.Memory.{Memory, linear, poke}
+use Rattle.std.specs.Prelude.{◌≡◌, ℕ, ◌+◌, ◌<◌, ◌≤◌, List, [], ◌∷◌, ◌++◌, codes, Option, Some, None}
+use Rattle.dm_space.specs.Memory.{Memory}
+use Rattle.dm_space.specs.Buffers.{with_bytes}
 use Rattle.dm_state.specs.declared.stop.Stop.{Stop}
 use Rattle.dm_state.specs.declared.stop.Stop.TheVariants as stop
 use Rattle.dm_state.specs.State.{State}
@@ -56,5 +57,4 @@ pub data TracesPart (s : State) (n : ℕ) (t : State) : Type 0 where
 
 -- the bytes are written upwards from segment:offset on; offsets wrap
 abbrev pub entered : Memory → ℕ → ℕ → List ℕ → Memory
-entered m segment offset [] = m
-entered m segment offset (byte ∷ bytes) = entered (poke m (linear m.a20 segment offset) byte) segment ((offset + 1) % 65536) bytes
+entered m segment offset bytes = with_bytes m segment offset bytes

@@ -3,6 +3,7 @@
 use Rattle.std.specs.Prelude.{◌≡◌, ℕ, Bool, true, false, not, nat_le, if◌then◌else◌, List, [], ◌∷◌, ◌++◌, length, codes, Option, Some, None}
 use Rattle.std.specs.Io.KnownBytes.{Appends}
 use Rattle.dm_out.specs.Out.{AppendsPart}
+use Rattle.dm_space.specs.Buffers.{with_bytes}
 use Rattle.dm_state.specs.declared.stop.Stop.{Stop}
 use Rattle.dm_state.specs.State.{State}
 use Rattle.dm_machine.specs.declared.until.Breakpoint.{Breakpoint}
@@ -19,7 +20,7 @@ use Rattle.dm_views.specs.Pages.{pages_text}
 use Rattle.dm_views.specs.Extended.{extended_text}
 use Rattle.dm_debug.specs.Debugged.{Debugged}
 use Rattle.dm_debug.specs.Points.{is_set, with_point, without_point, points_text}
-use Rattle.dm_debug.specs.Runs.{entered, GoesTo, IsTrace, TracesPart}
+use Rattle.dm_debug.specs.Runs.{GoesTo, IsTrace, TracesPart}
 
 -- no breakpoints, over a machine
 abbrev pub new_session : State → Debugged
@@ -37,7 +38,7 @@ abbrev pub with_points : Debugged → List Breakpoint → Debugged
 with_points s points = record s { points = points }
 
 abbrev pub with_entered : Debugged → Address → List ℕ → Debugged
-with_entered s a bytes = with_machine s (record s.machine { memory = entered s.machine.memory a.segment a.offset bytes })
+with_entered s a bytes = with_machine s (record s.machine { memory = with_bytes s.machine.memory a.segment a.offset bytes })
 
 -- a command that changes nothing: a listing of one state, or what the console wrote
 pub data Prints (s : Debugged) : Command → List ℕ → Type 0 where

@@ -1,10 +1,11 @@
 //! What the commands do that change the machine: runs, single steps, and bytes that are written.
 
 ghost use Rattle.std.specs.Prelude.{◌≡◌, ◌≤◌, ◌++◌, List, ℕ, Option, OnOk, OnErr};
+ghost use Rattle.dm_space.specs.Buffers.{with_bytes};
 ghost use Rattle.dm_state.specs.declared.stop.Stop.{Stop};
 ghost use Rattle.dm_state.specs.State.{HasProgram};
 ghost use Rattle.dm_machine.specs.Until.{RunsUntil};
-ghost use Rattle.dm_debug.specs.Runs.{stop_text, stop_line, entered, GoesTo, Traces, IsTrace, TracesPart};
+ghost use Rattle.dm_debug.specs.Runs.{stop_text, stop_line, GoesTo, Traces, IsTrace, TracesPart};
 
 use crate::listings::put_machine;
 use dm_machine::{Breakpoint, Machine, Stop};
@@ -74,7 +75,7 @@ pub(crate) fn trace(machine: &mut Machine, n: u16, out: &mut Vec<u8>) -> Result<
 /// Writes bytes upwards from an address on; offsets wrap.
 pub(crate) fn enter(machine: &mut Machine, segment: u16, offset: u16, bytes: &[u8])
     requires { HasProgram machine.old }
-    ensures { machine.new ≡ record machine.old { memory = entered machine.old.memory segment offset bytes.now } }
+    ensures { machine.new ≡ record machine.old { memory = with_bytes machine.old.memory segment offset bytes.now } }
 {
     let mut at = offset;
     for byte in bytes {

@@ -1,6 +1,7 @@
 //! A session: a machine, its breakpoints, and the commands that are asked of them.
 
 ghost use Rattle.std.specs.Prelude.{◌≡◌, ◌++◌, ◌↔◌, ◌⊎◌, [], true, false, OnOk, OnErr, IsErrOf};
+ghost use Rattle.dm_space.specs.Buffers.{with_bytes};
 ghost use Rattle.dm_state.specs.State.{HasProgram};
 ghost use Rattle.dm_out.specs.Out.{HasFailed};
 ghost use Rattle.dm_command.specs.declared.command.Command.TheVariants.{Break};
@@ -8,7 +9,6 @@ ghost use Rattle.dm_command.specs.Commands.{command_of};
 ghost use Rattle.dm_machine.specs.Run.{IsRun};
 ghost use Rattle.dm_machine.specs.Until.{RunsUntil};
 ghost use Rattle.dm_debug.specs.Points.{with_point, without_point};
-ghost use Rattle.dm_debug.specs.Runs.{entered};
 ghost use Rattle.dm_debug.specs.Sessions.{new_session, done, with_machine, with_points, with_entered, Does, DoesPart, clears_none, is_over, is_syntax, is_full, IsAnswered, IsCutOff, IsPartlyWritten};
 
 use crate::listings::{arena, dump, extended, output, pages, put_machine, unassemble};
@@ -100,7 +100,7 @@ impl Session {
     /// Writes bytes upwards from segment:offset on; offsets wrap in their segment. Bytes of the ROM, and where there is
     /// no memory, stay.
     pub fn write(&mut self, segment: u16, offset: u16, bytes: &[u8])
-        ensures { self.new ≡ with_machine self.old (record self.old.machine { memory = entered self.old.machine.memory segment offset bytes.now }) }
+        ensures { self.new ≡ with_machine self.old (record self.old.machine { memory = with_bytes self.old.machine.memory segment offset bytes.now }) }
     {
         enter(&mut self.machine, segment, offset, bytes);
     }

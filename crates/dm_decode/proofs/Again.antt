@@ -54,7 +54,7 @@ fields_again m d rest h =
 operand_again : (k : Kind) (m : Fields) (o : Operand) (d rest : List ℕ) → Fills k m o d → operand_at k m (d ++ rest) ≡ Some (o, rest)
 unfolding operand_at
 operand_again is.Nothing m o d rest h = rw (h.0, h.1) refl
-operand_again (is.Place w) m o d rest h = rw (h.0, h.1) refl
+operand_again (is.RegisterOrMemory w) m o d rest h = rw (h.0, h.1) refl
 operand_again (is.Register w) m o d rest h = rw (h.0, h.1) refl
 operand_again is.Memory m o d rest h = rw (h.1, h.2, h.3) refl
 operand_again is.ByteValue m o d rest h = rw (h.2, h.3) refl

@@ -128,7 +128,7 @@ module _ (m : Fields) (bytes : List ℕ) (x : Operand × List ℕ) (h : IsBytes 
 operand_found : (k : Kind) (m : Fields) (bytes : List ℕ) (x : Operand × List ℕ) → IsBytes bytes → operand_at k m bytes ≡ Some x → OperandFound k m bytes x
 unfolding operand_at
 operand_found is.Nothing m bytes x h e = empty m bytes x h is.Nothing _ (refl, refl) e
-operand_found (is.Place w) m bytes x h e = empty m bytes x h (is.Place w) _ (refl, refl) e
+operand_found (is.RegisterOrMemory w) m bytes x h e = empty m bytes x h (is.RegisterOrMemory w) _ (refl, refl) e
 operand_found (is.Register w) m bytes x h e = empty m bytes x h (is.Register w) _ (refl, refl) e
 operand_found is.Memory m bytes x h e =
     let a = bind_some m.memory _ x e in

@@ -102,7 +102,7 @@ pub fn operand_of(kind: Kind, fields: Fields, bytes: &[u8]) -> Option<(Operand, 
 {
     match kind {
         Kind::Nothing => Some((Operand::Nothing, bytes)),
-        Kind::Place(width) => Some((place(width, fields), bytes)),
+        Kind::RegisterOrMemory(width) => Some((place(width, fields), bytes)),
         Kind::Register(width) => Some((named(width, fields.register), bytes)),
         Kind::Memory => {
             let address = fields.memory?;

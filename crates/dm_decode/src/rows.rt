@@ -16,7 +16,7 @@ fn needs_fields(kind: Kind) -> bool
 {
     matches!(
         kind,
-        Kind::Place(_) | Kind::Register(_) | Kind::Memory | Kind::Escape(_)
+        Kind::RegisterOrMemory(_) | Kind::Register(_) | Kind::Memory | Kind::Escape(_)
     )
 }
 

@@ -1,6 +1,7 @@
 -- The drivers, and the addresses where they act, which are this machine's own. Interrupt vector 67h points to the
 -- expanded memory driver, vector 2Fh to the multiplex handler, which returns the address of the extended memory driver.
 use Rattle.std.specs.Prelude.{◌==◌, if◌then◌else◌, Option, Some, None}
+use Rattle.dm_space.specs.EntryPoints.{entry_segment, expanded_memory_segment, multiplex_offset, expanded_memory_offset, extended_memory_offset}
 use Rattle.dm_cpu.specs.declared.cpu.Cpu.{Cpu}
 use Rattle.dm_ems_calls.specs.Caller as expanded
 use Rattle.dm_ems_calls.specs.Functions as expanded_memory
@@ -14,8 +15,8 @@ use Rattle.dm_drivers.specs.Multiplex.{told}
 -- the driver that acts at CS:IP; another segment and offset of the same address is no entry point
 unfoldable pub driver_at : Cpu → Option Driver
 driver_at c =
-    if c.cs == 0xF100 then (if c.ip == 0x0020 then Some ExpandedMemory else None) else
-    if c.cs == 0xF000 then (if c.ip == 0x00BC then Some Multiplex else if c.ip == 0x0400 then Some ExtendedMemory else None) else None
+    if c.cs == expanded_memory_segment then (if c.ip == expanded_memory_offset then Some ExpandedMemory else None) else
+    if c.cs == entry_segment then (if c.ip == multiplex_offset then Some Multiplex else if c.ip == extended_memory_offset then Some ExtendedMemory else None) else None
 
 -- what a driver acts on: the caller's registers, the driver's tables and memory
 abbrev pub expanded_caller : State → expanded.Caller

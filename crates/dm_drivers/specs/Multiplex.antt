@@ -1,5 +1,6 @@
 -- INT 2Fh (XMS 3.0, section "Accessing the extended memory manager").
 use Rattle.std.specs.Prelude.{◌==◌, if◌then◌else◌}
+use Rattle.dm_space.specs.EntryPoints.{entry_segment, extended_memory_offset}
 use Rattle.dm_ins.specs.declared.operand.ByteRegister.TheVariants.{Al}
 use Rattle.dm_cpu.specs.declared.cpu.Cpu.{Cpu}
 use Rattle.dm_cpu.specs.Cpu.{with_byte}
@@ -8,4 +9,4 @@ use Rattle.dm_cpu.specs.Cpu.{with_byte}
 unfoldable pub told : Cpu → Cpu
 told cpu =
     if cpu.ax == 0x4300 then with_byte cpu Al 0x80 else
-    if cpu.ax == 0x4310 then record cpu { es = 0xF000; bx = 0x0400 } else cpu
+    if cpu.ax == 0x4310 then record cpu { es = entry_segment; bx = extended_memory_offset } else cpu

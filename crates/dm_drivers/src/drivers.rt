@@ -6,6 +6,10 @@ ghost use Rattle.dm_drivers.specs.Drivers.{driver_at, driven, acted, given_back}
 use crate::multiplex::multiplex_call;
 use dm_cpu::Cpu;
 use dm_ems_calls::expanded_memory_call;
+use dm_space::entry_points::{
+    ENTRY_SEGMENT, EXPANDED_MEMORY_OFFSET, EXPANDED_MEMORY_SEGMENT, EXTENDED_MEMORY_OFFSET,
+    MULTIPLEX_OFFSET,
+};
 use dm_state::Parts;
 use dm_xms_calls::extended_memory_call;
 
@@ -26,9 +30,9 @@ pub fn driver_at(cpu: &Cpu) -> Option<Driver>
     ensures { result ≡ driver_at cpu.now }
 {
     match (cpu.cs, cpu.ip) {
-        (0xF100, 0x0020) => Some(Driver::ExpandedMemory),
-        (0xF000, 0x00BC) => Some(Driver::Multiplex),
-        (0xF000, 0x0400) => Some(Driver::ExtendedMemory),
+        (EXPANDED_MEMORY_SEGMENT, EXPANDED_MEMORY_OFFSET) => Some(Driver::ExpandedMemory),
+        (ENTRY_SEGMENT, MULTIPLEX_OFFSET) => Some(Driver::Multiplex),
+        (ENTRY_SEGMENT, EXTENDED_MEMORY_OFFSET) => Some(Driver::ExtendedMemory),
         _ => None,
     }
 }

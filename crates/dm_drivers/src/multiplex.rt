@@ -4,6 +4,7 @@ ghost use Rattle.dm_drivers.specs.Multiplex.{told};
 
 use dm_cpu::Cpu;
 use dm_ins::ByteRegister;
+use dm_space::entry_points::{ENTRY_SEGMENT, EXTENDED_MEMORY_OFFSET};
 
 /// AX where a program asks whether extended memory is there.
 const INSTALLED: u16 = 0x4300;
@@ -14,12 +15,6 @@ const ENTRY: u16 = 0x4310;
 /// AL where extended memory is there.
 const IS_INSTALLED: u8 = 0x80;
 
-/// The segment at which extended memory is called.
-const ENTRY_SEGMENT: u16 = 0xF000;
-
-/// The offset at which it is called.
-const ENTRY_OFFSET: u16 = 0x0400;
-
 /// INT 2Fh: for AX = 4300h AL becomes 80h, for 4310h ES:BX becomes F000:0400; else nothing changes.
 #[tactic(auto, unfolding(crate::specs::Multiplex::told))]
 pub(crate) fn multiplex_call(cpu: &mut Cpu)
@@ -29,7 +24,7 @@ pub(crate) fn multiplex_call(cpu: &mut Cpu)
         INSTALLED => cpu.set_byte(ByteRegister::Al, IS_INSTALLED),
         ENTRY => {
             cpu.es = ENTRY_SEGMENT;
-            cpu.bx = ENTRY_OFFSET;
+            cpu.bx = EXTENDED_MEMORY_OFFSET;
         }
         _ => {}
     }

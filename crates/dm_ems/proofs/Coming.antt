@@ -7,7 +7,7 @@ use Rattle.std.proofs.lemmas.Option.{none-some}
 use Rattle.std.proofs.lemmas.List.{append_assoc, append-nil}
 use Rattle.std.proofs.lemmas.List.Quantifiers.{position-Some}
 use Rattle.std.proofs.lemmas.List.Sums.{sum_by-cons}
-use Rattle.dm_pool.specs.declared.places.Place.{Place}
+use Rattle.dm_pool.specs.declared.extent.Extent.{Extent}
 use Rattle.dm_pool.specs.Blocks.{Blocks, IsLive, zeros, taken}
 use Rattle.dm_pool.specs.Gaps.{gaps, count_fitting}
 use Rattle.dm_pool.specs.Laws.{free_numbers}
@@ -106,11 +106,11 @@ grows x h (suc n) l u more fits =
 
 -- ---- numbers
 
-free_or_not : (ps : List (Option Place)) → count_by is_none ps + count_by is_some ps ≡ length ps
+free_or_not : (ps : List (Option Extent)) → count_by is_none ps + count_by is_some ps ≡ length ps
 free_or_not [] = refl
 free_or_not (p ∷ ps) =
-    let a = sum_by-cons (λ (o : Option Place). cond (is_none o) 1 0) p ps in
-    let b = sum_by-cons (λ (o : Option Place). cond (is_some o) 1 0) p ps in
+    let a = sum_by-cons (λ (o : Option Extent). cond (is_none o) 1 0) p ps in
+    let b = sum_by-cons (λ (o : Option Extent). cond (is_some o) 1 0) p ps in
     let rest = free_or_not ps in
     elim p as (λ o. count_by is_none (o ∷ ps) ≡ cond (is_none o) 1 0 + count_by is_none ps → count_by is_some (o ∷ ps) ≡ cond (is_some o) 1 0 + count_by is_some ps → count_by is_none (o ∷ ps) + count_by is_some (o ∷ ps) ≡ suc (length ps)) [
       | None ↦ λ c d. omega (arith, c, d, rest)

@@ -5,7 +5,7 @@ use Rattle.std.proofs.lemmas.List.{get_or-set_same}
 use Rattle.std.proofs.lemmas.List.Quantifiers.{position-Some}
 use Rattle.std.proofs.lemmas.Option.{none-some}
 use Rattle.std.proofs.lemmas.List.{length-replicate}
-use Rattle.dm_pool.specs.declared.places.Place.{Place}
+use Rattle.dm_pool.specs.declared.extent.Extent.{Extent}
 use Rattle.dm_pool.specs.Blocks.{no_blocks}
 use Rattle.dm_pool.specs.FreeList.{AreBased}
 use Rattle.dm_pool.proofs.Blocks.{no_place}
@@ -146,7 +146,7 @@ calls_keep = record {
 -- ---- writes
 
 page_kept : (m n : Memory) (b : ℕ) → IsShaped m n → IsPage m b → IsPage n b
-page_kept m n b s p = ((p.0.0, (p.0.1.0, ap (λ (xs : List (Option Place)). get_or xs b None) s.places ∙ p.0.1.1)), s.page_sizes b ∙ p.1)
+page_kept m n b s p = ((p.0.0, (p.0.1.0, ap (λ (xs : List (Option Extent)). get_or xs b None) s.places ∙ p.0.1.1)), s.page_sizes b ∙ p.1)
 
 pub writes_keep : WritesKeepConsistency
 writes_keep x m s l = record {
@@ -181,7 +181,7 @@ first_saved n (suc k) = none_saved n k
 
 sizes : (units : ℕ) → (length (no_blocks units).places ≡ 576) × (length (no_blocks units).contents ≡ 576)
 unfolding no_blocks
-sizes units = (length-replicate {A = Option Place} 576 None, length-replicate {A = List ℕ} 576 [])
+sizes units = (length-replicate {A = Option Extent} 576 None, length-replicate {A = List ℕ} 576 [])
 
 none_based : (units : ℕ) → AreBased (no_blocks units).places
 unfolding no_blocks

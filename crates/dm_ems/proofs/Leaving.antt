@@ -4,7 +4,7 @@ use Rattle.std.specs.Prelude.{Result, Ok, Err, ◌==◌, nat_lt, nat_le, is_some
 use Rattle.std.proofs.lemmas.Bool.{cases_lt}
 use Rattle.std.proofs.lemmas.List.{get_or-set_other}
 use Rattle.std.proofs.lemmas.Option.{none-some}
-use Rattle.dm_pool.specs.declared.places.Place.{Place}
+use Rattle.dm_pool.specs.declared.extent.Extent.{Extent}
 use Rattle.dm_pool.specs.Blocks.{Blocks, IsLive, taken}
 use Rattle.dm_space.specs.Memory.{Memory}
 use Rattle.dm_space.specs.Places.{IsShaped}
@@ -41,11 +41,11 @@ leaves_windows x windows = record { blocks = λ b n o. record { live = o.live; s
 pub leaves_shaped : (x : Expanded) (m : Memory) → IsShaped x.memory m → LeavesOutside x (with_memory x m)
 leaves_shaped x m s = record {
   blocks = λ b n o. record {
-    live = (o.live.0, (o.live.1.0, ap (λ (xs : List (Option Place)). get_or xs b None) s.places ∙ o.live.1.1));
+    live = (o.live.0, (o.live.1.0, ap (λ (xs : List (Option Extent)). get_or xs b None) s.places ∙ o.live.1.1));
     size = s.page_sizes b ∙ o.size;
     apart = o.apart;
   };
-  others = λ b live none. ((live.0, (live.1.0, ap (λ (xs : List (Option Place)). get_or xs b None) (sym s.places) ∙ live.1.1)), none);
+  others = λ b live none. ((live.0, (live.1.0, ap (λ (xs : List (Option Extent)). get_or xs b None) (sym s.places) ∙ live.1.1)), none);
   line = s.a20;
 }
 
@@ -95,7 +95,7 @@ appended_leaves x h (suc n) = leaves_then x (appended x h n) (appended_page (app
 
 -- ---- a page goes
 
-gone : (ps : List (Option Place)) (k : ℕ) → get_or (set ps k None) k None ≡ None
+gone : (ps : List (Option Extent)) (k : ℕ) → get_or (set ps k None) k None ≡ None
 gone [] k = refl
 gone (p ∷ ps) zero = refl
 gone (p ∷ ps) (suc k) = gone ps k

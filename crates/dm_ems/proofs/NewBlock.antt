@@ -2,7 +2,7 @@
 use Rattle.std.proofs.Common.{◌≡◌, ◌≢◌, ℕ, ◌*◌, ◌<◌, [], Option, Some, None, length, get_or, refl, ◌∙◌, ap, subst}
 use Rattle.std.proofs.lemmas.List.{get_or-set_same, get_or-set_other, length-set, length-replicate}
 use Rattle.std.proofs.lemmas.Option.{none-some, same_Some}
-use Rattle.dm_pool.specs.declared.places.Place.{Place}
+use Rattle.dm_pool.specs.declared.extent.Extent.{Extent}
 use Rattle.dm_pool.specs.Gaps.{first_empty, lowest}
 use Rattle.dm_pool.specs.Blocks.{Blocks, placed, taken, with_block, zeros}
 use Rattle.dm_pool.proofs.Blocks.{vacant}
@@ -11,7 +11,7 @@ use Rattle.dm_pool.proofs.Blocks.{vacant}
 pub record IsNew (s : Blocks) (u i : ℕ) (t : Blocks) : Type 0 where
   pub free : get_or s.places i None ≡ None
   pub within : i < length s.places
-  pub place : Place
+  pub place : Extent
   pub at : get_or t.places i None ≡ Some place
   pub bytes : i < length s.contents → get_or t.contents i [] ≡ zeros u
   pub others : (j : ℕ) → j ≢ i → get_or t.places j None ≡ get_or s.places j None
@@ -19,7 +19,7 @@ pub record IsNew (s : Blocks) (u i : ℕ) (t : Blocks) : Type 0 where
   pub places : length t.places ≡ length s.places
   pub contents : length t.contents ≡ length s.contents
 
-new_block : (s : Blocks) (u i : ℕ) (b : Place) → (i < length s.places) × (get_or s.places i None ≡ None) → IsNew s u i (with_block s i b (zeros u))
+new_block : (s : Blocks) (u i : ℕ) (b : Extent) → (i < length s.places) × (get_or s.places i None ≡ None) → IsNew s u i (with_block s i b (zeros u))
 new_block s u i b v = record {
   free = v.1;
   within = v.0;

@@ -11,8 +11,8 @@ use Rattle.dm_ins.specs.declared.operand.Base.TheVariants.{BxSi}
 use Rattle.dm_ins.specs.declared.operand.Address.{Address}
 use Rattle.dm_ins.specs.declared.fields.Fields.{Fields}
 use Rattle.dm_ins.specs.declared.operand.Operand.{Operand}
-use Rattle.dm_ins.specs.declared.demand.Place.{Place}
-use Rattle.dm_ins.specs.declared.demand.Place.TheVariants as place
+use Rattle.dm_ins.specs.declared.demand.RegisterOrMemory.{RegisterOrMemory}
+use Rattle.dm_ins.specs.declared.demand.RegisterOrMemory.TheVariants as place
 use Rattle.dm_ins.specs.declared.demand.Data.TheVariants as data_is
 use Rattle.dm_ins.specs.declared.demand.Demand.{Demand}
 use Rattle.dm_ins.specs.declared.table.Kind.{Kind}
@@ -27,7 +27,7 @@ asks_for_register (is.Escape r) = true
 asks_for_register _ = false
 
 abbrev pub asks_for_place : Kind → Bool
-asks_for_place (is.Place w) = true
+asks_for_place (is.RegisterOrMemory w) = true
 asks_for_place is.Memory = true
 asks_for_place _ = false
 
@@ -35,7 +35,7 @@ abbrev pub asked : {A : Type 0} → Bool → A → Option A
 asked true x = Some x
 asked false x = None
 
-abbrev pub named_place : ℕ → Option Address → Place
+abbrev pub named_place : ℕ → Option Address → RegisterOrMemory
 named_place n None = place.Register n
 named_place n (Some a) = place.Memory a
 
@@ -104,7 +104,7 @@ signed_at : (n : ℕ) → n < 2 ^ 8 → as_signed (extended n) ≡ Some (asks_da
 signed_at n h = rw (extended_low n h) (rw (eq-eqb (extended n) (extended n) refl) refl)
 
 module _ (m : Fields) (register_fits : m.register < 8) (rm_fits : m.rm < 8) where
-  place_asked : (w : Width) (a : Option Address) (o : Operand) → o ≡ at_place w m.rm a → demand_of (is.Place w) o ≡ Some (asks_place (named_place m.rm a))
+  place_asked : (w : Width) (a : Option Address) (o : Operand) → o ≡ at_place w m.rm a → demand_of (is.RegisterOrMemory w) o ≡ Some (asks_place (named_place m.rm a))
   unfolding demand_of
   place_asked Byte None o e = rw (e, byte_number_at m.rm rm_fits) refl
   place_asked Word None o e = rw (e, word_number_at m.rm rm_fits) refl
@@ -113,7 +113,7 @@ module _ (m : Fields) (register_fits : m.register < 8) (rm_fits : m.rm < 8) wher
   pub operand_asks : (k : Kind) (o : Operand) (d : List ℕ) → Fills k m o d → Asked k m o d
   unfolding demand_of
   operand_asks is.Nothing o d h = record { demand = asks_data data_is.Nothing; is_demand = rw h.0 refl; register = refl; place = refl; tail = sym h.1 }
-  operand_asks (is.Place w) o d h = record { demand = asks_place (named_place m.rm m.memory); is_demand = place_asked w m.memory o h.0; register = refl; place = refl; tail = sym h.1 }
+  operand_asks (is.RegisterOrMemory w) o d h = record { demand = asks_place (named_place m.rm m.memory); is_demand = place_asked w m.memory o h.0; register = refl; place = refl; tail = sym h.1 }
   operand_asks (is.Register w) o d h = record { demand = asks_register m.register; is_demand = rw (h.0, numbered_at w m.register register_fits) refl; register = refl; place = refl; tail = sym h.1 }
   operand_asks is.Memory o d h = record { demand = asks_place (place.Memory h.0); is_demand = rw h.2 refl; register = refl; place = rw h.1 refl; tail = sym h.3 }
   operand_asks is.ByteValue o d h = record { demand = asks_data (data_is.Byte h.0); is_demand = rw h.2 refl; register = refl; place = refl; tail = sym h.3 }

@@ -169,7 +169,7 @@ row_short (Second c p) m d r h = rw h.2 (omega arith)
 
 part_short : (k : Kind) (m : Fields) (o : Operand) (d : List ℕ) → Fills k m o d → length d ≤ 4
 part_short is.Nothing m o d h = rw h.1 (omega arith)
-part_short (is.Place w) m o d h = rw h.1 (omega arith)
+part_short (is.RegisterOrMemory w) m o d h = rw h.1 (omega arith)
 part_short (is.Register w) m o d h = rw h.1 (omega arith)
 part_short is.Memory m o d h = rw h.3 (omega arith)
 part_short is.ByteValue m o d h = rw h.3 (omega arith)

@@ -3,7 +3,7 @@ use Rattle.std.proofs.Common.{◌≡◌, ℕ, ◌<◌, Bool, true, false, List, 
 use Rattle.std.specs.Prelude.{cond}
 use Rattle.dm_ins.specs.declared.fields.Fields.{Fields}
 use Rattle.dm_ins.specs.declared.action.Action.{Action}
-use Rattle.dm_ins.specs.declared.demand.Place.TheVariants as place
+use Rattle.dm_ins.specs.declared.demand.RegisterOrMemory.TheVariants as place
 use Rattle.dm_ins.specs.declared.demand.Demand.{Demand}
 use Rattle.dm_ins.specs.declared.fill.Choice.{Choice}
 use Rattle.dm_ins.specs.declared.table.Row.{Row}

@@ -64,7 +64,7 @@ at_place_fits w n (Some a) f = f
 
 operand_fits : (k : Kind) (m : Fields) (o : Operand) (d : List ℕ) → m.register < 8 → MemoryFits m.memory → Fills k m o d → OperandFits o
 operand_fits is.Nothing m o d lt f h = rw h.0 tt
-operand_fits (is.Place w) m o d lt f h = rw h.0 (at_place_fits w m.rm m.memory f)
+operand_fits (is.RegisterOrMemory w) m o d lt f h = rw h.0 (at_place_fits w m.rm m.memory f)
 operand_fits (is.Register w) m o d lt f h = rw h.0 (register_fits w m.register)
 operand_fits is.Memory m o d lt f h = rw h.2 (let g : MemoryFits (Some h.0) = subst MemoryFits h.1 f in g)
 operand_fits is.ByteValue m o d lt f h = rw h.2 h.1

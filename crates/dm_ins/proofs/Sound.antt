@@ -17,8 +17,8 @@ use Rattle.dm_ins.specs.declared.operand.Address.{Address}
 use Rattle.dm_ins.specs.declared.fields.Fields.{Fields}
 use Rattle.dm_ins.specs.declared.operand.Operand.{Operand}
 use Rattle.dm_ins.specs.declared.operand.Operand.TheVariants as operand
-use Rattle.dm_ins.specs.declared.demand.Place.{Place}
-use Rattle.dm_ins.specs.declared.demand.Place.TheVariants as place
+use Rattle.dm_ins.specs.declared.demand.RegisterOrMemory.{RegisterOrMemory}
+use Rattle.dm_ins.specs.declared.demand.RegisterOrMemory.TheVariants as place
 use Rattle.dm_ins.specs.declared.demand.Data.TheVariants as data_is
 use Rattle.dm_ins.specs.declared.demand.Demand.{Demand}
 use Rattle.dm_ins.specs.declared.table.Kind.{Kind}
@@ -121,20 +121,20 @@ module _ (m : Fields) (e : Demand) where
   unfolding demand_of
   operand_fills is.Nothing operand.Nothing f h r p = (refl, tail_is _ e (is_some (asks_data data_is.Nothing) e h))
   operand_fills is.Nothing _ f h r p = absurd cc
-  operand_fills (is.Place w) (operand.Memory v a) f h r p =
+  operand_fills (is.RegisterOrMemory w) (operand.Memory v a) f h r p =
       let c = chosen_true (same_width w v) (asks_place (place.Memory a)) e h in
       let q = place_memory m.rm m.memory a (ap (λ (x : Demand). x.place) c.1 ∙ p) in
       (rw (q, same_is w v c.0) refl, tail_is _ e c.1)
-  operand_fills (is.Place Byte) (operand.ByteRegister s) f h r p =
+  operand_fills (is.RegisterOrMemory Byte) (operand.ByteRegister s) f h r p =
       let c = is_some (asks_place (place.Register (byte_number s))) e h in
       let q = place_register m.rm m.memory (byte_number s) (ap (λ (x : Demand). x.place) c ∙ p) in
       (rw (q.0, q.1, byte_back s) refl, tail_is _ e c)
-  operand_fills (is.Place Word) (operand.WordRegister s) f h r p =
+  operand_fills (is.RegisterOrMemory Word) (operand.WordRegister s) f h r p =
       let c = is_some (asks_place (place.Register (word_number s))) e h in
       let q = place_register m.rm m.memory (word_number s) (ap (λ (x : Demand). x.place) c ∙ p) in
       (rw (q.0, q.1, word_back s) refl, tail_is _ e c)
-  operand_fills (is.Place Byte) _ f h r p = absurd cc
-  operand_fills (is.Place Word) _ f h r p = absurd cc
+  operand_fills (is.RegisterOrMemory Byte) _ f h r p = absurd cc
+  operand_fills (is.RegisterOrMemory Word) _ f h r p = absurd cc
   operand_fills (is.Register Byte) (operand.ByteRegister s) f h r p =
       let c = is_some (asks_register (byte_number s)) e h in
       let q : byte_number s ≡ m.register = is_some _ _ (ap (λ (x : Demand). x.register) c ∙ r) in
@@ -237,22 +237,22 @@ address_fields r OnDi n rlt lt = based_fields r 5 n rlt (omega arith) lt
 address_fields r OnBp n rlt lt = based_fields r 6 n rlt (omega arith) lt
 address_fields r OnBx n rlt lt = based_fields r 7 n rlt (omega arith) lt
 
-abbrev pub fields_from : ℕ → Place → Fields
+abbrev pub fields_from : ℕ → RegisterOrMemory → Fields
 fields_from r (place.Register n) = record { register = r; rm = n; memory = None }
 fields_from r (place.Memory a) = with_memory r (rm_of a.base) a
 
-abbrev pub PlaceIs : Place → Type 0
+abbrev pub PlaceIs : RegisterOrMemory → Type 0
 PlaceIs (place.Register n) = n < 8
 PlaceIs (place.Memory a) = a.displacement < 2 ^ 16
 
-pub fields_spell : (r : ℕ) (p : Place) → r < 8 → PlaceIs p → SpellsFields (fields_from r p) (fields_bytes r p)
+pub fields_spell : (r : ℕ) (p : RegisterOrMemory) → r < 8 → PlaceIs p → SpellsFields (fields_from r p) (fields_bytes r p)
 unfolding fields_bytes
 fields_spell r (place.Register n) rlt h =
     let e : 192 + (8 * r + n) ≡ 64 * 3 + 8 * r + n = omega arith in
     record { mode = 3; displacement = []; register_fits = rlt; rm_fits = h; parts = ap (λ (k : ℕ). k ∷ []) e; spells_memory = inr (inr (inr (inr (refl, refl, refl)))) }
 fields_spell r (place.Memory a) rlt h = address_fields r a.base a.displacement rlt h
 
-pub named_from : (r : ℕ) (p : Place) → (named_place (fields_from r p).rm (fields_from r p).memory ≡ p) × ((fields_from r p).register ≡ r)
+pub named_from : (r : ℕ) (p : RegisterOrMemory) → (named_place (fields_from r p).rm (fields_from r p).memory ≡ p) × ((fields_from r p).register ≡ r)
 named_from r (place.Register n) = (refl, refl)
 named_from r (place.Memory a) = (refl, refl)
 
@@ -281,7 +281,7 @@ word_below Di = omega arith
 pub record Shaped (k : Kind) (e : Demand) : Type 0 where
   pub number : ℕ
   pub number_fits : number < 8
-  pub at : Place
+  pub at : RegisterOrMemory
   pub at_fits : PlaceIs at
   pub register : e.register ≡ asked (asks_for_register k) number
   pub place : e.place ≡ asked (asks_for_place k) at
@@ -293,18 +293,18 @@ module _ (e : Demand) where
   by_number : (k : Kind) (n : ℕ) → n < 8 → asks_register n ≡ e → asks_for_register k ≡ true → asks_for_place k ≡ false → Shaped k e
   by_number k n lt h a b = subst (λ y. Shaped k y) h (record { number = n; number_fits = lt; at = place.Register 0; at_fits = omega arith; register = rw a refl; place = rw b refl })
 
-  by_place : (k : Kind) (q : Place) → PlaceIs q → asks_place q ≡ e → asks_for_register k ≡ false → asks_for_place k ≡ true → Shaped k e
+  by_place : (k : Kind) (q : RegisterOrMemory) → PlaceIs q → asks_place q ≡ e → asks_for_register k ≡ false → asks_for_place k ≡ true → Shaped k e
   by_place k q fits h a b = subst (λ y. Shaped k y) h (record { number = 0; number_fits = omega arith; at = q; at_fits = fits; register = rw a refl; place = rw b refl })
 
   pub demand_shape : (k : Kind) (o : Operand) → OperandFits o → demand_of k o ≡ Some e → Shaped k e
   unfolding demand_of
   demand_shape is.Nothing operand.Nothing f h = by_data is.Nothing _ (is_some (asks_data data_is.Nothing) e h) refl refl
   demand_shape is.Nothing _ f h = absurd cc
-  demand_shape (is.Place w) (operand.Memory v a) f h = let c = chosen_true (same_width w v) (asks_place (place.Memory a)) e h in by_place (is.Place w) (place.Memory a) f c.1 refl refl
-  demand_shape (is.Place Byte) (operand.ByteRegister s) f h = by_place (is.Place Byte) (place.Register (byte_number s)) (byte_below s) (is_some (asks_place (place.Register (byte_number s))) e h) refl refl
-  demand_shape (is.Place Word) (operand.WordRegister s) f h = by_place (is.Place Word) (place.Register (word_number s)) (word_below s) (is_some (asks_place (place.Register (word_number s))) e h) refl refl
-  demand_shape (is.Place Byte) _ f h = absurd cc
-  demand_shape (is.Place Word) _ f h = absurd cc
+  demand_shape (is.RegisterOrMemory w) (operand.Memory v a) f h = let c = chosen_true (same_width w v) (asks_place (place.Memory a)) e h in by_place (is.RegisterOrMemory w) (place.Memory a) f c.1 refl refl
+  demand_shape (is.RegisterOrMemory Byte) (operand.ByteRegister s) f h = by_place (is.RegisterOrMemory Byte) (place.Register (byte_number s)) (byte_below s) (is_some (asks_place (place.Register (byte_number s))) e h) refl refl
+  demand_shape (is.RegisterOrMemory Word) (operand.WordRegister s) f h = by_place (is.RegisterOrMemory Word) (place.Register (word_number s)) (word_below s) (is_some (asks_place (place.Register (word_number s))) e h) refl refl
+  demand_shape (is.RegisterOrMemory Byte) _ f h = absurd cc
+  demand_shape (is.RegisterOrMemory Word) _ f h = absurd cc
   demand_shape (is.Register Byte) (operand.ByteRegister s) f h = by_number (is.Register Byte) (byte_number s) (byte_below s) (is_some (asks_register (byte_number s)) e h) refl refl
   demand_shape (is.Register Word) (operand.WordRegister s) f h = by_number (is.Register Word) (word_number s) (word_below s) (is_some (asks_register (word_number s)) e h) refl refl
   demand_shape (is.Register Byte) _ f h = absurd cc

@@ -113,7 +113,7 @@ at_place w n (Some a) = operand.Memory w a
 -- (ESC's number has its upper three bits in the first byte and its lower three in the reg field)
 abbrev pub Fills : Kind → Fields → Operand → List ℕ → Type 0
 Fills is.Nothing m o d = (o ≡ operand.Nothing) × (d ≡ [])
-Fills (is.Place w) m o d = (o ≡ at_place w m.rm m.memory) × (d ≡ [])
+Fills (is.RegisterOrMemory w) m o d = (o ≡ at_place w m.rm m.memory) × (d ≡ [])
 Fills (is.Register w) m o d = (o ≡ register w m.register) × (d ≡ [])
 Fills is.Memory m o d = (a : Address) × (m.memory ≡ Some a) × (o ≡ operand.Memory Word a) × (d ≡ [])
 Fills is.ByteValue m o d = (n : ℕ) × (n < 2 ^ 8) × (o ≡ operand.ByteValue n) × (d ≡ n ∷ [])
@@ -133,7 +133,7 @@ Fills is.One m o d = (o ≡ operand.One) × (d ≡ [])
 
 -- whether an operand of the kind is named by the mod r/m byte
 abbrev pub uses_fields : Kind → Bool
-uses_fields (is.Place w) = true
+uses_fields (is.RegisterOrMemory w) = true
 uses_fields (is.Register w) = true
 uses_fields is.Memory = true
 uses_fields (is.Escape r) = true

@@ -27,10 +27,10 @@ use Rattle.dm_ins.specs.Registers.{word_registers, byte_registers}
 -- extended by sign, D a displacement, O a direct offset, Ap an offset and a segment, S a segment register; b a byte, w
 -- a word
 abbrev pub Eb : Kind
-Eb = is.Place Byte
+Eb = is.RegisterOrMemory Byte
 
 abbrev pub Ew : Kind
-Ew = is.Place Word
+Ew = is.RegisterOrMemory Word
 
 abbrev pub Gb : Kind
 Gb = is.Register Byte

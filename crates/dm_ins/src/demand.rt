@@ -9,7 +9,7 @@ use crate::table::Kind;
 
 /// What the mod and r/m fields name.
 #[derive(Clone, Copy)]
-pub enum Place {
+pub enum RegisterOrMemory {
     /// The register with the number, 0 to 7.
     Register(u8),
     Memory(Address),
@@ -30,7 +30,7 @@ pub struct Demand {
     /// What the reg field has to be, 0 to 7.
     pub register: Option<u8>,
     /// What the mod and r/m fields have to name.
-    pub place: Option<Place>,
+    pub place: Option<RegisterOrMemory>,
     /// What follows.
     pub tail: Data,
 }
@@ -56,7 +56,7 @@ impl Demand {
         }
     }
 
-    fn for_place(place: Place) -> Self
+    fn for_place(place: RegisterOrMemory) -> Self
         ensures { result ≡ asks_place place }
     {
         Self {
@@ -132,7 +132,7 @@ pub fn may_be(kind: Kind, operand: Operand) -> bool
 {
     match kind {
         Kind::Nothing => matches!(operand, Operand::Nothing),
-        Kind::Place(width) => match operand {
+        Kind::RegisterOrMemory(width) => match operand {
             Operand::Memory(other, _) => is_as_wide(width, other),
             _ => is_register(width, operand),
         },
@@ -174,17 +174,17 @@ pub fn demand_for(kind: Kind, operand: Operand) -> Option<Demand>
             Operand::Nothing => Some(Demand::for_data(Data::Nothing)),
             _ => None,
         },
-        Kind::Place(width) => match operand {
+        Kind::RegisterOrMemory(width) => match operand {
             Operand::Memory(other, address) => {
                 if is_as_wide(width, other) {
-                    Some(Demand::for_place(Place::Memory(address)))
+                    Some(Demand::for_place(RegisterOrMemory::Memory(address)))
                 } else {
                     None
                 }
             }
             _ => {
                 let n = number(width, operand)?;
-                Some(Demand::for_place(Place::Register(n)))
+                Some(Demand::for_place(RegisterOrMemory::Register(n)))
             }
         },
         Kind::Register(width) => {
@@ -194,7 +194,7 @@ pub fn demand_for(kind: Kind, operand: Operand) -> Option<Demand>
         Kind::Memory => match operand {
             Operand::Memory(other, address) => {
                 if is_as_wide(Width::Word, other) {
-                    Some(Demand::for_place(Place::Memory(address)))
+                    Some(Demand::for_place(RegisterOrMemory::Memory(address)))
                 } else {
                     None
                 }

@@ -5,7 +5,7 @@ ghost use Rattle.arrayvec.specs.ArrayVec.{array_vec_len};
 ghost use Rattle.dm_ins.specs.Spelling.{word};
 ghost use Rattle.dm_ins.specs.inner.Search.{OperandFits, PlaceFits, behind_bytes, bytes_of, data_bytes, either, fields_bytes, memory_bytes, rm_of, seen_bytes, with_displacement};
 
-use crate::demand::{Data, Place, demand_for, has_no_base, may_be};
+use crate::demand::{Data, RegisterOrMemory, demand_for, has_no_base, may_be};
 use crate::operand::{Address, Base, Operand, extend};
 use crate::table::Row;
 use arrayvec::ArrayVec;
@@ -108,7 +108,7 @@ fn put_memory(out: &mut RowBytes, register: u8, address: Address)
 }
 
 #[tactic(auto, unfolding(crate::specs::inner::Search::fields_bytes))]
-fn put_fields(out: &mut RowBytes, register: u8, place: Place)
+fn put_fields(out: &mut RowBytes, register: u8, place: RegisterOrMemory)
     requires room { array_vec_len out.old + 3 ≤ 12 }
     requires register { register < 8 }
     requires place { PlaceFits place }
@@ -116,8 +116,8 @@ fn put_fields(out: &mut RowBytes, register: u8, place: Place)
     ensures within { array_vec_len out.new ≤ array_vec_len out.old + 3 }
 {
     match place {
-        Place::Register(n) => out.push(192 + (8 * register + n)),
-        Place::Memory(address) => put_memory(out, register, address),
+        RegisterOrMemory::Register(n) => out.push(192 + (8 * register + n)),
+        RegisterOrMemory::Memory(address) => put_memory(out, register, address),
     }
 }
 
@@ -131,7 +131,7 @@ fn first_number(a: Option<u8>, b: Option<u8>) -> Option<u8>
     }
 }
 
-fn first_place(a: Option<Place>, b: Option<Place>) -> Option<Place>
+fn first_place(a: Option<RegisterOrMemory>, b: Option<RegisterOrMemory>) -> Option<RegisterOrMemory>
     ensures value { result ≡ either a b }
     ensures fits { IfSome a PlaceFits → IfSome b PlaceFits → IfSome result PlaceFits }
 {
@@ -143,7 +143,12 @@ fn first_place(a: Option<Place>, b: Option<Place>) -> Option<Place>
 
 /// Puts what stands behind the first byte: a mod r/m byte with its displacement, or the second
 /// byte that the row wants.
-fn put_behind(out: &mut RowBytes, register: Option<u8>, place: Option<Place>, second: Option<u8>)
+fn put_behind(
+    out: &mut RowBytes,
+    register: Option<u8>,
+    place: Option<RegisterOrMemory>,
+    second: Option<u8>,
+)
     requires room { array_vec_len out.old + 3 ≤ 12 }
     requires register { IfSome register (λ n. n < 8) }
     requires place { IfSome place PlaceFits }

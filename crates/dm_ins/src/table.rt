@@ -14,7 +14,7 @@ pub enum Kind {
     /// No operand.
     Nothing,
     /// The register or memory operand of the mod and r/m fields.
-    Place(Width),
+    RegisterOrMemory(Width),
     /// The register of the reg field.
     Register(Width),
     /// The memory operand of the mod and r/m fields, where mod 3 has no row.
@@ -70,8 +70,8 @@ pub enum Entry {
 /// the reg field, M memory, I an immediate, Is one that is extended by sign, D a displacement, O a
 /// direct offset, Ap a far pointer; b a byte, w a word; a register, or the number 1, for itself.
 macro_rules! kind {
-    (Eb) => { Kind::Place(Width::Byte) };
-    (Ew) => { Kind::Place(Width::Word) };
+    (Eb) => { Kind::RegisterOrMemory(Width::Byte) };
+    (Ew) => { Kind::RegisterOrMemory(Width::Word) };
     (Gb) => { Kind::Register(Width::Byte) };
     (Gw) => { Kind::Register(Width::Word) };
     (M) => { Kind::Memory };
@@ -109,7 +109,7 @@ macro_rules! kind {
 /// A row, written as the manual writes it: the mnemonic, then the signs of its operands.
 macro_rules! row {
     (Esc $number:literal) => {
-        Row { mnemonic: Mnemonic::Esc, first: Kind::Escape($number), second: Kind::Place(Width::Word) }
+        Row { mnemonic: Mnemonic::Esc, first: Kind::Escape($number), second: Kind::RegisterOrMemory(Width::Word) }
     };
     ($mnemonic:ident) => {
         Row { mnemonic: Mnemonic::$mnemonic, first: Kind::Nothing, second: Kind::Nothing }

@@ -26,7 +26,7 @@ names_nothing is.Nothing = true
 names_nothing _ = false
 
 unfoldable names_no_memory : Kind → Bool
-names_no_memory (is.Place w) = false
+names_no_memory (is.RegisterOrMemory w) = false
 names_no_memory is.Memory = false
 names_no_memory (is.Direct w) = false
 names_no_memory _ = true
@@ -57,7 +57,7 @@ never b e f = absurd cc
 nothing_is_named : (k : Kind) (m : Fields) (o : Operand) (d : List ℕ) → Fills k m o d → is_nothing o ≡ true → names_nothing k ≡ true
 unfolding names_nothing is_nothing
 nothing_is_named is.Nothing m o d f h = refl
-nothing_is_named (is.Place w) m o d f h = never (is_nothing o) (rw f.0 (place_is_some w m.rm m.memory)) h
+nothing_is_named (is.RegisterOrMemory w) m o d f h = never (is_nothing o) (rw f.0 (place_is_some w m.rm m.memory)) h
 nothing_is_named (is.Register w) m o d f h = never (is_nothing o) (rw f.0 (register_is_some w m.register)) h
 nothing_is_named is.Memory m o d f h = never (is_nothing o) (rw f.2 refl) h
 nothing_is_named is.ByteValue m o d f h = never (is_nothing o) (rw f.2 refl) h
@@ -76,7 +76,7 @@ nothing_is_named is.One m o d f h = never (is_nothing o) (rw f.0 refl) h
 named_nothing : (k : Kind) (m : Fields) (o : Operand) (d : List ℕ) → Fills k m o d → names_nothing k ≡ true → o ≡ operand.Nothing
 unfolding names_nothing
 named_nothing is.Nothing m o d f h = f.0
-named_nothing (is.Place w) m o d f h = absurd cc
+named_nothing (is.RegisterOrMemory w) m o d f h = absurd cc
 named_nothing (is.Register w) m o d f h = absurd cc
 named_nothing is.Memory m o d f h = absurd cc
 named_nothing is.ByteValue m o d f h = absurd cc
@@ -99,7 +99,7 @@ register_term a next Word n = refl
 named_no_memory : (a : Action) (next : ℕ) (k : Kind) (m : Fields) (o : Operand) (d : List ℕ) → Fills k m o d → names_no_memory k ≡ true → is_memory (own_term a next o) ≡ false
 unfolding names_no_memory
 named_no_memory a next is.Nothing m o d f h = rw f.0 refl
-named_no_memory a next (is.Place w) m o d f h = absurd cc
+named_no_memory a next (is.RegisterOrMemory w) m o d f h = absurd cc
 named_no_memory a next (is.Register w) m o d f h = rw f.0 (register_term a next w m.register)
 named_no_memory a next is.Memory m o d f h = absurd cc
 named_no_memory a next is.ByteValue m o d f h = rw f.2 refl

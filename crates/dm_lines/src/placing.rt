@@ -161,7 +161,8 @@ pub fn written(mnemonic: Mnemonic, term: &Term, place: u16, next: u16) -> Option
     }
 }
 
-/// A number, where bytes and targets count only that they are some.
+/// A number, where bytes and targets count only that they are some. A byte counts modulo 64, so that it is in range and
+/// the number of ESC, which decides the first byte, stays as it is.
 fn number_alone(amount: Amount) -> Numeral
     ensures { result ≡ number_outline amount }
 {

@@ -1,6 +1,7 @@
 -- A run doesn't depend on what no program sees
 use Rattle.std.proofs.Common.{◌≡◌, ℕ, ◌+◌, ◌≤◌, arith, Option, Some, None, refl, sym, ◌∙◌, ap, subst}
 use Rattle.dm_space.specs.Memory.{Memory}
+use Rattle.dm_space.specs.EightBytes.{sixteen_after}
 use Rattle.dm_space.specs.Unseen.{unseen_as, IsUnseen}
 use Rattle.dm_ins.specs.declared.ins.Ins.{Ins}
 use Rattle.dm_cpu.specs.declared.cpu.Cpu.{Cpu}
@@ -22,14 +23,15 @@ use Rattle.dm_drivers.specs.Drivers.{driver_at, driven}
 use Rattle.dm_state.specs.State.{State, Answer, go, with_guest}
 use Rattle.dm_services.specs.Services.{service_at}
 use Rattle.dm_services.specs.Wanting.{MayWant}
-use Rattle.dm_machine.specs.Step.{MakesStep, Runs, Acts, Drives, Instructs, listed, unlisted, BeginsWith, fetched, after, instructed}
+use Rattle.dm_machine.specs.Step.{MakesStep, Runs, Acts, Drives, Instructs, listed, unlisted, fetched, after, instructed}
+use Rattle.dm_ins.specs.Ins.{BeginsWith}
 use Rattle.dm_machine.specs.Run.{Answers, here, further, StopsWithin, over, whole, cut}
 use Rattle.dm_services.specs.Laws.{with_change, answer_with}
 use Rattle.dm_machine.specs.Laws.{IsQuiet, StaysQuiet, UnseenBytesChangeNoStep, UnseenBytesChangeNoRun, UnseenBlocksChangeNoRun}
 use Rattle.dm_services.proofs.Unseen.{serves-unseen}
 
 fetched-unseen : (f : Memory → Memory) (u : IsUnseen f) (m : Memory) (c : Cpu) → fetched (f m) c ≡ fetched m c
-unfolding fetched
+unfolding sixteen_after
 fetched-unseen f u m c = simp (u.a20, u.peek_same)
 
 after-unseen : (f : Memory → Memory) (s : State) (n : Next) (g : Guest) → after (with_change f s) n (changed f g) ≡ answer_with f (after s n g)

@@ -1,5 +1,5 @@
 -- Writing one block's bytes leaves those of the others.
-use Rattle.std.proofs.Common.{◌≡◌, ℕ, zero, suc, ◌+◌, ◌*◌, ◌<◌, ◌≤◌, Bool, true, false, not, List, [], ◌∷◌, ◌++◌, take, drop, set, length, get_or, replicate, Option, Some, None, refl, sym, ap, ◌∙◌, subst, inl, inr, ◌⊎◌, arith}
+use Rattle.std.proofs.Common.{◌≡◌, ℕ, zero, suc, ◌+◌, ◌*◌, ◌<◌, ◌≤◌, Bool, true, false, not, List, [], ◌∷◌, ◌++◌, take, drop, set, length, get_or, replicate, Option, Some, None, refl, sym, ap, ◌∙◌, inl, inr, ◌⊎◌, arith}
 use Rattle.std.specs.Prelude.{nat_lt, nat_le, ◌&&◌, if◌then◌else◌}
 use Rattle.std.proofs.Math.Seq.{take-append_seam}
 use Rattle.std.proofs.Math.Bool.{true≢false}
@@ -7,11 +7,10 @@ use Rattle.std.proofs.lemmas.Bool.{le-ltb, leb-true}
 use Rattle.std.specs.Cmp.Derive.{both_true}
 use Rattle.std.proofs.lemmas.List.{append_assoc, append-nil}
 use Rattle.std.specs.Prelude.{min, ◌-◌, IfSome}
-use Rattle.std.proofs.lemmas.List.{map-set, length-set, get_or-set_same, get_or-set_other}
-use Rattle.dm_region.proofs.Bytes.{length-with_part}
+use Rattle.std.proofs.lemmas.List.{map-set, get_or-set_same, get_or-set_other}
 use Rattle.std.proofs.lemmas.Option.{none-some, same_Some}
 use Rattle.dm_region.specs.Parts.{part, with_part}
-use Rattle.dm_pool.specs.declared.places.Place.{Place}
+use Rattle.dm_pool.specs.declared.extent.Extent.{Extent}
 use Rattle.dm_pool.specs.Gaps.{overlaps, is_clear, is_free, first_of, lowest, first_empty, next_index}
 use Rattle.dm_pool.specs.Blocks.{Blocks, content, contents_of, Apart, IsPool, zeros, placed, taken, at_place, moved, new_base, resized, fitted, with_content}
 use Rattle.std.specs.List.{refill, length_refill}
@@ -59,26 +58,26 @@ pub written : (xs ws : List ℕ) (P N : ℕ) → length ws ≡ N → P + N ≤ l
 written xs ws P N e in' = ap (λ n. take n (drop P (with_part xs P N ws))) (sym e) ∙ here P ws xs (drop (P + N) xs) (omega arith)
 
 -- the blocks' bytes, where all of them lie elsewhere
-pub kept : (places : List (Option Place)) (xs ys : List ℕ) → ((i : ℕ) (d : Place) → get_or places i None ≡ Some d → content ys (Some d) ≡ content xs (Some d)) → contents_of places ys ≡ contents_of places xs
+pub kept : (places : List (Option Extent)) (xs ys : List ℕ) → ((i : ℕ) (d : Extent) → get_or places i None ≡ Some d → content ys (Some d) ≡ content xs (Some d)) → contents_of places ys ≡ contents_of places xs
 kept [] xs ys h = refl
 kept (None ∷ places) xs ys h = ap (λ l. [] ∷ l) (kept places xs ys (λ i d e. h (suc i) d e))
 kept (Some c ∷ places) xs ys h = ap (λ l. content ys (Some c) ∷ l) (kept places xs ys (λ i d e. h (suc i) d e)) ∙ ap (λ b. b ∷ contents_of places xs) (h 0 c refl)
 
 -- the same where one of them is written
-pub one_written : (places : List (Option Place)) (k : ℕ) (b : Place) (xs ys : List ℕ) → get_or places k None ≡ Some b
-    → ((i : ℕ) (d : Place) → ¬ (i ≡ k) → get_or places i None ≡ Some d → content ys (Some d) ≡ content xs (Some d)) → contents_of places ys ≡ set (contents_of places xs) k (content ys (Some b))
+pub one_written : (places : List (Option Extent)) (k : ℕ) (b : Extent) (xs ys : List ℕ) → get_or places k None ≡ Some b
+    → ((i : ℕ) (d : Extent) → ¬ (i ≡ k) → get_or places i None ≡ Some d → content ys (Some d) ≡ content xs (Some d)) → contents_of places ys ≡ set (contents_of places xs) k (content ys (Some b))
 one_written [] k b xs ys e h = absurd (none-some b e)
 one_written (p ∷ places) zero b xs ys e h = ap (λ l. content ys p ∷ l) (kept places xs ys (λ i d f. h (suc i) d (λ z. absurd (omega (arith, z))) f)) ∙ ap (λ q. content ys q ∷ contents_of places xs) e
 one_written (None ∷ places) (suc k) b xs ys e h = ap (λ l. [] ∷ l) (one_written places k b xs ys e (λ i d n f. h (suc i) d (λ z. n (omega (arith, z))) f))
 one_written (Some c ∷ places) (suc k) b xs ys e h = ap (λ l. content ys (Some c) ∷ l) (one_written places k b xs ys e (λ i d n f. h (suc i) d (λ z. n (omega (arith, z))) f)) ∙ ap (λ x. x ∷ set (contents_of places xs) k (content ys (Some b))) (h 0 c (λ z. absurd (omega (arith, z))) refl)
 
-pub content_of : (places : List (Option Place)) (k : ℕ) (b : Place) (xs : List ℕ) → get_or places k None ≡ Some b → get_or (contents_of places xs) k [] ≡ content xs (Some b)
+pub content_of : (places : List (Option Extent)) (k : ℕ) (b : Extent) (xs : List ℕ) → get_or places k None ≡ Some b → get_or (contents_of places xs) k [] ≡ content xs (Some b)
 content_of [] k b xs e = absurd (none-some b e)
 content_of (p ∷ places) zero b xs e = ap (content xs) e
 content_of (p ∷ places) (suc k) b xs e = content_of places k b xs e
 
 -- a place that is clear is apart from each block
-pub clear_apart : (places : List (Option Place)) (p u : ℕ) → is_clear places p u ≡ true → (i : ℕ) (d : Place) → get_or places i None ≡ Some d → (d.base + d.units ≤ p) ⊎ (p + u ≤ d.base)
+pub clear_apart : (places : List (Option Extent)) (p u : ℕ) → is_clear places p u ≡ true → (i : ℕ) (d : Extent) → get_or places i None ≡ Some d → (d.base + d.units ≤ p) ⊎ (p + u ≤ d.base)
 clear_apart places p u h i d e = elim (below_or_not d.base (p + u)) [
   | inl lo ↦ elim (below_or_not p (d.base + d.units)) [ inl hi ↦ absurd (true≢false (sym h ∙ covered places i d p u e (hits d p u lo hi))) | inr le ↦ inl le ]
   | inr le ↦ inr le
@@ -97,20 +96,20 @@ unfolding first_of
 passes f zero p q e = absurd (none-some q e)
 passes f (suc n) p q e = choose f n p q (f p) refl e (passes f n (suc p) q)
 
-pub within_pool : (places : List (Option Place)) (n u p : ℕ) → is_free places n u p ≡ true → (p + u ≤ n) × (is_clear places p u ≡ true)
+pub within_pool : (places : List (Option Extent)) (n u p : ℕ) → is_free places n u p ≡ true → (p + u ≤ n) × (is_clear places p u ≡ true)
 within_pool places n u p e = let both = both_so (nat_le (p + u) n) (is_clear places p u) e in (leb-true (p + u) n both.0, both.1)
 
-after_next : (places : List (Option Place)) (c : Place) (i : ℕ) (o : Option ℕ) → first_empty places ≡ o → next_index o ≡ Some i
+after_next : (places : List (Option Extent)) (c : Extent) (i : ℕ) (o : Option ℕ) → first_empty places ≡ o → next_index o ≡ Some i
     → ((k : ℕ) → first_empty places ≡ Some k → (k < length places) × (get_or places k None ≡ None)) → (i < length (Some c ∷ places)) × (get_or (Some c ∷ places) i None ≡ None)
 after_next places c i None f e on = absurd (none-some i e)
 after_next places c i (Some k) f e on = let z = same_Some (suc k) i e in let h = on k f in (omega (arith, z, h.0), ap (λ m. get_or (Some c ∷ places) m None) (sym z) ∙ h.1)
 
-pub vacant : (places : List (Option Place)) (i : ℕ) → first_empty places ≡ Some i → (i < length places) × (get_or places i None ≡ None)
+pub vacant : (places : List (Option Extent)) (i : ℕ) → first_empty places ≡ Some i → (i < length places) × (get_or places i None ≡ None)
 vacant [] i e = absurd (none-some i e)
 vacant (None ∷ places) i e = let z = same_Some 0 i e in (omega (arith, z), ap (λ k. get_or (None ∷ places) k None) (sym z))
 vacant (Some c ∷ places) i e = after_next places c i (first_empty places) refl e (vacant places)
 
-pub no_place : (n i : ℕ) → let none : Option Place = None in get_or (replicate n none) i none ≡ none
+pub no_place : (n i : ℕ) → let none : Option Extent = None in get_or (replicate n none) i none ≡ none
 no_place zero i = refl
 no_place (suc n) zero = refl
 no_place (suc n) (suc i) = no_place n i
@@ -130,43 +129,19 @@ set_twice (z ∷ l) zero x y = refl
 set_twice (z ∷ l) (suc k) x y = ap (λ m. z ∷ m) (set_twice l k x y)
 
 -- the bytes of d stay where those of b are written
-pub beside : (xs ws : List ℕ) (b d : Place) → length ws ≡ b.units * 1024 → b.base * 1024 + b.units * 1024 ≤ length xs → Apart d b → content (with_part xs (b.base * 1024) (b.units * 1024) ws) (Some d) ≡ content xs (Some d)
+pub beside : (xs ws : List ℕ) (b d : Extent) → length ws ≡ b.units * 1024 → b.base * 1024 + b.units * 1024 ≤ length xs → Apart d b → content (with_part xs (b.base * 1024) (b.units * 1024) ws) (Some d) ≡ content xs (Some d)
 beside xs ws b d e in' far = elsewhere xs ws (b.base * 1024) (b.units * 1024) (d.base * 1024) (d.units * 1024) e in' (elim far [ inl h ↦ inl (omega arith) | inr h ↦ inr (omega arith) ])
 
-module _ (n : ℕ) (places : List (Option Place)) (xs : List ℕ) (is : IsPool n places xs) (k : ℕ) (b : Place) (free : k < length places) (inside : b.base + b.units ≤ n)
-    (far : (i : ℕ) (d : Place) → ¬ (i ≡ k) → get_or places i None ≡ Some d → Apart d b) (ws : List ℕ) (long : length ws ≡ b.units * 1024) where
+module _ (n : ℕ) (places : List (Option Extent)) (xs : List ℕ) (is : IsPool n places xs) (k : ℕ) (b : Extent) (free : k < length places) (inside : b.base + b.units ≤ n)
+    (far : (i : ℕ) (d : Extent) → ¬ (i ≡ k) → get_or places i None ≡ Some d → Apart d b) (ws : List ℕ) (long : length ws ≡ b.units * 1024) where
   abbrev ys : List ℕ
   ys = with_part xs (b.base * 1024) (b.units * 1024) ws
 
   fits : b.base * 1024 + b.units * 1024 ≤ length xs
   fits = omega (arith, is.whole)
 
-  at_new : (i : ℕ) (d : Place) → i ≡ k → get_or (set places k (Some b)) i None ≡ Some d → b ≡ d
-  at_new i d e f = same_Some b d (sym (ap (λ j. get_or (set places k (Some b)) j None) e ∙ get_or-set_same places k (Some b) None free) ∙ f)
-
-  at_old : (i : ℕ) (d : Place) → ¬ (i ≡ k) → get_or (set places k (Some b)) i None ≡ Some d → get_or places i None ≡ Some d
+  at_old : (i : ℕ) (d : Extent) → ¬ (i ≡ k) → get_or (set places k (Some b)) i None ≡ Some d → get_or places i None ≡ Some d
   at_old i d e f = sym (get_or-set_other places k i (Some b) None e) ∙ f
-
-  turned : (d e : Place) → Apart d e → Apart e d
-  turned d e a = elim a [ inl h ↦ inr h | inr h ↦ inl h ]
-
-  pub still_pool : IsPool n (set places k (Some b)) ys
-  still_pool = record {
-    count = length-set places k (Some b) ∙ is.count;
-    whole = length-with_part xs ws (b.base * 1024) (b.units * 1024) fits long ∙ is.whole;
-    small = is.small;
-    within = λ i d f. elim (same_or_not i k) [ inl e ↦ subst (λ z. z.base + z.units ≤ n) (at_new i d e f) inside | inr e ↦ is.within i d (at_old i d e f) ];
-    apart = λ i j d c ne f g. elim (same_or_not i k) [
-      | inl e ↦ elim (same_or_not j k) [
-        | inl h ↦ absurd (ne (e ∙ sym h))
-        | inr h ↦ subst (λ z. Apart z c) (at_new i d e f) (turned c b (far j c h (at_old j c h g)))
-      ]
-      | inr e ↦ elim (same_or_not j k) [
-        | inl h ↦ subst (λ z. Apart d z) (at_new j c h g) (far i d e (at_old i d e f))
-        | inr h ↦ is.apart i j d c ne (at_old i d e f) (at_old j c h g)
-      ]
-    ];
-  }
 
   pub new_contents : contents_of (set places k (Some b)) ys ≡ set (contents_of places xs) k ws
   new_contents =
@@ -181,7 +156,7 @@ module _ (n : ℕ) (places : List (Option Place)) (xs : List ℕ) (is : IsPool n
       ap (λ o. placed s b.units o (lowest places n b.units)) e ∙ ap (λ o. placed s b.units (Some k) o) f
       ∙ ap (λ l. Some (k, record { units = n; places = set places k (Some b); contents = l })) (ap (set (contents_of places xs) k) (sym z) ∙ sym new_contents)
 
-  pub resize_is : (c : Place) → get_or places k None ≡ Some c → new_base (record { units = n; places = places; contents = contents_of places xs }) k c b.units ≡ Some b.base
+  pub resize_is : (c : Extent) → get_or places k None ≡ Some c → new_base (record { units = n; places = places; contents = contents_of places xs }) k c b.units ≡ Some b.base
       → ws ≡ fitted (content xs (Some c)) b.units
       → resized (record { units = n; places = places; contents = contents_of places xs }) k b.units ≡ Some (record { units = n; places = set places k (Some b); contents = contents_of (set places k (Some b)) ys })
   resize_is c e f z =
@@ -220,7 +195,7 @@ take_less (x ∷ xs) r (suc n) zero le in' = absurd (omega arith)
 take_less (x ∷ xs) r (suc n) (suc m) le in' = ap (λ l. x ∷ l) (take_less xs r n m (omega arith) (omega arith))
 
 -- the bytes kept and the zeros after them
-pub fitted_is : (xs : List ℕ) (b : Place) (u kept : ℕ) → kept ≡ min b.units u → b.base * 1024 + b.units * 1024 ≤ length xs
+pub fitted_is : (xs : List ℕ) (b : Extent) (u kept : ℕ) → kept ≡ min b.units u → b.base * 1024 + b.units * 1024 ≤ length xs
     → part xs (b.base * 1024) (kept * 1024) ++ replicate ((u - kept) * 1024) 0 ≡ fitted (content xs (Some b)) u
 fitted_is xs b u kept e fits =
     let P = b.base * 1024 in let own = part xs P (b.units * 1024) in let long : length own ≡ b.units * 1024 = part_length xs P (b.units * 1024) fits in
@@ -237,33 +212,33 @@ fitted_is xs b u kept e fits =
 pub refilled : (n : ℕ) (old ws : List ℕ) → length ws ≡ n → refill n old ws ≡ ws
 refilled n old ws e = ap (λ m. take m (ws ++ drop (length ws) old)) (sym e) ∙ take-append_seam ws (drop (length ws) old)
 
-pub lent : (n : ℕ) (places : List (Option Place)) (xs : List ℕ) → IsPool n places xs → (k : ℕ) (b : Place) → get_or places k None ≡ Some b → (ws : List ℕ) → length ws ≡ b.units * 1024
+pub lent : (n : ℕ) (places : List (Option Extent)) (xs : List ℕ) → IsPool n places xs → (k : ℕ) (b : Extent) → get_or places k None ≡ Some b → (ws : List ℕ) → length ws ≡ b.units * 1024
     → contents_of places (with_part xs (b.base * 1024) (b.units * 1024) ws) ≡ set (contents_of places xs) k ws
 lent n places xs is k b e ws long =
-    let within = is.within k b e in let fits : b.base * 1024 + b.units * 1024 ≤ length xs = omega (arith, is.whole) in
+    let within = is.laid.within k b e in let fits : b.base * 1024 + b.units * 1024 ≤ length xs = omega (arith, is.whole) in
     let ys = with_part xs (b.base * 1024) (b.units * 1024) ws in
-    one_written places k b xs ys e (λ i d ne f. beside xs ws b d long fits (is.apart i k d b ne f e)) ∙ ap (set (contents_of places xs) k) (written xs ws (b.base * 1024) (b.units * 1024) long fits)
+    one_written places k b xs ys e (λ i d ne f. beside xs ws b d long fits (is.laid.apart i k d b ne f e)) ∙ ap (set (contents_of places xs) k) (written xs ws (b.base * 1024) (b.units * 1024) long fits)
 
 -- the pool once the bytes of a block have been lent
-pub lent_is : (n : ℕ) (places : List (Option Place)) (xs : List ℕ) → IsPool n places xs → (k : ℕ) (b : Place) → get_or places k None ≡ Some b → (w : List ℕ)
+pub lent_is : (n : ℕ) (places : List (Option Extent)) (xs : List ℕ) → IsPool n places xs → (k : ℕ) (b : Extent) → get_or places k None ≡ Some b → (w : List ℕ)
     → let s : Blocks = record { units = n; places = places; contents = contents_of places xs } in let old = get_or s.contents k [] in
     record { units = n; places = places; contents = contents_of places (with_part xs (b.base * 1024) (b.units * 1024) (refill (b.units * 1024) (part xs (b.base * 1024) (b.units * 1024)) w)) } ≡ with_content s k (refill (length old) old w)
 lent_is n places xs is k b e w =
     let s : Blocks = record { units = n; places = places; contents = contents_of places xs } in
-    let within = is.within k b e in let fits : b.base * 1024 + b.units * 1024 ≤ length xs = omega (arith, is.whole) in
+    let within = is.laid.within k b e in let fits : b.base * 1024 + b.units * 1024 ≤ length xs = omega (arith, is.whole) in
     let own = part xs (b.base * 1024) (b.units * 1024) in let N = b.units * 1024 in
     let long : length own ≡ N = part_length xs (b.base * 1024) N fits in
     ap (λ l. record { units = n; places = places; contents = l }) (lent n places xs is k b e (refill N own w) (sym (length_refill N own w (sym long))))
     ∙ ap (λ m. with_content s k (refill m own w)) (sym long) ∙ ap (λ c. with_content s k (refill (length c) c w)) (sym (content_of places k b xs e))
 
-pub clear_without : (bs : List (Option Place)) (k p u : ℕ) → is_clear bs p u ≡ true → is_clear (set bs k None) p u ≡ true
+pub clear_without : (bs : List (Option Extent)) (k p u : ℕ) → is_clear bs p u ≡ true → is_clear (set bs k None) p u ≡ true
 clear_without [] k p u h = h
 clear_without (None ∷ bs) zero p u h = h
 clear_without (Some c ∷ bs) zero p u h = (both_so (not (overlaps c p u)) (is_clear bs p u) h).1
 clear_without (None ∷ bs) (suc k) p u h = clear_without bs k p u h
 clear_without (Some c ∷ bs) (suc k) p u h = let both = both_so (not (overlaps c p u)) (is_clear bs p u) h in both_true both.0 (clear_without bs k p u both.1)
 
-pub clear_nothing : (bs : List (Option Place)) → is_clear bs 0 0 ≡ true
+pub clear_nothing : (bs : List (Option Extent)) → is_clear bs 0 0 ≡ true
 clear_nothing [] = refl
 clear_nothing (None ∷ bs) = clear_nothing bs
 clear_nothing (Some c ∷ bs) = both_true (ap (λ y. not (y && nat_lt 0 (c.base + c.units))) (le-ltb c.base 0 (omega arith))) (clear_nothing bs)

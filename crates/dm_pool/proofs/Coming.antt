@@ -9,7 +9,7 @@ use Rattle.std.proofs.lemmas.Bool.{cases_eq, eq-eqb, ne_eqb, le-leb}
 use Rattle.std.proofs.lemmas.Option.{none-some, same_Some}
 use Rattle.std.proofs.lemmas.List.{get_or-set_same}
 use Rattle.std.proofs.lemmas.List.Sums.{sum_by-cons, sum_by-set}
-use Rattle.dm_pool.specs.declared.places.Place.{Place}
+use Rattle.dm_pool.specs.declared.extent.Extent.{Extent}
 use Rattle.dm_pool.specs.Gaps.{Run, overlaps, is_clear, gaps, first_empty, next_index, lowest, count_fitting}
 use Rattle.dm_pool.specs.inner.Gaps.{IsCovered, AreGaps, first_fit}
 use Rattle.dm_pool.specs.Blocks.{Blocks, with_block, zeros, placed, taken, without, moved, new_base, resized, at_place, fitted}
@@ -24,14 +24,14 @@ use Rattle.dm_pool.proofs.Told.{lowest_zero}
 
 -- ---- blocks of no unit stay at unit 0
 
-come_based : (ps : List (Option Place)) (k : ℕ) (b : Place) → AreBased ps → (b.units ≡ 0 → b.base ≡ 0) → AreBased (set ps k (Some b))
+pub come_based : (ps : List (Option Extent)) (k : ℕ) (b : Extent) → AreBased ps → (b.units ≡ 0 → b.base ≡ 0) → AreBased (set ps k (Some b))
 come_based [] k b h f i c e z = h i c e z
-come_based (p ∷ ps) zero b h f zero c e z = let same = same_Some b c e in sym (ap (λ (x : Place). x.base) same) ∙ f (ap (λ (x : Place). x.units) same ∙ z)
+come_based (p ∷ ps) zero b h f zero c e z = let same = same_Some b c e in sym (ap (λ (x : Extent). x.base) same) ∙ f (ap (λ (x : Extent). x.units) same ∙ z)
 come_based (p ∷ ps) zero b h f (suc i) c e z = h (suc i) c e z
 come_based (p ∷ ps) (suc k) b h f zero c e z = h 0 c e z
 come_based (p ∷ ps) (suc k) b h f (suc i) c e z = come_based ps k b (λ j. h (suc j)) f i c e z
 
-go_based : (ps : List (Option Place)) (k : ℕ) → AreBased ps → AreBased (set ps k None)
+pub go_based : (ps : List (Option Extent)) (k : ℕ) → AreBased ps → AreBased (set ps k None)
 go_based [] k h i c e z = h i c e z
 go_based (p ∷ ps) zero h zero c e z = absurd (none-some c e)
 go_based (p ∷ ps) zero h (suc i) c e z = h (suc i) c e z
@@ -39,14 +39,14 @@ go_based (p ∷ ps) (suc k) h zero c e z = h 0 c e z
 go_based (p ∷ ps) (suc k) h (suc i) c e z = go_based ps k (λ j. h (suc j)) i c e z
 
 -- the lowest gap of no unit is at 0
-lowest_based : (ps : List (Option Place)) (n u p : ℕ) → lowest ps n u ≡ Some p → u ≡ 0 → p ≡ 0
+lowest_based : (ps : List (Option Extent)) (n u p : ℕ) → lowest ps n u ≡ Some p → u ≡ 0 → p ≡ 0
 lowest_based ps n u p e z = sym (same_Some 0 p (sym (lowest_zero ps n) ∙ ap (lowest ps n) (sym z) ∙ e))
 
 placed_based : (s : Blocks) (u : ℕ) (o q : Option ℕ) (i : ℕ) (t : Blocks) → lowest s.places s.units u ≡ q → placed s u o q ≡ Some (i, t) → AreBased s.places → AreBased t.places
 placed_based s u None q i t f e h = absurd (none-some (i, t) e)
 placed_based s u (Some k) None i t f e h = absurd (none-some (i, t) e)
 placed_based s u (Some k) (Some p) i t f e h =
-    let b : Place = record { base = p; units = u } in
+    let b : Extent = record { base = p; units = u } in
     let same = same_Some (k, with_block s k b (zeros u)) (i, t) e in
     subst (λ (x : ℕ × Blocks). AreBased x.1.places) same (come_based s.places k b h (lowest_based s.places s.units u p f))
 
@@ -59,11 +59,11 @@ without_based s i h = go_based s.places i h
 moved_based : (s : Blocks) (i u : ℕ) (o : Option ℕ) (t : Blocks) → moved s i u o ≡ Some t → ((p : ℕ) → o ≡ Some p → u ≡ 0 → p ≡ 0) → AreBased s.places → AreBased t.places
 moved_based s i u None t e f h = absurd (none-some t e)
 moved_based s i u (Some p) t e f h =
-    let b : Place = record { base = p; units = u } in
+    let b : Extent = record { base = p; units = u } in
     let same = same_Some (with_block s i b (fitted (get_or s.contents i []) u)) t e in
     subst (λ (x : Blocks). AreBased x.places) same (come_based s.places i b h (f p refl))
 
-place_based : (s : Blocks) (i u : ℕ) (o : Option Place) (t : Blocks) → at_place s i u o ≡ Some t → AreBased s.places → AreBased t.places
+place_based : (s : Blocks) (i u : ℕ) (o : Option Extent) (t : Blocks) → at_place s i u o ≡ Some t → AreBased s.places → AreBased t.places
 place_based s i u None t e h = absurd (none-some t e)
 place_based s i u (Some b) t e h = moved_based s i u (new_base s i b u) t e (λ p f z. sym (same_Some 0 p (ap (new_base s i b) (sym z) ∙ f))) h
 
@@ -85,7 +85,7 @@ and_false true = refl
 and_false false = refl
 
 -- what was covered is covered
-covers_more : (bs : List (Option Place)) (i : ℕ) (b : Place) (p u : ℕ) → get_or bs i None ≡ None → is_clear bs p u ≡ false → is_clear (set bs i (Some b)) p u ≡ false
+covers_more : (bs : List (Option Extent)) (i : ℕ) (b : Extent) (p u : ℕ) → get_or bs i None ≡ None → is_clear bs p u ≡ false → is_clear (set bs i (Some b)) p u ≡ false
 covers_more [] i b p u v h = h
 covers_more (None ∷ bs) zero b p u v h = ap (λ y. not (overlaps b p u) && y) h ∙ and_false (not (overlaps b p u))
 covers_more (Some c ∷ bs) zero b p u v h = absurd (none-some c (sym v))
@@ -93,7 +93,7 @@ covers_more (None ∷ bs) (suc i) b p u v h = covers_more bs i b p u v h
 covers_more (Some c ∷ bs) (suc i) b p u v h = and_less (not (overlaps c p u)) (is_clear bs p u) (is_clear (set bs i (Some b)) p u) (covers_more bs i b p u v) h
 
 -- what was clear, and is none of the block's, is clear
-clear_beside : (bs : List (Option Place)) (i : ℕ) (b : Place) (p u : ℕ) → overlaps b p u ≡ false → is_clear bs p u ≡ true → is_clear (set bs i (Some b)) p u ≡ true
+clear_beside : (bs : List (Option Extent)) (i : ℕ) (b : Extent) (p u : ℕ) → overlaps b p u ≡ false → is_clear bs p u ≡ true → is_clear (set bs i (Some b)) p u ≡ true
 clear_beside [] i b p u o h = h
 clear_beside (None ∷ bs) zero b p u o h = both_true (ap not o) h
 clear_beside (Some c ∷ bs) zero b p u o h = both_true (ap not o) (both_so (not (overlaps c p u)) (is_clear bs p u) h).1
@@ -125,7 +125,7 @@ unfolding cut_gap
 cut_part u g gs ne = ap (λ c. if c then gs else record { low = g.low + u; size = g.size - u } ∷ gs) (ne_eqb g.size u ne)
 
 -- the first gap that holds a block lies where the gaps begin, or above
-fit_above : (bs : List (Option Place)) (n k u p : ℕ) (gs : List Run) → AreGaps bs n k gs → first_fit gs u ≡ Some p → k ≤ p
+fit_above : (bs : List (Option Extent)) (n k u p : ℕ) (gs : List Run) → AreGaps bs n k gs → first_fit gs u ≡ Some p → k ≤ p
 fit_above bs n k u p [] are e = absurd (none-some p e)
 fit_above bs n k u p (g ∷ gs) are e =
     let low = are.0 in
@@ -134,8 +134,8 @@ fit_above bs n k u p (g ∷ gs) are e =
       | inr large ↦ let same = same_Some g.low p (sym (fit_here (g ∷ gs) g gs u refl large) ∙ e) in omega (arith, low, same)
     ]
 
-module _ (bs : List (Option Place)) (n i : ℕ) (b : Place) (lt : i < length bs) (free : get_or bs i None ≡ None) where
-  abbrev new : List (Option Place)
+module _ (bs : List (Option Extent)) (n i : ℕ) (b : Extent) (lt : i < length bs) (free : get_or bs i None ≡ None) where
+  abbrev new : List (Option Extent)
   new = set bs i (Some b)
 
   covers : (k : ℕ) → b.base ≤ k → k < b.base + b.units → IsCovered new k
@@ -251,14 +251,14 @@ none_next : (o : Option ℕ) → next_index o ≡ None → o ≡ None
 none_next None e = refl
 none_next (Some i) e = absurd (none-some (suc i) (sym e))
 
-none_free : (ps : List (Option Place)) → first_empty ps ≡ None → count_by is_none ps ≡ 0
+none_free : (ps : List (Option Extent)) → first_empty ps ≡ None → count_by is_none ps ≡ 0
 none_free [] e = refl
 none_free (None ∷ ps) e = absurd (none-some 0 (sym e))
-none_free (Some c ∷ ps) e = let rest = none_free ps (none_next (first_empty ps) e) in omega (arith, sum_by-cons (λ (o : Option Place). cond (is_none o) 1 0) (Some c) ps, rest)
+none_free (Some c ∷ ps) e = let rest = none_free ps (none_next (first_empty ps) e) in omega (arith, sum_by-cons (λ (o : Option Extent). cond (is_none o) 1 0) (Some c) ps, rest)
 
-one_taken : (ps : List (Option Place)) (i : ℕ) (b : Place) → i < length ps → get_or ps i None ≡ None → count_by is_none (set ps i (Some b)) + 1 ≡ count_by is_none ps
+one_taken : (ps : List (Option Extent)) (i : ℕ) (b : Extent) → i < length ps → get_or ps i None ≡ None → count_by is_none (set ps i (Some b)) + 1 ≡ count_by is_none ps
 one_taken ps i b lt e =
-    let one : Option Place → ℕ = λ o. cond (is_none o) 1 0 in
+    let one : Option Extent → ℕ = λ o. cond (is_none o) 1 0 in
     let old : one (get_or ps i None) ≡ 1 = ap one e in
     omega (arith, sum_by-set one ps i (Some b) None lt, old)
 
@@ -272,7 +272,7 @@ pub record Leaves (s : Blocks) (u n : ℕ) (t : Blocks) : Type 0 where
 
 new_leaves : (s : Blocks) (u i p : ℕ) → AreBased s.places → 0 < u → first_empty s.places ≡ Some i → lowest s.places s.units u ≡ Some p → Leaves s u 1 (with_block s i (record { base = p; units = u }) (zeros u))
 new_leaves s u i p based pos e f =
-    let b : Place = record { base = p; units = u } in
+    let b : Extent = record { base = p; units = u } in
     let v = vacant s.places i e in
     let gs = gaps s.places s.units in
     let are = gaps_are s.places s.units based in

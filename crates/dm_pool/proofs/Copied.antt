@@ -4,8 +4,9 @@ use Rattle.dm_region.specs.Parts.{part, with_part}
 use Rattle.dm_region.proofs.Bytes.{length-with_part}
 use Rattle.dm_pool.specs.declared.part.Part.{Part}
 use Rattle.dm_pool.specs.declared.part.Part.TheVariants.{Low, Scratch, Block}
-use Rattle.dm_pool.specs.Blocks.{Blocks, contents_of, with_content}
-use Rattle.dm_pool.specs.inner.Order.{Layout, IsLaid, IsToldIn, blocks_in}
+use Rattle.dm_pool.specs.Blocks.{Blocks, contents_of, with_content, IsLaid}
+use Rattle.dm_pool.specs.FreeList.{AreBased}
+use Rattle.dm_pool.specs.inner.Order.{Layout, IsToldIn, blocks_in}
 use Rattle.dm_pool.specs.Parts.{HasPart, part_bytes, with_part_bytes, copied}
 use Rattle.dm_pool.specs.inner.Parts.{IsLaidOut, IsSpan}
 use Rattle.dm_pool.specs.Stored.{Stored}
@@ -55,31 +56,31 @@ module _ (xs : List ℕ) (l : Layout) (s : IsStore xs l) (laid : IsLaid l.units 
         same_stored _ _ _ _ _ _ (lent_elsewhere xs w 0x110000 0x200000 fits 0 0x110000 (inl (omega arith))) (lent_whole xs w 0x110000 0x200000 fits e) (ap (blocks_in l) pool),
       )
 
-  block_is_left : (i from n : ℕ) (h : IsSpan l (Block i) from n) (w : List ℕ) → length w ≡ n → IsStore (with_part xs from n w) l × (stored (with_part xs from n w) l ≡ with_part_bytes (stored xs l) (Block i) w)
-  block_is_left i from n h w e =
+  block_is_left : AreBased l.places → (i from n : ℕ) (h : IsSpan l (Block i) from n) (w : List ℕ) → length w ≡ n → IsStore (with_part xs from n w) l × (stored (with_part xs from n w) l ≡ with_part_bytes (stored xs l) (Block i) w)
+  block_is_left based i from n h w e =
       let b = h.0 in
       let at = 0x310000 + b.base * 1024 in
       let size = b.units * 1024 in
-      let same : block_left xs l i b w s laid h.1 ≡ with_part xs from n w
+      let same : block_left xs l i b w s laid based h.1 ≡ with_part xs from n w
       = ap (with_part xs at size) (refilled size (part xs at size) w (e ∙ h.3)) ∙ ap (λ k. with_part xs k size w) (sym h.2) ∙ ap (λ k. with_part xs from k w) (sym h.3) in
       let old : get_or (contents_of l.places (pool_part xs l.units)) i [] ≡ part xs from n = span_bytes (Block i) from n h in
       let long : length (get_or (contents_of l.places (pool_part xs l.units)) i []) ≡ n = ap length old ∙ part_length xs from n (span_fits (Block i) from n h) in
       let whole = refilled (length (get_or (contents_of l.places (pool_part xs l.units)) i [])) (get_or (contents_of l.places (pool_part xs l.units)) i []) w (e ∙ sym long) in
       let with_blocks : Blocks → Stored = λ k. record { low = low_part xs; scratch = scratch_part xs; blocks = k } in
       subst (λ (ys : List ℕ). IsStore ys l × (stored ys l ≡ with_part_bytes (stored xs l) (Block i) w)) same
-      (block_store xs l i b w s laid h.1, block_stored xs l i b w s laid h.1 ∙ ap with_blocks (ap (with_content (blocks_in l (pool_part xs l.units)) i) whole))
+      (block_store xs l i b w s laid based h.1, block_stored xs l i b w s laid based h.1 ∙ ap with_blocks (ap (with_content (blocks_in l (pool_part xs l.units)) i) whole))
 
   -- as many bytes written over a part leave a store with those bytes in it
-  pub span_left : (p : Part) (from n : ℕ) → IsSpan l p from n → (w : List ℕ) → length w ≡ n → IsStore (with_part xs from n w) l × (stored (with_part xs from n w) l ≡ with_part_bytes (stored xs l) p w)
-  span_left Low from n h w e =
+  pub span_left : AreBased l.places → (p : Part) (from n : ℕ) → IsSpan l p from n → (w : List ℕ) → length w ≡ n → IsStore (with_part xs from n w) l × (stored (with_part xs from n w) l ≡ with_part_bytes (stored xs l) p w)
+  span_left based Low from n h w e =
       subst (λ k. IsStore (with_part xs k n w) l × (stored (with_part xs k n w) l ≡ with_part_bytes (stored xs l) Low w)) (sym h.0)
       (subst (λ k. IsStore (with_part xs 0 k w) l × (stored (with_part xs 0 k w) l ≡ with_part_bytes (stored xs l) Low w)) (sym h.1) (low_left w (e ∙ h.1)))
-  span_left Scratch from n h w e =
+  span_left based Scratch from n h w e =
       subst (λ k. IsStore (with_part xs k n w) l × (stored (with_part xs k n w) l ≡ with_part_bytes (stored xs l) Scratch w)) (sym h.0)
       (subst (λ k. IsStore (with_part xs 0x110000 k w) l × (stored (with_part xs 0x110000 k w) l ≡ with_part_bytes (stored xs l) Scratch w)) (sym h.1) (scratch_left w (e ∙ h.1)))
-  span_left (Block i) from n h w e = block_is_left i from n h w e
+  span_left based (Block i) from n h w e = block_is_left based i from n h w e
 
-  module _ (p q : Part) (start other n m from to len : ℕ) (a : IsSpan l p start n) (b : IsSpan l q other m) (source : from + len ≤ n) (destination : to + len ≤ m) where
+  module _ (based : AreBased l.places) (p q : Part) (start other n m from to len : ℕ) (a : IsSpan l p start n) (b : IsSpan l q other m) (source : from + len ≤ n) (destination : to + len ≤ m) where
     abbrev bytes : List ℕ
     bytes = part (part xs start n) from len
 
@@ -105,11 +106,11 @@ module _ (xs : List ℕ) (l : Layout) (s : IsStore xs l) (laid : IsLaid l.units 
     as_left = ap (with_part xs (other + to) len) (sym (part_in xs start n from len source)) ∙ part_rewritten xs bytes other m to len destination fits_b
 
     pub copied_store : IsStore copied_bytes l
-    copied_store = let h = span_left q other m b left left_long in subst (λ (ys : List ℕ). IsStore ys l) (sym as_left) h.0
+    copied_store = let h = span_left based q other m b left left_long in subst (λ (ys : List ℕ). IsStore ys l) (sym as_left) h.0
 
     pub copied_stored : stored copied_bytes l ≡ copied (stored xs l) p from q to len
     copied_stored =
-        let h = span_left q other m b left left_long in
+        let h = span_left based q other m b left left_long in
         ap (λ (ys : List ℕ). stored ys l) as_left ∙ h.1
         ∙ ap (λ (o : List ℕ). with_part_bytes (stored xs l) q (with_part o to len bytes)) (sym (span_bytes q other m b))
         ∙ ap (λ (o : List ℕ). with_part_bytes (stored xs l) q (with_part (part_bytes (stored xs l) q) to len (part o from len))) (sym (span_bytes p start n a))

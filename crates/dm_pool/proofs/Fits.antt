@@ -4,7 +4,7 @@ use Rattle.std.specs.Prelude.{if◌then◌else◌}
 use Rattle.std.proofs.Math.Nat.{div-le_self}
 use Rattle.std.proofs.lemmas.Bool.{le-leb}
 use Rattle.std.proofs.lemmas.List.Sums.{sum_by-cons}
-use Rattle.dm_pool.specs.declared.places.Place.{Place}
+use Rattle.dm_pool.specs.declared.extent.Extent.{Extent}
 use Rattle.dm_pool.specs.Gaps.{Run, gaps, free_units, count_fitting}
 use Rattle.dm_pool.specs.inner.Gaps.{AreGaps, first_fit}
 use Rattle.dm_pool.specs.FreeList.{word, AreBased, Spells}
@@ -13,21 +13,21 @@ use Rattle.dm_pool.proofs.Gaps.{past}
 use Rattle.dm_pool.proofs.Maximal.{gaps_are, gaps_are_one}
 
 -- the run at `at` and those behind it are still to be met
-pub record Passing (places : List (Option Place)) (units : ℕ) (bytes : List ℕ) (at : ℕ) : Type 0 where
+pub record Passing (places : List (Option Extent)) (units : ℕ) (bytes : List ℕ) (at : ℕ) : Type 0 where
   pub rest : List Run
   pub from : ℕ
   pub gaps : AreGaps places units from rest
   pub told : Spells bytes at rest
 
-abbrev pub sets_out : (places : List (Option Place)) (units : ℕ) (bytes : List ℕ) (at : ℕ) → Tells places units 0 at bytes → Passing places units bytes at
+abbrev pub sets_out : (places : List (Option Extent)) (units : ℕ) (bytes : List ℕ) (at : ℕ) → Tells places units 0 at bytes → Passing places units bytes at
 sets_out places units bytes at t = record { rest = t.runs; from = 0; gaps = t.gaps; told = t.told }
 
 -- all of them are the gaps
-pub tells_gaps : (places : List (Option Place)) (units : ℕ) (bytes : List ℕ) (at : ℕ) → AreBased places → (t : Tells places units 0 at bytes) → t.runs ≡ gaps places units
+pub tells_gaps : (places : List (Option Extent)) (units : ℕ) (bytes : List ℕ) (at : ℕ) → AreBased places → (t : Tells places units 0 at bytes) → t.runs ≡ gaps places units
 tells_gaps places units bytes at based t = gaps_are_one places units 0 t.runs (gaps places units) t.gaps (gaps_are places units based)
 
 -- the run at `at`, and those behind it
-pub record Meets (places : List (Option Place)) (units : ℕ) (bytes : List ℕ) (at : ℕ) (rest : List Run) : Type 0 where
+pub record Meets (places : List (Option Extent)) (units : ℕ) (bytes : List ℕ) (at : ℕ) (rest : List Run) : Type 0 where
   pub run : Run
   pub behind : List Run
   pub splits : rest ≡ run ∷ behind
@@ -39,11 +39,11 @@ pub record Meets (places : List (Option Place)) (units : ℕ) (bytes : List ℕ)
   pub told : Spells bytes (word bytes (at * 1024 + 4)) behind
   pub rising : (word bytes (at * 1024 + 4) ≡ 0xFFFFFFFF) ⊎ (at < word bytes (at * 1024 + 4))
 
-after_run : (places : List (Option Place)) (units from : ℕ) (bytes : List ℕ) (low at : ℕ) (gs : List Run) → AreGaps places units from gs → low < from → Spells bytes at gs → (at ≡ 0xFFFFFFFF) ⊎ (low < at)
+after_run : (places : List (Option Extent)) (units from : ℕ) (bytes : List ℕ) (low at : ℕ) (gs : List Run) → AreGaps places units from gs → low < from → Spells bytes at gs → (at ≡ 0xFFFFFFFF) ⊎ (low < at)
 after_run places units from bytes low at [] are h told = inl told
 after_run places units from bytes low at (g ∷ gs) are h told = inr (omega (arith, told.0, are.0, h))
 
-meets_run : (places : List (Option Place)) (units from : ℕ) (bytes : List ℕ) (at : ℕ) (rest : List Run) → AreGaps places units from rest → Spells bytes at rest → ¬ (at ≡ 0xFFFFFFFF) → Meets places units bytes at rest
+meets_run : (places : List (Option Extent)) (units from : ℕ) (bytes : List ℕ) (at : ℕ) (rest : List Run) → AreGaps places units from rest → Spells bytes at rest → ¬ (at ≡ 0xFFFFFFFF) → Meets places units bytes at rest
 meets_run places units from bytes at [] are told ne = absurd (ne told)
 meets_run places units from bytes at (g ∷ gs) are told ne =
     let low : g.low ≡ at = sym told.0 in
@@ -63,11 +63,11 @@ meets_run places units from bytes at (g ∷ gs) are told ne =
       rising = after_run places units (g.low + g.size) bytes at (word bytes (at * 1024 + 4)) gs are.6 (omega (arith, low, some)) behind;
     }
 
-no_run : (places : List (Option Place)) (units from : ℕ) (bytes : List ℕ) (at : ℕ) (rest : List Run) → AreGaps places units from rest → Spells bytes at rest → at ≡ 0xFFFFFFFF → units < 2 ^ 31 → rest ≡ []
+no_run : (places : List (Option Extent)) (units from : ℕ) (bytes : List ℕ) (at : ℕ) (rest : List Run) → AreGaps places units from rest → Spells bytes at rest → at ≡ 0xFFFFFFFF → units < 2 ^ 31 → rest ≡ []
 no_run places units from bytes at [] are told e small = refl
 no_run places units from bytes at (g ∷ gs) are told e small = let some = are.2 in let room = are.4 in absurd (omega (arith, told.0, some, room, e, small))
 
-module _ (places : List (Option Place)) (units : ℕ) (bytes : List ℕ) (at : ℕ) (p : Passing places units bytes at) where
+module _ (places : List (Option Extent)) (units : ℕ) (bytes : List ℕ) (at : ℕ) (p : Passing places units bytes at) where
   pub meets : ¬ (at ≡ 0xFFFFFFFF) → Meets places units bytes at p.rest
   meets ne = meets_run places units p.from bytes at p.rest p.gaps p.told ne
 
@@ -81,7 +81,7 @@ module _ (places : List (Option Place)) (units : ℕ) (bytes : List ℕ) (at : �
   run_falls ne small = let h = run_within ne in elim (meets ne).rising [ inl e ↦ omega (arith, e, h, small) | inr r ↦ omega (arith, r, h) ]
 
 -- on to the runs behind
-abbrev pub goes_on : (places : List (Option Place)) (units : ℕ) (bytes : List ℕ) (at next : ℕ) (rest : List Run) → next ≡ word bytes (at * 1024 + 4) → Meets places units bytes at rest → Passing places units bytes next
+abbrev pub goes_on : (places : List (Option Extent)) (units : ℕ) (bytes : List ℕ) (at next : ℕ) (rest : List Run) → next ≡ word bytes (at * 1024 + 4) → Meets places units bytes at rest → Passing places units bytes next
 goes_on places units bytes at next rest e m = record { rest = m.behind; from = m.run.low + m.run.size; gaps = m.gaps; told = subst (λ n. Spells bytes n m.behind) (sym e) m.told }
 
 -- the first run that holds so many units
@@ -92,7 +92,7 @@ pub fit_behind : (gs : List Run) (g : Run) (behind : List Run) (wanted : ℕ) �
 fit_behind gs g behind wanted e h = ap (λ l. first_fit l wanted) e ∙ ap (λ c. if c then Some g.low else first_fit behind wanted) (past wanted g.size h)
 
 -- the gaps have no more units than the pool
-pub free_within : (places : List (Option Place)) (units from : ℕ) (gs : List Run) → from ≤ units → AreGaps places units from gs → from + free_units gs ≤ units
+pub free_within : (places : List (Option Extent)) (units from : ℕ) (gs : List Run) → from ≤ units → AreGaps places units from gs → from + free_units gs ≤ units
 free_within places units from [] le are = omega (arith, le)
 free_within places units from (g ∷ gs) le are =
     let low = are.0 in let rest = free_within places units (g.low + g.size) gs are.4 are.6 in let sum = sum_by-cons (λ (r : Run). r.size) g gs in

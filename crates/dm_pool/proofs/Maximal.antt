@@ -3,7 +3,7 @@ use Rattle.std.proofs.Common.{◌≡◌, ℕ, zero, suc, ◌+◌, ◌<◌, ◌�
 use Rattle.std.specs.Prelude.{if◌then◌else◌}
 use Rattle.std.proofs.Math.Bool.{true≢false}
 use Rattle.std.proofs.lemmas.Bool.{cases_lt, cases_eq, eq-eqb, ne_eqb}
-use Rattle.dm_pool.specs.declared.places.Place.{Place}
+use Rattle.dm_pool.specs.declared.extent.Extent.{Extent}
 use Rattle.dm_pool.specs.Gaps.{Run, is_clear, with_unit, gaps_from, gaps}
 use Rattle.dm_pool.specs.inner.Gaps.{IsCovered, AreGaps}
 use Rattle.dm_pool.specs.FreeList.{AreBased}
@@ -12,7 +12,7 @@ use Rattle.dm_pool.proofs.Blocks.{clear_apart}
 use Rattle.dm_pool.proofs.FreeRuns.{lowered}
 
 -- a clear unit before a clear run
-clear_more : (bs : List (Option Place)) (k u : ℕ) → AreBased bs → is_clear bs k 1 ≡ true → is_clear bs (suc k) u ≡ true → is_clear bs k (suc u) ≡ true
+clear_more : (bs : List (Option Extent)) (k u : ℕ) → AreBased bs → is_clear bs k 1 ≡ true → is_clear bs (suc k) u ≡ true → is_clear bs k (suc u) ≡ true
 clear_more bs k u based one rest = clear bs k (suc u) (λ i b lt e. elim (clear_apart bs k 1 one i b e) [
   | inl h ↦ after b k (suc u) h
   | inr h ↦ elim (clear_apart bs (suc k) u rest i b e) [
@@ -27,7 +27,7 @@ clear_more bs k u based one rest = clear bs k (suc u) (λ i b lt e. elim (clear_
 both : (b : Bool) → b ≡ true → b ≡ false → ⊥
 both b t f = true≢false (sym t ∙ f)
 
-grown : (bs : List (Option Place)) (n k : ℕ) (gs : List Run) (b : Bool) → AreBased bs → k < n → is_clear bs k 1 ≡ b → AreGaps bs n (suc k) gs → AreGaps bs n k (with_unit b k gs)
+grown : (bs : List (Option Extent)) (n k : ℕ) (gs : List Run) (b : Bool) → AreBased bs → k < n → is_clear bs k 1 ≡ b → AreGaps bs n (suc k) gs → AreGaps bs n k (with_unit b k gs)
 grown bs n k gs false based lt e are = lowered bs n (suc k) k gs (λ j lo hi. let same : k ≡ j = omega (arith, lo, hi) in subst (IsCovered bs) same e) (omega arith) are
 grown bs n k [] true based lt e are =
     (omega arith, (λ j lo hi. absurd (omega (arith, lo, hi))), omega arith, e, omega (arith, lt), (λ h. let next : suc k ≡ k + 1 = omega arith in subst (IsCovered bs) next (are (suc k) (omega arith) (omega (arith, h)))), λ j lo hi. are j (omega (arith, lo)) hi)
@@ -48,19 +48,19 @@ grown bs n k (g ∷ gs) true based lt e are = elim (cases_eq g.low (suc k)) [
       subst (λ t. AreGaps bs n k (if t then record { low = k; size = suc g.size } ∷ gs else record { low = k; size = 1 } ∷ g ∷ gs)) (sym (ne_eqb g.low (suc k) ne)) made
 ]
 
-gaps_are_from : (bs : List (Option Place)) (n m k : ℕ) → AreBased bs → k + m ≡ n → AreGaps bs n k (gaps_from bs m k)
+gaps_are_from : (bs : List (Option Extent)) (n m k : ℕ) → AreBased bs → k + m ≡ n → AreGaps bs n k (gaps_from bs m k)
 unfolding gaps_from
 gaps_are_from bs n zero k based e = λ j lo hi. absurd (omega (arith, lo, hi, e))
 gaps_are_from bs n (suc m) k based e = grown bs n k (gaps_from bs m (suc k)) (is_clear bs k 1) based (omega (arith, e)) refl (gaps_are_from bs n m (suc k) based (omega (arith, e)))
 
-pub gaps_are : (bs : List (Option Place)) (n : ℕ) → AreBased bs → AreGaps bs n 0 (gaps bs n)
+pub gaps_are : (bs : List (Option Extent)) (n : ℕ) → AreBased bs → AreGaps bs n 0 (gaps bs n)
 gaps_are bs n based = gaps_are_from bs n n 0 based (omega arith)
 
 -- a run with a unit is not covered where it begins
-not_covered : (bs : List (Option Place)) (p u j : ℕ) → is_clear bs p u ≡ true → p ≤ j → j < p + u → IsCovered bs j → ⊥
+not_covered : (bs : List (Option Extent)) (p u j : ℕ) → is_clear bs p u ≡ true → p ≤ j → j < p + u → IsCovered bs j → ⊥
 not_covered bs p u j h lo hi c = both (is_clear bs j 1) (clear_part bs p u j 1 h lo (omega (arith, hi))) c
 
-pub gaps_are_one : (bs : List (Option Place)) (n k : ℕ) (gs hs : List Run) → AreGaps bs n k gs → AreGaps bs n k hs → gs ≡ hs
+pub gaps_are_one : (bs : List (Option Extent)) (n k : ℕ) (gs hs : List Run) → AreGaps bs n k gs → AreGaps bs n k hs → gs ≡ hs
 gaps_are_one bs n k [] [] a b = refl
 gaps_are_one bs n k [] (h ∷ hs) a b = let some = b.2 in let room = b.4 in absurd (not_covered bs h.low h.size h.low b.3 (omega arith) (omega (arith, some)) (a h.low b.0 (omega (arith, some, room))))
 gaps_are_one bs n k (g ∷ gs) [] a b = let some = a.2 in let room = a.4 in absurd (not_covered bs g.low g.size g.low a.3 (omega arith) (omega (arith, some)) (b g.low a.0 (omega (arith, some, room))))

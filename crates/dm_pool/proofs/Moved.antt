@@ -2,16 +2,17 @@
 use Rattle.std.proofs.Common.{◌≡◌, ℕ, ◌+◌, ◌*◌, ◌≤◌, List, [], length, get_or, Some, None, sym, ap, ◌∙◌, subst, arith}
 use Rattle.dm_region.specs.Parts.{part, with_part}
 use Rattle.dm_region.proofs.Bytes.{length-with_part}
-use Rattle.dm_pool.specs.declared.places.Place.{Place}
-use Rattle.dm_pool.specs.Blocks.{Blocks, contents_of, with_content, moved_bytes}
-use Rattle.dm_pool.specs.inner.Order.{Layout, IsLaid, blocks_in}
+use Rattle.dm_pool.specs.declared.extent.Extent.{Extent}
+use Rattle.dm_pool.specs.Blocks.{Blocks, contents_of, with_content, moved_bytes, IsLaid}
+use Rattle.dm_pool.specs.FreeList.{AreBased}
+use Rattle.dm_pool.specs.inner.Order.{Layout, blocks_in}
 use Rattle.dm_pool.specs.Stored.{Stored, refit}
 use Rattle.dm_pool.specs.inner.Stored.{IsStore, stored, low_part, scratch_part, pool_part}
 use Rattle.dm_pool.proofs.Blocks.{part_length, refilled, content_of}
 use Rattle.dm_pool.proofs.Parts.{part_in, part_rewritten}
 use Rattle.dm_pool.proofs.Stored.{block_left, block_store, block_stored}
 
-module _ (xs : List ℕ) (l : Layout) (i j : ℕ) (a b : Place) (from to len : ℕ) (s : IsStore xs l) (laid : IsLaid l.units l.places)
+module _ (xs : List ℕ) (l : Layout) (i j : ℕ) (a b : Extent) (from to len : ℕ) (s : IsStore xs l) (laid : IsLaid l.units l.places) (based : AreBased l.places)
     (at : get_or l.places i None ≡ Some a) (goes : get_or l.places j None ≡ Some b) (source : from + len ≤ a.units * 1024) (destination : to + len ≤ b.units * 1024) where
   abbrev p : List ℕ
   p = pool_part xs l.units
@@ -56,7 +57,7 @@ module _ (xs : List ℕ) (l : Layout) (i j : ℕ) (a b : Place) (from to len : �
   abbrev copied : List ℕ
   copied = with_part xs (0x310000 + (b.base * 1024 + to)) len (part xs (0x310000 + (a.base * 1024 + from)) len)
 
-  as_left : copied ≡ block_left xs l j b left s laid goes
+  as_left : copied ≡ block_left xs l j b left s laid based goes
   as_left =
       let place : 0x310000 + (b.base * 1024 + to) ≡ 0x310000 + b.base * 1024 + to = omega arith in
       ap (λ (d : List ℕ). with_part xs (0x310000 + (b.base * 1024 + to)) len d) read
@@ -66,7 +67,7 @@ module _ (xs : List ℕ) (l : Layout) (i j : ℕ) (a b : Place) (from to len : �
       ∙ ap (λ (w : List ℕ). with_part xs (0x310000 + b.base * 1024) (b.units * 1024) w) (sym (refilled (b.units * 1024) (part xs (0x310000 + b.base * 1024) (b.units * 1024)) left left_long))
 
   pub moved_store : IsStore copied l
-  moved_store = subst (λ (ys : List ℕ). IsStore ys l) (sym as_left) (block_store xs l j b left s laid goes)
+  moved_store = subst (λ (ys : List ℕ). IsStore ys l) (sym as_left) (block_store xs l j b left s laid based goes)
 
   refitted : refit (get_or (contents_of l.places p) j []) left ≡ left
   refitted =
@@ -81,10 +82,10 @@ module _ (xs : List ℕ) (l : Layout) (i j : ℕ) (a b : Place) (from to len : �
   pub moved_stored : stored copied l ≡ record { low = low_part xs; scratch = scratch_part xs; blocks = moved_bytes (blocks_in l p) i from j to len }
   moved_stored =
       let with_blocks : Blocks → Stored = λ k. record { low = low_part xs; scratch = scratch_part xs; blocks = k } in
-      ap (λ (ys : List ℕ). stored ys l) as_left ∙ block_stored xs l j b left s laid goes ∙ ap with_blocks (ap (with_content (blocks_in l p) j) refitted ∙ as_moved)
+      ap (λ (ys : List ℕ). stored ys l) as_left ∙ block_stored xs l j b left s laid based goes ∙ ap with_blocks (ap (with_content (blocks_in l p) j) refitted ∙ as_moved)
 
 -- what lies within a block's bytes lies within its units
-pub within_units : (xs : List ℕ) (l : Layout) (v : Stored) (i n : ℕ) (a : Place) → IsStore xs l → IsLaid l.units l.places → stored xs l ≡ v → get_or l.places i None ≡ Some a → n ≤ length (get_or v.blocks.contents i []) → n ≤ a.units * 1024
+pub within_units : (xs : List ℕ) (l : Layout) (v : Stored) (i n : ℕ) (a : Extent) → IsStore xs l → IsLaid l.units l.places → stored xs l ≡ v → get_or l.places i None ≡ Some a → n ≤ length (get_or v.blocks.contents i []) → n ≤ a.units * 1024
 within_units xs l v i n a s laid is at h =
     let p = pool_part xs l.units in
     let pool_is = part_length xs 0x310000 (l.units * 1024) (omega (arith, s.whole)) in

@@ -6,10 +6,11 @@ use Rattle.dm_region.specs.Parts.{part, with_part}
 use Rattle.dm_region.proofs.Bytes.{left_length}
 use Rattle.std.specs.Prelude.{MatchOption}
 use Rattle.std.specs.Bool.{MatchBool}
-use Rattle.dm_pool.specs.declared.places.Place.{Place}
-use Rattle.dm_pool.specs.Blocks.{Blocks, taken, resized, with_content, contents_of}
+use Rattle.dm_pool.specs.declared.extent.Extent.{Extent}
+use Rattle.dm_pool.specs.Blocks.{Blocks, taken, resized, with_content, contents_of, IsLaid}
+use Rattle.dm_pool.specs.FreeList.{AreBased}
 use Rattle.dm_pool.specs.inner.FreeList.{IsTold}
-use Rattle.dm_pool.specs.inner.Order.{Layout, IsLaid, IsToldIn, blocks_in}
+use Rattle.dm_pool.specs.inner.Order.{Layout, IsToldIn, blocks_in}
 use Rattle.dm_pool.specs.Stored.{Stored, refit, zeros_of}
 use Rattle.dm_pool.specs.inner.Stored.{IsStore, stored, low_part, scratch_part, pool_part}
 use Rattle.dm_pool.proofs.Blocks.{elsewhere, written, part_length, refilled, lent_is}
@@ -94,7 +95,7 @@ module _ (x y : Stored) (l l' : Layout) (p w : List ℕ) (was : blocks_in l p �
   told_resized false i u h = (ap (λ s. resized s i u) (sym was) ∙ h.0, kept h.1 h.2)
 
 -- a block is lent, and w is what the borrower leaves
-module _ (xs : List ℕ) (l : Layout) (i : ℕ) (b : Place) (w : List ℕ) (s : IsStore xs l) (laid : IsLaid l.units l.places) (at : get_or l.places i None ≡ Some b) where
+module _ (xs : List ℕ) (l : Layout) (i : ℕ) (b : Extent) (w : List ℕ) (s : IsStore xs l) (laid : IsLaid l.units l.places) (based : AreBased l.places) (at : get_or l.places i None ≡ Some b) where
   abbrev pub block_left : List ℕ
   block_left = with_part xs (0x310000 + b.base * 1024) (b.units * 1024) (refill (b.units * 1024) (part xs (0x310000 + b.base * 1024) (b.units * 1024)) w)
 
@@ -117,7 +118,7 @@ module _ (xs : List ℕ) (l : Layout) (i : ℕ) (b : Place) (w : List ℕ) (s : 
       ∙ ap (λ (o : List ℕ). with_part p (b.base * 1024) (b.units * 1024) (refill (b.units * 1024) o w)) there
 
   is_told : IsTold l.units l.places p l.first
-  is_told = record { pool = pool_of l.units l.places p laid s.told.whole; based = laid.based; tells = s.told.tells }
+  is_told = record { pool = pool_of l.units l.places p laid s.told.whole; based = based; tells = s.told.tells }
 
   pub block_store : IsStore block_left l
   block_store =

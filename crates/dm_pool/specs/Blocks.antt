@@ -1,18 +1,18 @@
 -- A pool of units of 1 KiB, and its blocks by their numbers: how one comes, goes and changes its size.
 use Rattle.std.specs.Prelude.{ℕ, ◌+◌, ◌*◌, ◌^◌, ◌<◌, ◌≤◌, ◌≡◌, ◌⊎◌, List, [], ◌++◌, ◌==◌, if◌then◌else◌, map, length, take, set, get_or, replicate, Option, Some, None}
 use Rattle.dm_region.specs.Parts.{part, with_part}
-use Rattle.dm_pool.specs.declared.places.Place.{Place}
+use Rattle.dm_pool.specs.declared.extent.Extent.{Extent}
 use Rattle.dm_pool.specs.Gaps.{is_free, lowest, first_empty}
 
 pub record Blocks : Type 0 where
   pub units : ℕ
   -- by number, where a block lies
-  pub places : List (Option Place)
+  pub places : List (Option Extent)
   -- by number, its bytes
   pub contents : List (List ℕ)
 
 -- the pool with a block of this number, place and bytes
-abbrev pub with_block : Blocks → ℕ → Place → List ℕ → Blocks
+abbrev pub with_block : Blocks → ℕ → Extent → List ℕ → Blocks
 with_block s i b xs = record { units = s.units; places = set s.places i (Some b); contents = set s.contents i xs }
 
 -- the pool with other bytes in a block
@@ -38,36 +38,40 @@ abbrev pub taken : Blocks → ℕ → Option (ℕ × Blocks)
 taken s u = placed s u (first_empty s.places) (lowest s.places s.units u)
 
 -- the block with this number lies there
-abbrev pub IsAt : Blocks → ℕ → Place → Type 0
+abbrev pub IsAt : Blocks → ℕ → Extent → Type 0
 IsAt s i b = get_or s.places i None ≡ Some b
 
 -- there is a block with this number
 abbrev pub IsLive : Blocks → ℕ → Type 0
-IsLive s i = (i < 576) × ((b : Place) × IsAt s i b)
+IsLive s i = (i < 576) × ((b : Extent) × IsAt s i b)
 
 -- the bytes of a block that lies there, in the bytes of the pool
-abbrev pub content : List ℕ → Option Place → List ℕ
+abbrev pub content : List ℕ → Option Extent → List ℕ
 content bytes None = []
 content bytes (Some b) = part bytes (b.base * 1024) (b.units * 1024)
 
-abbrev pub contents_of : List (Option Place) → List ℕ → List (List ℕ)
+abbrev pub contents_of : List (Option Extent) → List ℕ → List (List ℕ)
 contents_of places bytes = map (content bytes) places
 
 -- two places share no unit. A place of no unit at unit 0 is apart from each
-abbrev pub Apart : Place → Place → Type 0
+abbrev pub Apart : Extent → Extent → Type 0
 Apart b d = (b.base + b.units ≤ d.base) ⊎ (d.base + d.units ≤ b.base)
 
--- the blocks of a pool lie within it, apart, in its bytes
-pub record IsPool (units : ℕ) (places : List (Option Place)) (bytes : List ℕ) : Type 0 where
+-- the blocks of a pool lie within it, apart
+pub record IsLaid (units : ℕ) (places : List (Option Extent)) : Type 0 where
   pub count : length places ≡ 576
-  pub whole : length bytes ≡ units * 1024
   pub small : units < 2 ^ 31
-  pub within : (i : ℕ) (b : Place) → get_or places i None ≡ Some b → b.base + b.units ≤ units
-  pub apart : (i j : ℕ) (b d : Place) → ¬ (i ≡ j) → get_or places i None ≡ Some b → get_or places j None ≡ Some d → Apart b d
+  pub within : (i : ℕ) (b : Extent) → get_or places i None ≡ Some b → b.base + b.units ≤ units
+  pub apart : (i j : ℕ) (b d : Extent) → ¬ (i ≡ j) → get_or places i None ≡ Some b → get_or places j None ≡ Some d → Apart b d
+
+-- they lie so in its bytes
+pub record IsPool (units : ℕ) (places : List (Option Extent)) (bytes : List ℕ) : Type 0 where
+  pub laid : IsLaid units places
+  pub whole : length bytes ≡ units * 1024
 
 -- where a block is to lie that gets u units: where it is, if the units there are its own or free, else in the lowest
 -- gap, its own units taken
-abbrev pub new_base : Blocks → ℕ → Place → ℕ → Option ℕ
+abbrev pub new_base : Blocks → ℕ → Extent → ℕ → Option ℕ
 new_base s i b u = if u == 0 then Some 0 else (if is_free (set s.places i None) s.units u b.base then Some b.base else lowest s.places s.units u)
 
 -- its bytes up to the smaller size, and zeros
@@ -80,7 +84,7 @@ moved s i u None = None
 moved s i u (Some p) = Some (with_block s i (record { base = p; units = u }) (fitted (get_or s.contents i []) u))
 
 -- the block that lies there, resized
-abbrev pub at_place : Blocks → ℕ → ℕ → Option Place → Option Blocks
+abbrev pub at_place : Blocks → ℕ → ℕ → Option Extent → Option Blocks
 at_place s i u None = None
 at_place s i u (Some b) = moved s i u (new_base s i b u)
 

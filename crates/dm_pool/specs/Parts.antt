@@ -1,5 +1,5 @@
 -- The parts of a store: the low bytes, the scratch bytes, and the bytes of each block.
-use Rattle.std.specs.Prelude.{◌≡◌, ℕ, ◌+◌, ◌*◌, List, [], get_or}
+use Rattle.std.specs.Prelude.{ℕ, List, [], get_or}
 use Rattle.dm_region.specs.Parts.{part, with_part}
 use Rattle.dm_pool.specs.declared.part.Part.{Part}
 use Rattle.dm_pool.specs.declared.part.Part.TheVariants.{Low, Scratch, Block}

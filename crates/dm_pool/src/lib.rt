@@ -2,9 +2,9 @@
 #![tactic(auto)]
 
 mod block;
+mod extent;
 mod laws;
 mod part;
-mod places;
 mod pool;
 mod runs;
 mod sizes;
@@ -12,9 +12,9 @@ mod store;
 mod table;
 
 pub use block::Block;
+pub use extent::{Extent, UNIT};
 pub use laws::blocks_come;
 pub use part::Part;
-pub use places::{Place, UNIT};
 pub use runs::RunList;
 pub use sizes::Sizes;
 pub use store::{NewError, Store};

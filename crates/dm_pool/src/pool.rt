@@ -6,7 +6,7 @@ ghost use Rattle.dm_pool.specs.Gaps.{is_clear, lowest};
 ghost use Rattle.dm_pool.specs.Blocks.{taken, without, new_base, resized, content, contents_of, fitted, zeros, IsAt, IsLive};
 ghost use Rattle.dm_pool.specs.inner.Order.{blocks_in, IsToldIn};
 
-use crate::places::{Place, UNIT};
+use crate::extent::{Extent, UNIT};
 use crate::runs::{first_fit, spell};
 use crate::table::Table;
 
@@ -56,7 +56,7 @@ pub(crate) fn take(table: &mut Table, bytes: &mut [u8], units: usize) -> Option<
     let slot = table.first_empty()?;
     let base = lowest_gap(table, bytes, units)?;
     clear(bytes, base, units);
-    table.put(slot, Place { base, units });
+    table.put(slot, Extent { base, units });
     retell(table, bytes);
     Some(slot)
 }
@@ -94,7 +94,7 @@ fn new_base(table: &Table, bytes: &[u8], slot: usize, units: usize) -> Option<us
 }
 
 /// Moves a block's bytes to another place; what is new there is zeros.
-fn move_block(bytes: &mut [u8], from: Place, to: Place)
+fn move_block(bytes: &mut [u8], from: Extent, to: Extent)
     requires source { from.base * 1024 + from.units * 1024 ≤ length bytes.old }
     requires destination { to.base * 1024 + to.units * 1024 ≤ length bytes.old }
     requires small { (from.base + from.units < 2 ^ 31) × (to.base + to.units < 2 ^ 31) }
@@ -119,7 +119,7 @@ pub(crate) fn resize(table: &mut Table, bytes: &mut [u8], slot: usize, units: us
         return false;
     };
     table.recall();
-    let place = Place { base, units };
+    let place = Extent { base, units };
     move_block(bytes, table.place(slot), place);
     table.remove(slot);
     table.put(slot, place);

@@ -7,7 +7,7 @@ ghost use Rattle.dm_pool.specs.inner.FreeList.{IsBelow, IsKeptOutside, Tells};
 ghost use Rattle.dm_pool.specs.Gaps.{lowest, gaps, free_units, largest, count_fitting};
 ghost use Rattle.dm_pool.specs.inner.Order.{IsCut, IsToldIn};
 
-use crate::places::{Place, UNIT};
+use crate::extent::{Extent, UNIT};
 use crate::table::Table;
 use byteorder::{ByteOrder, LittleEndian};
 
@@ -66,14 +66,14 @@ fn write_run(bytes: &mut [u8], unit: usize, run: FreeRun)
 }
 
 /// The highest of the first `rest` blocks of the order; one of no unit at 0 where `rest` is 0.
-fn highest(table: &Table, rest: usize) -> Place
+fn highest(table: &Table, rest: usize) -> Extent
     requires { rest ≤ length table.now.order }
     ensures below { (end : ℕ) → IsCut table.now.places table.now.order rest end → IsBelow table.now.places end result }
     ensures cut { (end : ℕ) → IsCut table.now.places table.now.order rest end → IsCut table.now.places table.now.order (rest - 1) result.base }
 {
     table.recall();
     if rest == 0 {
-        return Place { base: 0, units: 0 };
+        return Extent { base: 0, units: 0 };
     }
     table.nth(rest - 1)
 }

@@ -11,8 +11,8 @@ ghost use Rattle.dm_pool.specs.Parts.{HasPart, part_bytes, copied};
 ghost use Rattle.dm_pool.specs.inner.Parts.{IsLaidOut, IsSpan};
 
 use crate::block::Block;
+use crate::extent::{Extent, UNIT};
 use crate::part::Part;
-use crate::places::{Place, UNIT};
 use crate::runs::RunList;
 use crate::sizes::Sizes;
 use crate::table::Table;
@@ -94,7 +94,7 @@ fn pool_len(table: &Table) -> usize
 }
 
 /// Where a block lies.
-fn place_of(table: &Table, block: Block) -> Place
+fn place_of(table: &Table, block: Block) -> Extent
     requires { (b : _) × (get_or table.now.places block None ≡ Some b) }
     ensures place { get_or table.now.places block None ≡ Some result }
     ensures within { result.base + result.units ≤ table.now.units }

@@ -3,7 +3,7 @@ ghost use Rattle.std.specs.Prelude.{◌≡◌, ◌↔◌, IsTrue, ℕ, ◌+◌, 
 ghost use Rattle.dm_pool.specs.Gaps.{is_clear, is_free, first_empty};
 ghost use Rattle.dm_pool.specs.inner.Order.{no_layout, IsNth, IsOrder, IsTable};
 
-use crate::places::Place;
+use crate::extent::Extent;
 use arrayvec::ArrayVec;
 use std::marker::Model;
 
@@ -14,7 +14,7 @@ pub(crate) const SLOTS: usize = 576;
 #[derive(Drop)]
 pub(crate) struct Table {
     units: usize,
-    places: [Option<Place>; SLOTS],
+    places: [Option<Extent>; SLOTS],
     /// The numbers of the blocks that have units, as they lie.
     order: ArrayVec<u16, SLOTS>,
     /// Where the first free run is.
@@ -46,12 +46,12 @@ fn no_blocks(units: usize) -> Table
 }
 
 /// How many of the blocks of an order begin below a unit: those are the first ones.
-fn rank(places: &[Option<Place>], order: &[u16], base: usize) -> usize
+fn rank(places: &[Option<Extent>], order: &[u16], base: usize) -> usize
     requires order { IsOrder places.now order.now }
     requires count { length places.now ≡ 576 }
     ensures within { result ≤ length order.now }
-    ensures below { (p : ℕ) (b : Place) → p < result → IsNth places.now order.now p b → b.base < base }
-    ensures above { (p : ℕ) (b : Place) → result ≤ p → p < length order.now → IsNth places.now order.now p b → base ≤ b.base }
+    ensures below { (p : ℕ) (b : Extent) → p < result → IsNth places.now order.now p b → b.base < base }
+    ensures above { (p : ℕ) (b : Extent) → result ≤ p → p < length order.now → IsNth places.now order.now p b → base ≤ b.base }
 {
     for i in 0..order.len() {
         let slot = order[i] as usize;
@@ -66,7 +66,7 @@ fn rank(places: &[Option<Place>], order: &[u16], base: usize) -> usize
 }
 
 /// The lowest number that has no block.
-fn first_empty(places: &[Option<Place>]) -> Option<usize>
+fn first_empty(places: &[Option<Extent>]) -> Option<usize>
     ensures first { result ≡ first_empty places.now }
     ensures vacant { IfSome result (λ i. (i < length places.now) × (get_or places.now i None ≡ None)) }
 {
@@ -80,7 +80,7 @@ fn first_empty(places: &[Option<Place>]) -> Option<usize>
 }
 
 /// Whether no block but the one with a number has a unit among so many from a unit on.
-fn is_clear_but(places: &[Option<Place>], slot: usize, from: usize, units: usize) -> bool
+fn is_clear_but(places: &[Option<Extent>], slot: usize, from: usize, units: usize) -> bool
     requires bounded { (i : ℕ) (b : _) → get_or places.now i None ≡ Some b → b.base + b.units < 2 ^ 31 }
     requires range { from + units < 2 ^ 31 }
     ensures { result ≡ is_clear (set places.now slot None) from units }
@@ -100,7 +100,7 @@ fn is_clear_but(places: &[Option<Place>], slot: usize, from: usize, units: usize
 }
 
 /// A block comes into the order, if it has units.
-fn order_in(order: &mut ArrayVec<u16, SLOTS>, places: &[Option<Place>], slot: usize, place: Place)
+fn order_in(order: &mut ArrayVec<u16, SLOTS>, places: &[Option<Extent>], slot: usize, place: Extent)
     requires order { IsOrder places.now order.old.items }
     requires count { length places.now ≡ 576 }
     requires vacant { (slot < 576) × (get_or places.now slot None ≡ None) }
@@ -114,7 +114,12 @@ fn order_in(order: &mut ArrayVec<u16, SLOTS>, places: &[Option<Place>], slot: us
 }
 
 /// A block goes from the order, if it has units.
-fn order_out(order: &mut ArrayVec<u16, SLOTS>, places: &[Option<Place>], slot: usize, place: Place)
+fn order_out(
+    order: &mut ArrayVec<u16, SLOTS>,
+    places: &[Option<Extent>],
+    slot: usize,
+    place: Extent,
+)
     requires order { IsOrder places.now order.old.items }
     requires count { length places.now ≡ 576 }
     requires live { (slot < 576) × (get_or places.now slot None ≡ Some place) }
@@ -176,13 +181,13 @@ impl Table {
     }
 
     /// Where the block with a number lies.
-    pub(crate) fn place(&self, slot: usize) -> Place
+    pub(crate) fn place(&self, slot: usize) -> Extent
         requires { (slot < 576) × ((b : _) × (get_or self.now.places slot None ≡ Some b)) }
         ensures { get_or self.now.places slot None ≡ Some result }
     {
         match self.places[slot] {
             Some(place) => place,
-            None => Place { base: 0, units: 0 },
+            None => Extent { base: 0, units: 0 },
         }
     }
 
@@ -194,14 +199,14 @@ impl Table {
     }
 
     /// The block at a position of the order.
-    pub(crate) fn nth(&self, position: usize) -> Place
+    pub(crate) fn nth(&self, position: usize) -> Extent
         requires { position < length self.now.order }
         ensures { IsNth self.now.places self.now.order position result }
     {
         let slot = self.order[position] as usize;
         match self.places[slot] {
             Some(place) => place,
-            None => Place { base: 0, units: 0 },
+            None => Extent { base: 0, units: 0 },
         }
     }
 
@@ -225,7 +230,7 @@ impl Table {
     }
 
     /// A block comes. It gets a number that has no block.
-    pub(crate) fn put(&mut self, slot: usize, place: Place)
+    pub(crate) fn put(&mut self, slot: usize, place: Extent)
         requires vacant { (slot < 576) × (get_or self.old.places slot None ≡ None) }
         requires within { place.base + place.units ≤ self.old.units }
         requires free { is_clear self.old.places place.base place.units ≡ true }

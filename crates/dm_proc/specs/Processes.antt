@@ -90,7 +90,11 @@ pub record Execs (upper : Bool) (ps : Processes) (c : Cpu) (m : Memory) (store :
 
 -- why none is, in the order in which the errors are tried: AL is not 0 (1), no such name (2), a bad file (11), no end
 -- of the environment (10), no block list (7), no room (8), a new list that is not clear (7), sixteen processes alive
--- (8)
+-- (8). The cases stand by refusal, not in this order: the order is in what each holds of the errors before it. A name
+-- is looked for where AL is 0; `NamesGood` is there once the name and its file are good, and `Asks` once the
+-- environment has an end too. `PlanRefused` holds the next three in their order: no room means that there is a block
+-- list, and a new list that there is room. Last, `IsPlanned`: both blocks could be written, but fifteen processes wait
+-- for the present one, which is the sixteenth
 abbrev pub ExecRefused : Bool → Processes → Cpu → Memory → List (List ℕ × List ℕ) → Strategy → Refusal → Type 0
 ExecRefused upper ps c m store strategy Function = action c ≢ 0
 ExecRefused upper ps c m store strategy NotFound = (action c ≡ 0) × NameRefused c m store NotFound

@@ -7,6 +7,7 @@ ghost use Rattle.dm_services.specs.Wanting.{OrWants};
 use crate::functions::dos_call;
 use crate::processes::terminate;
 use dm_cpu::Cpu;
+use dm_space::entry_points::{DIVIDE_ERROR_OFFSET, DOS_OFFSET, ENTRY_SEGMENT, TERMINATE_OFFSET};
 use dm_state::{Parts, Stop};
 
 /// What acts in place of the code at a CS:IP pair.
@@ -26,9 +27,9 @@ pub fn service_at(cpu: &Cpu) -> Option<Service>
     ensures { result ≡ service_at cpu.now }
 {
     match (cpu.cs, cpu.ip) {
-        (0xF000, 0x0000) => Some(Service::DivideError),
-        (0xF000, 0x0080) => Some(Service::Terminate),
-        (0xF000, 0x0084) => Some(Service::Dos),
+        (ENTRY_SEGMENT, DIVIDE_ERROR_OFFSET) => Some(Service::DivideError),
+        (ENTRY_SEGMENT, TERMINATE_OFFSET) => Some(Service::Terminate),
+        (ENTRY_SEGMENT, DOS_OFFSET) => Some(Service::Dos),
         _ => None,
     }
 }

@@ -8,7 +8,7 @@ use Rattle.std.proofs.lemmas.List.{get_or-set_other}
 use Rattle.std.specs.List.{length_refill}
 use Rattle.dm_region.specs.Parts.{part, with_part}
 use Rattle.dm_region.proofs.Bytes.{length-with_part}
-use Rattle.dm_pool.specs.declared.places.Place.{Place as Span}
+use Rattle.dm_pool.specs.declared.extent.Extent.{Extent}
 use Rattle.dm_pool.specs.Gaps.{first_empty, lowest}
 use Rattle.dm_pool.specs.Blocks.{Blocks, placed, taken, without, with_block, with_content, moved, moved_bytes, at_place, new_base, resized, fitted, zeros}
 use Rattle.dm_pool.specs.Stored.{Stored, refit}
@@ -31,14 +31,14 @@ same_pages m b keep f = record {
 }
 
 -- a block with another number is as it was
-other_page : (m : Memory) (i : ℕ) (o : Option Span) (xs : List ℕ) (u page : ℕ) → page ≢ i → IsPage m page
+other_page : (m : Memory) (i : ℕ) (o : Option Extent) (xs : List ℕ) (u page : ℕ) → page ≢ i → IsPage m page
     → IsPage (with_blocks m (record { units = u; places = set m.blocks.places i o; contents = set m.blocks.contents i xs })) page
 other_page m i o xs u page ne p =
     let there = p.0.1 in
     ((p.0.0, (there.0, get_or-set_other m.blocks.places i page o None ne ∙ there.1)), ap length (get_or-set_other m.blocks.contents i page xs [] ne) ∙ p.1)
 
 -- a block that no window shows may be any, or gone
-pub hidden_fits : (m : Memory) (i : ℕ) (o : Option Span) (xs : List ℕ) → shows m.windows i ≡ false → Fits m
+pub hidden_fits : (m : Memory) (i : ℕ) (o : Option Extent) (xs : List ℕ) → shows m.windows i ≡ false → Fits m
     → Fits (with_blocks m (record { units = m.blocks.units; places = set m.blocks.places i o; contents = set m.blocks.contents i xs }))
 hidden_fits m i o xs hidden f =
     same_pages m _ (λ k page e p. other_page m i o xs m.blocks.units page (λ s. true≢false (sym (shows-at m.windows k page e) ∙ (ap (shows m.windows) s ∙ hidden))) p) f
@@ -64,7 +64,7 @@ moved_fits m i u (Some p) t h hidden f =
     let new : Blocks = with_block m.blocks i (record { base = p; units = u }) (fitted (get_or m.blocks.contents i []) u) in
     subst (λ (x : Blocks). Fits (with_blocks m x)) (same_Some new t h) (hidden_fits m i (Some (record { base = p; units = u })) (fitted (get_or m.blocks.contents i []) u) hidden f)
 
-at_fits : (m : Memory) (i u : ℕ) (o : Option Span) (t : Blocks) → at_place m.blocks i u o ≡ Some t → shows m.windows i ≡ false → Fits m → Fits (with_blocks m t)
+at_fits : (m : Memory) (i u : ℕ) (o : Option Extent) (t : Blocks) → at_place m.blocks i u o ≡ Some t → shows m.windows i ≡ false → Fits m → Fits (with_blocks m t)
 at_fits m i u None t h hidden f = absurd (none-some t h)
 at_fits m i u (Some b) t h hidden f = moved_fits m i u (new_base m.blocks i b u) t h hidden f
 

@@ -4,14 +4,15 @@
 use Rattle.std.specs.Prelude.{◌≡◌, ℕ, ◌*◌, ◌/◌, ◌%◌, ◌<◌, ◌≤◌, nat_lt, ◌==◌, if◌then◌else◌, List, length, slice_index}
 use Rattle.dm_pool.specs.Blocks.{Blocks}
 use Rattle.dm_pool.specs.Stored.{Stored}
+use Rattle.dm_space.specs.EntryPoints.{entry_segment, expanded_memory_segment, expanded_memory_offset}
 use Rattle.dm_space.specs.Memory.{Memory, Held, of_ram}
 
 -- interrupt n leads to F000:4n, but that of the expanded memory driver to F100:0020
 abbrev pub vector_offset : ℕ → ℕ
-vector_offset n = if n == 0x67 then 0x20 else n * 4
+vector_offset n = if n == 0x67 then expanded_memory_offset else n * 4
 
 abbrev pub vector_segment : ℕ → ℕ
-vector_segment n = if n == 0x67 then 0xF100 else 0xF000
+vector_segment n = if n == 0x67 then expanded_memory_segment else entry_segment
 
 -- byte k of the vector of interrupt n: the offset's low byte, its high byte, the segment's
 abbrev pub vector_byte : ℕ → ℕ → ℕ

@@ -2,6 +2,8 @@
 ghost use Rattle.std.specs.Prelude.{◌≡◌, ◌≤◌, length};
 ghost use Rattle.dm_space.specs.Start.{start_byte, vector_offset, vector_segment, IsLaidOver};
 
+use crate::entry_points::{ENTRY_SEGMENT, EXPANDED_MEMORY_OFFSET, EXPANDED_MEMORY_SEGMENT};
+
 /// Where the first arena header's size ends: the bytes from here on stay as they are.
 const END: usize = 0x1005;
 
@@ -10,7 +12,7 @@ fn vector_offset(interrupt: u8) -> u16
     ensures { result ≡ vector_offset interrupt }
 {
     if interrupt == 0x67 {
-        0x20
+        EXPANDED_MEMORY_OFFSET
     } else {
         interrupt as u16 * 4
     }
@@ -20,7 +22,11 @@ fn vector_offset(interrupt: u8) -> u16
 fn vector_segment(interrupt: u8) -> u16
     ensures { result ≡ vector_segment interrupt }
 {
-    if interrupt == 0x67 { 0xF100 } else { 0xF000 }
+    if interrupt == 0x67 {
+        EXPANDED_MEMORY_SEGMENT
+    } else {
+        ENTRY_SEGMENT
+    }
 }
 
 /// The byte of RAM at a linear address as the machine starts.

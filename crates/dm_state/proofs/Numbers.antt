@@ -5,7 +5,7 @@ use Rattle.std.proofs.lemmas.Bool.{cases_lt, lt-ltb, le-ltb}
 use Rattle.std.proofs.lemmas.List.{get_or-set_other}
 use Rattle.std.proofs.lemmas.List.Sums.{sum_by-cons}
 use Rattle.std.proofs.lemmas.Option.{none-some}
-use Rattle.dm_pool.specs.declared.places.Place.{Place}
+use Rattle.dm_pool.specs.declared.extent.Extent.{Extent}
 use Rattle.dm_pool.proofs.FreeRuns.{below_length}
 use Rattle.dm_ems.specs.declared.tables.Page.{Page}
 use Rattle.dm_ems.specs.Tables.{expanded}
@@ -17,14 +17,14 @@ use Rattle.dm_state.specs.State.{State, IsHandled, AreConsistent}
 
 -- ---- blocks whose numbers are n numbers are n at most
 
-one : Option Place → ℕ
+one : Option Extent → ℕ
 one o = cond (is_some o) 1 0
 
-counted : (p : Option Place) (ps : List (Option Place)) → count_by is_some (p ∷ ps) ≡ one p + count_by is_some ps
+counted : (p : Option Extent) (ps : List (Option Extent)) → count_by is_some (p ∷ ps) ≡ one p + count_by is_some ps
 unfolding one
-counted p ps = sum_by-cons (λ (o : Option Place). cond (is_some o) 1 0) p ps
+counted p ps = sum_by-cons (λ (o : Option Extent). cond (is_some o) 1 0) p ps
 
-one_most : (p : Option Place) → one p ≤ 1
+one_most : (p : Option Extent) → one p ≤ 1
 unfolding one
 one_most None = omega arith
 one_most (Some b) = omega arith
@@ -33,26 +33,26 @@ nothing_counts : one None ≡ 0
 unfolding one
 nothing_counts = refl
 
-one_gone : (ps : List (Option Place)) (i : ℕ) → count_by is_some ps ≤ count_by is_some (set ps i None) + 1
+one_gone : (ps : List (Option Extent)) (i : ℕ) → count_by is_some ps ≤ count_by is_some (set ps i None) + 1
 one_gone [] i = omega arith
 one_gone (p ∷ ps) zero = omega (arith, counted p ps, counted None ps, one_most p, nothing_counts)
 one_gone (p ∷ ps) (suc i) = let rest = one_gone ps i in omega (arith, counted p ps, counted p (set ps i None), rest)
 
-none_there : (ps : List (Option Place)) → ((i : ℕ) (b : Place) → get_or ps i None ≡ Some b → ⊥) → count_by is_some ps ≡ 0
+none_there : (ps : List (Option Extent)) → ((i : ℕ) (b : Extent) → get_or ps i None ≡ Some b → ⊥) → count_by is_some ps ≡ 0
 none_there [] h = refl
 none_there (None ∷ ps) h = let rest = none_there ps (λ i. h (suc i)) in omega (arith, counted None ps, nothing_counts, rest)
 none_there (Some c ∷ ps) h = absurd (h 0 c refl)
 
-gone : (ps : List (Option Place)) (i : ℕ) → get_or (set ps i None) i None ≡ None
+gone : (ps : List (Option Extent)) (i : ℕ) → get_or (set ps i None) i None ≡ None
 gone [] i = refl
 gone (p ∷ ps) zero = refl
 gone (p ∷ ps) (suc i) = gone ps i
 
-covered : (n : ℕ) (at : ℕ → ℕ) (ps : List (Option Place)) → ((i : ℕ) (b : Place) → get_or ps i None ≡ Some b → (k : ℕ) × (k < n) × (at k ≡ i)) → count_by is_some ps ≤ n
+covered : (n : ℕ) (at : ℕ → ℕ) (ps : List (Option Extent)) → ((i : ℕ) (b : Extent) → get_or ps i None ≡ Some b → (k : ℕ) × (k < n) × (at k ≡ i)) → count_by is_some ps ≤ n
 covered zero at ps h = omega (arith, none_there ps (λ i b e. let lt = (h i b e).1 in omega (arith, lt)))
 covered (suc m) at ps h =
-    let less : List (Option Place) = set ps (at m) None in
-    let other : (i : ℕ) (b : Place) → get_or less i None ≡ Some b → i ≢ at m = λ i b e f. none-some b (sym (gone ps (at m)) ∙ ap (λ k. get_or less k None) (sym f) ∙ e) in
+    let less : List (Option Extent) = set ps (at m) None in
+    let other : (i : ℕ) (b : Extent) → get_or less i None ≡ Some b → i ≢ at m = λ i b e f. none-some b (sym (gone ps (at m)) ∙ ap (λ k. get_or less k None) (sym f) ∙ e) in
     let rest = covered m at less (λ i b e.
     let ne = other i b e in
     let k = h i b (sym (get_or-set_other ps (at m) i None None ne) ∙ e) in

@@ -68,7 +68,7 @@ fn memory_starts_over_a_used_store(rt: HostRuntime) -> Result<(), Fail> {
     Ok(())
 }
 
-/// Definitions: dm_space Memory linear place shown byte_at with_byte peek poke with_a20; dm_space Rom rom
+/// Definitions: dm_space Memory linear place shown byte_at with_byte peek poke with_a20; dm_space Rom rom rom_offset
 /// Definitions: dm_space Start IsStart IsStartOfRam start_byte IsStartOver IsLaidOver vector_offset vector_segment
 /// vector_byte
 #[test]

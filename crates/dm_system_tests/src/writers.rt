@@ -1,10 +1,11 @@
-//! The adapter over a standard writer that takes one byte a write and fails from a given write on.
-use dm_out::{Failed, Sink, write_all};
+//! The adapter over a standard writer that takes one byte a write and fails from a given write on, or at each flush.
+use dm_out::{Failed, Out, Sink, write_all};
 use std::io;
 use std::io::Write;
 use std::test::Fail;
 
-/// Takes one byte a write, fails once `left` writes were made, or, where `refuses`, takes nothing from then on.
+/// Takes one byte a write, and fails once `left` writes were made. Where `refuses`, it takes nothing from then on, and each
+/// flush fails.
 #[derive(Drop)]
 struct Slow<'a> {
     taken: &'a mut Vec<u8>,
@@ -29,7 +30,10 @@ impl Write for Slow<'_> {
     }
 
     fn flush(&mut self) -> io::Result<()> {
-        Ok(())
+        match self.refuses {
+            true => Err(io::Error::from(io::ErrorKind::BrokenPipe)),
+            false => Ok(()),
+        }
     }
 }
 
@@ -50,6 +54,22 @@ fn stops_at_each_failing_write(rt: HostRuntime) -> Result<(), Fail> {
             drop(sink);
             assert_eq!(rt; Some(taken.as_slice()), text.get(..left.min(5)));
         }
+    }
+    Ok(())
+}
+
+/// Definitions: dm_out Out Written
+#[test]
+fn passes_on_a_failed_flush(rt: HostRuntime) -> Result<(), Fail> {
+    for refuses in [false, true] {
+        let mut taken = Vec::new(rt.alloc());
+        let mut sink = Sink::new(Slow {
+            taken: &mut taken,
+            left: 0,
+            refuses,
+        });
+        let want = if refuses { Err(Failed) } else { Ok(()) };
+        assert_eq!(rt; sink.flush(), want);
     }
     Ok(())
 }

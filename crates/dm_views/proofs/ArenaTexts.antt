@@ -6,7 +6,7 @@ use Rattle.dm_blocks.specs.declared.header.Header.{Header}
 use Rattle.dm_blocks.specs.declared.header.Entry.{Entry}
 use Rattle.dm_blocks.specs.declared.listing.Step.{Step}
 use Rattle.dm_blocks.specs.declared.listing.Step.TheVariants as step
-use Rattle.dm_blocks.specs.Chain.{first_header, next, mark, signature, IsHeader, IsClear, IsArenaBehind}
+use Rattle.dm_blocks.specs.Chain.{first_header, next, signature_byte, signature, IsHeader, IsClear, IsArenaBehind}
 use Rattle.dm_blocks.specs.Listing.{Walking, Path, Leads, Follows, Closes, IsBehind, IsStep, IsStepFrom, Steps, start_of}
 use Rattle.dm_blocks.proofs.Unique.{arena_unique}
 use Rattle.dm_views.specs.Arena.{header_line, list_text, front_text, end_line, destroyed_line, IsWhole, IsCutShort}
@@ -58,18 +58,18 @@ path_more S h (q ∷ P) t b p at x = (p.0, p.1, path_more S (next q) P t b p.2 a
 -- a header that others follow, or the last one
 leads_more : (m : Memory) (F : List Header) (start : ℕ) (P : List Header) (t : ℕ) (e : Entry) → Leads m F start P t → Follows m F P t e → e.last ≡ false → Leads m F start (P ++ e.header ∷ []) (next e.header)
 leads_more m F start P t e l f more = record {
-  path = path_more m start P t e.header l.path f.at (subst (λ (s : ℕ). IsHeader m e.header s) (ap mark more) f.header);
+  path = path_more m start P t e.header l.path f.at (subst (λ (s : ℕ). IsHeader m e.header s) (ap signature_byte more) f.header);
   clear = f.clear;
   apart = f.apart;
 }
 
-told_by : (m : Memory) (F : List Header) (start : ℕ) (P : List Header) (t : ℕ) (e : Entry) (r : Bool) (at : Option ℕ) (text : List ℕ) → e.last ≡ r → Leads m F start P t → Follows m F P t e → Closes m F start P e → at ≡ (if e.last then None else Some (next e.header)) → text ≡ front_text P ++ header_line (mark e.last) e.header → HasTold m F start at text
+told_by : (m : Memory) (F : List Header) (start : ℕ) (P : List Header) (t : ℕ) (e : Entry) (r : Bool) (at : Option ℕ) (text : List ℕ) → e.last ≡ r → Leads m F start P t → Follows m F P t e → Closes m F start P e → at ≡ (if e.last then None else Some (next e.header)) → text ≡ front_text P ++ header_line (signature_byte e.last) e.header → HasTold m F start at text
 told_by m F start P t e true at text is l f c next-is same =
     over (P ++ e.header ∷ []) (next-is ∙ ap (λ (b : Bool). if b then None else Some (next e.header)) is)
-    (same ∙ ap (λ (b : Bool). front_text P ++ header_line (mark b) e.header) is ∙ sym (list_last P e.header)) (c is)
+    (same ∙ ap (λ (b : Bool). front_text P ++ header_line (signature_byte b) e.header) is ∙ sym (list_last P e.header)) (c is)
 told_by m F start P t e false at text is l f c next-is same =
     on_way (P ++ e.header ∷ []) (next e.header) (next-is ∙ ap (λ (b : Bool). if b then None else Some (next e.header)) is)
-    (same ∙ ap (λ (b : Bool). front_text P ++ header_line (mark b) e.header) is ∙ sym (front_more P e.header)) (leads_more m F start P t e l f is)
+    (same ∙ ap (λ (b : Bool). front_text P ++ header_line (signature_byte b) e.header) is ∙ sym (front_more P e.header)) (leads_more m F start P t e l f is)
 
 at_segment : (m : Memory) (F : List Header) (start : ℕ) (at after : Option ℕ) (s : Step) (t : ℕ) → at ≡ Some t → IsStep m F start at s after → IsStepFrom m F start t s after
 at_segment m F start at after s t e h = subst (λ (o : Option ℕ). IsStep m F start o s after) e h
@@ -77,11 +77,11 @@ at_segment m F start at after s t e h = subst (λ (o : Option ℕ). IsStep m F s
 at_end : (m : Memory) (F : List Header) (start : ℕ) (at after : Option ℕ) (s : Step) → at ≡ None → IsStep m F start at s after → IsStep m F start None s after
 at_end m F start at after s e h = subst (λ (o : Option ℕ). IsStep m F start o s after) e h
 
-one_told : (m : Memory) (F : List Header) (start : ℕ) (at after : Option ℕ) (e : Entry) (text new : List ℕ) → HasTold m F start at text → IsStep m F start at (step.Told e) after → new ≡ text ++ header_line (mark e.last) e.header → HasTold m F start after new
+one_told : (m : Memory) (F : List Header) (start : ℕ) (at after : Option ℕ) (e : Entry) (text new : List ℕ) → HasTold m F start at text → IsStep m F start at (step.Told e) after → new ≡ text ++ header_line (signature_byte e.last) e.header → HasTold m F start after new
 one_told m F start at after e text new (on_way P t is same l) h k =
     let s = at_segment m F start at after (step.Told e) t is h in
     let f = s.1 P l in
-    told_by m F start P t e e.last after new refl l f.0 f.1 s.0 (k ∙ ap (λ (x : List ℕ). x ++ header_line (mark e.last) e.header) same)
+    told_by m F start P t e e.last after new refl l f.0 f.1 s.0 (k ∙ ap (λ (x : List ℕ). x ++ header_line (signature_byte e.last) e.header) same)
 one_told m F start at after e text new (over L is same a) h k = absurd (at_end m F start at after (step.Told e) is h)
 
 -- how far the walk can still go
@@ -153,13 +153,13 @@ step_of w old out v s after h k F b =
     let f = front_of w old out v s after h k in
     subst (λ (X : List Header). IsStep w.memory X (start_of w.second) v.at s after) (behind_once w.memory w.second f.0 F f.1 b) f.2
 
-pub telling_more : (w : Walking) (old out new : List ℕ) (v u : Walking) (e : Entry) → Telling w old v out → u.memory ≡ v.memory → u.second ≡ v.second → Steps v (step.Told e) u.at → new ≡ out ++ header_line (mark e.last) e.header → Telling w old u new
+pub telling_more : (w : Walking) (old out new : List ℕ) (v u : Walking) (e : Entry) → Telling w old v out → u.memory ≡ v.memory → u.second ≡ v.second → Steps v (step.Told e) u.at → new ≡ out ++ header_line (signature_byte e.last) e.header → Telling w old u new
 telling_more w old out new v u e h same begins s k = record {
   memory = same ∙ h.memory;
   second = begins ∙ h.second;
-  text = h.text ++ header_line (mark e.last) e.header;
-  is = k ∙ ap (λ (x : List ℕ). x ++ header_line (mark e.last) e.header) h.is ∙ append_assoc old h.text (header_line (mark e.last) e.header);
-  told = λ F b. one_told w.memory F (start_of w.second) v.at u.at e h.text (h.text ++ header_line (mark e.last) e.header) (h.told F b) (step_of w old out v (step.Told e) u.at h s F b) refl;
+  text = h.text ++ header_line (signature_byte e.last) e.header;
+  is = k ∙ ap (λ (x : List ℕ). x ++ header_line (signature_byte e.last) e.header) h.is ∙ append_assoc old h.text (header_line (signature_byte e.last) e.header);
+  told = λ F b. one_told w.memory F (start_of w.second) v.at u.at e h.text (h.text ++ header_line (signature_byte e.last) e.header) (h.told F b) (step_of w old out v (step.Told e) u.at h s F b) refl;
 }
 
 pub telling_nearer : (w : Walking) (old out : List ℕ) (v u : Walking) (e : Entry) → Telling w old v out → Steps v (step.Told e) u.at → ahead u.at < ahead v.at

@@ -3,38 +3,40 @@ use Rattle.std.proofs.Common.{◌≡◌, ℕ, zero, suc, ◌+◌, ◌≤◌, Lis
 use Rattle.std.proofs.lemmas.Bool.{cases_lt}
 use Rattle.std.proofs.lemmas.List.{take-append-drop, length-take, take-take}
 use Rattle.dm_space.specs.Memory.{Memory}
+use Rattle.dm_space.specs.EightBytes.{sixteen_after}
 use Rattle.dm_ins.specs.declared.ins.Ins.{Ins}
+use Rattle.dm_ins.specs.Ins.{BeginsWith}
 use Rattle.dm_decode.proofs.Exact.{no_front}
 use Rattle.dm_cpu.specs.declared.cpu.Cpu.{Cpu}
 use Rattle.dm_cpu.specs.Guest.{up}
-use Rattle.dm_views.specs.Code.{sixteen, listed_line, StandsInMemory, IsLine, listed, unlisted, AreLines, none, more, IsCode}
+use Rattle.dm_views.specs.Code.{listed_line, IsLine, listed, unlisted, AreLines, none, more, IsCode}
 use Rattle.dm_views.specs.Registers.{fields_text, general, special, IsRegistersText}
 
 -- ---- one instruction stands at an address
 
-length_sixteen : (m : Memory) (s o : ℕ) → length (sixteen m s o) ≡ 16
-unfolding sixteen
+length_sixteen : (m : Memory) (s o : ℕ) → length (sixteen_after m s o) ≡ 16
+unfolding sixteen_after
 length_sixteen m s o = refl
 
 record Same (i j : Ins) (k l : ℕ) : Type 0 where
   instruction : i ≡ j
   size : k ≡ l
 
-same_before : (bytes : List ℕ) (m : Memory) (s o : ℕ) (i j : Ins) (k l : ℕ) → bytes ≡ sixteen m s o → k ≤ l → StandsInMemory m s o i k → StandsInMemory m s o j l → Same i j k l
+same_before : (bytes : List ℕ) (m : Memory) (s o : ℕ) (i j : Ins) (k l : ℕ) → bytes ≡ sixteen_after m s o → k ≤ l → BeginsWith (sixteen_after m s o) i k → BeginsWith (sixteen_after m s o) j l → Same i j k l
 same_before bytes m s o i j k l e h b c =
-    let long : length (sixteen m s o) ≡ 16 = length_sixteen m s o in
+    let long : length (sixteen_after m s o) ≡ 16 = length_sixteen m s o in
     let short = b.short in
     let other = c.short in
-    let front : take l (sixteen m s o) ≡ take k (sixteen m s o) ++ drop k (take l (sixteen m s o))
-    = sym (take-append-drop k (take l (sixteen m s o))) ∙ ap (λ (xs : List ℕ). xs ++ drop k (take l (sixteen m s o))) (take-take k l (sixteen m s o) h) in
-    let both = no_front i j (take k (sixteen m s o)) (take l (sixteen m s o)) (drop k (take l (sixteen m s o))) b.spells c.spells front in
-    let lengths : length (take k (sixteen m s o)) ≡ length (take l (sixteen m s o)) = ap length both.0 in
-    record { instruction = both.1; size = omega (arith, length-take k (sixteen m s o), length-take l (sixteen m s o)) }
+    let front : take l (sixteen_after m s o) ≡ take k (sixteen_after m s o) ++ drop k (take l (sixteen_after m s o))
+    = sym (take-append-drop k (take l (sixteen_after m s o))) ∙ ap (λ (xs : List ℕ). xs ++ drop k (take l (sixteen_after m s o))) (take-take k l (sixteen_after m s o) h) in
+    let both = no_front i j (take k (sixteen_after m s o)) (take l (sixteen_after m s o)) (drop k (take l (sixteen_after m s o))) b.spells c.spells front in
+    let lengths : length (take k (sixteen_after m s o)) ≡ length (take l (sixteen_after m s o)) = ap length both.0 in
+    record { instruction = both.1; size = omega (arith, length-take k (sixteen_after m s o), length-take l (sixteen_after m s o)) }
 
-stands_once : (m : Memory) (s o : ℕ) (i j : Ins) (k l : ℕ) → StandsInMemory m s o i k → StandsInMemory m s o j l → Same i j k l
+stands_once : (m : Memory) (s o : ℕ) (i j : Ins) (k l : ℕ) → BeginsWith (sixteen_after m s o) i k → BeginsWith (sixteen_after m s o) j l → Same i j k l
 stands_once m s o i j k l b c = elim (cases_lt k l) [
-  | inl low ↦ same_before (sixteen m s o) m s o i j k l refl (omega arith) b c
-  | inr high ↦ let e = same_before (sixteen m s o) m s o j i l k refl high c b in record { instruction = sym e.instruction; size = sym e.size }
+  | inl low ↦ same_before (sixteen_after m s o) m s o i j k l refl (omega arith) b c
+  | inr high ↦ let e = same_before (sixteen_after m s o) m s o j i l k refl high c b in record { instruction = sym e.instruction; size = sym e.size }
 ]
 
 -- ---- one line is told
@@ -48,7 +50,7 @@ line_once m s o _ _ _ _ (listed i k x) (listed j l y) =
     let e = stands_once m s o i j k l x y in
     record {
       size = e.size;
-      text = ap (λ (n : ℕ). listed_line s o (take n (sixteen m s o)) i (up o n)) e.size ∙ ap (λ (z : Ins). listed_line s o (take l (sixteen m s o)) z (up o l)) e.instruction;
+      text = ap (λ (n : ℕ). listed_line s o (take n (sixteen_after m s o)) i (up o n)) e.size ∙ ap (λ (z : Ins). listed_line s o (take l (sixteen_after m s o)) z (up o l)) e.instruction;
     }
 line_once m s o _ _ _ _ (listed i k x) (unlisted n) = absurd (n i k x)
 line_once m s o _ _ _ _ (unlisted n) (listed j l y) = absurd (n j l y)

@@ -2,30 +2,31 @@
 use Rattle.std.proofs.Common.{◌≡◌, ℕ, ◌+◌, ◌≤◌, List, [], ◌++◌, take, get_or, Some, None, refl, sym, ◌∙◌, ap, subst, append_assoc, append-nil}
 use Rattle.dm_space.specs.Memory.{Memory}
 use Rattle.dm_ins.specs.declared.ins.Ins.{Ins}
+use Rattle.dm_ins.specs.Ins.{BeginsWith}
 use Rattle.dm_decode.specs.Decoded.{Decodes}
 use Rattle.dm_cpu.specs.Guest.{up}
-use Rattle.dm_space.specs.EightBytes.{byte_after}
-use Rattle.dm_views.specs.Code.{sixteen, listed_line, unlisted_line, StandsInMemory, IsLine, listed, unlisted, AreLines, none, more, IsCode}
+use Rattle.dm_space.specs.EightBytes.{byte_after, sixteen_after}
+use Rattle.dm_views.specs.Code.{listed_line, unlisted_line, IsLine, listed, unlisted, AreLines, none, more, IsCode}
 
 -- the bytes there begin with a spelling of the instruction
-pub stands : (m : Memory) (s o : ℕ) (window : List ℕ) (i : Ins) (k : ℕ) → window ≡ sixteen m s o → Decodes window (Some (i, k)) → StandsInMemory m s o i k
+pub stands : (m : Memory) (s o : ℕ) (window : List ℕ) (i : Ins) (k : ℕ) → window ≡ sixteen_after m s o → Decodes window (Some (i, k)) → BeginsWith (sixteen_after m s o) i k
 stands m s o window i k w d =
     let told = (subst (λ (x : List ℕ). Decodes x (Some (i, k))) w d i k).0 refl in
     record { short = told.0; spells = told.1 }
 
 -- they begin with none
-pub none_stands : (m : Memory) (s o : ℕ) (window : List ℕ) → window ≡ sixteen m s o → Decodes window None → (i : Ins) (k : ℕ) → StandsInMemory m s o i k → ⊥
+pub none_stands : (m : Memory) (s o : ℕ) (window : List ℕ) → window ≡ sixteen_after m s o → Decodes window None → (i : Ins) (k : ℕ) → BeginsWith (sixteen_after m s o) i k → ⊥
 none_stands m s o window w d i k x =
     let e = (subst (λ (y : List ℕ). Decodes y None) w d i k).1 (x.short, x.spells) in cc
 
-first_byte : (m : Memory) (s o : ℕ) (d : ℕ) → get_or (sixteen m s o) 0 d ≡ byte_after m s o 0
-unfolding sixteen
+first_byte : (m : Memory) (s o : ℕ) (d : ℕ) → get_or (sixteen_after m s o) 0 d ≡ byte_after m s o 0
+unfolding sixteen_after
 first_byte m s o d = refl
 
-pub line_listed : (m : Memory) (s o : ℕ) (window : List ℕ) (i : Ins) (k : ℕ) → window ≡ sixteen m s o → Decodes window (Some (i, k)) → IsLine m s o k (listed_line s o (take k window) i (up o k))
+pub line_listed : (m : Memory) (s o : ℕ) (window : List ℕ) (i : Ins) (k : ℕ) → window ≡ sixteen_after m s o → Decodes window (Some (i, k)) → IsLine m s o k (listed_line s o (take k window) i (up o k))
 line_listed m s o window i k w d = rw w (listed i k (stands m s o window i k w d))
 
-pub line_unlisted : (m : Memory) (s o : ℕ) (window : List ℕ) (byte d : ℕ) → window ≡ sixteen m s o → byte ≡ get_or window 0 d → Decodes window None → IsLine m s o 1 (unlisted_line s o byte)
+pub line_unlisted : (m : Memory) (s o : ℕ) (window : List ℕ) (byte d : ℕ) → window ≡ sixteen_after m s o → byte ≡ get_or window 0 d → Decodes window None → IsLine m s o 1 (unlisted_line s o byte)
 line_unlisted m s o window byte d w b n =
     let e : byte ≡ byte_after m s o 0 = b ∙ ap (λ (x : List ℕ). get_or x 0 d) w ∙ first_byte m s o d in
     rw e (unlisted (none_stands m s o window w n))

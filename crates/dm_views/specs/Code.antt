@@ -1,19 +1,15 @@
 -- Instructions that stand in memory, as lines: the address, the bytes as joined pairs of digits, and the text.
 -- Source: MS-DOS User's Reference, "DEBUG" (Unassemble); Intel 8086 Family User's Manual, section 4 (encoding). The
 -- form is this machine's own.
-use Rattle.std.specs.Prelude.{ℕ, ◌+◌, ◌≤◌, List, [], ◌∷◌, ◌++◌, map, take, codes}
+use Rattle.std.specs.Prelude.{ℕ, ◌+◌, List, [], ◌∷◌, ◌++◌, take, codes}
 use Rattle.std.specs.List.{flat_map}
 use Rattle.dm_space.specs.Memory.{Memory}
-use Rattle.dm_space.specs.EightBytes.{byte_after}
+use Rattle.dm_space.specs.EightBytes.{byte_after, sixteen_after}
 use Rattle.dm_ins.specs.declared.ins.Ins.{Ins}
-use Rattle.dm_ins.specs.Ins.{Spells}
+use Rattle.dm_ins.specs.Ins.{BeginsWith}
 use Rattle.dm_cpu.specs.Guest.{up}
 use Rattle.dm_text.specs.Texts.{text_of}
 use Rattle.dm_views.specs.Digits.{two, address_text}
-
--- the sixteen bytes from segment:offset on; no instruction is longer
-unfoldable pub sixteen : Memory → ℕ → ℕ → List ℕ
-sixteen m segment offset = map (byte_after m segment offset) (0 ∷ 1 ∷ 2 ∷ 3 ∷ 4 ∷ 5 ∷ 6 ∷ 7 ∷ 8 ∷ 9 ∷ 10 ∷ 11 ∷ 12 ∷ 13 ∷ 14 ∷ 15 ∷ [])
 
 -- the line of an instruction with these bytes, where the next one stands at an offset
 abbrev pub listed_line : ℕ → ℕ → List ℕ → Ins → ℕ → List ℕ
@@ -23,15 +19,10 @@ listed_line segment offset bytes i next = address_text segment offset ++ codes "
 abbrev pub unlisted_line : ℕ → ℕ → ℕ → List ℕ
 unlisted_line segment offset byte = address_text segment offset ++ codes " " ++ two byte ++ codes " DB" ++ 10 ∷ []
 
--- the first bytes there, as many as the length, spell the instruction
-pub record StandsInMemory (m : Memory) (segment offset : ℕ) (i : Ins) (k : ℕ) : Type 0 where
-  pub short : k ≤ 16
-  pub spells : Spells i (take k (sixteen m segment offset))
-
--- the line of the k bytes at segment:offset
+-- the line of the k bytes at segment:offset: of an instruction that stands there, or of a byte with which none begins
 pub data IsLine (m : Memory) (segment offset : ℕ) : ℕ → List ℕ → Type 0 where
-  listed : (i : Ins) (k : ℕ) → StandsInMemory m segment offset i k → IsLine m segment offset k (listed_line segment offset (take k (sixteen m segment offset)) i (up offset k))
-  unlisted : ((i : Ins) (k : ℕ) → StandsInMemory m segment offset i k → ⊥) → IsLine m segment offset 1 (unlisted_line segment offset (byte_after m segment offset 0))
+  listed : (i : Ins) (k : ℕ) → BeginsWith (sixteen_after m segment offset) i k → IsLine m segment offset k (listed_line segment offset (take k (sixteen_after m segment offset)) i (up offset k))
+  unlisted : ((i : Ins) (k : ℕ) → BeginsWith (sixteen_after m segment offset) i k → ⊥) → IsLine m segment offset 1 (unlisted_line segment offset (byte_after m segment offset 0))
 
 -- so many lines, each of what stands behind the bytes of the line before it, and the offset behind the last
 pub data AreLines (m : Memory) (segment offset : ℕ) : ℕ → ℕ → List ℕ → Type 0 where

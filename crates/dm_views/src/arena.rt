@@ -2,7 +2,7 @@
 
 ghost use Rattle.std.specs.Prelude.{◌≡◌, ◌++◌, ◌∷◌, [], false, IfOk, List, None, OnOk, Some, ℕ};
 ghost use Rattle.dm_blocks.specs.declared.header.Header.{Header};
-ghost use Rattle.dm_blocks.specs.Chain.{first_header, link_header, mark, IsArena};
+ghost use Rattle.dm_blocks.specs.Chain.{first_header, link_header, signature_byte, IsArena};
 ghost use Rattle.dm_blocks.specs.Listing.{start_of};
 ghost use Rattle.dm_views.specs.Digits.{four};
 ghost use Rattle.dm_views.specs.Arena.{header_line, end_line, destroyed_line, unlinked_line, IsArenaText, IsListText};
@@ -15,14 +15,14 @@ use std::alloc::AllocError;
 
 /// The signature of a header.
 fn signature(last: bool) -> u8
-    ensures { result ≡ mark last }
+    ensures { result ≡ signature_byte last }
 {
     if last { b'Z' } else { b'M' }
 }
 
 /// Puts the line of a header.
 fn put_entry(out: &mut Vec<u8>, entry: Entry) -> Result<(), AllocError>
-    ensures { OnOk result (out.new.items ≡ out.old.items ++ header_line (mark entry.last) entry.header) }
+    ensures { OnOk result (out.new.items ≡ out.old.items ++ header_line (signature_byte entry.last) entry.header) }
 {
     out.extend_from_slice(&word_digits(entry.header.segment))?;
     out.extend_from_slice(&[b' ', signature(entry.last), b' '])?;

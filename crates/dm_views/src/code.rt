@@ -2,9 +2,10 @@
 
 ghost use Rattle.std.specs.Prelude.{◌≡◌, ◌+◌, ◌%◌, ◌++◌, ◌≤◌, List, ℕ, length, take, OnOk, IfOk};
 ghost use Rattle.std.specs.List.{flat_map};
+ghost use Rattle.dm_space.specs.EightBytes.{sixteen_after};
 ghost use Rattle.dm_text.specs.Texts.{text_of};
 ghost use Rattle.dm_views.specs.Digits.{two};
-ghost use Rattle.dm_views.specs.Code.{sixteen, listed_line, unlisted_line, IsLine, IsCode};
+ghost use Rattle.dm_views.specs.Code.{listed_line, unlisted_line, IsLine, IsCode};
 
 use crate::digits::{byte_digits, put_address};
 use dm_decode::decode;
@@ -14,9 +15,9 @@ use dm_text::{Line, text};
 use std::alloc::AllocError;
 
 /// The sixteen bytes from an address on.
-#[tactic(auto, unfolding(crate::specs::Code::sixteen))]
+#[tactic(auto, unfolding(dm_space::specs::EightBytes::sixteen_after))]
 fn window(space: &Space, segment: u16, offset: u16) -> [u8; 16]
-    ensures { result ≡ sixteen space.now.memory segment offset }
+    ensures { result ≡ sixteen_after space.now.memory segment offset }
 {
     let at = |k: u16| space.peek(segment, offset.wrapping_add(k));
     [

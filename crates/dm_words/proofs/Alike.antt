@@ -61,7 +61,7 @@ direct_is a e = let d = base_is a.base e in rw d refl
 -- ---- operands that the mod r/m byte does not place in memory
 
 unfoldable pub uses_memory : Kind → Bool
-uses_memory (is.Place v) = true
+uses_memory (is.RegisterOrMemory v) = true
 uses_memory is.Memory = true
 uses_memory _ = false
 
@@ -82,7 +82,7 @@ Exchanged k g p d = (e : List ℕ) × Fills k g p e × (length e ≡ length d)
 pub exchanged : (m : Mnemonic) (k : Kind) (f g : Fields) (o p : Operand) (d : List ℕ) → f.register < 8 → g.register ≡ f.register → suits m k ≡ true → uses_memory k ≡ false → Alike m o p → OperandFits p → Known m p → Fills k f o d → Exchanged k g p d
 unfolding Alike Known suits uses_memory
 exchanged m is.Nothing f g o p d lt r s u al fit kn h = (d, ((rw h.0 at al), h.1), refl)
-exchanged m (is.Place v) f g o p d lt r s u al fit kn h = absurd cc
+exchanged m (is.RegisterOrMemory v) f g o p d lt r s u al fit kn h = absurd cc
 exchanged m (is.Register v) f g o p d lt r s u al fit kn h = (d, (rw r (register_alike m v f.register p (rw h.0 at al)), h.1), refl)
 exchanged m is.Memory f g o p d lt r s u al fit kn h = absurd cc
 exchanged m is.ByteValue f g o p d lt r s u al fit kn h =

@@ -81,7 +81,7 @@ place_known m v n (Some a) = tt
 known : (m : Mnemonic) (k : Kind) (f : Fields) (o : Operand) (d : List ℕ) → f.register < 8 → suits m k ≡ true → Fills k f o d → Known m o
 unfolding Known suits
 known m is.Nothing f o d lt s h = rw h.0 tt
-known m (is.Place v) f o d lt s h = rw h.0 (place_known m v f.rm f.memory)
+known m (is.RegisterOrMemory v) f o d lt s h = rw h.0 (place_known m v f.rm f.memory)
 known m (is.Register v) f o d lt s h = rw h.0 (register_known m v f.register)
 known m is.Memory f o d lt s h = rw h.2 tt
 known m is.ByteValue f o d lt s h = rw h.2 (λ e. never (is_escape m) e (is_opposite (is_escape m) s))

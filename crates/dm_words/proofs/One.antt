@@ -52,7 +52,7 @@ memory_sort width.Word = 5
 
 sorts : Kind → List ℕ
 sorts is.Nothing = 0 ∷ []
-sorts (is.Place v) = register_sort v ∷ memory_sort v ∷ []
+sorts (is.RegisterOrMemory v) = register_sort v ∷ memory_sort v ∷ []
 sorts (is.Register v) = register_sort v ∷ []
 sorts is.Memory = 5 ∷ []
 sorts is.ByteValue = 6 ∷ []
@@ -75,7 +75,7 @@ module _ (p : ℕ → Bool) where
   Good : Operand → Type 0
   Good o = p (sort o) ≡ true
 
-  at_place_sort : (v : Width) (n : ℕ) (a : Option Address) → list_all p (sorts (is.Place v)) ≡ true → p (sort (at_place v n a)) ≡ true
+  at_place_sort : (v : Width) (n : ℕ) (a : Option Address) → list_all p (sorts (is.RegisterOrMemory v)) ≡ true → p (sort (at_place v n a)) ≡ true
   unfolding sorts sort register_sort memory_sort
   at_place_sort width.Byte n None h = (both_true _ _ h).0
   at_place_sort width.Word n None h = (both_true _ _ h).0
@@ -95,7 +95,7 @@ module _ (p : ℕ → Bool) where
   of_kind : (k : Kind) (m : Fields) (o : Operand) (d : List ℕ) → Fills k m o d → list_all p (sorts k) ≡ true → p (sort o) ≡ true
   unfolding sorts sort
   of_kind is.Nothing m o d f h = rw f.0 (one_true _ h)
-  of_kind (is.Place v) m o d f h = rw f.0 (at_place_sort v m.rm m.memory h)
+  of_kind (is.RegisterOrMemory v) m o d f h = rw f.0 (at_place_sort v m.rm m.memory h)
   of_kind (is.Register v) m o d f h = rw f.0 (register_is_sort v m.register h)
   of_kind is.Memory m o d f h = rw f.2 (one_true _ h)
   of_kind is.ByteValue m o d f h = rw f.2 (one_true _ h)

@@ -124,7 +124,7 @@ pub record Placed (k : Kind) (f : Fields) (p : Operand) (d : List ℕ) : Type 0 
   pub moved : Moved f g
   pub fills : Fills k g p d
 
-at_place_placed : (m : Mnemonic) (v : Width) (f : Fields) (o p : Operand) (a : Option Address) → f.memory ≡ a → o ≡ at_place v f.rm a → Alike m o p → OperandFits p → Placed (is.Place v) f p []
+at_place_placed : (m : Mnemonic) (v : Width) (f : Fields) (o p : Operand) (a : Option Address) → f.memory ≡ a → o ≡ at_place v f.rm a → Alike m o p → OperandFits p → Placed (is.RegisterOrMemory v) f p []
 unfolding Alike
 at_place_placed m v f o p None e h al fit = record { g = f; moved = inl refl; fills = (rw e (register_alike m v f.rm p (rw h at al)), refl) }
 at_place_placed m v f o p (Some a) e h al fit =
@@ -134,7 +134,7 @@ at_place_placed m v f o p (Some a) e h al fit =
 
 pub placed : (m : Mnemonic) (k : Kind) (f : Fields) (o p : Operand) (d : List ℕ) → uses_memory k ≡ true → Alike m o p → OperandFits p → Fills k f o d → Placed k f p d
 unfolding Alike uses_memory
-placed m (is.Place v) f o p d u al fit h = rw h.1 (at_place_placed m v f o p f.memory refl h.0 al fit)
+placed m (is.RegisterOrMemory v) f o p d u al fit h = rw h.1 (at_place_placed m v f o p f.memory refl h.0 al fit)
 placed m is.Memory f o p d u al fit h =
     let k = rw h.2 at al in
     let n = named_by f h.0 k.0 h.1 k.2 (rw k.1 at fit) in

@@ -1,7 +1,7 @@
 -- Where a block lies that is not there.
 use Rattle.std.specs.Bool.{IsTrue}
 use Rattle.std.proofs.Common.{◌≡◌, ℕ, false, ◌+◌, ◌*◌, ◌<◌, Option, Some, None, get_or, refl, sym, ap}
-use Rattle.dm_pool.specs.declared.places.Place.{Place}
+use Rattle.dm_pool.specs.declared.extent.Extent.{Extent}
 use Rattle.dm_pool.specs.Blocks.{Blocks, IsLive}
 use Rattle.dm_space.specs.Memory.{Memory}
 use Rattle.dm_xms.specs.Blocks.{base_of, address}
@@ -9,7 +9,7 @@ use Rattle.dm_xms.specs.Blocks.{base_of, address}
 no_base : (s : Blocks) (i : ℕ) → i < 576 → (IsLive s i → ⊥) → base_of (get_or s.places i None) ≡ 0
 no_base s i h n = either (get_or s.places i None) refl
   where
-    either : (o : Option Place) → get_or s.places i None ≡ o → base_of o ≡ 0
+    either : (o : Option Extent) → get_or s.places i None ≡ o → base_of o ≡ 0
     either None e = refl
     either (Some b) e = absurd (n (h, (b, e)))
 

@@ -6,7 +6,7 @@ use Rattle.std.proofs.lemmas.Bool.{cases_eq}
 use Rattle.std.proofs.lemmas.List.{get_or-set_same, get_or-set_other, length-set, length-replicate, length-append, length-take-le}
 use Rattle.std.proofs.lemmas.List.Quantifiers.{position-Some}
 use Rattle.std.proofs.lemmas.Option.{none-some, same_Some}
-use Rattle.dm_pool.specs.declared.places.Place.{Place}
+use Rattle.dm_pool.specs.declared.extent.Extent.{Extent}
 use Rattle.dm_pool.specs.Gaps.{first_empty, lowest}
 use Rattle.dm_pool.specs.Blocks.{Blocks, IsLive, taken, placed, without, resized, moved, at_place, new_base, with_block, zeros, fitted, no_blocks}
 use Rattle.dm_pool.specs.FreeList.{AreBased}
@@ -42,7 +42,7 @@ pub record IsChanged (s t : Blocks) (i : ℕ) : Type 0 where
   pub places : length t.places ≡ length s.places
   pub contents : length t.contents ≡ length s.contents
 
-pub changed_block : (s : Blocks) (i : ℕ) (b : Option Place) (xs : List ℕ) → IsChanged s (record { units = s.units; places = set s.places i b; contents = set s.contents i xs }) i
+pub changed_block : (s : Blocks) (i : ℕ) (b : Option Extent) (xs : List ℕ) → IsChanged s (record { units = s.units; places = set s.places i b; contents = set s.contents i xs }) i
 changed_block s i b xs = record {
   others = λ j ne. get_or-set_other s.places i j b None ne;
   kept = λ j ne. get_or-set_other s.contents i j xs [] ne;
@@ -242,12 +242,12 @@ others_at x k s l e j ne = subst (λ (o : Option Handle). IfSome o (λ a. HasOth
 pub record IsNew (s : Blocks) (u i : ℕ) (t : Blocks) : Type 0 where
   pub free : get_or s.places i None ≡ None
   pub within : i < length s.places
-  pub place : Place
+  pub place : Extent
   pub at : get_or t.places i None ≡ Some place
   pub size : i < length s.contents → length (get_or t.contents i []) ≡ u * 1024
   pub changed : IsChanged s t i
 
-new_block : (s : Blocks) (u i : ℕ) (b : Place) → (i < length s.places) × (get_or s.places i None ≡ None) → IsNew s u i (with_block s i b (zeros u))
+new_block : (s : Blocks) (u i : ℕ) (b : Extent) → (i < length s.places) × (get_or s.places i None ≡ None) → IsNew s u i (with_block s i b (zeros u))
 new_block s u i b v = record {
   free = v.1;
   within = v.0;
@@ -364,7 +364,7 @@ fitted_long xs u =
     length-take-le (u * 1024) (xs ++ replicate (u * 1024) 0) (omega (arith, z, length-replicate {A = ℕ} (u * 1024) 0))
 
 pub record IsResized (s : Blocks) (i u : ℕ) (t : Blocks) : Type 0 where
-  pub place : Place
+  pub place : Extent
   pub at : i < length s.places → get_or t.places i None ≡ Some place
   pub size : i < length s.contents → length (get_or t.contents i []) ≡ u * 1024
   pub changed : IsChanged s t i
@@ -372,7 +372,7 @@ pub record IsResized (s : Blocks) (i u : ℕ) (t : Blocks) : Type 0 where
 moved_sized : (s : Blocks) (i u : ℕ) (o : Option ℕ) (t : Blocks) → moved s i u o ≡ Some t → IsResized s i u t
 moved_sized s i u None t e = absurd (none-some t e)
 moved_sized s i u (Some p) t e =
-    let b : Place = record { base = p; units = u } in
+    let b : Extent = record { base = p; units = u } in
     let xs = fitted (get_or s.contents i []) u in
     let made : IsResized s i u (with_block s i b xs) = record {
       place = b;
@@ -382,7 +382,7 @@ moved_sized s i u (Some p) t e =
     } in
     subst (IsResized s i u) (same_Some (with_block s i b xs) t e) made
 
-pub at_sized : (s : Blocks) (i u : ℕ) (o : Option Place) (t : Blocks) → at_place s i u o ≡ Some t → IsResized s i u t
+pub at_sized : (s : Blocks) (i u : ℕ) (o : Option Extent) (t : Blocks) → at_place s i u o ≡ Some t → IsResized s i u t
 at_sized s i u None t e = absurd (none-some t e)
 at_sized s i u (Some b) t e = moved_sized s i u (new_base s i b u) t e
 
@@ -459,7 +459,7 @@ disable_locally_keeps x l = disabled_if x (x.xms.local == 0) (is_on x.xms.global
 
 extended_kept : (m n : Memory) (h : Handle) → IsShaped m n → IsExtended m h → IsExtended n h
 extended_kept m n h s p = record {
-  live = (p.live.0, (p.live.1.0, ap (λ (xs : List (Option Place)). get_or xs h.block None) s.places ∙ p.live.1.1));
+  live = (p.live.0, (p.live.1.0, ap (λ (xs : List (Option Extent)). get_or xs h.block None) s.places ∙ p.live.1.1));
   size = s.page_sizes h.block ∙ p.size;
   hidden = ap (λ (ws : List (Option ℕ)). shows ws h.block) s.windows ∙ p.hidden;
 }
@@ -472,7 +472,7 @@ writes_keep x m s l = record {
   handles = l.handles;
   blocks = λ k. if_handle (handle_at x.xms.handles k) (IsExtended x.memory) (IsExtended m) (λ h. extended_kept x.memory m h s) (l.blocks k);
   apart = l.apart;
-  shown = λ b e. let live = l.shown b (ap (λ (ws : List (Option ℕ)). shows ws b) (sym s.windows) ∙ e) in (live.0, (live.1.0, ap (λ (xs : List (Option Place)). get_or xs b None) s.places ∙ live.1.1));
+  shown = λ b e. let live = l.shown b (ap (λ (ws : List (Option ℕ)). shows ws b) (sym s.windows) ∙ e) in (live.0, (live.1.0, ap (λ (xs : List (Option Extent)). get_or xs b None) s.places ∙ live.1.1));
   line = s.a20 ∙ l.line;
 }
 
@@ -526,7 +526,7 @@ none_used (suc n) (suc k) P = none_used n k P
 
 sizes : (units : ℕ) → (length (no_blocks units).places ≡ 576) × (length (no_blocks units).contents ≡ 576)
 unfolding no_blocks
-sizes units = (length-replicate {A = Option Place} 576 None, length-replicate {A = List ℕ} 576 [])
+sizes units = (length-replicate {A = Option Extent} 576 None, length-replicate {A = List ℕ} 576 [])
 
 none_based : (units : ℕ) → AreBased (no_blocks units).places
 unfolding no_blocks

@@ -3,7 +3,7 @@ use Rattle.std.proofs.Common.{◌≡◌, ◌≢◌, ℕ, zero, suc, ◌+◌, ◌
 use Rattle.std.specs.Prelude.{Result, Ok, Err, IfSome, is_none, nat_lt, ◌||◌}
 use Rattle.std.proofs.lemmas.Bool.{cases_eq}
 use Rattle.std.proofs.lemmas.List.Quantifiers.{position-Some}
-use Rattle.dm_pool.specs.declared.places.Place.{Place}
+use Rattle.dm_pool.specs.declared.extent.Extent.{Extent}
 use Rattle.dm_pool.specs.Blocks.{Blocks, IsLive, taken, without, resized}
 use Rattle.dm_space.specs.Memory.{Memory}
 use Rattle.dm_space.specs.Places.{IsShaped}
@@ -41,11 +41,11 @@ leaves_tables x xms e = record {
 pub leaves_shaped : (x : Extended) (m : Memory) → IsShaped x.memory m → LeavesOutside x (extended x.xms m)
 leaves_shaped x m s = record {
   blocks = λ b n o. record {
-    live = (o.live.0, (o.live.1.0, ap (λ (xs : List (Option Place)). get_or xs b None) s.places ∙ o.live.1.1));
+    live = (o.live.0, (o.live.1.0, ap (λ (xs : List (Option Extent)). get_or xs b None) s.places ∙ o.live.1.1));
     size = s.page_sizes b ∙ o.size;
     apart = o.apart;
   };
-  others = λ b live none. ((live.0, (live.1.0, ap (λ (xs : List (Option Place)). get_or xs b None) (sym s.places) ∙ live.1.1)), none);
+  others = λ b live none. ((live.0, (live.1.0, ap (λ (xs : List (Option Extent)). get_or xs b None) (sym s.places) ∙ live.1.1)), none);
   windows = s.windows;
 }
 
@@ -117,7 +117,7 @@ if_none : (o : Option Handle) (i : ℕ) → is_none o ≡ true → IfSome o (λ 
 if_none None i e = tt
 if_none (Some h) i e = cc
 
-no_block : (ps : List (Option Place)) (i : ℕ) → get_or (set ps i None) i None ≡ None
+no_block : (ps : List (Option Extent)) (i : ℕ) → get_or (set ps i None) i None ≡ None
 no_block [] i = refl
 no_block (p ∷ ps) zero = refl
 no_block (p ∷ ps) (suc i) = no_block ps i

@@ -4,7 +4,7 @@ use Rattle.std.specs.Prelude.{if◌then◌else◌, count_by, insert, remove, pos
 use Rattle.std.proofs.lemmas.Bool.{cases_lt, lt-ltb, le-ltb, eqb-true}
 use Rattle.std.proofs.lemmas.List.Quantifiers.{position-Some}
 use Rattle.std.proofs.lemmas.List.Sums.{sum_by-cons}
-use Rattle.dm_pool.specs.declared.places.Place.{Place}
+use Rattle.dm_pool.specs.declared.extent.Extent.{Extent}
 use Rattle.dm_pool.specs.Gaps.{is_clear, lowest}
 use Rattle.dm_pool.proofs.Blocks.{clear_apart}
 use Rattle.dm_pool.proofs.Takes.{lowest_free}
@@ -60,7 +60,7 @@ rise_insert from u (v ∷ vs) h some top apart r = elim (cases_lt v.segment u.se
 
 -- a run of paragraphs that each block is apart from
 apart_of : (from : ℕ) (u : Upper) (us : List Upper) → 0xD000 ≤ from → 0xD000 ≤ u.segment → Rise from us
-    → ((i : ℕ) (b : Place) → get_or (places_of us) i None ≡ Some b → (b.base + b.units ≤ u.segment - 0xD000) ⊎ (u.segment - 0xD000 + u.paragraphs ≤ b.base)) → Apart u us
+    → ((i : ℕ) (b : Extent) → get_or (places_of us) i None ≡ Some b → (b.base + b.units ≤ u.segment - 0xD000) ⊎ (u.segment - 0xD000 + u.paragraphs ≤ b.base)) → Apart u us
 apart_of from u [] d e r each = tt
 apart_of from u (v ∷ vs) d e r each =
     let here : (v.segment + v.paragraphs ≤ u.segment) ⊎ (u.segment + u.paragraphs ≤ v.segment) =

@@ -1,7 +1,7 @@
 -- Extended memory blocks (XMS 3.0, functions 08h to 0Ah and 0Ch to 0Fh): each row's refusals in the order in which they
 -- are tried.
 use Rattle.std.specs.Prelude.{ℕ, ◌+◌, ◌-◌, ◌*◌, min, nat_lt, ◌==◌, is_none, count_by, position, get_or, if◌then◌else◌, Option, Some, None, Result, Ok, Err}
-use Rattle.dm_pool.specs.declared.places.Place.{Place}
+use Rattle.dm_pool.specs.declared.extent.Extent.{Extent}
 use Rattle.dm_pool.specs.Blocks.{Blocks, taken, without, resized}
 use Rattle.dm_pool.specs.Gaps.{gaps, largest, free_units}
 use Rattle.dm_space.specs.Memory.{Memory, with_blocks}
@@ -44,7 +44,7 @@ deallocate x handle =
     Ok (tt, leaving x (with_slot x.xms handle None) (without x.memory.blocks s.block)))
 
 -- the first unit of the block that lies there
-abbrev pub base_of : Option Place → ℕ
+abbrev pub base_of : Option Extent → ℕ
 base_of None = 0
 base_of (Some b) = b.base
 

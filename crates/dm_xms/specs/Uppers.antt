@@ -1,6 +1,6 @@
 -- Upper memory blocks (XMS 3.0, functions 10h to 12h): paragraphs from segment D000h to DFFFh.
 use Rattle.std.specs.Prelude.{ℕ, ◌+◌, ◌-◌, max, Bool, nat_lt, ◌==◌, ◌||◌, if◌then◌else◌, List, length, map, position, count_by, insert, remove, slice_get, slice_set, Option, Some, None, Result, Ok, Err}
-use Rattle.dm_pool.specs.declared.places.Place.{Place}
+use Rattle.dm_pool.specs.declared.extent.Extent.{Extent}
 use Rattle.dm_pool.specs.Gaps.{gaps, largest, lowest}
 use Rattle.dm_xms.specs.declared.tables.Upper.{Upper}
 use Rattle.dm_xms.specs.declared.uppers.UpperRefusal.{UpperRefusal}
@@ -20,10 +20,10 @@ abbrev pub at_least_one : ℕ → ℕ
 at_least_one n = max 1 n
 
 -- where a block lies among the paragraphs
-abbrev pub place_of : Upper → Option Place
+abbrev pub place_of : Upper → Option Extent
 place_of u = Some (record { base = u.segment - first_segment; units = u.paragraphs })
 
-abbrev pub places_of : List Upper → List (Option Place)
+abbrev pub places_of : List Upper → List (Option Extent)
 places_of us = map place_of us
 
 -- the paragraphs of the largest gap

@@ -58,7 +58,7 @@ impl Handle {
 }
 
 impl Xms {
-    /// What is free, in KiB.
+    /// What is free, in KiB: at most FFFFh each, since both are returned in word registers.
     ///
     /// # Errors
     ///

@@ -3,7 +3,8 @@ use Rattle.std.specs.Prelude.{◌≡◌, ℕ, List, ◌++◌, Option, Some, None
 use Rattle.dm_ins.specs.declared.ins.Ins.{Ins}
 use Rattle.dm_state.specs.declared.stop.Stop.{Stop}
 use Rattle.dm_state.specs.State.{State}
-use Rattle.dm_machine.specs.Step.{BeginsWith, fetched}
+use Rattle.dm_machine.specs.Step.{fetched}
+use Rattle.dm_ins.specs.Ins.{BeginsWith}
 use Rattle.dm_machine.specs.Run.{Answers}
 use Rattle.dm_findings.specs.declared.finding.Act.{Act}
 use Rattle.dm_findings.specs.declared.finding.Finding.{Finding}

@@ -11,7 +11,8 @@ use Rattle.dm_ins.specs.declared.action.Mnemonic.TheVariants.{Push, Pushf, Call,
 use Rattle.dm_cpu.specs.declared.cpu.Cpu.{Cpu}
 use Rattle.dm_cpu.specs.Guest.{Guest}
 use Rattle.dm_exec.specs.Effect.{effect}
-use Rattle.dm_machine.specs.Step.{BeginsWith, fetched}
+use Rattle.dm_machine.specs.Step.{fetched}
+use Rattle.dm_ins.specs.Ins.{BeginsWith}
 use Rattle.dm_checker.specs.declared.writes.Entry.{Entry}
 
 abbrev pub is_memory : Operand → Bool

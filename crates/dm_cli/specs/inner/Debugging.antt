@@ -27,6 +27,6 @@ pub record IsAnsweredBy (s : Debugged) (line : List ℕ) (t : Debugged) (before 
 -- it was not: memory for its answer was refused, and nothing was written; or a first part of its answer was written,
 -- and a write failed; or all of it, and the flush that hands it on failed
 pub data IsUnanswered (s : Debugged) (line : List ℕ) (t : Debugged) (before after : Option (List ℕ)) (opened failures : ℕ) : Fault → Type 0 where
-  cut_short : IsCutOff s line t → Keeps before after → IsUnanswered s line t before after opened failures OutOfMemory
+  cut_short : IsCutOff s line t → Keeps before after → failures ≡ opened → IsUnanswered s line t before after opened failures OutOfMemory
   partly : (text : List ℕ) (fault : Fault) → Tells s line t text → AppendsPart before after text → HasFailed opened failures → IsWriteFault fault → IsUnanswered s line t before after opened failures fault
   unflushed : (text : List ℕ) (fault : Fault) → Tells s line t text → Appends before after text → HasFailed opened failures → IsWriteFault fault → IsUnanswered s line t before after opened failures fault

@@ -10,8 +10,8 @@ use Rattle.dm_ins.specs.declared.operand.Base.TheVariants.{Direct, BxSi, BxDi, B
 use Rattle.dm_ins.specs.declared.operand.Address.{Address}
 use Rattle.dm_ins.specs.declared.operand.Operand.{Operand}
 use Rattle.dm_ins.specs.declared.operand.Operand.TheVariants as operand
-use Rattle.dm_ins.specs.declared.demand.Place.{Place}
-use Rattle.dm_ins.specs.declared.demand.Place.TheVariants as place
+use Rattle.dm_ins.specs.declared.demand.RegisterOrMemory.{RegisterOrMemory}
+use Rattle.dm_ins.specs.declared.demand.RegisterOrMemory.TheVariants as place
 use Rattle.dm_ins.specs.declared.demand.Data.{Data}
 use Rattle.dm_ins.specs.declared.demand.Data.TheVariants as data_is
 use Rattle.arrayvec.specs.ArrayVec.{ArrayVec}
@@ -66,7 +66,7 @@ asks_data d = record { register = None; place = None; tail = d }
 abbrev pub asks_register : ℕ → Demand
 asks_register n = record { register = Some n; place = None; tail = data_is.Nothing }
 
-abbrev pub asks_place : Place → Demand
+abbrev pub asks_place : RegisterOrMemory → Demand
 asks_place p = record { register = None; place = Some p; tail = data_is.Nothing }
 
 -- a word that is a byte extended by sign
@@ -76,8 +76,8 @@ as_signed n = if extended (n % 256) == n then Some (asks_data (data_is.Byte (n %
 unfoldable pub demand_of : Kind → Operand → Option Demand
 demand_of is.Nothing operand.Nothing = Some (asks_data data_is.Nothing)
 demand_of is.Nothing _ = None
-demand_of (is.Place w) (operand.Memory v a) = if same_width w v then Some (asks_place (place.Memory a)) else None
-demand_of (is.Place w) o = do
+demand_of (is.RegisterOrMemory w) (operand.Memory v a) = if same_width w v then Some (asks_place (place.Memory a)) else None
+demand_of (is.RegisterOrMemory w) o = do
   n ← numbered w o
   Some (asks_place (place.Register n))
 demand_of (is.Register w) o = do
@@ -126,7 +126,7 @@ memory_bytes r a =
     else if a.displacement == 0 then (8 * r + rm_of a.base) ∷ []
     else with_displacement r (rm_of a.base) a.displacement
 
-unfoldable pub fields_bytes : ℕ → Place → List ℕ
+unfoldable pub fields_bytes : ℕ → RegisterOrMemory → List ℕ
 fields_bytes r (place.Register n) = (192 + (8 * r + n)) ∷ []
 fields_bytes r (place.Memory a) = memory_bytes r a
 
@@ -139,7 +139,7 @@ second_bytes None = []
 second_bytes (Some c) = c ∷ []
 
 -- the bytes between the first one and the data
-abbrev pub behind_bytes : Option ℕ → Option Place → Option ℕ → List ℕ
+abbrev pub behind_bytes : Option ℕ → Option RegisterOrMemory → Option ℕ → List ℕ
 behind_bytes (Some r) (Some p) c = fields_bytes r p
 behind_bytes (Some r) None c = second_bytes c
 behind_bytes None p c = second_bytes c
@@ -159,7 +159,7 @@ choice_at (Group g) b r = do
   Some (record { opcode = b; row = p; register = Some r; second = None })
 choice_at (Second c p) b r = if r == 0 then Some (record { opcode = b; row = p; register = None; second = Some c }) else None
 
-abbrev pub PlaceFits : Place → Type 0
+abbrev pub PlaceFits : RegisterOrMemory → Type 0
 PlaceFits (place.Register n) = n < 8
 PlaceFits (place.Memory a) = Unit {0}
 

@@ -1,7 +1,7 @@
 -- For private contracts and proofs alone: beside specs/FreeList.antt.
 use Rattle.std.specs.Prelude.{ℕ, ◌+◌, ◌-◌, ◌*◌, ◌<◌, ◌≤◌, ◌≡◌, ◌⊎◌, true, get_or, Option, Some, None, List, [], ◌∷◌}
 use Rattle.dm_region.specs.Parts.{part}
-use Rattle.dm_pool.specs.declared.places.Place.{Place}
+use Rattle.dm_pool.specs.declared.extent.Extent.{Extent}
 use Rattle.dm_pool.specs.Blocks.{IsPool}
 use Rattle.dm_pool.specs.Gaps.{Run, is_clear}
 use Rattle.dm_pool.specs.inner.Gaps.{AreGaps}
@@ -17,19 +17,19 @@ abbrev pub IsKeptOutside : List ℕ → ℕ → ℕ → List ℕ → Type 0
 IsKeptOutside xs P N ys = (Q M : ℕ) → (Q + M ≤ P) ⊎ (P + N ≤ Q) → part ys Q M ≡ part xs Q M
 
 -- b is the highest block below the unit `end`, or of no unit at 0 if there is none; the units from its end on are free
-pub record IsBelow (places : List (Option Place)) (end : ℕ) (b : Place) : Type 0 where
+pub record IsBelow (places : List (Option Extent)) (end : ℕ) (b : Extent) : Type 0 where
   pub edge : b.base + b.units ≤ end
   pub free : is_clear places (b.base + b.units) (end - (b.base + b.units)) ≡ true
   pub there : ((b.base ≡ 0) × (b.units ≡ 0)) ⊎ ((0 < b.units) × ((i : ℕ) × (get_or places i None ≡ Some b)))
 
 -- the bytes tell the gaps from the unit `from` on, the first of them at `first`
-pub record Tells (places : List (Option Place)) (units from first : ℕ) (xs : List ℕ) : Type 0 where
+pub record Tells (places : List (Option Extent)) (units from first : ℕ) (xs : List ℕ) : Type 0 where
   pub runs : List Run
   pub gaps : AreGaps places units from runs
   pub told : Spells xs first runs
 
 -- a pool whose free bytes tell its gaps, the first of them at `first`
-pub record IsTold (units : ℕ) (places : List (Option Place)) (bytes : List ℕ) (first : ℕ) : Type 0 where
+pub record IsTold (units : ℕ) (places : List (Option Extent)) (bytes : List ℕ) (first : ℕ) : Type 0 where
   pub pool : IsPool units places bytes
   pub based : AreBased places
   pub tells : Tells places units 0 first bytes

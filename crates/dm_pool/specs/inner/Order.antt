@@ -1,43 +1,37 @@
 -- The blocks in the order in which they lie, for the code's own use: no public contract speaks of it.
-use Rattle.std.specs.Prelude.{ℕ, ◌+◌, ◌*◌, ◌^◌, ◌<◌, ◌≤◌, ◌≡◌, Bool, false, List, length, get_or, nat_lt, count_by, replicate, [], Option, Some, None}
-use Rattle.dm_pool.specs.declared.places.Place.{Place}
-use Rattle.dm_pool.specs.Blocks.{Blocks, Apart, contents_of}
+use Rattle.std.specs.Prelude.{ℕ, ◌+◌, ◌*◌, ◌<◌, ◌≤◌, ◌≡◌, Bool, false, List, length, get_or, nat_lt, count_by, replicate, [], Option, Some, None}
+use Rattle.dm_pool.specs.declared.extent.Extent.{Extent}
+use Rattle.dm_pool.specs.Blocks.{Blocks, IsLaid, contents_of}
 use Rattle.dm_pool.specs.FreeList.{AreBased}
 use Rattle.dm_pool.specs.inner.FreeList.{Tells}
 
 -- where blocks lie by their numbers, the numbers of those that have units as they lie, and where the first free run is
 pub record Layout : Type 0 where
   pub units : ℕ
-  pub places : List (Option Place)
+  pub places : List (Option Extent)
   pub order : List ℕ
   pub first : ℕ
 
-abbrev pub has_units : Option Place → Bool
+abbrev pub has_units : Option Extent → Bool
 has_units None = false
 has_units (Some b) = nat_lt 0 b.units
 
 -- the block with the number that stands at position p of the order
-abbrev pub IsNth : List (Option Place) → List ℕ → ℕ → Place → Type 0
+abbrev pub IsNth : List (Option Extent) → List ℕ → ℕ → Extent → Type 0
 IsNth places order p b = get_or places (get_or order p 0) None ≡ Some b
 
 -- the order has each block that has units once, rising
-pub record IsOrder (places : List (Option Place)) (order : List ℕ) : Type 0 where
-  pub live : (p : ℕ) → p < length order → (b : Place) × IsNth places order p b × (0 < b.units)
-  pub rising : (p q : ℕ) (b d : Place) → p < q → q < length order → IsNth places order p b → IsNth places order q d → b.base + b.units ≤ d.base
-  pub whole : (i : ℕ) (b : Place) → get_or places i None ≡ Some b → 0 < b.units → (p : ℕ) × (p < length order) × (get_or order p 0 ≡ i)
+pub record IsOrder (places : List (Option Extent)) (order : List ℕ) : Type 0 where
+  pub live : (p : ℕ) → p < length order → (b : Extent) × IsNth places order p b × (0 < b.units)
+  pub rising : (p q : ℕ) (b d : Extent) → p < q → q < length order → IsNth places order p b → IsNth places order q d → b.base + b.units ≤ d.base
+  pub whole : (i : ℕ) (b : Extent) → get_or places i None ≡ Some b → 0 < b.units → (p : ℕ) × (p < length order) × (get_or order p 0 ≡ i)
   pub counted : length order ≡ count_by has_units places
   pub small : (p : ℕ) → p < length order → get_or order p 0 < 576
 
--- no two blocks share a unit, and each lies within the pool
-pub record IsLaid (units : ℕ) (places : List (Option Place)) : Type 0 where
-  pub count : length places ≡ 576
-  pub small : units < 2 ^ 31
-  pub within : (i : ℕ) (b : Place) → get_or places i None ≡ Some b → b.base + b.units ≤ units
-  pub apart : (i j : ℕ) (b d : Place) → ¬ (i ≡ j) → get_or places i None ≡ Some b → get_or places j None ≡ Some d → Apart b d
-  pub based : AreBased places
-
+-- no two blocks share a unit, and each lies within the pool; those of no unit at unit 0
 pub record IsTable (l : Layout) : Type 0 where
   pub laid : IsLaid l.units l.places
+  pub based : AreBased l.places
   pub order : IsOrder l.places l.order
 
 -- no block
@@ -45,10 +39,10 @@ unfoldable pub no_layout : ℕ → Layout
 no_layout units = record { units = units; places = replicate 576 None; order = []; first = 0xFFFFFFFF }
 
 -- the first `rest` blocks of the order end at the unit `end` or below, and the others begin there or above
-pub record IsCut (places : List (Option Place)) (order : List ℕ) (rest end : ℕ) : Type 0 where
+pub record IsCut (places : List (Option Extent)) (order : List ℕ) (rest end : ℕ) : Type 0 where
   pub within : rest ≤ length order
-  pub lower : (p : ℕ) (b : Place) → p < rest → IsNth places order p b → b.base + b.units ≤ end
-  pub upper : (p : ℕ) (b : Place) → rest ≤ p → p < length order → IsNth places order p b → end ≤ b.base
+  pub lower : (p : ℕ) (b : Extent) → p < rest → IsNth places order p b → b.base + b.units ≤ end
+  pub upper : (p : ℕ) (b : Extent) → rest ≤ p → p < length order → IsNth places order p b → end ≤ b.base
 
 -- the pool's bytes are as many as its units, and its free bytes tell its gaps
 pub record IsToldIn (l : Layout) (bytes : List ℕ) : Type 0 where

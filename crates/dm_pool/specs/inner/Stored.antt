@@ -1,5 +1,5 @@
 -- For private contracts and proofs alone: beside specs/Stored.antt.
-use Rattle.std.specs.Prelude.{◌≡◌, ℕ, ◌+◌, ◌*◌, List, length, ◌<◌, ◌⊎◌, ◌++◌}
+use Rattle.std.specs.Prelude.{◌≡◌, ℕ, ◌+◌, ◌*◌, List, length}
 use Rattle.dm_region.specs.Parts.{part}
 use Rattle.dm_pool.specs.inner.Order.{Layout, blocks_in, IsToldIn}
 use Rattle.dm_pool.specs.Stored.{Stored}

@@ -2,7 +2,7 @@
 
 use super::{POOL, Store};
 use crate::block::Block;
-use crate::places::UNIT;
+use crate::extent::UNIT;
 use crate::sizes::Sizes;
 use std::process::Abort;
 use std::test::Fail;

@@ -39,7 +39,7 @@ returns-in-Err-Full-clause-err g c =
 pub returns-in-Err-Memory-clause-err : goal.returns-in-Err-Memory-clause-err
 returns-in-Err-Memory-clause-err g c =
     let h = c.in-Err-Memory.ensures.memory (ap Err c.in-Err-Memory.field-0-is) in
-    cut_at _ _ _ _ _ _ _ h.0 (ap g.W.Out.taken h.1)
+    cut_at _ _ _ _ _ _ _ h.0 (ap g.W.Out.taken h.1) (ap g.W.Out.failures h.1)
 
 pub returns-in-Err-Write-clause-err : goal.returns-in-Err-Write-clause-err
 returns-in-Err-Write-clause-err g c =

@@ -1,3 +1,4 @@
+use Rattle.std.proofs.Common.{refl}
 use Rattle.std.proofs.KnownBytes.{Keeps-refl}
 use Rattle.std.proofs.lemmas.Result.{err_from_is_err_and}
 use Rattle.dm_cli.specs.Debugging.{conversed, not_begun, no_buffer}
@@ -7,10 +8,10 @@ use Rattle.dm_cli.proofs.debugging.debug.Goals as goal
 pub returns-in_err-machine : goal.returns-in_err-machine
 returns-in_err-machine g c =
     let p = err_from_is_err_and c.from_residual.result c.from_residual.ensures.1 in
-    rw (p.1, p.2) (not_begun _ c.in_err-machine.ensures.fault (Keeps-refl _))
+    rw (p.1, p.2) (not_begun _ c.in_err-machine.ensures.fault (Keeps-refl _) refl)
 
 pub returns-in_default : goal.returns-in_default
-returns-in_default g c = no_buffer (Keeps-refl _)
+returns-in_default g c = no_buffer (Keeps-refl _) refl
 
 pub returns : goal.returns
 returns g c =

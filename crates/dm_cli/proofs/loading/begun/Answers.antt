@@ -10,6 +10,7 @@ returns-clause-begun c =
     let head = first_of (λ path. path.now) c.args.options.now.files.items c.in_ok-first.first.now
     (rw (c.ok_or.ensures.ok_part, c.in_ok-first.was, c.deref.ensures.value) at c.first.ensures.value) in
     record {
+      small = not_too_large _ _ c.in_ok-machine.ensures.too_large;
       fresh = c.in_ok-machine.machine;
       new = rw (c.new.ensures.items) at c.in_ok-machine.ensures.ok;
       first = c.in_ok-first.first.now.now;

@@ -1,6 +1,6 @@
 use Rattle.std.proofs.Common.{◌≡◌, ◌*◌, ◌<◌, ◌++◌, ℕ, length, None, set, Some, sym, ap, subst, ◌∙◌, refl, length-append, length-take, arith}
 use Rattle.std.proofs.lemmas.List.{length-replicate, get_or-set_other}
-use Rattle.dm_pool.specs.declared.places.Place.{Place}
+use Rattle.dm_pool.specs.declared.extent.Extent.{Extent}
 use Rattle.dm_pool.specs.Blocks.{Blocks, zeros, fitted, content, contents_of}
 use Rattle.dm_pool.proofs.Blocks.{resize_is, clear_apart}
 use Rattle.dm_pool.proofs.Layouts.{pool_of}
@@ -10,7 +10,7 @@ use Rattle.dm_pool.proofs.pool.resize.Goals as goal
 pub returns-clause-resized : goal.returns-clause-resized
 returns-clause-resized c =
     let t = c.args.table.now in let xs = c.args.bytes.now in let k = c.args.slot in let u = c.args.units in let old = c.place.result in
-    let b : Place = record { base = c.in-Some.base; units = u } in let free = c.in-Some.ensures.free in let laid = c.recall.ensures.laid in let new = c.retell.new.table in
+    let b : Extent = record { base = c.in-Some.base; units = u } in let free = c.in-Some.ensures.free in let laid = c.recall.ensures.laid in let new = c.retell.new.table in
     let short : k < length t.places = omega (arith, c.requires.live.0, laid.count) in
     let ws = fitted (content xs (Some old)) u in
     let long : length ws ≡ u * 1024 = omega (arith, length-take (u * 1024) (content xs (Some old) ++ zeros u), length-append (content xs (Some old)) (zeros u), length-replicate {A = ℕ} (u * 1024) 0) in

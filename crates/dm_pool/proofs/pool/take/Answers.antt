@@ -1,6 +1,6 @@
 use Rattle.std.proofs.Common.{◌≡◌, ◌*◌, ◌<◌, length, set, Some, sym, ap, subst, ◌∙◌, refl, arith}
 use Rattle.std.proofs.lemmas.List.{length-replicate}
-use Rattle.dm_pool.specs.declared.places.Place.{Place}
+use Rattle.dm_pool.specs.declared.extent.Extent.{Extent}
 use Rattle.dm_pool.specs.Blocks.{Blocks, zeros, contents_of}
 use Rattle.dm_pool.proofs.Blocks.{take_is, clear_apart}
 use Rattle.dm_pool.proofs.Layouts.{pool_of}
@@ -14,7 +14,7 @@ clear-requires c =
 
 pub returns-clause-taken : goal.returns-clause-taken
 returns-clause-taken c =
-    let t = c.args.table.now in let xs = c.args.bytes.now in let k = c.in_ok-slot.slot in let u = c.args.units in let b : Place = record { base = c.in_ok-base.base; units = u } in
+    let t = c.args.table.now in let xs = c.args.bytes.now in let k = c.in_ok-slot.slot in let u = c.args.units in let b : Extent = record { base = c.in_ok-base.base; units = u } in
     let free = c.in_ok-base.ensures.free in let laid = c.recall.ensures.laid in let new = c.retell.new.table in
     let short : k < length t.places = omega (arith, c.in_ok-slot.ensures.vacant.0, laid.count) in
     let places = c.retell.ensures.places ∙ c.put.ensures.places in

@@ -7,7 +7,7 @@ use Rattle.dm_pool.proofs.runs.free_units.Goals as goal
 pub loop-at-init : goal.loop-at-init
 loop-at-init c =
     let t = c.args.table.now in let told = subst (λ f. Tells t.places t.units 0 f c.args.bytes.now) (sym c.first-at.ensures) c.requires.tells in
-    let all = ap (free_units) (tells_gaps t.places t.units c.args.bytes.now c.first-at.result c.recall.ensures.laid.based told) in
+    let all = ap (free_units) (tells_gaps t.places t.units c.args.bytes.now c.first-at.result c.recall.ensures.based told) in
     let most = free_within t.places t.units 0 told.runs (omega arith) told.gaps in (sets_out t.places t.units c.args.bytes.now c.first-at.result told, omega (arith, all), omega (arith, most))
 
 pub run_at-run-requires : goal.run_at-run-requires

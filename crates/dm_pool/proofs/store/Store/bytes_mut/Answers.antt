@@ -14,7 +14,7 @@ pub part_mut-requires : goal.part_mut-requires
 part_mut-requires c = omega (arith, c.self.invariant.whole, c.place_of-place.ensures.within)
 
 pub invariant_of-self-lent : goal.invariant_of-self-lent
-invariant_of-self-lent c = λ w. block_store c.self.inside.region c.self.inside.table c.args.block c.place_of-place.result w c.self.invariant c.recall.ensures.laid c.place_of-place.ensures.place
+invariant_of-self-lent c = λ w. block_store c.self.inside.region c.self.inside.table c.args.block c.place_of-place.result w c.self.invariant c.recall.ensures.laid c.recall.ensures.based c.place_of-place.ensures.place
 
 pub returns : goal.returns
 returns c =
@@ -22,7 +22,7 @@ returns c =
       (
         refl,
         λ w.
-            block_stored xs t c.args.block b w c.self.invariant c.recall.ensures.laid c.place_of-place.ensures.place
+            block_stored xs t c.args.block b w c.self.invariant c.recall.ensures.laid c.recall.ensures.based c.place_of-place.ensures.place
             ∙ ap (λ (s : Stored). record s { blocks = with_content s.blocks c.args.block (refit (get_or s.blocks.contents c.args.block []) w) }) c.self.view_is,
       ),
       record {

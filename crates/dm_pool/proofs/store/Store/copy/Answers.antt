@@ -45,7 +45,7 @@ invariant_of-self c =
     let from = within_span s.region s.table c.args.self.now c.args.source c.start_of.result c.start_of.ensures.span.0 (c.args.from + c.args.len) c.self.invariant c.recall.ensures.laid c.self.view_is c.start_of.ensures.span.1 c.requires.source.1 in
     let to = within_span s.region s.table c.args.self.now c.args.destination c.start_of-2.result c.start_of-2.ensures.span.0 (c.args.to + c.args.len) c.self.invariant c.recall.ensures.laid c.self.view_is c.start_of-2.ensures.span.1 c.requires.destination.1 in
     subst (λ (ys : List ℕ). IsStore ys s.table) (sym c.copy.ensures)
-    (copied_store s.region s.table c.self.invariant c.recall.ensures.laid c.args.source c.args.destination c.start_of.result c.start_of-2.result c.start_of.ensures.span.0 c.start_of-2.ensures.span.0 c.args.from c.args.to c.args.len c.start_of.ensures.span.1 c.start_of-2.ensures.span.1 from to)
+    (copied_store s.region s.table c.self.invariant c.recall.ensures.laid c.recall.ensures.based c.args.source c.args.destination c.start_of.result c.start_of-2.result c.start_of.ensures.span.0 c.start_of-2.ensures.span.0 c.args.from c.args.to c.args.len c.start_of.ensures.span.1 c.start_of-2.ensures.span.1 from to)
 
 pub returns : goal.returns
 returns c =
@@ -53,5 +53,5 @@ returns c =
     let from = within_span s.region s.table c.args.self.now c.args.source c.start_of.result c.start_of.ensures.span.0 (c.args.from + c.args.len) c.self.invariant c.recall.ensures.laid c.self.view_is c.start_of.ensures.span.1 c.requires.source.1 in
     let to = within_span s.region s.table c.args.self.now c.args.destination c.start_of-2.result c.start_of-2.ensures.span.0 (c.args.to + c.args.len) c.self.invariant c.recall.ensures.laid c.self.view_is c.start_of-2.ensures.span.1 c.requires.destination.1 in
     ap (λ (ys : List ℕ). stored ys s.table) c.copy.ensures
-    ∙ copied_stored s.region s.table c.self.invariant c.recall.ensures.laid c.args.source c.args.destination c.start_of.result c.start_of-2.result c.start_of.ensures.span.0 c.start_of-2.ensures.span.0 c.args.from c.args.to c.args.len c.start_of.ensures.span.1 c.start_of-2.ensures.span.1 from to
+    ∙ copied_stored s.region s.table c.self.invariant c.recall.ensures.laid c.recall.ensures.based c.args.source c.args.destination c.start_of.result c.start_of-2.result c.start_of.ensures.span.0 c.start_of-2.ensures.span.0 c.args.from c.args.to c.args.len c.start_of.ensures.span.1 c.start_of-2.ensures.span.1 from to
     ∙ ap (λ (v : Stored). copied v c.args.source c.args.from c.args.destination c.args.to c.args.len) c.self.view_is

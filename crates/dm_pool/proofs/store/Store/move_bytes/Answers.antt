@@ -47,7 +47,7 @@ invariant_of-self c =
     let from = within_units s.region s.table c.args.self.now c.args.source (c.args.from + c.args.len) a.result c.self.invariant c.recall.ensures.laid c.self.view_is a.ensures.place c.requires.source.1 in
     let to = within_units s.region s.table c.args.self.now c.args.destination (c.args.to + c.args.len) b.result c.self.invariant c.recall.ensures.laid c.self.view_is b.ensures.place c.requires.destination.1 in
     subst (λ (ys : List ℕ). IsStore ys s.table) (sym c.copy.ensures)
-    (moved_store s.region s.table c.args.source c.args.destination a.result b.result c.args.from c.args.to c.args.len c.self.invariant c.recall.ensures.laid a.ensures.place b.ensures.place from to)
+    (moved_store s.region s.table c.args.source c.args.destination a.result b.result c.args.from c.args.to c.args.len c.self.invariant c.recall.ensures.laid c.recall.ensures.based a.ensures.place b.ensures.place from to)
 
 pub returns : goal.returns
 returns c =
@@ -55,5 +55,5 @@ returns c =
     let from = within_units s.region s.table c.args.self.now c.args.source (c.args.from + c.args.len) a.result c.self.invariant c.recall.ensures.laid c.self.view_is a.ensures.place c.requires.source.1 in
     let to = within_units s.region s.table c.args.self.now c.args.destination (c.args.to + c.args.len) b.result c.self.invariant c.recall.ensures.laid c.self.view_is b.ensures.place c.requires.destination.1 in
     ap (λ (ys : List ℕ). stored ys s.table) c.copy.ensures
-    ∙ moved_stored s.region s.table c.args.source c.args.destination a.result b.result c.args.from c.args.to c.args.len c.self.invariant c.recall.ensures.laid a.ensures.place b.ensures.place from to
+    ∙ moved_stored s.region s.table c.args.source c.args.destination a.result b.result c.args.from c.args.to c.args.len c.self.invariant c.recall.ensures.laid c.recall.ensures.based a.ensures.place b.ensures.place from to
     ∙ ap (λ (v : Stored). record v { blocks = moved_bytes v.blocks c.args.source c.args.from c.args.destination c.args.to c.args.len }) c.self.view_is

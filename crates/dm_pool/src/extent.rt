@@ -5,7 +5,7 @@ pub const UNIT: usize = 1024;
 
 /// Where a block lies.
 #[derive(Clone, Copy)]
-pub struct Place {
+pub struct Extent {
     /// Its first unit.
     pub base: usize,
     /// How many units it has.

@@ -1,0 +1,36 @@
+-- The entry points (the addresses are this machine's own): where a service or a driver acts in place of code, by CS and
+-- IP. The interrupt vectors lead to five (Intel 8086 Family User's Manual, "Interrupt pointer table"); the sixth, for
+-- extended memory, is returned by INT 2Fh (XMS 3.0, section "Accessing the extended memory manager").
+use Rattle.std.specs.Prelude.{ℕ}
+
+-- the segment of all entry points but the expanded memory driver's
+abbrev pub entry_segment : ℕ
+entry_segment = 0xF000
+
+-- the segment of the expanded memory driver, with its name at offset 000Ah (LIM EMS 4.0)
+abbrev pub expanded_memory_segment : ℕ
+expanded_memory_segment = 0xF100
+
+-- F000:0000, interrupt 0, which DIV and IDIV take
+abbrev pub divide_error_offset : ℕ
+divide_error_offset = 0x0000
+
+-- F000:0080, INT 20h
+abbrev pub terminate_offset : ℕ
+terminate_offset = 0x0080
+
+-- F000:0084, INT 21h
+abbrev pub dos_offset : ℕ
+dos_offset = 0x0084
+
+-- F000:00BC, INT 2Fh
+abbrev pub multiplex_offset : ℕ
+multiplex_offset = 0x00BC
+
+-- F100:0020, INT 67h
+abbrev pub expanded_memory_offset : ℕ
+expanded_memory_offset = 0x0020
+
+-- F000:0400, extended memory, by a far call
+abbrev pub extended_memory_offset : ℕ
+extended_memory_offset = 0x0400
