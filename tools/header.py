@@ -173,4 +173,4 @@ def faults():
 def words():
     """The words of the header and of the Python module, the header's names also without their prefix; and those of C and Python that documents speak of."""
     names = re.findall(r"[A-Za-z_]\w*", text_of("include/mezguld.h") + text_of("python/mezguld.py"))
-    return {*names, *[name.removeprefix("MEZGULD_") for name in names], "MEZGULD_", "malloc", "realloc", "free", "unittest"}
+    return {*names, *[re.sub(r"^MEZGULD_", "", name) for name in names], "MEZGULD_", "malloc", "realloc", "free", "unittest"}
