@@ -4,7 +4,7 @@ use Rattle.dm_pool.specs.declared.sizes.Sizes.{Sizes}
 use Rattle.dm_state.specs.declared.stop.Stop.{Stop}
 use Rattle.dm_machine.specs.Run.{IsRun}
 use Rattle.dm_machine.specs.Until.{RunsUntil}
-use Rattle.dm_debug.specs.Runs.{entered}
+use Rattle.dm_space.specs.Buffers.{with_bytes}
 use Rattle.dm_debug.specs.Sessions.{with_machine}
 use Rattle.dm_host.specs.declared.refusal.Refusal.{Refusal}
 use Rattle.dm_host.specs.declared.refusal.Refusal.TheVariants.{Memory as NoMemory, NotLoaded}
@@ -55,7 +55,7 @@ ReadsTo h segment offset before after status g =
 
 abbrev pub WritesTo : Hosted → ℕ → ℕ → List ℕ → ℕ → Hosted → Type 0
 WritesTo h segment offset bytes status g =
-    Ends status (Works h (λ s t. t ≡ with_machine s (record s.machine { memory = entered s.machine.memory segment offset bytes })) g) (λ why. IsNotLoaded h why × (g ≡ h))
+    Ends status (Works h (λ s t. t ≡ with_machine s (record s.machine { memory = with_bytes s.machine.memory segment offset bytes })) g) (λ why. IsNotLoaded h why × (g ≡ h))
 
 abbrev pub OutputTo : Hosted → List ℕ → List ℕ → ℕ → ℕ → ℕ → Hosted → Type 0
 OutputTo h before after wanted_before wanted status g =

@@ -11,13 +11,13 @@ use Rattle.dm_cli.specs.inner.Faults.{add_fault}
 use Rattle.dm_cli.specs.Starting.{IsFileFault}
 use Rattle.dm_cli.specs.Names.{last_part}
 use Rattle.dm_cli.specs.inner.Names.{IsNameFault}
-use Rattle.dm_cli.specs.Stores.{IsRead, IsFaultOf, not_read, long_name, twice, no_memory, AddsFile, Stores, more}
+use Rattle.dm_cli.specs.Stores.{IsRead, IsFaultOf, nameless, long_name, twice, no_memory, AddsFile, Stores, more}
 
 -- a fault of a name
 pub fault_of_name : (e : Fault) (known : Option (List ℕ)) (store : List (List ℕ × List ℕ)) (path bytes : List ℕ) → IsRead known bytes
     → IsNameFault path e → IsFaultOf known store path e
-fault_of_name e k s p b r (inl h) = not_read e (inl h.0)
-fault_of_name e k s p b r (inr h) = subst (IsFaultOf k s p) (sym h.0) (long_name b r h.2)
+fault_of_name e k s p b r (inl h) = nameless e h.1 h.0
+fault_of_name e k s p b r (inr h) = subst (IsFaultOf k s p) (sym h.0) (long_name b h.1 r h.2)
 
 -- a refusal of the store
 pub fault_of_store : (r : AddError) (known : Option (List ℕ)) (store : List (List ℕ × List ℕ)) (path bytes name : List ℕ) → IsRead known bytes

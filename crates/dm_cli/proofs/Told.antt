@@ -1,12 +1,11 @@
 -- What is written for one line.
-use Rattle.std.proofs.Common.{◌+◌, min, ◌≡◌, ℕ, Bool, true, false, List, Option, sym, subst, refl, arith}
+use Rattle.std.proofs.Common.{◌≡◌, ℕ, Bool, true, false, List, Option, sym, subst, refl}
 use Rattle.std.proofs.KnownBytes.{Appends-kept, Keeps-refl}
-use Rattle.std.proofs.lemmas.Grind.{common_steps}
 use Rattle.std.specs.Io.KnownBytes.{Appends, Keeps}
 use Rattle.dm_command.specs.Commands.{command_of}
 use Rattle.dm_debug.specs.Debugged.{Debugged}
 use Rattle.dm_debug.specs.Sessions.{IsAnswered, IsCutOff, IsPartlyWritten, is_syntax, is_full}
-use Rattle.dm_out.specs.Out.{AppendsPart, HasFailed, most_failures}
+use Rattle.dm_out.specs.Out.{AppendsPart, HasFailed}
 use Rattle.dm_cli.specs.declared.fault.Fault.{Fault}
 use Rattle.dm_cli.specs.declared.fault.Fault.TheVariants.{OutOfMemory}
 use Rattle.dm_cli.specs.Faults.{IsWriteFault}
@@ -25,10 +24,6 @@ told_command s t line a b no_syntax no_full h = record {
   tells = answered h.command t h.text h.read (rw h.read at (not_true _ no_syntax)) (rw h.read at (not_true _ no_full)) h.does;
   written = h.written;
 }
-
--- a call has failed: the count after it says so
-pub has_risen : (old new : ℕ) → new ≡ min (old + 1) most_failures → HasFailed old new
-has_risen old new is = grind (arith, common_steps, is)
 
 pub part_of_command : (s t : Debugged) (line : List ℕ) (a b : Option (List ℕ)) (opened failures : ℕ) (fault : Fault) → ¬ (is_syntax s (command_of line) ≡ true) → ¬ (is_full s (command_of line) ≡ true)
     → IsPartlyWritten s line t a b → HasFailed opened failures → IsWriteFault fault → IsUnanswered s line t a b opened failures fault

@@ -3,7 +3,7 @@ use Rattle.std.specs.Prelude.{ℕ, ◌≡◌, ◌<◌, ◌≤◌, ◌++◌, ◌�
 use Rattle.dm_cli.specs.declared.fault.Fault.{Fault}
 use Rattle.dm_cli.specs.declared.fault.Fault.TheVariants.{InputTooLong, NameTooLong, NameTwice, OutOfMemory}
 use Rattle.dm_cli.specs.Faults.{IsUnread}
-use Rattle.dm_cli.specs.Names.{last_part}
+use Rattle.dm_cli.specs.Names.{IsFileName, last_part}
 use Rattle.dm_machine.specs.Start.{IsNew, IsLoaded}
 use Rattle.dm_proc.specs.Programs.{IsName, has_name}
 use Rattle.dm_pool.specs.declared.sizes.Sizes.{Sizes}
@@ -32,11 +32,13 @@ pub data Stores (known : List ℕ → Option (List ℕ)) : List (List ℕ) → L
 abbrev pub IsInputFault : Option (List ℕ) → List ℕ → Fault → Type 0
 IsInputFault known name fault = IsUnread name fault ⊎ (fault ≡ OutOfMemory) ⊎ ((fault ≡ InputTooLong) × IfSome known (λ xs. 16777216 < length xs))
 
--- the faults that one file may have: its path names no file, or it can't be read; it is too long; its name is; its name
--- stands in the store already; or memory was refused. Those of its name come only once it was read
+-- the faults that one file may have: its path names no file; it can't be read, or it is too long; its name is too long;
+-- its name stands in the store already; or an allocation failed. The file is opened only if its path names one, and the
+-- faults of its name come only once it was read
 pub data IsFaultOf (known : Option (List ℕ)) (store : List (List ℕ × List ℕ)) (path : List ℕ) : Fault → Type 0 where
-  not_read : (fault : Fault) → IsInputFault known path fault → IsFaultOf known store path fault
-  long_name : (bytes : List ℕ) → IsRead known bytes → 64 < length (last_part path) → IsFaultOf known store path NameTooLong
+  nameless : (fault : Fault) → ¬ IsFileName (last_part path) → IsUnread path fault → IsFaultOf known store path fault
+  not_read : (fault : Fault) → IsFileName (last_part path) → IsInputFault known path fault → IsFaultOf known store path fault
+  long_name : (bytes : List ℕ) → IsFileName (last_part path) → IsRead known bytes → 64 < length (last_part path) → IsFaultOf known store path NameTooLong
   twice : (bytes : List ℕ) → IsRead known bytes → IsName (last_part path) → has_name store (last_part path) ≡ true → IsFaultOf known store path NameTwice
   no_memory : IsFaultOf known store path OutOfMemory
 

@@ -183,7 +183,9 @@ pub fn dm_main<S: AsStr, F: Storage, I: Read + Drop, W: Out, E: Out>(
 /// Prints that a word of the command line is not UTF-8, and returns the status of a wrong line: 2, or 126 if an
 /// allocation failed.
 pub fn refuse_words<E: Out>(alloc: Global, error: &mut E) -> u8
-    ensures { (result ≡ 2) ⊎ (result ≡ 126) }
+    ensures status { (result ≡ 2) ⊎ (result ≡ 126) }
+    ensures line { result ≡ 126 → Prints (fault_line Fault.OutOfMemory) (record { bytes = E.taken error.old; failures = E.failures error.old })
+        (record { bytes = E.taken error.new; failures = E.failures error.new }) }
 {
     match not_unicode(alloc) {
         Ok(text) => {

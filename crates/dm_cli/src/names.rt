@@ -1,8 +1,8 @@
 //! The names of programs in the store.
 ghost use Rattle.std.specs.Prelude.{◌≡◌, ◌↔◌, IsOk, IfErr, IfOk, IsTrue};
 ghost use Rattle.dm_proc.specs.Programs.{IsName};
-ghost use Rattle.dm_cli.specs.Names.{last_part};
-ghost use Rattle.dm_cli.specs.inner.Names.{IsFileName, IsNameFault};
+ghost use Rattle.dm_cli.specs.Names.{IsFileName, last_part};
+ghost use Rattle.dm_cli.specs.inner.Names.{IsNameFault};
 
 use crate::fault::Fault;
 

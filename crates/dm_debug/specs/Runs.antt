@@ -1,8 +1,6 @@
--- What the commands do that change the machine, and what they tell: runs, single steps, and bytes that are written.
--- Source: MS-DOS User's Reference, "DEBUG" (Go, Trace, Enter). The words are this machine's own.
+-- What the commands that run the machine do, and what they print: runs and single steps.
+-- Source: MS-DOS User's Reference, "DEBUG" (Go, Trace). The words are this machine's own.
 use Rattle.std.specs.Prelude.{◌≡◌, ℕ, ◌+◌, ◌<◌, ◌≤◌, List, [], ◌∷◌, ◌++◌, codes, Option, Some, None}
-use Rattle.dm_space.specs.Memory.{Memory}
-use Rattle.dm_space.specs.Buffers.{with_bytes}
 use Rattle.dm_state.specs.declared.stop.Stop.{Stop}
 use Rattle.dm_state.specs.declared.stop.Stop.TheVariants as stop
 use Rattle.dm_state.specs.State.{State}
@@ -54,7 +52,3 @@ pub data TracesPart (s : State) (n : ℕ) (t : State) : Type 0 where
   some : (made : ℕ) (told : List ℕ) → made ≤ n → Traces s made told t → TracesPart s n t
   next : (made : ℕ) (before : State) (told : List ℕ) → made < n → Traces s made told before → Answers before None t → TracesPart s n t
   stopped : (made : ℕ) (before : State) (told : List ℕ) (why : Stop) → made < n → Traces s made told before → Answers before (Some why) t → TracesPart s n t
-
--- the bytes are written upwards from segment:offset on; offsets wrap
-abbrev pub entered : Memory → ℕ → ℕ → List ℕ → Memory
-entered m segment offset bytes = with_bytes m segment offset bytes

@@ -2,7 +2,7 @@
 ghost use Rattle.std.specs.Prelude.{◌≡◌, ◌≤◌, ◌<◌, ◌++◌, OnOk, IfErr, MatchBool, Some, None, length, drop};
 ghost use Rattle.dm_state.specs.State.{State};
 ghost use Rattle.dm_host.specs.declared.refusal.Refusal.TheVariants.{NotLoaded};
-ghost use Rattle.dm_debug.specs.Runs.{entered};
+ghost use Rattle.dm_space.specs.Buffers.{with_bytes};
 ghost use Rattle.dm_debug.specs.Sessions.{with_machine};
 ghost use Rattle.dm_host.specs.Memory.{bytes_at, Copies};
 ghost use Rattle.dm_host.specs.Hosts.{Works, Shows, IsNotLoaded};
@@ -56,7 +56,7 @@ impl Host {
     ///
     /// `NotLoaded` exactly where no program is loaded.
     pub fn write(&mut self, segment: u16, offset: u16, bytes: &[u8]) -> Result<(), Refusal>
-        ensures ok { OnOk result (Works self.old (λ s t. t ≡ with_machine s (record s.machine { memory = entered s.machine.memory segment offset bytes.now })) self.new) }
+        ensures ok { OnOk result (Works self.old (λ s t. t ≡ with_machine s (record s.machine { memory = with_bytes s.machine.memory segment offset bytes.now })) self.new) }
         ensures err { IfErr result (λ e. IsNotLoaded self.old e × (self.new ≡ self.old)) }
     {
         let Stage::Loaded(session) = &mut self.stage else {

@@ -1,5 +1,5 @@
 -- What a writer took, and how many of its writes and flushes failed.
-use Rattle.std.specs.Prelude.{◌≡◌, ℕ, ◌+◌, ◌-◌, ◌^◌, ◌≤◌, ◌<◌, ◌==◌, ◌&&◌, ◌⊎◌, Bool, true, not}
+use Rattle.std.specs.Prelude.{◌≡◌, ℕ, ◌+◌, ◌-◌, ◌^◌, ◌≤◌, ◌==◌, ◌&&◌, Bool, true, not}
 use Rattle.std.specs.Prelude.{List, Option, Result, Ok, Err, length, take, min, if◌then◌else◌}
 use Rattle.std.specs.Io.KnownBytes.{Appends}
 
@@ -21,9 +21,9 @@ abbrev pub count_after_call : {A E : Type 0} → ℕ → Result A E → ℕ
 count_after_call count (Ok x) = count
 count_after_call count (Err e) = min (count + 1) most_failures
 
--- a call failed, or a write took nothing: the count rose or stands at its end
+-- exactly one call failed, or one write took nothing: the count rose by one, or stands at its end
 abbrev pub HasFailed : ℕ → ℕ → Type 0
-HasFailed before after = (before < after) ⊎ (after ≡ most_failures)
+HasFailed before after = after ≡ min (before + 1) most_failures
 
 -- the writer took a first part of `bytes`
 abbrev pub AppendsPart : Option (List ℕ) → Option (List ℕ) → List ℕ → Type 0

@@ -1,13 +1,9 @@
 -- For private contracts and proofs alone: beside specs/Names.antt.
-use Rattle.std.specs.Prelude.{ℕ, ◌≡◌, ◌<◌, ◌⊎◌, List, length, Contains}
+use Rattle.std.specs.Prelude.{ℕ, ◌≡◌, ◌<◌, ◌⊎◌, List, length}
 use Rattle.dm_cli.specs.declared.fault.Fault.{Fault}
 use Rattle.dm_cli.specs.declared.fault.Fault.TheVariants.{NameTooLong}
 use Rattle.dm_cli.specs.Faults.{IsUnread}
-use Rattle.dm_cli.specs.Names.{last_part}
-
--- a file's name is not empty and has no zero byte
-abbrev pub IsFileName : List ℕ → Type 0
-IsFileName name = (0 < length name) × (¬ Contains name 0)
+use Rattle.dm_cli.specs.Names.{IsFileName, last_part}
 
 -- why the file at a path has no name in the store: the last part of the path is no file's name, or it is one, and too
 -- long

@@ -1,13 +1,13 @@
-use Rattle.std.proofs.Common.{Err, ap, inl, refl}
+use Rattle.std.proofs.Common.{Err, ap, refl}
 use Rattle.std.proofs.lemmas.Result.{err_from_is_err_and}
-use Rattle.dm_cli.specs.Stores.{not_read}
+use Rattle.dm_cli.specs.Stores.{nameless, not_read}
 use Rattle.dm_cli.proofs.Starts.{fault_of_name, fault_of_store}
 use Rattle.dm_cli.proofs.loading.add_file.Goals as goal
 
 pub returns-in_err-bytes-clause-fault : goal.returns-in_err-bytes-clause-fault
 returns-in_err-bytes-clause-fault g c =
     let p = err_from_is_err_and c.from_residual.result c.from_residual.ensures.1 in
-    rw (p.1, p.2) (not_read _ c.in_err-bytes.ensures.fault)
+    rw (p.1, p.2) (not_read _ (c.names_file.ensures.0 c.if-not-names_file.false) c.in_err-bytes.ensures.fault)
 
 pub returns-in_err-name-clause-fault : goal.returns-in_err-name-clause-fault
 returns-in_err-name-clause-fault g c =
@@ -20,4 +20,4 @@ returns-in-Err-clause-fault g c =
     (λ e. c.in-Err.ensures.twice.0 (ap Err e)))
 
 pub returns-then-not-names_file-clause-fault : goal.returns-then-not-names_file-clause-fault
-returns-then-not-names_file-clause-fault g c = not_read _ (inl refl)
+returns-then-not-names_file-clause-fault g c = nameless _ (λ h. let e = c.names_file.ensures.1 h in let no = c.if-not-names_file.true in cc) refl
