@@ -13,7 +13,7 @@ use Rattle.dm_blocks.specs.Chain.{IsHeader, signature, Spells, HasHeader, IsNonE
 use Rattle.dm_blocks.specs.Reading.{is_nil}
 use Rattle.dm_arena.specs.inner.Walks.{pick, Fills, IsReplaceable, IsReplaced, IsJoined, Placing, IsPlan}
 use Rattle.dm_blocks.specs.Chain.{is_free}
-use Rattle.dm_arena.specs.Blocks.{in_effect, is_candidate, merge, join, join_after, fits, cut, cut_low, cut_high, taken, IsIn}
+use Rattle.dm_arena.specs.Blocks.{in_effect, is_candidate, merge, join, join_after, fits, cut, cut_low, cut_high, taken_segment, IsIn}
 use Rattle.dm_arena.specs.inner.Blocks.{cut_list}
 use Rattle.dm_arena.specs.Allocation.{Taking, changed}
 use Rattle.dm_arena.specs.inner.Standing.{MaySplit, IsNew}
@@ -174,7 +174,7 @@ module _ (up : Bool) where
             | inr r ↦ subst F is (cut-has found.before b c.first c.second found.after fills.0 g (subst G found.joined r))
           ]
 
-      pub planned : MaySplit S (join up L) c.second → (segment : ℕ) → segment ≡ taken st.fit n b + 1 → IsPlan up S start st n owner (record { cut = c; segment = segment })
+      pub planned : MaySplit S (join up L) c.second → (segment : ℕ) → segment ≡ taken_segment st.fit n b + 1 → IsPlan up S start st n owner (record { cut = c; segment = segment })
       planned m segment s = record { taking = found; cut_is = is; segment_is = s; clear = clear_changed m }
 
       pub unplanned : (MaySplit S (join up L) c.second → ⊥) → (t : Taking up S start st n) × (IsClear S (changed t owner) → ⊥)

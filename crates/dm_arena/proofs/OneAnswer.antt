@@ -8,7 +8,7 @@ use Rattle.dm_arena.specs.declared.fit.Strategy.{Strategy}
 use Rattle.dm_blocks.specs.Chain.{first_header, link_header, HasHeader, IsArenaBehind, IsChain, IsClear, IsArena, Becomes, DiffersInHeaders, is_parted}
 use Rattle.dm_arena.specs.Owned.{BlockAt, IsNoBlock, is_link_block, ReleasesOne, ReleasesBoth, freed, Frees, FreeRefused, absorb, AllFree, BeginsTaken, BlockRunAt, resized, Resizes, ResizeRefused, released, ReleaseRefused, Releases}
 use Rattle.dm_blocks.specs.Chain.{is_free}
-use Rattle.dm_arena.specs.Blocks.{in_effect, join, largest, fits, prefers, IsIn, cut, cut_low, taken}
+use Rattle.dm_arena.specs.Blocks.{in_effect, join, largest, fits, prefers, IsIn, cut, cut_low, taken_segment}
 use Rattle.dm_arena.specs.inner.Walks.{Fills}
 use Rattle.dm_arena.specs.Allocation.{Taking, changed, Allocates, AllocateRefused}
 use Rattle.dm_blocks.proofs.Chains.{has_either, has_right}
@@ -63,8 +63,8 @@ module _ (up : Bool) where
         let F : List Header → Type 0 = λ X. Fills r.1 X r.0 in
         split_unique r.1 r.0 t.before t.block t.after u.before u.block u.after (subst F t.joined r.2) joined at
 
-    pub taken-same : taken st.fit n t.block ≡ taken st.fit n u.block
-    taken-same = ap (taken st.fit n) same.1
+    pub taken_segment-same : taken_segment st.fit n t.block ≡ taken_segment st.fit n u.block
+    taken_segment-same = ap (taken_segment st.fit n) same.1
 
     pub changed-same : (owner : ℕ) → changed t owner ≡ changed u owner
     changed-same owner = ap₂ (λ P R. P ++ R) same.0 (ap₂ (λ b Q. cut st.fit n owner b ++ Q) same.1 same.2)
@@ -104,7 +104,7 @@ module _ (up : Bool) where
   pub allocation_unique : (S : Memory) (st : Strategy) (n owner : ℕ) (r q : Result ℕ Refusal) (T U : Memory) → Allocates up S st n owner r T → Allocates up S st n owner q U → (r ≡ q) × (T ≡ U)
   allocation_unique S st n owner (Ok a) (Ok b) T U x y =
       let F : List Header → Type 0 = λ X. Becomes S first_header X U in (
-        ap (λ (z : ℕ). Ok z) (x.1 ∙ ap (λ z. z + 1) (taken-same S first_header st n x.0 y.0) ∙ sym y.1),
+        ap (λ (z : ℕ). Ok z) (x.1 ∙ ap (λ z. z + 1) (taken_segment-same S first_header st n x.0 y.0) ∙ sym y.1),
         becomes_unique S first_header _ T U x.2 (subst F (sym (changed-same S first_header st n x.0 y.0 owner)) y.2),
       )
   allocation_unique S st n owner (Ok a) (Err e) T U x y = absurd (served_refused S st n owner x.0 x.2.clear e y.1)

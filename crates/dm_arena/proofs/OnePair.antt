@@ -7,7 +7,7 @@ use Rattle.dm_arena.specs.declared.refusal.Refusal.TheVariants.{Destroyed, Short
 use Rattle.dm_arena.specs.declared.fit.Spoken.{Spoken}
 use Rattle.dm_arena.specs.declared.fit.Strategy.{Strategy}
 use Rattle.dm_blocks.specs.Chain.{first_header, IsArena, IsClear, Becomes}
-use Rattle.dm_arena.specs.Blocks.{in_effect, join, largest, fits, IsFit, IsIn, cut, taken}
+use Rattle.dm_arena.specs.Blocks.{in_effect, join, largest, fits, IsFit, IsIn, cut, taken_segment}
 use Rattle.dm_arena.specs.inner.Walks.{pick, left_of, rest_of, Fills}
 use Rattle.dm_arena.specs.Allocation.{Taking, changed}
 use Rattle.dm_arena.specs.Pair.{Pairing, Planned, paired, IsPair, Placed, placed_of, Pairs, PairRefused}
@@ -15,7 +15,7 @@ use Rattle.dm_arena.proofs.Allocating.{taking_of, in_middle, changed_fills}
 use Rattle.dm_blocks.proofs.Unique.{arena_unique, becomes_unique}
 use Rattle.dm_arena.proofs.Ends.{split_unique}
 use Rattle.dm_arena.proofs.Fitting.{prefers-same}
-use Rattle.dm_arena.proofs.OneAnswer.{changed-same, taken-same}
+use Rattle.dm_arena.proofs.OneAnswer.{changed-same, taken_segment-same}
 use Rattle.dm_arena.proofs.Effect.{effect-owner}
 use Rattle.dm_arena.proofs.Pairs.{size_same, second_fit, none_second, none_first}
 
@@ -42,7 +42,7 @@ module _ (up : Bool) where
       effect-is o = effect-owner up S start st n first 0 o
 
       found_second : (m : ℕ) (w : Header) → m ≡ min most (largest up effect (left_of (Some spoken) (join up L))) → pick up effect m None (left_of (Some spoken) (join up L)) ≡ Some w →
-          (o k : ℕ) (p : Pairing up S start st n least most o k) → IsSecond o k (taken st.fit m w + 1) m
+          (o k : ℕ) (p : Pairing up S start st n least most o k) → IsSecond o k (taken_segment st.fit m w + 1) m
       found_second m w is chosen o k p =
           let size : k ≡ m = size_same up S start st n L b a e spoken refl refl effect effect-is least most (largest up effect (left_of (Some spoken) (join up L))) m refl is o k p in
           let h : 0 < o = (let y = p.owner_is in omega arith) in
@@ -61,7 +61,7 @@ module _ (up : Bool) where
           let ip : IsIn p.block (changed first o) = subst J (sym p.split ∙ same) (in_middle p.before p.block p.after) in
           let at : p.block.segment ≡ w.segment = prefers-same effect p.block w (fit.preferred w iw (subst G (sym size) f.0.fit)) (f.0.preferred p.block ip (subst H size fit.fit)) in
           let u = split_unique fills.0 fills.1 p.before p.block p.after f.1.0 w f.1.1 (subst F p.split fills.2) lists at in
-          record { owner = p.owner_is ∙ ap₂ (λ x c. taken st.fit x c + 1) size u.1; size = size }
+          record { owner = p.owner_is ∙ ap₂ (λ x c. taken_segment st.fit x c + 1) size u.1; size = size }
 
       by_second : (m : ℕ) (r : Option Header) → m ≡ min most (largest up effect (left_of (Some spoken) (join up L))) → pick up effect m None (left_of (Some spoken) (join up L)) ≡ r →
           (o k v w : ℕ) → Pairing up S start st n least most o k → Pairing up S start st n least most v w → IsSecond o k v w
@@ -111,7 +111,7 @@ module _ (up : Bool) where
     pub placed-same : (x y : Planned) → IsPair up S start st n least most x → IsPair up S start st n least most y → placed_of x ≡ placed_of y
     placed-same x y p q =
         let u = second_unique _ _ _ _ p.pairing q.pairing in
-        let first : x.environment ≡ y.environment = p.environment_is ∙ ap (λ z. z + 1) (taken-same up S start st n p.pairing.first q.pairing.first) ∙ sym q.environment_is in
+        let first : x.environment ≡ y.environment = p.environment_is ∙ ap (λ z. z + 1) (taken_segment-same up S start st n p.pairing.first q.pairing.first) ∙ sym q.environment_is in
         let program = u.owner in
         let size = u.size in
         λ i. record { environment = first i; program = program i; size = size i }

@@ -12,7 +12,7 @@ use Rattle.dm_arena.specs.declared.fit.Fit.{Fit}
 use Rattle.dm_arena.specs.declared.fit.Fit.TheVariants.{First, Best, Last}
 use Rattle.dm_blocks.specs.Chain.{HasHeader, IsClear, IsArena, IsNonEmpty, Spells, Becomes, next}
 use Rattle.dm_blocks.specs.Chain.{is_free, is_link}
-use Rattle.dm_arena.specs.Blocks.{in_effect, join, fits, largest, free_size, cut, cut_low, cut_high, taken, IsIn, IsFit}
+use Rattle.dm_arena.specs.Blocks.{in_effect, join, fits, largest, free_size, cut, cut_low, cut_high, taken_segment, IsIn, IsFit}
 use Rattle.dm_arena.specs.inner.Blocks.{cut_list}
 use Rattle.dm_arena.specs.inner.Standing.{MaySplit, IsNew}
 use Rattle.dm_arena.specs.inner.Walks.{pick, better, left_of, left_part, rest_of, Fills, IsJoined, IsReplaceable, IsReplaced}
@@ -196,7 +196,7 @@ module _ (up : Bool) where
           let F : List Header → Type 0 = λ X. IsIn w X in
           left-fits 1 w (subst F (sym f.1.2) (in_middle f.1.0 w f.1.1))
 
-      module _ (E-is : (o : ℕ) → E ≡ in_effect up (changed (taking_of up S start st n L b a e) o) st) (least most left o : ℕ) (left-of : left ≡ largest up E (left_of (Some s) (join up L))) (size-of : m ≡ min most left) (enough : least ≤ m) (owner-of : o ≡ taken st.fit m w + 1) where
+      module _ (E-is : (o : ℕ) → E ≡ in_effect up (changed (taking_of up S start st n L b a e) o) st) (least most left o : ℕ) (left-of : left ≡ largest up E (left_of (Some s) (join up L))) (size-of : m ≡ min most left) (enough : least ≤ m) (owner-of : o ≡ taken_segment st.fit m w + 1) where
         pub owned : 0 < o
         owned = omega arith
 

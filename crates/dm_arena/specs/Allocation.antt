@@ -7,7 +7,7 @@ use Rattle.dm_arena.specs.declared.refusal.Refusal.{Refusal}
 use Rattle.dm_arena.specs.declared.refusal.Refusal.TheVariants.{Destroyed, NoBlock, Short}
 use Rattle.dm_arena.specs.declared.fit.Strategy.{Strategy}
 use Rattle.dm_blocks.specs.Chain.{Becomes, IsArena, IsClear, NoArena, first_header}
-use Rattle.dm_arena.specs.Blocks.{IsFit, IsIn, cut, fits, in_effect, join, largest, taken}
+use Rattle.dm_arena.specs.Blocks.{IsFit, IsIn, cut, fits, in_effect, join, largest, taken_segment}
 
 -- the arena, and the block of its joined list that the strategy takes for n paragraphs
 pub record Taking (upper : Bool) (S : Memory) (start : ℕ) (strategy : Strategy) (n : ℕ) : Type 0 where
@@ -35,5 +35,5 @@ AllocateRefused upper S start strategy n owner NoBlock = ⊥
 -- the arena
 abbrev pub Allocates : Bool → Memory → Strategy → ℕ → ℕ → Result ℕ Refusal → Memory → Type 0
 Allocates upper S strategy n owner (Ok segment) T =
-    (t : Taking upper S first_header strategy n) × (segment ≡ taken strategy.fit n t.block + 1) × Becomes S first_header (changed t owner) T
+    (t : Taking upper S first_header strategy n) × (segment ≡ taken_segment strategy.fit n t.block + 1) × Becomes S first_header (changed t owner) T
 Allocates upper S strategy n owner (Err e) T = (T ≡ S) × AllocateRefused upper S first_header strategy n owner e

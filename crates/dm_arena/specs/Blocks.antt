@@ -96,8 +96,8 @@ cut First n owner b = cut_low n owner b
 cut Best n owner b = cut_low n owner b
 cut Last n owner b = cut_high n owner b
 
--- the header of the taken part
-abbrev pub taken : Fit → ℕ → Header → ℕ
-taken First n b = b.segment
-taken Best n b = b.segment
-taken Last n b = b.segment + b.size - n
+-- the segment of the header whose block is the taken part
+abbrev pub taken_segment : Fit → ℕ → Header → ℕ
+taken_segment First n b = b.segment
+taken_segment Best n b = b.segment
+taken_segment Last n b = b.segment + b.size - n

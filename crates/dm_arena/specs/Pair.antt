@@ -7,7 +7,7 @@ use Rattle.dm_arena.specs.declared.fit.Strategy.{Strategy}
 use Rattle.dm_arena.specs.declared.refusal.Refusal.{Refusal}
 use Rattle.dm_arena.specs.declared.refusal.Refusal.TheVariants.{Destroyed, Short, NoBlock}
 use Rattle.dm_blocks.specs.Chain.{first_header, IsArena, NoArena, IsClear, Becomes}
-use Rattle.dm_arena.specs.Blocks.{in_effect, join, largest, IsFit, cut, taken}
+use Rattle.dm_arena.specs.Blocks.{in_effect, join, largest, IsFit, cut, taken_segment}
 use Rattle.dm_arena.specs.Allocation.{Taking, changed}
 
 -- the block that the strategy takes for the environment; then, of the list in which it is taken, the block for the
@@ -24,7 +24,7 @@ pub record Pairing (upper : Bool) (S : Memory) (start : ℕ) (strategy : Strateg
   pub fit : IsFit upper (in_effect upper (changed first owner) strategy) size (changed first owner) block
   pub size_is : size ≡ min most (largest upper (in_effect upper (changed first owner) strategy) (changed first owner))
   pub enough : least ≤ size
-  pub owner_is : owner ≡ taken strategy.fit size block + 1
+  pub owner_is : owner ≡ taken_segment strategy.fit size block + 1
 
 -- the list with both blocks taken
 abbrev pub paired : {upper : Bool} {S : Memory} {start : ℕ} {strategy : Strategy} {environment least most owner size : ℕ} → Pairing upper S start strategy environment least most owner size → List Header
@@ -52,7 +52,7 @@ pub record Planned : Type 0 where
 -- the pair is planned on the memory S
 pub record IsPair (upper : Bool) (S : Memory) (start : ℕ) (strategy : Strategy) (environment least most : ℕ) (pair : Planned) : Type 0 where
   pub pairing : Pairing upper S start strategy environment least most pair.program pair.size
-  pub environment_is : pair.environment ≡ taken strategy.fit environment pairing.first.block + 1
+  pub environment_is : pair.environment ≡ taken_segment strategy.fit environment pairing.first.block + 1
   pub first_is : pair.first ≡ cut strategy.fit environment pair.program pairing.first.block
   pub second_is : pair.second ≡ cut strategy.fit pair.size pair.program pairing.block
   pub clear : IsClear S (paired pairing)

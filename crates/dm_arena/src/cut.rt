@@ -2,7 +2,7 @@
 ghost use Rattle.std.specs.Prelude.{◌≡◌, ℕ, ◌+◌, ◌<◌, ◌≤◌, List, MatchOption};
 ghost use Rattle.dm_blocks.specs.declared.header.Header.{Header};
 ghost use Rattle.dm_blocks.specs.Chain.{next};
-ghost use Rattle.dm_arena.specs.Blocks.{cut, taken};
+ghost use Rattle.dm_arena.specs.Blocks.{cut, taken_segment};
 ghost use Rattle.dm_arena.specs.inner.Blocks.{cut_list};
 ghost use Rattle.dm_arena.specs.inner.Walks.{IsReplaceable, IsReplaced};
 
@@ -57,7 +57,7 @@ pub(crate) fn cut_of(fit: Fit, n: u16, owner: u16, block: Header) -> Cut
 pub(crate) fn taken_of(fit: Fit, n: u16, block: Header) -> u16
     requires within { n ≤ block.size }
     requires fits { next block ≤ 0xFFFF }
-    ensures value { result ≡ taken fit n block }
+    ensures value { result ≡ taken_segment fit n block }
     ensures small { result < 0xFFFF }
 {
     match fit {

@@ -210,7 +210,7 @@ fn blocks_are_resized_and_freed(rt: HostRuntime) -> Result<(), Fail> {
 
 /// Definitions: dm_blocks Chain Becomes DiffersInHeaders
 /// Definitions: dm_arena Blocks join join_after merge IsFit fits is_candidate prefers prefers_in prefers_by largest cut
-/// Definitions: dm_arena Blocks cut_low cut_high taken
+/// Definitions: dm_arena Blocks cut_low cut_high taken_segment
 /// Definitions: dm_arena Allocation Allocates Taking changed
 #[test]
 fn strategies_choose_and_cut(rt: HostRuntime) -> Result<(), Fail> {

@@ -1,7 +1,7 @@
 use Rattle.std.proofs.Common.{◌≡◌, ◌+◌, inr, sym, ◌∙◌, ap}
 use Rattle.dm_blocks.specs.Chain.{first_header}
 use Rattle.dm_blocks.specs.Reading.{IsSpelledFrom}
-use Rattle.dm_arena.specs.Blocks.{taken}
+use Rattle.dm_arena.specs.Blocks.{taken_segment}
 use Rattle.dm_arena.proofs.Choosing.{chosen, room}
 use Rattle.dm_arena.proofs.Allocating.{block_within, block_ends}
 use Rattle.dm_arena.proofs.Effect.{effect_taken}
@@ -133,7 +133,7 @@ returns-then-not-are_clear c =
     let e = chosen _ _ _ _ a.0 _ _ (c.in_effect-searched.ensures a.0 s) (c.choose-choice.ensures.block a.0 s) c.in-Some.is in
     let effect = effect_taken _ _ _ _ _ 0 a.0 _ a.1 e _ c.cut_of-taken.ensures.cut _ (c.in_effect_beside-searched_then.ensures a.0 s) in
     let k = sym (c.choose.ensures.block a.0 s) ∙ c.in-Some-block.is in
-    let o : c.taken_of-program.result + 1 ≡ taken c.args.strategy.fit c.smaller-size.result c.in-Some-block.whole + 1 = ap (λ x. x + 1) c.taken_of-program.ensures.value in
+    let o : c.taken_of-program.result + 1 ≡ taken_segment c.args.strategy.fit c.smaller-size.result c.in-Some-block.whole + 1 = ap (λ x. x + 1) c.taken_of-program.ensures.value in
     inr (_, _, pairing _ _ _ _ _ a.0 _ a.1 e _ c.spoken_of-spoken.ensures.segment c.spoken_of-spoken.ensures.rest _ _ _ k effect c.args.least c.args.most _ _ (c.choose-left.ensures.largest a.0 s) c.smaller-size.ensures c.if-size-least.false o, pair_unclear _ _ _ _ _ a.0 _ a.1 e _ c.spoken_of-spoken.ensures.segment c.spoken_of-spoken.ensures.rest _ _ _ k effect c.args.least c.args.most _ _ (c.choose-left.ensures.largest a.0 s) c.smaller-size.ensures c.if-size-least.false o c.cut_of-first.result c.cut_of-second.result c.cut_of-first.ensures.cut c.cut_of-second.ensures.cut (c.if-not-are_clear.ensures a.0 s (first_new _ _ _ _ _ a.0 _ a.1 e _ c.spoken_of-spoken.ensures.segment c.spoken_of-spoken.ensures.rest _ _ _ k effect c.args.least c.args.most _ _ (c.choose-left.ensures.largest a.0 s) c.smaller-size.ensures c.if-size-least.false o c.cut_of-first.result c.cut_of-second.result c.cut_of-first.ensures.cut c.cut_of-second.ensures.cut) (second_new _ _ _ _ _ a.0 _ a.1 e _ c.spoken_of-spoken.ensures.segment c.spoken_of-spoken.ensures.rest _ _ _ k effect c.args.least c.args.most _ _ (c.choose-left.ensures.largest a.0 s) c.smaller-size.ensures c.if-size-least.false o c.cut_of-first.result c.cut_of-second.result c.cut_of-first.ensures.cut c.cut_of-second.ensures.cut)))
 
 pub returns : goal.returns
@@ -143,7 +143,7 @@ returns c =
     let e = chosen _ _ _ _ a.0 _ _ (c.in_effect-searched.ensures a.0 s) (c.choose-choice.ensures.block a.0 s) c.in-Some.is in
     let effect = effect_taken _ _ _ _ _ 0 a.0 _ a.1 e _ c.cut_of-taken.ensures.cut _ (c.in_effect_beside-searched_then.ensures a.0 s) in
     let k = sym (c.choose.ensures.block a.0 s) ∙ c.in-Some-block.is in
-    let o : c.taken_of-program.result + 1 ≡ taken c.args.strategy.fit c.smaller-size.result c.in-Some-block.whole + 1 = ap (λ x. x + 1) c.taken_of-program.ensures.value in
+    let o : c.taken_of-program.result + 1 ≡ taken_segment c.args.strategy.fit c.smaller-size.result c.in-Some-block.whole + 1 = ap (λ x. x + 1) c.taken_of-program.ensures.value in
     record {
       pairing = pairing _ _ _ _ _ a.0 _ a.1 e _ c.spoken_of-spoken.ensures.segment c.spoken_of-spoken.ensures.rest _ _ _ k effect c.args.least c.args.most _ _ (c.choose-left.ensures.largest a.0 s) c.smaller-size.ensures c.if-size-least.false o;
       environment_is = ap (λ x. x + 1) c.taken_of-environment_segment.ensures.value;
