@@ -5,7 +5,7 @@ use Rattle.dm_space.specs.Memory.{Memory}
 use Rattle.dm_space.specs.EightBytes.{byte_after}
 use Rattle.dm_moves.specs.declared.spans.SpanKind.{SpanKind}
 use Rattle.dm_moves.specs.declared.spans.SpanKind.TheVariants.{Linear, Pages, Single}
-use Rattle.dm_moves.specs.Spans.{Span, span, moved, exchanged}
+use Rattle.dm_moves.specs.Spans.{Span, span, span_moved, spans_exchanged}
 use Rattle.dm_moves.specs.Overlaps.{overlap}
 use Rattle.dm_ems.specs.declared.status.Status.{Status}
 use Rattle.dm_ems.specs.declared.status.Status.TheVariants.{UnknownHandle, NoSuchPage, PastPages, KindsOverlap, OffsetPastPage, TooLong, ExchangeOverlaps, UnknownKind, PastMemory}
@@ -71,14 +71,14 @@ are_mixed from to = if is_linear from.kind then (if is_linear to.kind then false
 unfoldable pub move_between : Expanded → ℕ → Span → Span → Result (Moved × Expanded) Status
 move_between x n from to =
     if overlap x.memory from to n
-    then (if are_mixed from to then Err KindsOverlap else Ok (moved_is.Overlapping, with_memory x (moved x.memory from to n)))
-    else Ok (moved_is.Apart, with_memory x (moved x.memory from to n))
+    then (if are_mixed from to then Err KindsOverlap else Ok (moved_is.Overlapping, with_memory x (span_moved x.memory from to n)))
+    else Ok (moved_is.Apart, with_memory x (span_moved x.memory from to n))
 
 unfoldable pub exchange_between : Expanded → ℕ → Span → Span → Result (Unit {0} × Expanded) Status
 exchange_between x n from to =
     if overlap x.memory from to n
     then (if are_mixed from to then Err KindsOverlap else Err ExchangeOverlaps)
-    else Ok (tt, with_memory x (exchanged x.memory from to n))
+    else Ok (tt, with_memory x (spans_exchanged x.memory from to n))
 
 -- the bytes of one region come to another; where the two overlap, that is told
 unfoldable pub move_region : Expanded → ℕ → ℕ → Result (Moved × Expanded) Status

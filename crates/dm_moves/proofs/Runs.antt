@@ -13,7 +13,7 @@ use Rattle.dm_space.specs.inner.Runs.{with_run}
 use Rattle.dm_space.proofs.Copies.{length-values, values-more, values-part, part-more, none-written, one-more, same-content}
 use Rattle.dm_space.proofs.Places.{peek-place, page-there}
 use Rattle.dm_moves.specs.declared.spans.SpanKind.TheVariants.{Linear, Pages, Single}
-use Rattle.dm_moves.specs.Spans.{Span, spot, place_in, byte_in, bytes_in, stored, moved, exchanged, IsInside}
+use Rattle.dm_moves.specs.Spans.{Span, spot, place_in, byte_in, bytes_in, stored, span_moved, spans_exchanged, IsInside}
 use Rattle.dm_moves.specs.inner.Copying.{read_in, written_out}
 use Rattle.dm_moves.proofs.Inside.{page-of, single-of, inside-shaped}
 use Rattle.dm_moves.proofs.Shapes.{stored-shaped}
@@ -156,7 +156,7 @@ indexed {xs} {ys} {i} {j} {b} is same at low = is ∙ ap (λ l. get_or l i b) sa
 
 -- ---- whole moves
 
-pub move-done : (h s t : Held) (from to : Span) (n : ℕ) → n ≤ length h.scratch → s ≡ read_in h from 0 0 n → t ≡ written_out s to 0 0 n → t.memory ≡ moved h.memory from to n
+pub move-done : (h s t : Held) (from to : Span) (n : ℕ) → n ≤ length h.scratch → s ≡ read_in h from 0 0 n → t ≡ written_out s to 0 0 n → t.memory ≡ span_moved h.memory from to n
 move-done h s t from to n fits e f =
     let vs = bytes_in h.memory from n in
     ap (λ (x : Held). x.memory) (f ∙ ap (λ (x : Held). written_out x to 0 0 n) e)
@@ -164,7 +164,7 @@ move-done h s t from to n fits e f =
 
 -- bytes of one block, written to another or the same
 pub blocks-done : (h : Held) (from to : Span) (p q n : ℕ) → from.kind ≡ Single → to.kind ≡ Single → p ≡ slice_index from.blocks 0 → q ≡ slice_index to.blocks 0 → 0 < n → IsInside h.memory from n → IsInside h.memory to n
-    → with_blocks h.memory (moved_bytes h.memory.blocks p (from.start + 0) q (to.start + 0) n) ≡ moved h.memory from to n
+    → with_blocks h.memory (moved_bytes h.memory.blocks p (from.start + 0) q (to.start + 0) n) ≡ span_moved h.memory from to n
 blocks-done h from to p q n e f is js some inside there =
     let m = h.memory in
     let xs = part (page_bytes m p) (from.start + 0) n in
@@ -184,7 +184,7 @@ still-inside m t u to from at n len e f inside =
     subst (λ (x : Held). IsInside x.memory from len) (sym f)
     (inside-shaped t.memory (written_out t to 0 at n).memory from len (stored-shaped t.memory to 0 (part t.scratch at n)) (subst (λ (x : Memory). IsInside x from len) (sym e) inside))
 
-pub exchange-done : (h s t u v : Held) (from to : Span) (n : ℕ) → n + n ≤ length h.scratch → s ≡ read_in h from 0 0 n → t ≡ read_in s to 0 n n → u ≡ written_out t to 0 0 n → v ≡ written_out u from 0 n n → v.memory ≡ exchanged h.memory from to n
+pub exchange-done : (h s t u v : Held) (from to : Span) (n : ℕ) → n + n ≤ length h.scratch → s ≡ read_in h from 0 0 n → t ≡ read_in s to 0 n n → u ≡ written_out t to 0 0 n → v ≡ written_out u from 0 n n → v.memory ≡ spans_exchanged h.memory from to n
 exchange-done h s t u v from to n fits e f g i =
     let xs = bytes_in h.memory from n in let ys = bytes_in h.memory to n in
     let ex = length-values (byte_in h.memory from) 0 n in let ey = length-values (byte_in h.memory to) 0 n in

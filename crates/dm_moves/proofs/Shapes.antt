@@ -3,7 +3,7 @@ use Rattle.std.proofs.Common.{ℕ, suc, List, [], ◌∷◌}
 use Rattle.dm_space.specs.Memory.{Memory, with_byte}
 use Rattle.dm_space.specs.Places.{IsShaped}
 use Rattle.dm_space.proofs.Places.{shaped-same, shaped-then, shaped-with}
-use Rattle.dm_moves.specs.Spans.{Span, place_in, stored, bytes_in, exchanged}
+use Rattle.dm_moves.specs.Spans.{Span, place_in, stored, bytes_in, spans_exchanged}
 use Rattle.dm_moves.specs.Laws.{MovesKeepTheMap}
 
 pub stored-shaped : (m : Memory) (r : Span) (k : ℕ) (vs : List ℕ) → IsShaped m (stored m r k vs)
@@ -17,5 +17,5 @@ moves_keep = record {
   moving = λ m from to n. stored-shaped m to 0 (bytes_in m from n);
   exchanging = λ m from to n.
       let t = stored m to 0 (bytes_in m from n) in
-      shaped-then m t (exchanged m from to n) (stored-shaped m to 0 (bytes_in m from n)) (stored-shaped t from 0 (bytes_in m to n));
+      shaped-then m t (spans_exchanged m from to n) (stored-shaped m to 0 (bytes_in m from n)) (stored-shaped t from 0 (bytes_in m to n));
 }

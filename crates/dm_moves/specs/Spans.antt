@@ -44,12 +44,12 @@ stored m r k [] = m
 stored m r k (v ∷ vs) = stored (with_byte m (place_in m r k) v) r (suc k) vs
 
 -- the whole source is read, and then written
-abbrev pub moved : Memory → Span → Span → ℕ → Memory
-moved m from to n = stored m to 0 (bytes_in m from n)
+abbrev pub span_moved : Memory → Span → Span → ℕ → Memory
+span_moved m from to n = stored m to 0 (bytes_in m from n)
 
 -- both are read, and then each is written where the other was
-abbrev pub exchanged : Memory → Span → Span → ℕ → Memory
-exchanged m from to n = stored (stored m to 0 (bytes_in m from n)) from 0 (bytes_in m to n)
+abbrev pub spans_exchanged : Memory → Span → Span → ℕ → Memory
+spans_exchanged m from to n = stored (stored m to 0 (bytes_in m from n)) from 0 (bytes_in m to n)
 
 -- ---- where a span of n bytes may lie
 

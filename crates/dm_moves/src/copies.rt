@@ -2,7 +2,7 @@
 
 ghost use Rattle.std.specs.Prelude.{◌≡◌, ◌+◌, ◌%◌, ◌<◌, ◌≤◌};
 ghost use Rattle.dm_moves.specs.inner.Copying.{read_in, written_out};
-ghost use Rattle.dm_moves.specs.Spans.{moved, exchanged, IsInside};
+ghost use Rattle.dm_moves.specs.Spans.{span_moved, spans_exchanged, IsInside};
 
 use crate::spans::{PAGE, Span, SpanKind};
 use dm_space::Space;
@@ -87,7 +87,7 @@ pub fn move_bytes(space: &mut Space, from: &Span, to: &Span, len: usize)
     requires from { IsInside space.old.memory from.now len }
     requires to { IsInside space.old.memory to.now len }
     requires scratch { len ≤ 0x200000 }
-    ensures { space.new.memory ≡ moved space.old.memory from.now to.now len }
+    ensures { space.new.memory ≡ span_moved space.old.memory from.now to.now len }
 {
     let _sizes = space.a20();
     read(space, from, 0, len);
@@ -100,7 +100,7 @@ pub fn move_blocks(space: &mut Space, from: &Span, to: &Span, len: usize)
     requires blocks { (from.now.kind ≡ SpanKind.Single) × (to.now.kind ≡ SpanKind.Single) }
     requires from { IsInside space.old.memory from.now len }
     requires to { IsInside space.old.memory to.now len }
-    ensures memory { space.new.memory ≡ moved space.old.memory from.now to.now len }
+    ensures memory { space.new.memory ≡ span_moved space.old.memory from.now to.now len }
     ensures scratch { space.new.scratch ≡ space.old.scratch }
 {
     if len == 0 {
@@ -117,7 +117,7 @@ pub fn exchange_bytes(space: &mut Space, from: &Span, to: &Span, len: usize)
     requires from { IsInside space.old.memory from.now len }
     requires to { IsInside space.old.memory to.now len }
     requires scratch { len ≤ 0x100000 }
-    ensures { space.new.memory ≡ exchanged space.old.memory from.now to.now len }
+    ensures { space.new.memory ≡ spans_exchanged space.old.memory from.now to.now len }
 {
     let _sizes = space.a20();
     let (first, second) = (0, len);

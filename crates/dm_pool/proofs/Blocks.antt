@@ -12,7 +12,7 @@ use Rattle.std.proofs.lemmas.Option.{none-some, same_Some}
 use Rattle.dm_region.specs.Parts.{part, with_part}
 use Rattle.dm_pool.specs.declared.extent.Extent.{Extent}
 use Rattle.dm_pool.specs.Gaps.{overlaps, is_clear, is_free, first_of, lowest, first_empty, next_index}
-use Rattle.dm_pool.specs.Blocks.{Blocks, content, contents_of, Apart, IsPool, zeros, placed, taken, at_place, moved, new_base, resized, fitted, with_content}
+use Rattle.dm_pool.specs.Blocks.{Blocks, content, contents_of, Apart, IsPool, zeros, placed, taken, resized_from, at_base, new_base, resized, fitted, with_content}
 use Rattle.std.specs.List.{refill, length_refill}
 use Rattle.std.proofs.lemmas.List.{length-take, length-drop}
 use Rattle.dm_pool.proofs.Gaps.{covered, hits, below_or_not}
@@ -161,7 +161,7 @@ module _ (n : ℕ) (places : List (Option Extent)) (xs : List ℕ) (is : IsPool 
       → resized (record { units = n; places = places; contents = contents_of places xs }) k b.units ≡ Some (record { units = n; places = set places k (Some b); contents = contents_of (set places k (Some b)) ys })
   resize_is c e f z =
       let s : Blocks = record { units = n; places = places; contents = contents_of places xs } in
-      ap (λ o. at_place s k b.units o) e ∙ ap (λ o. moved s k b.units o) f
+      ap (λ o. resized_from s k b.units o) e ∙ ap (λ o. at_base s k b.units o) f
       ∙ ap (λ l. Some (record { units = n; places = set places k (Some b); contents = l })) (ap (set (contents_of places xs) k) (ap (λ l. fitted l b.units) (content_of places k c xs e) ∙ sym z) ∙ sym new_contents)
 
 -- two writes side by side are one

@@ -12,7 +12,7 @@ use Rattle.std.proofs.lemmas.List.Sums.{sum_by-cons, sum_by-set}
 use Rattle.dm_pool.specs.declared.extent.Extent.{Extent}
 use Rattle.dm_pool.specs.Gaps.{Run, overlaps, is_clear, gaps, first_empty, next_index, lowest, count_fitting}
 use Rattle.dm_pool.specs.inner.Gaps.{IsCovered, AreGaps, first_fit}
-use Rattle.dm_pool.specs.Blocks.{Blocks, with_block, zeros, placed, taken, without, moved, new_base, resized, at_place, fitted}
+use Rattle.dm_pool.specs.Blocks.{Blocks, with_block, zeros, placed, taken, without, at_base, new_base, resized, resized_from, fitted}
 use Rattle.dm_pool.specs.FreeList.{AreBased}
 use Rattle.dm_pool.specs.Laws.{free_numbers, with_new, and_taken, taken_in_turn, BlocksCome}
 use Rattle.dm_pool.proofs.Gaps.{hits, before, after, covered, past, below_or_not, clear_part, fit_is_lowest}
@@ -56,16 +56,16 @@ taken_based s u i t e h = placed_based s u (first_empty s.places) (lowest s.plac
 pub without_based : (s : Blocks) (i : ℕ) → AreBased s.places → AreBased (without s i).places
 without_based s i h = go_based s.places i h
 
-moved_based : (s : Blocks) (i u : ℕ) (o : Option ℕ) (t : Blocks) → moved s i u o ≡ Some t → ((p : ℕ) → o ≡ Some p → u ≡ 0 → p ≡ 0) → AreBased s.places → AreBased t.places
-moved_based s i u None t e f h = absurd (none-some t e)
-moved_based s i u (Some p) t e f h =
+at_base_based : (s : Blocks) (i u : ℕ) (o : Option ℕ) (t : Blocks) → at_base s i u o ≡ Some t → ((p : ℕ) → o ≡ Some p → u ≡ 0 → p ≡ 0) → AreBased s.places → AreBased t.places
+at_base_based s i u None t e f h = absurd (none-some t e)
+at_base_based s i u (Some p) t e f h =
     let b : Extent = record { base = p; units = u } in
     let same = same_Some (with_block s i b (fitted (get_or s.contents i []) u)) t e in
     subst (λ (x : Blocks). AreBased x.places) same (come_based s.places i b h (f p refl))
 
-place_based : (s : Blocks) (i u : ℕ) (o : Option Extent) (t : Blocks) → at_place s i u o ≡ Some t → AreBased s.places → AreBased t.places
+place_based : (s : Blocks) (i u : ℕ) (o : Option Extent) (t : Blocks) → resized_from s i u o ≡ Some t → AreBased s.places → AreBased t.places
 place_based s i u None t e h = absurd (none-some t e)
-place_based s i u (Some b) t e h = moved_based s i u (new_base s i b u) t e (λ p f z. sym (same_Some 0 p (ap (new_base s i b) (sym z) ∙ f))) h
+place_based s i u (Some b) t e h = at_base_based s i u (new_base s i b u) t e (λ p f z. sym (same_Some 0 p (ap (new_base s i b) (sym z) ∙ f))) h
 
 pub resized_based : (s : Blocks) (i u : ℕ) (t : Blocks) → resized s i u ≡ Some t → AreBased s.places → AreBased t.places
 resized_based s i u t e h = place_based s i u (get_or s.places i None) t e h

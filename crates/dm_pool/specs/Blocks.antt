@@ -78,19 +78,19 @@ new_base s i b u = if u == 0 then Some 0 else (if is_free (set s.places i None) 
 abbrev pub fitted : List ℕ → ℕ → List ℕ
 fitted xs u = take (u * 1024) (xs ++ zeros u)
 
--- the block at a new place, if there is one
-abbrev pub moved : Blocks → ℕ → ℕ → Option ℕ → Option Blocks
-moved s i u None = None
-moved s i u (Some p) = Some (with_block s i (record { base = p; units = u }) (fitted (get_or s.contents i []) u))
+-- the block with u units at a new base, if there is one
+abbrev pub at_base : Blocks → ℕ → ℕ → Option ℕ → Option Blocks
+at_base s i u None = None
+at_base s i u (Some p) = Some (with_block s i (record { base = p; units = u }) (fitted (get_or s.contents i []) u))
 
 -- the block that lies there, resized
-abbrev pub at_place : Blocks → ℕ → ℕ → Option Extent → Option Blocks
-at_place s i u None = None
-at_place s i u (Some b) = moved s i u (new_base s i b u)
+abbrev pub resized_from : Blocks → ℕ → ℕ → Option Extent → Option Blocks
+resized_from s i u None = None
+resized_from s i u (Some b) = at_base s i u (new_base s i b u)
 
 -- the pool with a block resized
 abbrev pub resized : Blocks → ℕ → ℕ → Option Blocks
-resized s i u = at_place s i u (get_or s.places i None)
+resized s i u = resized_from s i u (get_or s.places i None)
 
 -- the pool with `len` bytes of one block, from its byte `from` on, copied to the place from byte `to` on of another or
 -- the same

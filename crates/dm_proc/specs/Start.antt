@@ -72,11 +72,11 @@ registers segment code stack = record {
   flags = start_flags;
 }
 
--- a far pointer of a header, from the start segment on
-abbrev pub moved : FarPointer → ℕ → FarPointer
-moved p by = record p { segment = (p.segment + by) % 65536 }
+-- a far pointer of a header, relocated by the start segment
+abbrev pub relocated_pointer : FarPointer → ℕ → FarPointer
+relocated_pointer p by = record p { segment = (p.segment + by) % 65536 }
 
 abbrev pub start_registers : Placed → List ℕ → Cpu
 start_registers p file =
-    if is_mz file then registers p.program (moved (code file) (start p)) (moved (stack file) (start p))
+    if is_mz file then registers p.program (relocated_pointer (code file) (start p)) (relocated_pointer (stack file) (start p))
     else registers p.program (record { segment = p.program; offset = 0x100 }) (record { segment = p.program; offset = com_stack p })

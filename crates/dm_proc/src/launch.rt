@@ -122,9 +122,9 @@ fn write_start(
     write_stack(space, image, blocks);
 }
 
-/// A far pointer of a header, counted from the start segment.
-fn moved(pointer: FarPointer, by: u16) -> FarPointer
-    ensures { result ≡ Rattle.dm_proc.specs.Start.moved pointer by }
+/// A far pointer of a header, relocated by the start segment.
+fn relocated_pointer(pointer: FarPointer, by: u16) -> FarPointer
+    ensures { result ≡ Rattle.dm_proc.specs.Start.relocated_pointer pointer by }
 {
     FarPointer {
         segment: pointer.segment.wrapping_add(by),
@@ -154,8 +154,8 @@ fn start_registers(image: &Image, blocks: Blocks) -> Cpu
             let start = segment.wrapping_add(0x10);
             registers(
                 segment,
-                moved(image.code(), start),
-                moved(image.stack(), start),
+                relocated_pointer(image.code(), start),
+                relocated_pointer(image.stack(), start),
             )
         }
     }

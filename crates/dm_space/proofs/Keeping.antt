@@ -10,7 +10,7 @@ use Rattle.dm_region.specs.Parts.{part, with_part}
 use Rattle.dm_region.proofs.Bytes.{length-with_part}
 use Rattle.dm_pool.specs.declared.extent.Extent.{Extent}
 use Rattle.dm_pool.specs.Gaps.{first_empty, lowest}
-use Rattle.dm_pool.specs.Blocks.{Blocks, placed, taken, without, with_block, with_content, moved, moved_bytes, at_place, new_base, resized, fitted, zeros}
+use Rattle.dm_pool.specs.Blocks.{Blocks, placed, taken, without, with_block, with_content, at_base, moved_bytes, resized_from, new_base, resized, fitted, zeros}
 use Rattle.dm_pool.specs.Stored.{Stored, refit}
 use Rattle.dm_pool.proofs.Blocks.{vacant, part_length}
 use Rattle.dm_space.specs.Memory.{Memory, IsHeld, Fits, IsPage, page_bytes, with_blocks}
@@ -58,15 +58,15 @@ placed_fits m u (Some k) (Some p) i t e h f =
 pub taken_fits : (m : Memory) (u i : ℕ) (t : Blocks) → taken m.blocks u ≡ Some (i, t) → Fits m → Fits (with_blocks m t)
 taken_fits m u i t h f = placed_fits m u (first_empty m.blocks.places) (lowest m.blocks.places m.blocks.units u) i t refl h f
 
-moved_fits : (m : Memory) (i u : ℕ) (p : Option ℕ) (t : Blocks) → moved m.blocks i u p ≡ Some t → shows m.windows i ≡ false → Fits m → Fits (with_blocks m t)
-moved_fits m i u None t h hidden f = absurd (none-some t h)
-moved_fits m i u (Some p) t h hidden f =
+at_base_fits : (m : Memory) (i u : ℕ) (p : Option ℕ) (t : Blocks) → at_base m.blocks i u p ≡ Some t → shows m.windows i ≡ false → Fits m → Fits (with_blocks m t)
+at_base_fits m i u None t h hidden f = absurd (none-some t h)
+at_base_fits m i u (Some p) t h hidden f =
     let new : Blocks = with_block m.blocks i (record { base = p; units = u }) (fitted (get_or m.blocks.contents i []) u) in
     subst (λ (x : Blocks). Fits (with_blocks m x)) (same_Some new t h) (hidden_fits m i (Some (record { base = p; units = u })) (fitted (get_or m.blocks.contents i []) u) hidden f)
 
-at_fits : (m : Memory) (i u : ℕ) (o : Option Extent) (t : Blocks) → at_place m.blocks i u o ≡ Some t → shows m.windows i ≡ false → Fits m → Fits (with_blocks m t)
+at_fits : (m : Memory) (i u : ℕ) (o : Option Extent) (t : Blocks) → resized_from m.blocks i u o ≡ Some t → shows m.windows i ≡ false → Fits m → Fits (with_blocks m t)
 at_fits m i u None t h hidden f = absurd (none-some t h)
-at_fits m i u (Some b) t h hidden f = moved_fits m i u (new_base m.blocks i b u) t h hidden f
+at_fits m i u (Some b) t h hidden f = at_base_fits m i u (new_base m.blocks i b u) t h hidden f
 
 pub resized_fits : (m : Memory) (i u : ℕ) (t : Blocks) → resized m.blocks i u ≡ Some t → shows m.windows i ≡ false → Fits m → Fits (with_blocks m t)
 resized_fits m i u t h hidden f = at_fits m i u (get_or m.blocks.places i None) t h hidden f

@@ -156,7 +156,7 @@ fn play(rt: &impl Abort, taken: &mut Taken, step: Step) {
     keep(rt, taken);
 }
 
-/// Definitions: dm_pool Blocks Blocks IsAt IsLive no_blocks taken placed zeros without resized new_base moved fitted
+/// Definitions: dm_pool Blocks Blocks IsAt IsLive no_blocks taken placed zeros without resized new_base at_base fitted
 /// Definitions: dm_pool Gaps is_clear is_free lowest first_empty gaps Run largest free_units count_fitting
 /// Definitions: dm_pool FreeList AreBased
 #[test]
@@ -310,7 +310,7 @@ fn new_base(
 }
 
 /// 400 calls, one by one against a plain list of places.
-/// Definitions: dm_pool Blocks taken placed zeros without resized new_base moved fitted IsLaid IsPool Apart
+/// Definitions: dm_pool Blocks taken placed zeros without resized new_base at_base fitted IsLaid IsPool Apart
 /// content contents_of
 #[test]
 fn blocks_lie_where_a_plain_list_has_them(rt: HostRuntime) -> Result<(), Fail> {

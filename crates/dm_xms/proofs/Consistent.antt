@@ -8,7 +8,7 @@ use Rattle.std.proofs.lemmas.List.Quantifiers.{position-Some}
 use Rattle.std.proofs.lemmas.Option.{none-some, same_Some}
 use Rattle.dm_pool.specs.declared.extent.Extent.{Extent}
 use Rattle.dm_pool.specs.Gaps.{first_empty, lowest}
-use Rattle.dm_pool.specs.Blocks.{Blocks, IsLive, taken, placed, without, resized, moved, at_place, new_base, with_block, zeros, fitted, no_blocks}
+use Rattle.dm_pool.specs.Blocks.{Blocks, IsLive, taken, placed, without, resized, at_base, resized_from, new_base, with_block, zeros, fitted, no_blocks}
 use Rattle.dm_pool.specs.FreeList.{AreBased}
 use Rattle.dm_pool.proofs.Blocks.{vacant, no_place}
 use Rattle.dm_pool.proofs.Coming.{taken_based, without_based, resized_based}
@@ -369,9 +369,9 @@ pub record IsResized (s : Blocks) (i u : ℕ) (t : Blocks) : Type 0 where
   pub size : i < length s.contents → length (get_or t.contents i []) ≡ u * 1024
   pub changed : IsChanged s t i
 
-moved_sized : (s : Blocks) (i u : ℕ) (o : Option ℕ) (t : Blocks) → moved s i u o ≡ Some t → IsResized s i u t
-moved_sized s i u None t e = absurd (none-some t e)
-moved_sized s i u (Some p) t e =
+at_base_sized : (s : Blocks) (i u : ℕ) (o : Option ℕ) (t : Blocks) → at_base s i u o ≡ Some t → IsResized s i u t
+at_base_sized s i u None t e = absurd (none-some t e)
+at_base_sized s i u (Some p) t e =
     let b : Extent = record { base = p; units = u } in
     let xs = fitted (get_or s.contents i []) u in
     let made : IsResized s i u (with_block s i b xs) = record {
@@ -382,9 +382,9 @@ moved_sized s i u (Some p) t e =
     } in
     subst (IsResized s i u) (same_Some (with_block s i b xs) t e) made
 
-pub at_sized : (s : Blocks) (i u : ℕ) (o : Option Extent) (t : Blocks) → at_place s i u o ≡ Some t → IsResized s i u t
+pub at_sized : (s : Blocks) (i u : ℕ) (o : Option Extent) (t : Blocks) → resized_from s i u o ≡ Some t → IsResized s i u t
 at_sized s i u None t e = absurd (none-some t e)
-at_sized s i u (Some b) t e = moved_sized s i u (new_base s i b u) t e
+at_sized s i u (Some b) t e = at_base_sized s i u (new_base s i b u) t e
 
 grows : (x : Extended) (k kib : ℕ) (s : Handle) (t : Blocks) → IsConsistent x → handle_at x.xms.handles k ≡ Some s → resized x.memory.blocks s.block kib ≡ Some t → IsTurn x k s.block (Some (record s { kib = kib })) t
 grows x k kib s t l e r =
@@ -486,7 +486,7 @@ between_keeps : (x : Extended) (n : ℕ) (from to : Side) → IsConsistent x →
 unfolding move_between
 between_keeps x n from to l =
     if_keeps x (nat_lt from.end (from.region.start + n) || nat_lt to.end (to.region.start + n)) (Err BadLength) _ (refused x BadLength l)
-    (record { kept = writes_keep x (regions.moved x.memory from.region to.region n) (moves_keep.moving x.memory from.region to.region n) l })
+    (record { kept = writes_keep x (regions.span_moved x.memory from.region to.region n) (moves_keep.moving x.memory from.region to.region n) l })
 
 move_keeps : (x : Extended) (segment offset : ℕ) → IsConsistent x → Keeps x (move_memory x segment offset)
 unfolding move_memory

@@ -309,7 +309,7 @@ between_leaves : (x : Extended) (n : ℕ) (from to : Side) → Leaves x (move_be
 unfolding move_between
 between_leaves x n from to =
     if_leaves x (nat_lt from.end (from.region.start + n) || nat_lt to.end (to.region.start + n)) (Err BadLength) _ (refused x BadLength)
-    (record { kept = leaves_shaped x (regions.moved x.memory from.region to.region n) (moves_keep.moving x.memory from.region to.region n) })
+    (record { kept = leaves_shaped x (regions.span_moved x.memory from.region to.region n) (moves_keep.moving x.memory from.region to.region n) })
 
 move_leaves : (x : Extended) (segment offset : ℕ) → Leaves x (move_memory x segment offset)
 unfolding move_memory

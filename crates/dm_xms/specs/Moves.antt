@@ -3,7 +3,7 @@ use Rattle.std.specs.Prelude.{ℕ, ◌+◌, ◌*◌, ◌/◌, ◌%◌, nat_lt, �
 use Rattle.dm_space.specs.Memory.{Memory}
 use Rattle.dm_moves.specs.Buffers.{word_after}
 use Rattle.dm_moves.specs.declared.spans.SpanKind.TheVariants.{Linear, Single}
-use Rattle.dm_moves.specs.Spans.{span, moved}
+use Rattle.dm_moves.specs.Spans.{span, span_moved}
 use Rattle.dm_xms.specs.declared.status.Status.{Status}
 use Rattle.dm_xms.specs.declared.status.Status.TheVariants.{UnknownSource, PastSource, UnknownDestination, PastDestination, BadLength}
 use Rattle.dm_xms.specs.declared.tables.Handle.{Handle}
@@ -43,7 +43,7 @@ side x d unknown past =
 unfoldable pub move_between : Extended → ℕ → Side → Side → Result (Unit {0} × Extended) Status
 move_between x n from to =
     if nat_lt from.end (from.region.start + n) || nat_lt to.end (to.region.start + n) then Err BadLength else
-    Ok (tt, record x { memory = moved x.memory from.region to.region n })
+    Ok (tt, record x { memory = span_moved x.memory from.region to.region n })
 
 -- an even number of bytes, as the structure at segment:offset has it: a double word, and for the source and then the
 -- destination a handle (a word) and an offset (a double word)
