@@ -23,7 +23,7 @@ use Rattle.dm_proc.specs.Request.{IsNameAt, NoNameAt, Names, NamesGood, NameRefu
 use Rattle.dm_proc.specs.Environment.{IsEnvironment, AreVariables, NoVariables, environment}
 use Rattle.dm_proc.specs.Room.{paragraphs, least, most}
 use Rattle.dm_proc.specs.Start.{start_writes, start_registers, prefix}
-use Rattle.dm_proc.specs.Processes.{Processes, returned, IsPlanned, PlanRefused, Starts, Asks, environment_of, Execs, ExecRefused, Executes, Loads, Lays, OverlayRefused, Overlays, vectors_back, GoesOn, Ends, Terminates, Keeps}
+use Rattle.dm_proc.specs.Processes.{Processes, return_registers, IsPlanned, PlanRefused, Starts, Asks, environment_of, Execs, ExecRefused, Executes, Loads, Lays, OverlayRefused, Overlays, vectors_back, GoesOn, Ends, Terminates, Keeps}
 
 some-same : {A : Type 0} (x y : A) → Some x ≡ Some y → x ≡ y
 some-same x y e = cc
@@ -258,7 +258,7 @@ module _ (up : Bool) where
       Execs up ps c m store st p d n → Execs up ps c m store st q e o → (p ≡ q) × (d ≡ e) × (n ≡ o)
   execs_unique ps c m store st p q d e n o x y =
       let u = starts_unique m st _ _ _ _ x.placed y.placed n o x.starts (starts-at ps c m store st x.asks y.asks y.placed o y.starts) in (
-        x.processes ∙ ap (λ (z : Placed). record ps { present = z.program; parents = ps.parents ++ record { segment = ps.present; cpu = returned c m } ∷ [] }) u.0 ∙ sym y.processes,
+        x.processes ∙ ap (λ (z : Placed). record ps { present = z.program; parents = ps.parents ++ record { segment = ps.present; cpu = return_registers c m } ∷ [] }) u.0 ∙ sym y.processes,
         x.registers ∙ ap₂ start_registers u.0 (file-same ps c m store x.asks y.asks) ∙ sym y.registers,
         u.1,
       )

@@ -21,7 +21,7 @@ use Rattle.dm_proc.specs.Request.{IsNameAt, Names, NameRefused, pointer_at, tail
 use Rattle.dm_proc.specs.Environment.{IsEnd, AreVariables, NoVariables}
 use Rattle.dm_proc.specs.Room.{paragraphs, least, most}
 use Rattle.dm_proc.specs.Start.{word_bytes, zeros, start_writes, prefix}
-use Rattle.dm_proc.specs.Processes.{Processes, returned, PlanRefused, Starts, Asks, environment_of, ExecRefused, Executes, Loads, OverlayRefused, Overlays, vectors_back, Ends, Terminates, Keeps}
+use Rattle.dm_proc.specs.Processes.{Processes, return_registers, PlanRefused, Starts, Asks, environment_of, ExecRefused, Executes, Loads, OverlayRefused, Overlays, vectors_back, Ends, Terminates, Keeps}
 use Rattle.dm_proc.specs.Laws.{IgnoresUnseen}
 
 module _ (up : Bool) where
@@ -110,9 +110,9 @@ module _ (up : Bool) where
       old = (let P : ℕ → Type 0 = λ s. AreVariables (f m) s a.variables in subst P (sym (segment-unseen m ps.present c)) (variables-unseen m _ a.variables a.old));
     }
 
-    returned-unseen : (c : Cpu) (m : Memory) → returned c (f m) ≡ returned c m
-    unfolding returned
-    returned-unseen c m =
+    return_registers-unseen : (c : Cpu) (m : Memory) → return_registers c (f m) ≡ return_registers c m
+    unfolding return_registers
+    return_registers-unseen c m =
         ap (λ (g : Guest). let r : Cpu = g.cpu in let s : Cpu = record r { flags = record r.flags { carry = false } } in s) (interrupt_return-unseen f u (guest c m))
 
     -- writes
@@ -174,7 +174,7 @@ module _ (up : Bool) where
       placed = e.placed;
       starts = (let P : Passed → Type 0 = λ a. Starts up (f m) st (environment_of e.asks) e.asks.file ps.present a e.placed (f n) in subst P (sym (passed-unseen c m)) (starts-unseen m st _ _ _ _ e.placed n e.starts));
       registers = e.registers;
-      processes = e.processes ∙ ap (λ (z : Cpu). record ps { present = e.placed.program; parents = ps.parents ++ record { segment = ps.present; cpu = z } ∷ [] }) (sym (returned-unseen c m));
+      processes = e.processes ∙ ap (λ (z : Cpu). record ps { present = e.placed.program; parents = ps.parents ++ record { segment = ps.present; cpu = z } ∷ [] }) (sym (return_registers-unseen c m));
     }
     exec-unseen ps c m store st (Err e) qs d n x = (x.0, x.1, ap f x.2, exec_refused-unseen ps c m store st e x.3)
 

@@ -38,8 +38,8 @@ pub record AreLoaded (ps : Processes) : Type 0 where
   pub parents : All (λ p. 0 < p.segment) ps.parents
 
 -- the registers that a call leaves which succeeds: IP, CS and FLAGS popped, CF clear
-unfoldable pub returned : Cpu → Memory → Cpu
-returned c m =
+unfoldable pub return_registers : Cpu → Memory → Cpu
+return_registers c m =
     let r = (interrupt_return (guest c m)).cpu in
     record r { flags = record r.flags { carry = false } }
 
@@ -85,7 +85,7 @@ pub record Execs (upper : Bool) (ps : Processes) (c : Cpu) (m : Memory) (store :
   pub registers : d ≡ start_registers placed asks.file
   pub processes : qs ≡ record ps {
     present = placed.program;
-    parents = ps.parents ++ record { segment = ps.present; cpu = returned c m } ∷ [];
+    parents = ps.parents ++ record { segment = ps.present; cpu = return_registers c m } ∷ [];
   }
 
 -- why none is, in the order in which the errors are tried: AL is not 0 (1), no such name (2), a bad file (11), no end

@@ -17,9 +17,9 @@ use dm_load::Image;
 use dm_space::Space;
 
 /// The registers that a call leaves which succeeds: IP, CS and FLAGS popped, CF clear.
-#[tactic(auto, unfolding(crate::specs::Processes::returned))]
-fn returned(cpu: &Cpu, space: &Space) -> Cpu
-    ensures { result ≡ Rattle.dm_proc.specs.Processes.returned cpu.now space.now.memory }
+#[tactic(auto, unfolding(crate::specs::Processes::return_registers))]
+fn return_registers(cpu: &Cpu, space: &Space) -> Cpu
+    ensures { result ≡ Rattle.dm_proc.specs.Processes.return_registers cpu.now space.now.memory }
 {
     let mut cpu = *cpu;
     interrupt_return(&mut cpu, space);
@@ -64,7 +64,7 @@ impl Procs {
             return Err(Refusal::Short);
         }
         let arguments = arguments_at(cpu, space);
-        let after = returned(cpu, space);
+        let after = return_registers(cpu, space);
         let parent = self.psp();
         let started = start(
             space,

@@ -1,7 +1,7 @@
 use Rattle.std.proofs.Common.{◌≡◌, ◌%◌, length, inr, refl, sym, ◌∙◌, ap, arith}
 use Rattle.std.proofs.lemmas.Result.{err_from_is_err_and}
 use Rattle.dm_proc.specs.Request.{passed}
-use Rattle.dm_proc.specs.Processes.{returned}
+use Rattle.dm_proc.specs.Processes.{return_registers}
 use Rattle.dm_proc.proofs.Placing.{planned_on, starts, started_at, refused_at, planned_at, begun, asks, bytes, whole, plan_refused}
 use Rattle.dm_proc.proofs.procs.Procs.exec.Goals as goal
 
@@ -46,5 +46,5 @@ returns c =
           (starts _ _ c.args.strategy _ _ _ _ c.in_ok-pair.pair _ c.in-Some.environment_bytes (ap length made.bytes ∙ sym made.whole) c.in_ok-pair.ensures
           (c.start-started.ensures.written (planned_on _ _ c.args.strategy c.in-Some.environment_bytes _ _ c.in_ok-pair.ensures)));
       registers = c.start-started.ensures.registers;
-      processes = begun _ _ _ _ _ _ c.start-started.ensures.segment (c.returned-after.ensures ∙ ap (returned c.args.cpu.now) same) c.begin.ensures;
+      processes = begun _ _ _ _ _ _ c.start-started.ensures.segment (c.return_registers-after.ensures ∙ ap (return_registers c.args.cpu.now) same) c.begin.ensures;
     }
