@@ -5,7 +5,7 @@ use Rattle.dm_blocks.specs.declared.header.Header.{Header}
 use Rattle.dm_blocks.specs.Chain.{Becomes, IsArena, IsArenaBehind, first_header, is_linked, link_header}
 use Rattle.dm_blocks.proofs.Unique.{arena_unique, becomes_unique, chain_unique}
 use Rattle.dm_arena.specs.declared.refusal.Refusal.{Refusal}
-use Rattle.dm_arena.specs.Linking.{BeginsAt, EndsAt, GoesOn, IsCutOff, IsSo, LinkRefused, Links}
+use Rattle.dm_arena.specs.Linking.{BeginsAt, EndsAt, BecomesLinked, BecomesUnlinked, IsSo, LinkRefused, Links}
 use Rattle.dm_arena.specs.inner.Walks.{Fills}
 use Rattle.dm_arena.proofs.Ends.{fills_of, split_unique}
 use Rattle.dm_arena.proofs.Parting.{begins-linked}
@@ -13,7 +13,7 @@ use Rattle.dm_arena.proofs.Parting.{begins-linked}
 apart : (L M : List Header) → L ≡ M → is_linked L ≡ true → is_linked M ≡ false → ⊥
 apart L M e t f = absurd (let x : true ≡ false = sym t ∙ ap is_linked e ∙ f in cc)
 
-goes_once : (S T U : Memory) → GoesOn S T → GoesOn S U → T ≡ U
+goes_once : (S T U : Memory) → BecomesLinked S T → BecomesLinked S U → T ≡ U
 goes_once S T U x y =
     let first = arena_unique S first_header x.first y.first x.arena y.arena in
     let second = chain_unique S link_header x.second y.second x.behind.0 y.behind.0 in
@@ -27,31 +27,31 @@ cut_by S P (q ∷ Q) P' (q' ∷ Q') a b b' e =
     let r = fills_of S first_header (P ++ q ∷ Q) a.0.1 in
     (split_unique first_header r.0 P q Q P' q' Q' r.1 e (b ∙ sym b')).0
 
-cut_once : (S T U : Memory) → IsCutOff S T → IsCutOff S U → T ≡ U
+cut_once : (S T U : Memory) → BecomesUnlinked S T → BecomesUnlinked S U → T ≡ U
 cut_once S T U x y =
     let same = cut_by S x.before x.after y.before y.after x.arena x.begins y.begins (arena_unique S first_header (x.before ++ x.after) (y.before ++ y.after) x.arena y.arena) in
     let F : List Header → Type 0 = λ X. Becomes S first_header X U in
     becomes_unique S first_header _ T U x.becomes (subst F (sym same) y.becomes)
 
-so_goes : (S T U : Memory) → IsSo S true T → GoesOn S U → ⊥
+so_goes : (S T U : Memory) → IsSo S true T → BecomesLinked S U → ⊥
 so_goes S T U x y = apart x.list y.first (arena_unique S first_header x.list y.first x.arena y.arena) x.is y.parted
 
-so_cut : (S T U : Memory) → IsSo S false T → IsCutOff S U → ⊥
+so_cut : (S T U : Memory) → IsSo S false T → BecomesUnlinked S U → ⊥
 so_cut S T U x y = apart (y.before ++ y.after) x.list (arena_unique S first_header (y.before ++ y.after) x.list y.arena x.arena) (begins-linked y.before y.after y.begins) x.is
 
-joined_same : (S T U : Memory) → IsSo S true T ⊎ GoesOn S T → IsSo S true U ⊎ GoesOn S U → T ≡ U
+joined_same : (S T U : Memory) → IsSo S true T ⊎ BecomesLinked S T → IsSo S true U ⊎ BecomesLinked S U → T ≡ U
 joined_same S T U (inl x) (inl y) = x.same ∙ sym y.same
 joined_same S T U (inl x) (inr y) = absurd (so_goes S T U x y)
 joined_same S T U (inr x) (inl y) = absurd (so_goes S U T y x)
 joined_same S T U (inr x) (inr y) = goes_once S T U x y
 
-parted_same : (S T U : Memory) → IsSo S false T ⊎ IsCutOff S T → IsSo S false U ⊎ IsCutOff S U → T ≡ U
+parted_same : (S T U : Memory) → IsSo S false T ⊎ BecomesUnlinked S T → IsSo S false U ⊎ BecomesUnlinked S U → T ≡ U
 parted_same S T U (inl x) (inl y) = x.same ∙ sym y.same
 parted_same S T U (inl x) (inr y) = absurd (so_cut S T U x y)
 parted_same S T U (inr x) (inl y) = absurd (so_cut S U T y x)
 parted_same S T U (inr x) (inr y) = cut_once S T U x y
 
-not_joined : (S T : Memory) → IsSo S true T ⊎ GoesOn S T → LinkRefused S true → ⊥
+not_joined : (S T : Memory) → IsSo S true T ⊎ BecomesLinked S T → LinkRefused S true → ⊥
 not_joined S T (inl x) (inl none) = none x.list x.arena
 not_joined S T (inl x) (inr r) = apart x.list r.0 (arena_unique S first_header x.list r.0 x.arena r.1) x.is r.2
 not_joined S T (inr x) (inl none) = none x.first x.arena
@@ -61,7 +61,7 @@ not_joined S T (inr x) (inr r) =
     let same = arena_unique S first_header x.first r.0 x.arena r.1 in
     r.3 (subst G same x.ends) x.second (subst F same x.behind)
 
-not_parted : (S T : Memory) → IsSo S false T ⊎ IsCutOff S T → LinkRefused S false → ⊥
+not_parted : (S T : Memory) → IsSo S false T ⊎ BecomesUnlinked S T → LinkRefused S false → ⊥
 not_parted S T (inl x) none = none x.list x.arena
 not_parted S T (inr x) none = none (x.before ++ x.after) x.arena
 

@@ -11,7 +11,7 @@ use Rattle.dm_blocks.specs.Reading.{IsEndingAt, NoEndAt, is_nil}
 use Rattle.dm_blocks.proofs.Chains.{Agrees, clear_map, clear_within, has_either, has_left, has_right, spells_above, spells_below, spells_end, spells_kept, spells_replace}
 use Rattle.dm_blocks.proofs.Unique.{arena_unique}
 use Rattle.dm_arena.specs.Owned.{ReleasesBoth, released}
-use Rattle.dm_arena.specs.Linking.{BeginsAt, EndsAt, GoesOn, IsCutOff, LinkRefused, Links}
+use Rattle.dm_arena.specs.Linking.{BeginsAt, EndsAt, BecomesLinked, BecomesUnlinked, LinkRefused, Links}
 use Rattle.dm_arena.specs.inner.Walks.{IsHeaderWritten}
 use Rattle.dm_arena.proofs.Releasing.{released-has}
 use Rattle.dm_arena.proofs.Written.{agrees_written}
@@ -158,7 +158,7 @@ module _ (S : Memory) (L : List Header) (e : Entry) (P Q : List Header) (a : IsA
   before-has g w = spells_below S first_header P e.header Q spelled g w
 
   -- the list that ends there
-  pub cut_off : is_linked L ≡ true → (T : Memory) → IsHeaderWritten S e.header 0x5A T → IsCutOff S T
+  pub cut_off : is_linked L ≡ true → (T : Memory) → IsHeaderWritten S e.header 0x5A T → BecomesUnlinked S T
   cut_off l T x =
       let M = P ++ e.header ∷ [] in
       let F : List Header → Type 0 = λ X. IsArena S first_header X in
@@ -184,7 +184,7 @@ module _ (S : Memory) (L : List Header) (e : Entry) (P Q : List Header) (a : IsA
 
   -- the list that goes on
   module _ (n : is_linked L ≡ false) (U : List Header) (b : IsArenaBehind S L link_header U) (T : Memory) (x : IsHeaderWritten S e.header 0x4D T) where
-    pub goes_on : GoesOn S T
+    pub goes_on : BecomesLinked S T
     goes_on =
         let M = L ++ U in
         let hasP : (g : ℕ) → HasHeader P g → HasHeader L g = λ g w. has g (has_left P (e.header ∷ Q) g w) in

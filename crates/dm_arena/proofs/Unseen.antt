@@ -11,7 +11,7 @@ use Rattle.dm_blocks.specs.Chain.{first_header, link_header, word, IsHeader, Spe
 use Rattle.dm_arena.specs.Allocation.{Taking, changed, Allocates, AllocateRefused}
 use Rattle.dm_arena.specs.Owned.{BlockAt, Frees, FreeRefused, BlockRunAt, resized, Resizes, ResizeRefused, ReleaseRefused, Releases, released}
 use Rattle.dm_arena.specs.Pair.{Pairing, Planned, IsPair, paired, Placed, Pairs, PairRefused}
-use Rattle.dm_arena.specs.Linking.{GoesOn, IsCutOff, IsSo, LinkRefused, Links, TellsLinked}
+use Rattle.dm_arena.specs.Linking.{BecomesLinked, BecomesUnlinked, IsSo, LinkRefused, Links, TellsLinked}
 use Rattle.dm_arena.specs.Laws.{IgnoresUnseen}
 
 -- two memories show the same bytes at the same places
@@ -86,7 +86,7 @@ module _ (f : Memory → Memory) (u : IsUnseen f) where
   so-unseen : (S : Memory) (on : Bool) (T : Memory) → IsSo S on T → IsSo (f S) on (f T)
   so-unseen S on T x = record { list = x.list; arena = arena-same S (f S) (there S) first_header x.list x.arena; is = x.is; same = ap f x.same }
 
-  goes-unseen : (S T : Memory) → GoesOn S T → GoesOn (f S) (f T)
+  goes-unseen : (S T : Memory) → BecomesLinked S T → BecomesLinked (f S) (f T)
   goes-unseen S T x = record {
     first = x.first;
     second = x.second;
@@ -97,7 +97,7 @@ module _ (f : Memory → Memory) (u : IsUnseen f) where
     becomes = becomes-unseen S first_header (x.first ++ x.second) T x.becomes;
   }
 
-  cut-unseen : (S T : Memory) → IsCutOff S T → IsCutOff (f S) (f T)
+  cut-unseen : (S T : Memory) → BecomesUnlinked S T → BecomesUnlinked (f S) (f T)
   cut-unseen S T x = record {
     before = x.before;
     after = x.after;

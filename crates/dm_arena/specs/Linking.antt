@@ -32,7 +32,7 @@ pub record IsSo (S : Memory) (on : Bool) (T : Memory) : Type 0 where
 
 -- the first list, which ends at the link block's header, goes on with the second; the first followed by the second is
 -- clear
-pub record GoesOn (S T : Memory) : Type 0 where
+pub record BecomesLinked (S T : Memory) : Type 0 where
   pub first : List Header
   pub second : List Header
   pub arena : IsArena S first_header first
@@ -42,7 +42,7 @@ pub record GoesOn (S T : Memory) : Type 0 where
   pub becomes : Becomes S first_header (first ++ second) T
 
 -- the list ends before the link block's header
-pub record IsCutOff (S T : Memory) : Type 0 where
+pub record BecomesUnlinked (S T : Memory) : Type 0 where
   pub before : List Header
   pub after : List Header
   pub arena : IsArena S first_header (before ++ after)
@@ -57,6 +57,6 @@ LinkRefused S false = NoArena S first_header
 
 -- the linking of the arena with upper memory, or its parting, from memory S to memory T
 abbrev pub Links : Memory → Bool → Result (Unit {0}) Refusal → Memory → Type 0
-Links S true (Ok u) T = IsSo S true T ⊎ GoesOn S T
-Links S false (Ok u) T = IsSo S false T ⊎ IsCutOff S T
+Links S true (Ok u) T = IsSo S true T ⊎ BecomesLinked S T
+Links S false (Ok u) T = IsSo S false T ⊎ BecomesUnlinked S T
 Links S on (Err e) T = (T ≡ S) × (e ≡ Destroyed) × LinkRefused S on

@@ -115,7 +115,7 @@ fn play(rt: &impl Abort, space: &mut Space, acts: &[Act]) {
 }
 
 /// Definitions: dm_blocks Chain is_linked is_parted IsArenaBehind NoArenaBehind AreApart
-/// Definitions: dm_arena Linking TellsLinked Links GoesOn IsCutOff IsSo LinkRefused EndsAt BeginsAt
+/// Definitions: dm_arena Linking TellsLinked Links BecomesLinked BecomesUnlinked IsSo LinkRefused EndsAt BeginsAt
 #[test]
 fn upper_memory_is_linked_and_parted(rt: HostRuntime) -> Result<(), Fail> {
     let first = Strategy::everywhere(Fit::First);
@@ -254,7 +254,7 @@ fn endings_free_in_both_lists(rt: HostRuntime) -> Result<(), Fail> {
     Ok(())
 }
 
-/// Definitions: dm_arena Linking TellsLinked Links GoesOn IsCutOff IsSo LinkRefused EndsAt BeginsAt
+/// Definitions: dm_arena Linking TellsLinked Links BecomesLinked BecomesUnlinked IsSo LinkRefused EndsAt BeginsAt
 #[test]
 fn broken_upper_memory_destroys_what_it_is_linked_with(rt: HostRuntime) -> Result<(), Fail> {
     let first = Strategy::everywhere(Fit::First);
@@ -337,7 +337,7 @@ fn framed(alloc: Global, aliased: bool) -> Result<Space, NewError> {
 }
 
 /// Definitions: dm_blocks Chain is_linked is_parted IsArenaBehind NoArenaBehind AreApart
-/// Definitions: dm_arena Linking TellsLinked Links GoesOn IsCutOff IsSo LinkRefused EndsAt BeginsAt
+/// Definitions: dm_arena Linking TellsLinked Links BecomesLinked BecomesUnlinked IsSo LinkRefused EndsAt BeginsAt
 #[test]
 fn second_list_needs_places_of_its_own(rt: HostRuntime) -> Result<(), Fail> {
     for aliased in [false, true] {
