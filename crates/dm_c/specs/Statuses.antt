@@ -74,7 +74,7 @@ registers_of cpu = record {
   es = cpu.es;
   ss = cpu.ss;
   ip = cpu.ip;
-  flags = flags.word_of cpu.flags;
+  flags = flags.flags_word cpu.flags;
 }
 
 abbrev pub point_of : Point → Breakpoint

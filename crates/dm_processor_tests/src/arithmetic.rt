@@ -10,7 +10,7 @@ const CLEAR: u16 = 0xF002;
 
 const FULL: u16 = 0xFFD7;
 
-/// Definitions: dm_alu Flags word_of flags_of bit_is_one
+/// Definitions: dm_alu Flags flags_word flags_of bit_is_one
 #[test]
 fn stored_and_loaded_words(rt: HostRuntime) {
     for (loaded, stored) in [(0, CLEAR), (0xFFFF, FULL), (0x0FD5, FULL), (0xF02A, CLEAR)] {

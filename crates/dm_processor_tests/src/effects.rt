@@ -685,7 +685,7 @@ fn instructions_with_no_effect(rt: HostRuntime) -> Result<(), Fail> {
     check(&rt, rt.alloc(), NOTHING)
 }
 
-/// Definitions: dm_alu Flags word_of flags_of bit_is_one; dm_cpu Stack push top popped
+/// Definitions: dm_alu Flags flags_word flags_of bit_is_one; dm_cpu Stack push top popped
 /// Definitions: dm_exec Stack stack_effect pushed_value popped_into flags_popped
 #[test]
 fn stack_grows_down_by_words(rt: HostRuntime) -> Result<(), Fail> {

@@ -4,7 +4,7 @@
 use Rattle.std.specs.Prelude.{◌≡◌, ℕ, List, [], ◌∷◌, ◌++◌, codes}
 use Rattle.std.specs.List.{flat_map}
 use Rattle.dm_space.specs.Memory.{Memory}
-use Rattle.dm_alu.specs.Flags.{word_of}
+use Rattle.dm_alu.specs.Flags.{flags_word}
 use Rattle.dm_cpu.specs.declared.cpu.Cpu.{Cpu}
 use Rattle.dm_views.specs.declared.registers.Field.{Field}
 use Rattle.dm_views.specs.Digits.{four}
@@ -30,7 +30,7 @@ general c =
 abbrev pub special : Cpu → List Field
 special c =
     field (codes "DS") c.ds ∷ field (codes "ES") c.es ∷ field (codes "SS") c.ss ∷ field (codes "CS") c.cs
-    ∷ field (codes "IP") c.ip ∷ field (codes "FL") (word_of c.flags) ∷ []
+    ∷ field (codes "IP") c.ip ∷ field (codes "FL") (flags_word c.flags) ∷ []
 
 -- two lines of registers, and the line of the instruction at CS:IP
 pub record IsRegistersText (c : Cpu) (m : Memory) (text : List ℕ) : Type 0 where
