@@ -17,8 +17,8 @@ use Rattle.dm_ins.specs.declared.table.Entry.TheVariants.{Unlisted, Plain, Group
 use Rattle.dm_ins.specs.Table.{entry_of}
 use Rattle.dm_ins.specs.declared.fields.Fields.{Fields}
 use Rattle.dm_ins.specs.declared.operand.Operand.{Operand}
-use Rattle.dm_ins.specs.declared.table.Kind.{Kind}
-use Rattle.dm_ins.specs.declared.table.Kind.TheVariants as is
+use Rattle.dm_ins.specs.declared.table.OperandKind.{OperandKind}
+use Rattle.dm_ins.specs.declared.table.OperandKind.TheVariants as is
 use Rattle.dm_ins.specs.Spelling.{word, SpellsMemory, SpellsFields, Fills, has_fields, no_fields, MaySpellFields, HasRow, SpellsAction, prefix_byte, no_prefix, with_prefix, kept, SpellsPrefixed}
 use Rattle.dm_ins.specs.Walks.{◌>>=◌}
 use Rattle.dm_decode.specs.inner.Reading.{word_at, memory_at, fields_at, operand_at, row_at, action_at, prefix_of, without, stripped, strips, prefixed_at}
@@ -51,7 +51,7 @@ fields_again m d rest h =
     let e2 : (64 * h.mode + 8 * m.register + m.rm) % 8 ≡ m.rm = omega (arith, h.register_fits, h.rm_fits) in
     rw h.parts (rw (e0, e1, e2) (rw (memory_again m.memory h.mode m.rm h.displacement rest h.spells_memory) refl))
 
-operand_again : (k : Kind) (m : Fields) (o : Operand) (d rest : List ℕ) → Fills k m o d → operand_at k m (d ++ rest) ≡ Some (o, rest)
+operand_again : (k : OperandKind) (m : Fields) (o : Operand) (d rest : List ℕ) → Fills k m o d → operand_at k m (d ++ rest) ≡ Some (o, rest)
 unfolding operand_at
 operand_again is.Nothing m o d rest h = rw (h.0, h.1) refl
 operand_again (is.RegisterOrMemory w) m o d rest h = rw (h.0, h.1) refl

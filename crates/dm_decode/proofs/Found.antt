@@ -10,8 +10,8 @@ use Rattle.dm_ins.specs.declared.operand.Width.TheVariants.{Word}
 use Rattle.dm_ins.specs.declared.prefix.Prefix.{Prefix}
 use Rattle.dm_ins.specs.declared.prefix.Prefixes.{Prefixes}
 use Rattle.dm_ins.specs.declared.action.Action.{Action}
-use Rattle.dm_ins.specs.declared.table.Kind.{Kind}
-use Rattle.dm_ins.specs.declared.table.Kind.TheVariants as is
+use Rattle.dm_ins.specs.declared.table.OperandKind.{OperandKind}
+use Rattle.dm_ins.specs.declared.table.OperandKind.TheVariants as is
 use Rattle.dm_ins.specs.declared.table.Row.{Row}
 use Rattle.dm_ins.specs.declared.table.Entry.{Entry}
 use Rattle.dm_ins.specs.declared.table.Entry.TheVariants.{Unlisted, Plain, Group, Second}
@@ -118,14 +118,14 @@ fields_found bytes x h e =
 
 -- ---- operands
 
-abbrev OperandFound : Kind → Fields → List ℕ → Operand × List ℕ → Type 0
+abbrev OperandFound : OperandKind → Fields → List ℕ → Operand × List ℕ → Type 0
 OperandFound k m bytes x = (d : List ℕ) × Takes bytes d x.1 × Fills k m x.0 d
 
 module _ (m : Fields) (bytes : List ℕ) (x : Operand × List ℕ) (h : IsBytes bytes) where
-  empty : (k : Kind) (o : Operand) → Fills k m o [] → Some (o, bytes) ≡ Some x → OperandFound k m bytes x
+  empty : (k : OperandKind) (o : Operand) → Fills k m o [] → Some (o, bytes) ≡ Some x → OperandFound k m bytes x
   empty k o f e = subst (OperandFound k m bytes) (some_is (o, bytes) x e) ([], takes_none bytes h, f)
 
-operand_found : (k : Kind) (m : Fields) (bytes : List ℕ) (x : Operand × List ℕ) → IsBytes bytes → operand_at k m bytes ≡ Some x → OperandFound k m bytes x
+operand_found : (k : OperandKind) (m : Fields) (bytes : List ℕ) (x : Operand × List ℕ) → IsBytes bytes → operand_at k m bytes ≡ Some x → OperandFound k m bytes x
 unfolding operand_at
 operand_found is.Nothing m bytes x h e = empty m bytes x h is.Nothing _ (refl, refl) e
 operand_found (is.RegisterOrMemory w) m bytes x h e = empty m bytes x h (is.RegisterOrMemory w) _ (refl, refl) e

@@ -8,7 +8,7 @@ ghost use Rattle.dm_decode.specs.inner.Reading.{fields_at, memory_at, operand_at
 use crate::reading::{byte_of, word_of};
 use dm_ins::fields::Fields;
 use dm_ins::operand::extend;
-use dm_ins::table::Kind;
+use dm_ins::table::OperandKind;
 use dm_ins::{Address, Base, ByteRegister, Operand, Width, WordRegister};
 
 fn named(width: Width, number: u8) -> Operand
@@ -95,52 +95,52 @@ fn place(width: Width, fields: Fields) -> Operand
 
 /// The operand of the kind, where the mod r/m byte has these fields, and the bytes behind it.
 #[tactic(auto, unfolding(crate::specs::inner::Reading::operand_at))]
-pub fn operand_of(kind: Kind, fields: Fields, bytes: &[u8]) -> Option<(Operand, &[u8])>
+pub fn operand_of(kind: OperandKind, fields: Fields, bytes: &[u8]) -> Option<(Operand, &[u8])>
     requires register { fields.register < 8 }
     requires rm { fields.rm < 8 }
     ensures { seen result ≡ operand_at kind fields bytes.now }
 {
     match kind {
-        Kind::Nothing => Some((Operand::Nothing, bytes)),
-        Kind::RegisterOrMemory(width) => Some((place(width, fields), bytes)),
-        Kind::Register(width) => Some((named(width, fields.register), bytes)),
-        Kind::Memory => {
+        OperandKind::Nothing => Some((Operand::Nothing, bytes)),
+        OperandKind::RegisterOrMemory(width) => Some((place(width, fields), bytes)),
+        OperandKind::Register(width) => Some((named(width, fields.register), bytes)),
+        OperandKind::Memory => {
             let address = fields.memory?;
             Some((Operand::Memory(Width::Word, address), bytes))
         }
-        Kind::ByteValue => {
+        OperandKind::ByteValue => {
             let (n, rest) = byte_of(bytes)?;
             Some((Operand::ByteValue(n), rest))
         }
-        Kind::WordValue => {
+        OperandKind::WordValue => {
             let (n, rest) = word_of(bytes)?;
             Some((Operand::WordValue(n), rest))
         }
-        Kind::SignedValue => {
+        OperandKind::SignedValue => {
             let (n, rest) = byte_of(bytes)?;
             Some((Operand::WordValue(extend(n)), rest))
         }
-        Kind::Short => {
+        OperandKind::Short => {
             let (n, rest) = byte_of(bytes)?;
             Some((Operand::Target(extend(n)), rest))
         }
-        Kind::Near => {
+        OperandKind::Near => {
             let (n, rest) = word_of(bytes)?;
             Some((Operand::Target(n), rest))
         }
-        Kind::Direct(width) => {
+        OperandKind::Direct(width) => {
             let (n, rest) = word_of(bytes)?;
             Some((Operand::Memory(width, on_nothing(n)), rest))
         }
-        Kind::Far => {
+        OperandKind::Far => {
             let (offset, rest) = word_of(bytes)?;
             let (segment, rest) = word_of(rest)?;
             Some((Operand::FarTarget(offset, segment), rest))
         }
-        Kind::Escape(r) => Some((Operand::ByteValue(8 * (r % 8) + fields.register), bytes)),
-        Kind::Byte(r) => Some((Operand::ByteRegister(r), bytes)),
-        Kind::Word(r) => Some((Operand::WordRegister(r), bytes)),
-        Kind::TheSegment(r) => Some((Operand::SegmentRegister(r), bytes)),
-        Kind::One => Some((Operand::One, bytes)),
+        OperandKind::Escape(r) => Some((Operand::ByteValue(8 * (r % 8) + fields.register), bytes)),
+        OperandKind::Byte(r) => Some((Operand::ByteRegister(r), bytes)),
+        OperandKind::Word(r) => Some((Operand::WordRegister(r), bytes)),
+        OperandKind::TheSegment(r) => Some((Operand::SegmentRegister(r), bytes)),
+        OperandKind::One => Some((Operand::One, bytes)),
     }
 }

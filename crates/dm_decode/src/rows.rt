@@ -9,14 +9,17 @@ use crate::operands::{fields_of, operand_of};
 use crate::reading::byte_of;
 use dm_ins::Action;
 use dm_ins::fields::Fields;
-use dm_ins::table::{Entry, Kind, Row, entry_at, member};
+use dm_ins::table::{Entry, OperandKind, Row, entry_at, member};
 
-fn needs_fields(kind: Kind) -> bool
+fn needs_fields(kind: OperandKind) -> bool
     ensures { result ≡ uses_fields kind }
 {
     matches!(
         kind,
-        Kind::RegisterOrMemory(_) | Kind::Register(_) | Kind::Memory | Kind::Escape(_)
+        OperandKind::RegisterOrMemory(_)
+            | OperandKind::Register(_)
+            | OperandKind::Memory
+            | OperandKind::Escape(_)
     )
 }
 

@@ -15,18 +15,18 @@ use Rattle.dm_ins.specs.declared.demand.RegisterOrMemory.{RegisterOrMemory}
 use Rattle.dm_ins.specs.declared.demand.RegisterOrMemory.TheVariants as place
 use Rattle.dm_ins.specs.declared.demand.Data.TheVariants as data_is
 use Rattle.dm_ins.specs.declared.demand.Demand.{Demand}
-use Rattle.dm_ins.specs.declared.table.Kind.{Kind}
-use Rattle.dm_ins.specs.declared.table.Kind.TheVariants as is
+use Rattle.dm_ins.specs.declared.table.OperandKind.{OperandKind}
+use Rattle.dm_ins.specs.declared.table.OperandKind.TheVariants as is
 use Rattle.dm_ins.specs.Registers.{word_registers, byte_registers, bases, word_number, byte_number, segment_number}
 use Rattle.dm_ins.specs.Spelling.{word, extended, based, register, at_place, SpellsMemory, SpellsFields, Fills}
 use Rattle.dm_ins.specs.inner.Search.{rm_of, is_direct, same_width, numbered, asks_data, asks_register, asks_place, as_signed, demand_of, data_bytes, with_displacement, memory_bytes, fields_bytes}
 
-abbrev pub asks_for_register : Kind → Bool
+abbrev pub asks_for_register : OperandKind → Bool
 asks_for_register (is.Register w) = true
 asks_for_register (is.Escape r) = true
 asks_for_register _ = false
 
-abbrev pub asks_for_place : Kind → Bool
+abbrev pub asks_for_place : OperandKind → Bool
 asks_for_place (is.RegisterOrMemory w) = true
 asks_for_place is.Memory = true
 asks_for_place _ = false
@@ -93,7 +93,7 @@ extended_low n h = elim (cases_high n) [ inl e ↦ rw e (omega arith) | inr e �
 
 -- ---- what fills a row asks for the row's bytes
 
-pub record Asked (k : Kind) (m : Fields) (o : Operand) (d : List ℕ) : Type 0 where
+pub record Asked (k : OperandKind) (m : Fields) (o : Operand) (d : List ℕ) : Type 0 where
   pub demand : Demand
   pub is_demand : demand_of k o ≡ Some demand
   pub register : demand.register ≡ asked (asks_for_register k) m.register
@@ -110,7 +110,7 @@ module _ (m : Fields) (register_fits : m.register < 8) (rm_fits : m.rm < 8) wher
   place_asked Word None o e = rw (e, word_number_at m.rm rm_fits) refl
   place_asked w (Some a) o e = rw (e, same_itself w) refl
 
-  pub operand_asks : (k : Kind) (o : Operand) (d : List ℕ) → Fills k m o d → Asked k m o d
+  pub operand_asks : (k : OperandKind) (o : Operand) (d : List ℕ) → Fills k m o d → Asked k m o d
   unfolding demand_of
   operand_asks is.Nothing o d h = record { demand = asks_data data_is.Nothing; is_demand = rw h.0 refl; register = refl; place = refl; tail = sym h.1 }
   operand_asks (is.RegisterOrMemory w) o d h = record { demand = asks_place (named_place m.rm m.memory); is_demand = place_asked w m.memory o h.0; register = refl; place = refl; tail = sym h.1 }

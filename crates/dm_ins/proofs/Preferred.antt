@@ -20,8 +20,8 @@ use Rattle.dm_ins.specs.declared.operand.Operand.{Operand}
 use Rattle.dm_ins.specs.declared.table.Entry.{Entry}
 use Rattle.dm_ins.specs.declared.table.Entry.TheVariants.{Unlisted, Plain, Group, Second}
 use Rattle.dm_ins.specs.declared.keys.Key.{Key}
-use Rattle.dm_ins.specs.declared.table.Kind.{Kind}
-use Rattle.dm_ins.specs.declared.table.Kind.TheVariants as is
+use Rattle.dm_ins.specs.declared.table.OperandKind.{OperandKind}
+use Rattle.dm_ins.specs.declared.table.OperandKind.TheVariants as is
 use Rattle.dm_ins.specs.declared.table.Row.{Row}
 use Rattle.dm_ins.specs.Table.{entry_of}
 use Rattle.dm_ins.specs.Spelling.{SpellsMemory, SpellsFields, Fills, has_fields, MaySpellFields, HasRow, SpellsAction, SpellsPrefixed}
@@ -167,7 +167,7 @@ row_short (Plain p) m d r h = may_short (has_fields p) m d h.1
 row_short (Group g) m d r h = fields_short m d h.1
 row_short (Second c p) m d r h = rw h.2 (omega arith)
 
-part_short : (k : Kind) (m : Fields) (o : Operand) (d : List ℕ) → Fills k m o d → length d ≤ 4
+part_short : (k : OperandKind) (m : Fields) (o : Operand) (d : List ℕ) → Fills k m o d → length d ≤ 4
 part_short is.Nothing m o d h = rw h.1 (omega arith)
 part_short (is.RegisterOrMemory w) m o d h = rw h.1 (omega arith)
 part_short (is.Register w) m o d h = rw h.1 (omega arith)

@@ -13,8 +13,8 @@ use Rattle.dm_ins.specs.declared.action.Action.{Action}
 use Rattle.std.proofs.Math.Logic.{∥∥₁_elim}
 use Rattle.dm_ins.specs.declared.operand.Operand.{Operand}
 use Rattle.dm_ins.specs.declared.keys.Key.{Key}
-use Rattle.dm_ins.specs.declared.table.Kind.{Kind}
-use Rattle.dm_ins.specs.declared.table.Kind.TheVariants as is
+use Rattle.dm_ins.specs.declared.table.OperandKind.{OperandKind}
+use Rattle.dm_ins.specs.declared.table.OperandKind.TheVariants as is
 use Rattle.dm_ins.specs.declared.table.Row.{Row}
 use Rattle.dm_ins.specs.declared.table.Entry.{Entry}
 use Rattle.dm_ins.specs.declared.table.Entry.TheVariants.{Unlisted, Plain, Group, Second}
@@ -62,7 +62,7 @@ at_place_fits : (w : Width) (n : ℕ) (a : Option Address) → MemoryFits a → 
 at_place_fits w n None f = register_fits w n
 at_place_fits w n (Some a) f = f
 
-operand_fits : (k : Kind) (m : Fields) (o : Operand) (d : List ℕ) → m.register < 8 → MemoryFits m.memory → Fills k m o d → OperandFits o
+operand_fits : (k : OperandKind) (m : Fields) (o : Operand) (d : List ℕ) → m.register < 8 → MemoryFits m.memory → Fills k m o d → OperandFits o
 operand_fits is.Nothing m o d lt f h = rw h.0 tt
 operand_fits (is.RegisterOrMemory w) m o d lt f h = rw h.0 (at_place_fits w m.rm m.memory f)
 operand_fits (is.Register w) m o d lt f h = rw h.0 (register_fits w m.register)

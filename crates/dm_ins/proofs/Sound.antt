@@ -21,8 +21,8 @@ use Rattle.dm_ins.specs.declared.demand.RegisterOrMemory.{RegisterOrMemory}
 use Rattle.dm_ins.specs.declared.demand.RegisterOrMemory.TheVariants as place
 use Rattle.dm_ins.specs.declared.demand.Data.TheVariants as data_is
 use Rattle.dm_ins.specs.declared.demand.Demand.{Demand}
-use Rattle.dm_ins.specs.declared.table.Kind.{Kind}
-use Rattle.dm_ins.specs.declared.table.Kind.TheVariants as is
+use Rattle.dm_ins.specs.declared.table.OperandKind.{OperandKind}
+use Rattle.dm_ins.specs.declared.table.OperandKind.TheVariants as is
 use Rattle.dm_ins.specs.Registers.{word_registers, byte_registers, word_number, byte_number, segment_number}
 use Rattle.dm_ins.specs.Spelling.{word, extended, based, direct, SpellsFields, Fills}
 use Rattle.dm_ins.specs.inner.Search.{OperandFits, rm_of, is_direct, same_width, asks_data, asks_register, asks_place, as_signed, demand_of, data_bytes, with_displacement, memory_bytes, fields_bytes}
@@ -114,10 +114,10 @@ direct_kind w v a e h = by (same_width w v) (is_direct a.base) refl refl h
     by false t p q h = absurd cc
 
 module _ (m : Fields) (e : Demand) where
-  abbrev pub Goal : Kind → Operand → Type 0
+  abbrev pub Goal : OperandKind → Operand → Type 0
   Goal k o = OperandFits o → demand_of k o ≡ Some e → e.register ≡ asked (asks_for_register k) m.register → e.place ≡ asked (asks_for_place k) (named_place m.rm m.memory) → Fills k m o (data_bytes e.tail)
 
-  pub operand_fills : (k : Kind) (o : Operand) → Goal k o
+  pub operand_fills : (k : OperandKind) (o : Operand) → Goal k o
   unfolding demand_of
   operand_fills is.Nothing operand.Nothing f h r p = (refl, tail_is _ e (is_some (asks_data data_is.Nothing) e h))
   operand_fills is.Nothing _ f h r p = absurd cc
@@ -278,7 +278,7 @@ word_below Bp = omega arith
 word_below Si = omega arith
 word_below Di = omega arith
 
-pub record Shaped (k : Kind) (e : Demand) : Type 0 where
+pub record Shaped (k : OperandKind) (e : Demand) : Type 0 where
   pub number : ℕ
   pub number_fits : number < 8
   pub at : RegisterOrMemory
@@ -287,16 +287,16 @@ pub record Shaped (k : Kind) (e : Demand) : Type 0 where
   pub place : e.place ≡ asked (asks_for_place k) at
 
 module _ (e : Demand) where
-  by_data : (k : Kind) (x : Demand) → x ≡ e → x.register ≡ asked (asks_for_register k) 0 → x.place ≡ asked (asks_for_place k) (place.Register 0) → Shaped k e
+  by_data : (k : OperandKind) (x : Demand) → x ≡ e → x.register ≡ asked (asks_for_register k) 0 → x.place ≡ asked (asks_for_place k) (place.Register 0) → Shaped k e
   by_data k x h r p = subst (λ y. Shaped k y) h (record { number = 0; number_fits = omega arith; at = place.Register 0; at_fits = omega arith; register = r; place = p })
 
-  by_number : (k : Kind) (n : ℕ) → n < 8 → asks_register n ≡ e → asks_for_register k ≡ true → asks_for_place k ≡ false → Shaped k e
+  by_number : (k : OperandKind) (n : ℕ) → n < 8 → asks_register n ≡ e → asks_for_register k ≡ true → asks_for_place k ≡ false → Shaped k e
   by_number k n lt h a b = subst (λ y. Shaped k y) h (record { number = n; number_fits = lt; at = place.Register 0; at_fits = omega arith; register = rw a refl; place = rw b refl })
 
-  by_place : (k : Kind) (q : RegisterOrMemory) → PlaceIs q → asks_place q ≡ e → asks_for_register k ≡ false → asks_for_place k ≡ true → Shaped k e
+  by_place : (k : OperandKind) (q : RegisterOrMemory) → PlaceIs q → asks_place q ≡ e → asks_for_register k ≡ false → asks_for_place k ≡ true → Shaped k e
   by_place k q fits h a b = subst (λ y. Shaped k y) h (record { number = 0; number_fits = omega arith; at = q; at_fits = fits; register = rw a refl; place = rw b refl })
 
-  pub demand_shape : (k : Kind) (o : Operand) → OperandFits o → demand_of k o ≡ Some e → Shaped k e
+  pub demand_shape : (k : OperandKind) (o : Operand) → OperandFits o → demand_of k o ≡ Some e → Shaped k e
   unfolding demand_of
   demand_shape is.Nothing operand.Nothing f h = by_data is.Nothing _ (is_some (asks_data data_is.Nothing) e h) refl refl
   demand_shape is.Nothing _ f h = absurd cc

@@ -20,8 +20,8 @@ use Rattle.dm_ins.specs.declared.prefix.Prefix.TheVariants as prefix
 use Rattle.dm_ins.specs.declared.prefix.Prefixes.{Prefixes}
 use Rattle.dm_ins.specs.declared.action.Action.{Action}
 use Rattle.dm_ins.specs.declared.fields.Fields.{Fields}
-use Rattle.dm_ins.specs.declared.table.Kind.{Kind}
-use Rattle.dm_ins.specs.declared.table.Kind.TheVariants as is
+use Rattle.dm_ins.specs.declared.table.OperandKind.{OperandKind}
+use Rattle.dm_ins.specs.declared.table.OperandKind.TheVariants as is
 use Rattle.dm_ins.specs.declared.table.Row.{Row}
 use Rattle.dm_ins.specs.declared.table.Entry.{Entry}
 use Rattle.dm_ins.specs.declared.table.Entry.TheVariants.{Unlisted, Plain, Group, Second}
@@ -111,7 +111,7 @@ at_place w n (Some a) = operand.Memory w a
 
 -- an operand o of a kind, where the mod r/m byte has the fields m, and the bytes d that follow for it
 -- (ESC's number has its upper three bits in the first byte and its lower three in the reg field)
-abbrev pub Fills : Kind → Fields → Operand → List ℕ → Type 0
+abbrev pub Fills : OperandKind → Fields → Operand → List ℕ → Type 0
 Fills is.Nothing m o d = (o ≡ operand.Nothing) × (d ≡ [])
 Fills (is.RegisterOrMemory w) m o d = (o ≡ at_place w m.rm m.memory) × (d ≡ [])
 Fills (is.Register w) m o d = (o ≡ register w m.register) × (d ≡ [])
@@ -132,7 +132,7 @@ Fills is.One m o d = (o ≡ operand.One) × (d ≡ [])
 -- ---- rows
 
 -- whether an operand of the kind is named by the mod r/m byte
-abbrev pub uses_fields : Kind → Bool
+abbrev pub uses_fields : OperandKind → Bool
 uses_fields (is.RegisterOrMemory w) = true
 uses_fields (is.Register w) = true
 uses_fields is.Memory = true

@@ -12,8 +12,8 @@ use Rattle.dm_ins.specs.declared.operand.SegmentRegister.{SegmentRegister}
 use Rattle.dm_ins.specs.declared.operand.SegmentRegister.TheVariants.{Es, Cs, Ss, Ds}
 use Rattle.dm_ins.specs.declared.action.Mnemonic.{Mnemonic}
 use Rattle.dm_ins.specs.declared.action.Mnemonic.TheVariants as op
-use Rattle.dm_ins.specs.declared.table.Kind.{Kind}
-use Rattle.dm_ins.specs.declared.table.Kind.TheVariants as is
+use Rattle.dm_ins.specs.declared.table.OperandKind.{OperandKind}
+use Rattle.dm_ins.specs.declared.table.OperandKind.TheVariants as is
 use Rattle.dm_ins.specs.declared.table.Row.{Row}
 use Rattle.dm_ins.specs.declared.table.Entry.{Entry}
 use Rattle.dm_ins.specs.declared.table.Entry.TheVariants.{Unlisted, Plain, Group, Second}
@@ -26,71 +26,71 @@ use Rattle.dm_ins.specs.Registers.{word_registers, byte_registers}
 -- the signs of operand kinds: E the operand of mod and r/m, G the register of reg, M memory, I an immediate, Is a byte
 -- extended by sign, D a displacement, O a direct offset, Ap an offset and a segment, S a segment register; b a byte, w
 -- a word
-abbrev pub Eb : Kind
+abbrev pub Eb : OperandKind
 Eb = is.RegisterOrMemory Byte
 
-abbrev pub Ew : Kind
+abbrev pub Ew : OperandKind
 Ew = is.RegisterOrMemory Word
 
-abbrev pub Gb : Kind
+abbrev pub Gb : OperandKind
 Gb = is.Register Byte
 
-abbrev pub Gw : Kind
+abbrev pub Gw : OperandKind
 Gw = is.Register Word
 
-abbrev pub M : Kind
+abbrev pub M : OperandKind
 M = is.Memory
 
-abbrev pub Ib : Kind
+abbrev pub Ib : OperandKind
 Ib = is.ByteValue
 
-abbrev pub Iw : Kind
+abbrev pub Iw : OperandKind
 Iw = is.WordValue
 
-abbrev pub Is : Kind
+abbrev pub Is : OperandKind
 Is = is.SignedValue
 
-abbrev pub Db : Kind
+abbrev pub Db : OperandKind
 Db = is.Short
 
-abbrev pub Dw : Kind
+abbrev pub Dw : OperandKind
 Dw = is.Near
 
-abbrev pub Ob : Kind
+abbrev pub Ob : OperandKind
 Ob = is.Direct Byte
 
-abbrev pub Ow : Kind
+abbrev pub Ow : OperandKind
 Ow = is.Direct Word
 
-abbrev pub Ap : Kind
+abbrev pub Ap : OperandKind
 Ap = is.Far
 
-abbrev pub One : Kind
+abbrev pub One : OperandKind
 One = is.One
 
-abbrev pub AL : Kind
+abbrev pub AL : OperandKind
 AL = is.Byte Al
 
-abbrev pub CL : Kind
+abbrev pub CL : OperandKind
 CL = is.Byte Cl
 
-abbrev pub AX : Kind
+abbrev pub AX : OperandKind
 AX = is.Word Ax
 
-abbrev pub DX : Kind
+abbrev pub DX : OperandKind
 DX = is.Word Dx
 
-abbrev pub S : SegmentRegister → Kind
+abbrev pub S : SegmentRegister → OperandKind
 S r = is.TheSegment r
 
 -- a row with two operands; then entries of one row with two, one and no operands
-abbrev pub row : Mnemonic → Kind → Kind → Row
+abbrev pub row : Mnemonic → OperandKind → OperandKind → Row
 row m a b = record { mnemonic = m; first = a; second = b }
 
-abbrev pub two : Mnemonic → Kind → Kind → Entry
+abbrev pub two : Mnemonic → OperandKind → OperandKind → Entry
 two m a b = Plain (row m a b)
 
-abbrev pub one : Mnemonic → Kind → Entry
+abbrev pub one : Mnemonic → OperandKind → Entry
 one m a = two m a is.Nothing
 
 abbrev pub bare : Mnemonic → Entry
@@ -115,15 +115,15 @@ abbrev pub each_word : (WordRegister → Entry) → List Entry
 each_word f = map f word_registers
 
 -- the groups of arithmetic with an immediate, of shifts and of F6 and F7
-abbrev pub immediate : Kind → Kind → List (Option Row)
+abbrev pub immediate : OperandKind → OperandKind → List (Option Row)
 immediate a b = (map (λ m. Some (row m a b)) arithmetics)
 
 -- family: shifts and rotates by 1 and by CL, D0h to D3h; 4 groups, 28 rows (/6 is not listed)
-abbrev pub shifts : Kind → Kind → List (Option Row)
+abbrev pub shifts : OperandKind → OperandKind → List (Option Row)
 shifts a b = (map (λ m. Some (row m a b)) (op.Rol ∷ op.Ror ∷ op.Rcl ∷ op.Rcr ∷ op.Shl ∷ op.Shr ∷ []) ++ None ∷ Some (row op.Sar a b) ∷ [])
 
 -- family: TEST, NOT, NEG, MUL, IMUL, DIV, IDIV, F6h and F7h; 2 groups, 14 rows (/1 is not listed)
-abbrev pub unary : Kind → Kind → List (Option Row)
+abbrev pub unary : OperandKind → OperandKind → List (Option Row)
 unary e i = (Some (row op.Test e i) ∷ None ∷ map (λ m. Some (row m e is.Nothing)) (op.Not ∷ op.Neg ∷ op.Mul ∷ op.Imul ∷ op.Div ∷ op.Idiv ∷ []))
 
 -- a group with /0 alone

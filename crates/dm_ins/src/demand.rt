@@ -5,7 +5,7 @@ ghost use Rattle.dm_ins.specs.Spelling.{extended};
 ghost use Rattle.dm_ins.specs.inner.Search.{DemandFits, OperandFits, as_signed, asks_data, asks_place, asks_register, demand_of, is_direct, numbered, same_width};
 
 use crate::operand::{Address, Base, Operand, Width, extend};
-use crate::table::Kind;
+use crate::table::OperandKind;
 
 /// What the mod and r/m fields name.
 #[derive(Clone, Copy)]
@@ -127,54 +127,56 @@ fn is_register(width: Width, operand: Operand) -> bool
 /// Whether an operand can be of the kind. It is asked of each row of a mnemonic, and most rows have other kinds.
 #[inline(always)]
 #[tactic(auto, unfolding(crate::specs::inner::Search::demand_of))]
-pub fn may_be(kind: Kind, operand: Operand) -> bool
+pub fn may_be(kind: OperandKind, operand: Operand) -> bool
     ensures { IsFalse result → demand_of kind operand ≡ None }
 {
     match kind {
-        Kind::Nothing => matches!(operand, Operand::Nothing),
-        Kind::RegisterOrMemory(width) => match operand {
+        OperandKind::Nothing => matches!(operand, Operand::Nothing),
+        OperandKind::RegisterOrMemory(width) => match operand {
             Operand::Memory(other, _) => is_as_wide(width, other),
             _ => is_register(width, operand),
         },
-        Kind::Register(width) => is_register(width, operand),
-        Kind::Memory => matches!(operand, Operand::Memory(Width::Word, _)),
-        Kind::ByteValue | Kind::Escape(_) => matches!(operand, Operand::ByteValue(_)),
-        Kind::WordValue | Kind::SignedValue => matches!(operand, Operand::WordValue(_)),
-        Kind::Short | Kind::Near => matches!(operand, Operand::Target(_)),
-        Kind::Direct(width) => match operand {
+        OperandKind::Register(width) => is_register(width, operand),
+        OperandKind::Memory => matches!(operand, Operand::Memory(Width::Word, _)),
+        OperandKind::ByteValue | OperandKind::Escape(_) => matches!(operand, Operand::ByteValue(_)),
+        OperandKind::WordValue | OperandKind::SignedValue => {
+            matches!(operand, Operand::WordValue(_))
+        }
+        OperandKind::Short | OperandKind::Near => matches!(operand, Operand::Target(_)),
+        OperandKind::Direct(width) => match operand {
             Operand::Memory(other, _) => is_as_wide(width, other),
             _ => false,
         },
-        Kind::Far => matches!(operand, Operand::FarTarget(..)),
-        Kind::Byte(r) => match operand {
+        OperandKind::Far => matches!(operand, Operand::FarTarget(..)),
+        OperandKind::Byte(r) => match operand {
             Operand::ByteRegister(s) => r.number() == s.number(),
             _ => false,
         },
-        Kind::Word(r) => match operand {
+        OperandKind::Word(r) => match operand {
             Operand::WordRegister(s) => r.number() == s.number(),
             _ => false,
         },
-        Kind::TheSegment(r) => match operand {
+        OperandKind::TheSegment(r) => match operand {
             Operand::SegmentRegister(s) => r.number() == s.number(),
             _ => false,
         },
-        Kind::One => matches!(operand, Operand::One),
+        OperandKind::One => matches!(operand, Operand::One),
     }
 }
 
 /// What the operand asks of the bytes where a row has this kind, if it is of the kind.
 #[tactic(auto, unfolding(crate::specs::inner::Search::demand_of))]
-pub fn demand_for(kind: Kind, operand: Operand) -> Option<Demand>
+pub fn demand_for(kind: OperandKind, operand: Operand) -> Option<Demand>
     ensures value { result ≡ demand_of kind operand }
     ensures fits { IfSome result DemandFits }
     ensures numbers { IsSome result → OperandFits operand }
 {
     match kind {
-        Kind::Nothing => match operand {
+        OperandKind::Nothing => match operand {
             Operand::Nothing => Some(Demand::for_data(Data::Nothing)),
             _ => None,
         },
-        Kind::RegisterOrMemory(width) => match operand {
+        OperandKind::RegisterOrMemory(width) => match operand {
             Operand::Memory(other, address) => {
                 if is_as_wide(width, other) {
                     Some(Demand::for_place(RegisterOrMemory::Memory(address)))
@@ -187,11 +189,11 @@ pub fn demand_for(kind: Kind, operand: Operand) -> Option<Demand>
                 Some(Demand::for_place(RegisterOrMemory::Register(n)))
             }
         },
-        Kind::Register(width) => {
+        OperandKind::Register(width) => {
             let n = number(width, operand)?;
             Some(Demand::for_register(n))
         }
-        Kind::Memory => match operand {
+        OperandKind::Memory => match operand {
             Operand::Memory(other, address) => {
                 if is_as_wide(Width::Word, other) {
                     Some(Demand::for_place(RegisterOrMemory::Memory(address)))
@@ -201,27 +203,27 @@ pub fn demand_for(kind: Kind, operand: Operand) -> Option<Demand>
             }
             _ => None,
         },
-        Kind::ByteValue => match operand {
+        OperandKind::ByteValue => match operand {
             Operand::ByteValue(n) => Some(Demand::for_data(Data::Byte(n))),
             _ => None,
         },
-        Kind::WordValue => match operand {
+        OperandKind::WordValue => match operand {
             Operand::WordValue(n) => Some(Demand::for_data(Data::Word(n))),
             _ => None,
         },
-        Kind::SignedValue => match operand {
+        OperandKind::SignedValue => match operand {
             Operand::WordValue(n) => signed(n),
             _ => None,
         },
-        Kind::Short => match operand {
+        OperandKind::Short => match operand {
             Operand::Target(n) => signed(n),
             _ => None,
         },
-        Kind::Near => match operand {
+        OperandKind::Near => match operand {
             Operand::Target(n) => Some(Demand::for_data(Data::Word(n))),
             _ => None,
         },
-        Kind::Direct(width) => match operand {
+        OperandKind::Direct(width) => match operand {
             Operand::Memory(other, address) => {
                 if is_as_wide(width, other) {
                     if has_no_base(address.base) {
@@ -235,13 +237,13 @@ pub fn demand_for(kind: Kind, operand: Operand) -> Option<Demand>
             }
             _ => None,
         },
-        Kind::Far => match operand {
+        OperandKind::Far => match operand {
             Operand::FarTarget(offset, segment) => Some(Demand::for_data(Data::Words(
                 offset, segment,
             ))),
             _ => None,
         },
-        Kind::Escape(r) => match operand {
+        OperandKind::Escape(r) => match operand {
             Operand::ByteValue(n) => {
                 if n / 8 == r % 8 {
                     Some(Demand::for_register(n % 8))
@@ -251,7 +253,7 @@ pub fn demand_for(kind: Kind, operand: Operand) -> Option<Demand>
             }
             _ => None,
         },
-        Kind::Byte(r) => match operand {
+        OperandKind::Byte(r) => match operand {
             Operand::ByteRegister(s) => {
                 if r.number() == s.number() {
                     Some(Demand::for_data(Data::Nothing))
@@ -261,7 +263,7 @@ pub fn demand_for(kind: Kind, operand: Operand) -> Option<Demand>
             }
             _ => None,
         },
-        Kind::Word(r) => match operand {
+        OperandKind::Word(r) => match operand {
             Operand::WordRegister(s) => {
                 if r.number() == s.number() {
                     Some(Demand::for_data(Data::Nothing))
@@ -271,7 +273,7 @@ pub fn demand_for(kind: Kind, operand: Operand) -> Option<Demand>
             }
             _ => None,
         },
-        Kind::TheSegment(r) => match operand {
+        OperandKind::TheSegment(r) => match operand {
             Operand::SegmentRegister(s) => {
                 if r.number() == s.number() {
                     Some(Demand::for_data(Data::Nothing))
@@ -281,7 +283,7 @@ pub fn demand_for(kind: Kind, operand: Operand) -> Option<Demand>
             }
             _ => None,
         },
-        Kind::One => match operand {
+        OperandKind::One => match operand {
             Operand::One => Some(Demand::for_data(Data::Nothing)),
             _ => None,
         },

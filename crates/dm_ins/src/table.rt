@@ -10,7 +10,7 @@ use crate::operand::{ByteRegister, SegmentRegister, Width, WordRegister};
 
 /// What kind of operand a row has in one place, and so which bytes fix it.
 #[derive(Clone, Copy, Debug, PartialEq, Eq)]
-pub enum Kind {
+pub enum OperandKind {
     /// No operand.
     Nothing,
     /// The register or memory operand of the mod and r/m fields.
@@ -49,8 +49,8 @@ pub enum Kind {
 #[derive(Clone, Copy, Debug, PartialEq, Eq)]
 pub struct Row {
     pub mnemonic: Mnemonic,
-    pub first: Kind,
-    pub second: Kind,
+    pub first: OperandKind,
+    pub second: OperandKind,
 }
 
 /// What a first byte begins.
@@ -70,52 +70,56 @@ pub enum Entry {
 /// the reg field, M memory, I an immediate, Is one that is extended by sign, D a displacement, O a
 /// direct offset, Ap a far pointer; b a byte, w a word; a register, or the number 1, for itself.
 macro_rules! kind {
-    (Eb) => { Kind::RegisterOrMemory(Width::Byte) };
-    (Ew) => { Kind::RegisterOrMemory(Width::Word) };
-    (Gb) => { Kind::Register(Width::Byte) };
-    (Gw) => { Kind::Register(Width::Word) };
-    (M) => { Kind::Memory };
-    (Ib) => { Kind::ByteValue };
-    (Iw) => { Kind::WordValue };
-    (Is) => { Kind::SignedValue };
-    (Db) => { Kind::Short };
-    (Dw) => { Kind::Near };
-    (Ob) => { Kind::Direct(Width::Byte) };
-    (Ow) => { Kind::Direct(Width::Word) };
-    (Ap) => { Kind::Far };
-    (one) => { Kind::One };
-    (AL) => { Kind::Byte(ByteRegister::Al) };
-    (CL) => { Kind::Byte(ByteRegister::Cl) };
-    (DL) => { Kind::Byte(ByteRegister::Dl) };
-    (BL) => { Kind::Byte(ByteRegister::Bl) };
-    (AH) => { Kind::Byte(ByteRegister::Ah) };
-    (CH) => { Kind::Byte(ByteRegister::Ch) };
-    (DH) => { Kind::Byte(ByteRegister::Dh) };
-    (BH) => { Kind::Byte(ByteRegister::Bh) };
-    (AX) => { Kind::Word(WordRegister::Ax) };
-    (CX) => { Kind::Word(WordRegister::Cx) };
-    (DX) => { Kind::Word(WordRegister::Dx) };
-    (BX) => { Kind::Word(WordRegister::Bx) };
-    (SP) => { Kind::Word(WordRegister::Sp) };
-    (BP) => { Kind::Word(WordRegister::Bp) };
-    (SI) => { Kind::Word(WordRegister::Si) };
-    (DI) => { Kind::Word(WordRegister::Di) };
-    (ES) => { Kind::TheSegment(SegmentRegister::Es) };
-    (CS) => { Kind::TheSegment(SegmentRegister::Cs) };
-    (SS) => { Kind::TheSegment(SegmentRegister::Ss) };
-    (DS) => { Kind::TheSegment(SegmentRegister::Ds) };
+    (Eb) => { OperandKind::RegisterOrMemory(Width::Byte) };
+    (Ew) => { OperandKind::RegisterOrMemory(Width::Word) };
+    (Gb) => { OperandKind::Register(Width::Byte) };
+    (Gw) => { OperandKind::Register(Width::Word) };
+    (M) => { OperandKind::Memory };
+    (Ib) => { OperandKind::ByteValue };
+    (Iw) => { OperandKind::WordValue };
+    (Is) => { OperandKind::SignedValue };
+    (Db) => { OperandKind::Short };
+    (Dw) => { OperandKind::Near };
+    (Ob) => { OperandKind::Direct(Width::Byte) };
+    (Ow) => { OperandKind::Direct(Width::Word) };
+    (Ap) => { OperandKind::Far };
+    (one) => { OperandKind::One };
+    (AL) => { OperandKind::Byte(ByteRegister::Al) };
+    (CL) => { OperandKind::Byte(ByteRegister::Cl) };
+    (DL) => { OperandKind::Byte(ByteRegister::Dl) };
+    (BL) => { OperandKind::Byte(ByteRegister::Bl) };
+    (AH) => { OperandKind::Byte(ByteRegister::Ah) };
+    (CH) => { OperandKind::Byte(ByteRegister::Ch) };
+    (DH) => { OperandKind::Byte(ByteRegister::Dh) };
+    (BH) => { OperandKind::Byte(ByteRegister::Bh) };
+    (AX) => { OperandKind::Word(WordRegister::Ax) };
+    (CX) => { OperandKind::Word(WordRegister::Cx) };
+    (DX) => { OperandKind::Word(WordRegister::Dx) };
+    (BX) => { OperandKind::Word(WordRegister::Bx) };
+    (SP) => { OperandKind::Word(WordRegister::Sp) };
+    (BP) => { OperandKind::Word(WordRegister::Bp) };
+    (SI) => { OperandKind::Word(WordRegister::Si) };
+    (DI) => { OperandKind::Word(WordRegister::Di) };
+    (ES) => { OperandKind::TheSegment(SegmentRegister::Es) };
+    (CS) => { OperandKind::TheSegment(SegmentRegister::Cs) };
+    (SS) => { OperandKind::TheSegment(SegmentRegister::Ss) };
+    (DS) => { OperandKind::TheSegment(SegmentRegister::Ds) };
 }
 
 /// A row, written as the manual writes it: the mnemonic, then the signs of its operands.
 macro_rules! row {
     (Esc $number:literal) => {
-        Row { mnemonic: Mnemonic::Esc, first: Kind::Escape($number), second: Kind::RegisterOrMemory(Width::Word) }
+        Row {
+            mnemonic: Mnemonic::Esc,
+            first: OperandKind::Escape($number),
+            second: OperandKind::RegisterOrMemory(Width::Word),
+        }
     };
     ($mnemonic:ident) => {
-        Row { mnemonic: Mnemonic::$mnemonic, first: Kind::Nothing, second: Kind::Nothing }
+        Row { mnemonic: Mnemonic::$mnemonic, first: OperandKind::Nothing, second: OperandKind::Nothing }
     };
     ($mnemonic:ident $first:ident) => {
-        Row { mnemonic: Mnemonic::$mnemonic, first: kind!($first), second: Kind::Nothing }
+        Row { mnemonic: Mnemonic::$mnemonic, first: kind!($first), second: OperandKind::Nothing }
     };
     ($mnemonic:ident $first:ident, $second:ident) => {
         Row { mnemonic: Mnemonic::$mnemonic, first: kind!($first), second: kind!($second) }

@@ -9,8 +9,8 @@ use Rattle.dm_ins.specs.declared.operand.Operand.TheVariants as operand
 use Rattle.dm_ins.specs.declared.action.Mnemonic.{Mnemonic}
 use Rattle.dm_ins.specs.declared.action.Action.{Action}
 use Rattle.dm_ins.specs.declared.fields.Fields.{Fields}
-use Rattle.dm_ins.specs.declared.table.Kind.{Kind}
-use Rattle.dm_ins.specs.declared.table.Kind.TheVariants as is
+use Rattle.dm_ins.specs.declared.table.OperandKind.{OperandKind}
+use Rattle.dm_ins.specs.declared.table.OperandKind.TheVariants as is
 use Rattle.dm_ins.specs.declared.table.Row.{Row}
 use Rattle.dm_ins.specs.Spelling.{register, at_place, Fills, SpellsAction}
 use Rattle.dm_ins.proofs.TableRules.{both_true}
@@ -21,11 +21,11 @@ use Rattle.dm_lines.proofs.Stated.{is_nothing, CanBeWritten}
 
 -- ---- a test of every row
 
-unfoldable names_nothing : Kind → Bool
+unfoldable names_nothing : OperandKind → Bool
 names_nothing is.Nothing = true
 names_nothing _ = false
 
-unfoldable names_no_memory : Kind → Bool
+unfoldable names_no_memory : OperandKind → Bool
 names_no_memory (is.RegisterOrMemory w) = false
 names_no_memory is.Memory = false
 names_no_memory (is.Direct w) = false
@@ -54,7 +54,7 @@ place_is_some w n (Some a) = refl
 never : {P : Type 0} (b : Bool) → b ≡ false → b ≡ true → P
 never b e f = absurd cc
 
-nothing_is_named : (k : Kind) (m : Fields) (o : Operand) (d : List ℕ) → Fills k m o d → is_nothing o ≡ true → names_nothing k ≡ true
+nothing_is_named : (k : OperandKind) (m : Fields) (o : Operand) (d : List ℕ) → Fills k m o d → is_nothing o ≡ true → names_nothing k ≡ true
 unfolding names_nothing is_nothing
 nothing_is_named is.Nothing m o d f h = refl
 nothing_is_named (is.RegisterOrMemory w) m o d f h = never (is_nothing o) (rw f.0 (place_is_some w m.rm m.memory)) h
@@ -73,7 +73,7 @@ nothing_is_named (is.Word r) m o d f h = never (is_nothing o) (rw f.0 refl) h
 nothing_is_named (is.TheSegment r) m o d f h = never (is_nothing o) (rw f.0 refl) h
 nothing_is_named is.One m o d f h = never (is_nothing o) (rw f.0 refl) h
 
-named_nothing : (k : Kind) (m : Fields) (o : Operand) (d : List ℕ) → Fills k m o d → names_nothing k ≡ true → o ≡ operand.Nothing
+named_nothing : (k : OperandKind) (m : Fields) (o : Operand) (d : List ℕ) → Fills k m o d → names_nothing k ≡ true → o ≡ operand.Nothing
 unfolding names_nothing
 named_nothing is.Nothing m o d f h = f.0
 named_nothing (is.RegisterOrMemory w) m o d f h = absurd cc
@@ -96,7 +96,7 @@ register_term : (a : Action) (next : ℕ) (w : Width) (n : ℕ) → is_memory (o
 register_term a next Byte n = refl
 register_term a next Word n = refl
 
-named_no_memory : (a : Action) (next : ℕ) (k : Kind) (m : Fields) (o : Operand) (d : List ℕ) → Fills k m o d → names_no_memory k ≡ true → is_memory (own_term a next o) ≡ false
+named_no_memory : (a : Action) (next : ℕ) (k : OperandKind) (m : Fields) (o : Operand) (d : List ℕ) → Fills k m o d → names_no_memory k ≡ true → is_memory (own_term a next o) ≡ false
 unfolding names_no_memory
 named_no_memory a next is.Nothing m o d f h = rw f.0 refl
 named_no_memory a next (is.RegisterOrMemory w) m o d f h = absurd cc

@@ -10,8 +10,8 @@ use Rattle.dm_ins.specs.declared.operand.Operand.TheVariants as operand
 use Rattle.dm_ins.specs.declared.action.Mnemonic.{Mnemonic}
 use Rattle.dm_ins.specs.declared.action.Mnemonic.TheVariants as op
 use Rattle.dm_ins.specs.declared.fields.Fields.{Fields}
-use Rattle.dm_ins.specs.declared.table.Kind.{Kind}
-use Rattle.dm_ins.specs.declared.table.Kind.TheVariants as is
+use Rattle.dm_ins.specs.declared.table.OperandKind.{OperandKind}
+use Rattle.dm_ins.specs.declared.table.OperandKind.TheVariants as is
 use Rattle.dm_ins.specs.Spelling.{word, direct, register, Fills}
 use Rattle.dm_ins.specs.inner.Search.{OperandFits}
 use Rattle.dm_words.specs.StandIns.{is_move, has_no_base}
@@ -60,7 +60,7 @@ direct_is a e = let d = base_is a.base e in rw d refl
 
 -- ---- operands that the mod r/m byte does not place in memory
 
-unfoldable pub uses_memory : Kind → Bool
+unfoldable pub uses_memory : OperandKind → Bool
 uses_memory (is.RegisterOrMemory v) = true
 uses_memory is.Memory = true
 uses_memory _ = false
@@ -75,11 +75,11 @@ unfolding Alike
 register_alike m Byte n p h = h
 register_alike m Word n p h = h
 
-abbrev Exchanged : Kind → Fields → Operand → List ℕ → Type 0
+abbrev Exchanged : OperandKind → Fields → Operand → List ℕ → Type 0
 Exchanged k g p d = (e : List ℕ) × Fills k g p e × (length e ≡ length d)
 
 -- an operand of the row's kind is exchanged; the fields may change in their memory
-pub exchanged : (m : Mnemonic) (k : Kind) (f g : Fields) (o p : Operand) (d : List ℕ) → f.register < 8 → g.register ≡ f.register → suits m k ≡ true → uses_memory k ≡ false → Alike m o p → OperandFits p → Known m p → Fills k f o d → Exchanged k g p d
+pub exchanged : (m : Mnemonic) (k : OperandKind) (f g : Fields) (o p : Operand) (d : List ℕ) → f.register < 8 → g.register ≡ f.register → suits m k ≡ true → uses_memory k ≡ false → Alike m o p → OperandFits p → Known m p → Fills k f o d → Exchanged k g p d
 unfolding Alike Known suits uses_memory
 exchanged m is.Nothing f g o p d lt r s u al fit kn h = (d, ((rw h.0 at al), h.1), refl)
 exchanged m (is.RegisterOrMemory v) f g o p d lt r s u al fit kn h = absurd cc

@@ -9,8 +9,8 @@ use Rattle.dm_ins.specs.declared.action.Mnemonic.{Mnemonic}
 use Rattle.dm_ins.specs.declared.action.Mnemonic.TheVariants as op
 use Rattle.dm_ins.specs.declared.action.Action.{Action}
 use Rattle.dm_ins.specs.declared.fields.Fields.{Fields}
-use Rattle.dm_ins.specs.declared.table.Kind.{Kind}
-use Rattle.dm_ins.specs.declared.table.Kind.TheVariants as is
+use Rattle.dm_ins.specs.declared.table.OperandKind.{OperandKind}
+use Rattle.dm_ins.specs.declared.table.OperandKind.TheVariants as is
 use Rattle.dm_ins.specs.declared.table.Row.{Row}
 use Rattle.dm_ins.specs.Table.{entry_of}
 use Rattle.dm_ins.specs.Spelling.{extended, register, at_place, Fills, SpellsAction}
@@ -42,7 +42,7 @@ is_opposite true e = absurd cc
 is_opposite false e = refl
 
 -- a kind of operand that the rows of a mnemonic may have
-unfoldable pub suits : Mnemonic → Kind → Bool
+unfoldable pub suits : Mnemonic → OperandKind → Bool
 suits m is.Short = opposite (is_near m)
 suits m is.Near = is_near m
 suits m (is.Escape r) = is_escape m
@@ -78,7 +78,7 @@ unfolding Known
 place_known m v n None = register_known m v n
 place_known m v n (Some a) = tt
 
-known : (m : Mnemonic) (k : Kind) (f : Fields) (o : Operand) (d : List ℕ) → f.register < 8 → suits m k ≡ true → Fills k f o d → Known m o
+known : (m : Mnemonic) (k : OperandKind) (f : Fields) (o : Operand) (d : List ℕ) → f.register < 8 → suits m k ≡ true → Fills k f o d → Known m o
 unfolding Known suits
 known m is.Nothing f o d lt s h = rw h.0 tt
 known m (is.RegisterOrMemory v) f o d lt s h = rw h.0 (place_known m v f.rm f.memory)

@@ -12,8 +12,8 @@ use Rattle.dm_ins.specs.declared.action.Mnemonic.{Mnemonic}
 use Rattle.dm_ins.specs.declared.action.Mnemonic.TheVariants as op
 use Rattle.dm_ins.specs.declared.action.Action.{Action}
 use Rattle.dm_ins.specs.declared.fields.Fields.{Fields}
-use Rattle.dm_ins.specs.declared.table.Kind.{Kind}
-use Rattle.dm_ins.specs.declared.table.Kind.TheVariants as is
+use Rattle.dm_ins.specs.declared.table.OperandKind.{OperandKind}
+use Rattle.dm_ins.specs.declared.table.OperandKind.TheVariants as is
 use Rattle.dm_ins.specs.declared.table.Row.{Row}
 use Rattle.dm_ins.specs.Spelling.{direct, register, at_place, Fills, SpellsAction}
 use Rattle.dm_ins.proofs.TableRules.{both_true}
@@ -50,7 +50,7 @@ memory_sort : Width → ℕ
 memory_sort width.Byte = 4
 memory_sort width.Word = 5
 
-sorts : Kind → List ℕ
+sorts : OperandKind → List ℕ
 sorts is.Nothing = 0 ∷ []
 sorts (is.RegisterOrMemory v) = register_sort v ∷ memory_sort v ∷ []
 sorts (is.Register v) = register_sort v ∷ []
@@ -92,7 +92,7 @@ module _ (p : ℕ → Bool) where
   direct_sort width.Byte n h = one_true _ h
   direct_sort width.Word n h = one_true _ h
 
-  of_kind : (k : Kind) (m : Fields) (o : Operand) (d : List ℕ) → Fills k m o d → list_all p (sorts k) ≡ true → p (sort o) ≡ true
+  of_kind : (k : OperandKind) (m : Fields) (o : Operand) (d : List ℕ) → Fills k m o d → list_all p (sorts k) ≡ true → p (sort o) ≡ true
   unfolding sorts sort
   of_kind is.Nothing m o d f h = rw f.0 (one_true _ h)
   of_kind (is.RegisterOrMemory v) m o d f h = rw f.0 (at_place_sort v m.rm m.memory h)

@@ -8,8 +8,8 @@ use Rattle.dm_ins.specs.declared.operand.Address.{Address}
 use Rattle.dm_ins.specs.declared.operand.Operand.{Operand}
 use Rattle.dm_ins.specs.declared.action.Mnemonic.{Mnemonic}
 use Rattle.dm_ins.specs.declared.fields.Fields.{Fields}
-use Rattle.dm_ins.specs.declared.table.Kind.{Kind}
-use Rattle.dm_ins.specs.declared.table.Kind.TheVariants as is
+use Rattle.dm_ins.specs.declared.table.OperandKind.{OperandKind}
+use Rattle.dm_ins.specs.declared.table.OperandKind.TheVariants as is
 use Rattle.dm_ins.specs.declared.table.Row.{Row}
 use Rattle.dm_ins.specs.declared.table.Entry.{Entry}
 use Rattle.dm_ins.specs.declared.table.Entry.TheVariants.{Unlisted, Plain, Group, Second}
@@ -119,7 +119,7 @@ named_by f a b e h lt = by (has_no_base a.base) refl
           named = ap Some (sym d);
         }
 
-pub record Placed (k : Kind) (f : Fields) (p : Operand) (d : List ℕ) : Type 0 where
+pub record Placed (k : OperandKind) (f : Fields) (p : Operand) (d : List ℕ) : Type 0 where
   pub g : Fields
   pub moved : Moved f g
   pub fills : Fills k g p d
@@ -132,7 +132,7 @@ at_place_placed m v f o p (Some a) e h al fit =
     let n = named_by f a k.0 e k.2 (rw k.1 at fit) in
     record { g = n.g; moved = n.moved; fills = (rw n.named k.1, refl) }
 
-pub placed : (m : Mnemonic) (k : Kind) (f : Fields) (o p : Operand) (d : List ℕ) → uses_memory k ≡ true → Alike m o p → OperandFits p → Fills k f o d → Placed k f p d
+pub placed : (m : Mnemonic) (k : OperandKind) (f : Fields) (o p : Operand) (d : List ℕ) → uses_memory k ≡ true → Alike m o p → OperandFits p → Fills k f o d → Placed k f p d
 unfolding Alike uses_memory
 placed m (is.RegisterOrMemory v) f o p d u al fit h = rw h.1 (at_place_placed m v f o p f.memory refl h.0 al fit)
 placed m is.Memory f o p d u al fit h =

@@ -23,8 +23,8 @@ use Rattle.dm_ins.specs.declared.prefix.Prefixes.{Prefixes}
 use Rattle.dm_ins.specs.declared.demand.Demand.{Demand}
 use Rattle.dm_ins.specs.declared.fill.Choice.{Choice}
 use Rattle.dm_ins.specs.declared.keys.Key.{Key}
-use Rattle.dm_ins.specs.declared.table.Kind.{Kind}
-use Rattle.dm_ins.specs.declared.table.Kind.TheVariants as is
+use Rattle.dm_ins.specs.declared.table.OperandKind.{OperandKind}
+use Rattle.dm_ins.specs.declared.table.OperandKind.TheVariants as is
 use Rattle.dm_ins.specs.declared.table.Entry.{Entry}
 use Rattle.dm_ins.specs.declared.table.Entry.TheVariants.{Unlisted, Plain, Group, Second}
 use Rattle.dm_ins.specs.Registers.{word_number, byte_number, segment_number}
@@ -73,7 +73,7 @@ asks_place p = record { register = None; place = Some p; tail = data_is.Nothing 
 abbrev pub as_signed : ℕ → Option Demand
 as_signed n = if extended (n % 256) == n then Some (asks_data (data_is.Byte (n % 256))) else None
 
-unfoldable pub demand_of : Kind → Operand → Option Demand
+unfoldable pub demand_of : OperandKind → Operand → Option Demand
 demand_of is.Nothing operand.Nothing = Some (asks_data data_is.Nothing)
 demand_of is.Nothing _ = None
 demand_of (is.RegisterOrMemory w) (operand.Memory v a) = if same_width w v then Some (asks_place (place.Memory a)) else None
