@@ -2,8 +2,8 @@
 use Rattle.std.proofs.Common.{Bool, ◌≡◌, ℕ, ◌+◌, ◌≤◌, true, false, IsTrue, List, [], ◌∷◌, ◌++◌, ◌⊎◌, inl, inr, refl, sym, ◌∙◌, ap, ap₂, subst, arith, Result, Ok, Err}
 use Rattle.dm_space.specs.Memory.{Memory}
 use Rattle.dm_blocks.specs.declared.header.Header.{Header}
-use Rattle.dm_arena.specs.declared.refusal.Refusal.{Refusal}
-use Rattle.dm_arena.specs.declared.refusal.Refusal.TheVariants.{Destroyed, Short, NoBlock}
+use Rattle.dm_arena.specs.declared.refusal.ArenaRefusal.{ArenaRefusal}
+use Rattle.dm_arena.specs.declared.refusal.ArenaRefusal.TheVariants.{Destroyed, Short, NoBlock}
 use Rattle.dm_arena.specs.declared.fit.Strategy.{Strategy}
 use Rattle.dm_blocks.specs.Chain.{first_header, link_header, HasHeader, IsArenaBehind, IsChain, IsClear, IsArena, Becomes, DiffersInHeaders, is_parted}
 use Rattle.dm_arena.specs.Owned.{BlockAt, IsNoBlock, is_link_block, ReleasesOne, ReleasesBoth, freed, Frees, FreeRefused, absorb, AllFree, BeginsTaken, BlockRunAt, resized, Resizes, ResizeRefused, released, ReleaseRefused, Releases}
@@ -82,7 +82,7 @@ module _ (up : Bool) where
       none t.block (subst F (sym e) (in_middle t.before t.block t.after)) (subst G (effect-same S start st n L a t) t.fit.fit)
 
   -- an allocation is served or refused
-  served_refused : (S : Memory) (st : Strategy) (n owner : ℕ) (t : Taking up S first_header st n) → IsClear S (changed t owner) → (e : Refusal) → AllocateRefused up S first_header st n owner e → ⊥
+  served_refused : (S : Memory) (st : Strategy) (n owner : ℕ) (t : Taking up S first_header st n) → IsClear S (changed t owner) → (e : ArenaRefusal) → AllocateRefused up S first_header st n owner e → ⊥
   served_refused S st n owner t k Destroyed (inl none) = none t.list t.arena
   served_refused S st n owner t k Destroyed (inr r) = (let F : List Header → Type 0 = λ X. IsClear S X in r.1 (subst F (changed-same S first_header st n t r.0 owner) k))
   served_refused S st n owner t k (Short most) r = none_taken S first_header st n r.0 r.1 r.3 t
@@ -92,7 +92,7 @@ module _ (up : Bool) where
   destroyed_short S st n owner most (inl none) r = none r.0 r.1
   destroyed_short S st n owner most (inr d) r = none_taken S first_header st n r.0 r.1 r.3 d.0
 
-  refused_same : (S : Memory) (st : Strategy) (n owner : ℕ) (d e : Refusal) → AllocateRefused up S first_header st n owner d → AllocateRefused up S first_header st n owner e → d ≡ e
+  refused_same : (S : Memory) (st : Strategy) (n owner : ℕ) (d e : ArenaRefusal) → AllocateRefused up S first_header st n owner d → AllocateRefused up S first_header st n owner e → d ≡ e
   refused_same S st n owner Destroyed Destroyed x y = refl
   refused_same S st n owner Destroyed (Short most) x y = absurd (destroyed_short S st n owner most x y)
   refused_same S st n owner Destroyed NoBlock x y = absurd y
@@ -101,7 +101,7 @@ module _ (up : Bool) where
   refused_same S st n owner (Short most) NoBlock x y = absurd y
   refused_same S st n owner NoBlock e x y = absurd x
 
-  pub allocation_unique : (S : Memory) (st : Strategy) (n owner : ℕ) (r q : Result ℕ Refusal) (T U : Memory) → Allocates up S st n owner r T → Allocates up S st n owner q U → (r ≡ q) × (T ≡ U)
+  pub allocation_unique : (S : Memory) (st : Strategy) (n owner : ℕ) (r q : Result ℕ ArenaRefusal) (T U : Memory) → Allocates up S st n owner r T → Allocates up S st n owner q U → (r ≡ q) × (T ≡ U)
   allocation_unique S st n owner (Ok a) (Ok b) T U x y =
       let F : List Header → Type 0 = λ X. Becomes S first_header X U in (
         ap (λ (z : ℕ). Ok z) (x.1 ∙ ap (λ z. z + 1) (taken_segment-same S first_header st n x.0 y.0) ∙ sym y.1),
@@ -109,19 +109,19 @@ module _ (up : Bool) where
       )
   allocation_unique S st n owner (Ok a) (Err e) T U x y = absurd (served_refused S st n owner x.0 x.2.clear e y.1)
   allocation_unique S st n owner (Err e) (Ok b) T U x y = absurd (served_refused S st n owner y.0 y.2.clear e x.1)
-  allocation_unique S st n owner (Err d) (Err e) T U x y = (ap (λ (z : Refusal). Err z) (refused_same S st n owner d e x.1 y.1), x.0 ∙ sym y.0)
+  allocation_unique S st n owner (Err d) (Err e) T U x y = (ap (λ (z : ArenaRefusal). Err z) (refused_same S st n owner d e x.1 y.1), x.0 ∙ sym y.0)
 
   freed-same : (S : Memory) (segment : ℕ) (b c : BlockAt up S first_header segment) → b.before ++ freed b.block ∷ b.after ≡ c.before ++ freed c.block ∷ c.after
   freed-same S segment b c =
       let s = split_at S b.list c.list b.before b.block b.after c.before c.block c.after segment b.arena c.arena b.is c.is b.at c.at in
       ap₂ (λ P R. P ++ R) s.0 (ap₂ (λ z Q. freed z ∷ Q) s.1 s.2)
 
-  freed_refused : (S : Memory) (segment : ℕ) (b : BlockAt up S first_header segment) (e : Refusal) → FreeRefused up S first_header segment e → ⊥
+  freed_refused : (S : Memory) (segment : ℕ) (b : BlockAt up S first_header segment) (e : ArenaRefusal) → FreeRefused up S first_header segment e → ⊥
   freed_refused S segment b Destroyed r = r b.list b.arena
   freed_refused S segment b (Short most) r = r
   freed_refused S segment b NoBlock r = (let F : List Header → Type 0 = λ X. IsNoBlock up X segment in no_block up b.list b.before b.block b.after segment b.is b.at b.other (subst F (arena_unique S first_header r.0 b.list r.1 b.arena) r.2))
 
-  free_refused_same : (S : Memory) (segment : ℕ) (d e : Refusal) → FreeRefused up S first_header segment d → FreeRefused up S first_header segment e → d ≡ e
+  free_refused_same : (S : Memory) (segment : ℕ) (d e : ArenaRefusal) → FreeRefused up S first_header segment d → FreeRefused up S first_header segment e → d ≡ e
   free_refused_same S segment Destroyed Destroyed x y = refl
   free_refused_same S segment Destroyed NoBlock x y = absurd (x y.0 y.1)
   free_refused_same S segment NoBlock Destroyed x y = absurd (y x.0 x.1)
@@ -130,13 +130,13 @@ module _ (up : Bool) where
   free_refused_same S segment Destroyed (Short most) x y = absurd y
   free_refused_same S segment NoBlock (Short most) x y = absurd y
 
-  pub freeing_unique : (S : Memory) (segment : ℕ) (r q : Result (Unit {0}) Refusal) (T U : Memory) → Frees up S segment r T → Frees up S segment q U → (r ≡ q) × (T ≡ U)
+  pub freeing_unique : (S : Memory) (segment : ℕ) (r q : Result (Unit {0}) ArenaRefusal) (T U : Memory) → Frees up S segment r T → Frees up S segment q U → (r ≡ q) × (T ≡ U)
   freeing_unique S segment (Ok a) (Ok b) T U x y =
       let F : List Header → Type 0 = λ X. Becomes S first_header X U in
       (refl, becomes_unique S first_header _ T U x.1 (subst F (sym (freed-same S segment x.0 y.0)) y.1))
   freeing_unique S segment (Ok a) (Err e) T U x y = absurd (freed_refused S segment x.0 e y.1)
   freeing_unique S segment (Err e) (Ok b) T U x y = absurd (freed_refused S segment y.0 e x.1)
-  freeing_unique S segment (Err d) (Err e) T U x y = (ap (λ (z : Refusal). Err z) (free_refused_same S segment d e x.1 y.1), x.0 ∙ sym y.0)
+  freeing_unique S segment (Err d) (Err e) T U x y = (ap (λ (z : ArenaRefusal). Err z) (free_refused_same S segment d e x.1 y.1), x.0 ∙ sym y.0)
 
   -- the block at a segment with its run
   head-free : (r : Header) (Q R X : List Header) → Q ≡ r ∷ X → BeginsTaken up Q → is_free up r ≡ true → ⊥
@@ -164,7 +164,7 @@ module _ (up : Bool) where
     resized-same : (n : ℕ) → resized b n ≡ resized c n
     resized-same n = ap₂ (λ P R. P ++ R) split.0 (ap₂ (λ C Q. C ++ Q) (ap₂ (λ o x. cut_low n o x) (ap (λ x. x.owner) split.1) absorbed-same) runs.1)
 
-  run_refused : (S : Memory) (segment n : ℕ) (b : BlockRunAt up S first_header segment) → n ≤ (absorb b.block b.run).size → IsClear S (resized b n) → (e : Refusal) → ResizeRefused up S first_header segment n e → ⊥
+  run_refused : (S : Memory) (segment n : ℕ) (b : BlockRunAt up S first_header segment) → n ≤ (absorb b.block b.run).size → IsClear S (resized b n) → (e : ArenaRefusal) → ResizeRefused up S first_header segment n e → ⊥
   run_refused S segment n b h k Destroyed (inl none) = none b.list b.arena
   run_refused S segment n b h k Destroyed (inr r) = (let F : List Header → Type 0 = λ X. IsClear S X in r.2 (subst F (resized-same S segment b r.0 n) k))
   run_refused S segment n b h k (Short most) r = (let x = size-same S segment b r.0 in let y = r.1 in let z = r.2 in omega arith)
@@ -181,7 +181,7 @@ module _ (up : Bool) where
   resize_destroyed_none S segment n (inl none) r = none r.0 r.1
   resize_destroyed_none S segment n (inr d) r = run_none S segment n d.0 r
 
-  resize_refused_same : (S : Memory) (segment n : ℕ) (d e : Refusal) → ResizeRefused up S first_header segment n d → ResizeRefused up S first_header segment n e → d ≡ e
+  resize_refused_same : (S : Memory) (segment n : ℕ) (d e : ArenaRefusal) → ResizeRefused up S first_header segment n d → ResizeRefused up S first_header segment n e → d ≡ e
   resize_refused_same S segment n Destroyed Destroyed x y = refl
   resize_refused_same S segment n Destroyed (Short most) x y = absurd (resize_destroyed_short S segment n most x y)
   resize_refused_same S segment n Destroyed NoBlock x y = absurd (resize_destroyed_none S segment n x y)
@@ -192,13 +192,13 @@ module _ (up : Bool) where
   resize_refused_same S segment n NoBlock (Short most) x y = absurd (run_none S segment n y.0 x)
   resize_refused_same S segment n NoBlock NoBlock x y = refl
 
-  pub resizing_unique : (S : Memory) (segment n : ℕ) (r q : Result (Unit {0}) Refusal) (T U : Memory) → Resizes up S segment n r T → Resizes up S segment n q U → (r ≡ q) × (T ≡ U)
+  pub resizing_unique : (S : Memory) (segment n : ℕ) (r q : Result (Unit {0}) ArenaRefusal) (T U : Memory) → Resizes up S segment n r T → Resizes up S segment n q U → (r ≡ q) × (T ≡ U)
   resizing_unique S segment n (Ok a) (Ok b) T U x y =
       let F : List Header → Type 0 = λ X. Becomes S first_header X U in
       (refl, becomes_unique S first_header _ T U x.2 (subst F (sym (resized-same S segment x.0 y.0 n)) y.2))
   resizing_unique S segment n (Ok a) (Err e) T U x y = absurd (run_refused S segment n x.0 x.1 x.2.clear e y.1)
   resizing_unique S segment n (Err e) (Ok b) T U x y = absurd (run_refused S segment n y.0 y.1 y.2.clear e x.1)
-  resizing_unique S segment n (Err d) (Err e) T U x y = (ap (λ (z : Refusal). Err z) (resize_refused_same S segment n d e x.1 y.1), x.0 ∙ sym y.0)
+  resizing_unique S segment n (Err d) (Err e) T U x y = (ap (λ (z : ArenaRefusal). Err z) (resize_refused_same S segment n d e x.1 y.1), x.0 ∙ sym y.0)
 
   -- the second list goes with the first, or it does not
   parted_once : (S : Memory) (L M : List Header) → IsArena S first_header L → IsArena S first_header M → is_parted up L ≡ false → is_parted up M ≡ true → ⊥
@@ -237,8 +237,8 @@ module _ (up : Bool) where
       let F : List Header → Type 0 = λ X. IsArenaBehind S X link_header x.second in
       r.3 x.second (subst F (arena_unique S first_header x.first r.0 x.arena r.1) x.behind)
 
-  pub releasing_unique : (S : Memory) (owner : ℕ) (r q : Result (Unit {0}) Refusal) (T U : Memory) → Releases up S owner r T → Releases up S owner q U → (r ≡ q) × (T ≡ U)
+  pub releasing_unique : (S : Memory) (owner : ℕ) (r q : Result (Unit {0}) ArenaRefusal) (T U : Memory) → Releases up S owner r T → Releases up S owner q U → (r ≡ q) × (T ≡ U)
   releasing_unique S owner (Ok a) (Ok b) T U x y = (refl, released_same S owner T U x y)
   releasing_unique S owner (Ok a) (Err e) T U x y = absurd (not_released S owner T x y.2)
   releasing_unique S owner (Err e) (Ok b) T U x y = absurd (not_released S owner U y x.2)
-  releasing_unique S owner (Err d) (Err e) T U x y = (ap (λ (z : Refusal). Err z) (x.1 ∙ sym y.1), x.0 ∙ sym y.0)
+  releasing_unique S owner (Err d) (Err e) T U x y = (ap (λ (z : ArenaRefusal). Err z) (x.1 ∙ sym y.1), x.0 ∙ sym y.0)

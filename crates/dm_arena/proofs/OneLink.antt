@@ -4,7 +4,7 @@ use Rattle.dm_space.specs.Memory.{Memory}
 use Rattle.dm_blocks.specs.declared.header.Header.{Header}
 use Rattle.dm_blocks.specs.Chain.{Becomes, IsArena, IsArenaBehind, first_header, is_linked, link_header}
 use Rattle.dm_blocks.proofs.Unique.{arena_unique, becomes_unique, chain_unique}
-use Rattle.dm_arena.specs.declared.refusal.Refusal.{Refusal}
+use Rattle.dm_arena.specs.declared.refusal.ArenaRefusal.{ArenaRefusal}
 use Rattle.dm_arena.specs.Linking.{BeginsAt, EndsAt, BecomesLinked, BecomesUnlinked, IsSo, LinkRefused, Links}
 use Rattle.dm_arena.specs.inner.Walks.{Fills}
 use Rattle.dm_arena.proofs.Ends.{fills_of, split_unique}
@@ -65,12 +65,12 @@ not_parted : (S T : Memory) → IsSo S false T ⊎ BecomesUnlinked S T → LinkR
 not_parted S T (inl x) none = none x.list x.arena
 not_parted S T (inr x) none = none (x.before ++ x.after) x.arena
 
-pub linking_unique : (S : Memory) (on : Bool) (r q : Result (Unit {0}) Refusal) (T U : Memory) → Links S on r T → Links S on q U → (r ≡ q) × (T ≡ U)
+pub linking_unique : (S : Memory) (on : Bool) (r q : Result (Unit {0}) ArenaRefusal) (T U : Memory) → Links S on r T → Links S on q U → (r ≡ q) × (T ≡ U)
 linking_unique S true (Ok a) (Ok b) T U x y = (refl, joined_same S T U x y)
 linking_unique S true (Ok a) (Err e) T U x y = absurd (not_joined S T x y.2)
 linking_unique S true (Err e) (Ok b) T U x y = absurd (not_joined S U y x.2)
-linking_unique S true (Err d) (Err e) T U x y = (ap (λ (z : Refusal). Err z) (x.1 ∙ sym y.1), x.0 ∙ sym y.0)
+linking_unique S true (Err d) (Err e) T U x y = (ap (λ (z : ArenaRefusal). Err z) (x.1 ∙ sym y.1), x.0 ∙ sym y.0)
 linking_unique S false (Ok a) (Ok b) T U x y = (refl, parted_same S T U x y)
 linking_unique S false (Ok a) (Err e) T U x y = absurd (not_parted S T x y.2)
 linking_unique S false (Err e) (Ok b) T U x y = absurd (not_parted S U y x.2)
-linking_unique S false (Err d) (Err e) T U x y = (ap (λ (z : Refusal). Err z) (x.1 ∙ sym y.1), x.0 ∙ sym y.0)
+linking_unique S false (Err d) (Err e) T U x y = (ap (λ (z : ArenaRefusal). Err z) (x.1 ∙ sym y.1), x.0 ∙ sym y.0)

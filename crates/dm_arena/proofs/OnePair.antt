@@ -2,8 +2,8 @@
 use Rattle.std.proofs.Common.{Bool, ◌≡◌, ℕ, ◌+◌, ◌<◌, IsTrue, min, List, ◌∷◌, ◌++◌, inl, inr, refl, sym, ◌∙◌, ap, ap₂, subst, arith, Option, Some, None, Result, Ok, Err}
 use Rattle.dm_space.specs.Memory.{Memory}
 use Rattle.dm_blocks.specs.declared.header.Header.{Header}
-use Rattle.dm_arena.specs.declared.refusal.Refusal.{Refusal}
-use Rattle.dm_arena.specs.declared.refusal.Refusal.TheVariants.{Destroyed, Short, NoBlock}
+use Rattle.dm_arena.specs.declared.refusal.ArenaRefusal.{ArenaRefusal}
+use Rattle.dm_arena.specs.declared.refusal.ArenaRefusal.TheVariants.{Destroyed, Short, NoBlock}
 use Rattle.dm_arena.specs.declared.fit.Spoken.{Spoken}
 use Rattle.dm_arena.specs.declared.fit.Strategy.{Strategy}
 use Rattle.dm_blocks.specs.Chain.{first_header, IsArena, IsClear, Becomes}
@@ -117,7 +117,7 @@ module _ (up : Bool) where
         λ i. record { environment = first i; program = program i; size = size i }
 
     -- what can be planned is not refused
-    pub pair_refused : (x : Planned) → IsPair up S start st n least most x → (e : Refusal) → PairRefused up S start st n least most e → ⊥
+    pub pair_refused : (x : Planned) → IsPair up S start st n least most x → (e : ArenaRefusal) → PairRefused up S start st n least most e → ⊥
     pair_refused x p Destroyed (inl none) = none p.pairing.first.list p.pairing.first.arena
     pair_refused x p Destroyed (inr r) = (let F : List Header → Type 0 = λ X. IsClear S X in r.3 (subst F (paired-same _ _ _ _ p.pairing r.2) p.clear))
     pair_refused x p (Short room) r = r.3 _ _ p.pairing
@@ -127,7 +127,7 @@ module _ (up : Bool) where
     destroyed_room room (inl none) r = none r.0 r.1
     destroyed_room room (inr d) r = r.3 _ _ d.2
 
-    pair_refused_same : (d e : Refusal) → PairRefused up S start st n least most d → PairRefused up S start st n least most e → d ≡ e
+    pair_refused_same : (d e : ArenaRefusal) → PairRefused up S start st n least most d → PairRefused up S start st n least most e → d ≡ e
     pair_refused_same Destroyed Destroyed x y = refl
     pair_refused_same Destroyed (Short room) x y = absurd (destroyed_room room x y)
     pair_refused_same Destroyed NoBlock x y = absurd y
@@ -136,7 +136,7 @@ module _ (up : Bool) where
     pair_refused_same (Short room) NoBlock x y = absurd y
     pair_refused_same NoBlock e x y = absurd x
 
-  pub pairing_unique : (S : Memory) (st : Strategy) (n least most : ℕ) (r q : Result Placed Refusal) (T U : Memory) → Pairs up S st n least most r T → Pairs up S st n least most q U → (r ≡ q) × (T ≡ U)
+  pub pairing_unique : (S : Memory) (st : Strategy) (n least most : ℕ) (r q : Result Placed ArenaRefusal) (T U : Memory) → Pairs up S st n least most r T → Pairs up S st n least most q U → (r ≡ q) × (T ≡ U)
   pairing_unique S st n least most (Ok a) (Ok b) T U x y =
       let F : List Header → Type 0 = λ X. Becomes S first_header X U in (
         ap (λ (z : Placed). Ok z) (x.2 ∙ placed-same S first_header st n least most x.0 y.0 x.1 y.1 ∙ sym y.2),
@@ -144,4 +144,4 @@ module _ (up : Bool) where
       )
   pairing_unique S st n least most (Ok a) (Err e) T U x y = absurd (pair_refused S first_header st n least most x.0 x.1 e y.1)
   pairing_unique S st n least most (Err e) (Ok b) T U x y = absurd (pair_refused S first_header st n least most y.0 y.1 e x.1)
-  pairing_unique S st n least most (Err d) (Err e) T U x y = (ap (λ (z : Refusal). Err z) (pair_refused_same S first_header st n least most d e x.1 y.1), x.0 ∙ sym y.0)
+  pairing_unique S st n least most (Err d) (Err e) T U x y = (ap (λ (z : ArenaRefusal). Err z) (pair_refused_same S first_header st n least most d e x.1 y.1), x.0 ∙ sym y.0)

@@ -4,8 +4,8 @@ use Rattle.dm_space.specs.Memory.{Memory, place, peek}
 use Rattle.dm_space.specs.Places.{IsWritable}
 use Rattle.dm_space.specs.Unseen.{IsUnseen}
 use Rattle.dm_blocks.specs.declared.header.Header.{Header}
-use Rattle.dm_arena.specs.declared.refusal.Refusal.{Refusal}
-use Rattle.dm_arena.specs.declared.refusal.Refusal.TheVariants.{Destroyed, Short, NoBlock}
+use Rattle.dm_arena.specs.declared.refusal.ArenaRefusal.{ArenaRefusal}
+use Rattle.dm_arena.specs.declared.refusal.ArenaRefusal.TheVariants.{Destroyed, Short, NoBlock}
 use Rattle.dm_arena.specs.declared.fit.Strategy.{Strategy}
 use Rattle.dm_blocks.specs.Chain.{first_header, link_header, word, IsHeader, Spells, IsChain, IsClear, IsArena, IsArenaBehind, NoArena, NoArenaBehind, Becomes, DiffersInHeaders, next}
 use Rattle.dm_arena.specs.Allocation.{Taking, changed, Allocates, AllocateRefused}
@@ -111,7 +111,7 @@ module _ (f : Memory → Memory) (u : IsUnseen f) where
   link_refused-unseen S true (inr r) = inr (r.0, arena-same S (f S) (there S) first_header r.0 r.1, r.2, λ e. none_behind-unseen S r.0 link_header (r.3 e))
   link_refused-unseen S false none = none-unseen S first_header none
 
-  pub linking-unseen : (S T : Memory) (on : Bool) (r : Result (Unit {0}) Refusal) → Links S on r T → Links (f S) on r (f T)
+  pub linking-unseen : (S T : Memory) (on : Bool) (r : Result (Unit {0}) ArenaRefusal) → Links S on r T → Links (f S) on r (f T)
   linking-unseen S T true (Ok x) (inl a) = inl (so-unseen S true T a)
   linking-unseen S T true (Ok x) (inr a) = inr (goes-unseen S T a)
   linking-unseen S T false (Ok x) (inl a) = inl (so-unseen S false T a)
@@ -119,7 +119,7 @@ module _ (f : Memory → Memory) (u : IsUnseen f) where
   linking-unseen S T true (Err e) a = (ap f a.0, a.1, link_refused-unseen S true a.2)
   linking-unseen S T false (Err e) a = (ap f a.0, a.1, link_refused-unseen S false a.2)
 
-  pub telling-unseen : (S : Memory) (r : Result Bool Refusal) → TellsLinked S r → TellsLinked (f S) r
+  pub telling-unseen : (S : Memory) (r : Result Bool ArenaRefusal) → TellsLinked S r → TellsLinked (f S) r
   telling-unseen S (Ok on) a = (a.0, arena-same S (f S) (there S) first_header a.0 a.1, a.2)
   telling-unseen S (Err e) a = (a.0, none-unseen S first_header a.1)
 
@@ -176,32 +176,32 @@ module _ (up : Bool) where
   }
 
   module _ (f : Memory → Memory) (u : IsUnseen f) where
-    allocate_refused-unseen : (S : Memory) (start : ℕ) (st : Strategy) (n owner : ℕ) (e : Refusal) → AllocateRefused up S start st n owner e → AllocateRefused up (f S) start st n owner e
+    allocate_refused-unseen : (S : Memory) (start : ℕ) (st : Strategy) (n owner : ℕ) (e : ArenaRefusal) → AllocateRefused up S start st n owner e → AllocateRefused up (f S) start st n owner e
     allocate_refused-unseen S start st n owner Destroyed (inl none) = inl (none-unseen f u S start none)
     allocate_refused-unseen S start st n owner Destroyed (inr r) = inr (taking-same S (f S) (there f u S) r.0, unclear-unseen f u S (changed r.0 owner) r.1)
     allocate_refused-unseen S start st n owner (Short most) r = (r.0, arena-same S (f S) (there f u S) start r.0 r.1, r.2, r.3)
     allocate_refused-unseen S start st n owner NoBlock r = r
 
-    pub allocation-unseen : (S T : Memory) (st : Strategy) (n owner : ℕ) (r : Result ℕ Refusal) → Allocates up S st n owner r T → Allocates up (f S) st n owner r (f T)
+    pub allocation-unseen : (S T : Memory) (st : Strategy) (n owner : ℕ) (r : Result ℕ ArenaRefusal) → Allocates up S st n owner r T → Allocates up (f S) st n owner r (f T)
     allocation-unseen S T st n owner (Ok segment) a = (taking-same S (f S) (there f u S) a.0, a.1, becomes-unseen f u S first_header (changed a.0 owner) T a.2)
     allocation-unseen S T st n owner (Err e) a = (ap f a.0, allocate_refused-unseen S first_header st n owner e a.1)
 
-    free_refused-unseen : (S : Memory) (segment : ℕ) (e : Refusal) → FreeRefused up S first_header segment e → FreeRefused up (f S) first_header segment e
+    free_refused-unseen : (S : Memory) (segment : ℕ) (e : ArenaRefusal) → FreeRefused up S first_header segment e → FreeRefused up (f S) first_header segment e
     free_refused-unseen S segment Destroyed r = none-unseen f u S first_header r
     free_refused-unseen S segment (Short most) r = r
     free_refused-unseen S segment NoBlock r = (r.0, arena-same S (f S) (there f u S) first_header r.0 r.1, r.2)
 
-    pub freeing-unseen : (S T : Memory) (segment : ℕ) (r : Result (Unit {0}) Refusal) → Frees up S segment r T → Frees up (f S) segment r (f T)
+    pub freeing-unseen : (S T : Memory) (segment : ℕ) (r : Result (Unit {0}) ArenaRefusal) → Frees up S segment r T → Frees up (f S) segment r (f T)
     freeing-unseen S T segment (Ok x) a = (block-same S (f S) (there f u S) a.0, becomes-unseen f u S first_header _ T a.1)
     freeing-unseen S T segment (Err e) a = (ap f a.0, free_refused-unseen S segment e a.1)
 
-    resize_refused-unseen : (S : Memory) (segment n : ℕ) (e : Refusal) → ResizeRefused up S first_header segment n e → ResizeRefused up (f S) first_header segment n e
+    resize_refused-unseen : (S : Memory) (segment n : ℕ) (e : ArenaRefusal) → ResizeRefused up S first_header segment n e → ResizeRefused up (f S) first_header segment n e
     resize_refused-unseen S segment n Destroyed (inl none) = inl (none-unseen f u S first_header none)
     resize_refused-unseen S segment n Destroyed (inr r) = inr (run-same S (f S) (there f u S) r.0, r.1, unclear-unseen f u S (resized r.0 n) r.2)
     resize_refused-unseen S segment n (Short most) r = (run-same S (f S) (there f u S) r.0, r.1, r.2)
     resize_refused-unseen S segment n NoBlock r = (r.0, arena-same S (f S) (there f u S) first_header r.0 r.1, r.2)
 
-    pub resizing-unseen : (S T : Memory) (segment n : ℕ) (r : Result (Unit {0}) Refusal) → Resizes up S segment n r T → Resizes up (f S) segment n r (f T)
+    pub resizing-unseen : (S T : Memory) (segment n : ℕ) (r : Result (Unit {0}) ArenaRefusal) → Resizes up S segment n r T → Resizes up (f S) segment n r (f T)
     resizing-unseen S T segment n (Ok x) a = (run-same S (f S) (there f u S) a.0, a.1, becomes-unseen f u S first_header _ T a.2)
     resizing-unseen S T segment n (Err e) a = (ap f a.0, resize_refused-unseen S segment n e a.1)
 
@@ -209,7 +209,7 @@ module _ (up : Bool) where
     release_refused-unseen S (inl none) = inl (none-unseen f u S first_header none)
     release_refused-unseen S (inr r) = inr (r.0, arena-same S (f S) (there f u S) first_header r.0 r.1, r.2, none_behind-unseen f u S r.0 link_header r.3)
 
-    pub releasing-unseen : (S T : Memory) (owner : ℕ) (r : Result (Unit {0}) Refusal) → Releases up S owner r T → Releases up (f S) owner r (f T)
+    pub releasing-unseen : (S T : Memory) (owner : ℕ) (r : Result (Unit {0}) ArenaRefusal) → Releases up S owner r T → Releases up (f S) owner r (f T)
     releasing-unseen S T owner (Ok x) (inl a) = inl (record {
       list = a.list;
       arena = arena-same S (f S) (there f u S) first_header a.list a.arena;
@@ -228,7 +228,7 @@ module _ (up : Bool) where
     })
     releasing-unseen S T owner (Err e) a = (ap f a.0, a.1, release_refused-unseen S a.2)
 
-    pair_refused-unseen : (S : Memory) (start : ℕ) (st : Strategy) (environment least most : ℕ) (e : Refusal) → PairRefused up S start st environment least most e → PairRefused up (f S) start st environment least most e
+    pair_refused-unseen : (S : Memory) (start : ℕ) (st : Strategy) (environment least most : ℕ) (e : ArenaRefusal) → PairRefused up S start st environment least most e → PairRefused up (f S) start st environment least most e
     pair_refused-unseen S start st environment least most Destroyed (inl none) = inl (none-unseen f u S start none)
     pair_refused-unseen S start st environment least most Destroyed (inr r) = inr (r.0, r.1, pairing-same S (f S) (there f u S) r.2, unclear-unseen f u S (paired r.2) r.3)
     pair_refused-unseen S start st environment least most (Short room) r =
@@ -244,7 +244,7 @@ module _ (up : Bool) where
       clear = clear-same S (f S) (there f u S) _ p.clear;
     }
 
-    pub pairing-unseen : (S T : Memory) (st : Strategy) (environment least most : ℕ) (r : Result Placed Refusal) → Pairs up S st environment least most r T → Pairs up (f S) st environment least most r (f T)
+    pub pairing-unseen : (S T : Memory) (st : Strategy) (environment least most : ℕ) (r : Result Placed ArenaRefusal) → Pairs up S st environment least most r T → Pairs up (f S) st environment least most r (f T)
     pairing-unseen S T st environment least most (Ok placed) a = (
       a.0,
       record {

@@ -3,8 +3,8 @@
 use Rattle.std.specs.Prelude.{Bool, Err, IsTrue, List, Ok, Result, ℕ, ◌++◌, ◌+◌, ◌∷◌, ◌≡◌, ◌⊎◌}
 use Rattle.dm_space.specs.Memory.{Memory}
 use Rattle.dm_blocks.specs.declared.header.Header.{Header}
-use Rattle.dm_arena.specs.declared.refusal.Refusal.{Refusal}
-use Rattle.dm_arena.specs.declared.refusal.Refusal.TheVariants.{Destroyed, NoBlock, Short}
+use Rattle.dm_arena.specs.declared.refusal.ArenaRefusal.{ArenaRefusal}
+use Rattle.dm_arena.specs.declared.refusal.ArenaRefusal.TheVariants.{Destroyed, NoBlock, Short}
 use Rattle.dm_arena.specs.declared.fit.Strategy.{Strategy}
 use Rattle.dm_blocks.specs.Chain.{Becomes, IsArena, IsClear, NoArena, first_header}
 use Rattle.dm_arena.specs.Blocks.{IsFit, IsIn, cut, fits, in_effect, join, largest, taken_segment}
@@ -24,7 +24,7 @@ abbrev pub changed : {upper : Bool} {S : Memory} {start : ℕ} {strategy : Strat
 changed {upper} {S} {start} {strategy} {n} t owner = t.before ++ (cut strategy.fit n owner t.block ++ t.after)
 
 -- no arena, or a new list that is not clear; no free block large enough among those that the strategy looks at
-abbrev pub AllocateRefused : Bool → Memory → ℕ → Strategy → ℕ → ℕ → Refusal → Type 0
+abbrev pub AllocateRefused : Bool → Memory → ℕ → Strategy → ℕ → ℕ → ArenaRefusal → Type 0
 AllocateRefused upper S start strategy n owner Destroyed = NoArena S start ⊎ ((t : Taking upper S start strategy n) × (IsClear S (changed t owner) → ⊥))
 AllocateRefused upper S start strategy n owner (Short most) =
     (L : List Header) × IsArena S start L × (most ≡ largest upper (in_effect upper L strategy) (join upper L))
@@ -33,7 +33,7 @@ AllocateRefused upper S start strategy n owner NoBlock = ⊥
 
 -- the allocation of n paragraphs, from memory S to memory T. `upper` is the setting: whether upper memory belongs to
 -- the arena
-abbrev pub Allocates : Bool → Memory → Strategy → ℕ → ℕ → Result ℕ Refusal → Memory → Type 0
+abbrev pub Allocates : Bool → Memory → Strategy → ℕ → ℕ → Result ℕ ArenaRefusal → Memory → Type 0
 Allocates upper S strategy n owner (Ok segment) T =
     (t : Taking upper S first_header strategy n) × (segment ≡ taken_segment strategy.fit n t.block + 1) × Becomes S first_header (changed t owner) T
 Allocates upper S strategy n owner (Err e) T = (T ≡ S) × AllocateRefused upper S first_header strategy n owner e

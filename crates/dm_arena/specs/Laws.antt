@@ -2,7 +2,7 @@
 use Rattle.std.specs.Prelude.{◌≡◌, ◌==◌, ℕ, Bool, false, List, Result}
 use Rattle.dm_space.specs.Memory.{Memory}
 use Rattle.dm_space.specs.Unseen.{IsUnseen}
-use Rattle.dm_arena.specs.declared.refusal.Refusal.{Refusal}
+use Rattle.dm_arena.specs.declared.refusal.ArenaRefusal.{ArenaRefusal}
 use Rattle.dm_arena.specs.declared.fit.Strategy.{Strategy}
 use Rattle.dm_arena.specs.Allocation.{Allocates}
 use Rattle.dm_arena.specs.Owned.{Frees, Resizes, Releases, is_link_block}
@@ -14,33 +14,33 @@ use Rattle.dm_arena.specs.Linking.{Links, TellsLinked}
 
 -- an allocation's answer, and the memory that it leaves, are functions of the memory and the arguments
 abbrev pub AllocationHasOneAnswer : Type 0
-AllocationHasOneAnswer = (upper : Bool) (S : Memory) (strategy : Strategy) (n owner : ℕ) (r q : Result ℕ Refusal) (T U : Memory) → Allocates upper S strategy n owner r T → Allocates upper S strategy n owner q U → (r ≡ q) × (T ≡ U)
+AllocationHasOneAnswer = (upper : Bool) (S : Memory) (strategy : Strategy) (n owner : ℕ) (r q : Result ℕ ArenaRefusal) (T U : Memory) → Allocates upper S strategy n owner r T → Allocates upper S strategy n owner q U → (r ≡ q) × (T ≡ U)
 
 -- and so are those of the other calls
 abbrev pub FreeingHasOneAnswer : Type 0
-FreeingHasOneAnswer = (upper : Bool) (S : Memory) (segment : ℕ) (r q : Result (Unit {0}) Refusal) (T U : Memory) → Frees upper S segment r T → Frees upper S segment q U → (r ≡ q) × (T ≡ U)
+FreeingHasOneAnswer = (upper : Bool) (S : Memory) (segment : ℕ) (r q : Result (Unit {0}) ArenaRefusal) (T U : Memory) → Frees upper S segment r T → Frees upper S segment q U → (r ≡ q) × (T ≡ U)
 
 abbrev pub ResizingHasOneAnswer : Type 0
-ResizingHasOneAnswer = (upper : Bool) (S : Memory) (segment n : ℕ) (r q : Result (Unit {0}) Refusal) (T U : Memory) → Resizes upper S segment n r T → Resizes upper S segment n q U → (r ≡ q) × (T ≡ U)
+ResizingHasOneAnswer = (upper : Bool) (S : Memory) (segment n : ℕ) (r q : Result (Unit {0}) ArenaRefusal) (T U : Memory) → Resizes upper S segment n r T → Resizes upper S segment n q U → (r ≡ q) × (T ≡ U)
 
 abbrev pub ReleasingHasOneAnswer : Type 0
-ReleasingHasOneAnswer = (upper : Bool) (S : Memory) (owner : ℕ) (r q : Result (Unit {0}) Refusal) (T U : Memory) → Releases upper S owner r T → Releases upper S owner q U → (r ≡ q) × (T ≡ U)
+ReleasingHasOneAnswer = (upper : Bool) (S : Memory) (owner : ℕ) (r q : Result (Unit {0}) ArenaRefusal) (T U : Memory) → Releases upper S owner r T → Releases upper S owner q U → (r ≡ q) × (T ≡ U)
 
 abbrev pub PairingHasOneAnswer : Type 0
-PairingHasOneAnswer = (upper : Bool) (S : Memory) (strategy : Strategy) (environment least most : ℕ) (r q : Result Placed Refusal) (T U : Memory) → Pairs upper S strategy environment least most r T → Pairs upper S strategy environment least most q U → (r ≡ q) × (T ≡ U)
+PairingHasOneAnswer = (upper : Bool) (S : Memory) (strategy : Strategy) (environment least most : ℕ) (r q : Result Placed ArenaRefusal) (T U : Memory) → Pairs upper S strategy environment least most r T → Pairs upper S strategy environment least most q U → (r ≡ q) × (T ≡ U)
 
 abbrev pub LinkingHasOneAnswer : Type 0
-LinkingHasOneAnswer = (S : Memory) (on : Bool) (r q : Result (Unit {0}) Refusal) (T U : Memory) → Links S on r T → Links S on q U → (r ≡ q) × (T ≡ U)
+LinkingHasOneAnswer = (S : Memory) (on : Bool) (r q : Result (Unit {0}) ArenaRefusal) (T U : Memory) → Links S on r T → Links S on q U → (r ≡ q) × (T ≡ U)
 
 -- no call depends on what no program sees, or changes it
 pub record CallsIgnoreUnseen (change : Memory → Memory) : Type 0 where
-  pub allocation : (upper : Bool) (S T : Memory) (strategy : Strategy) (n owner : ℕ) (r : Result ℕ Refusal) → Allocates upper S strategy n owner r T → Allocates upper (change S) strategy n owner r (change T)
-  pub freeing : (upper : Bool) (S T : Memory) (segment : ℕ) (r : Result (Unit {0}) Refusal) → Frees upper S segment r T → Frees upper (change S) segment r (change T)
-  pub resizing : (upper : Bool) (S T : Memory) (segment n : ℕ) (r : Result (Unit {0}) Refusal) → Resizes upper S segment n r T → Resizes upper (change S) segment n r (change T)
-  pub releasing : (upper : Bool) (S T : Memory) (owner : ℕ) (r : Result (Unit {0}) Refusal) → Releases upper S owner r T → Releases upper (change S) owner r (change T)
-  pub pairing : (upper : Bool) (S T : Memory) (strategy : Strategy) (environment least most : ℕ) (r : Result Placed Refusal) → Pairs upper S strategy environment least most r T → Pairs upper (change S) strategy environment least most r (change T)
-  pub telling : (S : Memory) (r : Result Bool Refusal) → TellsLinked S r → TellsLinked (change S) r
-  pub linking : (S T : Memory) (on : Bool) (r : Result (Unit {0}) Refusal) → Links S on r T → Links (change S) on r (change T)
+  pub allocation : (upper : Bool) (S T : Memory) (strategy : Strategy) (n owner : ℕ) (r : Result ℕ ArenaRefusal) → Allocates upper S strategy n owner r T → Allocates upper (change S) strategy n owner r (change T)
+  pub freeing : (upper : Bool) (S T : Memory) (segment : ℕ) (r : Result (Unit {0}) ArenaRefusal) → Frees upper S segment r T → Frees upper (change S) segment r (change T)
+  pub resizing : (upper : Bool) (S T : Memory) (segment n : ℕ) (r : Result (Unit {0}) ArenaRefusal) → Resizes upper S segment n r T → Resizes upper (change S) segment n r (change T)
+  pub releasing : (upper : Bool) (S T : Memory) (owner : ℕ) (r : Result (Unit {0}) ArenaRefusal) → Releases upper S owner r T → Releases upper (change S) owner r (change T)
+  pub pairing : (upper : Bool) (S T : Memory) (strategy : Strategy) (environment least most : ℕ) (r : Result Placed ArenaRefusal) → Pairs upper S strategy environment least most r T → Pairs upper (change S) strategy environment least most r (change T)
+  pub telling : (S : Memory) (r : Result Bool ArenaRefusal) → TellsLinked S r → TellsLinked (change S) r
+  pub linking : (S T : Memory) (on : Bool) (r : Result (Unit {0}) ArenaRefusal) → Links S on r T → Links (change S) on r (change T)
 
 abbrev pub IgnoresUnseen : Type 0
 IgnoresUnseen = (change : Memory → Memory) → IsUnseen change → CallsIgnoreUnseen change

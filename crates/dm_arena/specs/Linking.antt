@@ -3,12 +3,12 @@
 use Rattle.std.specs.Prelude.{◌≡◌, ℕ, Bool, true, false, List, [], ◌∷◌, ◌++◌, ◌⊎◌, Result, Ok, Err}
 use Rattle.dm_space.specs.Memory.{Memory}
 use Rattle.dm_blocks.specs.declared.header.Header.{Header}
-use Rattle.dm_arena.specs.declared.refusal.Refusal.{Refusal}
-use Rattle.dm_arena.specs.declared.refusal.Refusal.TheVariants.{Destroyed}
+use Rattle.dm_arena.specs.declared.refusal.ArenaRefusal.{ArenaRefusal}
+use Rattle.dm_arena.specs.declared.refusal.ArenaRefusal.TheVariants.{Destroyed}
 use Rattle.dm_blocks.specs.Chain.{Becomes, IsArena, IsArenaBehind, NoArena, NoArenaBehind, first_header, is_linked, link_header, next}
 
 -- whether the arena is linked
-abbrev pub TellsLinked : Memory → Result Bool Refusal → Type 0
+abbrev pub TellsLinked : Memory → Result Bool ArenaRefusal → Type 0
 TellsLinked S (Ok on) = (L : List Header) × IsArena S first_header L × (on ≡ is_linked L)
 TellsLinked S (Err e) = (e ≡ Destroyed) × NoArena S first_header
 
@@ -56,7 +56,7 @@ LinkRefused S true = NoArena S first_header ⊎ ((L : List Header) × IsArena S 
 LinkRefused S false = NoArena S first_header
 
 -- the linking of the arena with upper memory, or its parting, from memory S to memory T
-abbrev pub Links : Memory → Bool → Result (Unit {0}) Refusal → Memory → Type 0
+abbrev pub Links : Memory → Bool → Result (Unit {0}) ArenaRefusal → Memory → Type 0
 Links S true (Ok u) T = IsSo S true T ⊎ BecomesLinked S T
 Links S false (Ok u) T = IsSo S false T ⊎ BecomesUnlinked S T
 Links S on (Err e) T = (T ≡ S) × (e ≡ Destroyed) × LinkRefused S on

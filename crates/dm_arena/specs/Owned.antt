@@ -3,8 +3,8 @@
 use Rattle.std.specs.Prelude.{Bool, Err, List, Ok, Result, [], false, if◌then◌else◌, true, ℕ, ◌&&◌, ◌++◌, ◌+◌, ◌<◌, ◌==◌, ◌∷◌, ◌≡◌, ◌≤◌, ◌⊎◌}
 use Rattle.dm_space.specs.Memory.{Memory}
 use Rattle.dm_blocks.specs.declared.header.Header.{Header}
-use Rattle.dm_arena.specs.declared.refusal.Refusal.{Refusal}
-use Rattle.dm_arena.specs.declared.refusal.Refusal.TheVariants.{Destroyed, NoBlock, Short}
+use Rattle.dm_arena.specs.declared.refusal.ArenaRefusal.{ArenaRefusal}
+use Rattle.dm_arena.specs.declared.refusal.ArenaRefusal.TheVariants.{Destroyed, NoBlock, Short}
 use Rattle.dm_blocks.specs.Chain.{Becomes, DiffersInHeaders, IsArena, IsArenaBehind, IsChain, IsClear, NoArena, NoArenaBehind, NoBlockAt, first_header, is_free, is_parted, link_header}
 use Rattle.dm_arena.specs.Blocks.{cut_low, merge}
 
@@ -31,14 +31,14 @@ freed b = record b { owner = 0 }
 abbrev pub IsNoBlock : Bool → List Header → ℕ → Type 0
 IsNoBlock upper L segment = NoBlockAt L segment ⊎ (is_link_block upper segment ≡ true)
 
-abbrev pub FreeRefused : Bool → Memory → ℕ → ℕ → Refusal → Type 0
+abbrev pub FreeRefused : Bool → Memory → ℕ → ℕ → ArenaRefusal → Type 0
 FreeRefused upper S start segment Destroyed = NoArena S start
 FreeRefused upper S start segment (Short most) = ⊥
 FreeRefused upper S start segment NoBlock = (L : List Header) × IsArena S start L × IsNoBlock upper L segment
 
 -- the freeing of the block at a segment, from memory S to memory T. `upper` is the setting: whether upper memory
 -- belongs to the arena
-abbrev pub Frees : Bool → Memory → ℕ → Result (Unit {0}) Refusal → Memory → Type 0
+abbrev pub Frees : Bool → Memory → ℕ → Result (Unit {0}) ArenaRefusal → Memory → Type 0
 Frees upper S segment (Ok u) T = (b : BlockAt upper S first_header segment) × Becomes S first_header (b.before ++ freed b.block ∷ b.after) T
 Frees upper S segment (Err e) T = (T ≡ S) × FreeRefused upper S first_header segment e
 
@@ -74,13 +74,13 @@ abbrev pub resized : {upper : Bool} {S : Memory} {start : ℕ} {segment : ℕ} �
 resized {upper} {S} {start} {segment} r n = r.before ++ (cut_low n r.block.owner (absorb r.block r.run) ++ r.after)
 
 -- destroyed, no such block, or short with the size of the block and its run; nothing changes
-abbrev pub ResizeRefused : Bool → Memory → ℕ → ℕ → ℕ → Refusal → Type 0
+abbrev pub ResizeRefused : Bool → Memory → ℕ → ℕ → ℕ → ArenaRefusal → Type 0
 ResizeRefused upper S start segment n Destroyed = NoArena S start ⊎ ((r : BlockRunAt upper S start segment) × (n ≤ (absorb r.block r.run).size) × (IsClear S (resized r n) → ⊥))
 ResizeRefused upper S start segment n (Short most) = (r : BlockRunAt upper S start segment) × (most ≡ (absorb r.block r.run).size) × (most < n)
 ResizeRefused upper S start segment n NoBlock = (L : List Header) × IsArena S start L × IsNoBlock upper L segment
 
 -- the resizing of the block at a segment to n paragraphs, from memory S to memory T
-abbrev pub Resizes : Bool → Memory → ℕ → ℕ → Result (Unit {0}) Refusal → Memory → Type 0
+abbrev pub Resizes : Bool → Memory → ℕ → ℕ → Result (Unit {0}) ArenaRefusal → Memory → Type 0
 Resizes upper S segment n (Ok u) T = (r : BlockRunAt upper S first_header segment) × (n ≤ (absorb r.block r.run).size) × Becomes S first_header (resized r n) T
 Resizes upper S segment n (Err e) T = (T ≡ S) × ResizeRefused upper S first_header segment n e
 
@@ -115,6 +115,6 @@ abbrev pub ReleaseRefused : Bool → Memory → Type 0
 ReleaseRefused upper S = NoArena S first_header ⊎ ((L : List Header) × IsArena S first_header L × (is_parted upper L ≡ true) × NoArenaBehind S L link_header)
 
 -- the freeing of an owner's blocks, from memory S to memory T
-abbrev pub Releases : Bool → Memory → ℕ → Result (Unit {0}) Refusal → Memory → Type 0
+abbrev pub Releases : Bool → Memory → ℕ → Result (Unit {0}) ArenaRefusal → Memory → Type 0
 Releases upper S owner (Ok u) T = ReleasesOne upper S owner T ⊎ ReleasesBoth upper S owner T
 Releases upper S owner (Err e) T = (T ≡ S) × (e ≡ Destroyed) × ReleaseRefused upper S

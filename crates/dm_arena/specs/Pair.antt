@@ -4,8 +4,8 @@ use Rattle.std.specs.Prelude.{Bool, ◌≡◌, ℕ, ◌+◌, ◌≤◌, ◌⊎�
 use Rattle.dm_space.specs.Memory.{Memory}
 use Rattle.dm_blocks.specs.declared.header.Header.{Header}
 use Rattle.dm_arena.specs.declared.fit.Strategy.{Strategy}
-use Rattle.dm_arena.specs.declared.refusal.Refusal.{Refusal}
-use Rattle.dm_arena.specs.declared.refusal.Refusal.TheVariants.{Destroyed, Short, NoBlock}
+use Rattle.dm_arena.specs.declared.refusal.ArenaRefusal.{ArenaRefusal}
+use Rattle.dm_arena.specs.declared.refusal.ArenaRefusal.TheVariants.{Destroyed, Short, NoBlock}
 use Rattle.dm_blocks.specs.Chain.{first_header, IsArena, NoArena, IsClear, Becomes}
 use Rattle.dm_arena.specs.Blocks.{in_effect, join, largest, IsFit, cut, taken_segment}
 use Rattle.dm_arena.specs.Allocation.{Taking, changed}
@@ -31,7 +31,7 @@ abbrev pub paired : {upper : Bool} {S : Memory} {start : ℕ} {strategy : Strate
 paired {upper} {S} {start} {strategy} {environment} {least} {most} {owner} {size} p = p.before ++ (cut strategy.fit size owner p.block ++ p.after)
 
 -- no arena, or a last list that is not clear; no room for both blocks
-abbrev pub PairRefused : Bool → Memory → ℕ → Strategy → ℕ → ℕ → ℕ → Refusal → Type 0
+abbrev pub PairRefused : Bool → Memory → ℕ → Strategy → ℕ → ℕ → ℕ → ArenaRefusal → Type 0
 PairRefused upper S start strategy environment least most Destroyed =
     NoArena S start
     ⊎ ((owner : ℕ) × (size : ℕ) × (p : Pairing upper S start strategy environment least most owner size) × (IsClear S (paired p) → ⊥))
@@ -68,7 +68,7 @@ placed_of pair = record { environment = pair.environment; program = pair.program
 
 -- a pair planned and written, from memory S to memory T. `upper` is the setting: whether upper memory belongs to the
 -- arena
-abbrev pub Pairs : Bool → Memory → Strategy → ℕ → ℕ → ℕ → Result Placed Refusal → Memory → Type 0
+abbrev pub Pairs : Bool → Memory → Strategy → ℕ → ℕ → ℕ → Result Placed ArenaRefusal → Memory → Type 0
 Pairs upper S strategy environment least most (Ok placed) T =
     (pair : Planned) × (p : IsPair upper S first_header strategy environment least most pair) × (placed ≡ placed_of pair)
     × Becomes S first_header (paired p.pairing) T

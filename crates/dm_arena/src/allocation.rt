@@ -8,7 +8,7 @@ ghost use Rattle.dm_arena.specs.inner.Walks.{IsPlan, Placing};
 use crate::cut::{Cut, cut_of, taken_of, write_cut};
 use crate::fit::{Strategy, choose, in_effect};
 use crate::joined::join_all;
-use crate::refusal::Refusal;
+use crate::refusal::ArenaRefusal;
 use crate::standing::may_split;
 use dm_blocks::{FIRST, is_arena, is_last};
 use dm_space::Space;
@@ -27,24 +27,24 @@ fn plan_allocation(
     n: u16,
     owner: u16,
     upper: bool,
-) -> Result<Plan, Refusal>
+) -> Result<Plan, ArenaRefusal>
     ensures plan { MatchResult result (λ plan. IsPlan upper space.now.memory first_header strategy n owner plan) (λ e. AllocateRefused upper space.now.memory first_header strategy n owner e) }
     ensures first { IfOk result (λ plan. next plan.cut.first ≤ 0xFFFF) }
     ensures second { IfOk result (λ plan. MatchOption plan.cut.second (Unit {0}) (λ c. next c ≤ 0xFFFF)) }
 {
     if !is_arena(space) {
-        return Err(Refusal::Destroyed);
+        return Err(ArenaRefusal::Destroyed);
     }
     let searched = in_effect(space, strategy, upper);
     let choice = choose(space, searched, n, None, upper);
     let Some(block) = choice.block else {
-        return Err(Refusal::Short {
+        return Err(ArenaRefusal::Short {
             largest: choice.largest,
         });
     };
     let cut = cut_of(strategy.fit, n, owner, block);
     if !may_split(space, FIRST, None, cut.second, upper) {
-        return Err(Refusal::Destroyed);
+        return Err(ArenaRefusal::Destroyed);
     }
     Ok(Plan {
         cut,
@@ -89,7 +89,7 @@ pub fn allocate(
     n: u16,
     owner: u16,
     upper: bool,
-) -> Result<u16, Refusal>
+) -> Result<u16, ArenaRefusal>
     ensures memory { Allocates upper space.old.memory strategy n owner result space.new.memory }
     ensures scratch { space.new.scratch ≡ space.old.scratch }
 {

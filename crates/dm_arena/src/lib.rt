@@ -28,4 +28,4 @@ pub use laws::{
 pub use linking::{link, linked};
 pub use owned::{free, free_all, resize};
 pub use pair::{Pair, plan_pair, write_pair};
-pub use refusal::Refusal;
+pub use refusal::ArenaRefusal;

@@ -2,7 +2,7 @@
 ghost use Rattle.std.specs.Prelude.{◌≡◌};
 ghost use Rattle.dm_arena.specs.Linking.{Links, TellsLinked};
 
-use crate::refusal::Refusal;
+use crate::refusal::ArenaRefusal;
 use crate::writing::write_header;
 use dm_blocks::{Entry, before_link, has_second, is_arena, is_linked};
 use dm_space::Space;
@@ -13,11 +13,11 @@ use dm_space::Space;
 /// # Errors
 ///
 /// `Destroyed` where memory spells no clear list.
-pub fn linked(space: &Space) -> Result<bool, Refusal>
+pub fn linked(space: &Space) -> Result<bool, ArenaRefusal>
     ensures { TellsLinked space.now.memory result }
 {
     if !is_arena(space) {
-        return Err(Refusal::Destroyed);
+        return Err(ArenaRefusal::Destroyed);
     }
     Ok(is_linked(space))
 }
@@ -32,21 +32,21 @@ pub fn linked(space: &Space) -> Result<bool, Refusal>
 /// `Destroyed` where memory spells no clear list; or, to link, where its last block doesn't end at
 /// the link block's header, or memory spells no second list there, or the first followed by the
 /// second isn't clear. Then no byte changes.
-pub fn link(space: &mut Space, on: bool) -> Result<(), Refusal>
+pub fn link(space: &mut Space, on: bool) -> Result<(), ArenaRefusal>
     ensures memory { Links space.old.memory on result space.new.memory }
     ensures scratch { space.new.scratch ≡ space.old.scratch }
 {
     if !is_arena(space) {
-        return Err(Refusal::Destroyed);
+        return Err(ArenaRefusal::Destroyed);
     }
     if is_linked(space) == on {
         return Ok(());
     }
     let Some(entry) = before_link(space) else {
-        return Err(Refusal::Destroyed);
+        return Err(ArenaRefusal::Destroyed);
     };
     if on && !has_second(space) {
-        return Err(Refusal::Destroyed);
+        return Err(ArenaRefusal::Destroyed);
     }
     write_header(space, Entry { last: !on, ..entry });
     Ok(())

@@ -8,7 +8,7 @@ ghost use Rattle.dm_arena.specs.inner.Walks.{FindsOther, IsGrowable, IsGrown};
 
 use crate::cut::{Cut, cut_of, write_cut};
 use crate::fit::Fit;
-use crate::refusal::Refusal;
+use crate::refusal::ArenaRefusal;
 use crate::standing::may_split_outside;
 use dm_blocks::{Entry, FIRST, Header, LINK, entry_at, find, has_second, is_arena, is_linked};
 use dm_space::Space;
@@ -34,15 +34,15 @@ fn find_block(space: &Space, segment: u16, upper: bool) -> Option<Entry>
 ///
 /// `Destroyed` where memory spells no clear list, else `NoBlock` where no block of the list begins
 /// at the segment, or the link block does. A call that fails changes no byte.
-pub fn free(space: &mut Space, segment: u16, upper: bool) -> Result<(), Refusal>
+pub fn free(space: &mut Space, segment: u16, upper: bool) -> Result<(), ArenaRefusal>
     ensures memory { Frees upper space.old.memory segment result space.new.memory }
     ensures scratch { space.new.scratch ≡ space.old.scratch }
 {
     if !is_arena(space) {
-        return Err(Refusal::Destroyed);
+        return Err(ArenaRefusal::Destroyed);
     }
     let Some(entry) = find_block(space, segment, upper) else {
-        return Err(Refusal::NoBlock);
+        return Err(ArenaRefusal::NoBlock);
     };
     let cut = Cut {
         first: Header {
@@ -87,26 +87,26 @@ fn grow(space: &Space, entry: Entry, upper: bool) -> Entry
 /// `Destroyed` where memory spells no clear list; else `NoBlock` where no block of the list begins
 /// at the segment, or the link block does; else `Short` where n is over the block's size with its run, which it
 /// returns; else `Destroyed` where the new list would not be clear. A call that fails changes no byte.
-pub fn resize(space: &mut Space, segment: u16, n: u16, upper: bool) -> Result<(), Refusal>
+pub fn resize(space: &mut Space, segment: u16, n: u16, upper: bool) -> Result<(), ArenaRefusal>
     ensures memory { Resizes upper space.old.memory segment n result space.new.memory }
     ensures scratch { space.new.scratch ≡ space.old.scratch }
 {
     if !is_arena(space) {
-        return Err(Refusal::Destroyed);
+        return Err(ArenaRefusal::Destroyed);
     }
     let Some(block) = find_block(space, segment, upper) else {
-        return Err(Refusal::NoBlock);
+        return Err(ArenaRefusal::NoBlock);
     };
     let grown = grow(space, block, upper);
     if n > grown.header.size {
-        return Err(Refusal::Short {
+        return Err(ArenaRefusal::Short {
             largest: grown.header.size,
         });
     }
     let cut = cut_of(Fit::First, n, grown.header.owner, grown.header);
     let end = grown.header.next();
     if !may_split_outside(space, FIRST, block.header.segment, end, cut.second) {
-        return Err(Refusal::Destroyed);
+        return Err(ArenaRefusal::Destroyed);
     }
     write_cut(space, cut, grown.last);
     Ok(())
@@ -157,19 +157,19 @@ fn release(space: &mut Space, first: u16, owner: u16)
 ///
 /// `Destroyed` where memory spells no clear list, or where the list isn't linked and memory spells no
 /// second one, or the first followed by the second isn't clear; then no byte changes.
-pub fn free_all(space: &mut Space, owner: u16, upper: bool) -> Result<(), Refusal>
+pub fn free_all(space: &mut Space, owner: u16, upper: bool) -> Result<(), ArenaRefusal>
     ensures memory { Releases upper space.old.memory owner result space.new.memory }
     ensures scratch { space.new.scratch ≡ space.old.scratch }
 {
     if !is_arena(space) {
-        return Err(Refusal::Destroyed);
+        return Err(ArenaRefusal::Destroyed);
     }
     if !upper || is_linked(space) {
         release(space, FIRST, owner);
         return Ok(());
     }
     if !has_second(space) {
-        return Err(Refusal::Destroyed);
+        return Err(ArenaRefusal::Destroyed);
     }
     release(space, FIRST, owner);
     release(space, LINK, owner);

@@ -11,7 +11,7 @@ ghost use Rattle.dm_arena.specs.Pair.{paired, IsPair, IsPlannedOn, PairRefused};
 use crate::cut::{Cut, cut_of, taken_of, write_cut};
 use crate::fit::{Fit, Spoken, Strategy, choose, in_effect, in_effect_beside};
 use crate::joined::join_all;
-use crate::refusal::Refusal;
+use crate::refusal::ArenaRefusal;
 use crate::standing::may_split;
 use dm_blocks::{FIRST, Header, is_arena, is_last};
 use dm_space::Space;
@@ -141,15 +141,15 @@ pub fn plan_pair(
     least: u32,
     most: u32,
     upper: bool,
-) -> Result<Pair, Refusal>
+) -> Result<Pair, ArenaRefusal>
     ensures { MatchResult result (λ pair. IsPair upper space.now.memory first_header strategy environment_paragraphs least most pair) (λ e. PairRefused upper space.now.memory first_header strategy environment_paragraphs least most e) }
 {
     if !is_arena(space) {
-        return Err(Refusal::Destroyed);
+        return Err(ArenaRefusal::Destroyed);
     }
     let searched = in_effect(space, strategy, upper);
     let choice = choose(space, searched, environment_paragraphs, None, upper);
-    let short = Refusal::Short {
+    let short = ArenaRefusal::Short {
         largest: choice.largest,
     };
     let Some(block) = choice.block else {
@@ -171,7 +171,7 @@ pub fn plan_pair(
     let first = cut_of(strategy.fit, environment_paragraphs, program, block);
     let second = cut_of(strategy.fit, size, program, whole);
     if !are_clear(space, first, second, upper) {
-        return Err(Refusal::Destroyed);
+        return Err(ArenaRefusal::Destroyed);
     }
     Ok(Pair {
         environment: environment_segment,

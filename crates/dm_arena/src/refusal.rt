@@ -3,7 +3,7 @@ use thiserror::Error;
 
 /// Why an arena call failed. It has changed no byte.
 #[derive(Clone, Copy, Debug, PartialEq, Eq, Error)]
-pub enum Refusal {
+pub enum ArenaRefusal {
     /// Memory spells no list of blocks, or none that is clear, or the list that the call would
     /// leave is not clear (DOS error 7, "Memory control blocks destroyed").
     #[error("arena destroyed")]

@@ -2,7 +2,9 @@
 
 use crate::checks::same;
 use crate::memory::new_space;
-use dm_arena::{Fit, Refusal, Strategy, allocate, free, free_all, plan_pair, resize, write_pair};
+use dm_arena::{
+    ArenaRefusal, Fit, Strategy, allocate, free, free_all, plan_pair, resize, write_pair,
+};
 use dm_blocks::{Entry, Header, Step, walk};
 use dm_space::Space;
 use std::process::Abort;
@@ -46,7 +48,7 @@ fn loaded(space: &mut Space) {
 }
 
 /// The same, once its block is resized to 1000h paragraphs.
-fn shrunk(space: &mut Space) -> Result<(), Refusal> {
+fn shrunk(space: &mut Space) -> Result<(), ArenaRefusal> {
     loaded(space);
     resize(space, OWNER, 0x1000, false)
 }
@@ -77,7 +79,7 @@ fn resized_block_leaves_the_rest_free(rt: HostRuntime) -> Result<(), Fail> {
             OWNER,
             false,
         ),
-        Err(Refusal::Short { largest: 0 }),
+        Err(ArenaRefusal::Short { largest: 0 }),
     );
     same(
         &rt,
@@ -96,7 +98,7 @@ fn resized_block_leaves_the_rest_free(rt: HostRuntime) -> Result<(), Fail> {
             OWNER,
             false,
         ),
-        Err(Refusal::Short { largest: 0x8EFC }),
+        Err(ArenaRefusal::Short { largest: 0x8EFC }),
     );
     Ok(())
 }
@@ -110,7 +112,7 @@ fn block_grows_back_over_the_rest(rt: HostRuntime) -> Result<(), Fail> {
         &rt,
         "resize",
         resize(&mut space, OWNER, 0x9EFE, false),
-        Err(Refusal::Short { largest: 0x9EFD }),
+        Err(ArenaRefusal::Short { largest: 0x9EFD }),
     );
     stands(&rt, &space, entry(true, 0x1103, 0, 0x8EFC));
     same(
@@ -221,13 +223,13 @@ fn nothing_is_freed_inside_a_block(rt: HostRuntime) -> Result<(), Fail> {
         &rt,
         "free",
         free(&mut space, 0x1105, false),
-        Err(Refusal::NoBlock),
+        Err(ArenaRefusal::NoBlock),
     );
     same(
         &rt,
         "free",
         free(&mut space, 0, false),
-        Err(Refusal::NoBlock),
+        Err(ArenaRefusal::NoBlock),
     );
     Ok(())
 }
@@ -252,25 +254,25 @@ fn broken_signature_destroys_the_arena(rt: HostRuntime) -> Result<(), Fail> {
             OWNER,
             false,
         ),
-        Err(Refusal::Destroyed),
+        Err(ArenaRefusal::Destroyed),
     );
     same(
         &rt,
         "free",
         free(&mut space, OWNER, false),
-        Err(Refusal::Destroyed),
+        Err(ArenaRefusal::Destroyed),
     );
     same(
         &rt,
         "resize",
         resize(&mut space, OWNER, 0, false),
-        Err(Refusal::Destroyed),
+        Err(ArenaRefusal::Destroyed),
     );
     same(
         &rt,
         "free_all",
         free_all(&mut space, OWNER, false),
-        Err(Refusal::Destroyed),
+        Err(ArenaRefusal::Destroyed),
     );
     same(&rt, "byte in memory", space.peek(0x102, 0), 0);
     let mut headers = walk(&space);
@@ -365,7 +367,7 @@ fn two_blocks_share_what_is_left(rt: HostRuntime) -> Result<(), Fail> {
             &rt,
             "refusal",
             refusal,
-            Some(Refusal::Short { largest: 0x8EFC }),
+            Some(ArenaRefusal::Short { largest: 0x8EFC }),
         );
     }
     write_two(&rt, &mut space);

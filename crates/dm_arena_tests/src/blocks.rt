@@ -6,7 +6,9 @@
 use self::Call::{Allocate, Free, FreeAll, Pair, Resize};
 use crate::checks::same;
 use crate::memory::new_space;
-use dm_arena::{Fit, Refusal, Strategy, allocate, free, free_all, plan_pair, resize, write_pair};
+use dm_arena::{
+    ArenaRefusal, Fit, Strategy, allocate, free, free_all, plan_pair, resize, write_pair,
+};
 use dm_pool::NewError;
 use dm_space::Space;
 use std::alloc::Global;
@@ -86,7 +88,7 @@ fn pair(
     environment: u16,
     least: u32,
     most: u32,
-) -> Result<(u16, u16, u16), Refusal> {
+) -> Result<(u16, u16, u16), ArenaRefusal> {
     let pair = plan_pair(space, strategy, environment, least, most, false)?;
     let placed = (pair.environment(), pair.program(), pair.size());
     write_pair(space, pair, false);
@@ -95,7 +97,7 @@ fn pair(
 
 /// Makes a call for the owner 7. It answers the segment of an allocated block, of two blocks where
 /// they are and the second one's size, else zeros.
-pub(crate) fn answer(space: &mut Space, call: Call) -> Result<(u16, u16, u16), Refusal> {
+pub(crate) fn answer(space: &mut Space, call: Call) -> Result<(u16, u16, u16), ArenaRefusal> {
     match call {
         Allocate(strategy, n) => Ok((allocate(space, strategy, n, 7, false)?, 0, 0)),
         Free(segment) => free(space, segment, false).map(|()| (0, 0, 0)),
@@ -111,7 +113,7 @@ fn leaves(
     alloc: Global,
     before: &[(u16, u16)],
     call: Call,
-    wanted: Result<(u16, u16, u16), Refusal>,
+    wanted: Result<(u16, u16, u16), ArenaRefusal>,
     after: &[(u16, u16)],
 ) -> Result<(), NewError> {
     let mut space = spelled(alloc, before)?;
@@ -461,11 +463,11 @@ fn refused_calls_leave_the_list(rt: HostRuntime) -> Result<(), Fail> {
         Strategy::everywhere(Fit::Best),
         Strategy::everywhere(Fit::Last),
     ];
-    let none = Refusal::NoBlock;
-    let broken = Refusal::Destroyed;
-    let short = |largest| Refusal::Short { largest };
+    let none = ArenaRefusal::NoBlock;
+    let broken = ArenaRefusal::Destroyed;
+    let short = |largest| ArenaRefusal::Short { largest };
     let runs = [(0, 2), (0, 3), (9, 1), (0, 1), (0, 1)];
-    let rows: [(&[(u16, u16)], Call, Refusal); 22] = [
+    let rows: [(&[(u16, u16)], Call, ArenaRefusal); 22] = [
         // what is told is the largest block once runs are joined
         (&runs, Allocate(first, 7), short(6)),
         (&runs, Allocate(best, 7), short(6)),
@@ -544,7 +546,7 @@ fn bytes_that_spell_no_list(rt: HostRuntime) -> Result<(), Fail> {
         wanted.poke(0x100, offset, byte);
         for call in calls {
             let found = answer(&mut space, call);
-            let refused = Err(Refusal::Destroyed);
+            let refused = Err(ArenaRefusal::Destroyed);
             same(
                 &rt,
                 "answer",

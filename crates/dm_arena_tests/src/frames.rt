@@ -8,7 +8,7 @@ use crate::blocks::Call::{self, Allocate, Free, FreeAll, Pair, Resize};
 use crate::blocks::{answer, spell, spells};
 use crate::checks::same;
 use crate::memory::new_space;
-use dm_arena::{Fit, Refusal, Strategy, allocate};
+use dm_arena::{ArenaRefusal, Fit, Strategy, allocate};
 use dm_blocks::{Entry, Header, Step, walk};
 use dm_pool::{Block, NewError};
 use dm_space::Space;
@@ -88,7 +88,7 @@ fn leaves(
     windows: Windows,
     before: &[(u16, u16)],
     call: Call,
-    wanted: Result<(u16, u16, u16), Refusal>,
+    wanted: Result<(u16, u16, u16), ArenaRefusal>,
     after: &[(u16, u16)],
 ) -> Result<(), NewError> {
     for a20 in [false, true] {
@@ -425,7 +425,7 @@ fn new_headers_need_a_place_of_their_own(rt: HostRuntime) -> Result<(), Fail> {
         ),
     ];
     for (windows, before, call) in rows {
-        let refusal = Err(Refusal::Destroyed);
+        let refusal = Err(ArenaRefusal::Destroyed);
         leaves(&rt, rt.alloc(), windows, before, call, refusal, before)?;
     }
     Ok(())
@@ -470,7 +470,7 @@ fn lists_that_are_not_clear(rt: HostRuntime) -> Result<(), Fail> {
         let mut space = framed(rt.alloc(), false, windows, blocks)?;
         for call in calls {
             let found = answer(&mut space, call);
-            let refused = Err(Refusal::Destroyed);
+            let refused = Err(ArenaRefusal::Destroyed);
             same(
                 &rt,
                 "answer",
@@ -574,6 +574,6 @@ fn longest_lists_are_looked_through(rt: HostRuntime) -> Result<(), Fail> {
     let [first, _, _, _] = space.windows();
     show(&mut space, 3, first);
     let found = allocate(&mut space, Strategy::everywhere(Fit::First), 0, 7, false);
-    same(&rt, "answer", found, Err(Refusal::Destroyed));
+    same(&rt, "answer", found, Err(ArenaRefusal::Destroyed));
     Ok(())
 }

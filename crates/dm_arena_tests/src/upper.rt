@@ -9,7 +9,7 @@ use self::Act::{Allocates, Frees, FreesAll, Links, Pairs, Resizes, Stands, Tells
 use crate::checks::same;
 use crate::memory::new_space;
 use dm_arena::{
-    Area, Fit, Refusal, Strategy, allocate, free, free_all, link, linked, plan_pair, resize,
+    Area, ArenaRefusal, Fit, Strategy, allocate, free, free_all, link, linked, plan_pair, resize,
     write_pair,
 };
 use dm_pool::{Block, NewError};
@@ -22,29 +22,29 @@ use std::test::Fail;
 #[derive(Clone, Copy, Debug, PartialEq, Eq)]
 enum Act {
     /// Whether the lists are linked.
-    Tells(Result<bool, Refusal>),
-    Links(bool, Result<(), Refusal>),
+    Tells(Result<bool, ArenaRefusal>),
+    Links(bool, Result<(), ArenaRefusal>),
     /// For the owner 0103h.
-    Allocates(Strategy, u16, Result<u16, Refusal>),
+    Allocates(Strategy, u16, Result<u16, ArenaRefusal>),
     /// The sizes of the environment and of the program, and where both lie.
-    Pairs(Strategy, u16, u32, Result<(u16, u16), Refusal>),
-    Resizes(u16, u16, Result<(), Refusal>),
-    Frees(u16, Result<(), Refusal>),
-    FreesAll(u16, Result<(), Refusal>),
+    Pairs(Strategy, u16, u32, Result<(u16, u16), ArenaRefusal>),
+    Resizes(u16, u16, Result<(), ArenaRefusal>),
+    Frees(u16, Result<(), ArenaRefusal>),
+    FreesAll(u16, Result<(), ArenaRefusal>),
     /// The header at a segment has this signature, owner and size.
     Stands(u16, u8, u16, u16),
     /// Such a header is written.
     Writes(u16, u8, u16, u16),
 }
 
-const OK: Result<(), Refusal> = Ok(());
+const OK: Result<(), ArenaRefusal> = Ok(());
 
-const BROKEN: Refusal = Refusal::Destroyed;
+const BROKEN: ArenaRefusal = ArenaRefusal::Destroyed;
 
-const NONE: Refusal = Refusal::NoBlock;
+const NONE: ArenaRefusal = ArenaRefusal::NoBlock;
 
-fn short(largest: u16) -> Refusal {
-    Refusal::Short { largest }
+fn short(largest: u16) -> ArenaRefusal {
+    ArenaRefusal::Short { largest }
 }
 
 fn upper(fit: Fit) -> Strategy {
@@ -73,7 +73,7 @@ fn pair(
     strategy: Strategy,
     environment: u16,
     size: u32,
-) -> Result<(u16, u16), Refusal> {
+) -> Result<(u16, u16), ArenaRefusal> {
     let pair = plan_pair(space, strategy, environment, size, size, true)?;
     let placed = (pair.environment(), pair.program());
     write_pair(space, pair, true);

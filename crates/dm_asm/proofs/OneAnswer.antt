@@ -5,8 +5,8 @@ use Rattle.dm_lines.specs.declared.token.Name as Name'
 use Rattle.dm_lines.specs.declared.term.Value.{Value}
 use Rattle.dm_lines.specs.Statements.{Item, nothing, instruction, bytes, words}
 use Rattle.dm_words.specs.Laws.{WordsAreOne}
-use Rattle.dm_asm.specs.declared.refusal.Refusal.{Refusal}
-use Rattle.dm_asm.specs.declared.refusal.Refusal.TheVariants as refusal
+use Rattle.dm_asm.specs.declared.refusal.AssemblyRefusal.{AssemblyRefusal}
+use Rattle.dm_asm.specs.declared.refusal.AssemblyRefusal.TheVariants as refusal
 use Rattle.dm_asm.specs.Lines.{lines_of}
 use Rattle.dm_asm.specs.Labels.{Label, IsFree, place_of, term_place}
 use Rattle.dm_asm.specs.Codes.{Codes, Knows, placed, value_word}
@@ -81,21 +81,21 @@ good_at one lines front line back ys xs e laid read =
     }
 
 -- what is wrong with a line in the first pass
-data Bad (line : List ℕ) (xs : List Sized) (n : ℕ) : Refusal → Type 0 where
+data Bad (line : List ℕ) (xs : List Sized) (n : ℕ) : AssemblyRefusal → Type 0 where
   no_statement : ((x : Sized) → Reads line x → ⊥) → Bad line xs n (refusal.Syntax n)
   old_label : (x : Sized) → Reads line x → (IsFree x.statement.label (labels_of xs) → ⊥) → Bad line xs n (refusal.Twice n)
 
-not_bad : WordsAreOne → (line : List ℕ) (xs : List Sized) (n : ℕ) (e : Refusal) → Bad line xs n e → IsGood line xs → ⊥
+not_bad : WordsAreOne → (line : List ℕ) (xs : List Sized) (n : ℕ) (e : AssemblyRefusal) → Bad line xs n e → IsGood line xs → ⊥
 not_bad one line xs n e (no_statement h) g = h g.x g.reads
 not_bad one line xs n e (old_label x r f) g = f (subst (λ (y : Sized). IsFree y.statement.label (labels_of xs)) (reads_once one line g.x x g.reads r) g.free)
 
-bad_once : (line : List ℕ) (xs : List Sized) (n : ℕ) (e f : Refusal) → Bad line xs n e → Bad line xs n f → e ≡ f
+bad_once : (line : List ℕ) (xs : List Sized) (n : ℕ) (e f : AssemblyRefusal) → Bad line xs n e → Bad line xs n f → e ≡ f
 bad_once line xs n e f (no_statement h) (no_statement g) = refl
 bad_once line xs n e f (no_statement h) (old_label x r g) = absurd (h x r)
 bad_once line xs n e f (old_label x r h) (no_statement g) = absurd (g x r)
 bad_once line xs n e f (old_label x r h) (old_label y s g) = refl
 
-bad_same : WordsAreOne → (text : List ℕ) (n m : ℕ) (l k : List ℕ) (xs ys : List Sized) (e f : Refusal) → IsBehindGood text n l xs → Bad l xs n e → IsBehindGood text m k ys → Bad k ys m f → e ≡ f
+bad_same : WordsAreOne → (text : List ℕ) (n m : ℕ) (l k : List ℕ) (xs ys : List Sized) (e f : AssemblyRefusal) → IsBehindGood text n l xs → Bad l xs n e → IsBehindGood text m k ys → Bad k ys m f → e ≡ f
 bad_same one text n m l k xs ys e f g b h d = by (sides g.before l g.after h.before k h.after (sym g.parts ∙ h.parts))
   where
     by : Sides g.before h.before l k → e ≡ f
@@ -106,7 +106,7 @@ bad_same one text n m l k xs ys e f g b h d = by (sides g.before l g.after h.bef
     by (before zs p) = absurd (not_bad one l xs n e b (good_at one h.before g.before l zs ys xs p h.laid g.laid.read))
     by (behind zs p) = absurd (not_bad one k ys m f d (good_at one g.before h.before k zs xs ys p g.laid h.laid.read))
 
-bad_laid : WordsAreOne → (text : List ℕ) (n : ℕ) (l : List ℕ) (xs ys : List Sized) (e : Refusal) → IsBehindGood text n l xs → Bad l xs n e → Laid (lines_of text) ys → ⊥
+bad_laid : WordsAreOne → (text : List ℕ) (n : ℕ) (l : List ℕ) (xs ys : List Sized) (e : AssemblyRefusal) → IsBehindGood text n l xs → Bad l xs n e → Laid (lines_of text) ys → ⊥
 bad_laid one text n l xs ys e g b laid = not_bad one l xs n e b (good_at one (lines_of text) g.before l g.after ys xs g.parts laid g.laid.read)
 
 -- ---- the second pass
@@ -164,15 +164,15 @@ coded_at one labels at (l ∷ lines) (y ∷ front) x back (p ∷ ps) r a =
     (h.0, subst (λ (i : ℕ). Codes labels i x.statement.item h.0) e h.1)
 
 -- what is wrong with a statement in the second pass
-data Stuck (labels : List Label) (at : ℕ) (i : Item) (n : ℕ) : Refusal → Type 0 where
+data Stuck (labels : List Label) (at : ℕ) (i : Item) (n : ℕ) : AssemblyRefusal → Type 0 where
   no_label : (Knows labels i → ⊥) → Stuck labels at i n (refusal.Unknown n)
   no_code : Knows labels i → ((code : List ℕ) → Codes labels at i code → ⊥) → Stuck labels at i n (refusal.Range n)
 
-not_stuck : (labels : List Label) (at : ℕ) (i : Item) (n : ℕ) (e : Refusal) → Stuck labels at i n e → (code : List ℕ) → Codes labels at i code → ⊥
+not_stuck : (labels : List Label) (at : ℕ) (i : Item) (n : ℕ) (e : AssemblyRefusal) → Stuck labels at i n e → (code : List ℕ) → Codes labels at i code → ⊥
 not_stuck labels at i n e (no_label h) code c = h (knows_coded labels at i code c)
 not_stuck labels at i n e (no_code k h) code c = h code c
 
-stuck_once : (labels : List Label) (at : ℕ) (i : Item) (n : ℕ) (e f : Refusal) → Stuck labels at i n e → Stuck labels at i n f → e ≡ f
+stuck_once : (labels : List Label) (at : ℕ) (i : Item) (n : ℕ) (e f : AssemblyRefusal) → Stuck labels at i n e → Stuck labels at i n f → e ≡ f
 stuck_once labels at i n e f (no_label h) (no_label g) = refl
 stuck_once labels at i n e f (no_label h) (no_code k g) = absurd (h k)
 stuck_once labels at i n e f (no_code k h) (no_label g) = absurd (g k)
@@ -182,7 +182,7 @@ pub laid_once : WordsAreOne → (text : List ℕ) (xs ys : List Sized) → Laid 
 laid_once one text xs ys a b = are_read_once one (lines_of text) xs ys a.read b.read
 
 -- a statement among coded ones is not stuck
-stuck_coded : WordsAreOne → (text : List ℕ) (n : ℕ) (labels : List Label) (at : ℕ) (x : Sized) (e : Refusal) → (g : IsBehindCoded text n labels at x) → Stuck labels at x.statement.item n e → (lines : List (List ℕ)) (xs zs : List Sized) (ps : List (List ℕ)) → xs ≡ g.before ++ x ∷ zs → AreRead lines xs → AreCoded labels 0x100 xs ps → ⊥
+stuck_coded : WordsAreOne → (text : List ℕ) (n : ℕ) (labels : List Label) (at : ℕ) (x : Sized) (e : AssemblyRefusal) → (g : IsBehindCoded text n labels at x) → Stuck labels at x.statement.item n e → (lines : List (List ℕ)) (xs zs : List Sized) (ps : List (List ℕ)) → xs ≡ g.before ++ x ∷ zs → AreRead lines xs → AreCoded labels 0x100 xs ps → ⊥
 stuck_coded one text n labels at x e g s lines xs zs ps is read coded =
     let c = coded_at one labels 0x100 lines g.before x zs ps (subst (AreRead lines) is read) (subst (λ ys. AreCoded labels 0x100 ys ps) is coded) in
     not_stuck labels at x.statement.item n e s c.0 (subst (λ (i : ℕ). Codes labels i x.statement.item c.0) (sym g.at_is) c.1)
@@ -192,7 +192,7 @@ front_read [] back lines a = ([], tt)
 front_read (x ∷ front) back [] a = absurd a
 front_read (x ∷ front) back (l ∷ lines) a = let r = front_read front back lines a.1 in (l ∷ r.0, (a.0, r.1))
 
-stuck_same : WordsAreOne → (text : List ℕ) (n m : ℕ) (ls ms : List Label) (at to : ℕ) (x y : Sized) (e f : Refusal) → IsBehindCoded text n ls at x → Stuck ls at x.statement.item n e → IsBehindCoded text m ms to y → Stuck ms to y.statement.item m f → e ≡ f
+stuck_same : WordsAreOne → (text : List ℕ) (n m : ℕ) (ls ms : List Label) (at to : ℕ) (x y : Sized) (e f : AssemblyRefusal) → IsBehindCoded text n ls at x → Stuck ls at x.statement.item n e → IsBehindCoded text m ms to y → Stuck ms to y.statement.item m f → e ≡ f
 stuck_same one text n m ls ms at to x y e f g s h t =
     let whole : g.before ++ x ∷ g.after ≡ h.before ++ y ∷ h.after = laid_once one text _ _ g.laid h.laid in
     let labels : ls ≡ ms = g.labels_are ∙ ap labels_of whole ∙ sym h.labels_are in
@@ -211,7 +211,7 @@ stuck_same one text n m ls ms at to x y e f g s h t =
         let r = front_read g.before (x ∷ g.after) (lines_of text) g.laid.read in
         absurd (stuck_coded one text m ms to y f h t r.0 g.before zs g.pieces p r.1 (subst (λ (k : List Label). AreCoded k 0x100 g.before g.pieces) l g.coded))
 
-stuck_done : WordsAreOne → (text : List ℕ) (n : ℕ) (ls : List Label) (at : ℕ) (x : Sized) (e : Refusal) (code : List ℕ) → IsBehindCoded text n ls at x → Stuck ls at x.statement.item n e → Assembles text code → ⊥
+stuck_done : WordsAreOne → (text : List ℕ) (n : ℕ) (ls : List Label) (at : ℕ) (x : Sized) (e : AssemblyRefusal) (code : List ℕ) → IsBehindCoded text n ls at x → Stuck ls at x.statement.item n e → Assembles text code → ⊥
 stuck_done one text n ls at x e code g s a =
     let whole : a.statements ≡ g.before ++ x ∷ g.after = laid_once one text _ _ a.laid g.laid in
     stuck_coded one text n ls at x e g s (lines_of text) a.statements g.after a.pieces whole a.laid.read
@@ -228,24 +228,24 @@ too_many n m e h g = absurd (omega (arith, e, h, g))
 
 -- ---- all answers
 
-data View (text : List ℕ) : Result (List ℕ) Refusal → Type 0 where
-  is_bad : (n : ℕ) (line : List ℕ) (xs : List Sized) (e : Refusal) → IsBehindGood text n line xs → Bad line xs n e → View text (Err e)
+data View (text : List ℕ) : Result (List ℕ) AssemblyRefusal → Type 0 where
+  is_bad : (n : ℕ) (line : List ℕ) (xs : List Sized) (e : AssemblyRefusal) → IsBehindGood text n line xs → Bad line xs n e → View text (Err e)
   is_long : (xs : List Sized) → Laid (lines_of text) xs → most < total xs → View text (Err refusal.TooLong)
-  is_stuck : (n : ℕ) (ls : List Label) (at : ℕ) (x : Sized) (e : Refusal) → IsBehindCoded text n ls at x → Stuck ls at x.statement.item n e → View text (Err e)
+  is_stuck : (n : ℕ) (ls : List Label) (at : ℕ) (x : Sized) (e : AssemblyRefusal) → IsBehindCoded text n ls at x → Stuck ls at x.statement.item n e → View text (Err e)
   is_done : (code : List ℕ) → Assembles text code → View text (Ok code)
 
-refused_view : (text : List ℕ) (e : Refusal) → Refuses text e → View text (Err e)
+refused_view : (text : List ℕ) (e : AssemblyRefusal) → Refuses text e → View text (Err e)
 refused_view text e (syntax n line xs g h) = is_bad n line xs (refusal.Syntax n) g (no_statement h)
 refused_view text e (twice n line xs x g r f) = is_bad n line xs (refusal.Twice n) g (old_label x r f)
 refused_view text e (too_long xs l m) = is_long xs l m
 refused_view text e (unknown n ls at x g k) = is_stuck n ls at x (refusal.Unknown n) g (no_label k)
 refused_view text e (range n ls at x g k c) = is_stuck n ls at x (refusal.Range n) g (no_code k c)
 
-view : (text : List ℕ) (a : Result (List ℕ) Refusal) → IsAnswer text a → View text a
+view : (text : List ℕ) (a : Result (List ℕ) AssemblyRefusal) → IsAnswer text a → View text a
 view text (Ok code) h = is_done code h
 view text (Err e) h = refused_view text e h
 
-views_same : WordsAreOne → (text : List ℕ) (a b : Result (List ℕ) Refusal) → View text a → View text b → a ≡ b
+views_same : WordsAreOne → (text : List ℕ) (a b : Result (List ℕ) AssemblyRefusal) → View text a → View text b → a ≡ b
 views_same one text a b (is_bad n l xs e g s) (is_bad m k ys f h t) = ap Err (bad_same one text n m l k xs ys e f g s h t)
 views_same one text a b (is_bad n l xs e g s) (is_long ys laid m) = absurd (bad_laid one text n l xs ys e g s laid)
 views_same one text a b (is_bad n l xs e g s) (is_stuck m ls at x f h t) = absurd (bad_laid one text n l xs _ e g s h.laid)
@@ -263,5 +263,5 @@ views_same one text a b (is_done code d) (is_long ys laid m) = absurd (too_many 
 views_same one text a b (is_done code d) (is_stuck n ls at x e g s) = absurd (stuck_done one text n ls at x e code g s d)
 views_same one text a b (is_done code d) (is_done other c) = ap Ok (done_same one text code other d c)
 
-pub one_answer : WordsAreOne → (text : List ℕ) (a b : Result (List ℕ) Refusal) → IsAnswer text a → IsAnswer text b → a ≡ b
+pub one_answer : WordsAreOne → (text : List ℕ) (a b : Result (List ℕ) AssemblyRefusal) → IsAnswer text a → IsAnswer text b → a ≡ b
 one_answer one text a b p q = views_same one text a b (view text a p) (view text b q)

@@ -2,7 +2,7 @@
 use Rattle.std.proofs.Common.{◌≡◌, ℕ, ◌+◌, ◌<◌, ◌≤◌, List, [], ◌∷◌, ◌++◌, length, take, drop, Option, Some, None, IfSome, refl, sym, ap, subst, ◌∙◌, arith}
 use Rattle.std.proofs.lemmas.List.{append_assoc, append-nil, length-append}
 use Rattle.dm_asm.specs.declared.labels.Labels.{Labels}
-use Rattle.dm_asm.specs.declared.refusal.Refusal.TheVariants as refusal
+use Rattle.dm_asm.specs.declared.refusal.AssemblyRefusal.TheVariants as refusal
 use Rattle.dm_asm.specs.Lines.{lines_of}
 use Rattle.dm_asm.specs.Labels.{IsFree, find}
 use Rattle.dm_asm.specs.inner.Kept.{AreKept, AreNear, AreLaid}

@@ -6,8 +6,8 @@
 use Rattle.std.specs.Prelude.{◌≡◌, ℕ, ◌+◌, ◌<◌, ◌≤◌, List, [], ◌∷◌, ◌++◌, length, Option, Some, None, Result, Ok, Err}
 use Rattle.dm_lines.specs.declared.token.Name as Name'
 use Rattle.dm_lines.specs.Statements.{Statement, line_of}
-use Rattle.dm_asm.specs.declared.refusal.Refusal.{Refusal}
-use Rattle.dm_asm.specs.declared.refusal.Refusal.TheVariants as refusal
+use Rattle.dm_asm.specs.declared.refusal.AssemblyRefusal.{AssemblyRefusal}
+use Rattle.dm_asm.specs.declared.refusal.AssemblyRefusal.TheVariants as refusal
 use Rattle.dm_asm.specs.Lines.{lines_of}
 use Rattle.dm_asm.specs.Labels.{Label, IsFree, find}
 use Rattle.dm_asm.specs.Codes.{Codes, HasLength, Knows}
@@ -111,7 +111,7 @@ pub record IsBehindCoded (text : List ℕ) (n : ℕ) (labels : List Label) (at :
 
 -- what is first wrong: a line that doesn't read, or else has the label of one before it; else too many bytes; else a
 -- line that names a label that no line has, or else has no bytes
-pub data Refuses (text : List ℕ) : Refusal → Type 0 where
+pub data Refuses (text : List ℕ) : AssemblyRefusal → Type 0 where
   syntax : (n : ℕ) (line : List ℕ) (xs : List Sized) → IsBehindGood text n line xs → ((x : Sized) → Reads line x → ⊥) → Refuses text (refusal.Syntax n)
   twice : (n : ℕ) (line : List ℕ) (xs : List Sized) (x : Sized) → IsBehindGood text n line xs → Reads line x → (IsFree x.statement.label (labels_of xs) → ⊥) → Refuses text (refusal.Twice n)
   too_long : (xs : List Sized) → Laid (lines_of text) xs → most < total xs → Refuses text refusal.TooLong
@@ -119,6 +119,6 @@ pub data Refuses (text : List ℕ) : Refusal → Type 0 where
   range : (n : ℕ) (labels : List Label) (at : ℕ) (x : Sized) → IsBehindCoded text n labels at x → Knows labels x.statement.item → ((code : List ℕ) → Codes labels at x.statement.item code → ⊥) → Refuses text (refusal.Range n)
 
 -- the bytes of a text, or what is first wrong with it
-abbrev pub IsAnswer : List ℕ → Result (List ℕ) Refusal → Type 0
+abbrev pub IsAnswer : List ℕ → Result (List ℕ) AssemblyRefusal → Type 0
 IsAnswer text (Ok bytes) = Assembles text bytes
 IsAnswer text (Err e) = Refuses text e

@@ -2,7 +2,7 @@
 
 ghost use Rattle.std.specs.Prelude.{◌≡◌, ◌≤◌, ◌++◌, ◌⊎◌, List, IfSome, IfNone, IfOk, IfErr, OnOk, MatchResult};
 ghost use Rattle.dm_lines.specs.Statements.{seen_statement};
-ghost use Rattle.dm_asm.specs.declared.refusal.Refusal.TheVariants.{Memory as OutOfMemory, Twice as IsTwice};
+ghost use Rattle.dm_asm.specs.declared.refusal.AssemblyRefusal.TheVariants.{Memory as OutOfMemory, Twice as IsTwice};
 ghost use Rattle.dm_asm.specs.Labels.{Label, IsFree};
 ghost use Rattle.dm_asm.specs.inner.Kept.{AreKept, AreLaid};
 ghost use Rattle.dm_asm.specs.Programs.{Sized, Reads, labelled, Assembles, Refuses};
@@ -11,7 +11,7 @@ use crate::codes::{Problem, code_of};
 use crate::known::{Known, Line, first_line};
 use crate::labels::Labels;
 use crate::lines::next_line;
-use crate::refusal::Refusal;
+use crate::refusal::AssemblyRefusal;
 use crate::shapes::length_of;
 use dm_lines::{Items, Name, Statement, Tokens, read_line};
 use dm_words::words_are_one_instruction;
@@ -40,7 +40,7 @@ fn add_label(
     label: Option<Name>,
     place: u128,
     number: usize,
-) -> Result<(), Refusal>
+) -> Result<(), AssemblyRefusal>
     ensures added { OnOk result ((list : List Label) → AreKept labels.old list → IsFree label list × AreKept labels.new (list ++ labelled label place)) }
     ensures refused { IfErr result (λ e. (e ≡ OutOfMemory) ⊎ ((e ≡ IsTwice number) × ((list : List Label) → AreKept labels.old list → IsFree label list → ⊥))) }
 {
@@ -49,13 +49,13 @@ fn add_label(
     };
     match labels.add(&name, place) {
         Ok(true) => Ok(()),
-        Ok(false) => Err(Refusal::Twice(number)),
-        Err(_) => Err(Refusal::Memory),
+        Ok(false) => Err(AssemblyRefusal::Twice(number)),
+        Err(_) => Err(AssemblyRefusal::Memory),
     }
 }
 
 /// The labels of a text, and what is known of its lines, where all lines read and have room.
-fn lay(alloc: Global, text: &[u8]) -> Result<(Labels, Known), Refusal>
+fn lay(alloc: Global, text: &[u8]) -> Result<(Labels, Known), AssemblyRefusal>
     ensures laid { IfOk result (λ r. AreLaid text.now r.0 r.1) }
     ensures refused { IfErr result (λ e. (e ≡ OutOfMemory) ⊎ Refuses text.now e) }
 {
@@ -69,12 +69,12 @@ fn lay(alloc: Global, text: &[u8]) -> Result<(Labels, Known), Refusal>
     while let Some((line, behind)) = next_line(rest) {
         number += 1;
         let Some(statement) = read_line(line, &mut tokens, &mut items) else {
-            return Err(Refusal::Syntax(number));
+            return Err(AssemblyRefusal::Syntax(number));
         };
         let length = match known.put(statement.item, &items) {
             Ok(Some(length)) => length,
-            Ok(None) => return Err(Refusal::Syntax(number)),
-            Err(_) => return Err(Refusal::Memory),
+            Ok(None) => return Err(AssemblyRefusal::Syntax(number)),
+            Err(_) => return Err(AssemblyRefusal::Memory),
         };
         match add_label(&mut labels, statement.label, at, number) {
             Ok(()) => {}
@@ -84,24 +84,29 @@ fn lay(alloc: Global, text: &[u8]) -> Result<(Labels, Known), Refusal>
         rest = behind;
     }
     if at > START as u128 + MOST {
-        return Err(Refusal::TooLong);
+        return Err(AssemblyRefusal::TooLong);
     }
     Ok((labels, known))
 }
 
 /// Appends bytes to those so far.
-fn append(bytes: &mut Vec<u8>, code: &[u8]) -> Result<(), Refusal>
+fn append(bytes: &mut Vec<u8>, code: &[u8]) -> Result<(), AssemblyRefusal>
     ensures added { OnOk result (bytes.new.items ≡ bytes.old.items ++ code.now) }
     ensures refused { IfErr result (λ e. e ≡ OutOfMemory) }
 {
     match bytes.extend_from_slice(code) {
         Ok(()) => Ok(()),
-        Err(_) => Err(Refusal::Memory),
+        Err(_) => Err(AssemblyRefusal::Memory),
     }
 }
 
 /// The bytes of a text whose labels have these places.
-fn emit(alloc: Global, text: &[u8], labels: &Labels, known: &Known) -> Result<Vec<u8>, Refusal>
+fn emit(
+    alloc: Global,
+    text: &[u8],
+    labels: &Labels,
+    known: &Known,
+) -> Result<Vec<u8>, AssemblyRefusal>
     requires { AreLaid text.now labels.now known.now }
     ensures assembled { IfOk result (λ v. Assembles text.now v.items) }
     ensures refused { IfErr result (λ e. (e ≡ OutOfMemory) ⊎ Refuses text.now e) }
@@ -118,7 +123,7 @@ fn emit(alloc: Global, text: &[u8], labels: &Labels, known: &Known) -> Result<Ve
         number += 1;
         // Something is kept of each line.
         let Some((kept, others)) = first_line(lines) else {
-            return Err(Refusal::Syntax(number));
+            return Err(AssemblyRefusal::Syntax(number));
         };
         lines = others;
         rest = behind;
@@ -133,13 +138,13 @@ fn emit(alloc: Global, text: &[u8], labels: &Labels, known: &Known) -> Result<Ve
         }
         // The first pass has read it.
         let Some((statement, length)) = read(line, &mut tokens, &mut items) else {
-            return Err(Refusal::Syntax(number));
+            return Err(AssemblyRefusal::Syntax(number));
         };
         let at = START + bytes.len();
         match code_of(labels, at as u16, length, statement.item, &items) {
             Ok(code) => append(&mut bytes, code.as_slice())?,
-            Err(Problem::Unknown) => return Err(Refusal::Unknown(number)),
-            Err(Problem::Range) => return Err(Refusal::Range(number)),
+            Err(Problem::Unknown) => return Err(AssemblyRefusal::Unknown(number)),
+            Err(Problem::Range) => return Err(AssemblyRefusal::Range(number)),
         }
     }
     Ok(bytes)
@@ -152,7 +157,7 @@ fn emit(alloc: Global, text: &[u8], labels: &Labels, known: &Known) -> Result<Ve
 /// In this order: the first line with `Syntax` or `Twice` (`Syntax` where it has both); `TooLong` over 65,278 bytes;
 /// the first line with `Unknown` or `Range` (`Unknown` where it has both). `Memory` may be returned in place of any
 /// result, if an allocation fails.
-pub fn assemble(alloc: Global, text: &[u8]) -> Result<Vec<u8>, Refusal>
+pub fn assemble(alloc: Global, text: &[u8]) -> Result<Vec<u8>, AssemblyRefusal>
     // The text has these bytes.
     ensures assembled { IfOk result (λ v. Assembles text.now v.items) }
     // This is first wrong with the text, unless memory was refused.

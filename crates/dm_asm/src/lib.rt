@@ -14,4 +14,4 @@ mod shapes;
 pub use assembly::assemble;
 pub use dm_disassembler::disassemble;
 pub use laws::{listings_assemble, texts_are_spelled, texts_have_one_answer};
-pub use refusal::Refusal;
+pub use refusal::AssemblyRefusal;

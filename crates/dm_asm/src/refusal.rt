@@ -4,7 +4,7 @@ use thiserror::Error;
 
 /// Why a text has no bytes. Lines are counted from 1.
 #[derive(Clone, Copy, Debug, PartialEq, Eq, Error)]
-pub enum Refusal {
+pub enum AssemblyRefusal {
     /// A line is no statement, or its instruction is none of the table.
     #[error("line {0}: syntax")]
     Syntax(usize),

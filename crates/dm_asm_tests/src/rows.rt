@@ -8,7 +8,7 @@
 //! answer is the refusal's text, or the bytes: eight of them at most, then how many there are.
 
 use crate::checks::same;
-use dm_asm::{Refusal, assemble};
+use dm_asm::{AssemblyRefusal, assemble};
 use std::alloc::Global;
 use std::process::Abort;
 use std::test::Fail;
@@ -79,7 +79,7 @@ pub(crate) fn shown(alloc: Global, bytes: &[u8]) -> Result<String, Fail> {
     Ok(text)
 }
 
-fn answer(alloc: Global, found: Result<Vec<u8>, Refusal>) -> Result<String, Fail> {
+fn answer(alloc: Global, found: Result<Vec<u8>, AssemblyRefusal>) -> Result<String, Fail> {
     match found {
         Ok(bytes) => shown(alloc, bytes.as_slice()),
         Err(refusal) => Ok(format!(in alloc; "{refusal}")?),

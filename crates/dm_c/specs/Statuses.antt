@@ -5,8 +5,8 @@ use Rattle.dm_state.specs.declared.stop.Stop.TheVariants as stop
 use Rattle.dm_alu.specs.Flags as flags
 use Rattle.dm_cpu.specs.declared.cpu.Cpu.{Cpu}
 use Rattle.dm_machine.specs.declared.until.Breakpoint.{Breakpoint}
-use Rattle.dm_asm.specs.declared.refusal.Refusal as asm
-use Rattle.dm_asm.specs.declared.refusal.Refusal.TheVariants as text
+use Rattle.dm_asm.specs.declared.refusal.AssemblyRefusal as asm
+use Rattle.dm_asm.specs.declared.refusal.AssemblyRefusal.TheVariants as text
 use Rattle.dm_host.specs.declared.refusal.Refusal.{Refusal}
 use Rattle.dm_host.specs.declared.refusal.Refusal.TheVariants as why
 use Rattle.dm_c.specs.declared.values.Stopped.{Stopped}
@@ -30,7 +30,7 @@ status_of why.Syntax = 15
 status_of why.Full = 16
 
 -- why a text has no bytes
-abbrev pub text_status_of : asm.Refusal → ℕ
+abbrev pub text_status_of : asm.AssemblyRefusal → ℕ
 text_status_of (text.Syntax line) = 17
 text_status_of (text.Unknown line) = 18
 text_status_of (text.Range line) = 19
@@ -39,7 +39,7 @@ text_status_of text.TooLong = 21
 text_status_of text.Memory = 3
 
 -- the line that is wrong, or what stood there before
-abbrev pub line_of : asm.Refusal → ℕ → ℕ
+abbrev pub line_of : asm.AssemblyRefusal → ℕ → ℕ
 line_of (text.Syntax line) before = line
 line_of (text.Unknown line) before = line
 line_of (text.Range line) before = line

@@ -4,36 +4,36 @@ ghost use Rattle.dm_c.specs.Statuses.{text_status_of, line_of};
 ghost use Rattle.dm_c.specs.Texts.{AssemblesTo, DisassemblesTo};
 
 use crate::values::{OUT_OF_MEMORY, TOO_LONG, give};
-use dm_asm::{Refusal, assemble, disassemble};
+use dm_asm::{AssemblyRefusal, assemble, disassemble};
 use std::alloc::Global;
 
 /// The most bytes of a program that is disassembled.
 const MOST_PROGRAM_BYTES: usize = 65_278;
 
 /// The status of a text that has no bytes.
-fn text_status_of(refusal: Refusal) -> u32
+fn text_status_of(refusal: AssemblyRefusal) -> u32
     ensures { result ≡ text_status_of refusal }
 {
     match refusal {
-        Refusal::Syntax(_) => 17,
-        Refusal::Unknown(_) => 18,
-        Refusal::Range(_) => 19,
-        Refusal::Twice(_) => 20,
-        Refusal::TooLong => TOO_LONG,
-        Refusal::Memory => OUT_OF_MEMORY,
+        AssemblyRefusal::Syntax(_) => 17,
+        AssemblyRefusal::Unknown(_) => 18,
+        AssemblyRefusal::Range(_) => 19,
+        AssemblyRefusal::Twice(_) => 20,
+        AssemblyRefusal::TooLong => TOO_LONG,
+        AssemblyRefusal::Memory => OUT_OF_MEMORY,
     }
 }
 
 /// The line that is wrong, or the number before.
-fn line_of(refusal: Refusal, before: usize) -> usize
+fn line_of(refusal: AssemblyRefusal, before: usize) -> usize
     ensures { result ≡ line_of refusal before }
 {
     match refusal {
-        Refusal::Syntax(line)
-        | Refusal::Unknown(line)
-        | Refusal::Range(line)
-        | Refusal::Twice(line) => line,
-        Refusal::TooLong | Refusal::Memory => before,
+        AssemblyRefusal::Syntax(line)
+        | AssemblyRefusal::Unknown(line)
+        | AssemblyRefusal::Range(line)
+        | AssemblyRefusal::Twice(line) => line,
+        AssemblyRefusal::TooLong | AssemblyRefusal::Memory => before,
     }
 }
 

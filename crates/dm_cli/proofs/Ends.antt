@@ -7,8 +7,8 @@ use Rattle.std.specs.Io.KnownBytes.{prepend_known}
 use Rattle.std.specs.Io.Take.{take_inner, take_limit, take_remaining}
 use Rattle.std.specs.declared.io.buffered.BufReader.{BufReader}
 use Rattle.std.specs.declared.io.traits.Take.{Take}
-use Rattle.dm_asm.specs.declared.refusal.Refusal.{Refusal}
-use Rattle.dm_asm.specs.declared.refusal.Refusal.TheVariants as refusal
+use Rattle.dm_asm.specs.declared.refusal.AssemblyRefusal.{AssemblyRefusal}
+use Rattle.dm_asm.specs.declared.refusal.AssemblyRefusal.TheVariants as refusal
 use Rattle.dm_asm.specs.Programs.{Refuses}
 use Rattle.dm_debug.specs.Debugged.{Debugged}
 use Rattle.dm_cli.specs.declared.fault.Fault.{Fault}
@@ -20,7 +20,7 @@ use Rattle.dm_cli.specs.Stores.{IsRead}
 use Rattle.dm_cli.proofs.Lines.{first_cut, first_cut_short}
 
 -- a text has no bytes
-pub asm_fault : (why : Refusal) (known : Option (List ℕ)) (path text : List ℕ) → IsRead known text → (why ≡ refusal.Memory) ⊎ Refuses text why → IsAsmFault known path (refusal_fault why)
+pub asm_fault : (why : AssemblyRefusal) (known : Option (List ℕ)) (path text : List ℕ) → IsRead known text → (why ≡ refusal.Memory) ⊎ Refuses text why → IsAsmFault known path (refusal_fault why)
 asm_fault why known path text read (inl is) = subst (λ w. IsAsmFault known path (refusal_fault w)) (sym is) text_no_memory
 asm_fault why known path text read (inr h) = text_refused text why read h
 

@@ -1,7 +1,7 @@
 -- What `dm asm` and `dm disasm` write, where it is known what the file holds that they read.
 use Rattle.std.specs.Prelude.{ℕ, ◌≡◌, ◌<◌, ◌≤◌, ◌⊎◌, List, Option, Some, None, length}
 use Rattle.std.specs.Io.KnownBytes.{Appends, Keeps}
-use Rattle.dm_asm.specs.declared.refusal.Refusal.{Refusal}
+use Rattle.dm_asm.specs.declared.refusal.AssemblyRefusal.{AssemblyRefusal}
 use Rattle.dm_asm.specs.Programs.{Refuses}
 use Rattle.dm_asm.specs.Programs as asm
 use Rattle.dm_options.specs.declared.command_line.AsmOptions.{AsmOptions}
@@ -29,7 +29,7 @@ pub record IsDisassembled (known : Option (List ℕ)) (text : List ℕ) : Type 0
 -- the fault of a text that has no bytes: it can't be read, what is first wrong with it, or memory was refused
 pub data IsAsmFault (known : Option (List ℕ)) (path : List ℕ) : Fault → Type 0 where
   text_unread : (fault : Fault) → IsInputFault known path fault → IsAsmFault known path fault
-  text_refused : (text : List ℕ) (why : Refusal) → IsRead known text → Refuses text why → IsAsmFault known path (refusal_fault why)
+  text_refused : (text : List ℕ) (why : AssemblyRefusal) → IsRead known text → Refuses text why → IsAsmFault known path (refusal_fault why)
   text_no_memory : IsAsmFault known path OutOfMemory
 
 -- `dm asm`: the bytes of the text are written to a file; or that failed, and only then has the count of failed saves

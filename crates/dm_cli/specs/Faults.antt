@@ -1,12 +1,12 @@
 -- The faults of commands: those that a refusal of the machine or of the assembler becomes, and those of files and
 -- streams by their names.
 use Rattle.std.specs.Prelude.{ℕ, ◌≡◌, ◌++◌, List, [], ◌∷◌, codes, decimal}
-use Rattle.dm_asm.specs.declared.refusal.Refusal.{Refusal}
-use Rattle.dm_asm.specs.declared.refusal.Refusal.TheVariants as refusal
+use Rattle.dm_asm.specs.declared.refusal.AssemblyRefusal.{AssemblyRefusal}
+use Rattle.dm_asm.specs.declared.refusal.AssemblyRefusal.TheVariants as refusal
 use Rattle.dm_cli.specs.declared.fault.Fault.{Fault}
 use Rattle.dm_cli.specs.declared.fault.Fault.TheVariants as fault
 
-abbrev pub refusal_fault : Refusal → Fault
+abbrev pub refusal_fault : AssemblyRefusal → Fault
 refusal_fault (refusal.Syntax line) = fault.Syntax line
 refusal_fault (refusal.Unknown line) = fault.Unknown line
 refusal_fault (refusal.Range line) = fault.Range line

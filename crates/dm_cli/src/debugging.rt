@@ -11,7 +11,7 @@ ghost use Rattle.dm_cli.specs.Faults.{IsReadFault, IsWriteFault};
 use crate::fault::Fault;
 use crate::files::{MOST_BYTES, Storage, read_fault};
 use crate::loading::loaded_for_debug;
-use dm_debug::{Refusal, Session};
+use dm_debug::{CommandRefusal, Session};
 use dm_machine::Out;
 use dm_options::command_line::DebugOptions;
 use dm_out::write_all;
@@ -102,10 +102,10 @@ fn answer<W: Out>(
 {
     match session.command(alloc, line, out) {
         Ok(()) => Ok(()),
-        Err(Refusal::Syntax) => refuse(out, SYNTAX),
-        Err(Refusal::Full) => refuse(out, FULL),
-        Err(Refusal::Memory) => Err(Fault::OutOfMemory),
-        Err(Refusal::Write) => Err(Fault::CannotWrite(OUTPUT)),
+        Err(CommandRefusal::Syntax) => refuse(out, SYNTAX),
+        Err(CommandRefusal::Full) => refuse(out, FULL),
+        Err(CommandRefusal::Memory) => Err(Fault::OutOfMemory),
+        Err(CommandRefusal::Write) => Err(Fault::CannotWrite(OUTPUT)),
     }
 }
 

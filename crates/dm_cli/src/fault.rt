@@ -1,7 +1,7 @@
 //! What can go wrong, as it is reported on standard error.
 ghost use Rattle.std.specs.Prelude.{◌≡◌};
 
-use dm_asm::Refusal;
+use dm_asm::AssemblyRefusal;
 use dm_machine::{AddError, LoadError, NewError};
 
 /// A fault of a command. `report_fault` prints it, and the status is 126.
@@ -25,19 +25,19 @@ pub(crate) enum Fault<'a> {
     OutOfMemory,
 }
 
-impl From<Refusal> for Fault<'_> {
+impl From<AssemblyRefusal> for Fault<'_> {
     ghost use Rattle.dm_cli.specs.Faults.{refusal_fault};
 
     ghost from_gives = { λ error fault. fault ≡ refusal_fault error };
 
-    fn from(error: Refusal) -> Self {
+    fn from(error: AssemblyRefusal) -> Self {
         match error {
-            Refusal::Syntax(line) => Fault::Syntax(line),
-            Refusal::Unknown(line) => Fault::Unknown(line),
-            Refusal::Range(line) => Fault::Range(line),
-            Refusal::Twice(line) => Fault::Twice(line),
-            Refusal::TooLong => Fault::TooLong,
-            Refusal::Memory => Fault::OutOfMemory,
+            AssemblyRefusal::Syntax(line) => Fault::Syntax(line),
+            AssemblyRefusal::Unknown(line) => Fault::Unknown(line),
+            AssemblyRefusal::Range(line) => Fault::Range(line),
+            AssemblyRefusal::Twice(line) => Fault::Twice(line),
+            AssemblyRefusal::TooLong => Fault::TooLong,
+            AssemblyRefusal::Memory => Fault::OutOfMemory,
         }
     }
 }

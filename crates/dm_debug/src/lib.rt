@@ -10,5 +10,5 @@ mod session;
 
 pub use laws::runs_have_one_answer;
 pub use points::Points;
-pub use refusal::Refusal;
+pub use refusal::CommandRefusal;
 pub use session::Session;

@@ -4,7 +4,7 @@ use thiserror::Error;
 
 /// Why a line failed. The errors are tried in this order.
 #[derive(Clone, Copy, Debug, PartialEq, Eq, Error)]
-pub enum Refusal {
+pub enum CommandRefusal {
     /// The line is no command, or clears a breakpoint that is not set. Nothing has changed, and nothing was written.
     #[error("syntax")]
     Syntax,

@@ -13,7 +13,7 @@ ghost use Rattle.dm_debug.specs.Sessions.{new_session, done, with_machine, with_
 
 use crate::listings::{arena, dump, extended, output, pages, put_machine, unassemble};
 use crate::points::{MOST, Points, place_of, point_at, put_points};
-use crate::refusal::Refusal;
+use crate::refusal::CommandRefusal;
 use crate::runs::{enter, go, trace};
 use arrayvec::ArrayVec;
 use dm_command::{Address, Bytes, Command, read_command};
@@ -234,31 +234,31 @@ impl Session {
         alloc: Global,
         line: &[u8],
         out: &mut O,
-    ) -> Result<(), Refusal>
+    ) -> Result<(), CommandRefusal>
         ensures ok { OnOk result (IsAnswered self.old line.now self.new (O.taken out.old) (O.taken out.new)) }
         ensures no_failure { OnOk result (O.failures out.new ≡ O.failures out.old) }
-        ensures syntax { IsErrOf result Refusal.Syntax ↔ (is_syntax self.old (command_of line.now) ≡ true) }
-        ensures full { IsErrOf result Refusal.Full ↔ (is_full self.old (command_of line.now) ≡ true) }
-        ensures unchanged { IsErrOf result Refusal.Syntax ⊎ IsErrOf result Refusal.Full → (self.new ≡ self.old) × (out.new ≡ out.old) }
-        ensures memory { IsErrOf result Refusal.Memory → IsCutOff self.old line.now self.new × (out.new ≡ out.old) }
-        ensures write { IsErrOf result Refusal.Write → IsPartlyWritten self.old line.now self.new (O.taken out.old) (O.taken out.new) × HasFailed (O.failures out.old) (O.failures out.new) }
+        ensures syntax { IsErrOf result CommandRefusal.Syntax ↔ (is_syntax self.old (command_of line.now) ≡ true) }
+        ensures full { IsErrOf result CommandRefusal.Full ↔ (is_full self.old (command_of line.now) ≡ true) }
+        ensures unchanged { IsErrOf result CommandRefusal.Syntax ⊎ IsErrOf result CommandRefusal.Full → (self.new ≡ self.old) × (out.new ≡ out.old) }
+        ensures memory { IsErrOf result CommandRefusal.Memory → IsCutOff self.old line.now self.new × (out.new ≡ out.old) }
+        ensures write { IsErrOf result CommandRefusal.Write → IsPartlyWritten self.old line.now self.new (O.taken out.old) (O.taken out.new) × HasFailed (O.failures out.old) (O.failures out.new) }
     {
         let Some(command) = read_command(line) else {
-            return Err(Refusal::Syntax);
+            return Err(CommandRefusal::Syntax);
         };
         if self.clears_none(&command) {
-            return Err(Refusal::Syntax);
+            return Err(CommandRefusal::Syntax);
         }
         if self.is_over(&command) {
-            return Err(Refusal::Full);
+            return Err(CommandRefusal::Full);
         }
         let mut text = Vec::new(alloc);
         if let Err(_) = self.perform(&command, &mut text) {
-            return Err(Refusal::Memory);
+            return Err(CommandRefusal::Memory);
         }
         match write_all(out, text.as_slice()) {
             Ok(()) => Ok(()),
-            Err(_) => Err(Refusal::Write),
+            Err(_) => Err(CommandRefusal::Write),
         }
     }
 }

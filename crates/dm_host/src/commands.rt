@@ -9,14 +9,14 @@ use crate::refusal::Refusal;
 use std::alloc::Global;
 
 /// Why a session did not answer. Where a write failed, memory for the answer was refused.
-fn refusal_of(refusal: dm_debug::Refusal) -> Refusal
+fn refusal_of(refusal: dm_debug::CommandRefusal) -> Refusal
     ensures { result ≡ Answers.refusal_of refusal }
 {
     match refusal {
-        dm_debug::Refusal::Syntax => Refusal::Syntax,
-        dm_debug::Refusal::Full => Refusal::Full,
-        dm_debug::Refusal::Memory => Refusal::Memory,
-        dm_debug::Refusal::Write => Refusal::Memory,
+        dm_debug::CommandRefusal::Syntax => Refusal::Syntax,
+        dm_debug::CommandRefusal::Full => Refusal::Full,
+        dm_debug::CommandRefusal::Memory => Refusal::Memory,
+        dm_debug::CommandRefusal::Write => Refusal::Memory,
     }
 }
 

@@ -2,7 +2,7 @@
 use Rattle.std.proofs.Common.{◌≡◌, List, ℕ, length, Option, Some, refl, sym, subst, Result, Ok, Err}
 use Rattle.dm_space.specs.Memory.{Memory}
 use Rattle.dm_load.specs.Image.{IsGood}
-use Rattle.dm_proc.specs.declared.refusal.Refusal.{Refusal}
+use Rattle.dm_proc.specs.declared.refusal.ExecRefusal.{ExecRefusal}
 use Rattle.dm_cpu.specs.declared.cpu.Cpu.{Cpu}
 use Rattle.dm_proc.specs.Programs.{program_of}
 use Rattle.dm_proc.specs.Request.{Passed}
@@ -12,7 +12,7 @@ use Rattle.dm_proc.proofs.OneAnswer.{load_unique}
 use Rattle.dm_state.specs.State.{State}
 use Rattle.dm_machine.specs.Start.{HasNoRoom}
 
-pub no_room : (s v : State) (name file image variables : List ℕ) (e : Refusal) → v ≡ s → program_of v.programs name ≡ Some file → image ≡ file → IsGood file → variables ≡ v.variables →
+pub no_room : (s v : State) (name file image variables : List ℕ) (e : ExecRefusal) → v ≡ s → program_of v.programs name ≡ Some file → image ≡ file → IsGood file → variables ≡ v.variables →
     PlanRefused v.upper v.memory v.strategy (length (environment variables name)) image e → HasNoRoom s name
 no_room s v name file image variables e is found same good from refused =
     let here : PlanRefused v.upper v.memory v.strategy (length (environment v.variables name)) file e
@@ -20,7 +20,7 @@ no_room s v name file image variables e is found same good from refused =
     (subst (λ vs. PlanRefused v.upper v.memory v.strategy (length (environment vs name)) image e) from refused) in
     subst (λ w. HasNoRoom w name) is (record { file = file; found = found; good = good; why = e; refused = here })
 
-served_clash : (r q : Result (Processes × Cpu) Refusal) (c : Processes × Cpu) (e : Refusal) → r ≡ Ok c → q ≡ Err e → r ≡ q → ⊥
+served_clash : (r q : Result (Processes × Cpu) ExecRefusal) (c : Processes × Cpu) (e : ExecRefusal) → r ≡ Ok c → q ≡ Err e → r ≡ q → ⊥
 served_clash r q c e f g h = cc
 
 found-same : (x y : List ℕ) (o : Option (List ℕ)) → o ≡ Some x → o ≡ Some y → x ≡ y

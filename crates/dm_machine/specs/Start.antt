@@ -13,7 +13,7 @@ use Rattle.dm_cpu.specs.declared.cpu.Cpu.{Cpu}
 use Rattle.dm_arena.specs.declared.fit.Area.TheVariants.{All}
 use Rattle.dm_arena.specs.declared.fit.Fit.TheVariants.{First}
 use Rattle.dm_load.specs.Image.{IsGood}
-use Rattle.dm_proc.specs.declared.refusal.Refusal.{Refusal}
+use Rattle.dm_proc.specs.declared.refusal.ExecRefusal.{ExecRefusal}
 use Rattle.dm_proc.specs.Programs.{program_of}
 use Rattle.dm_proc.specs.Request.{Passed}
 use Rattle.dm_proc.specs.Environment.{environment}
@@ -86,5 +86,5 @@ pub record HasNoRoom (s : State) (name : List ℕ) : Type 0 where
   pub file : List ℕ
   pub found : program_of s.programs name ≡ Some file
   pub good : IsGood file
-  pub why : Refusal
+  pub why : ExecRefusal
   pub refused : PlanRefused s.upper s.memory s.strategy (length (environment s.variables name)) file why

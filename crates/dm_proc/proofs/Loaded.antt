@@ -10,7 +10,7 @@ use Rattle.dm_cpu.specs.declared.cpu.Cpu.{Cpu}
 use Rattle.dm_proc.specs.declared.parent.Parent.{Parent}
 use Rattle.dm_proc.specs.declared.parent.Ending.{Ending}
 use Rattle.dm_proc.specs.declared.parent.Ending.TheVariants.{Returned, Exited}
-use Rattle.dm_proc.specs.declared.refusal.Refusal.{Refusal}
+use Rattle.dm_proc.specs.declared.refusal.ExecRefusal.{ExecRefusal}
 use Rattle.dm_proc.specs.declared.refusal.ArenaDestroyed.{ArenaDestroyed}
 use Rattle.dm_proc.specs.Request.{Passed}
 use Rattle.dm_proc.specs.Processes.{Processes, AreLoaded, Starts, Executes, Loads, GoesOn, Terminates, Keeps}
@@ -45,7 +45,7 @@ module _ (up : Bool) where
       let o = s.plans.1.pairing.owner_is in
       omega arith
 
-  exec_loaded : (ps : Processes) (c : Cpu) (m : Memory) (store : List (List ℕ × List ℕ)) (st : Strategy) (r : Result (Unit {0}) Refusal) (qs : Processes) (d : Cpu) (n : Memory) →
+  exec_loaded : (ps : Processes) (c : Cpu) (m : Memory) (store : List (List ℕ × List ℕ)) (st : Strategy) (r : Result (Unit {0}) ExecRefusal) (qs : Processes) (d : Cpu) (n : Memory) →
       Executes up ps c m store st r qs d n → AreLoaded ps → AreLoaded qs
   exec_loaded ps c m store st (Ok x) qs d n e h =
       at _ qs e.processes (record {

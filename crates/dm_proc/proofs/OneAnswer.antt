@@ -3,8 +3,8 @@ use Rattle.std.proofs.Common.{Bool, ◌≡◌, ℕ, zero, suc, ◌+◌, ◌<◌,
 use Rattle.std.specs.Prelude.{if◌then◌else◌, false}
 use Rattle.dm_space.specs.Memory.{Memory}
 use Rattle.dm_arena.specs.declared.fit.Strategy.{Strategy}
-use Rattle.dm_arena.specs.declared.refusal.Refusal.TheVariants as arena
-use Rattle.dm_arena.specs.declared.refusal.Refusal.{Refusal as ArenaRefusal}
+use Rattle.dm_arena.specs.declared.refusal.ArenaRefusal.TheVariants as arena
+use Rattle.dm_arena.specs.declared.refusal.ArenaRefusal.{ArenaRefusal}
 use Rattle.dm_blocks.specs.Chain.{first_header}
 use Rattle.dm_arena.specs.Pair.{Placed}
 use Rattle.dm_arena.proofs.OneAnswer.{resizing_unique, releasing_unique}
@@ -14,8 +14,8 @@ use Rattle.dm_cpu.specs.declared.cpu.Cpu.{Cpu}
 use Rattle.dm_proc.specs.declared.parent.Parent.{Parent}
 use Rattle.dm_proc.specs.declared.parent.Ending.{Ending}
 use Rattle.dm_proc.specs.declared.parent.Ending.TheVariants.{Returned, Exited}
-use Rattle.dm_proc.specs.declared.refusal.Refusal.{Refusal}
-use Rattle.dm_proc.specs.declared.refusal.Refusal.TheVariants.{Function, NotFound, BadFormat, Environment, Destroyed, Short}
+use Rattle.dm_proc.specs.declared.refusal.ExecRefusal.{ExecRefusal}
+use Rattle.dm_proc.specs.declared.refusal.ExecRefusal.TheVariants.{Function, NotFound, BadFormat, Environment, Destroyed, Short}
 use Rattle.dm_proc.specs.declared.refusal.ArenaDestroyed.{ArenaDestroyed}
 use Rattle.dm_proc.specs.Programs.{program_of}
 use Rattle.dm_proc.specs.Writes.{apply, block, bytes_from}
@@ -69,7 +69,7 @@ named_none c m store a f x (inr r) =
     let e : Some f ≡ None = found-same store a r.0 (Some f) None (name_unique m c.ds c.dx a r.0 x.named r.1) x.found r.2 in
     cc
 
-good_refused : (c : Cpu) (m : Memory) (store : List (List ℕ × List ℕ)) (a f : List ℕ) → NamesGood c m store a f → (e : Refusal) → NameRefused c m store e → ⊥
+good_refused : (c : Cpu) (m : Memory) (store : List (List ℕ × List ℕ)) (a f : List ℕ) → NamesGood c m store a f → (e : ExecRefusal) → NameRefused c m store e → ⊥
 good_refused c m store a f x NotFound r = named_none c m store a f x.0 r
 good_refused c m store a f x BadFormat r =
     (let F : List ℕ → Type 0 = λ g. IsGood g in r.3 (subst F (names_unique c m store a r.0 f r.1 x.0 r.2).1 x.1))
@@ -108,7 +108,7 @@ module _ (ps : Processes) (c : Cpu) (m : Memory) (store : List (List ℕ × List
       subst R (sym file-same) (subst Q (sym (ap length environment-same)) p)
 
 -- the refusals in their order
-abbrev place : Refusal → ℕ
+abbrev place : ExecRefusal → ℕ
 place Function = 0
 place NotFound = 1
 place BadFormat = 2
@@ -117,10 +117,10 @@ place Destroyed = 4
 place Short = 5
 
 -- the refusal at a place
-abbrev refusal_at : ℕ → Refusal
+abbrev refusal_at : ℕ → ExecRefusal
 refusal_at n = if nat_eq n 0 then Function else (if nat_eq n 1 then NotFound else (if nat_eq n 2 then BadFormat else (if nat_eq n 3 then Environment else (if nat_eq n 4 then Destroyed else Short))))
 
-refusal_at-place : (e : Refusal) → refusal_at (place e) ≡ e
+refusal_at-place : (e : ExecRefusal) → refusal_at (place e) ≡ e
 refusal_at-place Function = refl
 refusal_at-place NotFound = refl
 refusal_at-place BadFormat = refl
@@ -128,11 +128,11 @@ refusal_at-place Environment = refl
 refusal_at-place Destroyed = refl
 refusal_at-place Short = refl
 
-place-same : (d e : Refusal) → place d ≡ place e → d ≡ e
+place-same : (d e : ExecRefusal) → place d ≡ place e → d ≡ e
 place-same d e h = sym (refusal_at-place d) ∙ ap refusal_at h ∙ refusal_at-place e
 
 -- an overlay
-lays_refused : (c : Cpu) (m : Memory) (store : List (List ℕ × List ℕ)) (n : Memory) → Lays c m store n → (e : Refusal) → OverlayRefused c m store e → ⊥
+lays_refused : (c : Cpu) (m : Memory) (store : List (List ℕ × List ℕ)) (n : Memory) → Lays c m store n → (e : ExecRefusal) → OverlayRefused c m store e → ⊥
 lays_refused c m store n x Function r = r x.action
 lays_refused c m store n x NotFound r = good_refused c m store x.name x.file x.names NotFound r.1
 lays_refused c m store n x BadFormat r = good_refused c m store x.name x.file x.names BadFormat r.1
@@ -140,7 +140,7 @@ lays_refused c m store n x Environment r = r
 lays_refused c m store n x Destroyed r = r
 lays_refused c m store n x Short r = r
 
-overlay_refused_same : (c : Cpu) (m : Memory) (store : List (List ℕ × List ℕ)) (d e : Refusal) → OverlayRefused c m store d → OverlayRefused c m store e → d ≡ e
+overlay_refused_same : (c : Cpu) (m : Memory) (store : List (List ℕ × List ℕ)) (d e : ExecRefusal) → OverlayRefused c m store d → OverlayRefused c m store e → d ≡ e
 overlay_refused_same c m store Function Function x y = refl
 overlay_refused_same c m store Function NotFound x y = absurd (x y.0)
 overlay_refused_same c m store Function BadFormat x y = absurd (x y.0)
@@ -163,13 +163,13 @@ overlay_refused_same c m store BadFormat Environment x y = absurd y
 overlay_refused_same c m store BadFormat Destroyed x y = absurd y
 overlay_refused_same c m store BadFormat Short x y = absurd y
 
-pub overlay_unique : (c : Cpu) (m : Memory) (store : List (List ℕ × List ℕ)) (r q : Result (Unit {0}) Refusal) (m₁ m₂ : Memory) → Overlays c m store r m₁ → Overlays c m store q m₂ → (r ≡ q) × (m₁ ≡ m₂)
+pub overlay_unique : (c : Cpu) (m : Memory) (store : List (List ℕ × List ℕ)) (r q : Result (Unit {0}) ExecRefusal) (m₁ m₂ : Memory) → Overlays c m store r m₁ → Overlays c m store q m₂ → (r ≡ q) × (m₁ ≡ m₂)
 overlay_unique c m store (Ok u) (Ok v) m₁ m₂ x y =
     let e = (names_unique c m store x.name y.name x.file y.file x.names.0 y.names.0).1 in
     (refl, x.memory ∙ ap (λ f. apply (block m.a20 (load_segment c m) (relocated f (relocation_factor c m))) m) e ∙ sym y.memory)
 overlay_unique c m store (Ok u) (Err e) m₁ m₂ x y = absurd (lays_refused c m store m₁ x e y.1)
 overlay_unique c m store (Err e) (Ok v) m₁ m₂ x y = absurd (lays_refused c m store m₂ y e x.1)
-overlay_unique c m store (Err d) (Err e) m₁ m₂ x y = (ap (λ (z : Refusal). Err z) (overlay_refused_same c m store d e x.1 y.1), x.0 ∙ sym y.0)
+overlay_unique c m store (Err d) (Err e) m₁ m₂ x y = (ap (λ (z : ExecRefusal). Err z) (overlay_refused_same c m store d e x.1 y.1), x.0 ∙ sym y.0)
 
 -- an ending
 last-same : (xs ys : List Parent) (p q : Parent) → xs ++ p ∷ [] ≡ ys ++ q ∷ [] → (xs ≡ ys) × (p ≡ q)
@@ -207,7 +207,7 @@ ends_unique ps c m n word d e p₁ p₂ c₁ c₂ m₁ m₂ same x y =
 
 module _ (up : Bool) where
   -- a plan is made or refused
-  planned_refused : (m : Memory) (st : Strategy) (k : ℕ) (f : List ℕ) (e : Refusal) → IsPlanned up m st k f → PlanRefused up m st k f e → ⊥
+  planned_refused : (m : Memory) (st : Strategy) (k : ℕ) (f : List ℕ) (e : ExecRefusal) → IsPlanned up m st k f → PlanRefused up m st k f e → ⊥
   planned_refused m st k f Destroyed p r = pair_refused up m first_header st (paragraphs k) (least f) (most f) p.0 p.1 arena.Destroyed r.1
   planned_refused m st k f Short p r = pair_refused up m first_header st (paragraphs k) (least f) (most f) p.0 p.1 (arena.Short r.0) r.1.1
   planned_refused m st k f Function p r = r
@@ -228,7 +228,7 @@ module _ (up : Bool) where
       let e : p ≡ q = placed-same _ _ p q refl refl u.0 in
       (e, x.memory ∙ ap (λ (k : Memory). apply (start_writes k.a20 p env (prefix m p parent a) f) k) u.1 ∙ ap (λ (z : Placed). apply (start_writes y.middle.a20 z env (prefix m z parent a) f) y.middle) e ∙ sym y.memory)
 
-  plan_refused_same : (m : Memory) (st : Strategy) (k : ℕ) (f : List ℕ) (d e : Refusal) → PlanRefused up m st k f d → PlanRefused up m st k f e → d ≡ e
+  plan_refused_same : (m : Memory) (st : Strategy) (k : ℕ) (f : List ℕ) (d e : ExecRefusal) → PlanRefused up m st k f d → PlanRefused up m st k f e → d ≡ e
   plan_refused_same m st k f Destroyed Destroyed x y = refl
   plan_refused_same m st k f Destroyed Short x y = absurd (destroyed_room m st k f x y)
   plan_refused_same m st k f Short Destroyed x y = absurd (destroyed_room m st k f y x)
@@ -263,7 +263,7 @@ module _ (up : Bool) where
         u.1,
       )
 
-  exec_refused : (ps : Processes) (c : Cpu) (m : Memory) (store : List (List ℕ × List ℕ)) (st : Strategy) (q : Processes) (d : Cpu) (n : Memory) → Execs up ps c m store st q d n → (e : Refusal) → ExecRefused up ps c m store st e → ⊥
+  exec_refused : (ps : Processes) (c : Cpu) (m : Memory) (store : List (List ℕ × List ℕ)) (st : Strategy) (q : Processes) (d : Cpu) (n : Memory) → Execs up ps c m store st q d n → (e : ExecRefusal) → ExecRefused up ps c m store st e → ⊥
   exec_refused ps c m store st q d n x Function r = r x.asks.action
   exec_refused ps c m store st q d n x NotFound r = good_refused c m store x.asks.name x.asks.file x.asks.names NotFound r.1
   exec_refused ps c m store st q d n x BadFormat r = good_refused c m store x.asks.name x.asks.file x.asks.names BadFormat r.1
@@ -281,7 +281,7 @@ module _ (up : Bool) where
     | inr s ↦ planned_refused m st _ _ Destroyed (planned-same ps c m store x.0 y.0 (λ k f. IsPlanned up m st k f) s.0) x.1
   ]
 
-  clash : (ps : Processes) (c : Cpu) (m : Memory) (store : List (List ℕ × List ℕ)) (st : Strategy) (d e : Refusal) → place d < place e → ExecRefused up ps c m store st d → ExecRefused up ps c m store st e → ⊥
+  clash : (ps : Processes) (c : Cpu) (m : Memory) (store : List (List ℕ × List ℕ)) (st : Strategy) (d e : ExecRefusal) → place d < place e → ExecRefused up ps c m store st d → ExecRefused up ps c m store st e → ⊥
   clash ps c m store st Function Function l x y = absurd (omega arith)
   clash ps c m store st Function NotFound l x y = x y.0
   clash ps c m store st Function BadFormat l x y = x y.0
@@ -319,19 +319,19 @@ module _ (up : Bool) where
   clash ps c m store st Short Destroyed l x y = absurd (omega arith)
   clash ps c m store st Short Short l x y = absurd (omega arith)
 
-  refused_same : (ps : Processes) (c : Cpu) (m : Memory) (store : List (List ℕ × List ℕ)) (st : Strategy) (d e : Refusal) → ExecRefused up ps c m store st d → ExecRefused up ps c m store st e → d ≡ e
+  refused_same : (ps : Processes) (c : Cpu) (m : Memory) (store : List (List ℕ × List ℕ)) (st : Strategy) (d e : ExecRefusal) → ExecRefused up ps c m store st d → ExecRefused up ps c m store st e → d ≡ e
   refused_same ps c m store st d e x y = place-same d e (compared (place d) (place e) (λ l. clash ps c m store st d e l x y) (λ l. clash ps c m store st e d l y x))
 
-  pub exec_unique : (ps : Processes) (c : Cpu) (m : Memory) (store : List (List ℕ × List ℕ)) (st : Strategy) (r q : Result (Unit {0}) Refusal) (p₁ p₂ : Processes) (c₁ c₂ : Cpu) (m₁ m₂ : Memory) →
+  pub exec_unique : (ps : Processes) (c : Cpu) (m : Memory) (store : List (List ℕ × List ℕ)) (st : Strategy) (r q : Result (Unit {0}) ExecRefusal) (p₁ p₂ : Processes) (c₁ c₂ : Cpu) (m₁ m₂ : Memory) →
       Executes up ps c m store st r p₁ c₁ m₁ → Executes up ps c m store st q p₂ c₂ m₂ → (r ≡ q) × (p₁ ≡ p₂) × (c₁ ≡ c₂) × (m₁ ≡ m₂)
   exec_unique ps c m store st (Ok u) (Ok v) p₁ p₂ c₁ c₂ m₁ m₂ x y = (let e = execs_unique ps c m store st p₁ p₂ c₁ c₂ m₁ m₂ x y in (refl, e.0, e.1, e.2))
   exec_unique ps c m store st (Ok u) (Err e) p₁ p₂ c₁ c₂ m₁ m₂ x y = absurd (exec_refused ps c m store st p₁ c₁ m₁ x e y.3)
   exec_unique ps c m store st (Err e) (Ok v) p₁ p₂ c₁ c₂ m₁ m₂ x y = absurd (exec_refused ps c m store st p₂ c₂ m₂ y e x.3)
   exec_unique ps c m store st (Err d) (Err e) p₁ p₂ c₁ c₂ m₁ m₂ x y =
-      (ap (λ (z : Refusal). Err z) (refused_same ps c m store st d e x.3 y.3), x.0 ∙ sym y.0, x.1 ∙ sym y.1, x.2 ∙ sym y.2)
+      (ap (λ (z : ExecRefusal). Err z) (refused_same ps c m store st d e x.3 y.3), x.0 ∙ sym y.0, x.1 ∙ sym y.1, x.2 ∙ sym y.2)
 
   -- the first program
-  pub load_unique : (m : Memory) (st : Strategy) (file variables name : List ℕ) (a : Passed) (r q : Result (Processes × Cpu) Refusal) (m₁ m₂ : Memory) →
+  pub load_unique : (m : Memory) (st : Strategy) (file variables name : List ℕ) (a : Passed) (r q : Result (Processes × Cpu) ExecRefusal) (m₁ m₂ : Memory) →
       Loads up m st file variables name a r m₁ → Loads up m st file variables name a q m₂ → (r ≡ q) × (m₁ ≡ m₂)
   load_unique m st file variables name a (Ok d) (Ok e) m₁ m₂ x y =
       let u = starts_unique m st _ _ _ _ x.placed y.placed m₁ m₂ x.starts y.starts in (
@@ -342,7 +342,7 @@ module _ (up : Bool) where
       )
   load_unique m st file variables name a (Ok d) (Err e) m₁ m₂ x y = absurd (planned_refused m st _ _ e (started_planned _ _ _ _ _ _ _ _ x.starts) y.1)
   load_unique m st file variables name a (Err e) (Ok d) m₁ m₂ x y = absurd (planned_refused m st _ _ e (started_planned _ _ _ _ _ _ _ _ y.starts) x.1)
-  load_unique m st file variables name a (Err d) (Err e) m₁ m₂ x y = (ap (λ (z : Refusal). Err z) (plan_refused_same m st _ _ d e x.1 y.1), x.0 ∙ sym y.0)
+  load_unique m st file variables name a (Err d) (Err e) m₁ m₂ x y = (ap (λ (z : ExecRefusal). Err z) (plan_refused_same m st _ _ d e x.1 y.1), x.0 ∙ sym y.0)
 
   pub terminating_unique : (ps : Processes) (c : Cpu) (m : Memory) (code : ℕ) (r q : Result Ending ArenaDestroyed) (p₁ p₂ : Processes) (c₁ c₂ : Cpu) (m₁ m₂ : Memory) →
       Terminates up ps c m code r p₁ c₁ m₁ → Terminates up ps c m code q p₂ c₂ m₂ → (r ≡ q) × (p₁ ≡ p₂) × (c₁ ≡ c₂) × (m₁ ≡ m₂)

@@ -10,11 +10,11 @@ use Rattle.dm_proc.specs.Environment.{AreVariables, environment}
 use Rattle.dm_proc.specs.inner.Environment.{IsMade}
 use Rattle.dm_cpu.specs.declared.cpu.Cpu.{Cpu}
 use Rattle.dm_proc.specs.Room.{paragraphs, least, most}
-use Rattle.dm_proc.specs.declared.refusal.Refusal.{Refusal}
+use Rattle.dm_proc.specs.declared.refusal.ExecRefusal.{ExecRefusal}
 use Rattle.dm_arena.specs.Pair.{Placed, placed_of}
 use Rattle.dm_proc.specs.Processes.{Processes, IsPlanned, PlanRefused, Starts, Asks, environment_of, ExecRefused}
 use Rattle.dm_proc.specs.inner.Processes.{IsWritten}
-use Rattle.dm_proc.specs.declared.refusal.Refusal.TheVariants.{Function, NotFound, BadFormat, Environment, Destroyed, Short}
+use Rattle.dm_proc.specs.declared.refusal.ExecRefusal.TheVariants.{Function, NotFound, BadFormat, Environment, Destroyed, Short}
 
 -- a COM program's block has room for the prefix and a word
 pub com_room : (file : List ℕ) (size : ℕ) → least file ≤ size → is_mz file ≡ false → 0x11 ≤ size
@@ -61,7 +61,7 @@ module _ (up : Bool) where
     pub starts : (count : ℕ) → length environment ≡ count → Makes count
     starts count e = subst Makes e exact
 
-  pub refused_at : (m n : Memory) (strategy : Strategy) (k count : ℕ) (file : List ℕ) (e : Refusal) → n ≡ m → k ≡ count → PlanRefused up n strategy k file e → PlanRefused up m strategy count file e
+  pub refused_at : (m n : Memory) (strategy : Strategy) (k count : ℕ) (file : List ℕ) (e : ExecRefusal) → n ≡ m → k ≡ count → PlanRefused up n strategy k file e → PlanRefused up m strategy count file e
   refused_at m n strategy k count file e f g h =
       let P : Memory → Type 0 = λ s. PlanRefused up s strategy k file e in
       let Q : ℕ → Type 0 = λ j. PlanRefused up m strategy j file e in
@@ -83,7 +83,7 @@ module _ (up : Bool) where
       (pair, subst Q g (subst P f h))
 
   -- a refused plan refuses the call
-  pub plan_refused : (ps : Processes) (c : Cpu) (m : Memory) (store : List (List ℕ × List ℕ)) (strategy : Strategy) (a : Asks ps c m store) (e : Refusal) →
+  pub plan_refused : (ps : Processes) (c : Cpu) (m : Memory) (store : List (List ℕ × List ℕ)) (strategy : Strategy) (a : Asks ps c m store) (e : ExecRefusal) →
       PlanRefused up m strategy (length (environment_of a)) a.file e → ExecRefused up ps c m store strategy e
   plan_refused ps c m store strategy a Destroyed h = (a, h)
   plan_refused ps c m store strategy a Short h = (a, inl h)

@@ -3,7 +3,7 @@ use Rattle.std.proofs.Common.{◌≡◌, ℕ, zero, suc, ◌+◌, ◌-◌, ◌%�
 use Rattle.dm_space.specs.Memory.{Memory, linear, peek, peek16, poke}
 use Rattle.dm_space.specs.Unseen.{IsUnseen}
 use Rattle.dm_arena.specs.declared.fit.Strategy.{Strategy}
-use Rattle.dm_arena.specs.declared.refusal.Refusal.TheVariants as arena
+use Rattle.dm_arena.specs.declared.refusal.ArenaRefusal.TheVariants as arena
 use Rattle.dm_blocks.specs.Chain.{first_header}
 use Rattle.dm_arena.specs.Pair.{Placed}
 use Rattle.dm_arena.proofs.Unseen.{pair-unseen, pairing-unseen, releasing-unseen, resizing-unseen}
@@ -13,8 +13,8 @@ use Rattle.dm_cpu.specs.declared.cpu.Cpu.{Cpu}
 use Rattle.dm_cpu.specs.Guest.{Guest, guest}
 use Rattle.dm_cpu.proofs.Unseen.{interrupt_return-unseen}
 use Rattle.dm_proc.specs.declared.parent.Ending.{Ending}
-use Rattle.dm_proc.specs.declared.refusal.Refusal.{Refusal}
-use Rattle.dm_proc.specs.declared.refusal.Refusal.TheVariants.{Function, NotFound, BadFormat, Environment, Destroyed, Short}
+use Rattle.dm_proc.specs.declared.refusal.ExecRefusal.{ExecRefusal}
+use Rattle.dm_proc.specs.declared.refusal.ExecRefusal.TheVariants.{Function, NotFound, BadFormat, Environment, Destroyed, Short}
 use Rattle.dm_proc.specs.declared.refusal.ArenaDestroyed.{ArenaDestroyed}
 use Rattle.dm_proc.specs.Writes.{Write, apply, upwards, block, bytes_from}
 use Rattle.dm_proc.specs.Request.{IsNameAt, Names, NameRefused, pointer_at, tail_at, block_at, Passed, passed, environment_segment, load_segment, relocation_factor}
@@ -48,7 +48,7 @@ module _ (up : Bool) where
     names-unseen : (c : Cpu) (m : Memory) (store : List (List ℕ × List ℕ)) (name file : List ℕ) → Names c m store name file → Names c (f m) store name file
     names-unseen c m store name file x = record { named = name-unseen m c.ds c.dx name x.named; found = x.found }
 
-    name_refused-unseen : (c : Cpu) (m : Memory) (store : List (List ℕ × List ℕ)) (e : Refusal) → NameRefused c m store e → NameRefused c (f m) store e
+    name_refused-unseen : (c : Cpu) (m : Memory) (store : List (List ℕ × List ℕ)) (e : ExecRefusal) → NameRefused c m store e → NameRefused c (f m) store e
     name_refused-unseen c m store NotFound (inl none) = inl (λ k l e. none k l (sym (at-unseen m c.ds ((c.dx + k) % 65536)) ∙ e))
     name_refused-unseen c m store NotFound (inr x) = inr (x.0, name-unseen m c.ds c.dx x.0 x.1, x.2)
     name_refused-unseen c m store BadFormat x = (x.0, x.1, names-unseen c m store x.0 x.1 x.2, x.3)
@@ -140,7 +140,7 @@ module _ (up : Bool) where
           ∙ ap (λ xs. apply (start_writes (f s.middle).a20 placed env xs file) (f s.middle)) (sym (prefix-unseen m placed parent a));
     }
 
-    plan_refused-unseen : (m : Memory) (st : Strategy) (k : ℕ) (file : List ℕ) (e : Refusal) → PlanRefused up m st k file e → PlanRefused up (f m) st k file e
+    plan_refused-unseen : (m : Memory) (st : Strategy) (k : ℕ) (file : List ℕ) (e : ExecRefusal) → PlanRefused up m st k file e → PlanRefused up (f m) st k file e
     plan_refused-unseen m st k file Destroyed x = pairing-unseen up f u m m st (paragraphs k) (least file) (most file) (Err arena.Destroyed) x
     plan_refused-unseen m st k file Short x = (x.0, pairing-unseen up f u m m st (paragraphs k) (least file) (most file) (Err (arena.Short x.0)) x.1)
     plan_refused-unseen m st k file Function x = x
@@ -148,7 +148,7 @@ module _ (up : Bool) where
     plan_refused-unseen m st k file BadFormat x = x
     plan_refused-unseen m st k file Environment x = x
 
-    exec_refused-unseen : (ps : Processes) (c : Cpu) (m : Memory) (store : List (List ℕ × List ℕ)) (st : Strategy) (e : Refusal) → ExecRefused up ps c m store st e → ExecRefused up ps c (f m) store st e
+    exec_refused-unseen : (ps : Processes) (c : Cpu) (m : Memory) (store : List (List ℕ × List ℕ)) (st : Strategy) (e : ExecRefusal) → ExecRefused up ps c m store st e → ExecRefused up ps c (f m) store st e
     exec_refused-unseen ps c m store st Function x = x
     exec_refused-unseen ps c m store st NotFound x = (x.0, name_refused-unseen c m store NotFound x.1)
     exec_refused-unseen ps c m store st BadFormat x = (x.0, name_refused-unseen c m store BadFormat x.1)
@@ -166,7 +166,7 @@ module _ (up : Bool) where
       ],
     )
 
-    pub exec-unseen : (ps : Processes) (c : Cpu) (m : Memory) (store : List (List ℕ × List ℕ)) (st : Strategy) (r : Result (Unit {0}) Refusal) (qs : Processes) (d : Cpu) (n : Memory) →
+    pub exec-unseen : (ps : Processes) (c : Cpu) (m : Memory) (store : List (List ℕ × List ℕ)) (st : Strategy) (r : Result (Unit {0}) ExecRefusal) (qs : Processes) (d : Cpu) (n : Memory) →
         Executes up ps c m store st r qs d n → Executes up ps c (f m) store st r qs d (f n)
     exec-unseen ps c m store st (Ok x) qs d n e = record {
       asks = asks-unseen ps c m store e.asks;
@@ -178,7 +178,7 @@ module _ (up : Bool) where
     }
     exec-unseen ps c m store st (Err e) qs d n x = (x.0, x.1, ap f x.2, exec_refused-unseen ps c m store st e x.3)
 
-    pub load-unseen : (m : Memory) (st : Strategy) (file variables name : List ℕ) (a : Passed) (r : Result (Processes × Cpu) Refusal) (n : Memory) →
+    pub load-unseen : (m : Memory) (st : Strategy) (file variables name : List ℕ) (a : Passed) (r : Result (Processes × Cpu) ExecRefusal) (n : Memory) →
         Loads up m st file variables name a r n → Loads up (f m) st file variables name a r (f n)
     load-unseen m st file variables name a (Ok d) n x = record {
       placed = x.placed;
@@ -188,7 +188,7 @@ module _ (up : Bool) where
     }
     load-unseen m st file variables name a (Err e) n x = (ap f x.0, plan_refused-unseen m st _ _ e x.1)
 
-    overlay_refused-unseen : (c : Cpu) (m : Memory) (store : List (List ℕ × List ℕ)) (e : Refusal) → OverlayRefused c m store e → OverlayRefused c (f m) store e
+    overlay_refused-unseen : (c : Cpu) (m : Memory) (store : List (List ℕ × List ℕ)) (e : ExecRefusal) → OverlayRefused c m store e → OverlayRefused c (f m) store e
     overlay_refused-unseen c m store Function x = x
     overlay_refused-unseen c m store NotFound x = (x.0, name_refused-unseen c m store NotFound x.1)
     overlay_refused-unseen c m store BadFormat x = (x.0, name_refused-unseen c m store BadFormat x.1)
@@ -196,7 +196,7 @@ module _ (up : Bool) where
     overlay_refused-unseen c m store Destroyed x = x
     overlay_refused-unseen c m store Short x = x
 
-    pub overlay-unseen : (c : Cpu) (m : Memory) (store : List (List ℕ × List ℕ)) (r : Result (Unit {0}) Refusal) (n : Memory) → Overlays c m store r n → Overlays c (f m) store r (f n)
+    pub overlay-unseen : (c : Cpu) (m : Memory) (store : List (List ℕ × List ℕ)) (r : Result (Unit {0}) ExecRefusal) (n : Memory) → Overlays c m store r n → Overlays c (f m) store r (f n)
     overlay-unseen c m store (Ok x) n l = record {
       action = l.action;
       name = l.name;

@@ -5,7 +5,7 @@ use Rattle.dm_space.specs.Unseen.{IsUnseen}
 use Rattle.dm_arena.specs.declared.fit.Strategy.{Strategy}
 use Rattle.dm_cpu.specs.declared.cpu.Cpu.{Cpu}
 use Rattle.dm_proc.specs.declared.parent.Ending.{Ending}
-use Rattle.dm_proc.specs.declared.refusal.Refusal.{Refusal}
+use Rattle.dm_proc.specs.declared.refusal.ExecRefusal.{ExecRefusal}
 use Rattle.dm_proc.specs.declared.refusal.ArenaDestroyed.{ArenaDestroyed}
 use Rattle.dm_proc.specs.Request.{Passed}
 use Rattle.dm_proc.specs.Processes.{Processes, AreLoaded, Executes, Loads, Overlays, Terminates, Keeps}
@@ -13,18 +13,18 @@ use Rattle.dm_proc.specs.Processes.{Processes, AreLoaded, Executes, Loads, Overl
 -- the answer of a call, and all that it leaves, are functions of the state and the arguments
 abbrev pub ExecHasOneAnswer : Type 0
 ExecHasOneAnswer =
-    (upper : Bool) (ps : Processes) (c : Cpu) (m : Memory) (store : List (List ℕ × List ℕ)) (strategy : Strategy) (r q : Result (Unit {0}) Refusal)
+    (upper : Bool) (ps : Processes) (c : Cpu) (m : Memory) (store : List (List ℕ × List ℕ)) (strategy : Strategy) (r q : Result (Unit {0}) ExecRefusal)
     (ps₁ ps₂ : Processes) (c₁ c₂ : Cpu) (m₁ m₂ : Memory) →
     Executes upper ps c m store strategy r ps₁ c₁ m₁ → Executes upper ps c m store strategy q ps₂ c₂ m₂ → (r ≡ q) × (ps₁ ≡ ps₂) × (c₁ ≡ c₂) × (m₁ ≡ m₂)
 
 abbrev pub LoadHasOneAnswer : Type 0
 LoadHasOneAnswer =
-    (upper : Bool) (m : Memory) (strategy : Strategy) (file variables name : List ℕ) (a : Passed) (r q : Result (Processes × Cpu) Refusal) (m₁ m₂ : Memory) →
+    (upper : Bool) (m : Memory) (strategy : Strategy) (file variables name : List ℕ) (a : Passed) (r q : Result (Processes × Cpu) ExecRefusal) (m₁ m₂ : Memory) →
     Loads upper m strategy file variables name a r m₁ → Loads upper m strategy file variables name a q m₂ → (r ≡ q) × (m₁ ≡ m₂)
 
 abbrev pub OverlayHasOneAnswer : Type 0
 OverlayHasOneAnswer =
-    (c : Cpu) (m : Memory) (store : List (List ℕ × List ℕ)) (r q : Result (Unit {0}) Refusal) (m₁ m₂ : Memory) →
+    (c : Cpu) (m : Memory) (store : List (List ℕ × List ℕ)) (r q : Result (Unit {0}) ExecRefusal) (m₁ m₂ : Memory) →
     Overlays c m store r m₁ → Overlays c m store q m₂ → (r ≡ q) × (m₁ ≡ m₂)
 
 abbrev pub TerminatingHasOneAnswer : Type 0
@@ -39,7 +39,7 @@ KeepingHasOneAnswer =
 
 -- a loaded program stays loaded, whatever is called; the load of the first one makes it so
 pub record CallsKeepLoaded : Type 0 where
-  pub exec : (upper : Bool) (ps : Processes) (c : Cpu) (m : Memory) (store : List (List ℕ × List ℕ)) (strategy : Strategy) (r : Result (Unit {0}) Refusal) (qs : Processes) (d : Cpu) (n : Memory) →
+  pub exec : (upper : Bool) (ps : Processes) (c : Cpu) (m : Memory) (store : List (List ℕ × List ℕ)) (strategy : Strategy) (r : Result (Unit {0}) ExecRefusal) (qs : Processes) (d : Cpu) (n : Memory) →
       Executes upper ps c m store strategy r qs d n → AreLoaded ps → AreLoaded qs
   pub load : (upper : Bool) (m : Memory) (strategy : Strategy) (file variables name : List ℕ) (a : Passed) (qs : Processes) (d : Cpu) (n : Memory) →
       Loads upper m strategy file variables name a (Ok (qs, d)) n → AreLoaded qs
@@ -50,11 +50,11 @@ pub record CallsKeepLoaded : Type 0 where
 
 -- no call depends on what no program sees, or changes it
 pub record CallsIgnoreUnseen (change : Memory → Memory) : Type 0 where
-  pub exec : (upper : Bool) (ps : Processes) (c : Cpu) (m : Memory) (store : List (List ℕ × List ℕ)) (strategy : Strategy) (r : Result (Unit {0}) Refusal) (qs : Processes) (d : Cpu) (n : Memory) →
+  pub exec : (upper : Bool) (ps : Processes) (c : Cpu) (m : Memory) (store : List (List ℕ × List ℕ)) (strategy : Strategy) (r : Result (Unit {0}) ExecRefusal) (qs : Processes) (d : Cpu) (n : Memory) →
       Executes upper ps c m store strategy r qs d n → Executes upper ps c (change m) store strategy r qs d (change n)
-  pub load : (upper : Bool) (m : Memory) (strategy : Strategy) (file variables name : List ℕ) (a : Passed) (r : Result (Processes × Cpu) Refusal) (n : Memory) →
+  pub load : (upper : Bool) (m : Memory) (strategy : Strategy) (file variables name : List ℕ) (a : Passed) (r : Result (Processes × Cpu) ExecRefusal) (n : Memory) →
       Loads upper m strategy file variables name a r n → Loads upper (change m) strategy file variables name a r (change n)
-  pub overlay : (c : Cpu) (m : Memory) (store : List (List ℕ × List ℕ)) (r : Result (Unit {0}) Refusal) (n : Memory) →
+  pub overlay : (c : Cpu) (m : Memory) (store : List (List ℕ × List ℕ)) (r : Result (Unit {0}) ExecRefusal) (n : Memory) →
       Overlays c m store r n → Overlays c (change m) store r (change n)
   pub terminating : (upper : Bool) (ps : Processes) (c : Cpu) (m : Memory) (code : ℕ) (r : Result Ending ArenaDestroyed) (qs : Processes) (d : Cpu) (n : Memory) →
       Terminates upper ps c m code r qs d n → Terminates upper ps c (change m) code r qs d (change n)

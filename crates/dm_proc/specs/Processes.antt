@@ -3,8 +3,8 @@
 use Rattle.std.specs.Prelude.{◌≡◌, Bool, ◌≢◌, ℕ, ◌+◌, ◌<◌, ◌⊎◌, false, List, [], ◌∷◌, ◌++◌, length, Result, Ok, Err, All}
 use Rattle.dm_space.specs.Memory.{Memory}
 use Rattle.dm_arena.specs.declared.fit.Strategy.{Strategy}
-use Rattle.dm_arena.specs.declared.refusal.Refusal.TheVariants as arena
-use Rattle.dm_arena.specs.declared.refusal.Refusal.{Refusal as ArenaRefusal}
+use Rattle.dm_arena.specs.declared.refusal.ArenaRefusal.TheVariants as arena
+use Rattle.dm_arena.specs.declared.refusal.ArenaRefusal.{ArenaRefusal}
 use Rattle.dm_blocks.specs.Chain.{first_header}
 use Rattle.dm_arena.specs.Pair.{Planned, IsPair}
 use Rattle.dm_arena.specs.Owned.{Releases, Resizes}
@@ -13,8 +13,8 @@ use Rattle.dm_cpu.specs.declared.cpu.Cpu.{Cpu}
 use Rattle.dm_cpu.specs.Guest.{guest}
 use Rattle.dm_cpu.specs.Stack.{interrupt_return}
 use Rattle.dm_proc.specs.declared.parent.Parent.{Parent}
-use Rattle.dm_proc.specs.declared.refusal.Refusal.{Refusal}
-use Rattle.dm_proc.specs.declared.refusal.Refusal.TheVariants.{Function, NotFound, BadFormat, Environment, Destroyed, Short}
+use Rattle.dm_proc.specs.declared.refusal.ExecRefusal.{ExecRefusal}
+use Rattle.dm_proc.specs.declared.refusal.ExecRefusal.TheVariants.{Function, NotFound, BadFormat, Environment, Destroyed, Short}
 use Rattle.dm_proc.specs.declared.refusal.ArenaDestroyed.{ArenaDestroyed}
 use Rattle.dm_proc.specs.declared.parent.Ending.{Ending}
 use Rattle.dm_proc.specs.declared.parent.Ending.TheVariants.{Returned, Exited}
@@ -53,7 +53,7 @@ abbrev pub IsPlanned : Bool → Memory → Strategy → ℕ → List ℕ → Typ
 IsPlanned upper m strategy count file = (pair : Planned) × IsPair upper m first_header strategy (paragraphs count) (least file) (most file) pair
 
 -- no list of blocks that is clear, or none for the last list; no room for both blocks
-abbrev pub PlanRefused : Bool → Memory → Strategy → ℕ → List ℕ → Refusal → Type 0
+abbrev pub PlanRefused : Bool → Memory → Strategy → ℕ → List ℕ → ExecRefusal → Type 0
 PlanRefused upper m strategy count file Destroyed = Plans upper m strategy count file (Err arena.Destroyed) m
 PlanRefused upper m strategy count file Short = (room : ℕ) × Plans upper m strategy count file (Err (arena.Short room)) m
 PlanRefused upper m strategy count file _ = ⊥
@@ -95,7 +95,7 @@ pub record Execs (upper : Bool) (ps : Processes) (c : Cpu) (m : Memory) (store :
 -- environment has an end too. `PlanRefused` holds the next three in their order: no room means that there is a block
 -- list, and a new list that there is room. Last, `IsPlanned`: both blocks could be written, but fifteen processes wait
 -- for the present one, which is the sixteenth
-abbrev pub ExecRefused : Bool → Processes → Cpu → Memory → List (List ℕ × List ℕ) → Strategy → Refusal → Type 0
+abbrev pub ExecRefused : Bool → Processes → Cpu → Memory → List (List ℕ × List ℕ) → Strategy → ExecRefusal → Type 0
 ExecRefused upper ps c m store strategy Function = action c ≢ 0
 ExecRefused upper ps c m store strategy NotFound = (action c ≡ 0) × NameRefused c m store NotFound
 ExecRefused upper ps c m store strategy BadFormat = (action c ≡ 0) × NameRefused c m store BadFormat
@@ -106,7 +106,7 @@ ExecRefused upper ps c m store strategy Short =
     (a : Asks ps c m store) × (PlanRefused upper m strategy (length (environment_of a)) a.file Short ⊎ (IsPlanned upper m strategy (length (environment_of a)) a.file × (length ps.parents ≡ 15)))
 
 -- function 4Bh with AL = 0; a refusal changes nothing
-abbrev pub Executes : Bool → Processes → Cpu → Memory → List (List ℕ × List ℕ) → Strategy → Result (Unit {0}) Refusal → Processes → Cpu → Memory → Type 0
+abbrev pub Executes : Bool → Processes → Cpu → Memory → List (List ℕ × List ℕ) → Strategy → Result (Unit {0}) ExecRefusal → Processes → Cpu → Memory → Type 0
 Executes upper ps c m store strategy (Ok x) qs d n = Execs upper ps c m store strategy qs d n
 Executes upper ps c m store strategy (Err e) qs d n = (qs ≡ ps) × (d ≡ c) × (n ≡ m) × ExecRefused upper ps c m store strategy e
 
@@ -118,7 +118,7 @@ pub record Begins (upper : Bool) (m : Memory) (strategy : Strategy) (file variab
   pub processes : qs ≡ record { present = placed.program; parents = []; code = 0 }
 
 -- the load of the first program; a refusal changes nothing
-abbrev pub Loads : Bool → Memory → Strategy → List ℕ → List ℕ → List ℕ → Passed → Result (Processes × Cpu) Refusal → Memory → Type 0
+abbrev pub Loads : Bool → Memory → Strategy → List ℕ → List ℕ → List ℕ → Passed → Result (Processes × Cpu) ExecRefusal → Memory → Type 0
 Loads upper m strategy file variables name a (Ok r) n = Begins upper m strategy file variables name a r.0 r.1 n
 Loads upper m strategy file variables name a (Err e) n = (n ≡ m) × PlanRefused upper m strategy (length (environment variables name)) file e
 
@@ -131,14 +131,14 @@ pub record Lays (c : Cpu) (m : Memory) (store : List (List ℕ × List ℕ)) (n 
   pub memory : n ≡ apply (block m.a20 (load_segment c m) (relocated file (relocation_factor c m))) m
 
 -- why no overlay is loaded: AL is not 3, no such name, or a bad file; nothing changes
-abbrev pub OverlayRefused : Cpu → Memory → List (List ℕ × List ℕ) → Refusal → Type 0
+abbrev pub OverlayRefused : Cpu → Memory → List (List ℕ × List ℕ) → ExecRefusal → Type 0
 OverlayRefused c m store Function = action c ≢ 3
 OverlayRefused c m store NotFound = (action c ≡ 3) × NameRefused c m store NotFound
 OverlayRefused c m store BadFormat = (action c ≡ 3) × NameRefused c m store BadFormat
 OverlayRefused c m store _ = ⊥
 
 -- function 4Bh with AL = 3; a refusal changes nothing
-abbrev pub Overlays : Cpu → Memory → List (List ℕ × List ℕ) → Result (Unit {0}) Refusal → Memory → Type 0
+abbrev pub Overlays : Cpu → Memory → List (List ℕ × List ℕ) → Result (Unit {0}) ExecRefusal → Memory → Type 0
 Overlays c m store (Ok x) n = Lays c m store n
 Overlays c m store (Err e) n = (n ≡ m) × OverlayRefused c m store e
 

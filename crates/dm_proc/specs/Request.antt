@@ -6,8 +6,8 @@ use Rattle.dm_space.specs.EightBytes.{byte_after}
 use Rattle.dm_load.specs.declared.format.FarPointer.{FarPointer}
 use Rattle.dm_load.specs.Image.{IsGood}
 use Rattle.dm_cpu.specs.declared.cpu.Cpu.{Cpu}
-use Rattle.dm_proc.specs.declared.refusal.Refusal.{Refusal}
-use Rattle.dm_proc.specs.declared.refusal.Refusal.TheVariants.{NotFound, BadFormat}
+use Rattle.dm_proc.specs.declared.refusal.ExecRefusal.{ExecRefusal}
+use Rattle.dm_proc.specs.declared.refusal.ExecRefusal.TheVariants.{NotFound, BadFormat}
 use Rattle.dm_proc.specs.Programs.{program_of}
 use Rattle.dm_proc.specs.Writes.{bytes_from}
 use Rattle.dm_proc.specs.declared.arguments.Arguments.{Arguments}
@@ -37,7 +37,7 @@ abbrev pub NamesGood : Cpu → Memory → List (List ℕ × List ℕ) → List �
 NamesGood c m store name file = Names c m store name file × IsGood file
 
 -- no name, or none of the store; a file that can't be loaded
-abbrev pub NameRefused : Cpu → Memory → List (List ℕ × List ℕ) → Refusal → Type 0
+abbrev pub NameRefused : Cpu → Memory → List (List ℕ × List ℕ) → ExecRefusal → Type 0
 NameRefused c m store NotFound = NoNameAt m c.ds c.dx ⊎ ((name : List ℕ) × IsNameAt m c.ds c.dx name × (program_of store name ≡ None))
 NameRefused c m store BadFormat = (name : List ℕ) × (file : List ℕ) × Names c m store name file × (IsGood file → ⊥)
 NameRefused c m store _ = ⊥

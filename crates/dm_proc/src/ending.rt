@@ -8,7 +8,7 @@ use crate::psp::push_guest;
 use crate::refusal::ArenaDestroyed;
 use crate::writes::write_from;
 use arrayvec::ArrayVec;
-use dm_arena::{Refusal, free_all, resize};
+use dm_arena::{ArenaRefusal, free_all, resize};
 use dm_cpu::Cpu;
 use dm_space::Space;
 
@@ -22,12 +22,12 @@ fn vectors_back(space: &mut Space, segment: u16)
 }
 
 /// Whether a call of the arena met no clear list of blocks, or would have left none.
-fn is_destroyed(answer: Result<(), Refusal>) -> bool
-    ensures { MatchBool result (IsErrOf answer Refusal.Destroyed) (IsErrOf answer Refusal.Destroyed → ⊥) }
+fn is_destroyed(answer: Result<(), ArenaRefusal>) -> bool
+    ensures { MatchBool result (IsErrOf answer ArenaRefusal.Destroyed) (IsErrOf answer ArenaRefusal.Destroyed → ⊥) }
 {
     match answer {
-        Err(Refusal::Destroyed) => true,
-        Ok(()) | Err(Refusal::Short { .. } | Refusal::NoBlock) => false,
+        Err(ArenaRefusal::Destroyed) => true,
+        Ok(()) | Err(ArenaRefusal::Short { .. } | ArenaRefusal::NoBlock) => false,
     }
 }
 

@@ -9,7 +9,7 @@ use crate::environment::{make_environment, put_environment};
 use crate::launch::{plan, start};
 use crate::procs::Procs;
 use crate::programs::Programs;
-use crate::refusal::Refusal;
+use crate::refusal::ExecRefusal;
 use crate::request::{arguments_at, asked_program, environment_segment};
 use dm_arena::Strategy;
 use dm_cpu::{Cpu, interrupt_return};
@@ -37,7 +37,7 @@ impl Procs {
     ///
     /// # Errors
     ///
-    /// The first of `Refusal`'s reasons that holds, in their order; but no room for the blocks comes
+    /// The first of `ExecRefusal`'s reasons that holds, in their order; but no room for the blocks comes
     /// before a last list of blocks that is not clear, and that before too many processes. A refusal
     /// changes neither memory nor registers nor processes.
     pub fn exec(
@@ -47,21 +47,21 @@ impl Procs {
         programs: &Programs,
         strategy: Strategy,
         upper: bool,
-    ) -> Result<(), Refusal>
+    ) -> Result<(), ExecRefusal>
         ensures { Executes upper self.old cpu.old space.old.memory programs.now strategy result self.new cpu.new space.new.memory }
     {
         if cpu.ax % 256 != 0 {
-            return Err(Refusal::Function);
+            return Err(ExecRefusal::Function);
         }
         let program = asked_program(cpu, space, programs)?;
         let segment = environment_segment(cpu, space, self.psp());
         let Some(environment_bytes) = make_environment(space, segment, program.name.as_slice())
         else {
-            return Err(Refusal::Environment);
+            return Err(ExecRefusal::Environment);
         };
         let pair = plan(space, strategy, &program.image, environment_bytes, upper)?;
         if self.is_full() {
-            return Err(Refusal::Short);
+            return Err(ExecRefusal::Short);
         }
         let arguments = arguments_at(cpu, space);
         let after = return_registers(cpu, space);
@@ -97,7 +97,7 @@ impl Procs {
         name: &[u8],
         arguments: &Arguments,
         upper: bool,
-    ) -> Result<(Procs, Cpu), Refusal>
+    ) -> Result<(Procs, Cpu), ExecRefusal>
         requires variables { length variables.now ≤ 0x7FFF }
         requires name { length name.now ≤ 64 }
         ensures loads { Loads upper space.old.memory strategy image.now variables.now name.now (passed_of arguments.now) result space.new.memory }

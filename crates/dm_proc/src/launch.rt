@@ -17,7 +17,7 @@ ghost use Rattle.dm_proc.specs.inner.Processes.{IsWritten};
 use crate::arguments::Arguments;
 use crate::placed::Blocks;
 use crate::psp::make_prefix;
-use crate::refusal::Refusal;
+use crate::refusal::ExecRefusal;
 use crate::room::{least, most};
 use crate::writes::{write_bytes, write_from, write_scratch};
 use dm_arena::{Pair, Strategy, plan_pair, write_pair};
@@ -168,7 +168,7 @@ pub(crate) fn plan(
     image: &Image,
     environment_bytes: usize,
     upper: bool,
-) -> Result<Pair, Refusal>
+) -> Result<Pair, ExecRefusal>
     requires { environment_bytes < 0x8100 }
     ensures { MatchResult result (λ pair. IsPair upper space.now.memory first_header strategy (paragraphs environment_bytes) (Room.least image.now) (Room.most image.now) pair) (λ e. PlanRefused upper space.now.memory strategy environment_bytes image.now e) }
 {
@@ -182,9 +182,9 @@ pub(crate) fn plan(
         upper,
     ) {
         Ok(pair) => Ok(pair),
-        Err(dm_arena::Refusal::Short { .. }) => Err(Refusal::Short),
-        Err(dm_arena::Refusal::Destroyed) => Err(Refusal::Destroyed),
-        Err(dm_arena::Refusal::NoBlock) => unreachable!(),
+        Err(dm_arena::ArenaRefusal::Short { .. }) => Err(ExecRefusal::Short),
+        Err(dm_arena::ArenaRefusal::Destroyed) => Err(ExecRefusal::Destroyed),
+        Err(dm_arena::ArenaRefusal::NoBlock) => unreachable!(),
     }
 }
 

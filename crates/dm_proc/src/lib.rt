@@ -29,4 +29,4 @@ pub use overlays::overlay;
 pub use parent::{Ending, Parent};
 pub use procs::Procs;
 pub use programs::{AddError, Programs};
-pub use refusal::{ArenaDestroyed, Refusal};
+pub use refusal::{ArenaDestroyed, ExecRefusal};

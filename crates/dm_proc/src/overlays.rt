@@ -4,7 +4,7 @@ ghost use Rattle.dm_proc.specs.Processes.{Overlays};
 
 use crate::launch::write_image;
 use crate::programs::Programs;
-use crate::refusal::Refusal;
+use crate::refusal::ExecRefusal;
 use crate::request::asked_program;
 use dm_cpu::Cpu;
 use dm_space::Space;
@@ -16,11 +16,11 @@ use dm_space::Space;
 /// # Errors
 ///
 /// `Function` where AL is not 3, else `NotFound`, else `BadFormat`. A refusal changes nothing.
-pub fn overlay(cpu: &Cpu, space: &mut Space, programs: &Programs) -> Result<(), Refusal>
+pub fn overlay(cpu: &Cpu, space: &mut Space, programs: &Programs) -> Result<(), ExecRefusal>
     ensures { Overlays cpu.now space.old.memory programs.now result space.new.memory }
 {
     if cpu.ax % 256 != 3 {
-        return Err(Refusal::Function);
+        return Err(ExecRefusal::Function);
     }
     let program = asked_program(cpu, space, programs)?;
     let segment = space.peek16(cpu.es, cpu.bx);

@@ -6,7 +6,7 @@ use thiserror::Error;
 /// Why function 4Bh started no program (MS-DOS Programmer's Reference, function 4Bh). A refused
 /// call has changed nothing.
 #[derive(Clone, Copy, Debug, PartialEq, Eq, Error)]
-pub enum Refusal {
+pub enum ExecRefusal {
     /// AL asks for another function (DOS error 1, "Invalid function").
     #[error("no such function")]
     Function,

@@ -6,7 +6,7 @@ ghost use Rattle.dm_proc.specs.Request.{NoNameAt, IsNameAt, NamesGood, NameRefus
 use crate::arguments::Arguments;
 use crate::programs::Programs;
 use crate::psp::push_guest;
-use crate::refusal::Refusal;
+use crate::refusal::ExecRefusal;
 use arrayvec::ArrayVec;
 use dm_cpu::Cpu;
 use dm_load::{BadFormat, FarPointer, Image};
@@ -50,18 +50,18 @@ pub(crate) fn asked_program<'a>(
     cpu: &Cpu,
     space: &Space,
     programs: &'a Programs,
-) -> Result<Asked<'a>, Refusal>
+) -> Result<Asked<'a>, ExecRefusal>
     ensures { MatchResult result (λ n. NamesGood cpu.now space.now.memory programs.now n.name.items n.image) (λ e. NameRefused cpu.now space.now.memory programs.now e) }
 {
     let Some(name) = name_at(space, cpu.ds, cpu.dx) else {
-        return Err(Refusal::NotFound);
+        return Err(ExecRefusal::NotFound);
     };
     let Some(file) = programs.find(name.as_slice()) else {
-        return Err(Refusal::NotFound);
+        return Err(ExecRefusal::NotFound);
     };
     match Image::of(file) {
         Ok(image) => Ok(Asked { name, image }),
-        Err(BadFormat) => Err(Refusal::BadFormat),
+        Err(BadFormat) => Err(ExecRefusal::BadFormat),
     }
 }
 

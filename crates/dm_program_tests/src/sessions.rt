@@ -3,7 +3,7 @@
 use crate::checks::same_of;
 use crate::files::Slow;
 use crate::machines::loaded_as;
-use dm_debug::{Refusal, Session};
+use dm_debug::{CommandRefusal, Session};
 use dm_out::Sink;
 use std::alloc::Global;
 use std::process::Abort;
@@ -16,7 +16,7 @@ const HELLO: &[u8] = b"\xB4\x09\xBA\x0C\x01\xCD\x21\xB8\x00\x4C\xCD\x21hi$";
 const HALT: &[u8] = b"\xF4";
 
 /// A line, how many writes are made before one that fails, what is answered, and the bytes that are taken.
-type Row<'a> = (&'a str, usize, Result<(), Refusal>, &'a str);
+type Row<'a> = (&'a str, usize, Result<(), CommandRefusal>, &'a str);
 
 /// More writes than an answer has bytes.
 const ALL: usize = 1000;
@@ -35,7 +35,7 @@ DS=0103 ES=0103 SS=0103 CS=0103 IP=0100 FL=F202
     ),
     ("O", ALL, Ok(()), ""),
     ("BL", ALL, Ok(()), ""),
-    ("Q", ALL, Err(Refusal::Syntax), ""),
+    ("Q", ALL, Err(CommandRefusal::Syntax), ""),
 ];
 
 const STEPS: [Row; 5] = [
@@ -86,16 +86,16 @@ exited 00
 /// After a failed write all that the command changes has changed, and a first part of the answer was written. A refused
 /// line writes nothing.
 const FAILED: [Row; 13] = [
-    ("B 1:2", 0, Err(Refusal::Write), ""),
+    ("B 1:2", 0, Err(CommandRefusal::Write), ""),
     ("BL", ALL, Ok(()), "0001:0002\n"),
-    ("B 1:3", 2, Err(Refusal::Write), "ok"),
+    ("B 1:3", 2, Err(CommandRefusal::Write), "ok"),
     ("BL", ALL, Ok(()), "0001:0002\n0001:0003\n"),
     ("BC 1:2", 3, Ok(()), "ok\n"),
     ("BL", ALL, Ok(()), "0001:0003\n"),
-    ("BC 1:2", 0, Err(Refusal::Syntax), ""),
-    ("E 103:100 90", 1, Err(Refusal::Write), "o"),
+    ("BC 1:2", 0, Err(CommandRefusal::Syntax), ""),
+    ("E 103:100 90", 1, Err(CommandRefusal::Write), "o"),
     ("U 103:100 1", ALL, Ok(()), "0103:0100 90 NOP\n"),
-    ("G 1", 4, Err(Refusal::Write), "step"),
+    ("G 1", 4, Err(CommandRefusal::Write), "step"),
     ("T 0", 0, Ok(()), ""),
     ("O", 0, Ok(()), ""),
     (
@@ -149,7 +149,7 @@ fn breaks_off(
     drop(sink);
     let text = text.as_bytes();
     let wanted = if left < text.len() {
-        Err(Refusal::Write)
+        Err(CommandRefusal::Write)
     } else {
         Ok(())
     };

@@ -4,7 +4,7 @@ use crate::machines::{Scene, machine_at};
 use crate::telling::{tell, tell_refused};
 use crate::whole::Whole;
 use anyhow::Result;
-use dm_debug::{Refusal, Session};
+use dm_debug::{CommandRefusal, Session};
 use dm_out::Sink;
 use std::alloc::Global;
 
@@ -74,7 +74,7 @@ fn answer(
     session: &mut Session,
     line: &[u8],
     taken: &mut Vec<u8>,
-) -> Result<(), Refusal> {
+) -> Result<(), CommandRefusal> {
     let mut sink = Sink::new(Whole { taken });
     let answered = session.command(alloc, line, &mut sink);
     drop(sink);
@@ -91,7 +91,7 @@ fn command(
     let mut taken = Vec::with_capacity(alloc, ROOM)?;
     if let Err(error) = answer(alloc, session, line, &mut taken) {
         let nothing = taken.is_empty();
-        tell_refused(rt, call, nothing && error == Refusal::Memory)?;
+        tell_refused(rt, call, nothing && error == CommandRefusal::Memory)?;
         answer(alloc, session, line, &mut taken)?;
     }
     let right = taken.as_slice() == wanted;

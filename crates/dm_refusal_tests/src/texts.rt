@@ -1,7 +1,7 @@
 //! Texts of programs, and the words of a command line.
 use crate::telling::{tell, tell_refused};
 use anyhow::Result;
-use dm_asm::{Refusal, assemble, disassemble};
+use dm_asm::{AssemblyRefusal, assemble, disassemble};
 use dm_options::command_line::{Options, OptionsError};
 use dm_options::options;
 use std::alloc::Global;
@@ -39,7 +39,7 @@ pub(crate) fn make_bytes(rt: &impl Print, alloc: Global) -> Result<()> {
     let bytes = match assemble(alloc, TEXT) {
         Ok(bytes) => bytes,
         Err(error) => {
-            tell_refused(rt, call, error == Refusal::Memory)?;
+            tell_refused(rt, call, error == AssemblyRefusal::Memory)?;
             assemble(alloc, TEXT)?
         }
     };

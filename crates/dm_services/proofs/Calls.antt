@@ -2,7 +2,7 @@
 use Rattle.std.proofs.Common.{◌≡◌, ℕ, Bool, None, Ok, Err, true, false, ◌∙◌, ap, subst}
 use Rattle.dm_space.specs.Memory.{Memory}
 use Rattle.dm_cpu.specs.declared.cpu.Cpu.{Cpu}
-use Rattle.dm_arena.specs.declared.refusal.Refusal.{Refusal}
+use Rattle.dm_arena.specs.declared.refusal.ArenaRefusal.{ArenaRefusal}
 use Rattle.dm_arena.specs.Allocation.{Allocates}
 use Rattle.dm_arena.specs.Owned.{Frees, Resizes}
 use Rattle.dm_arena.specs.Linking.{Links}
@@ -19,7 +19,7 @@ allocation-served s v o n m t e p a h =
     let b = subst (λ q. Allocates v.upper v.memory v.strategy v.cpu.bx q (Ok n) m) p a in
     subst (λ w. Allocation w (going t)) e (record { result = Ok n; memory = m; allocates = b; answer = ap going h })
 
-pub allocation-refused : (s v : State) (o : ℕ) (e : Refusal) (m : Memory) (c : Cpu) (t : State) → v ≡ s → o ≡ v.processes.present → Allocates v.upper v.memory v.strategy v.cpu.bx o (Err e) m → c ≡ refused v.cpu e → t ≡ (answered v c m true).state → Allocation s (going t)
+pub allocation-refused : (s v : State) (o : ℕ) (e : ArenaRefusal) (m : Memory) (c : Cpu) (t : State) → v ≡ s → o ≡ v.processes.present → Allocates v.upper v.memory v.strategy v.cpu.bx o (Err e) m → c ≡ refused v.cpu e → t ≡ (answered v c m true).state → Allocation s (going t)
 allocation-refused s v o e m c t is p a g h =
     let b = subst (λ q. Allocates v.upper v.memory v.strategy v.cpu.bx q (Err e) m) p a in
     subst (λ w. Allocation w (going t)) is (record { result = Err e; memory = m; allocates = b; answer = ap going h ∙ ap (λ d. answered v d m true) g })
@@ -27,13 +27,13 @@ allocation-refused s v o e m c t is p a g h =
 pub freeing-served : (s v : State) (n : Unit {0}) (m : Memory) (t : State) → v ≡ s → Frees v.upper v.memory v.cpu.es (Ok n) m → t ≡ (answered v v.cpu m false).state → Freeing s (going t)
 freeing-served s v n m t e a h = subst (λ w. Freeing w (going t)) e (record { result = Ok n; memory = m; frees = a; answer = ap going h })
 
-pub freeing-refused : (s v : State) (e : Refusal) (m : Memory) (c : Cpu) (t : State) → v ≡ s → Frees v.upper v.memory v.cpu.es (Err e) m → c ≡ refused v.cpu e → t ≡ (answered v c m true).state → Freeing s (going t)
+pub freeing-refused : (s v : State) (e : ArenaRefusal) (m : Memory) (c : Cpu) (t : State) → v ≡ s → Frees v.upper v.memory v.cpu.es (Err e) m → c ≡ refused v.cpu e → t ≡ (answered v c m true).state → Freeing s (going t)
 freeing-refused s v e m c t is a g h = subst (λ w. Freeing w (going t)) is (record { result = Err e; memory = m; frees = a; answer = ap going h ∙ ap (λ d. answered v d m true) g })
 
 pub resizing-served : (s v : State) (n : Unit {0}) (m : Memory) (t : State) → v ≡ s → Resizes v.upper v.memory v.cpu.es v.cpu.bx (Ok n) m → t ≡ (answered v v.cpu m false).state → Resizing s (going t)
 resizing-served s v n m t e a h = subst (λ w. Resizing w (going t)) e (record { result = Ok n; memory = m; resizes = a; answer = ap going h })
 
-pub resizing-refused : (s v : State) (e : Refusal) (m : Memory) (c : Cpu) (t : State) → v ≡ s → Resizes v.upper v.memory v.cpu.es v.cpu.bx (Err e) m → c ≡ refused v.cpu e → t ≡ (answered v c m true).state → Resizing s (going t)
+pub resizing-refused : (s v : State) (e : ArenaRefusal) (m : Memory) (c : Cpu) (t : State) → v ≡ s → Resizes v.upper v.memory v.cpu.es v.cpu.bx (Err e) m → c ≡ refused v.cpu e → t ≡ (answered v c m true).state → Resizing s (going t)
 resizing-refused s v e m c t is a g h = subst (λ w. Resizing w (going t)) is (record { result = Err e; memory = m; resizes = a; answer = ap going h ∙ ap (λ d. answered v d m true) g })
 
 pub linking-served : (s v : State) (on : Bool) (n : Unit {0}) (m : Memory) (t : State) → v ≡ s → Links v.memory on (Ok n) m → t ≡ (answered v v.cpu m false).state → Linking on s (going t)

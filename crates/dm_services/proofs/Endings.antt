@@ -4,7 +4,7 @@ use Rattle.dm_space.specs.Memory.{Memory}
 use Rattle.dm_cpu.specs.declared.cpu.Cpu.{Cpu}
 use Rattle.dm_cpu.specs.Cpu.{byte_of}
 use Rattle.dm_ins.specs.declared.operand.ByteRegister.TheVariants.{Al}
-use Rattle.dm_proc.specs.declared.refusal.Refusal.{Refusal}
+use Rattle.dm_proc.specs.declared.refusal.ExecRefusal.{ExecRefusal}
 use Rattle.dm_proc.specs.declared.refusal.ArenaDestroyed.{ArenaDestroyed}
 use Rattle.dm_proc.specs.declared.parent.Ending.{Ending}
 use Rattle.dm_proc.specs.declared.parent.Ending.TheVariants.{Returned, Exited}
@@ -29,7 +29,7 @@ pub executing-started : (s v : State) (qs : Processes) (d : Cpu) (n : Memory) (t
 executing-started s v qs d n t is x h =
     subst (λ w. Executing w (going t)) is (record { result = Ok tt; processes = qs; cpu = d; memory = n; executes = x; answer = ap going h })
 
-pub executing-refused : (s v : State) (e : Refusal) (qs : Processes) (d : Cpu) (n : Memory) (t : State) → v ≡ s → Executes v.upper v.processes v.cpu v.memory v.programs v.strategy (Err e) qs d n →
+pub executing-refused : (s v : State) (e : ExecRefusal) (qs : Processes) (d : Cpu) (n : Memory) (t : State) → v ≡ s → Executes v.upper v.processes v.cpu v.memory v.programs v.strategy (Err e) qs d n →
     t ≡ (not_loaded (with_processes v qs d n) e).state → Executing s (going t)
 executing-refused s v e qs d n t is x h =
     let same = same-state v qs d n x.0 x.1 x.2 in
@@ -45,7 +45,7 @@ executing-refused s v e qs d n t is x h =
 pub overlaying-loaded : (s v : State) (n : Memory) (t : State) → v ≡ s → Overlays v.cpu v.memory v.programs (Ok tt) n → t ≡ (answered v v.cpu n false).state → Overlaying s (going t)
 overlaying-loaded s v n t is x h = subst (λ w. Overlaying w (going t)) is (record { result = Ok tt; memory = n; overlays = x; answer = ap going h })
 
-pub overlaying-refused : (s v : State) (e : Refusal) (n : Memory) (t : State) → v ≡ s → Overlays v.cpu v.memory v.programs (Err e) n → t ≡ (not_loaded (record v { memory = n }) e).state → Overlaying s (going t)
+pub overlaying-refused : (s v : State) (e : ExecRefusal) (n : Memory) (t : State) → v ≡ s → Overlays v.cpu v.memory v.programs (Err e) n → t ≡ (not_loaded (record v { memory = n }) e).state → Overlaying s (going t)
 overlaying-refused s v e n t is x h =
     subst (λ w. Overlaying w (going t)) is (record {
       result = Err e;

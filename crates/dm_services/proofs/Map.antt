@@ -4,7 +4,7 @@ use Rattle.dm_space.specs.Memory.{Memory, linear, peek}
 use Rattle.dm_space.specs.Places.{IsShaped}
 use Rattle.dm_space.proofs.Places.{shaped-same}
 use Rattle.dm_ins.specs.declared.operand.ByteRegister.TheVariants.{Al, Dl, Ah}
-use Rattle.dm_arena.specs.declared.refusal.Refusal.{Refusal}
+use Rattle.dm_arena.specs.declared.refusal.ArenaRefusal.{ArenaRefusal}
 use Rattle.dm_arena.specs.declared.fit.Strategy.{Strategy}
 use Rattle.dm_cpu.specs.declared.cpu.Cpu.{Cpu}
 use Rattle.dm_cpu.specs.Cpu.{byte_of}
@@ -26,7 +26,7 @@ use Rattle.dm_services.specs.declared.strategies.StrategyFunction.{StrategyFunct
 use Rattle.dm_services.specs.declared.strategies.StrategyFunction.TheVariants.{TellStrategy, SetStrategy, TellLink, SetLink, Unlisted}
 use Rattle.dm_services.specs.Strategies as strategies
 use Rattle.dm_services.specs.Strategies.{TellsLink, link_told, SetsLink, StrategyCalls, strategy_of, set_to, wanted}
-use Rattle.dm_proc.specs.declared.refusal.Refusal.{Refusal as ProgramRefusal}
+use Rattle.dm_proc.specs.declared.refusal.ExecRefusal.{ExecRefusal}
 use Rattle.dm_proc.specs.declared.refusal.ArenaDestroyed.{ArenaDestroyed}
 use Rattle.dm_proc.specs.declared.parent.Ending.{Ending}
 use Rattle.dm_proc.specs.declared.parent.Ending.TheVariants as ending
@@ -154,11 +154,11 @@ tell_code-kept s = still s _
 
 -- ---- blocks
 
-allocated-kept : (s : State) (r : Result ℕ Refusal) (m : Memory) → IsShaped s.memory m → Kept s (allocated s r m)
+allocated-kept : (s : State) (r : Result ℕ ArenaRefusal) (m : Memory) → IsShaped s.memory m → Kept s (allocated s r m)
 allocated-kept s (Ok segment) m h = (return-kept s.memory _ m h, refl, refl)
 allocated-kept s (Err e) m h = (return-kept s.memory _ m h, refl, refl)
 
-settled-kept : (s : State) (r : Result (Unit {0}) Refusal) (m : Memory) → IsShaped s.memory m → Kept s (settled s r m)
+settled-kept : (s : State) (r : Result (Unit {0}) ArenaRefusal) (m : Memory) → IsShaped s.memory m → Kept s (settled s r m)
 settled-kept s (Ok u) m h = (return-kept s.memory _ m h, refl, refl)
 settled-kept s (Err e) m h = (return-kept s.memory _ m h, refl, refl)
 
@@ -166,17 +166,17 @@ set_to-kept : (s : State) (o : Option Strategy) → Kept s (set_to s o)
 set_to-kept s None = still s _
 set_to-kept s (Some strategy) = still s _
 
-link_told-kept : (s : State) (r : Result Bool Refusal) → Kept s (link_told s r)
+link_told-kept : (s : State) (r : Result Bool ArenaRefusal) → Kept s (link_told s r)
 link_told-kept s (Ok on) = still s _
 link_told-kept s (Err e) = still s _
 
 -- ---- programs
 
-executed-kept : (s : State) (r : Result (Unit {0}) ProgramRefusal) (qs : Processes) (d : Cpu) (n : Memory) → IsShaped s.memory n → Kept s (executed s r qs d n)
+executed-kept : (s : State) (r : Result (Unit {0}) ExecRefusal) (qs : Processes) (d : Cpu) (n : Memory) → IsShaped s.memory n → Kept s (executed s r qs d n)
 executed-kept s (Ok x) qs d n h = (h, refl, refl)
 executed-kept s (Err e) qs d n h = still s _
 
-overlaid-kept : (s : State) (r : Result (Unit {0}) ProgramRefusal) (n : Memory) → IsShaped s.memory n → Kept s (overlaid s r n)
+overlaid-kept : (s : State) (r : Result (Unit {0}) ExecRefusal) (n : Memory) → IsShaped s.memory n → Kept s (overlaid s r n)
 overlaid-kept s (Ok x) n h = (return-kept s.memory _ n h, refl, refl)
 overlaid-kept s (Err e) n h = still s _
 

@@ -8,12 +8,12 @@ use Rattle.dm_cpu.specs.declared.cpu.Cpu.{Cpu}
 use Rattle.dm_cpu.specs.Guest.{guest}
 use Rattle.dm_cpu.specs.Stack.{interrupt_return}
 use Rattle.dm_arena.specs.declared.fit.Strategy.{Strategy}
-use Rattle.dm_arena.specs.declared.refusal.Refusal.{Refusal as ArenaRefusal}
+use Rattle.dm_arena.specs.declared.refusal.ArenaRefusal.{ArenaRefusal}
 use Rattle.dm_arena.specs.Allocation.{Allocates}
 use Rattle.dm_arena.specs.Owned.{Frees, Resizes, Releases}
 use Rattle.dm_arena.specs.Linking.{Links}
 use Rattle.dm_arena.specs.Pair.{Placed, Pairs}
-use Rattle.dm_proc.specs.declared.refusal.Refusal.{Refusal}
+use Rattle.dm_proc.specs.declared.refusal.ExecRefusal.{ExecRefusal}
 use Rattle.dm_proc.specs.declared.refusal.ArenaDestroyed.{ArenaDestroyed}
 use Rattle.dm_proc.specs.declared.parent.Ending.{Ending}
 use Rattle.dm_proc.specs.Writes.{Write, apply, upwards, bytes_from}
@@ -87,12 +87,12 @@ pub starts-kept : (upper : Bool) (S : Memory) (strategy : Strategy) (environment
 starts-kept upper S strategy environment file parent a placed T s =
     another S _ T s.memory (writes-kept S s.middle (start_writes s.middle.a20 placed environment (prefix S placed parent a) file) (pairs-kept upper S strategy _ _ _ (Ok placed) s.middle s.plans))
 
-pub executes-kept : (upper : Bool) (ps : Processes) (c : Cpu) (S : Memory) (store : List (List ℕ × List ℕ)) (strategy : Strategy) (r : Result (Unit {0}) Refusal) (qs : Processes) (d : Cpu) (T : Memory) →
+pub executes-kept : (upper : Bool) (ps : Processes) (c : Cpu) (S : Memory) (store : List (List ℕ × List ℕ)) (strategy : Strategy) (r : Result (Unit {0}) ExecRefusal) (qs : Processes) (d : Cpu) (T : Memory) →
     Executes upper ps c S store strategy r qs d T → IsShaped S T
 executes-kept upper ps c S store strategy (Ok x) qs d T a = starts-kept upper S strategy _ _ _ _ a.placed T a.starts
 executes-kept upper ps c S store strategy (Err e) qs d T a = unchanged S T a.2
 
-pub overlays-kept : (c : Cpu) (S : Memory) (store : List (List ℕ × List ℕ)) (r : Result (Unit {0}) Refusal) (T : Memory) → Overlays c S store r T → IsShaped S T
+pub overlays-kept : (c : Cpu) (S : Memory) (store : List (List ℕ × List ℕ)) (r : Result (Unit {0}) ExecRefusal) (T : Memory) → Overlays c S store r T → IsShaped S T
 overlays-kept c S store (Ok x) T a = another S _ T a.memory (search (writes-kept, shaped-same))
 overlays-kept c S store (Err e) T a = unchanged S T a.0
 

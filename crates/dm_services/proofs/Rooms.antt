@@ -4,7 +4,7 @@ use Rattle.std.proofs.lemmas.List.{length-append}
 use Rattle.dm_space.specs.Memory.{Memory, linear, peek}
 use Rattle.dm_proc.specs.Writes.{bytes_from}
 use Rattle.dm_ins.specs.declared.operand.ByteRegister.TheVariants.{Al, Dl, Ah}
-use Rattle.dm_arena.specs.declared.refusal.Refusal.{Refusal}
+use Rattle.dm_arena.specs.declared.refusal.ArenaRefusal.{ArenaRefusal}
 use Rattle.dm_arena.specs.declared.fit.Strategy.{Strategy}
 use Rattle.dm_console.specs.Streams.{Streams}
 use Rattle.dm_cpu.specs.declared.cpu.Cpu.{Cpu}
@@ -27,7 +27,7 @@ use Rattle.dm_services.specs.declared.strategies.StrategyFunction.{StrategyFunct
 use Rattle.dm_services.specs.declared.strategies.StrategyFunction.TheVariants.{TellStrategy, SetStrategy, TellLink, SetLink, Unlisted}
 use Rattle.dm_services.specs.Strategies as strategies
 use Rattle.dm_services.specs.Strategies.{TellsLink, link_told, SetsLink, StrategyCalls, strategy_of, set_to, wanted}
-use Rattle.dm_proc.specs.declared.refusal.Refusal.{Refusal as ProgramRefusal}
+use Rattle.dm_proc.specs.declared.refusal.ExecRefusal.{ExecRefusal}
 use Rattle.dm_proc.specs.declared.refusal.ArenaDestroyed.{ArenaDestroyed}
 use Rattle.dm_proc.specs.declared.parent.Ending.{Ending}
 use Rattle.dm_proc.specs.declared.parent.Ending.TheVariants as ending
@@ -138,11 +138,11 @@ print-keeps : (s : State) → Keeps s (print s)
 unfolding print
 print-keeps s = written-keeps s.console (text_at s.memory s.cpu.ds s.cpu.dx)
 
-allocated-keeps : (s : State) (r : Result ℕ Refusal) (m : Memory) → Keeps s (allocated s r m)
+allocated-keeps : (s : State) (r : Result ℕ ArenaRefusal) (m : Memory) → Keeps s (allocated s r m)
 allocated-keeps s (Ok segment) m = same _
 allocated-keeps s (Err e) m = same _
 
-settled-keeps : (s : State) (r : Result (Unit {0}) Refusal) (m : Memory) → Keeps s (settled s r m)
+settled-keeps : (s : State) (r : Result (Unit {0}) ArenaRefusal) (m : Memory) → Keeps s (settled s r m)
 settled-keeps s (Ok x) m = same _
 settled-keeps s (Err e) m = same _
 
@@ -150,7 +150,7 @@ set_to-keeps : (s : State) (o : Option Strategy) → Keeps s (set_to s o)
 set_to-keeps s None = same _
 set_to-keeps s (Some strategy) = same _
 
-link_told-keeps : (s : State) (r : Result Bool Refusal) → Keeps s (link_told s r)
+link_told-keeps : (s : State) (r : Result Bool ArenaRefusal) → Keeps s (link_told s r)
 link_told-keeps s (Ok on) = same _
 link_told-keeps s (Err e) = same _
 
@@ -158,11 +158,11 @@ no_function-keeps : (s : State) → Keeps s (no_function s)
 unfolding no_function
 no_function-keeps s = same _
 
-executed-keeps : (s : State) (r : Result (Unit {0}) ProgramRefusal) (qs : Processes) (d : Cpu) (n : Memory) → Keeps s (executed s r qs d n)
+executed-keeps : (s : State) (r : Result (Unit {0}) ExecRefusal) (qs : Processes) (d : Cpu) (n : Memory) → Keeps s (executed s r qs d n)
 executed-keeps s (Ok x) qs d n = same _
 executed-keeps s (Err e) qs d n = same _
 
-overlaid-keeps : (s : State) (r : Result (Unit {0}) ProgramRefusal) (n : Memory) → Keeps s (overlaid s r n)
+overlaid-keeps : (s : State) (r : Result (Unit {0}) ExecRefusal) (n : Memory) → Keeps s (overlaid s r n)
 overlaid-keeps s (Ok x) n = same _
 overlaid-keeps s (Err e) n = same _
 

@@ -11,7 +11,7 @@ use Rattle.dm_services.specs.declared.services.Service.TheVariants.{DivideError,
 use Rattle.dm_services.specs.declared.functions.Function.{Function}
 use Rattle.dm_services.specs.declared.functions.Function.TheVariants.{EchoCharacter, WriteCharacter, DirectCharacter, ReadCharacter, WriteText, ReadLine, CheckInput, FlushAndRead, SetVector, Version, Keep, GetVector, ReadHandle, WriteHandle, Allocate, Free, Resize, LoadProgram, Exit, ExitCode, Process, AllocationStrategy, Terminate, Unknown}
 use Rattle.dm_arena.specs.declared.fit.Strategy.{Strategy}
-use Rattle.dm_arena.specs.declared.refusal.Refusal.{Refusal}
+use Rattle.dm_arena.specs.declared.refusal.ArenaRefusal.{ArenaRefusal}
 use Rattle.dm_arena.proofs.Unseen.{allocation-unseen, freeing-unseen, resizing-unseen, linking-unseen, telling-unseen}
 use Rattle.dm_state.specs.State.{State, Answer}
 use Rattle.dm_services.specs.Text.{text_within, print}
@@ -20,7 +20,7 @@ use Rattle.dm_services.specs.declared.strategies.StrategyFunction.{StrategyFunct
 use Rattle.dm_services.specs.declared.strategies.StrategyFunction.TheVariants.{TellStrategy, SetStrategy, TellLink, SetLink, Unlisted}
 use Rattle.dm_services.specs.Strategies as strategies
 use Rattle.dm_services.specs.Strategies.{TellingLink, TellsLink, link_told, Linking, SetsLink, StrategyCalls, strategy_of, set_to, wanted}
-use Rattle.dm_proc.specs.declared.refusal.Refusal.{Refusal as ProgramRefusal}
+use Rattle.dm_proc.specs.declared.refusal.ExecRefusal.{ExecRefusal}
 use Rattle.dm_proc.specs.declared.refusal.ArenaDestroyed.{ArenaDestroyed}
 use Rattle.dm_proc.specs.declared.parent.Ending.{Ending}
 use Rattle.dm_proc.specs.declared.parent.Ending.TheVariants.{Returned, Exited}
@@ -49,11 +49,11 @@ no_function-unseen f u s = simp (return-parts f u)
 answered-unseen : (f : Memory → Memory) (u : IsUnseen f) (s : State) (c : Cpu) (m : Memory) (b : Bool) → answered (with_change f s) c (f m) b ≡ answer_with f (answered s c m b)
 answered-unseen f u s c m b = simp (return-parts f u)
 
-allocated-unseen : (f : Memory → Memory) (u : IsUnseen f) (s : State) (r : Result ℕ Refusal) (m : Memory) → allocated (with_change f s) r (f m) ≡ answer_with f (allocated s r m)
+allocated-unseen : (f : Memory → Memory) (u : IsUnseen f) (s : State) (r : Result ℕ ArenaRefusal) (m : Memory) → allocated (with_change f s) r (f m) ≡ answer_with f (allocated s r m)
 allocated-unseen f u s (Ok segment) m = answered-unseen f u s _ m false
 allocated-unseen f u s (Err e) m = answered-unseen f u s _ m true
 
-settled-unseen : (f : Memory → Memory) (u : IsUnseen f) (s : State) (r : Result (Unit {0}) Refusal) (m : Memory) → settled (with_change f s) r (f m) ≡ answer_with f (settled s r m)
+settled-unseen : (f : Memory → Memory) (u : IsUnseen f) (s : State) (r : Result (Unit {0}) ArenaRefusal) (m : Memory) → settled (with_change f s) r (f m) ≡ answer_with f (settled s r m)
 settled-unseen f u s (Ok x) m = answered-unseen f u s _ m false
 settled-unseen f u s (Err e) m = answered-unseen f u s _ m true
 
@@ -61,7 +61,7 @@ set_to-unseen : (f : Memory → Memory) (u : IsUnseen f) (s : State) (o : Option
 set_to-unseen f u s None = answered-unseen f u s _ s.memory true
 set_to-unseen f u s (Some strategy) = answered-unseen f u (record s { strategy = strategy }) s.cpu s.memory false
 
-link_told-unseen : (f : Memory → Memory) (u : IsUnseen f) (s : State) (r : Result Bool Refusal) → link_told (with_change f s) r ≡ answer_with f (link_told s r)
+link_told-unseen : (f : Memory → Memory) (u : IsUnseen f) (s : State) (r : Result Bool ArenaRefusal) → link_told (with_change f s) r ≡ answer_with f (link_told s r)
 link_told-unseen f u s (Ok on) = answered-unseen f u s _ s.memory false
 link_told-unseen f u s (Err e) = answered-unseen f u s _ s.memory true
 
@@ -95,15 +95,15 @@ strategy-unseen f u s TellLink x a = tells-unseen f u s s.upper x a
 strategy-unseen f u s SetLink x a = sets-unseen f u s (wanted s.upper s.cpu.bx) x a
 strategy-unseen f u s Unlisted x e = ap (answer_with f) e ∙ sym (answered-unseen f u s _ s.memory true)
 
-not_loaded-unseen : (f : Memory → Memory) (u : IsUnseen f) (s : State) (e : ProgramRefusal) → not_loaded (with_change f s) e ≡ answer_with f (not_loaded s e)
+not_loaded-unseen : (f : Memory → Memory) (u : IsUnseen f) (s : State) (e : ExecRefusal) → not_loaded (with_change f s) e ≡ answer_with f (not_loaded s e)
 not_loaded-unseen f u s e = answered-unseen f u s _ s.memory true
 
-executed-unseen : (f : Memory → Memory) (u : IsUnseen f) (s : State) (r : Result (Unit {0}) ProgramRefusal) (qs : Processes) (d : Cpu) (n : Memory) →
+executed-unseen : (f : Memory → Memory) (u : IsUnseen f) (s : State) (r : Result (Unit {0}) ExecRefusal) (qs : Processes) (d : Cpu) (n : Memory) →
     executed (with_change f s) r qs d (f n) ≡ answer_with f (executed s r qs d n)
 executed-unseen f u s (Ok x) qs d n = refl
 executed-unseen f u s (Err e) qs d n = not_loaded-unseen f u s e
 
-overlaid-unseen : (f : Memory → Memory) (u : IsUnseen f) (s : State) (r : Result (Unit {0}) ProgramRefusal) (n : Memory) → overlaid (with_change f s) r (f n) ≡ answer_with f (overlaid s r n)
+overlaid-unseen : (f : Memory → Memory) (u : IsUnseen f) (s : State) (r : Result (Unit {0}) ExecRefusal) (n : Memory) → overlaid (with_change f s) r (f n) ≡ answer_with f (overlaid s r n)
 overlaid-unseen f u s (Ok x) n = answered-unseen f u s _ n false
 overlaid-unseen f u s (Err e) n = not_loaded-unseen f u s e
 

@@ -4,8 +4,8 @@
 use Rattle.std.specs.Prelude.{◌≡◌, ℕ, Bool, true, false, Result, Ok, Err}
 use Rattle.dm_space.specs.Memory.{Memory}
 use Rattle.dm_cpu.specs.declared.cpu.Cpu.{Cpu}
-use Rattle.dm_arena.specs.declared.refusal.Refusal.{Refusal}
-use Rattle.dm_arena.specs.declared.refusal.Refusal.TheVariants.{Destroyed, Short, NoBlock}
+use Rattle.dm_arena.specs.declared.refusal.ArenaRefusal.{ArenaRefusal}
+use Rattle.dm_arena.specs.declared.refusal.ArenaRefusal.TheVariants.{Destroyed, Short, NoBlock}
 use Rattle.dm_arena.specs.Allocation.{Allocates}
 use Rattle.dm_arena.specs.Owned.{Frees, Resizes}
 use Rattle.dm_state.specs.State.{State, Answer, go, interrupt_returned, with_carry}
@@ -15,38 +15,38 @@ abbrev pub answered : State → Cpu → Memory → Bool → Answer
 answered s c m carry = go (with_carry (interrupt_returned (record s { cpu = c; memory = m })) carry)
 
 -- AX is the error; where there is not enough memory, BX is how many paragraphs there are
-abbrev pub refused : Cpu → Refusal → Cpu
+abbrev pub refused : Cpu → ArenaRefusal → Cpu
 refused c Destroyed = record c { ax = 7 }
 refused c (Short largest) = record c { ax = 8; bx = largest }
 refused c NoBlock = record c { ax = 9 }
 
 -- 48h: BX paragraphs for the present process; AX is the block's segment
-abbrev pub allocated : State → Result ℕ Refusal → Memory → Answer
+abbrev pub allocated : State → Result ℕ ArenaRefusal → Memory → Answer
 allocated s (Ok segment) m = answered s (record s.cpu { ax = segment }) m false
 allocated s (Err e) m = answered s (refused s.cpu e) m true
 
 -- 48h: BX paragraphs for the present process, by the strategy
 pub record Allocation (s : State) (x : Answer) : Type 0 where
-  pub result : Result ℕ Refusal
+  pub result : Result ℕ ArenaRefusal
   pub memory : Memory
   pub allocates : Allocates s.upper s.memory s.strategy s.cpu.bx s.processes.present result memory
   pub answer : x ≡ allocated s result memory
 
 -- what the calls answer that tell nothing but whether they were served
-abbrev pub settled : State → Result (Unit {0}) Refusal → Memory → Answer
+abbrev pub settled : State → Result (Unit {0}) ArenaRefusal → Memory → Answer
 settled s (Ok u) m = answered s s.cpu m false
 settled s (Err e) m = answered s (refused s.cpu e) m true
 
 -- 49h: the block at segment ES is freed
 pub record Freeing (s : State) (x : Answer) : Type 0 where
-  pub result : Result (Unit {0}) Refusal
+  pub result : Result (Unit {0}) ArenaRefusal
   pub memory : Memory
   pub frees : Frees s.upper s.memory s.cpu.es result memory
   pub answer : x ≡ settled s result memory
 
 -- 4Ah: the block at segment ES gets BX paragraphs
 pub record Resizing (s : State) (x : Answer) : Type 0 where
-  pub result : Result (Unit {0}) Refusal
+  pub result : Result (Unit {0}) ArenaRefusal
   pub memory : Memory
   pub resizes : Resizes s.upper s.memory s.cpu.es s.cpu.bx result memory
   pub answer : x ≡ settled s result memory

@@ -6,8 +6,8 @@ use Rattle.dm_space.specs.Memory.{Memory}
 use Rattle.dm_cpu.specs.declared.cpu.Cpu.{Cpu}
 use Rattle.dm_cpu.specs.Cpu.{byte_of}
 use Rattle.dm_ins.specs.declared.operand.ByteRegister.TheVariants.{Al}
-use Rattle.dm_proc.specs.declared.refusal.Refusal.{Refusal}
-use Rattle.dm_proc.specs.declared.refusal.Refusal.TheVariants.{Function, NotFound, BadFormat, Environment, Destroyed, Short}
+use Rattle.dm_proc.specs.declared.refusal.ExecRefusal.{ExecRefusal}
+use Rattle.dm_proc.specs.declared.refusal.ExecRefusal.TheVariants.{Function, NotFound, BadFormat, Environment, Destroyed, Short}
 use Rattle.dm_proc.specs.declared.refusal.ArenaDestroyed.{ArenaDestroyed}
 use Rattle.dm_proc.specs.declared.parent.Ending.{Ending}
 use Rattle.dm_proc.specs.declared.parent.Ending.TheVariants.{Returned, Exited}
@@ -16,7 +16,7 @@ use Rattle.dm_state.specs.declared.stop.Stop.TheVariants as stop
 use Rattle.dm_state.specs.State.{State, Answer, go, stop_at, interrupt_returned}
 use Rattle.dm_services.specs.Allocation.{answered}
 
-abbrev pub code_of : Refusal → ℕ
+abbrev pub code_of : ExecRefusal → ℕ
 code_of Function = 1
 code_of NotFound = 2
 code_of BadFormat = 11
@@ -25,7 +25,7 @@ code_of Destroyed = 7
 code_of Short = 8
 
 -- a call of 4Bh that is refused changes AX and CF alone
-abbrev pub not_loaded : State → Refusal → Answer
+abbrev pub not_loaded : State → ExecRefusal → Answer
 not_loaded s e = answered s (record s.cpu { ax = code_of e }) s.memory true
 
 -- what a start or an end of a process leaves
@@ -33,12 +33,12 @@ abbrev pub with_processes : State → Processes → Cpu → Memory → State
 with_processes s qs d n = record s { cpu = d; memory = n; processes = qs }
 
 -- 4Bh with AL = 0: the child goes on
-abbrev pub executed : State → Result (Unit {0}) Refusal → Processes → Cpu → Memory → Answer
+abbrev pub executed : State → Result (Unit {0}) ExecRefusal → Processes → Cpu → Memory → Answer
 executed s (Ok u) qs d n = go (with_processes s qs d n)
 executed s (Err e) qs d n = not_loaded s e
 
 pub record Executing (s : State) (x : Answer) : Type 0 where
-  pub result : Result (Unit {0}) Refusal
+  pub result : Result (Unit {0}) ExecRefusal
   pub processes : Processes
   pub cpu : Cpu
   pub memory : Memory
@@ -46,12 +46,12 @@ pub record Executing (s : State) (x : Answer) : Type 0 where
   pub answer : x ≡ executed s result processes cpu memory
 
 -- 4Bh with AL = 3: an overlay is loaded, and the program goes on
-abbrev pub overlaid : State → Result (Unit {0}) Refusal → Memory → Answer
+abbrev pub overlaid : State → Result (Unit {0}) ExecRefusal → Memory → Answer
 overlaid s (Ok u) n = answered s s.cpu n false
 overlaid s (Err e) n = not_loaded s e
 
 pub record Overlaying (s : State) (x : Answer) : Type 0 where
-  pub result : Result (Unit {0}) Refusal
+  pub result : Result (Unit {0}) ExecRefusal
   pub memory : Memory
   pub overlays : Overlays s.cpu s.memory s.programs result memory
   pub answer : x ≡ overlaid s result memory

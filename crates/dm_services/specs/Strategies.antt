@@ -5,7 +5,7 @@ use Rattle.dm_space.specs.Memory.{Memory}
 use Rattle.dm_cpu.specs.declared.cpu.Cpu.{Cpu}
 use Rattle.dm_cpu.specs.Cpu.{with_byte}
 use Rattle.dm_ins.specs.declared.operand.ByteRegister.TheVariants.{Al}
-use Rattle.dm_arena.specs.declared.refusal.Refusal.{Refusal}
+use Rattle.dm_arena.specs.declared.refusal.ArenaRefusal.{ArenaRefusal}
 use Rattle.dm_arena.specs.declared.fit.Strategy.{Strategy}
 use Rattle.dm_arena.specs.declared.fit.Area.{Area}
 use Rattle.dm_arena.specs.declared.fit.Area.TheVariants.{All, Upper, UpperFirst}
@@ -76,13 +76,13 @@ set_to s None = unlisted s
 set_to s (Some strategy) = answered (record s { strategy = strategy }) s.cpu s.memory false
 
 -- AL is 1 where the arena is linked, else 0
-abbrev pub link_told : State → Result Bool Refusal → Answer
+abbrev pub link_told : State → Result Bool ArenaRefusal → Answer
 link_told s (Ok on) = answered s (with_byte s.cpu Al (if on then 1 else 0)) s.memory false
 link_told s (Err e) = answered s (refused s.cpu e) s.memory true
 
 -- error 7 where there is no clear list
 pub record TellingLink (s : State) (x : Answer) : Type 0 where
-  pub result : Result Bool Refusal
+  pub result : Result Bool ArenaRefusal
   pub tells : TellsLinked s.memory result
   pub answer : x ≡ link_told s result
 
@@ -97,7 +97,7 @@ wanted upper number =
     if upper then (if number == 0 then Some false else if number == 1 then Some true else None) else None
 
 pub record Linking (on : Bool) (s : State) (x : Answer) : Type 0 where
-  pub result : Result (Unit {0}) Refusal
+  pub result : Result (Unit {0}) ArenaRefusal
   pub memory : Memory
   pub links : Links s.memory on result memory
   pub answer : x ≡ settled s result memory

@@ -3,22 +3,22 @@
 ghost use Rattle.std.specs.Prelude.{◌≡◌};
 ghost use Rattle.dm_services.specs.Allocation.{answered, refused, Allocation, Freeing, Resizing};
 
-use dm_arena::Refusal;
+use dm_arena::ArenaRefusal;
 use dm_cpu::Cpu;
 use dm_state::Parts;
 
 /// Puts the error into AX and, where there is not enough memory, how many paragraphs there are into
 /// BX.
-pub(crate) fn refuse(cpu: &mut Cpu, refusal: Refusal)
+pub(crate) fn refuse(cpu: &mut Cpu, refusal: ArenaRefusal)
     ensures { cpu.new ≡ refused cpu.old refusal }
 {
     match refusal {
-        Refusal::Destroyed => cpu.ax = 7,
-        Refusal::Short { largest } => {
+        ArenaRefusal::Destroyed => cpu.ax = 7,
+        ArenaRefusal::Short { largest } => {
             cpu.ax = 8;
             cpu.bx = largest;
         }
-        Refusal::NoBlock => cpu.ax = 9,
+        ArenaRefusal::NoBlock => cpu.ax = 9,
     }
 }
 

@@ -8,25 +8,25 @@ ghost use Rattle.dm_services.specs.Processes.{concluded, not_loaded, Executing, 
 
 use crate::allocation::answer;
 use dm_ins::ByteRegister;
-use dm_proc::{ArenaDestroyed, Ending, Refusal};
+use dm_proc::{ArenaDestroyed, Ending, ExecRefusal};
 use dm_state::{Parts, Stop};
 
 /// The error code of a refusal.
-fn code_of(refusal: Refusal) -> u16
+fn code_of(refusal: ExecRefusal) -> u16
     ensures { result ≡ Rattle.dm_services.specs.Processes.code_of refusal }
 {
     match refusal {
-        Refusal::Function => 1,
-        Refusal::NotFound => 2,
-        Refusal::BadFormat => 11,
-        Refusal::Environment => 10,
-        Refusal::Destroyed => 7,
-        Refusal::Short => 8,
+        ExecRefusal::Function => 1,
+        ExecRefusal::NotFound => 2,
+        ExecRefusal::BadFormat => 11,
+        ExecRefusal::Environment => 10,
+        ExecRefusal::Destroyed => 7,
+        ExecRefusal::Short => 8,
     }
 }
 
 /// Answers that no program was loaded.
-fn refuse_program(parts: &mut Parts, refusal: Refusal)
+fn refuse_program(parts: &mut Parts, refusal: ExecRefusal)
     ensures { parts.new ≡ (not_loaded parts.old refusal).state }
 {
     parts.cpu.ax = code_of(refusal);

@@ -1,7 +1,7 @@
 -- An answer that is kept in memory.
 use Rattle.std.specs.Prelude.{ℕ, List}
-use Rattle.dm_debug.specs.declared.refusal.Refusal as session
-use Rattle.dm_debug.specs.declared.refusal.Refusal.TheVariants as why
+use Rattle.dm_debug.specs.declared.refusal.CommandRefusal as session
+use Rattle.dm_debug.specs.declared.refusal.CommandRefusal.TheVariants as why
 use Rattle.dm_host.specs.declared.refusal.Refusal.{Refusal}
 use Rattle.dm_host.specs.declared.refusal.Refusal.TheVariants.{Syntax, Full, Memory}
 
@@ -11,7 +11,7 @@ pub record Kept : Type 0 where
   pub failures : ℕ
 
 -- why a session did not answer
-abbrev pub refusal_of : session.Refusal → Refusal
+abbrev pub refusal_of : session.CommandRefusal → Refusal
 refusal_of why.Syntax = Syntax
 refusal_of why.Full = Full
 refusal_of why.Memory = Memory

@@ -1,7 +1,7 @@
 -- For private contracts and proofs alone: beside specs/Processes.antt.
 use Rattle.std.specs.Prelude.{◌≡◌, Bool, ℕ, List, ◌≢◌, ◌+◌, ◌<◌, ◌⊎◌, ◌∷◌, ◌++◌}
 use Rattle.dm_space.specs.Memory.{Memory}
-use Rattle.dm_arena.specs.declared.refusal.Refusal.TheVariants as arena
+use Rattle.dm_arena.specs.declared.refusal.ArenaRefusal.TheVariants as arena
 use Rattle.dm_blocks.specs.Chain.{first_header, Becomes}
 use Rattle.dm_arena.specs.Pair.{Planned, IsPlannedOn, paired}
 use Rattle.dm_proc.specs.Writes.{apply}
