@@ -3,7 +3,7 @@
 //! Source: Intel 8086 Family User's Manual, section 2.7, Arithmetic Instructions, the ASCII and
 //! decimal adjustments.
 ghost use Rattle.std.specs.Prelude.{◌≡◌, ◌≤◌};
-ghost use Rattle.dm_alu.specs.Adjustments.{low_digit_off, high_digit_off, decimal_change, joined, adjusted_value, after_accumulator, flags_after_adjustment};
+ghost use Rattle.dm_alu.specs.Adjustments.{low_digit_off, high_digit_off, decimal_change, word_of_halves, adjusted_value, after_accumulator, flags_after_adjustment};
 
 use crate::flags::Flags;
 use crate::width::Width;
@@ -81,7 +81,7 @@ fn adjusted_value(adjustment: Adjustment, ax: u16, flags: Flags) -> u16
 
 /// AX of its halves, each modulo 256.
 fn joined(high: u16, low: u16) -> u16
-    ensures { result ≡ joined high low }
+    ensures { result ≡ word_of_halves high low }
 {
     high % 0x100 * 0x100 + low % 0x100
 }

@@ -15,7 +15,7 @@ use Rattle.dm_arena.specs.inner.Walks.{pick, Fills, IsReplaceable, IsReplaced, I
 use Rattle.dm_blocks.specs.Chain.{is_free}
 use Rattle.dm_arena.specs.Blocks.{in_effect, is_candidate, merge, join, join_after, fits, cut, cut_low, cut_high, taken_segment, IsIn}
 use Rattle.dm_arena.specs.inner.Blocks.{cut_list}
-use Rattle.dm_arena.specs.Allocation.{Taking, changed}
+use Rattle.dm_arena.specs.Allocation.{Taking, with_cut}
 use Rattle.dm_arena.specs.inner.Standing.{MaySplit, IsNew}
 use Rattle.dm_blocks.proofs.Chains.{has_left, has_right, has_either, spells_end, clear_map, clear_within}
 use Rattle.dm_arena.proofs.Beside.{cut-either, cut-has, cut-new, clear-cut, unclear-cut, new-cut}
@@ -105,7 +105,7 @@ module _ (up : Bool) where
   join-clear S start L a = clear_within S L (join up L) (join-within L) a.1
 
   -- the list in which the first block is taken lies end to end
-  pub changed_fills : (S : Memory) (start : ℕ) (st : Strategy) (n o : ℕ) (t : Taking up S start st n) → (h e : ℕ) × Fills h (changed t o) e
+  pub changed_fills : (S : Memory) (start : ℕ) (st : Strategy) (n o : ℕ) (t : Taking up S start st n) → (h e : ℕ) × Fills h (with_cut t o) e
   changed_fills S start st n o t =
       let r = join_fills up S start t.list t.arena.0.1 in
       let F : List Header → Type 0 = λ X. Fills r.1 X r.0 in
@@ -141,14 +141,14 @@ module _ (up : Bool) where
           let f = subst F found.joined r.2 in
           subst G (sym found.joined) (new-cut found.before b found.after (next b) c.first c.second (fills_left r.1 r.0 found.before b found.after f) (fills_above (next b) r.0 found.after (fills_right r.1 r.0 found.before b found.after f)) fills)
 
-      pub clear_changed : MaySplit S (join up L) c.second → IsClear S (changed found owner)
+      pub clear_changed : MaySplit S (join up L) c.second → IsClear S (with_cut found owner)
       clear_changed m =
           let F : List Header → Type 0 = λ X. IsClear S (found.before ++ (X ++ found.after)) in
           let G : List Header → Type 0 = λ X. MaySplit S X c.second in
           let H : List Header → Type 0 = λ X. IsClear S X in
           subst F is (clear-cut S found.before b found.after c.first c.second fills.0 (subst H found.joined (join-clear S start L a)) (subst G found.joined m))
 
-      pub unclear_changed : (MaySplit S (join up L) c.second → ⊥) → IsClear S (changed found owner) → ⊥
+      pub unclear_changed : (MaySplit S (join up L) c.second → ⊥) → IsClear S (with_cut found owner) → ⊥
       unclear_changed m k =
           let F : List Header → Type 0 = λ X. IsClear S (found.before ++ (X ++ found.after)) in
           let G : List Header → Type 0 = λ X. MaySplit S X c.second in
@@ -156,7 +156,7 @@ module _ (up : Bool) where
           unclear-cut S found.before b found.after c.first c.second fills.0 (subst H found.joined is_new) (λ x. m (subst G (sym found.joined) x)) (subst F (sym is) k)
 
       -- the headers of the changed list are those of the joined list and the new one
-      pub changed_either : (g : ℕ) → HasHeader (changed found owner) g → HasHeader (option_to_list c.second ++ join up L) g
+      pub changed_either : (g : ℕ) → HasHeader (with_cut found owner) g → HasHeader (option_to_list c.second ++ join up L) g
       changed_either g w =
           let F : List Header → Type 0 = λ X. HasHeader (found.before ++ (X ++ found.after)) g in
           let G : List Header → Type 0 = λ X. HasHeader X g in
@@ -165,7 +165,7 @@ module _ (up : Bool) where
             | inr r ↦ has_left (option_to_list c.second) (join up L) g r
           ]
 
-      pub changed_has : (g : ℕ) → HasHeader (option_to_list c.second ++ join up L) g → HasHeader (changed found owner) g
+      pub changed_has : (g : ℕ) → HasHeader (option_to_list c.second ++ join up L) g → HasHeader (with_cut found owner) g
       changed_has g w =
           let F : List Header → Type 0 = λ X. HasHeader (found.before ++ (X ++ found.after)) g in
           let G : List Header → Type 0 = λ X. HasHeader X g in
@@ -177,10 +177,10 @@ module _ (up : Bool) where
       pub planned : MaySplit S (join up L) c.second → (segment : ℕ) → segment ≡ taken_segment st.fit n b + 1 → IsPlan up S start st n owner (record { cut = c; segment = segment })
       planned m segment s = record { taking = found; cut_is = is; segment_is = s; clear = clear_changed m }
 
-      pub unplanned : (MaySplit S (join up L) c.second → ⊥) → (t : Taking up S start st n) × (IsClear S (changed t owner) → ⊥)
+      pub unplanned : (MaySplit S (join up L) c.second → ⊥) → (t : Taking up S start st n) × (IsClear S (with_cut t owner) → ⊥)
       unplanned m = (found, unclear_changed m)
 
-  abbrev pub placing_of : (S : Memory) (start : ℕ) (st : Strategy) (n owner : ℕ) (c : Cut) (t : Taking up S start st n) → cut_list c ≡ cut st.fit n owner t.block → IsClear S (changed t owner) → Placing up S start (cut_list c)
+  abbrev pub placing_of : (S : Memory) (start : ℕ) (st : Strategy) (n owner : ℕ) (c : Cut) (t : Taking up S start st n) → cut_list c ≡ cut st.fit n owner t.block → IsClear S (with_cut t owner) → Placing up S start (cut_list c)
   placing_of S start st n owner c t is k = record {
     list = t.list;
     before = t.before;
@@ -192,7 +192,7 @@ module _ (up : Bool) where
     clear = (let F : List Header → Type 0 = λ X. IsClear S (t.before ++ (X ++ t.after)) in subst F (sym is) k);
   }
 
-  pub placed : (S : Memory) (start : ℕ) (st : Strategy) (n owner : ℕ) (c : Cut) (t : Taking up S start st n) → cut_list c ≡ cut st.fit n owner t.block → IsClear S (changed t owner) → (T : Memory) → ((p : Placing up S start (cut_list c)) → Becomes S start (p.before ++ (cut_list c ++ p.after)) T) → Becomes S start (changed t owner) T
+  pub placed : (S : Memory) (start : ℕ) (st : Strategy) (n owner : ℕ) (c : Cut) (t : Taking up S start st n) → cut_list c ≡ cut st.fit n owner t.block → IsClear S (with_cut t owner) → (T : Memory) → ((p : Placing up S start (cut_list c)) → Becomes S start (p.before ++ (cut_list c ++ p.after)) T) → Becomes S start (with_cut t owner) T
   placed S start st n owner c t is k T f = let F : List Header → Type 0 = λ X. Becomes S start (t.before ++ (X ++ t.after)) T in subst F is (f (placing_of S start st n owner c t is k))
 
   module _ (S U : Memory) (start : ℕ) (c : Cut) (p : Placing up S start (cut_list c)) (j : IsJoined up S start p.list U) where

@@ -10,7 +10,7 @@ use Rattle.dm_arena.specs.Owned.{BlockAt, IsNoBlock, is_link_block, ReleasesOne,
 use Rattle.dm_blocks.specs.Chain.{is_free}
 use Rattle.dm_arena.specs.Blocks.{in_effect, join, largest, fits, prefers, IsIn, cut, cut_low, taken_segment}
 use Rattle.dm_arena.specs.inner.Walks.{Fills}
-use Rattle.dm_arena.specs.Allocation.{Taking, changed, Allocates, AllocateRefused}
+use Rattle.dm_arena.specs.Allocation.{Taking, with_cut, Allocates, AllocateRefused}
 use Rattle.dm_blocks.proofs.Chains.{has_either, has_right}
 use Rattle.dm_arena.proofs.Allocating.{in_middle}
 use Rattle.dm_arena.proofs.Fitting.{prefers-same}
@@ -66,7 +66,7 @@ module _ (up : Bool) where
     pub taken_segment-same : taken_segment st.fit n t.block ≡ taken_segment st.fit n u.block
     taken_segment-same = ap (taken_segment st.fit n) same.1
 
-    pub changed-same : (owner : ℕ) → changed t owner ≡ changed u owner
+    pub changed-same : (owner : ℕ) → with_cut t owner ≡ with_cut u owner
     changed-same owner = ap₂ (λ P R. P ++ R) same.0 (ap₂ (λ b Q. cut st.fit n owner b ++ Q) same.1 same.2)
 
   -- a list in which no block fits up st has none that is taken
@@ -82,7 +82,7 @@ module _ (up : Bool) where
       none t.block (subst F (sym e) (in_middle t.before t.block t.after)) (subst G (effect-same S start st n L a t) t.fit.fit)
 
   -- an allocation is served or refused
-  served_refused : (S : Memory) (st : Strategy) (n owner : ℕ) (t : Taking up S first_header st n) → IsClear S (changed t owner) → (e : ArenaRefusal) → AllocateRefused up S first_header st n owner e → ⊥
+  served_refused : (S : Memory) (st : Strategy) (n owner : ℕ) (t : Taking up S first_header st n) → IsClear S (with_cut t owner) → (e : ArenaRefusal) → AllocateRefused up S first_header st n owner e → ⊥
   served_refused S st n owner t k Destroyed (inl none) = none t.list t.arena
   served_refused S st n owner t k Destroyed (inr r) = (let F : List Header → Type 0 = λ X. IsClear S X in r.1 (subst F (changed-same S first_header st n t r.0 owner) k))
   served_refused S st n owner t k (Short most) r = none_taken S first_header st n r.0 r.1 r.3 t

@@ -9,8 +9,8 @@ use Rattle.dm_arena.specs.declared.fit.Strategy.{Strategy}
 use Rattle.dm_blocks.specs.Chain.{first_header, IsArena, IsClear, Becomes}
 use Rattle.dm_arena.specs.Blocks.{in_effect, join, largest, fits, IsFit, IsIn, cut, taken_segment}
 use Rattle.dm_arena.specs.inner.Walks.{pick, left_of, rest_of, Fills}
-use Rattle.dm_arena.specs.Allocation.{Taking, changed}
-use Rattle.dm_arena.specs.Pair.{Pairing, Planned, paired, IsPair, Placed, placed_of, Pairs, PairRefused}
+use Rattle.dm_arena.specs.Allocation.{Taking, with_cut}
+use Rattle.dm_arena.specs.Pair.{Pairing, Planned, with_pair, IsPair, Placed, placed_of, Pairs, PairRefused}
 use Rattle.dm_arena.proofs.Allocating.{taking_of, in_middle, changed_fills}
 use Rattle.dm_blocks.proofs.Unique.{arena_unique, becomes_unique}
 use Rattle.dm_arena.proofs.Ends.{split_unique}
@@ -36,9 +36,9 @@ module _ (up : Bool) where
 
       -- the strategy that is in effect for the second block, whoever owns the first
       abbrev effect : Strategy
-      effect = in_effect up (changed first 0) st
+      effect = in_effect up (with_cut first 0) st
 
-      effect-is : (o : ℕ) → effect ≡ in_effect up (changed first o) st
+      effect-is : (o : ℕ) → effect ≡ in_effect up (with_cut first o) st
       effect-is o = effect-owner up S start st n first 0 o
 
       found_second : (m : ℕ) (w : Header) → m ≡ min most (largest up effect (left_of (Some spoken) (join up L))) → pick up effect m None (left_of (Some spoken) (join up L)) ≡ Some w →
@@ -47,18 +47,18 @@ module _ (up : Bool) where
           let size : k ≡ m = size_same up S start st n L b a e spoken refl refl effect effect-is least most (largest up effect (left_of (Some spoken) (join up L))) m refl is o k p in
           let h : 0 < o = (let y = p.owner_is in omega arith) in
           let f = second_fit up S start st n L b a e spoken refl refl effect m w chosen o h in
-          let same : changed p.first o ≡ changed first o = changed-same up S start st n p.first first o in
+          let same : with_cut p.first o ≡ with_cut first o = changed-same up S start st n p.first first o in
           let lists : p.before ++ p.block ∷ p.after ≡ f.1.0 ++ w ∷ f.1.1 = sym p.split ∙ same ∙ f.1.2 in
           let fills = changed_fills up S start st n o p.first in
           let F : List Header → Type 0 = λ X. Fills fills.0 X fills.1 in
           let I : List Header → Type 0 = λ X. IsIn w X in
           let J : List Header → Type 0 = λ X. IsIn p.block X in
-          let P : Strategy → Type 0 = λ x. IsFit up x k (changed p.first o) p.block in
-          let fit : IsFit up effect k (changed p.first o) p.block = subst P (ap (λ X. in_effect up X st) same ∙ sym (effect-is o)) p.fit in
+          let P : Strategy → Type 0 = λ x. IsFit up x k (with_cut p.first o) p.block in
+          let fit : IsFit up effect k (with_cut p.first o) p.block = subst P (ap (λ X. in_effect up X st) same ∙ sym (effect-is o)) p.fit in
           let G : ℕ → Type 0 = λ x. IsTrue (fits up effect x w) in
           let H : ℕ → Type 0 = λ x. IsTrue (fits up effect x p.block) in
-          let iw : IsIn w (changed p.first o) = subst I (sym (same ∙ f.1.2)) (in_middle f.1.0 w f.1.1) in
-          let ip : IsIn p.block (changed first o) = subst J (sym p.split ∙ same) (in_middle p.before p.block p.after) in
+          let iw : IsIn w (with_cut p.first o) = subst I (sym (same ∙ f.1.2)) (in_middle f.1.0 w f.1.1) in
+          let ip : IsIn p.block (with_cut first o) = subst J (sym p.split ∙ same) (in_middle p.before p.block p.after) in
           let at : p.block.segment ≡ w.segment = prefers-same effect p.block w (fit.preferred w iw (subst G (sym size) f.0.fit)) (f.0.preferred p.block ip (subst H size fit.fit)) in
           let u = split_unique fills.0 fills.1 p.before p.block p.after f.1.0 w f.1.1 (subst F p.split fills.2) lists at in
           record { owner = p.owner_is ∙ ap₂ (λ x c. taken_segment st.fit x c + 1) size u.1; size = size }
@@ -82,7 +82,7 @@ module _ (up : Bool) where
     -- the lists that two pairings leave
     module _ (o k v w : ℕ) (p : Pairing up S start st n least most o k) (q : Pairing up S start st n least most v w) where
       lists : p.before ++ p.block ∷ p.after ≡ q.before ++ q.block ∷ q.after
-      lists = sym p.split ∙ changed-same up S start st n p.first q.first o ∙ ap (changed q.first) (second_unique o k v w p q).owner ∙ q.split
+      lists = sym p.split ∙ changed-same up S start st n p.first q.first o ∙ ap (with_cut q.first) (second_unique o k v w p q).owner ∙ q.split
 
       blocks : (p.before ≡ q.before) × (p.block ≡ q.block) × (p.after ≡ q.after)
       blocks =
@@ -91,17 +91,17 @@ module _ (up : Bool) where
           let I : List Header → Type 0 = λ X. IsIn q.block X in
           let J : List Header → Type 0 = λ X. IsIn p.block X in
           let size = (second_unique o k v w p q).size in
-          let E : Strategy = in_effect up (changed p.first o) st in
-          let Q : Strategy → Type 0 = λ x. IsFit up x w (changed q.first v) q.block in
-          let fit : IsFit up E w (changed q.first v) q.block = subst Q (ap (λ X. in_effect up X st) (q.split ∙ sym lists ∙ sym p.split)) q.fit in
+          let E : Strategy = in_effect up (with_cut p.first o) st in
+          let Q : Strategy → Type 0 = λ x. IsFit up x w (with_cut q.first v) q.block in
+          let fit : IsFit up E w (with_cut q.first v) q.block = subst Q (ap (λ X. in_effect up X st) (q.split ∙ sym lists ∙ sym p.split)) q.fit in
           let G : ℕ → Type 0 = λ x. IsTrue (fits up E x q.block) in
           let H : ℕ → Type 0 = λ x. IsTrue (fits up E x p.block) in
-          let iq : IsIn q.block (changed p.first o) = subst I (sym (p.split ∙ lists)) (in_middle q.before q.block q.after) in
-          let ip : IsIn p.block (changed q.first v) = subst J (lists ∙ sym q.split) (in_middle p.before p.block p.after) in
+          let iq : IsIn q.block (with_cut p.first o) = subst I (sym (p.split ∙ lists)) (in_middle q.before q.block q.after) in
+          let ip : IsIn p.block (with_cut q.first v) = subst J (lists ∙ sym q.split) (in_middle p.before p.block p.after) in
           let at : p.block.segment ≡ q.block.segment = prefers-same E p.block q.block (p.fit.preferred q.block iq (subst G (sym size) fit.fit)) (fit.preferred p.block ip (subst H size p.fit.fit)) in
           split_unique fills.0 fills.1 p.before p.block p.after q.before q.block q.after (subst F p.split fills.2) lists at
 
-      pub paired-same : paired p ≡ paired q
+      pub paired-same : with_pair p ≡ with_pair q
       paired-same =
           let u = second_unique o k v w p q in
           ap₂ (λ P R. P ++ R) blocks.0

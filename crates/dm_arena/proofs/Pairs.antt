@@ -16,8 +16,8 @@ use Rattle.dm_arena.specs.Blocks.{in_effect, join, fits, largest, free_size, cut
 use Rattle.dm_arena.specs.inner.Blocks.{cut_list}
 use Rattle.dm_arena.specs.inner.Standing.{MaySplit, IsNew}
 use Rattle.dm_arena.specs.inner.Walks.{pick, better, left_of, left_part, rest_of, Fills, IsJoined, IsReplaceable, IsReplaced}
-use Rattle.dm_arena.specs.Allocation.{changed}
-use Rattle.dm_arena.specs.Pair.{Pairing, Planned, IsPair, paired}
+use Rattle.dm_arena.specs.Allocation.{with_cut}
+use Rattle.dm_arena.specs.Pair.{Pairing, Planned, IsPair, with_pair}
 use Rattle.dm_blocks.proofs.Chains.{has_left, has_right, has_either, spells_end, clear_within, clear_map}
 use Rattle.dm_arena.proofs.Beside.{cut-has, clear-cut, unclear-cut, new-cut, stand-within, new-within}
 use Rattle.dm_arena.proofs.Fitting.{fit_found, none_found}
@@ -144,7 +144,7 @@ module _ (up : Bool) where
         let F : List Header → Type 0 = λ X. Fills r.1 X r.0 in
         ap (left_of (Some s)) t.joined ∙ left-split r.1 r.0 t.before b t.after s (subst F t.joined r.2) ss ∙ ap (λ z. t.before ++ (option_to_list z ++ t.after)) sr
 
-    pub left-pick : (E : Strategy) (o : ℕ) → 0 < o → (m : ℕ) → pick up E m None (changed (taking_of up S start st n L b a e) o) ≡ pick up E m None (left_of (Some s) (join up L))
+    pub left-pick : (E : Strategy) (o : ℕ) → 0 < o → (m : ℕ) → pick up E m None (with_cut (taking_of up S start st n L b a e) o) ≡ pick up E m None (left_of (Some s) (join up L))
     left-pick E o h m =
         let t = taking_of up S start st n L b a e in
         let P = t.before in
@@ -157,7 +157,7 @@ module _ (up : Bool) where
         ∙ sym (pick-append up E m None P (R ++ Q))
         ∙ ap (pick up E m None) (sym (left-is o))
 
-    pub left-largest : (E : Strategy) (o : ℕ) → 0 < o → largest up E (changed (taking_of up S start st n L b a e) o) ≡ largest up E (left_of (Some s) (join up L))
+    pub left-largest : (E : Strategy) (o : ℕ) → 0 < o → largest up E (with_cut (taking_of up S start st n L b a e) o) ≡ largest up E (left_of (Some s) (join up L))
     left-largest E o h =
         let t = taking_of up S start st n L b a e in
         let P = t.before in
@@ -168,7 +168,7 @@ module _ (up : Bool) where
         ∙ sym (largest-append up E P (R ++ Q))
         ∙ ap (largest up E) (sym (left-is o))
 
-    left-fits : (o : ℕ) (c : Header) → IsIn c (changed (taking_of up S start st n L b a e) o) → next c ≤ 0xFFFF
+    left-fits : (o : ℕ) (c : Header) → IsIn c (with_cut (taking_of up S start st n L b a e) o) → next c ≤ 0xFFFF
     left-fits o c i =
         let t = taking_of up S start st n L b a e in
         let F : List Header → Type 0 = λ X. IsIn c X in
@@ -184,8 +184,8 @@ module _ (up : Bool) where
 
     -- the second block, by the strategy E
     module _ (E : Strategy) (m : ℕ) (w : Header) (chosen : pick up E m None (left_of (Some s) (join up L)) ≡ Some w) where
-      pub second_fit : (o : ℕ) → 0 < o → IsFit up E m (changed (taking_of up S start st n L b a e) o) w × ((P : List Header) × (Q : List Header) × (changed (taking_of up S start st n L b a e) o ≡ P ++ w ∷ Q))
-      second_fit o h = fit_found up E m (changed (taking_of up S start st n L b a e) o) w (left-pick E o h m ∙ chosen)
+      pub second_fit : (o : ℕ) → 0 < o → IsFit up E m (with_cut (taking_of up S start st n L b a e) o) w × ((P : List Header) × (Q : List Header) × (with_cut (taking_of up S start st n L b a e) o ≡ P ++ w ∷ Q))
+      second_fit o h = fit_found up E m (with_cut (taking_of up S start st n L b a e) o) w (left-pick E o h m ∙ chosen)
 
       pub second_within : m ≤ w.size
       second_within = fits_size up E m w (second_fit 1 (omega arith)).0.fit
@@ -196,7 +196,7 @@ module _ (up : Bool) where
           let F : List Header → Type 0 = λ X. IsIn w X in
           left-fits 1 w (subst F (sym f.1.2) (in_middle f.1.0 w f.1.1))
 
-      module _ (E-is : (o : ℕ) → E ≡ in_effect up (changed (taking_of up S start st n L b a e) o) st) (least most left o : ℕ) (left-of : left ≡ largest up E (left_of (Some s) (join up L))) (size-of : m ≡ min most left) (enough : least ≤ m) (owner-of : o ≡ taken_segment st.fit m w + 1) where
+      module _ (E-is : (o : ℕ) → E ≡ in_effect up (with_cut (taking_of up S start st n L b a e) o) st) (least most left o : ℕ) (left-of : left ≡ largest up E (left_of (Some s) (join up L))) (size-of : m ≡ min most left) (enough : least ≤ m) (owner-of : o ≡ taken_segment st.fit m w + 1) where
         pub owned : 0 < o
         owned = omega arith
 
@@ -204,7 +204,7 @@ module _ (up : Bool) where
         pairing =
             let f = second_fit o owned in
             let t = taking_of up S start st n L b a e in
-            let F : Strategy → Type 0 = λ x. IsFit up x m (changed t o) w in
+            let F : Strategy → Type 0 = λ x. IsFit up x m (with_cut t o) w in
             record {
               first = taking_of up S start st n L b a e;
               before = f.1.0;
@@ -212,7 +212,7 @@ module _ (up : Bool) where
               after = f.1.1;
               split = f.1.2;
               fit = subst F (E-is o) f.0;
-              size_is = size-of ∙ ap (min most) (left-of ∙ sym (left-largest E o owned) ∙ ap (λ x. largest up x (changed t o)) (E-is o));
+              size_is = size-of ∙ ap (min most) (left-of ∙ sym (left-largest E o owned) ∙ ap (λ x. largest up x (with_cut t o)) (E-is o));
               enough = enough;
               owner_is = owner-of;
             }
@@ -239,39 +239,39 @@ module _ (up : Bool) where
               let f = second_fit o owned in
               let t = taking_of up S start st n L b a e in
               let F : List Header → Type 0 = λ X. IsNew X d.second in
-              new-within (changed t o) (option_to_list c.second ++ join up L) d.second (changed_has up S start st n o L b a e c c-is) (subst F (sym f.1.2) split-new)
+              new-within (with_cut t o) (option_to_list c.second ++ join up L) d.second (changed_has up S start st n o L b a e c c-is) (subst F (sym f.1.2) split-new)
 
-          pub pair_clear : MaySplit S (join up L) c.second × MaySplit S (option_to_list c.second ++ join up L) d.second → IsClear S (paired pairing)
+          pub pair_clear : MaySplit S (join up L) c.second × MaySplit S (option_to_list c.second ++ join up L) d.second → IsClear S (with_pair pairing)
           pair_clear may =
               let f = second_fit o owned in
               let t = taking_of up S start st n L b a e in
               let F : List Header → Type 0 = λ X. IsClear S (f.1.0 ++ (X ++ f.1.1)) in
               let G : List Header → Type 0 = λ X. IsClear S X in
               let H : List Header → Type 0 = λ X. MaySplit S X d.second in
-              let first : IsClear S (changed t o) = clear_changed up S start st n o L b a e c c-is may.0 in
-              let second : MaySplit S (changed t o) d.second = stand-within S (option_to_list c.second ++ join up L) (changed t o) d.second (changed_either up S start st n o L b a e c c-is) may.1 in
+              let first : IsClear S (with_cut t o) = clear_changed up S start st n o L b a e c c-is may.0 in
+              let second : MaySplit S (with_cut t o) d.second = stand-within S (option_to_list c.second ++ join up L) (with_cut t o) d.second (changed_either up S start st n o L b a e c c-is) may.1 in
               subst F d-is (clear-cut S f.1.0 w f.1.1 d.first d.second second-fills.0 (subst G f.1.2 first) (subst H f.1.2 second))
 
-          pub pair_unclear : (MaySplit S (join up L) c.second → ⊥) ⊎ (MaySplit S (option_to_list c.second ++ join up L) d.second → ⊥) → IsClear S (paired pairing) → ⊥
+          pub pair_unclear : (MaySplit S (join up L) c.second → ⊥) ⊎ (MaySplit S (option_to_list c.second ++ join up L) d.second → ⊥) → IsClear S (with_pair pairing) → ⊥
           pair_unclear bad k =
               let f = second_fit o owned in
               let t = taking_of up S start st n L b a e in
               let F : List Header → Type 0 = λ X. IsClear S (f.1.0 ++ (X ++ f.1.1)) in
               let G : List Header → Type 0 = λ X. MaySplit S X d.second in
               let k' : IsClear S (f.1.0 ++ (cut_list d ++ f.1.1)) = subst F (sym d-is) k in
-              let has : (g : ℕ) → HasHeader (changed t o) g → HasHeader (f.1.0 ++ (cut_list d ++ f.1.1)) g = λ g h. (let H : List Header → Type 0 = λ X. HasHeader X g in cut-has f.1.0 w d.first d.second f.1.1 second-fills.0 g (subst H f.1.2 h)) in
+              let has : (g : ℕ) → HasHeader (with_cut t o) g → HasHeader (f.1.0 ++ (cut_list d ++ f.1.1)) g = λ g h. (let H : List Header → Type 0 = λ X. HasHeader X g in cut-has f.1.0 w d.first d.second f.1.1 second-fills.0 g (subst H f.1.2 h)) in
               elim bad [
-                | inl h ↦ unclear_changed up S start st n o L b a e c c-is h (clear_within S (f.1.0 ++ (cut_list d ++ f.1.1)) (changed t o) has k')
-                | inr h ↦ unclear-cut S f.1.0 w f.1.1 d.first d.second second-fills.0 split-new (λ x. h (stand-within S (changed t o) (option_to_list c.second ++ join up L) d.second (changed_has up S start st n o L b a e c c-is) (subst G (sym f.1.2) x))) k'
+                | inl h ↦ unclear_changed up S start st n o L b a e c c-is h (clear_within S (f.1.0 ++ (cut_list d ++ f.1.1)) (with_cut t o) has k')
+                | inr h ↦ unclear-cut S f.1.0 w f.1.1 d.first d.second second-fills.0 split-new (λ x. h (stand-within S (with_cut t o) (option_to_list c.second ++ join up L) d.second (changed_has up S start st n o L b a e c c-is) (subst G (sym f.1.2) x))) k'
               ]
 
     -- no room for the second block
-    module _ (E : Strategy) (E-is : (o : ℕ) → E ≡ in_effect up (changed (taking_of up S start st n L b a e) o) st) (least most left m : ℕ) (left-of : left ≡ largest up E (left_of (Some s) (join up L))) (size-of : m ≡ min most left) where
+    module _ (E : Strategy) (E-is : (o : ℕ) → E ≡ in_effect up (with_cut (taking_of up S start st n L b a e) o) st) (least most left m : ℕ) (left-of : left ≡ largest up E (left_of (Some s) (join up L))) (size-of : m ≡ min most left) where
       pub size_same : (o k : ℕ) → Pairing up S start st n least most o k → k ≡ m
       size_same o k p =
           let h : 0 < o = (let y = p.owner_is in omega arith) in
           let t = taking_of up S start st n L b a e in
-          p.size_is ∙ ap (λ X. min most (largest up (in_effect up X st) X)) (changed-same up S start st n p.first t o) ∙ ap (λ x. min most (largest up x (changed t o))) (sym (E-is o)) ∙ ap (min most) (left-largest E o h ∙ sym left-of) ∙ sym size-of
+          p.size_is ∙ ap (λ X. min most (largest up (in_effect up X st) X)) (changed-same up S start st n p.first t o) ∙ ap (λ x. min most (largest up x (with_cut t o))) (sym (E-is o)) ∙ ap (min most) (left-largest E o h ∙ sym left-of) ∙ sym size-of
 
       pub too_small : m < least → (o k : ℕ) → Pairing up S start st n least most o k → ⊥
       too_small h o k p = (let x = size_same o k p in let y = p.enough in omega arith)
@@ -280,12 +280,12 @@ module _ (up : Bool) where
       none_second is o k p =
           let h : 0 < o = (let y = p.owner_is in omega arith) in
           let t = taking_of up S start st n L b a e in
-          let same : changed p.first o ≡ changed t o = changed-same up S start st n p.first t o in
+          let same : with_cut p.first o ≡ with_cut t o = changed-same up S start st n p.first t o in
           let F : List Header → Type 0 = λ X. IsIn p.block X in
           let G : ℕ → Type 0 = λ x. IsTrue (fits up E x p.block) in
           let H : Strategy → Type 0 = λ x. IsTrue (fits up x k p.block) in
-          let i : IsIn p.block (changed t o) = subst F same (subst F (sym p.split) (in_middle p.before p.block p.after)) in
-          none_found up E m (changed t o) (left-pick E o h m ∙ is) p.block i (subst G (size_same o k p) (subst H (ap (λ X. in_effect up X st) same ∙ sym (E-is o)) p.fit.fit))
+          let i : IsIn p.block (with_cut t o) = subst F same (subst F (sym p.split) (in_middle p.before p.block p.after)) in
+          none_found up E m (with_cut t o) (left-pick E o h m ∙ is) p.block i (subst G (size_same o k p) (subst H (ap (λ X. in_effect up X st) same ∙ sym (E-is o)) p.fit.fit))
 
   pub none_first : (S : Memory) (start : ℕ) (st : Strategy) (n least most : ℕ) (L : List Header) → IsArena S start L → pick up (in_effect up L st) n None (join up L) ≡ None → (o k : ℕ) → Pairing up S start st n least most o k → ⊥
   none_first S start st n least most L a is o k p = none_taken up S start st n L a (none_found up (in_effect up L st) n (join up L) is) p.first
@@ -298,9 +298,9 @@ module _ (up : Bool) where
     d-cut = d-is ∙ p.second_is
 
     new_fills : Fills p.pairing.block.segment (cut_list d) (next p.pairing.block)
-    new_fills = (let F : List Header → Type 0 = λ X. Fills p.pairing.block.segment X (next p.pairing.block) in subst F (sym d-cut) (cut_fills st.fit pair.size pair.program p.pairing.block (fits_size up (in_effect up (changed p.pairing.first pair.program) st) pair.size p.pairing.block p.pairing.fit.fit)))
+    new_fills = (let F : List Header → Type 0 = λ X. Fills p.pairing.block.segment X (next p.pairing.block) in subst F (sym d-cut) (cut_fills st.fit pair.size pair.program p.pairing.block (fits_size up (in_effect up (with_cut p.pairing.first pair.program) st) pair.size p.pairing.block p.pairing.fit.fit)))
 
-    has_last : (g : ℕ) → HasHeader (changed p.pairing.first pair.program) g → HasHeader (p.pairing.before ++ (cut_list d ++ p.pairing.after)) g
+    has_last : (g : ℕ) → HasHeader (with_cut p.pairing.first pair.program) g → HasHeader (p.pairing.before ++ (cut_list d ++ p.pairing.after)) g
     has_last g h =
         let q = p.pairing in
         let G : List Header → Type 0 = λ X. HasHeader X g in
@@ -316,14 +316,14 @@ module _ (up : Bool) where
     last_clear : IsClear S (p.pairing.before ++ (cut_list d ++ p.pairing.after))
     last_clear = (let F : List Header → Type 0 = λ X. IsClear S (p.pairing.before ++ (X ++ p.pairing.after)) in subst F (sym d-cut) p.clear)
 
-    first_clear : IsClear S (changed p.pairing.first pair.program)
+    first_clear : IsClear S (with_cut p.pairing.first pair.program)
     first_clear = clear_within S (p.pairing.before ++ (cut_list d ++ p.pairing.after)) _ has_last last_clear
 
     pub first_replaceable : (last : Bool) → last ≡ nat_eq (peek U (16 * c.first.segment)) 0x5A → IsReplaceable U start p.pairing.first.before (p.pairing.first.block ∷ []) p.pairing.first.after (cut_list c) last p.pairing.first.block.segment (next p.pairing.first.block)
     first_replaceable last e = replaceable up S U start c (placing_of up S start st n pair.program c p.pairing.first c-cut first_clear) j last e
 
     module _ (V : Memory) (r : IsReplaced U start p.pairing.first.before p.pairing.first.after (cut_list c) V) where
-      first_becomes : Becomes S start (changed p.pairing.first pair.program) V
+      first_becomes : Becomes S start (with_cut p.pairing.first pair.program) V
       first_becomes =
           let F : List Header → Type 0 = λ X. Becomes S start (p.pairing.first.before ++ (X ++ p.pairing.first.after)) V in
           subst F c-cut (becomes up S U start c (placing_of up S start st n pair.program c p.pairing.first c-cut first_clear) j V r)
@@ -341,7 +341,7 @@ module _ (up : Bool) where
         clear = clear_map S V _ (place-shaped S V first_becomes.differs.shape) last_clear;
       }
 
-      pub pair_becomes : (T : Memory) → IsReplaced V start p.pairing.before p.pairing.after (cut_list d) T → Becomes S start (paired p.pairing) T
+      pub pair_becomes : (T : Memory) → IsReplaced V start p.pairing.before p.pairing.after (cut_list d) T → Becomes S start (with_pair p.pairing) T
       pair_becomes T x =
           let q = p.pairing in
           let F : List Header → Type 0 = λ X. Becomes S start (q.before ++ (X ++ q.after)) T in

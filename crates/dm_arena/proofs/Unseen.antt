@@ -8,9 +8,9 @@ use Rattle.dm_arena.specs.declared.refusal.ArenaRefusal.{ArenaRefusal}
 use Rattle.dm_arena.specs.declared.refusal.ArenaRefusal.TheVariants.{Destroyed, Short, NoBlock}
 use Rattle.dm_arena.specs.declared.fit.Strategy.{Strategy}
 use Rattle.dm_blocks.specs.Chain.{first_header, link_header, word, IsHeader, Spells, IsChain, IsClear, IsArena, IsArenaBehind, NoArena, NoArenaBehind, Becomes, DiffersInHeaders, next}
-use Rattle.dm_arena.specs.Allocation.{Taking, changed, Allocates, AllocateRefused}
+use Rattle.dm_arena.specs.Allocation.{Taking, with_cut, Allocates, AllocateRefused}
 use Rattle.dm_arena.specs.Owned.{BlockAt, Frees, FreeRefused, BlockRunAt, resized, Resizes, ResizeRefused, ReleaseRefused, Releases, released}
-use Rattle.dm_arena.specs.Pair.{Pairing, Planned, IsPair, paired, Placed, Pairs, PairRefused}
+use Rattle.dm_arena.specs.Pair.{Pairing, Planned, IsPair, with_pair, Placed, Pairs, PairRefused}
 use Rattle.dm_arena.specs.Linking.{BecomesLinked, BecomesUnlinked, IsSo, LinkRefused, Links, TellsLinked}
 use Rattle.dm_arena.specs.Laws.{IgnoresUnseen}
 
@@ -178,12 +178,12 @@ module _ (up : Bool) where
   module _ (f : Memory → Memory) (u : IsUnseen f) where
     allocate_refused-unseen : (S : Memory) (start : ℕ) (st : Strategy) (n owner : ℕ) (e : ArenaRefusal) → AllocateRefused up S start st n owner e → AllocateRefused up (f S) start st n owner e
     allocate_refused-unseen S start st n owner Destroyed (inl none) = inl (none-unseen f u S start none)
-    allocate_refused-unseen S start st n owner Destroyed (inr r) = inr (taking-same S (f S) (there f u S) r.0, unclear-unseen f u S (changed r.0 owner) r.1)
+    allocate_refused-unseen S start st n owner Destroyed (inr r) = inr (taking-same S (f S) (there f u S) r.0, unclear-unseen f u S (with_cut r.0 owner) r.1)
     allocate_refused-unseen S start st n owner (Short most) r = (r.0, arena-same S (f S) (there f u S) start r.0 r.1, r.2, r.3)
     allocate_refused-unseen S start st n owner NoBlock r = r
 
     pub allocation-unseen : (S T : Memory) (st : Strategy) (n owner : ℕ) (r : Result ℕ ArenaRefusal) → Allocates up S st n owner r T → Allocates up (f S) st n owner r (f T)
-    allocation-unseen S T st n owner (Ok segment) a = (taking-same S (f S) (there f u S) a.0, a.1, becomes-unseen f u S first_header (changed a.0 owner) T a.2)
+    allocation-unseen S T st n owner (Ok segment) a = (taking-same S (f S) (there f u S) a.0, a.1, becomes-unseen f u S first_header (with_cut a.0 owner) T a.2)
     allocation-unseen S T st n owner (Err e) a = (ap f a.0, allocate_refused-unseen S first_header st n owner e a.1)
 
     free_refused-unseen : (S : Memory) (segment : ℕ) (e : ArenaRefusal) → FreeRefused up S first_header segment e → FreeRefused up (f S) first_header segment e
@@ -230,7 +230,7 @@ module _ (up : Bool) where
 
     pair_refused-unseen : (S : Memory) (start : ℕ) (st : Strategy) (environment least most : ℕ) (e : ArenaRefusal) → PairRefused up S start st environment least most e → PairRefused up (f S) start st environment least most e
     pair_refused-unseen S start st environment least most Destroyed (inl none) = inl (none-unseen f u S start none)
-    pair_refused-unseen S start st environment least most Destroyed (inr r) = inr (r.0, r.1, pairing-same S (f S) (there f u S) r.2, unclear-unseen f u S (paired r.2) r.3)
+    pair_refused-unseen S start st environment least most Destroyed (inr r) = inr (r.0, r.1, pairing-same S (f S) (there f u S) r.2, unclear-unseen f u S (with_pair r.2) r.3)
     pair_refused-unseen S start st environment least most (Short room) r =
         (r.0, arena-same S (f S) (there f u S) start r.0 r.1, r.2, λ owner size p. r.3 owner size (pairing-same (f S) S (back f u S) p))
     pair_refused-unseen S start st environment least most NoBlock r = r

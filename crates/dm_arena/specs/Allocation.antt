@@ -20,12 +20,12 @@ pub record Taking (upper : Bool) (S : Memory) (start : ℕ) (strategy : Strategy
   pub fit : IsFit upper (in_effect upper list strategy) n (join upper list) block
 
 -- the joined list with that block cut
-abbrev pub changed : {upper : Bool} {S : Memory} {start : ℕ} {strategy : Strategy} {n : ℕ} → Taking upper S start strategy n → ℕ → List Header
-changed {upper} {S} {start} {strategy} {n} t owner = t.before ++ (cut strategy.fit n owner t.block ++ t.after)
+abbrev pub with_cut : {upper : Bool} {S : Memory} {start : ℕ} {strategy : Strategy} {n : ℕ} → Taking upper S start strategy n → ℕ → List Header
+with_cut {upper} {S} {start} {strategy} {n} t owner = t.before ++ (cut strategy.fit n owner t.block ++ t.after)
 
 -- no arena, or a new list that is not clear; no free block large enough among those that the strategy looks at
 abbrev pub AllocateRefused : Bool → Memory → ℕ → Strategy → ℕ → ℕ → ArenaRefusal → Type 0
-AllocateRefused upper S start strategy n owner Destroyed = NoArena S start ⊎ ((t : Taking upper S start strategy n) × (IsClear S (changed t owner) → ⊥))
+AllocateRefused upper S start strategy n owner Destroyed = NoArena S start ⊎ ((t : Taking upper S start strategy n) × (IsClear S (with_cut t owner) → ⊥))
 AllocateRefused upper S start strategy n owner (Short most) =
     (L : List Header) × IsArena S start L × (most ≡ largest upper (in_effect upper L strategy) (join upper L))
     × ((b : Header) → IsIn b (join upper L) → IsTrue (fits upper (in_effect upper L strategy) n b) → ⊥)
@@ -35,5 +35,5 @@ AllocateRefused upper S start strategy n owner NoBlock = ⊥
 -- the arena
 abbrev pub Allocates : Bool → Memory → Strategy → ℕ → ℕ → Result ℕ ArenaRefusal → Memory → Type 0
 Allocates upper S strategy n owner (Ok segment) T =
-    (t : Taking upper S first_header strategy n) × (segment ≡ taken_segment strategy.fit n t.block + 1) × Becomes S first_header (changed t owner) T
+    (t : Taking upper S first_header strategy n) × (segment ≡ taken_segment strategy.fit n t.block + 1) × Becomes S first_header (with_cut t owner) T
 Allocates upper S strategy n owner (Err e) T = (T ≡ S) × AllocateRefused upper S first_header strategy n owner e

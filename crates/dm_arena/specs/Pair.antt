@@ -8,7 +8,7 @@ use Rattle.dm_arena.specs.declared.refusal.ArenaRefusal.{ArenaRefusal}
 use Rattle.dm_arena.specs.declared.refusal.ArenaRefusal.TheVariants.{Destroyed, Short, NoBlock}
 use Rattle.dm_blocks.specs.Chain.{first_header, IsArena, NoArena, IsClear, Becomes}
 use Rattle.dm_arena.specs.Blocks.{in_effect, join, largest, IsFit, cut, taken_segment}
-use Rattle.dm_arena.specs.Allocation.{Taking, changed}
+use Rattle.dm_arena.specs.Allocation.{Taking, with_cut}
 
 -- the block that the strategy takes for the environment; then, of the list in which it is taken, the block for the
 -- program, which has the smaller of `most` paragraphs and the largest free block, and at least `least`. The program's
@@ -20,21 +20,21 @@ pub record Pairing (upper : Bool) (S : Memory) (start : ℕ) (strategy : Strateg
   pub before : List Header
   pub block : Header
   pub after : List Header
-  pub split : changed first owner ≡ before ++ block ∷ after
-  pub fit : IsFit upper (in_effect upper (changed first owner) strategy) size (changed first owner) block
-  pub size_is : size ≡ min most (largest upper (in_effect upper (changed first owner) strategy) (changed first owner))
+  pub split : with_cut first owner ≡ before ++ block ∷ after
+  pub fit : IsFit upper (in_effect upper (with_cut first owner) strategy) size (with_cut first owner) block
+  pub size_is : size ≡ min most (largest upper (in_effect upper (with_cut first owner) strategy) (with_cut first owner))
   pub enough : least ≤ size
   pub owner_is : owner ≡ taken_segment strategy.fit size block + 1
 
 -- the list with both blocks taken
-abbrev pub paired : {upper : Bool} {S : Memory} {start : ℕ} {strategy : Strategy} {environment least most owner size : ℕ} → Pairing upper S start strategy environment least most owner size → List Header
-paired {upper} {S} {start} {strategy} {environment} {least} {most} {owner} {size} p = p.before ++ (cut strategy.fit size owner p.block ++ p.after)
+abbrev pub with_pair : {upper : Bool} {S : Memory} {start : ℕ} {strategy : Strategy} {environment least most owner size : ℕ} → Pairing upper S start strategy environment least most owner size → List Header
+with_pair {upper} {S} {start} {strategy} {environment} {least} {most} {owner} {size} p = p.before ++ (cut strategy.fit size owner p.block ++ p.after)
 
 -- no arena, or a last list that is not clear; no room for both blocks
 abbrev pub PairRefused : Bool → Memory → ℕ → Strategy → ℕ → ℕ → ℕ → ArenaRefusal → Type 0
 PairRefused upper S start strategy environment least most Destroyed =
     NoArena S start
-    ⊎ ((owner : ℕ) × (size : ℕ) × (p : Pairing upper S start strategy environment least most owner size) × (IsClear S (paired p) → ⊥))
+    ⊎ ((owner : ℕ) × (size : ℕ) × (p : Pairing upper S start strategy environment least most owner size) × (IsClear S (with_pair p) → ⊥))
 PairRefused upper S start strategy environment least most (Short room) =
     (L : List Header) × IsArena S start L × (room ≡ largest upper (in_effect upper L strategy) (join upper L))
     × ((owner size : ℕ) → Pairing upper S start strategy environment least most owner size → ⊥)
@@ -55,7 +55,7 @@ pub record IsPair (upper : Bool) (S : Memory) (start : ℕ) (strategy : Strategy
   pub environment_is : pair.environment ≡ taken_segment strategy.fit environment pairing.first.block + 1
   pub first_is : pair.first ≡ cut strategy.fit environment pair.program pairing.first.block
   pub second_is : pair.second ≡ cut strategy.fit pair.size pair.program pairing.block
-  pub clear : IsClear S (paired pairing)
+  pub clear : IsClear S (with_pair pairing)
 
 -- where the blocks of a pair are: the segments of both, and the size of the program's in paragraphs
 pub record Placed : Type 0 where
@@ -71,7 +71,7 @@ placed_of pair = record { environment = pair.environment; program = pair.program
 abbrev pub Pairs : Bool → Memory → Strategy → ℕ → ℕ → ℕ → Result Placed ArenaRefusal → Memory → Type 0
 Pairs upper S strategy environment least most (Ok placed) T =
     (pair : Planned) × (p : IsPair upper S first_header strategy environment least most pair) × (placed ≡ placed_of pair)
-    × Becomes S first_header (paired p.pairing) T
+    × Becomes S first_header (with_pair p.pairing) T
 Pairs upper S strategy environment least most (Err e) T = (T ≡ S) × PairRefused upper S first_header strategy environment least most e
 
 -- the memory is as the pair was planned on

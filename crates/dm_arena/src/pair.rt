@@ -6,7 +6,7 @@ ghost use Rattle.dm_arena.specs.Blocks.{join};
 ghost use Rattle.dm_blocks.specs.Reading.{IsSpelledFrom};
 ghost use Rattle.dm_arena.specs.inner.Walks.{rest_of};
 ghost use Rattle.dm_arena.specs.inner.Standing.{IsNew, MaySplit};
-ghost use Rattle.dm_arena.specs.Pair.{paired, IsPair, IsPlannedOn, PairRefused};
+ghost use Rattle.dm_arena.specs.Pair.{with_pair, IsPair, IsPlannedOn, PairRefused};
 
 use crate::cut::{Cut, cut_of, taken_of, write_cut};
 use crate::fit::{Fit, Spoken, Strategy, choose, in_effect, in_effect_beside};
@@ -189,7 +189,7 @@ pub fn plan_pair(
 /// that changes.
 pub fn write_pair(space: &mut Space, pair: Pair, upper: bool)
     requires { IsPlannedOn upper space.old.memory pair }
-    ensures memory { (p : IsPlannedOn upper space.old.memory pair) → Becomes space.old.memory first_header (paired p.planned.pairing) space.new.memory }
+    ensures memory { (p : IsPlannedOn upper space.old.memory pair) → Becomes space.old.memory first_header (with_pair p.planned.pairing) space.new.memory }
     ensures scratch { space.new.scratch ≡ space.old.scratch }
 {
     let Pair { first, second, .. } = pair;

@@ -126,7 +126,7 @@ fn block_grows_back_over_the_rest(rt: HostRuntime) -> Result<(), Fail> {
 }
 
 /// Definitions: dm_blocks Chain IsClear HasHeader; dm_arena Blocks cut cut_low cut_high taken_segment
-/// Definitions: dm_arena Allocation Allocates Taking changed
+/// Definitions: dm_arena Allocation Allocates Taking with_cut
 #[test]
 fn rest_of_a_block_may_be_empty(rt: HostRuntime) -> Result<(), Fail> {
     // paragraphs asked for, the header that is then the last one
@@ -158,7 +158,7 @@ fn rest_of_a_block_may_be_empty(rt: HostRuntime) -> Result<(), Fail> {
 /// Definitions: dm_blocks Chain Becomes DiffersInHeaders
 /// Definitions: dm_arena Blocks IsFit fits is_candidate prefers prefers_in prefers_by largest cut cut_low cut_high
 /// Definitions: dm_arena Blocks taken_segment
-/// Definitions: dm_arena Allocation Allocates Taking changed
+/// Definitions: dm_arena Allocation Allocates Taking with_cut
 #[test]
 fn strategies_take_other_blocks(rt: HostRuntime) -> Result<(), Fail> {
     let rows = [
@@ -343,7 +343,7 @@ fn write_two(rt: &impl Abort, space: &mut Space) {
 }
 
 /// Definitions: dm_blocks Chain Becomes DiffersInHeaders
-/// Definitions: dm_arena Pair IsPair Planned Pairing paired PairRefused IsPlannedOn Pairs Placed placed_of
+/// Definitions: dm_arena Pair IsPair Planned Pairing with_pair PairRefused IsPlannedOn Pairs Placed placed_of
 #[test]
 fn two_blocks_share_what_is_left(rt: HostRuntime) -> Result<(), Fail> {
     let mut space = new_space(rt.alloc())?;

@@ -213,7 +213,7 @@ fn blocks_are_resized_and_freed(rt: HostRuntime) -> Result<(), Fail> {
 /// Definitions: dm_blocks Chain Becomes DiffersInHeaders
 /// Definitions: dm_arena Blocks join join_after merge IsFit fits is_candidate prefers prefers_in prefers_by largest cut
 /// Definitions: dm_arena Blocks cut_low cut_high taken_segment
-/// Definitions: dm_arena Allocation Allocates Taking changed
+/// Definitions: dm_arena Allocation Allocates Taking with_cut
 #[test]
 fn strategies_choose_and_cut(rt: HostRuntime) -> Result<(), Fail> {
     let [first, best, last] = [
@@ -343,7 +343,7 @@ fn strategies_choose_and_cut(rt: HostRuntime) -> Result<(), Fail> {
     Ok(())
 }
 
-/// Definitions: dm_arena Pair IsPair Planned Pairing paired PairRefused IsPlannedOn Pairs Placed placed_of
+/// Definitions: dm_arena Pair IsPair Planned Pairing with_pair PairRefused IsPlannedOn Pairs Placed placed_of
 #[test]
 fn two_blocks_are_chosen_in_turn(rt: HostRuntime) -> Result<(), Fail> {
     let [first, best, last] = [
@@ -455,7 +455,7 @@ fn two_blocks_are_chosen_in_turn(rt: HostRuntime) -> Result<(), Fail> {
 /// Definitions: dm_blocks Chain IsClear HasHeader NoBlockAt; dm_arena Blocks join join_after merge
 /// Definitions: dm_arena Allocation AllocateRefused
 /// Definitions: dm_arena Owned Frees BlockAt freed FreeRefused IsNoBlock is_link_block ResizeRefused
-/// Definitions: dm_arena Pair IsPair Planned Pairing paired PairRefused IsPlannedOn
+/// Definitions: dm_arena Pair IsPair Planned Pairing with_pair PairRefused IsPlannedOn
 #[test]
 fn refused_calls_leave_the_list(rt: HostRuntime) -> Result<(), Fail> {
     let [first, best, last] = [

@@ -28,7 +28,7 @@ use Rattle.dm_words.specs.Laws.{OwnWordsAreRead, StandInsAreRead, LengthsAreKnow
 use Rattle.dm_lines.specs.declared.term.Amount.TheVariants.{Plus}
 use Rattle.dm_lines.specs.declared.statement.Instruction.{Instruction}
 use Rattle.dm_lines.specs.Own.{memory_term, own_term, own_instruction, own_statement}
-use Rattle.dm_lines.specs.Placing.{byte_of}
+use Rattle.dm_lines.specs.Placing.{amount_byte}
 use Rattle.dm_lines.specs.Statements.{Statement, line_of}
 use Rattle.dm_lines.specs.Laws as line
 use Rattle.dm_lines.specs.Laws.{TermFits, IsComment, data_statement, OwnTermsAreWritten, OutlinesStand, TextsAreRead, TextsArePlain, DataIsRead}
@@ -40,7 +40,7 @@ use Rattle.dm_asm.specs.Labels.{Label, term_place}
 use Rattle.dm_asm.specs.Codes.{Codes, HasLength, HasShape, IsCoded, outlined, placed, placed_words}
 use Rattle.dm_asm.specs.Lines.{lines_of}
 use Rattle.dm_asm.specs.inner.Lines.{trim}
-use Rattle.dm_asm.specs.Programs.{Sized, AreRead, AreOnce, AreCoded, joined, total, labelled, labels_of, most, Assembles}
+use Rattle.dm_asm.specs.Programs.{Sized, AreRead, AreOnce, AreCoded, joined, total, own_label, labels_of, longest_program, Assembles}
 use Rattle.dm_asm.proofs.Ends.{IsOpen, line_found}
 use Rattle.dm_asm.proofs.Placed.{stands}
 use Rattle.dm_asm.proofs.Stated.{total_append, labels_more, read_more, coded_more, joined_more}
@@ -121,7 +121,7 @@ record IsLine (bytes : List ℕ) (at k : ℕ) (line : List ℕ) : Type 0 where
 
 -- ---- lines of data
 
-plus_bytes : (bs : List ℕ) → AllByRecursion (λ b. b < 2 ^ 8) bs → map byte_of (map Plus bs) ≡ map Some bs
+plus_bytes : (bs : List ℕ) → AllByRecursion (λ b. b < 2 ^ 8) bs → map amount_byte (map Plus bs) ≡ map Some bs
 plus_bytes [] h = refl
 plus_bytes (b ∷ bs) h =
     let e : nat_lt b 256 ≡ true = grind (arith, nat_tests, h.0) in
@@ -242,7 +242,7 @@ data_at g bytes at k comment fit some few within is printed short =
 behind_data : Laws → (i : Ins) (next : ℕ) → Printed (codes " ; " ++ text_of i next) × (length (codes " ; " ++ text_of i next) ≤ 66)
 behind_data g i next = let t = g.plain i next in ((omega arith, (omega arith, (omega arith, t.printed))), omega (arith, t.short))
 
-shown_line : Laws → (bytes : List ℕ) (at k : ℕ) (line : List ℕ) → AllByRecursion (λ b. b < 2 ^ 8) bytes → length bytes ≤ most → IsPart bytes at k → IsListedLine bytes at k line → IsLine (bytes_at bytes at k) (0x100 + at) k line
+shown_line : Laws → (bytes : List ℕ) (at k : ℕ) (line : List ℕ) → AllByRecursion (λ b. b < 2 ^ 8) bytes → length bytes ≤ longest_program → IsPart bytes at k → IsListedLine bytes at k line → IsLine (bytes_at bytes at k) (0x100 + at) k line
 shown_line g bytes at k line fit few part (preferred i j s p) =
     own_line g i (bytes_at bytes at k) (0x100 + at) k (0x100 + at + k) p (bytes_long bytes at k part.within) refl (omega (arith, few, part.within))
 shown_line g bytes at k line fit few part (other i j s p) =
@@ -276,9 +276,9 @@ split_more text line lines p split rest =
     ∙ sym (append_assoc lines (line ∷ []) (lines_of rest))
 
 bare_more : (xs : List Sized) (x : Sized) → labels_of xs ≡ [] → x.statement.label ≡ None → labels_of (xs ++ x ∷ []) ≡ []
-bare_more xs x e h = labels_more 0x100 xs x ∙ ap (λ (ls : List Label). ls ++ labelled x.statement.label (0x100 + total xs)) e ∙ ap (λ (l : Option Name'.Name). labelled l (0x100 + total xs)) h
+bare_more xs x e h = labels_more 0x100 xs x ∙ ap (λ (ls : List Label). ls ++ own_label x.statement.label (0x100 + total xs)) e ∙ ap (λ (l : Option Name'.Name). own_label l (0x100 + total xs)) h
 
-listed : Laws → (bytes : List ℕ) (at : ℕ) (text : List ℕ) → AllByRecursion (λ b. b < 2 ^ 8) bytes → length bytes ≤ most → Lists bytes at text → AreListed bytes at text
+listed : Laws → (bytes : List ℕ) (at : ℕ) (text : List ℕ) → AllByRecursion (λ b. b < 2 ^ 8) bytes → length bytes ≤ longest_program → Lists bytes at text → AreListed bytes at text
 listed g bytes at text fit few none = record { lines = []; statements = []; pieces = []; split = λ rest. refl; read = tt; bare = refl; coded = tt; within = omega arith; whole = refl; long = refl }
 listed g bytes at text fit few (more j k front line l s) =
     let r = listed g bytes j front fit few l in
@@ -299,7 +299,7 @@ listed g bytes at text fit few (more j k front line l s) =
       long = let h = r.long in omega (arith, h, total_append r.statements (sized ∷ []));
     }
 
-pub listings_assemble : Laws → (bytes text : List ℕ) → AllByRecursion (λ b. b < 2 ^ 8) bytes → length bytes ≤ most → IsListing bytes text → Assembles text bytes
+pub listings_assemble : Laws → (bytes text : List ℕ) → AllByRecursion (λ b. b < 2 ^ 8) bytes → length bytes ≤ longest_program → IsListing bytes text → Assembles text bytes
 listings_assemble g bytes text fit few l =
     let r = listed g bytes (length bytes) text fit few l in
     let lines : lines_of text ≡ r.lines = ap lines_of (sym (append-nil text)) ∙ r.split [] ∙ append-nil r.lines in

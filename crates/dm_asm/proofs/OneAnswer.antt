@@ -8,9 +8,9 @@ use Rattle.dm_words.specs.Laws.{WordsAreOne}
 use Rattle.dm_asm.specs.declared.refusal.AssemblyRefusal.{AssemblyRefusal}
 use Rattle.dm_asm.specs.declared.refusal.AssemblyRefusal.TheVariants as refusal
 use Rattle.dm_asm.specs.Lines.{lines_of}
-use Rattle.dm_asm.specs.Labels.{Label, IsFree, place_of, term_place}
+use Rattle.dm_asm.specs.Labels.{Label, IsFree, label_place, term_place}
 use Rattle.dm_asm.specs.Codes.{Codes, Knows, placed, value_word}
-use Rattle.dm_asm.specs.Programs.{Sized, Reads, AreRead, AreOnce, AreCoded, joined, total, labelled, labels_from, labels_of, Laid, most, IsBehindGood, IsBehindCoded, Assembles, Refuses, syntax, twice, too_long, unknown, range, IsAnswer}
+use Rattle.dm_asm.specs.Programs.{Sized, Reads, AreRead, AreOnce, AreCoded, joined, total, own_label, labels_from, labels_of, Laid, longest_program, IsBehindGood, IsBehindCoded, Assembles, Refuses, syntax, twice, too_long, unknown, range, IsAnswer}
 use Rattle.dm_asm.proofs.Found.{once_free}
 use Rattle.dm_asm.proofs.Placed.{bind_some, coded_once}
 use Rattle.dm_asm.proofs.Each.{somes_same, words_once, is_some_at}
@@ -60,7 +60,7 @@ read_at (l ∷ front) line back (y ∷ ys) a =
     let r = read_at front line back ys a.1 in
     record { first = y ∷ r.first; x = r.x; rest = r.rest; parts = ap (λ z. y ∷ z) r.parts; read = (a.0, r.read); reads = r.reads }
 
-free_in : (label : Option Name'.Name) (at : ℕ) (ls ms : List Label) → AreOnce (ls ++ (labelled label at ++ ms)) → IsFree label ls
+free_in : (label : Option Name'.Name) (at : ℕ) (ls ms : List Label) → AreOnce (ls ++ (own_label label at ++ ms)) → IsFree label ls
 free_in None at ls ms o = tt
 free_in (Some name) at ls ms o = once_free ls (record { name = name; place = at }) ms o
 
@@ -117,13 +117,13 @@ some_at r x e = is_some_at r x (sym e)
 known_term : (labels : List Label) (m : _) (next : ℕ) (t : _) (w : _) → placed labels m next t ≡ Some w → IsSome (term_place labels t)
 known_term labels m next t w h = let p = bind_some (term_place labels t) _ w h in some_at (term_place labels t) p.0 p.1
 
-known_words : (labels : List Label) (vs : List Value) (ws : List ℕ) → map (value_word labels) vs ≡ map Some ws → AllByRecursion (λ v. IsSome (place_of labels v)) vs
+known_words : (labels : List Label) (vs : List Value) (ws : List ℕ) → map (value_word labels) vs ≡ map Some ws → AllByRecursion (λ v. IsSome (label_place labels v)) vs
 known_words labels [] ws h = tt
 known_words labels (v ∷ vs) [] h = absurd cc
 known_words labels (v ∷ vs) (w ∷ ws) h =
     let e : value_word labels v ≡ Some w = heads (value_word labels v) (Some w) (map (value_word labels) vs) (map Some ws) h in
-    let p = bind_some (place_of labels v) _ w e in
-    (some_at (place_of labels v) p.0 p.1, known_words labels vs ws (tails (value_word labels v) (Some w) (map (value_word labels) vs) (map Some ws) h))
+    let p = bind_some (label_place labels v) _ w e in
+    (some_at (label_place labels v) p.0 p.1, known_words labels vs ws (tails (value_word labels v) (Some w) (map (value_word labels) vs) (map Some ws) h))
 
 knows_coded : (labels : List Label) (at : ℕ) (i : Item) (code : List ℕ) → Codes labels at i code → Knows labels i
 knows_coded labels at nothing code c = tt
@@ -223,14 +223,14 @@ done_same one text a b p q =
     let c : AreCoded (labels_of q.statements) 0x100 q.statements p.pieces = subst (λ xs. AreCoded (labels_of xs) 0x100 xs p.pieces) s p.coded in
     p.whole ∙ ap joined (pieces_once one (labels_of q.statements) 0x100 q.statements p.pieces q.pieces c q.coded) ∙ sym q.whole
 
-too_many : (n m : ℕ) → n ≡ m → most < n → m ≤ most → ⊥
+too_many : (n m : ℕ) → n ≡ m → longest_program < n → m ≤ longest_program → ⊥
 too_many n m e h g = absurd (omega (arith, e, h, g))
 
 -- ---- all answers
 
 data View (text : List ℕ) : Result (List ℕ) AssemblyRefusal → Type 0 where
   is_bad : (n : ℕ) (line : List ℕ) (xs : List Sized) (e : AssemblyRefusal) → IsBehindGood text n line xs → Bad line xs n e → View text (Err e)
-  is_long : (xs : List Sized) → Laid (lines_of text) xs → most < total xs → View text (Err refusal.TooLong)
+  is_long : (xs : List Sized) → Laid (lines_of text) xs → longest_program < total xs → View text (Err refusal.TooLong)
   is_stuck : (n : ℕ) (ls : List Label) (at : ℕ) (x : Sized) (e : AssemblyRefusal) → IsBehindCoded text n ls at x → Stuck ls at x.statement.item n e → View text (Err e)
   is_done : (code : List ℕ) → Assembles text code → View text (Ok code)
 

@@ -6,7 +6,7 @@ use Rattle.dm_asm.specs.declared.refusal.AssemblyRefusal.TheVariants as refusal
 use Rattle.dm_asm.specs.Lines.{lines_of}
 use Rattle.dm_asm.specs.Labels.{IsFree, find}
 use Rattle.dm_asm.specs.inner.Kept.{AreKept, AreNear, AreLaid}
-use Rattle.dm_asm.specs.Programs.{Sized, Reads, total, labelled, labels_of, AreRead, AreCoded, joined, Laid, most, IsBehindGood, IsBehindCoded, Assembles, Refuses, syntax, twice, too_long, unknown, range}
+use Rattle.dm_asm.specs.Programs.{Sized, Reads, total, own_label, labels_of, AreRead, AreCoded, joined, Laid, longest_program, IsBehindGood, IsBehindCoded, Assembles, Refuses, syntax, twice, too_long, unknown, range}
 use Rattle.dm_words.specs.Laws.{WordsAreOne}
 use Rattle.dm_asm.specs.Codes.{Codes, HasLength, Knows}
 use Rattle.dm_asm.specs.declared.known.Line.{Line}
@@ -42,7 +42,7 @@ pub record Laying (text rest : List ℕ) (number at : ℕ) (kept : Labels) (know
 pub laying_none : (text : List ℕ) (kept : Labels) (known : Known) → AreKept kept [] → AreKnown [] known.lines.items known.bytes.items → Laying text text 0 256 kept known
 laying_none text kept known k n = record { before = []; statements = []; parts = refl; number_is = refl; at_is = refl; laid = record { read = tt; once = tt }; keeps = k; knows = n }
 
-pub laying_more : (text rest behind line : List ℕ) (number at : ℕ) (old new : Labels) (known more : Known) (x : Sized) → (l : Laying text rest number at old known) → lines_of rest ≡ line ∷ lines_of behind → Reads line x → IsFree x.statement.label (labels_of l.statements) → AreKept new (labels_of l.statements ++ labelled x.statement.label at) → Keeps known more x.statement.item → Laying text behind (number + 1) (at + x.long) new more
+pub laying_more : (text rest behind line : List ℕ) (number at : ℕ) (old new : Labels) (known more : Known) (x : Sized) → (l : Laying text rest number at old known) → lines_of rest ≡ line ∷ lines_of behind → Reads line x → IsFree x.statement.label (labels_of l.statements) → AreKept new (labels_of l.statements ++ own_label x.statement.label at) → Keeps known more x.statement.item → Laying text behind (number + 1) (at + x.long) new more
 laying_more text rest behind line number at old new known more x l e r f k m = record {
   before = l.before ++ line ∷ [];
   statements = l.statements ++ x ∷ [];
@@ -50,7 +50,7 @@ laying_more text rest behind line number at old new known more x l e r f k m = r
   number_is = let h = l.number_is in omega (arith, length-append l.before (line ∷ []));
   at_is = let h = l.at_is in omega (arith, total_append l.statements (x ∷ []));
   laid = laid_more l.before l.statements line x l.laid r f;
-  keeps = subst (AreKept new) (ap (λ a. labels_of l.statements ++ labelled x.statement.label a) l.at_is ∙ sym (labels_more 0x100 l.statements x)) k;
+  keeps = subst (AreKept new) (ap (λ a. labels_of l.statements ++ own_label x.statement.label a) l.at_is ∙ sym (labels_more 0x100 l.statements x)) k;
   knows = m l.statements x refl l.knows;
 }
 
@@ -137,7 +137,7 @@ is_open one text rest behind line number kept known lines codes out x l e r =
       before = l.front;
       after = n.others;
       laid = subst (Laid (lines_of text)) n.parts l.are.laid;
-      room = subst (λ xs. total xs ≤ most) n.parts l.are.room;
+      room = subst (λ xs. total xs ≤ longest_program) n.parts l.are.room;
       number = ap (λ k. k + 1) l.number_is;
       labels_are = ap labels_of n.parts;
       at_is = ap (λ k. 0x100 + k) l.long;

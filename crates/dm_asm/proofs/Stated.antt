@@ -6,9 +6,9 @@ use Rattle.dm_lines.specs.declared.token.Name as Name'
 use Rattle.dm_lines.specs.Statements.{Item, Statement, nothing, instruction, bytes, words}
 use Rattle.dm_words.specs.Laws.{WordsAreOne}
 use Rattle.dm_asm.specs.Labels.{Label, IsFree, find}
-use Rattle.dm_lines.specs.Placing.{byte_of}
+use Rattle.dm_lines.specs.Placing.{amount_byte}
 use Rattle.dm_asm.specs.Codes.{Codes, HasLength, low_high, value_word}
-use Rattle.dm_asm.specs.Programs.{Sized, Reads, AreRead, total, labelled, labels_from, labels_of, AreOnce, Laid, AreCoded, joined}
+use Rattle.dm_asm.specs.Programs.{Sized, Reads, AreRead, total, own_label, labels_from, labels_of, AreOnce, Laid, AreCoded, joined}
 use Rattle.dm_asm.proofs.Chosen.{shape_once}
 use Rattle.dm_asm.proofs.Placed.{some_same}
 use Rattle.dm_asm.proofs.Found.{once_more}
@@ -21,11 +21,11 @@ pub labels_append : (at : ℕ) (xs ys : List Sized) → labels_from at (xs ++ ys
 labels_append at [] ys = ap (λ k. labels_from k ys) (let e : at ≡ at + 0 = omega arith in e)
 labels_append at (x ∷ xs) ys =
     let e : at + x.long + total xs ≡ at + (x.long + total xs) = omega arith in
-    ap (λ r. labelled x.statement.label at ++ r) (labels_append (at + x.long) xs ys ∙ ap (λ k. labels_from (at + x.long) xs ++ labels_from k ys) e)
-    ∙ sym (append_assoc (labelled x.statement.label at) (labels_from (at + x.long) xs) (labels_from (at + (x.long + total xs)) ys))
+    ap (λ r. own_label x.statement.label at ++ r) (labels_append (at + x.long) xs ys ∙ ap (λ k. labels_from (at + x.long) xs ++ labels_from k ys) e)
+    ∙ sym (append_assoc (own_label x.statement.label at) (labels_from (at + x.long) xs) (labels_from (at + (x.long + total xs)) ys))
 
-pub labels_more : (at : ℕ) (xs : List Sized) (x : Sized) → labels_from at (xs ++ x ∷ []) ≡ labels_from at xs ++ labelled x.statement.label (at + total xs)
-labels_more at xs x = labels_append at xs (x ∷ []) ∙ ap (λ r. labels_from at xs ++ r) (append-nil (labelled x.statement.label (at + total xs)))
+pub labels_more : (at : ℕ) (xs : List Sized) (x : Sized) → labels_from at (xs ++ x ∷ []) ≡ labels_from at xs ++ own_label x.statement.label (at + total xs)
+labels_more at xs x = labels_append at xs (x ∷ []) ∙ ap (λ r. labels_from at xs ++ r) (append-nil (own_label x.statement.label (at + total xs)))
 
 pub read_more : (lines : List (List ℕ)) (xs : List Sized) (line : List ℕ) (x : Sized) → AreRead lines xs → Reads line x → AreRead (lines ++ line ∷ []) (xs ++ x ∷ [])
 read_more [] [] line x a r = (r, tt)
@@ -39,7 +39,7 @@ read_length [] (y ∷ xs) a = absurd a
 read_length (l ∷ lines) [] a = absurd a
 read_length (l ∷ lines) (y ∷ xs) a = let h = read_length lines xs a.1 in cc
 
-once_with : (label : Option Name'.Name) (at : ℕ) (ls : List Label) → AreOnce ls → IsFree label ls → AreOnce (ls ++ labelled label at)
+once_with : (label : Option Name'.Name) (at : ℕ) (ls : List Label) → AreOnce ls → IsFree label ls → AreOnce (ls ++ own_label label at)
 once_with None at ls o f = subst AreOnce (sym (append-nil ls)) o
 once_with (Some name) at ls o f = once_more ls (record { name = name; place = at }) o f
 
@@ -98,7 +98,7 @@ first_fits : (t : Bool) (at n : ℕ) (r : Option ℕ) → IfSome r (λ p. p ≤ 
 first_fits true at n r h = omega arith
 first_fits false at n r h = h
 
-label_fits : (label : Option Name'.Name) (at n : ℕ) (rest : List Label) (name : Name'.Name) → IfSome (find name rest) (λ p. p ≤ at + n) → IfSome (find name (labelled label at ++ rest)) (λ p. p ≤ at + n)
+label_fits : (label : Option Name'.Name) (at n : ℕ) (rest : List Label) (name : Name'.Name) → IfSome (find name rest) (λ p. p ≤ at + n) → IfSome (find name (own_label label at ++ rest)) (λ p. p ≤ at + n)
 label_fits None at n rest name h = h
 label_fits (Some l) at n rest name h = first_fits (bytes_eq l.bytes name.bytes) at n (find name rest) h
 
@@ -135,7 +135,7 @@ flat_length (w ∷ ws) = let h : length (flat_map low_high ws) ≡ 2 * length ws
 pub code_long : WordsAreOne → (labels : List Label) (at : ℕ) (i : Item) (code : List ℕ) (n : ℕ) → Codes labels at i code → HasLength i n → length code ≡ n
 code_long one labels at nothing code n c h = ap length c ∙ sym h
 code_long one labels at (instruction i) code n c h = shape_once one i (length code) n c.shape h
-code_long one labels at (bytes b) code n c h = sym (same_length byte_of b code c) ∙ sym h
+code_long one labels at (bytes b) code n c h = sym (same_length amount_byte b code c) ∙ sym h
 code_long one labels at (words w) code n c h =
     let a : length code ≡ length (flat_map low_high c.values) = ap length c.bytes in
     let b : length w ≡ length c.values = same_length (value_word labels) w c.values c.are in

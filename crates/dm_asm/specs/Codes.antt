@@ -12,9 +12,9 @@ use Rattle.dm_words.specs.Words.{AreWords}
 use Rattle.dm_lines.specs.declared.term.Value.{Value}
 use Rattle.dm_lines.specs.declared.term.Term.{Term}
 use Rattle.dm_lines.specs.declared.statement.Instruction.{Instruction}
-use Rattle.dm_lines.specs.Placing.{byte_of, standing, written_of, outline_of}
+use Rattle.dm_lines.specs.Placing.{amount_byte, standing, written_of, outline_of}
 use Rattle.dm_lines.specs.Statements.{Item, nothing, instruction, bytes, words}
-use Rattle.dm_asm.specs.Labels.{Label, place_of, term_place}
+use Rattle.dm_asm.specs.Labels.{Label, label_place, term_place}
 
 -- ---- with the places of labels
 
@@ -34,7 +34,7 @@ placed_words labels next i = do
 -- the word that a value is
 abbrev pub value_word : List Label → Value → Option ℕ
 value_word labels v = do
-  place ← place_of labels v
+  place ← label_place labels v
   standing v place
 
 -- the low byte of a word stands first
@@ -88,7 +88,7 @@ pub record AreWordsOf (labels : List Label) (vs : List Value) (code : List ℕ) 
 abbrev pub Codes : List Label → ℕ → Item → List ℕ → Type 0
 Codes labels at nothing code = code ≡ []
 Codes labels at (instruction i) code = IsCoded labels at i code
-Codes labels at (bytes ns) code = map byte_of ns ≡ map Some code
+Codes labels at (bytes ns) code = map amount_byte ns ≡ map Some code
 Codes labels at (words vs) code = AreWordsOf labels vs code
 
 -- ---- labels that are named
@@ -102,4 +102,4 @@ abbrev pub Knows : List Label → Item → Type 0
 Knows labels nothing = Unit {0}
 Knows labels (instruction i) = KnowsTerm labels i.first × KnowsTerm labels i.second
 Knows labels (bytes ns) = Unit {0}
-Knows labels (words vs) = AllByRecursion (λ v. IsSome (place_of labels v)) vs
+Knows labels (words vs) = AllByRecursion (λ v. IsSome (label_place labels v)) vs

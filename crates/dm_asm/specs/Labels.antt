@@ -21,13 +21,13 @@ abbrev pub place_from : List Label → Option Name'.Name → Option ℕ
 place_from labels None = Some 0
 place_from labels (Some name) = find name labels
 
-abbrev pub place_of : List Label → Value → Option ℕ
-place_of labels v = place_from labels v.label
+abbrev pub label_place : List Label → Value → Option ℕ
+label_place labels v = place_from labels v.label
 
 -- where the label of an operand stands
 abbrev pub term_place : List Label → Term → Option ℕ
-term_place labels (term.Address s v) = place_of labels v
-term_place labels (term.Number v) = place_of labels v
+term_place labels (term.Address s v) = label_place labels v
+term_place labels (term.Number v) = label_place labels v
 term_place labels _ = Some 0
 
 -- no label of the list has that name

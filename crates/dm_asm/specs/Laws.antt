@@ -12,7 +12,7 @@ use Rattle.dm_asm.specs.declared.refusal.AssemblyRefusal.{AssemblyRefusal}
 use Rattle.dm_asm.specs.Labels.{Label}
 use Rattle.dm_asm.specs.Codes.{placed_words}
 use Rattle.dm_asm.specs.Lines.{lines_of}
-use Rattle.dm_asm.specs.Programs.{Sized, Laid, labels_of, total, most, Assembles, IsAnswer}
+use Rattle.dm_asm.specs.Programs.{Sized, Laid, labels_of, total, longest_program, Assembles, IsAnswer}
 
 -- a text has one answer: the same bytes always, or no bytes and the same refusal
 abbrev pub TextsHaveOneAnswer : Type 0
@@ -20,11 +20,11 @@ TextsHaveOneAnswer = (text : List ℕ) (a b : Result (List ℕ) AssemblyRefusal)
 
 -- the lines of some bytes have these bytes
 abbrev pub ListingsAssemble : Type 0
-ListingsAssemble = (bytes text : List ℕ) → AllByRecursion (λ b. b < 2 ^ 8) bytes → length bytes ≤ most → IsListing bytes text → Assembles text bytes
+ListingsAssemble = (bytes text : List ℕ) → AllByRecursion (λ b. b < 2 ^ 8) bytes → length bytes ≤ longest_program → IsListing bytes text → Assembles text bytes
 
 -- so what a text that is such lines is answered is these bytes, and no refusal
 abbrev pub ListingsAreAnswered : Type 0
-ListingsAreAnswered = (bytes text : List ℕ) (answer : Result (List ℕ) AssemblyRefusal) → AllByRecursion (λ b. b < 2 ^ 8) bytes → length bytes ≤ most → IsListing bytes text → IsAnswer text answer → answer ≡ Ok bytes
+ListingsAreAnswered = (bytes text : List ℕ) (answer : Result (List ℕ) AssemblyRefusal) → AllByRecursion (λ b. b < 2 ^ 8) bytes → length bytes ≤ longest_program → IsListing bytes text → IsAnswer text answer → answer ≡ Ok bytes
 
 -- the bytes at a place, so many, are an instruction of a text in its preferred bytes: one of the table with the
 -- prefixes and the operands that are written

@@ -36,14 +36,14 @@ abbrev pub total : List Sized → ℕ
 total [] = 0
 total (x ∷ xs) = x.long + total xs
 
-abbrev pub labelled : Option Name'.Name → ℕ → List Label
-labelled None at = []
-labelled (Some name) at = record { name = name; place = at } ∷ []
+abbrev pub own_label : Option Name'.Name → ℕ → List Label
+own_label None at = []
+own_label (Some name) at = record { name = name; place = at } ∷ []
 
 -- the labels of statements that begin at an offset: each stands where its statement begins
 abbrev pub labels_from : ℕ → List Sized → List Label
 labels_from at [] = []
-labels_from at (x ∷ xs) = labelled x.statement.label at ++ labels_from (at + x.long) xs
+labels_from at (x ∷ xs) = own_label x.statement.label at ++ labels_from (at + x.long) xs
 
 -- a program begins at offset 0100h
 abbrev pub labels_of : List Sized → List Label
@@ -63,8 +63,8 @@ pub record Laid (lines : List (List ℕ)) (xs : List Sized) : Type 0 where
 
 -- a program has at most 65,278 bytes: the segment's 10000h without the 0100h before it and the two of the stack behind
 -- it
-abbrev pub most : ℕ
-most = 65278
+abbrev pub longest_program : ℕ
+longest_program = 65278
 
 -- each statement has its piece of the bytes, at the offset behind the pieces before it
 abbrev pub AreCoded : List Label → ℕ → List Sized → List (List ℕ) → Type 0
@@ -81,7 +81,7 @@ joined (p ∷ ps) = p ++ joined ps
 pub record Assembles (text bytes : List ℕ) : Type 0 where
   pub statements : List Sized
   pub laid : Laid (lines_of text) statements
-  pub room : total statements ≤ most
+  pub room : total statements ≤ longest_program
   pub pieces : List (List ℕ)
   pub coded : AreCoded (labels_of statements) 0x100 statements pieces
   pub whole : bytes ≡ joined pieces
@@ -102,7 +102,7 @@ pub record IsBehindCoded (text : List ℕ) (n : ℕ) (labels : List Label) (at :
   pub before : List Sized
   pub after : List Sized
   pub laid : Laid (lines_of text) (before ++ x ∷ after)
-  pub room : total (before ++ x ∷ after) ≤ most
+  pub room : total (before ++ x ∷ after) ≤ longest_program
   pub number : n ≡ length before + 1
   pub labels_are : labels ≡ labels_of (before ++ x ∷ after)
   pub at_is : at ≡ 0x100 + total before
@@ -114,7 +114,7 @@ pub record IsBehindCoded (text : List ℕ) (n : ℕ) (labels : List Label) (at :
 pub data Refuses (text : List ℕ) : AssemblyRefusal → Type 0 where
   syntax : (n : ℕ) (line : List ℕ) (xs : List Sized) → IsBehindGood text n line xs → ((x : Sized) → Reads line x → ⊥) → Refuses text (refusal.Syntax n)
   twice : (n : ℕ) (line : List ℕ) (xs : List Sized) (x : Sized) → IsBehindGood text n line xs → Reads line x → (IsFree x.statement.label (labels_of xs) → ⊥) → Refuses text (refusal.Twice n)
-  too_long : (xs : List Sized) → Laid (lines_of text) xs → most < total xs → Refuses text refusal.TooLong
+  too_long : (xs : List Sized) → Laid (lines_of text) xs → longest_program < total xs → Refuses text refusal.TooLong
   unknown : (n : ℕ) (labels : List Label) (at : ℕ) (x : Sized) → IsBehindCoded text n labels at x → (Knows labels x.statement.item → ⊥) → Refuses text (refusal.Unknown n)
   range : (n : ℕ) (labels : List Label) (at : ℕ) (x : Sized) → IsBehindCoded text n labels at x → Knows labels x.statement.item → ((code : List ℕ) → Codes labels at x.statement.item code → ⊥) → Refuses text (refusal.Range n)
 

@@ -5,7 +5,7 @@ ghost use Rattle.dm_lines.specs.Statements.{seen_statement};
 ghost use Rattle.dm_asm.specs.declared.refusal.AssemblyRefusal.TheVariants.{Memory as OutOfMemory, Twice as IsTwice};
 ghost use Rattle.dm_asm.specs.Labels.{Label, IsFree};
 ghost use Rattle.dm_asm.specs.inner.Kept.{AreKept, AreLaid};
-ghost use Rattle.dm_asm.specs.Programs.{Sized, Reads, labelled, Assembles, Refuses};
+ghost use Rattle.dm_asm.specs.Programs.{Sized, Reads, own_label, Assembles, Refuses};
 
 use crate::codes::{Problem, code_of};
 use crate::known::{Known, Line, first_line};
@@ -41,7 +41,7 @@ fn add_label(
     place: u128,
     number: usize,
 ) -> Result<(), AssemblyRefusal>
-    ensures added { OnOk result ((list : List Label) → AreKept labels.old list → IsFree label list × AreKept labels.new (list ++ labelled label place)) }
+    ensures added { OnOk result ((list : List Label) → AreKept labels.old list → IsFree label list × AreKept labels.new (list ++ own_label label place)) }
     ensures refused { IfErr result (λ e. (e ≡ OutOfMemory) ⊎ ((e ≡ IsTwice number) × ((list : List Label) → AreKept labels.old list → IsFree label list → ⊥))) }
 {
     let Some(name) = label else {

@@ -3,9 +3,9 @@
 ghost use Rattle.std.specs.Prelude.{◌≡◌, ◌+◌, ◌<◌, ◌≤◌, ◌^◌, ◌↔◌, ℕ, List, Some, IfSome, IfNone, IfOk, IfErr, IsTrue, IsSome, length, map};
 ghost use Rattle.std.specs.List.{AllByRecursion};
 ghost use Rattle.dm_asm.specs.inner.Kept.{IsProblem};
-ghost use Rattle.dm_asm.specs.Labels.{place_of};
+ghost use Rattle.dm_asm.specs.Labels.{label_place};
 ghost use Rattle.dm_lines.specs.Statements.{seen_item};
-ghost use Rattle.dm_lines.specs.Placing.{byte_of};
+ghost use Rattle.dm_lines.specs.Placing.{amount_byte};
 ghost use Rattle.dm_lines.specs.Laws.{AmountFits, TermFits};
 ghost use Rattle.dm_asm.specs.Labels.{Label};
 ghost use Rattle.dm_asm.specs.inner.Kept.{AreKept, AreNear};
@@ -104,8 +104,8 @@ fn instruction_code(
 /// The bytes of a DB.
 pub(crate) fn bytes_code(amounts: &[Amount]) -> Option<Code>
     requires { length amounts.now ≤ 255 }
-    ensures found { IfSome result (λ code. map byte_of amounts.now ≡ map Some code.items) }
-    ensures none { IfNone result ((code : List ℕ) → map byte_of amounts.now ≡ map Some code → ⊥) }
+    ensures found { IfSome result (λ code. map amount_byte amounts.now ≡ map Some code.items) }
+    ensures none { IfNone result ((code : List ℕ) → map amount_byte amounts.now ≡ map Some code → ⊥) }
 {
     let mut code = ArrayVec::new();
     for amount in amounts {
@@ -141,7 +141,7 @@ fn words_code(labels: &Labels, values: &[Value]) -> Option<Code>
 
 /// Whether each label of a DW is there.
 fn knows_all(labels: &Labels, values: &[Value]) -> bool
-    ensures { (list : List Label) → AreKept labels.now list → IsTrue result ↔ AllByRecursion (λ v. IsSome (place_of list v)) values.now }
+    ensures { (list : List Label) → AreKept labels.now list → IsTrue result ↔ AllByRecursion (λ v. IsSome (label_place list v)) values.now }
 {
     for value in values {
         match labels.place_of(value) {

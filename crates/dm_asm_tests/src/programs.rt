@@ -109,10 +109,10 @@ aaaaaaaaaaaaaaaaaaaaaaaaaaaaaaaa:| line 1: syntax
 JMP nil/*65279 CLC| too long
 *65279 CLC/@| line 65280: syntax";
 
-/// Definitions: dm_asm Lines lines_of onto ends_line; dm_asm Labels find IsFree place_of term_place
+/// Definitions: dm_asm Lines lines_of onto ends_line; dm_asm Labels find IsFree label_place term_place
 /// Definitions: dm_asm Codes HasLength HasShape outlined Codes IsCoded AreWordsOf placed_words placed value_word
 /// Definitions: dm_asm Codes low_high
-/// Definitions: dm_asm Programs Assembles Laid AreRead Reads labels_of AreOnce AreCoded total joined most
+/// Definitions: dm_asm Programs Assembles Laid AreRead Reads labels_of AreOnce AreCoded total joined longest_program
 #[test]
 fn programs_have_bytes(rt: HostRuntime) -> Result<(), Fail> {
     check(&rt, rt.alloc(), PROGRAMS)

@@ -10,9 +10,9 @@ pub data IsCall (old new : Option Hosted) (Absent : Type 0) (Does : Hosted → H
   called : (h g : Hosted) → old ≡ Some h → new ≡ Some g → Does h g → IsCall old new Absent Does
 
 -- it is done, or refused
-pub data Ends (status : ℕ) (Done : Type 0) (Refused : Refusal → Type 0) : Type 0 where
-  done : status ≡ 0 → Done → Ends status Done Refused
-  refused : (why : Refusal) → status ≡ status_of why → Refused why → Ends status Done Refused
+pub data IsDoneOrRefused (status : ℕ) (Done : Type 0) (Refused : Refusal → Type 0) : Type 0 where
+  done : status ≡ 0 → Done → IsDoneOrRefused status Done Refused
+  refused : (why : Refusal) → status ≡ status_of why → Refused why → IsDoneOrRefused status Done Refused
 
 -- bytes at the front of a buffer that has room for them, else nothing; and how many they are
 pub data Gives (bytes old new : List ℕ) (wanted status : ℕ) : Type 0 where

@@ -18,7 +18,7 @@ use Rattle.dm_c.specs.declared.values.Stopped.{Stopped}
 use Rattle.dm_c.specs.declared.values.Registers.{Registers}
 use Rattle.dm_c.specs.declared.values.Point.{Point}
 use Rattle.dm_c.specs.Statuses.{status_of, stopped_of, registers_of, point_of}
-use Rattle.dm_c.specs.Calls.{Ends, Gives}
+use Rattle.dm_c.specs.Calls.{IsDoneOrRefused, Gives}
 
 -- a machine is made in a handle that holds none
 pub data Makes (old new : Option Hosted) (sizes : Sizes) (variables : List ℕ) (upper : Bool) (status : ℕ) : Type 0 where
@@ -28,34 +28,34 @@ pub data Makes (old new : Option Hosted) (sizes : Sizes) (variables : List ℕ) 
   refused : (why : Refusal) → old ≡ None → new ≡ None → status ≡ status_of why → IsNewFault sizes variables why → Makes old new sizes variables upper status
 
 abbrev pub AddsTo : Hosted → List ℕ → List ℕ → ℕ → Hosted → Type 0
-AddsTo h name program status g = Ends status (Adds h name program g) (λ why. IsUnadded h name why × (g ≡ h))
+AddsTo h name program status g = IsDoneOrRefused status (Adds h name program g) (λ why. IsUnadded h name why × (g ≡ h))
 
 abbrev pub LoadsTo : Hosted → List ℕ → List ℕ → List ℕ → ℕ → Hosted → Type 0
-LoadsTo h name tail input status g = Ends status (Loads h name tail input g) (λ why. IsUnloaded h name tail input why g)
+LoadsTo h name tail input status g = IsDoneOrRefused status (Loads h name tail input g) (λ why. IsUnloaded h name tail input why g)
 
 abbrev pub RunsTo : Hosted → ℕ → Stopped → Stopped → ℕ → Hosted → Type 0
 RunsTo h n before after status g =
-    Ends status ((stop : Stop) × Works h (λ s t. IsRun s.machine n stop t.machine × (t.points ≡ s.points)) g × (after ≡ stopped_of (Some stop)))
+    IsDoneOrRefused status ((stop : Stop) × Works h (λ s t. IsRun s.machine n stop t.machine × (t.points ≡ s.points)) g × (after ≡ stopped_of (Some stop)))
     (λ why. IsNotLoaded h why × (g ≡ h) × (after ≡ before))
 
 abbrev pub RunsUntilTo : Hosted → ℕ → List Point → Stopped → Stopped → ℕ → Hosted → Type 0
 RunsUntilTo h n points before after status g =
-    Ends status ((stop : Option Stop) × Works h (λ s t. RunsUntil s.machine n (map point_of points) stop t.machine × (t.points ≡ s.points)) g × (after ≡ stopped_of stop))
+    IsDoneOrRefused status ((stop : Option Stop) × Works h (λ s t. RunsUntil s.machine n (map point_of points) stop t.machine × (t.points ≡ s.points)) g × (after ≡ stopped_of stop))
     (λ why. (IsNotLoaded h why ⊎ (why ≡ NoMemory)) × (g ≡ h) × (after ≡ before))
 
 abbrev pub StepsTo : Hosted → ℕ → ℕ → ℕ → Hosted → Type 0
-StepsTo h before after status g = Ends status (Shows h (λ s. after ≡ s.steps)) (λ why. IsNotLoaded h why × (after ≡ before)) × (g ≡ h)
+StepsTo h before after status g = IsDoneOrRefused status (Shows h (λ s. after ≡ s.steps)) (λ why. IsNotLoaded h why × (after ≡ before)) × (g ≡ h)
 
 abbrev pub RegistersTo : Hosted → Registers → Registers → ℕ → Hosted → Type 0
-RegistersTo h before after status g = Ends status (Shows h (λ s. after ≡ registers_of s.cpu)) (λ why. IsNotLoaded h why × (after ≡ before)) × (g ≡ h)
+RegistersTo h before after status g = IsDoneOrRefused status (Shows h (λ s. after ≡ registers_of s.cpu)) (λ why. IsNotLoaded h why × (after ≡ before)) × (g ≡ h)
 
 abbrev pub ReadsTo : Hosted → ℕ → ℕ → List ℕ → List ℕ → ℕ → Hosted → Type 0
 ReadsTo h segment offset before after status g =
-    Ends status (Shows h (λ s. after ≡ bytes_at s.memory segment offset (length before))) (λ why. IsNotLoaded h why × (after ≡ before)) × (g ≡ h)
+    IsDoneOrRefused status (Shows h (λ s. after ≡ bytes_at s.memory segment offset (length before))) (λ why. IsNotLoaded h why × (after ≡ before)) × (g ≡ h)
 
 abbrev pub WritesTo : Hosted → ℕ → ℕ → List ℕ → ℕ → Hosted → Type 0
 WritesTo h segment offset bytes status g =
-    Ends status (Works h (λ s t. t ≡ with_machine s (record s.machine { memory = with_bytes s.machine.memory segment offset bytes })) g) (λ why. IsNotLoaded h why × (g ≡ h))
+    IsDoneOrRefused status (Works h (λ s t. t ≡ with_machine s (record s.machine { memory = with_bytes s.machine.memory segment offset bytes })) g) (λ why. IsNotLoaded h why × (g ≡ h))
 
 abbrev pub OutputTo : Hosted → List ℕ → List ℕ → ℕ → ℕ → ℕ → Hosted → Type 0
 OutputTo h before after wanted_before wanted status g =
@@ -64,11 +64,11 @@ OutputTo h before after wanted_before wanted status g =
 
 abbrev pub CommandsTo : Hosted → List ℕ → ℕ → ℕ → ℕ → Hosted → Type 0
 CommandsTo h line before wanted status g =
-    Ends status (IsCommanded h line g × (wanted ≡ length g.answer)) (λ why. IsUncommanded h line why g × (wanted ≡ before))
+    IsDoneOrRefused status (IsCommanded h line g × (wanted ≡ length g.answer)) (λ why. IsUncommanded h line why g × (wanted ≡ before))
 
 abbrev pub ChecksTo : Hosted → ℕ → Stopped → Stopped → ℕ → ℕ → ℕ → Hosted → Type 0
 ChecksTo h n before after wanted_before wanted status g =
-    Ends status ((stop : Stop) × Checks h n stop g × (after ≡ stopped_of (Some stop)) × (wanted ≡ length g.answer))
+    IsDoneOrRefused status ((stop : Stop) × Checks h n stop g × (after ≡ stopped_of (Some stop)) × (wanted ≡ length g.answer))
     (λ why. IsUnchecked h n why g × (after ≡ before) × (wanted ≡ wanted_before))
 
 abbrev pub AnswersTo : Hosted → List ℕ → List ℕ → ℕ → ℕ → Hosted → Type 0

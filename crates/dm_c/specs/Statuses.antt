@@ -39,13 +39,13 @@ text_status_of text.TooLong = 21
 text_status_of text.Memory = 3
 
 -- the line that is wrong, or what stood there before
-abbrev pub line_of : asm.AssemblyRefusal → ℕ → ℕ
-line_of (text.Syntax line) before = line
-line_of (text.Unknown line) before = line
-line_of (text.Range line) before = line
-line_of (text.Twice line) before = line
-line_of text.TooLong before = before
-line_of text.Memory before = before
+abbrev pub wrong_line : asm.AssemblyRefusal → ℕ → ℕ
+wrong_line (text.Syntax line) before = line
+wrong_line (text.Unknown line) before = line
+wrong_line (text.Range line) before = line
+wrong_line (text.Twice line) before = line
+wrong_line text.TooLong before = before
+wrong_line text.Memory before = before
 
 -- why a run stopped; none: at a breakpoint
 abbrev pub stopped_of : Option Stop → Stopped

@@ -4,13 +4,13 @@ use Rattle.dm_asm.specs.declared.refusal.AssemblyRefusal.{AssemblyRefusal}
 use Rattle.dm_asm.specs.declared.refusal.AssemblyRefusal.TheVariants.{Memory}
 use Rattle.dm_asm.specs.Programs.{Assembles, Refuses}
 use Rattle.dm_disassembler.specs.Listing.{IsListing}
-use Rattle.dm_c.specs.Statuses.{text_status_of, line_of}
+use Rattle.dm_c.specs.Statuses.{text_status_of, wrong_line}
 use Rattle.dm_c.specs.Calls.{Gives}
 
 -- the bytes of a text, or what is first wrong with it, or memory was refused
 pub data AssemblesTo (text before after : List ℕ) (wanted_before wanted line_before line status : ℕ) : Type 0 where
   assembled : (bytes : List ℕ) → Assembles text bytes → Gives bytes before after wanted status → line ≡ line_before → AssemblesTo text before after wanted_before wanted line_before line status
-  refused : (why : AssemblyRefusal) → (why ≡ Memory) ⊎ Refuses text why → status ≡ text_status_of why → line ≡ line_of why line_before → after ≡ before → wanted ≡ wanted_before
+  refused : (why : AssemblyRefusal) → (why ≡ Memory) ⊎ Refuses text why → status ≡ text_status_of why → line ≡ wrong_line why line_before → after ≡ before → wanted ≡ wanted_before
       → AssemblesTo text before after wanted_before wanted line_before line status
 
 -- the lines of a program, or it is too long, or memory was refused

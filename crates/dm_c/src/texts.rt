@@ -1,6 +1,6 @@
 //! The exports of the assembler and the disassembler. `include/mezguld.h` declares them for C.
 ghost use Rattle.std.specs.Prelude.{◌≡◌};
-ghost use Rattle.dm_c.specs.Statuses.{text_status_of, line_of};
+ghost use Rattle.dm_c.specs.Statuses.{text_status_of, wrong_line};
 ghost use Rattle.dm_c.specs.Texts.{AssemblesTo, DisassemblesTo};
 
 use crate::values::{OUT_OF_MEMORY, TOO_LONG, give};
@@ -26,7 +26,7 @@ fn text_status_of(refusal: AssemblyRefusal) -> u32
 
 /// The line that is wrong, or the number before.
 fn line_of(refusal: AssemblyRefusal, before: usize) -> usize
-    ensures { result ≡ line_of refusal before }
+    ensures { result ≡ wrong_line refusal before }
 {
     match refusal {
         AssemblyRefusal::Syntax(line)

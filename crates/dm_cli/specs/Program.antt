@@ -62,7 +62,7 @@ pub record Left : Type 0 where
   pub status : ℕ
 
 -- the words are a right command line, and these are its options
-pub record Asks (words : List Text) (o : Options) : Type 0 where
+pub record IsParsed (words : List Text) (o : Options) : Type 0 where
   pub right : fault_of dm_app words ≡ []
   pub says : IsSomeAnd (subcommand_of dm_app words) (λ given. HasOptions given o)
 
@@ -79,15 +79,15 @@ SavesNothing g l = (l.saved ≡ g.saved) × (l.failed_saves ≡ g.failed_saves)
 pub data Does (g : Given) (words : List Text) (l : Left) : Type 0 where
   usage : fault_of dm_app words ≢ [] → IsSilent g l → SavesNothing g l → l.status ≡ 2 → Does g words l
   no_memory : Prints (fault_line OutOfMemory) g.messages l.messages → IsSilent g l → SavesNothing g l → l.status ≡ 126 → Does g words l
-  runs : (o : MachineOptions) (outcome : Result Stop Fault) → Asks words (command.Run o) → Runs g.files g.typed o g.output l.output g.failures l.failures outcome
+  runs : (o : MachineOptions) (outcome : Result Stop Fault) → IsParsed words (command.Run o) → Runs g.files g.typed o g.output l.output g.failures l.failures outcome
       → Prints (outcome_text outcome) g.messages l.messages → SavesNothing g l → l.status ≡ status_of outcome → Does g words l
-  checks : (o : MachineOptions) (outcome : Result ℕ Fault) → Asks words (command.Check o) → Checks g.files g.typed o g.output l.output g.failures l.failures g.messages l.messages outcome
+  checks : (o : MachineOptions) (outcome : Result ℕ Fault) → IsParsed words (command.Check o) → Checks g.files g.typed o g.output l.output g.failures l.failures g.messages l.messages outcome
       → IfErr outcome (λ fault. Prints (fault_line fault) g.messages l.messages) → SavesNothing g l → l.status ≡ check_status outcome → Does g words l
-  debugs : (o : DebugOptions) (end : Option Fault) → Asks words (command.Debug o) → Debugs g.files g.typed o g.output l.output g.failures l.failures end
+  debugs : (o : DebugOptions) (end : Option Fault) → IsParsed words (command.Debug o) → Debugs g.files g.typed o g.output l.output g.failures l.failures end
       → Reports g.messages l.messages end → SavesNothing g l → l.status ≡ status_after end → Does g words l
-  assembles : (o : AsmOptions) (end : Option Fault) → Asks words (command.Asm o) → Assembles g.files o g.saved l.saved g.failed_saves l.failed_saves end
+  assembles : (o : AsmOptions) (end : Option Fault) → IsParsed words (command.Asm o) → Assembles g.files o g.saved l.saved g.failed_saves l.failed_saves end
       → Reports g.messages l.messages end → IsSilent g l → l.status ≡ status_after end → Does g words l
-  disassembles : (path : Bor (List ℕ)) (end : Option Fault) → Asks words (command.Disasm path) → Disassembles g.files path.now g.output l.output g.failures l.failures end
+  disassembles : (path : Bor (List ℕ)) (end : Option Fault) → IsParsed words (command.Disasm path) → Disassembles g.files path.now g.output l.output g.failures l.failures end
       → Reports g.messages l.messages end → SavesNothing g l → l.status ≡ status_after end → Does g words l
 
 -- the exit status of the program over files and streams of which nothing is known

@@ -8,7 +8,7 @@ use Rattle.dm_command.specs.declared.command.Command.TheVariants as command
 use Rattle.dm_command.specs.declared.names.Name.{Name}
 use Rattle.dm_command.specs.declared.names.Name.TheVariants as name
 use Rattle.dm_command.specs.Words.{words_of}
-use Rattle.dm_command.specs.Numbers.{◌>>=◌, number_of, up_to, address_of, bytes_from_digits}
+use Rattle.dm_command.specs.Numbers.{◌>>=◌, number_of, up_to, logical_address, bytes_from_digits}
 use Rattle.dm_command.specs.Names.{name_of}
 
 -- nothing behind the name
@@ -26,10 +26,10 @@ alone _ = None
 -- one word behind it
 abbrev pub with_one : Name → List ℕ → Option Command
 with_one name.Unassemble w = do
-  a ← address_of w
+  a ← logical_address w
   Some (command.Unassemble a 8)
 with_one name.Dump w = do
-  a ← address_of w
+  a ← logical_address w
   Some (command.Dump a 0x80)
 with_one name.Go w = do
   n ← number_of w
@@ -38,10 +38,10 @@ with_one name.Trace w = do
   n ← up_to 0x1000 (number_of w)
   Some (command.Trace n)
 with_one name.Break w = do
-  a ← address_of w
+  a ← logical_address w
   Some (command.Break a)
 with_one name.Clear w = do
-  a ← address_of w
+  a ← logical_address w
   Some (command.Clear a)
 with_one _ w = None
 
@@ -60,20 +60,20 @@ at_address _ a w = None
 
 abbrev pub with_two : Name → List ℕ → List ℕ → Option Command
 with_two n v w = do
-  a ← address_of v
+  a ← logical_address v
   at_address n a w
 
-abbrev pub named : Name → List (List ℕ) → Option Command
-named n [] = alone n
-named n (v ∷ []) = with_one n v
-named n (v ∷ w ∷ []) = with_two n v w
-named n _ = None
+abbrev pub command_named : Name → List (List ℕ) → Option Command
+command_named n [] = alone n
+command_named n (v ∷ []) = with_one n v
+command_named n (v ∷ w ∷ []) = with_two n v w
+command_named n _ = None
 
 abbrev pub of_words : List (List ℕ) → Option Command
 of_words [] = None
 of_words (w ∷ ws) = do
   n ← name_of w
-  named n ws
+  command_named n ws
 
 -- the command that a line asks for, if it asks for one
 abbrev pub command_of : List ℕ → Option Command

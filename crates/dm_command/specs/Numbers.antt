@@ -35,8 +35,8 @@ parts_of front [] = None
 parts_of front (b ∷ bs) = if b == 58 then Some (front, bs) else parts_of (front ++ b ∷ []) bs
 
 -- a segment and an offset, with a colon between them
-abbrev pub address_of : List ℕ → Option Address
-address_of w = do
+abbrev pub logical_address : List ℕ → Option Address
+logical_address w = do
   p ← parts_of [] w
   segment ← word_from_digits p.0
   offset ← word_from_digits p.1

@@ -2,7 +2,7 @@
 
 ghost use Rattle.std.specs.Prelude.{◌≡◌, ◌<◌, ◌≤◌, [], IfSome, option_map};
 ghost use Rattle.hex.specs.Hex.{hex_digit_value};
-ghost use Rattle.dm_command.specs.Numbers.{number_of, up_to, word_from_digits, parts_of, address_of, bytes_from_digits};
+ghost use Rattle.dm_command.specs.Numbers.{number_of, up_to, word_from_digits, parts_of, logical_address, bytes_from_digits};
 
 use crate::command::{Address, Bytes};
 
@@ -72,7 +72,7 @@ fn parts(word: &[u8]) -> Option<(&[u8], &[u8])>
 
 /// A segment and an offset, with a colon between them.
 pub(crate) fn read_address(word: &[u8]) -> Option<Address>
-    ensures { result ≡ address_of word.now }
+    ensures { result ≡ logical_address word.now }
 {
     let (before, behind) = parts(word)?;
     let segment = read_word(before)?;

@@ -3,7 +3,7 @@ use Rattle.std.proofs.Common.{◌≡◌, ℕ, List, [], ◌++◌, Result, Ok, Er
 use Rattle.std.specs.Prelude.{OnOk}
 use Rattle.dm_command.specs.declared.command.Command.{Command}
 use Rattle.dm_debug.specs.Debugged.{Debugged}
-use Rattle.dm_debug.specs.Sessions.{Prints, Does, shows, DoesPart}
+use Rattle.dm_debug.specs.Sessions.{Displays, Does, shows, DoesPart}
 
 pub on_ok_both : {T E P Q R : Type 0} (r : Result T E) → (P → Q → R) → OnOk r P → OnOk r Q → OnOk r R
 on_ok_both (Ok v) f p q = f p q
@@ -21,7 +21,7 @@ does_same s t u command other new text e f g h =
     (subst (λ (x : List ℕ). Does s other x u) (sym g) h))
 
 -- a command that changes nothing
-pub does_show : (s t : Debugged) (command other : Command) (old new text : List ℕ) → s ≡ t → command ≡ other → old ≡ [] → new ≡ old ++ text → Prints s other text → Does t command new t
+pub does_show : (s t : Debugged) (command other : Command) (old new text : List ℕ) → s ≡ t → command ≡ other → old ≡ [] → new ≡ old ++ text → Displays s other text → Does t command new t
 does_show s t command other old new text e f none g h =
     subst (λ (x : Debugged). Does t command new x) e (does_same s t s command other new text e f (alone_is old new text none g) (shows other text h))
 

@@ -7,7 +7,7 @@ use Rattle.dm_state.specs.State.{State}
 use Rattle.dm_machine.specs.declared.until.Breakpoint.{Breakpoint}
 use Rattle.dm_machine.specs.Run.{Answers}
 use Rattle.dm_machine.specs.Until.{RunsUntil}
-use Rattle.dm_views.specs.Digits.{two}
+use Rattle.dm_views.specs.Digits.{two_digits}
 use Rattle.dm_views.specs.Registers.{IsRegistersText}
 
 -- the word of a stop; none is a breakpoint
@@ -23,7 +23,7 @@ stop_text (Some stop.Memory) = codes "memory"
 
 -- the code of an end
 abbrev pub code_text : Option Stop → List ℕ
-code_text (Some (stop.Exited code)) = two code
+code_text (Some (stop.Exited code)) = two_digits code
 code_text _ = []
 
 abbrev pub stop_line : Option Stop → List ℕ

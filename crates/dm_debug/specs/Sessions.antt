@@ -41,19 +41,19 @@ abbrev pub with_entered : Debugged → Address → List ℕ → Debugged
 with_entered s a bytes = with_machine s (record s.machine { memory = with_bytes s.machine.memory a.segment a.offset bytes })
 
 -- a command that changes nothing: a listing of one state, or what the console wrote
-pub data Prints (s : Debugged) : Command → List ℕ → Type 0 where
-  registers : (text : List ℕ) → IsRegistersText s.machine.cpu s.machine.memory text → Prints s c.Registers text
-  code : (a : Address) (n : ℕ) (text : List ℕ) → IsCode s.machine.memory a.segment a.offset n text → Prints s (c.Unassemble a n) text
-  bytes : (a : Address) (n : ℕ) → Prints s (c.Dump a n) (bytes_text s.machine.memory a.segment a.offset n)
-  arena : (text : List ℕ) → IsArenaText s.machine.upper s.machine.memory text → Prints s c.Arena text
-  pages : Prints s c.Pages (pages_text s.machine.ems s.machine.memory)
-  extended : Prints s c.Extended (extended_text s.machine.xms s.machine.memory)
-  points : Prints s c.Breakpoints (points_text s.points)
-  output : Prints s c.Output s.machine.console.output
+pub data Displays (s : Debugged) : Command → List ℕ → Type 0 where
+  registers : (text : List ℕ) → IsRegistersText s.machine.cpu s.machine.memory text → Displays s c.Registers text
+  code : (a : Address) (n : ℕ) (text : List ℕ) → IsCode s.machine.memory a.segment a.offset n text → Displays s (c.Unassemble a n) text
+  bytes : (a : Address) (n : ℕ) → Displays s (c.Dump a n) (bytes_text s.machine.memory a.segment a.offset n)
+  arena : (text : List ℕ) → IsArenaText s.machine.upper s.machine.memory text → Displays s c.Arena text
+  pages : Displays s c.Pages (pages_text s.machine.ems s.machine.memory)
+  extended : Displays s c.Extended (extended_text s.machine.xms s.machine.memory)
+  points : Displays s c.Breakpoints (points_text s.points)
+  output : Displays s c.Output s.machine.console.output
 
 -- a command: what it tells, and the session behind it
 pub data Does (s : Debugged) : Command → List ℕ → Debugged → Type 0 where
-  shows : (command : Command) (text : List ℕ) → Prints s command text → Does s command text s
+  shows : (command : Command) (text : List ℕ) → Displays s command text → Does s command text s
   goes : (n : ℕ) (text : List ℕ) (t : State) → GoesTo s.machine n s.points text t → Does s (c.Go n) text (with_machine s t)
   traces : (n : ℕ) (text : List ℕ) (t : State) → IsTrace s.machine n text t → Does s (c.Trace n) text (with_machine s t)
   sets : (a : Address) → Does s (c.Break a) done (with_points s (with_point s.points a))

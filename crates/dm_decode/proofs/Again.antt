@@ -19,11 +19,11 @@ use Rattle.dm_ins.specs.declared.fields.Fields.{Fields}
 use Rattle.dm_ins.specs.declared.operand.Operand.{Operand}
 use Rattle.dm_ins.specs.declared.table.OperandKind.{OperandKind}
 use Rattle.dm_ins.specs.declared.table.OperandKind.TheVariants as is
-use Rattle.dm_ins.specs.Spelling.{word, SpellsMemory, SpellsFields, Fills, has_fields, no_fields, MaySpellFields, HasRow, SpellsAction, prefix_byte, no_prefix, with_prefix, kept, SpellsPrefixed}
+use Rattle.dm_ins.specs.Spelling.{word_bytes, SpellsMemory, SpellsFields, Fills, has_fields, no_fields, MaySpellFields, HasRow, SpellsAction, prefix_byte, no_prefix, with_prefix, kept, SpellsPrefixed}
 use Rattle.dm_ins.specs.Walks.{◌>>=◌}
 use Rattle.dm_decode.specs.inner.Reading.{word_at, memory_at, fields_at, operand_at, row_at, action_at, prefix_of, without, stripped, strips, prefixed_at}
 
-pub word_again : (n : ℕ) (rest : List ℕ) → word_at (word n ++ rest) ≡ Some (n, rest)
+pub word_again : (n : ℕ) (rest : List ℕ) → word_at (word_bytes n ++ rest) ≡ Some (n, rest)
 unfolding word_at
 word_again n rest = let e : n % 256 + 256 * (n / 256) ≡ n = omega arith in rw e refl
 
@@ -63,7 +63,7 @@ operand_again is.SignedValue m o d rest h = rw (h.2, h.3) refl
 operand_again is.Short m o d rest h = rw (h.2, h.3) refl
 operand_again is.Near m o d rest h = rw (h.2, h.3) (rw (word_again h.0 rest) refl)
 operand_again (is.Direct w) m o d rest h = rw (h.2, h.3) (rw (word_again h.0 rest) refl)
-operand_again is.Far m o d rest h = rw (h.4, h.5) (rw (word_again h.0 (word h.1 ++ rest), word_again h.1 rest) refl)
+operand_again is.Far m o d rest h = rw (h.4, h.5) (rw (word_again h.0 (word_bytes h.1 ++ rest), word_again h.1 rest) refl)
 operand_again (is.Escape r) m o d rest h = rw (h.0, h.1) refl
 operand_again (is.Byte r) m o d rest h = rw (h.0, h.1) refl
 operand_again (is.Word r) m o d rest h = rw (h.0, h.1) refl

@@ -16,7 +16,7 @@ use Rattle.dm_ins.specs.declared.table.Row.{Row}
 use Rattle.dm_ins.specs.declared.table.Entry.{Entry}
 use Rattle.dm_ins.specs.declared.table.Entry.TheVariants.{Unlisted, Plain, Group, Second}
 use Rattle.dm_ins.specs.Table.{entry_of, member_of}
-use Rattle.dm_ins.specs.Spelling.{word, SpellsMemory, SpellsFields, Fills, has_fields, no_fields, MaySpellFields, HasRow, SpellsAction, prefix_byte, no_prefix, with_prefix, kept, SpellsPrefixed}
+use Rattle.dm_ins.specs.Spelling.{word_bytes, SpellsMemory, SpellsFields, Fills, has_fields, no_fields, MaySpellFields, HasRow, SpellsAction, prefix_byte, no_prefix, with_prefix, kept, SpellsPrefixed}
 use Rattle.dm_ins.specs.Walks.{◌>>=◌}
 use Rattle.dm_decode.specs.inner.Reading.{byte_at, word_at, memory_at, fields_at, operand_at, row_at, action_at, prefix_of, without, stripped, strips, prefixed_at}
 use Rattle.dm_ins.proofs.Walks.{bind_some}
@@ -51,7 +51,7 @@ byte_found (b ∷ bytes) n rest h e =
     let x = some_is (b, bytes) (n, rest) e in
     subst (λ (y : ℕ × List ℕ). Takes (b ∷ bytes) (y.0 ∷ []) y.1 × (y.0 < 2 ^ 8)) x (record { parts = refl; rest_fits = rest_bytes b bytes h }, h 0)
 
-word_found : (bytes : List ℕ) (n : ℕ) (rest : List ℕ) → IsBytes bytes → word_at bytes ≡ Some (n, rest) → Takes bytes (word n) rest × (n < 2 ^ 16)
+word_found : (bytes : List ℕ) (n : ℕ) (rest : List ℕ) → IsBytes bytes → word_at bytes ≡ Some (n, rest) → Takes bytes (word_bytes n) rest × (n < 2 ^ 16)
 unfolding word_at
 word_found [] n rest h e = absurd cc
 word_found (a ∷ []) n rest h e = absurd cc
@@ -59,7 +59,7 @@ word_found (a ∷ b ∷ bytes) n rest h e =
     let x = some_is (a + 256 * b, bytes) (n, rest) e in
     let low : (a + 256 * b) % 256 ≡ a = omega (arith, h 0) in
     let high : (a + 256 * b) / 256 ≡ b = omega (arith, h 0) in
-    subst (λ (y : ℕ × List ℕ). Takes (a ∷ b ∷ bytes) (word y.0) y.1 × (y.0 < 2 ^ 16)) x
+    subst (λ (y : ℕ × List ℕ). Takes (a ∷ b ∷ bytes) (word_bytes y.0) y.1 × (y.0 < 2 ^ 16)) x
     (record { parts = rw (low, high) refl; rest_fits = rest_bytes b bytes (rest_bytes a (b ∷ bytes) h) }, omega (arith, h 0, h 1))
 
 -- ---- memory operands
@@ -78,7 +78,7 @@ memory_found mode rm bytes x lt h e =
         | inl c6 ↦
             let b = bind_some (word_at bytes) _ x c6.1 in
             let t = word_found bytes b.0.0 b.0.1 h b.1 in
-            subst (MemoryFound mode rm bytes) (some_is _ x b.2) (word b.0.0, t.0, inl (c0.0, c6.0, b.0.0, t.1, refl, refl))
+            subst (MemoryFound mode rm bytes) (some_is _ x b.2) (word_bytes b.0.0, t.0, inl (c0.0, c6.0, b.0.0, t.1, refl, refl))
         | inr c6 ↦ subst (MemoryFound mode rm bytes) (some_is _ x c6.1) ([], takes_none bytes h, inr (inl (c0.0, c6.0, refl, refl)))
       ]
       | inr c0 ↦ elim (chosen mode 1 _ _ x c0.1) [
@@ -90,7 +90,7 @@ memory_found mode rm bytes x lt h e =
           | inl c2 ↦
               let b = bind_some (word_at bytes) _ x c2.1 in
               let t = word_found bytes b.0.0 b.0.1 h b.1 in
-              subst (MemoryFound mode rm bytes) (some_is _ x b.2) (word b.0.0, t.0, inr (inr (inr (inl (c2.0, b.0.0, t.1, refl, refl)))))
+              subst (MemoryFound mode rm bytes) (some_is _ x b.2) (word_bytes b.0.0, t.0, inr (inr (inr (inl (c2.0, b.0.0, t.1, refl, refl)))))
           | inr c2 ↦
               let three : mode ≡ 3 = omega arith in
               subst (MemoryFound mode rm bytes) (some_is _ x c2.1) ([], takes_none bytes h, inr (inr (inr (inr (three, refl, refl)))))
@@ -140,7 +140,7 @@ operand_found is.ByteValue m bytes x h e =
 operand_found is.WordValue m bytes x h e =
     let b = bind_some (word_at bytes) _ x e in
     let t = word_found bytes b.0.0 b.0.1 h b.1 in
-    subst (OperandFound is.WordValue m bytes) (some_is _ x b.2) (word b.0.0, t.0, (b.0.0, t.1, refl, refl))
+    subst (OperandFound is.WordValue m bytes) (some_is _ x b.2) (word_bytes b.0.0, t.0, (b.0.0, t.1, refl, refl))
 operand_found is.SignedValue m bytes x h e =
     let b = bind_some (byte_at bytes) _ x e in
     let t = byte_found bytes b.0.0 b.0.1 h b.1 in
@@ -152,17 +152,17 @@ operand_found is.Short m bytes x h e =
 operand_found is.Near m bytes x h e =
     let b = bind_some (word_at bytes) _ x e in
     let t = word_found bytes b.0.0 b.0.1 h b.1 in
-    subst (OperandFound is.Near m bytes) (some_is _ x b.2) (word b.0.0, t.0, (b.0.0, t.1, refl, refl))
+    subst (OperandFound is.Near m bytes) (some_is _ x b.2) (word_bytes b.0.0, t.0, (b.0.0, t.1, refl, refl))
 operand_found (is.Direct w) m bytes x h e =
     let b = bind_some (word_at bytes) _ x e in
     let t = word_found bytes b.0.0 b.0.1 h b.1 in
-    subst (OperandFound (is.Direct w) m bytes) (some_is _ x b.2) (word b.0.0, t.0, (b.0.0, t.1, refl, refl))
+    subst (OperandFound (is.Direct w) m bytes) (some_is _ x b.2) (word_bytes b.0.0, t.0, (b.0.0, t.1, refl, refl))
 operand_found is.Far m bytes x h e =
     let b = bind_some (word_at bytes) _ x e in
     let t = word_found bytes b.0.0 b.0.1 h b.1 in
     let c = bind_some (word_at b.0.1) _ x b.2 in
     let u = word_found b.0.1 c.0.0 c.0.1 t.0.rest_fits c.1 in
-    subst (OperandFound is.Far m bytes) (some_is _ x c.2) (word b.0.0 ++ word c.0.0, takes_then bytes (word b.0.0) b.0.1 (word c.0.0) c.0.1 t.0 u.0, (b.0.0, c.0.0, t.1, u.1, refl, refl))
+    subst (OperandFound is.Far m bytes) (some_is _ x c.2) (word_bytes b.0.0 ++ word_bytes c.0.0, takes_then bytes (word_bytes b.0.0) b.0.1 (word_bytes c.0.0) c.0.1 t.0 u.0, (b.0.0, c.0.0, t.1, u.1, refl, refl))
 operand_found (is.Escape r) m bytes x h e = empty m bytes x h (is.Escape r) _ (refl, refl) e
 operand_found (is.Byte r) m bytes x h e = empty m bytes x h (is.Byte r) _ (refl, refl) e
 operand_found (is.Word r) m bytes x h e = empty m bytes x h (is.Word r) _ (refl, refl) e

@@ -10,7 +10,7 @@ use Rattle.dm_xms_calls.specs.Functions as extended_memory
 use Rattle.dm_state.specs.State.{State, Answer, go, interrupt_returned, far_returned}
 use Rattle.dm_drivers.specs.declared.drivers.Driver.{Driver}
 use Rattle.dm_drivers.specs.declared.drivers.Driver.TheVariants.{ExpandedMemory, Multiplex, ExtendedMemory}
-use Rattle.dm_drivers.specs.Multiplex.{told}
+use Rattle.dm_drivers.specs.Multiplex.{multiplex_reply}
 
 -- the driver that acts at CS:IP; another segment and offset of the same address is no entry point
 unfoldable pub driver_at : Cpu → Option Driver
@@ -33,9 +33,9 @@ after_extended s c = record s { cpu = c.cpu; memory = c.x.memory; xms = c.x.xms 
 
 -- after the driver's act
 abbrev pub acted : State → Driver → State
-acted s ExpandedMemory = after_expanded s (expanded_memory.called (expanded_caller s))
-acted s Multiplex = record s { cpu = told s.cpu }
-acted s ExtendedMemory = after_extended s (extended_memory.called s.upper (extended_caller s))
+acted s ExpandedMemory = after_expanded s (expanded_memory.dispatched (expanded_caller s))
+acted s Multiplex = record s { cpu = multiplex_reply s.cpu }
+acted s ExtendedMemory = after_extended s (extended_memory.dispatched s.upper (extended_caller s))
 
 -- back where the program called, by an interrupt or by a far call
 abbrev pub given_back : State → Driver → State

@@ -6,7 +6,7 @@ use Rattle.dm_cpu.specs.declared.cpu.Cpu.{Cpu}
 use Rattle.dm_cpu.specs.Cpu.{with_byte}
 
 -- 4300h: AL is 80h, since extended memory is there; 4310h: ES:BX is where it is called; else nothing changes
-unfoldable pub told : Cpu → Cpu
-told cpu =
+unfoldable pub multiplex_reply : Cpu → Cpu
+multiplex_reply cpu =
     if cpu.ax == 0x4300 then with_byte cpu Al 0x80 else
     if cpu.ax == 0x4310 then record cpu { es = entry_segment; bx = extended_memory_offset } else cpu

@@ -12,8 +12,8 @@ use Rattle.dm_ems.specs.Tables.{Tables, Expanded, page_count, no_name}
 use Rattle.dm_ems.specs.Calls.{need, slot, with_slot, with_memory}
 use Rattle.dm_ems.specs.Handles.{in_use}
 
-abbrev pub word : ℕ → List ℕ
-word w = w % 256 ∷ w / 256 ∷ []
+abbrev pub word_bytes : ℕ → List ℕ
+word_bytes w = w % 256 ∷ w / 256 ∷ []
 
 -- f 0, f 1 and so on, n of them
 abbrev pub in_turn : (ℕ → List ℕ) → ℕ → List ℕ
@@ -27,7 +27,7 @@ writing x segment offset bytes = with_memory x (with_bytes x.memory segment offs
 -- a handle in use and the number of its pages, two words
 abbrev pub page_entry : Tables → ℕ → Option Handle → List ℕ
 page_entry ems handle None = []
-page_entry ems handle (Some s) = word handle ++ word (page_count ems handle)
+page_entry ems handle (Some s) = word_bytes handle ++ word_bytes (page_count ems handle)
 
 abbrev pub page_entries : Expanded → List ℕ
 page_entries x = in_turn (λ handle. page_entry x.ems handle (slot x handle)) 64
@@ -39,7 +39,7 @@ list_pages x segment offset = (in_use x, writing x segment offset (page_entries 
 -- a handle in use and its name, a word and eight bytes
 abbrev pub name_entry : ℕ → Option Handle → List ℕ
 name_entry handle None = []
-name_entry handle (Some s) = word handle ++ s.name
+name_entry handle (Some s) = word_bytes handle ++ s.name
 
 abbrev pub name_entries : Expanded → List ℕ
 name_entries x = in_turn (λ handle. name_entry handle (slot x handle)) 64

@@ -6,7 +6,7 @@ ghost use Rattle.arrayvec.specs.ArrayVec.{array_vec_len};
 ghost use Rattle.dm_space.specs.EightBytes.{eight_after};
 ghost use Rattle.dm_ems.specs.Tables.{expanded};
 ghost use Rattle.dm_ems.specs.Calls.{answer, left};
-ghost use Rattle.dm_ems.specs.Names.{word, in_turn, page_entry, name_entry, list_pages, list_names, get_name, set_name, find_name, is_no_name, has_name, is_name_of_other};
+ghost use Rattle.dm_ems.specs.Names.{word_bytes, in_turn, page_entry, name_entry, list_pages, list_names, get_name, set_name, find_name, is_no_name, has_name, is_name_of_other};
 
 use crate::status::Status;
 use crate::tables::{Ems, HANDLES, Handle, NO_NAME};
@@ -18,7 +18,7 @@ type Entries = ArrayVec<u8, 640>;
 
 fn put_word(entries: &mut Entries, value: u16)
     requires { array_vec_len entries.old + 2 ≤ 640 }
-    ensures items { entries.new.items ≡ entries.old.items ++ word value }
+    ensures items { entries.new.items ≡ entries.old.items ++ word_bytes value }
     ensures len { array_vec_len entries.new ≡ array_vec_len entries.old + 2 }
 {
     let [low, high] = value.to_le_bytes();

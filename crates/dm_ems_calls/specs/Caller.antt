@@ -40,10 +40,10 @@ settled cpu (Ok v) set = succeeded (set v)
 settled cpu (Err e) set = refused cpu e
 
 -- the same where success sets AH too
-abbrev pub concluded : {A : Type 0} → Cpu → Result A Status → (A → Cpu) → Cpu
-concluded cpu (Ok v) set = set v
-concluded cpu (Err e) set = refused cpu e
+abbrev pub settled_with_status : {A : Type 0} → Cpu → Result A Status → (A → Cpu) → Cpu
+settled_with_status cpu (Ok v) set = set v
+settled_with_status cpu (Err e) set = refused cpu e
 
 -- after a call that may change the tables or memory
-abbrev pub after : {A : Type 0} → Caller → Result (A × Expanded) Status → (A → Cpu) → Caller
-after c r set = record { cpu = settled c.cpu (answer r) set; x = left c.x r }
+abbrev pub after_call : {A : Type 0} → Caller → Result (A × Expanded) Status → (A → Cpu) → Caller
+after_call c r set = record { cpu = settled c.cpu (answer r) set; x = left c.x r }

@@ -63,5 +63,5 @@ call c Mappable = mappable c
 call c Unknown = on_cpu c (no_function c.cpu)
 
 -- INT 67h does what AH names
-abbrev pub called : Caller → Caller
-called c = call c (function_of (byte_of c.cpu Ah))
+abbrev pub dispatched : Caller → Caller
+dispatched c = call c (function_of (byte_of c.cpu Ah))

@@ -10,7 +10,7 @@ use Rattle.dm_ems.specs.Names as lists
 use Rattle.dm_ems.specs.Calls.{answer, left}
 use Rattle.dm_ems_move.specs.declared.reallocation.Reallocated.{Reallocated}
 use Rattle.dm_ems_move.specs.Reallocation as moves
-use Rattle.dm_ems_calls.specs.Caller.{Caller, with_status, on_cpu, succeeded, settled, concluded, after}
+use Rattle.dm_ems_calls.specs.Caller.{Caller, with_status, on_cpu, succeeded, settled, settled_with_status, after_call}
 
 -- 42h: BX is the pages that no handle has, DX all pages
 unfoldable pub tell_pages : Caller → Caller
@@ -18,11 +18,11 @@ tell_pages c = on_cpu c (succeeded (record c.cpu { bx = unallocated c.x; dx = c.
 
 -- 43h: DX is a new handle with BX pages
 unfoldable pub allocate : Caller → Caller
-allocate c = after c (rows.allocate c.x c.cpu.bx) (λ handle. record c.cpu { dx = handle })
+allocate c = after_call c (rows.allocate c.x c.cpu.bx) (λ handle. record c.cpu { dx = handle })
 
 -- 45h: the handle in DX is given up
 unfoldable pub deallocate : Caller → Caller
-deallocate c = after c (rows.deallocate c.x c.cpu.dx) (λ done. c.cpu)
+deallocate c = after_call c (rows.deallocate c.x c.cpu.dx) (λ done. c.cpu)
 
 -- 4Bh: BX is the handles in use
 unfoldable pub count_handles : Caller → Caller
@@ -51,4 +51,4 @@ recounted cpu r = with_status (record cpu { bx = r.pages }) (status_of r.refused
 unfoldable pub reallocate : Caller → Caller
 reallocate c =
     let r = moves.reallocate c.x c.cpu.dx c.cpu.bx in
-    record { cpu = concluded c.cpu (answer r) (recounted c.cpu); x = left c.x r }
+    record { cpu = settled_with_status c.cpu (answer r) (recounted c.cpu); x = left c.x r }

@@ -6,15 +6,15 @@ use Rattle.dm_cpu.specs.declared.cpu.Cpu.{Cpu}
 use Rattle.dm_cpu.specs.Cpu.{byte_of, with_byte}
 use Rattle.dm_ems.specs.declared.status.Status.TheVariants.{NoSubfunction}
 use Rattle.dm_ems.specs.Names as rows
-use Rattle.dm_ems_calls.specs.Caller.{Caller, on_cpu, succeeded, refused, settled, after}
+use Rattle.dm_ems_calls.specs.Caller.{Caller, on_cpu, succeeded, refused, settled, after_call}
 
 -- 53h, 0: the name of the handle in DX is written at ES:DI
 unfoldable pub get_name : Caller → Caller
-get_name c = after c (rows.get_name c.x c.cpu.dx c.cpu.es c.cpu.di) (λ done. c.cpu)
+get_name c = after_call c (rows.get_name c.x c.cpu.dx c.cpu.es c.cpu.di) (λ done. c.cpu)
 
 -- 53h, 1: the handle in DX gets the name at DS:SI
 unfoldable pub set_name : Caller → Caller
-set_name c = after c (rows.set_name c.x c.cpu.dx c.cpu.ds c.cpu.si) (λ done. c.cpu)
+set_name c = after_call c (rows.set_name c.x c.cpu.dx c.cpu.ds c.cpu.si) (λ done. c.cpu)
 
 -- 53h
 unfoldable pub handle_name : Caller → Caller

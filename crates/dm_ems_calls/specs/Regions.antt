@@ -6,17 +6,17 @@ use Rattle.dm_cpu.specs.Cpu.{byte_of}
 use Rattle.dm_ems.specs.declared.status.Status.TheVariants.{NoSubfunction}
 use Rattle.dm_ems.specs.Calls.{answer, left}
 use Rattle.dm_ems_move.specs.RegionMoves as rows
-use Rattle.dm_ems_calls.specs.Caller.{Caller, with_status, on_cpu, refused, concluded, after}
+use Rattle.dm_ems_calls.specs.Caller.{Caller, with_status, on_cpu, refused, settled_with_status, after_call}
 
 -- 57h, 0: AH is 92h where the regions overlap
 unfoldable pub move_region : Caller → Caller
 move_region c =
     let r = rows.move_region c.x c.cpu.ds c.cpu.si in
-    record { cpu = concluded c.cpu (answer r) (λ how. with_status c.cpu (rows.moved_code how)); x = left c.x r }
+    record { cpu = settled_with_status c.cpu (answer r) (λ how. with_status c.cpu (rows.moved_code how)); x = left c.x r }
 
 -- 57h, 1
 unfoldable pub exchange_region : Caller → Caller
-exchange_region c = after c (rows.exchange_region c.x c.cpu.ds c.cpu.si) (λ done. c.cpu)
+exchange_region c = after_call c (rows.exchange_region c.x c.cpu.ds c.cpu.si) (λ done. c.cpu)
 
 -- 57h
 unfoldable pub regions : Caller → Caller

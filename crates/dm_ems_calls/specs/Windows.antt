@@ -6,19 +6,19 @@ use Rattle.dm_cpu.specs.Cpu.{byte_of, with_byte}
 use Rattle.dm_ems.specs.Maps as rows
 use Rattle.dm_ems_move.specs.Maps as maps
 use Rattle.dm_ems_move.specs.Many as many
-use Rattle.dm_ems_calls.specs.Caller.{Caller, after}
+use Rattle.dm_ems_calls.specs.Caller.{Caller, after_call}
 
 -- 44h: window AL shows logical page BX of the handle in DX
 unfoldable pub map_page : Caller → Caller
-map_page c = after c (rows.map_page c.x (byte_of c.cpu Al) c.cpu.bx c.cpu.dx) (λ done. c.cpu)
+map_page c = after_call c (rows.map_page c.x (byte_of c.cpu Al) c.cpu.bx c.cpu.dx) (λ done. c.cpu)
 
 -- 47h: what the windows show is kept under the handle in DX
 unfoldable pub save_map : Caller → Caller
-save_map c = after c (rows.save_map c.x c.cpu.dx) (λ done. c.cpu)
+save_map c = after_call c (rows.save_map c.x c.cpu.dx) (λ done. c.cpu)
 
 -- 48h: the windows show again what was kept under the handle in DX
 unfoldable pub restore_map : Caller → Caller
-restore_map c = after c (rows.restore_map c.x c.cpu.dx) (λ done. c.cpu)
+restore_map c = after_call c (rows.restore_map c.x c.cpu.dx) (λ done. c.cpu)
 
 -- AL is a number, where there is one
 abbrev pub numbered : Cpu → Option ℕ → Cpu
@@ -27,8 +27,8 @@ numbered cpu (Some n) = with_byte cpu Al n
 
 -- 4Eh: the map of the windows is written at ES:DI, set from DS:SI, or both, or AL is its size, as AL says
 unfoldable pub whole_map : Caller → Caller
-whole_map c = after c (maps.whole_map c.x (byte_of c.cpu Al) c.cpu.es c.cpu.di c.cpu.ds c.cpu.si) (numbered c.cpu)
+whole_map c = after_call c (maps.whole_map c.x (byte_of c.cpu Al) c.cpu.es c.cpu.di c.cpu.ds c.cpu.si) (numbered c.cpu)
 
 -- 50h: pages of the handle in DX come into windows, by CX pairs at DS:SI; AL says how a pair names its window
 unfoldable pub map_many : Caller → Caller
-map_many c = after c (many.map_many c.x (byte_of c.cpu Al) c.cpu.dx c.cpu.cx c.cpu.ds c.cpu.si) (λ done. c.cpu)
+map_many c = after_call c (many.map_many c.x (byte_of c.cpu Al) c.cpu.dx c.cpu.cx c.cpu.ds c.cpu.si) (λ done. c.cpu)

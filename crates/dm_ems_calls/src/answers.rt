@@ -1,7 +1,7 @@
 //! How a call of the expanded memory driver answers (LIM EMS 4.0, section 3): AH is the status.
 ghost use Rattle.std.specs.Prelude.{◌≡◌};
 ghost use Rattle.dm_ems_move.specs.RegionMoves.{moved_code};
-ghost use Rattle.dm_ems_calls.specs.Caller.{with_status, succeeded, refused, settled, concluded};
+ghost use Rattle.dm_ems_calls.specs.Caller.{with_status, succeeded, refused, settled, settled_with_status};
 ghost use Rattle.dm_ems_calls.specs.Handles.{recounted};
 ghost use Rattle.dm_ems_calls.specs.Windows.{numbered};
 
@@ -77,7 +77,7 @@ pub(crate) fn settle_al(cpu: &mut Cpu, res: Result<Option<u8>, Status>)
 
 /// The status of a call that was to give a handle another number of pages; BX is how many it has.
 pub(crate) fn settle_pages(cpu: &mut Cpu, res: Result<Reallocated, Status>)
-    ensures { cpu.new ≡ concluded cpu.old res (recounted cpu.old) }
+    ensures { cpu.new ≡ settled_with_status cpu.old res (recounted cpu.old) }
 {
     match res {
         Ok(reallocated) => {
@@ -93,7 +93,7 @@ pub(crate) fn settle_pages(cpu: &mut Cpu, res: Result<Reallocated, Status>)
 
 /// The status of a move: 92h where the regions overlapped.
 pub(crate) fn settle_move(cpu: &mut Cpu, res: Result<Moved, Status>)
-    ensures { cpu.new ≡ concluded cpu.old res (λ how. with_status cpu.old (moved_code how)) }
+    ensures { cpu.new ≡ settled_with_status cpu.old res (λ how. with_status cpu.old (moved_code how)) }
 {
     match res {
         Ok(moved) => cpu.set_byte(ByteRegister::Ah, moved.code()),

@@ -3,7 +3,7 @@ ghost use Rattle.std.specs.Prelude.{◌≡◌};
 ghost use Rattle.dm_ems.specs.Tables.{expanded};
 ghost use Rattle.dm_ems.specs.Consistent.{IsConsistent};
 ghost use Rattle.dm_ems_calls.specs.Caller.{caller};
-ghost use Rattle.dm_ems_calls.specs.Functions.{no_function, call, called};
+ghost use Rattle.dm_ems_calls.specs.Functions.{no_function, call, dispatched};
 
 use crate::answers::succeed;
 use crate::frame::{mappable, tell_frame, tell_version};
@@ -130,7 +130,7 @@ fn call(cpu: &mut Cpu, ems: &mut Ems, space: &mut Space, function: Function)
 /// what each function returns (LIM EMS 4.0, section 3).
 pub fn expanded_memory_call(cpu: &mut Cpu, ems: &mut Ems, space: &mut Space)
     requires { IsConsistent (expanded ems.old space.old.memory) }
-    ensures { caller cpu.new ems.new space.new.memory ≡ called (caller cpu.old ems.old space.old.memory) }
+    ensures { caller cpu.new ems.new space.new.memory ≡ dispatched (caller cpu.old ems.old space.old.memory) }
 {
     let function = function_of(cpu.byte(ByteRegister::Ah));
     call(cpu, ems, space, function);

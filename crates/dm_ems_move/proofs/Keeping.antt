@@ -16,7 +16,7 @@ use Rattle.dm_ems.proofs.Keeping.{Keeps, if_keeps, need_keeps, refused, with_sho
 use Rattle.dm_ems_move.specs.Steps.{and_then}
 use Rattle.dm_ems_move.specs.Reallocation.{reallocate, reallocated, with_count}
 use Rattle.dm_ems_move.specs.Many.{map_many, after_pairs}
-use Rattle.dm_ems_move.specs.Maps.{whole_map, map_at, entries, with_map}
+use Rattle.dm_ems_move.specs.Maps.{whole_map, map_at, map_entries, with_map}
 use Rattle.dm_ems_move.specs.declared.region_moves.Moved.TheVariants.{Apart, Overlapping}
 use Rattle.dm_ems_move.specs.RegionMoves.{length_at, regions_of, are_mixed, move_between, exchange_between, move_region, exchange_region}
 use Rattle.dm_ems_move.specs.Laws.{MovesKeepConsistency}
@@ -57,7 +57,7 @@ many_keeps x mode h count s o l =
 map_keeps : (x : Expanded) (mode ts to fs fo : ℕ) → IsConsistent x → Keeps x (whole_map x mode ts to fs fo)
 unfolding whole_map
 map_keeps x mode ts to fs fo l =
-    let written = written_consistent x ts to (entries x.ems.pages x.memory.windows) l in
+    let written = written_consistent x ts to (map_entries x.ems.pages x.memory.windows) l in
     if_keeps x (mode == 0) (Ok (None, with_map x ts to)) _ (record { kept = written })
     (if_keeps x (mode == 1) _ _
     (need_keeps x (map_at x.ems x.memory fs fo) BadMap _ l (λ ws is. record { kept = with_shown x ws l (map_shown x.ems x.memory fs fo ws is) }))

@@ -15,7 +15,7 @@ use Rattle.dm_ems.proofs.Leaving.{Leaves, if_leaves, need_leaves, refused, leave
 use Rattle.dm_ems_move.specs.Steps.{and_then}
 use Rattle.dm_ems_move.specs.Reallocation.{reallocate, reallocated, with_count}
 use Rattle.dm_ems_move.specs.Many.{map_many, after_pairs}
-use Rattle.dm_ems_move.specs.Maps.{whole_map, map_at, entries, with_map, showing_all}
+use Rattle.dm_ems_move.specs.Maps.{whole_map, map_at, map_entries, with_map, showing_all}
 use Rattle.dm_ems_move.specs.declared.region_moves.Moved.TheVariants.{Apart, Overlapping}
 use Rattle.dm_ems_move.specs.RegionMoves.{length_at, regions_of, are_mixed, move_between, exchange_between, move_region, exchange_region}
 use Rattle.dm_ems_move.specs.Laws.{MovesLeaveOutside}
@@ -56,7 +56,7 @@ map_leaves : (x : Expanded) (mode ts to fs fo : ℕ) → Leaves x (whole_map x m
 unfolding whole_map
 map_leaves x mode ts to fs fo =
     let y = with_map x ts to in
-    let written : LeavesOutside x y = leaves_shaped x _ (bytes_shaped x.memory ts to (entries x.ems.pages x.memory.windows)) in
+    let written : LeavesOutside x y = leaves_shaped x _ (bytes_shaped x.memory ts to (map_entries x.ems.pages x.memory.windows)) in
     if_leaves x (mode == 0) (Ok (None, y)) _ (record { kept = written })
     (if_leaves x (mode == 1) _ _
     (need_leaves x (map_at x.ems x.memory fs fo) BadMap _ (λ ws. record { kept = leaves_windows x ws }))

@@ -8,7 +8,7 @@ use Rattle.dm_ems.specs.declared.tables.Page.{Page}
 use Rattle.dm_ems.specs.Tables.{Tables, Expanded, blocks_of, with_windows}
 use Rattle.dm_ems.specs.Readers.{numbers_of}
 use Rattle.dm_ems.specs.Calls.{need, with_memory}
-use Rattle.dm_ems.specs.Names.{word, writing}
+use Rattle.dm_ems.specs.Names.{word_bytes, writing}
 use Rattle.dm_moves.specs.Buffers.{word_after}
 
 -- ---- from windows to bytes
@@ -22,12 +22,12 @@ or_none (Some n) = n
 abbrev pub numbers : List Page → Option ℕ → ℕ × ℕ
 numbers pages window = or_none (numbers_of pages window)
 
-abbrev pub entry : ℕ × ℕ → List ℕ
-entry n = word n.0 ++ word n.1
+abbrev pub map_entry : ℕ × ℕ → List ℕ
+map_entry n = word_bytes n.0 ++ word_bytes n.1
 
-abbrev pub entries : List Page → List (Option ℕ) → List ℕ
-entries pages [] = []
-entries pages (window ∷ windows) = entry (numbers pages window) ++ entries pages windows
+abbrev pub map_entries : List Page → List (Option ℕ) → List ℕ
+map_entries pages [] = []
+map_entries pages (window ∷ windows) = map_entry (numbers pages window) ++ map_entries pages windows
 
 -- ---- from bytes to windows
 
@@ -62,7 +62,7 @@ showing_all x windows = with_memory x (with_windows x.memory windows)
 
 -- the bytes of the map are written
 abbrev pub with_map : Expanded → ℕ → ℕ → Expanded
-with_map x segment offset = writing x segment offset (entries x.ems.pages x.memory.windows)
+with_map x segment offset = writing x segment offset (map_entries x.ems.pages x.memory.windows)
 
 -- mode 0 writes the map, 1 sets it, 2 writes it and then sets another, which was read before, and 3 asks how many bytes
 -- a map has

@@ -6,7 +6,7 @@ ghost use Rattle.dm_space.specs.Buffers.{with_bytes};
 ghost use Rattle.dm_ems.specs.Tables.{expanded, is_block, is_of};
 ghost use Rattle.dm_ems.specs.Consistent.{IsConsistent};
 ghost use Rattle.dm_ems.specs.Calls.{answer, left};
-ghost use Rattle.dm_ems_move.specs.Maps.{whole_map, numbers, entry, entries, meant, meant_at, map_at};
+ghost use Rattle.dm_ems_move.specs.Maps.{whole_map, numbers, map_entry, map_entries, meant, meant_at, map_at};
 
 use arrayvec::ArrayVec;
 use dm_ems::{Ems, Page, Status, set_windows};
@@ -59,7 +59,7 @@ fn numbers(pages: &[Page], window: Option<Block>) -> (u16, u16)
 /// Adds the four bytes of a window.
 fn put_entry(bytes: &mut Bytes, numbers: (u16, u16))
     requires { array_vec_len bytes.old + 4 ≤ 16 }
-    ensures items { bytes.new.items ≡ bytes.old.items ++ entry numbers }
+    ensures items { bytes.new.items ≡ bytes.old.items ++ map_entry numbers }
     ensures len { array_vec_len bytes.new ≡ array_vec_len bytes.old + 4 }
 {
     let [low, high] = numbers.0.to_le_bytes();
@@ -73,7 +73,7 @@ fn put_entry(bytes: &mut Bytes, numbers: (u16, u16))
 /// The bytes of the map of what four windows show.
 fn entries(pages: &[Page], windows: [Option<Block>; 4]) -> Bytes
     requires { length pages.now ≤ 512 }
-    ensures { result.items ≡ entries pages.now windows }
+    ensures { result.items ≡ map_entries pages.now windows }
 {
     let [first, second, third, fourth] = windows;
     let mut bytes = ArrayVec::new();
@@ -124,7 +124,7 @@ fn map_at(ems: &Ems, space: &Space, segment: u16, offset: u16) -> Option<[Option
 
 /// Writes the map of what the windows show at segment:offset.
 fn write_map(ems: &Ems, space: &mut Space, segment: u16, offset: u16)
-    ensures { space.new ≡ record space.old { memory = with_bytes space.old.memory segment offset (entries ems.now.pages space.old.memory.windows) } }
+    ensures { space.new ≡ record space.old { memory = with_bytes space.old.memory segment offset (map_entries ems.now.pages space.old.memory.windows) } }
 {
     let bytes = entries(ems.pages(), space.windows());
     space.write_bytes(segment, offset, bytes.as_slice());

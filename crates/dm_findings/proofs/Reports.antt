@@ -5,7 +5,7 @@ use Rattle.std.proofs.lemmas.List.Sums.{sum_by-append}
 use Rattle.std.specs.Prelude.{if◌then◌else◌, cond, count_by, min, ◌^◌, not}
 use Rattle.dm_findings.specs.declared.finding.Found.{Found}
 use Rattle.dm_findings.specs.Findings.{is_an_error}
-use Rattle.dm_findings.specs.Report.{Reported, is_a_note, first_of, counted, report_of}
+use Rattle.dm_findings.specs.Report.{Reported, is_a_note, first_findings, bounded_count, report_of}
 
 -- ---- counts
 
@@ -29,11 +29,11 @@ cons_if false g xs ys zs e = e
 
 -- a finding more is kept where fewer than `most` of its kind, of which there are c, stand before it
 abbrev IsOneMore : ℕ → ℕ → ℕ → List Found → Found → ℕ → Type 0
-IsOneMore most e n fs f c = first_of most e n (fs ++ f ∷ []) ≡ first_of most e n fs ++ kept_if (nat_lt c most) f
+IsOneMore most e n fs f c = first_findings most e n (fs ++ f ∷ []) ≡ first_findings most e n fs ++ kept_if (nat_lt c most) f
 
 by-kind : (most e n c : ℕ) (fs : List Found) (f g : Found) (b : Bool) → is_an_error g ≡ b → (b ≡ true → IsOneMore most (suc e) n fs f c) → (b ≡ false → IsOneMore most e (suc n) fs f c) → IsOneMore most e n (g ∷ fs) f c
-by-kind most e n c fs f g true is h k = rw is (cons_if (nat_lt e most) g (first_of most (suc e) n (fs ++ f ∷ [])) (first_of most (suc e) n fs) (kept_if (nat_lt c most) f) (h refl))
-by-kind most e n c fs f g false is h k = rw is (cons_if (nat_lt n most) g (first_of most e (suc n) (fs ++ f ∷ [])) (first_of most e (suc n) fs) (kept_if (nat_lt c most) f) (k refl))
+by-kind most e n c fs f g true is h k = rw is (cons_if (nat_lt e most) g (first_findings most (suc e) n (fs ++ f ∷ [])) (first_findings most (suc e) n fs) (kept_if (nat_lt c most) f) (h refl))
+by-kind most e n c fs f g false is h k = rw is (cons_if (nat_lt n most) g (first_findings most e (suc n) (fs ++ f ∷ [])) (first_findings most e (suc n) fs) (kept_if (nat_lt c most) f) (k refl))
 
 error-front : (g : Found) (fs : List Found) (c e : ℕ) → c ≡ e + count_by is_an_error (g ∷ fs) → (is_an_error g ≡ true → c ≡ suc e + count_by is_an_error fs) × (is_an_error g ≡ false → c ≡ e + count_by is_an_error fs)
 error-front g fs c e same =
@@ -70,10 +70,10 @@ first-note (g ∷ fs) most e n c f is same =
 abbrev pub most_counted : ℕ
 most_counted = 2 ^ 64 - 1
 
-counted-more : (p : Found → Bool) (fs : List Found) (f : Found) → p f ≡ true → min (counted p fs + 1) most_counted ≡ counted p (fs ++ f ∷ [])
+counted-more : (p : Found → Bool) (fs : List Found) (f : Found) → p f ≡ true → min (bounded_count p fs + 1) most_counted ≡ bounded_count p (fs ++ f ∷ [])
 counted-more p fs f is = let k = count-more p fs f ∙ ap (λ (b : Bool). count_by p fs + one_if b) is in omega (arith, k)
 
-counted-same : (p : Found → Bool) (fs : List Found) (f : Found) → p f ≡ false → counted p fs ≡ counted p (fs ++ f ∷ [])
+counted-same : (p : Found → Bool) (fs : List Found) (f : Found) → p f ≡ false → bounded_count p fs ≡ bounded_count p (fs ++ f ∷ [])
 counted-same p fs f is = let k = count-more p fs f ∙ ap (λ (b : Bool). count_by p fs + one_if b) is in omega (arith, k)
 
 -- whether the number of those before is below 100
@@ -91,9 +91,9 @@ parts r a b c e f g =
 pub error-added : (old new : Reported) (f : Found) (below : Bool) → is_an_error f ≡ true → nat_lt old.errors 100 ≡ below → new.kept ≡ old.kept ++ kept_if below f → new.errors ≡ min (old.errors + 1) most_counted → new.notes ≡ old.notes → (fs : List Found) → old ≡ report_of fs → new ≡ report_of (fs ++ f ∷ [])
 unfolding report_of
 error-added old new f below is test kept errors notes fs e =
-    let k : old.kept ≡ first_of 100 0 0 fs = ap (λ (r : Reported). r.kept) e in
-    let n : old.errors ≡ counted is_an_error fs = ap (λ (r : Reported). r.errors) e in
-    let m : old.notes ≡ counted is_a_note fs = ap (λ (r : Reported). r.notes) e in
+    let k : old.kept ≡ first_findings 100 0 0 fs = ap (λ (r : Reported). r.kept) e in
+    let n : old.errors ≡ bounded_count is_an_error fs = ap (λ (r : Reported). r.errors) e in
+    let m : old.notes ≡ bounded_count is_a_note fs = ap (λ (r : Reported). r.notes) e in
     let there = test-of old.errors (count_by is_an_error fs) below n test in
     let more = first-error fs 100 0 0 (count_by is_an_error fs) f is (omega arith) in
     parts new _ _ _
@@ -105,9 +105,9 @@ error-added old new f below is test kept errors notes fs e =
 pub note-added : (old new : Reported) (f : Found) (below : Bool) → is_an_error f ≡ false → nat_lt old.notes 100 ≡ below → new.kept ≡ old.kept ++ kept_if below f → new.errors ≡ old.errors → new.notes ≡ min (old.notes + 1) most_counted → (fs : List Found) → old ≡ report_of fs → new ≡ report_of (fs ++ f ∷ [])
 unfolding report_of
 note-added old new f below is test kept errors notes fs e =
-    let k : old.kept ≡ first_of 100 0 0 fs = ap (λ (r : Reported). r.kept) e in
-    let n : old.errors ≡ counted is_an_error fs = ap (λ (r : Reported). r.errors) e in
-    let m : old.notes ≡ counted is_a_note fs = ap (λ (r : Reported). r.notes) e in
+    let k : old.kept ≡ first_findings 100 0 0 fs = ap (λ (r : Reported). r.kept) e in
+    let n : old.errors ≡ bounded_count is_an_error fs = ap (λ (r : Reported). r.errors) e in
+    let m : old.notes ≡ bounded_count is_a_note fs = ap (λ (r : Reported). r.notes) e in
     let there = test-of old.notes (count_by is_a_note fs) below m test in
     let more = first-note fs 100 0 0 (count_by is_a_note fs) f is (omega arith) in
     parts new _ _ _

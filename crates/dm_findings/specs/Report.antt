@@ -13,17 +13,17 @@ pub record Reported : Type 0 where
   pub notes : ℕ
 
 -- the findings of which fewer than `most` of their kind stand before them, where so many errors and notes went before
-abbrev pub first_of : ℕ → ℕ → ℕ → List Found → List Found
-first_of most errors notes [] = []
-first_of most errors notes (f ∷ fs) =
+abbrev pub first_findings : ℕ → ℕ → ℕ → List Found → List Found
+first_findings most errors notes [] = []
+first_findings most errors notes (f ∷ fs) =
     if is_an_error f
-    then (if nat_lt errors most then f ∷ first_of most (suc errors) notes fs else first_of most (suc errors) notes fs)
-    else (if nat_lt notes most then f ∷ first_of most errors (suc notes) fs else first_of most errors (suc notes) fs)
+    then (if nat_lt errors most then f ∷ first_findings most (suc errors) notes fs else first_findings most (suc errors) notes fs)
+    else (if nat_lt notes most then f ∷ first_findings most errors (suc notes) fs else first_findings most errors (suc notes) fs)
 
 -- numbers stay at 2^64 - 1
-abbrev pub counted : (Found → Bool) → List Found → ℕ
-counted is fs = min (count_by is fs) (2 ^ 64 - 1)
+abbrev pub bounded_count : (Found → Bool) → List Found → ℕ
+bounded_count is fs = min (count_by is fs) (2 ^ 64 - 1)
 
 -- the report of some findings: the first 100 errors and the first 100 notes, and how many of each there are
 unfoldable pub report_of : List Found → Reported
-report_of fs = record { kept = first_of 100 0 0 fs; errors = counted is_an_error fs; notes = counted is_a_note fs }
+report_of fs = record { kept = first_findings 100 0 0 fs; errors = bounded_count is_an_error fs; notes = bounded_count is_a_note fs }

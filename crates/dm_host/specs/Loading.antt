@@ -7,7 +7,7 @@ use Rattle.dm_debug.specs.Sessions.{new_session}
 use Rattle.dm_host.specs.declared.refusal.Refusal.{Refusal}
 use Rattle.dm_host.specs.declared.refusal.Refusal.TheVariants.{Memory, Started, BadName, TailTooLong, Short}
 use Rattle.dm_host.specs.declared.host.Stage.TheVariants.{Fresh, Loaded, Spent}
-use Rattle.dm_host.specs.Setups.{Prepared, added, IsAddFault, IsFound, IsNoProgram}
+use Rattle.dm_host.specs.Setups.{Prepared, added, IsAddFault, IsLoadable, IsNoProgram}
 use Rattle.dm_host.specs.Hosts.{Hosted, with_stage}
 
 -- programs can be added
@@ -46,7 +46,7 @@ pub data IsUnloaded (h : Hosted) (name tail input : List ℕ) (why : Refusal) (g
   bad_name : IsFresh h → (IsName name → ⊥) → why ≡ BadName → g ≡ h → IsUnloaded h name tail input why g
   long_tail : IsFresh h → IsName name → 126 < length tail → why ≡ TailTooLong → g ≡ h → IsUnloaded h name tail input why g
   no_program : (s : Prepared) → h.stage ≡ Fresh s → IsName name → length tail ≤ 126 → IsNoProgram s name why → g ≡ h → IsUnloaded h name tail input why g
-  no_room : (s : Prepared) (m : State) → h.stage ≡ Fresh s → IsName name → length tail ≤ 126 → IsFound s name → IsMachine s input m → HasNoRoom m name
+  no_room : (s : Prepared) (m : State) → h.stage ≡ Fresh s → IsName name → length tail ≤ 126 → IsLoadable s name → IsMachine s input m → HasNoRoom m name
       → why ≡ Short → g ≡ with_stage h Spent → IsUnloaded h name tail input why g
-  no_memory : (s : Prepared) → h.stage ≡ Fresh s → IsName name → length tail ≤ 126 → IsFound s name → why ≡ Memory → g ≡ with_stage h Spent
+  no_memory : (s : Prepared) → h.stage ≡ Fresh s → IsName name → length tail ≤ 126 → IsLoadable s name → why ≡ Memory → g ≡ with_stage h Spent
       → IsUnloaded h name tail input why g

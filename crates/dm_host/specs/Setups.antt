@@ -32,7 +32,7 @@ IsAddFault s name Memory = IsName name × (has_name s.programs name ≡ false)
 IsAddFault s name _ = ⊥
 
 -- there is a program of this name that can be loaded
-pub record IsFound (s : Prepared) (name : List ℕ) : Type 0 where
+pub record IsLoadable (s : Prepared) (name : List ℕ) : Type 0 where
   pub file : List ℕ
   pub found : program_of s.programs name ≡ Some file
   pub good : IsGood file

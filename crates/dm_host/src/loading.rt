@@ -1,7 +1,7 @@
 //! Adding programs and loading the first one.
 ghost use Rattle.std.specs.Prelude.{◌≡◌, ◌≤◌, ◌⊎◌, OnOk, OnErr, IfOk, IfErr, length};
 ghost use Rattle.dm_proc.specs.Programs.{IsName};
-ghost use Rattle.dm_host.specs.Setups.{IsFound};
+ghost use Rattle.dm_host.specs.Setups.{IsLoadable};
 ghost use Rattle.dm_host.specs.inner.Loading.{IsBegun, IsUnbegun, IsTestedWith};
 ghost use Rattle.dm_host.specs.Loading.{Adds, IsUnadded, Loads, IsUnloaded};
 
@@ -25,7 +25,7 @@ fn begun(
 ) -> Result<Session, Refusal>
     requires name { IsName name.now }
     requires tail { length tail.now ≤ 126 }
-    requires program { IsFound setup name.now }
+    requires program { IsLoadable setup name.now }
     ensures ok { IfOk result (IsBegun setup name.now tail.now input.now) }
     ensures err { IfErr result (IsUnbegun setup name.now input.now) }
 {

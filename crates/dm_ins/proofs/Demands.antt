@@ -18,7 +18,7 @@ use Rattle.dm_ins.specs.declared.demand.Demand.{Demand}
 use Rattle.dm_ins.specs.declared.table.OperandKind.{OperandKind}
 use Rattle.dm_ins.specs.declared.table.OperandKind.TheVariants as is
 use Rattle.dm_ins.specs.Registers.{word_registers, byte_registers, bases, word_number, byte_number, segment_number}
-use Rattle.dm_ins.specs.Spelling.{word, extended, based, register, at_place, SpellsMemory, SpellsFields, Fills}
+use Rattle.dm_ins.specs.Spelling.{word_bytes, sign_extended, based, register, at_place, SpellsMemory, SpellsFields, Fills}
 use Rattle.dm_ins.specs.inner.Search.{rm_of, is_direct, same_width, numbered, asks_data, asks_register, asks_place, as_signed, demand_of, data_bytes, with_displacement, memory_bytes, fields_bytes}
 
 abbrev pub asks_for_register : OperandKind → Bool
@@ -85,10 +85,10 @@ same_itself : (w : Width) → same_width w w ≡ true
 same_itself Byte = refl
 same_itself Word = refl
 
-extended_low : (n : ℕ) → n < 2 ^ 8 → extended n % 256 ≡ n
+extended_low : (n : ℕ) → n < 2 ^ 8 → sign_extended n % 256 ≡ n
 extended_low n h = elim (cases_high n) [ inl e ↦ rw e (omega arith) | inr e ↦ rw e (omega arith) ]
   where
-    cases_high : (n : ℕ) → (extended n ≡ n) ⊎ (extended n ≡ n + 65280)
+    cases_high : (n : ℕ) → (sign_extended n ≡ n) ⊎ (sign_extended n ≡ n + 65280)
     cases_high n = elim (nat_lt n 128) as (λ b. (cond b n (n + 65280) ≡ n) ⊎ (cond b n (n + 65280) ≡ n + 65280)) [ true ↦ inl refl | false ↦ inr refl ]
 
 -- ---- what fills a row asks for the row's bytes
@@ -100,8 +100,8 @@ pub record Asked (k : OperandKind) (m : Fields) (o : Operand) (d : List ℕ) : T
   pub place : demand.place ≡ asked (asks_for_place k) (named_place m.rm m.memory)
   pub tail : data_bytes demand.tail ≡ d
 
-signed_at : (n : ℕ) → n < 2 ^ 8 → as_signed (extended n) ≡ Some (asks_data (data_is.Byte n))
-signed_at n h = rw (extended_low n h) (rw (eq-eqb (extended n) (extended n) refl) refl)
+signed_at : (n : ℕ) → n < 2 ^ 8 → as_signed (sign_extended n) ≡ Some (asks_data (data_is.Byte n))
+signed_at n h = rw (extended_low n h) (rw (eq-eqb (sign_extended n) (sign_extended n) refl) refl)
 
 module _ (m : Fields) (register_fits : m.register < 8) (rm_fits : m.rm < 8) where
   place_asked : (w : Width) (a : Option Address) (o : Operand) → o ≡ at_place w m.rm a → demand_of (is.RegisterOrMemory w) o ≡ Some (asks_place (named_place m.rm a))
@@ -138,11 +138,11 @@ module _ (m : Fields) (register_fits : m.register < 8) (rm_fits : m.rm < 8) wher
 abbrev pub AtMost : List ℕ → List ℕ → Type 0
 AtMost c d = (c ≡ d) ⊎ (length c < length d)
 
-displaced_byte : (r rm n : ℕ) → n < 2 ^ 8 → with_displacement r rm (extended n) ≡ (64 + (8 * r + rm)) ∷ n ∷ []
-displaced_byte r rm n h = rw (extended_low n h) (rw (eq-eqb (extended n) (extended n) refl) refl)
+displaced_byte : (r rm n : ℕ) → n < 2 ^ 8 → with_displacement r rm (sign_extended n) ≡ (64 + (8 * r + rm)) ∷ n ∷ []
+displaced_byte r rm n h = rw (extended_low n h) (rw (eq-eqb (sign_extended n) (sign_extended n) refl) refl)
 
-displaced_word : (r rm n : ℕ) → AtMost (with_displacement r rm n) ((128 + (8 * r + rm)) ∷ word n)
-displaced_word r rm n = elim (eqb_tells (extended (n % 256)) n) [ inl t ↦ rw t.0 (inr (omega arith)) | inr f ↦ rw f.0 (inl refl) ]
+displaced_word : (r rm n : ℕ) → AtMost (with_displacement r rm n) ((128 + (8 * r + rm)) ∷ word_bytes n)
+displaced_word r rm n = elim (eqb_tells (sign_extended (n % 256)) n) [ inl t ↦ rw t.0 (inr (omega arith)) | inr f ↦ rw f.0 (inl refl) ]
 
 -- behind a base with the number rm
 base_least : (r rm n : ℕ) (d : List ℕ) → rm < 8 → 1 < length d → AtMost (with_displacement r rm n) d → AtMost (memory_bytes r (based rm n)) d
@@ -157,14 +157,14 @@ memory_least : (r rm mode : ℕ) (a : Option Address) (d : List ℕ) → rm < 8 
 unfolding fields_bytes
 memory_least r rm mode a d lt (inl h) =
     let e : 8 * r + 6 ≡ 64 * mode + 8 * r + rm = omega (arith, h.0, h.1) in
-    rw (h.4, h.5) (inl (ap (λ (k : ℕ). k ∷ word h.2) e))
+    rw (h.4, h.5) (inl (ap (λ (k : ℕ). k ∷ word_bytes h.2) e))
 memory_least r rm mode a d lt (inr (inl h)) =
     let e : 8 * r + rm ≡ 64 * mode + 8 * r + rm = omega (arith, h.0) in
     let b = base_at rm lt in
     rw (h.2, h.3) (inl (rw (b.1, b.0) (rw (ne_eqb rm 6 h.1) (ap (λ (k : ℕ). k ∷ []) e))))
 memory_least r rm mode a d lt (inr (inr (inl h))) =
     let e : 64 + (8 * r + rm) ≡ 64 * mode + 8 * r + rm = omega (arith, h.0) in
-    rw (h.3, h.4) (base_least r rm (extended h.1) _ lt (omega arith) (inl (displaced_byte r rm h.1 h.2 ∙ ap (λ (k : ℕ). k ∷ h.1 ∷ []) e)))
+    rw (h.3, h.4) (base_least r rm (sign_extended h.1) _ lt (omega arith) (inl (displaced_byte r rm h.1 h.2 ∙ ap (λ (k : ℕ). k ∷ h.1 ∷ []) e)))
 memory_least r rm mode a d lt (inr (inr (inr (inl h)))) =
     let e : 64 * mode + 8 * r + rm ≡ 128 + (8 * r + rm) = omega (arith, h.0) in
     rw (h.3, h.4, e) (base_least r rm h.1 _ lt (omega arith) (displaced_word r rm h.1))

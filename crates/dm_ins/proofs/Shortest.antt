@@ -19,7 +19,7 @@ use Rattle.dm_ins.specs.declared.table.Row.{Row}
 use Rattle.dm_ins.specs.declared.table.Entry.{Entry}
 use Rattle.dm_ins.specs.declared.table.Entry.TheVariants.{Unlisted, Plain, Group, Second}
 use Rattle.dm_ins.specs.Table.{entry_of}
-use Rattle.dm_ins.specs.Spelling.{extended, SpellsMemory, Fills, has_fields, MaySpellFields, HasRow, SpellsAction, prefix_byte, no_prefix, kept, SpellsPrefixed, register, at_place}
+use Rattle.dm_ins.specs.Spelling.{sign_extended, SpellsMemory, Fills, has_fields, MaySpellFields, HasRow, SpellsAction, prefix_byte, no_prefix, kept, SpellsPrefixed, register, at_place}
 use Rattle.dm_ins.specs.Order.{before}
 use Rattle.dm_ins.specs.inner.Search.{OperandFits, IsLeast, CandidateAt, prefix_list, segment_list, lock_list, repeat_list}
 use Rattle.dm_ins.proofs.Order.{not_longer, not_shorter, not_before_append}
@@ -34,7 +34,7 @@ use Rattle.dm_ins.proofs.NoneLeftOut.{choice_fits, none_left_out}
 abbrev MemoryFits : Option Address → Type 0
 MemoryFits o = IfSome o (λ a. a.displacement < 2 ^ 16)
 
-extended_fits : (n : ℕ) → n < 2 ^ 8 → extended n < 2 ^ 16
+extended_fits : (n : ℕ) → n < 2 ^ 8 → sign_extended n < 2 ^ 16
 extended_fits n h = elim (cases_lt n 128) [ inl lt ↦ rw (lt-ltb n 128 lt) (omega arith) | inr le ↦ rw (le-ltb n 128 le) (omega arith) ]
 
 memory_fits : (a : Option Address) (mode rm : ℕ) (d : List ℕ) → SpellsMemory a mode rm d → MemoryFits a

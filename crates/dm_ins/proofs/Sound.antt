@@ -24,7 +24,7 @@ use Rattle.dm_ins.specs.declared.demand.Demand.{Demand}
 use Rattle.dm_ins.specs.declared.table.OperandKind.{OperandKind}
 use Rattle.dm_ins.specs.declared.table.OperandKind.TheVariants as is
 use Rattle.dm_ins.specs.Registers.{word_registers, byte_registers, word_number, byte_number, segment_number}
-use Rattle.dm_ins.specs.Spelling.{word, extended, based, direct, SpellsFields, Fills}
+use Rattle.dm_ins.specs.Spelling.{word_bytes, sign_extended, based, direct, SpellsFields, Fills}
 use Rattle.dm_ins.specs.inner.Search.{OperandFits, rm_of, is_direct, same_width, asks_data, asks_register, asks_place, as_signed, demand_of, data_bytes, with_displacement, memory_bytes, fields_bytes}
 use Rattle.dm_ins.proofs.Demands.{asks_for_register, asks_for_place, asked, named_place, base_at}
 
@@ -97,18 +97,18 @@ place_register : (n : ℕ) (o : Option Address) (k : ℕ) → Some (place.Regist
 place_register n None k e = (refl, cc)
 place_register n (Some b) k e = absurd cc
 
-signed_is : (n : ℕ) (e : Demand) → as_signed n ≡ Some e → (n ≡ extended (n % 256)) × (data_bytes e.tail ≡ n % 256 ∷ [])
+signed_is : (n : ℕ) (e : Demand) → as_signed n ≡ Some e → (n ≡ sign_extended (n % 256)) × (data_bytes e.tail ≡ n % 256 ∷ [])
 signed_is n e h =
-    let c = chosen_true (eqb (extended (n % 256)) n) (asks_data (data_is.Byte (n % 256))) e h in
-    (sym (eqb-true (extended (n % 256)) n c.0), ap (λ (x : Demand). data_bytes x.tail) (sym c.1))
+    let c = chosen_true (eqb (sign_extended (n % 256)) n) (asks_data (data_is.Byte (n % 256))) e h in
+    (sym (eqb-true (sign_extended (n % 256)) n c.0), ap (λ (x : Demand). data_bytes x.tail) (sym c.1))
 
 tail_is : (x e : Demand) → x ≡ e → data_bytes e.tail ≡ data_bytes x.tail
 tail_is x e h = ap (λ (y : Demand). data_bytes y.tail) (sym h)
 
-direct_kind : (w v : Width) (a : Address) (e : Demand) → cond (same_width w v) (cond (is_direct a.base) (Some (asks_data (data_is.Word a.displacement))) None) None ≡ Some e → (w ≡ v) × (a ≡ direct a.displacement) × (data_bytes e.tail ≡ word a.displacement)
+direct_kind : (w v : Width) (a : Address) (e : Demand) → cond (same_width w v) (cond (is_direct a.base) (Some (asks_data (data_is.Word a.displacement))) None) None ≡ Some e → (w ≡ v) × (a ≡ direct a.displacement) × (data_bytes e.tail ≡ word_bytes a.displacement)
 direct_kind w v a e h = by (same_width w v) (is_direct a.base) refl refl h
   where
-    by : (s t : Bool) → same_width w v ≡ s → is_direct a.base ≡ t → cond s (cond t (Some (asks_data (data_is.Word a.displacement))) None) None ≡ Some e → (w ≡ v) × (a ≡ direct a.displacement) × (data_bytes e.tail ≡ word a.displacement)
+    by : (s t : Bool) → same_width w v ≡ s → is_direct a.base ≡ t → cond s (cond t (Some (asks_data (data_is.Word a.displacement))) None) None ≡ Some e → (w ≡ v) × (a ≡ direct a.displacement) × (data_bytes e.tail ≡ word_bytes a.displacement)
     by true true p q h = (same_is w v p, direct_is a q, tail_is _ e (is_some (asks_data (data_is.Word a.displacement)) e h))
     by true false p q h = absurd cc
     by false t p q h = absurd cc
@@ -189,13 +189,13 @@ module _ (m : Fields) (e : Demand) where
 -- ---- fields
 
 displaced_spells : (r rm n : ℕ) → n < 2 ^ 16 → (mode : ℕ) × (d : List ℕ) × (with_displacement r rm n ≡ (64 * mode + 8 * r + rm) ∷ d)
-    × (((mode ≡ 1) × (k : ℕ) × (k < 2 ^ 8) × (n ≡ extended k) × (d ≡ k ∷ [])) ⊎ ((mode ≡ 2) × (d ≡ word n)))
+    × (((mode ≡ 1) × (k : ℕ) × (k < 2 ^ 8) × (n ≡ sign_extended k) × (d ≡ k ∷ [])) ⊎ ((mode ≡ 2) × (d ≡ word_bytes n)))
 displaced_spells r rm n lt =
     let e1 : 64 + (8 * r + rm) ≡ 64 * 1 + 8 * r + rm = omega arith in
     let e2 : 128 + (8 * r + rm) ≡ 64 * 2 + 8 * r + rm = omega arith in
-    elim (eqb_tells (extended (n % 256)) n) [
+    elim (eqb_tells (sign_extended (n % 256)) n) [
       | inl t ↦ (1, n % 256 ∷ [], rw t.0 (ap (λ (k : ℕ). k ∷ n % 256 ∷ []) e1), inl (refl, n % 256, omega arith, sym t.1, refl))
-      | inr f ↦ (2, word n, rw f.0 (ap (λ (k : ℕ). k ∷ word n) e2), inr (refl, refl))
+      | inr f ↦ (2, word_bytes n, rw f.0 (ap (λ (k : ℕ). k ∷ word_bytes n) e2), inr (refl, refl))
     ]
 
 abbrev with_memory : ℕ → ℕ → Address → Fields
@@ -227,7 +227,7 @@ at_base b n = record { base = b; displacement = n }
 address_fields : (r : ℕ) (b : Base) (n : ℕ) → r < 8 → n < 2 ^ 16 → SpellsFields (with_memory r (rm_of b) (at_base b n)) (memory_bytes r (at_base b n))
 address_fields r Direct n rlt lt =
     let e : 8 * r + 6 ≡ 64 * 0 + 8 * r + 6 = omega arith in
-    record { mode = 0; displacement = word n; register_fits = rlt; rm_fits = omega arith; parts = ap (λ (k : ℕ). k ∷ word n) e; spells_memory = inl (refl, refl, n, lt, refl, refl) }
+    record { mode = 0; displacement = word_bytes n; register_fits = rlt; rm_fits = omega arith; parts = ap (λ (k : ℕ). k ∷ word_bytes n) e; spells_memory = inl (refl, refl, n, lt, refl, refl) }
 address_fields r BxSi n rlt lt = based_fields r 0 n rlt (omega arith) lt
 address_fields r BxDi n rlt lt = based_fields r 1 n rlt (omega arith) lt
 address_fields r BpSi n rlt lt = based_fields r 2 n rlt (omega arith) lt
@@ -315,9 +315,9 @@ module _ (e : Demand) where
   demand_shape is.ByteValue _ f h = absurd cc
   demand_shape is.WordValue (operand.WordValue n) f h = by_data is.WordValue _ (is_some (asks_data (data_is.Word n)) e h) refl refl
   demand_shape is.WordValue _ f h = absurd cc
-  demand_shape is.SignedValue (operand.WordValue n) f h = let c = chosen_true (eqb (extended (n % 256)) n) (asks_data (data_is.Byte (n % 256))) e h in by_data is.SignedValue _ c.1 refl refl
+  demand_shape is.SignedValue (operand.WordValue n) f h = let c = chosen_true (eqb (sign_extended (n % 256)) n) (asks_data (data_is.Byte (n % 256))) e h in by_data is.SignedValue _ c.1 refl refl
   demand_shape is.SignedValue _ f h = absurd cc
-  demand_shape is.Short (operand.Target n) f h = let c = chosen_true (eqb (extended (n % 256)) n) (asks_data (data_is.Byte (n % 256))) e h in by_data is.Short _ c.1 refl refl
+  demand_shape is.Short (operand.Target n) f h = let c = chosen_true (eqb (sign_extended (n % 256)) n) (asks_data (data_is.Byte (n % 256))) e h in by_data is.Short _ c.1 refl refl
   demand_shape is.Short _ f h = absurd cc
   demand_shape is.Near (operand.Target n) f h = by_data is.Near _ (is_some (asks_data (data_is.Word n)) e h) refl refl
   demand_shape is.Near _ f h = absurd cc

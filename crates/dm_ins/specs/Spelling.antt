@@ -30,12 +30,12 @@ use Rattle.dm_ins.specs.Table.{entry_of, member_of}
 use Rattle.dm_ins.specs.Registers.{word_registers, byte_registers}
 
 -- a word, the low byte first
-abbrev pub word : ℕ → List ℕ
-word n = n % 256 ∷ n / 256 ∷ []
+abbrev pub word_bytes : ℕ → List ℕ
+word_bytes n = n % 256 ∷ n / 256 ∷ []
 
 -- a byte extended by sign to a word
-abbrev pub extended : ℕ → ℕ
-extended n = if nat_lt n 0x80 then n else n + 0xFF00
+abbrev pub sign_extended : ℕ → ℕ
+sign_extended n = if nat_lt n 0x80 then n else n + 0xFF00
 
 -- ---- prefixes
 
@@ -82,10 +82,10 @@ direct n = record { base = Direct; displacement = n }
 -- a direct address, no displacement, one byte extended by sign, one word, a register
 abbrev pub SpellsMemory : Option Address → ℕ → ℕ → List ℕ → Type 0
 SpellsMemory a mode rm d =
-    ((mode ≡ 0) × (rm ≡ 6) × (n : ℕ) × (n < 2 ^ 16) × (a ≡ Some (direct n)) × (d ≡ word n))
+    ((mode ≡ 0) × (rm ≡ 6) × (n : ℕ) × (n < 2 ^ 16) × (a ≡ Some (direct n)) × (d ≡ word_bytes n))
     ⊎ ((mode ≡ 0) × (rm ≢ 6) × (a ≡ Some (based rm 0)) × (d ≡ []))
-    ⊎ ((mode ≡ 1) × (n : ℕ) × (n < 2 ^ 8) × (a ≡ Some (based rm (extended n))) × (d ≡ n ∷ []))
-    ⊎ ((mode ≡ 2) × (n : ℕ) × (n < 2 ^ 16) × (a ≡ Some (based rm n)) × (d ≡ word n))
+    ⊎ ((mode ≡ 1) × (n : ℕ) × (n < 2 ^ 8) × (a ≡ Some (based rm (sign_extended n))) × (d ≡ n ∷ []))
+    ⊎ ((mode ≡ 2) × (n : ℕ) × (n < 2 ^ 16) × (a ≡ Some (based rm n)) × (d ≡ word_bytes n))
     ⊎ ((mode ≡ 3) × (a ≡ None) × (d ≡ []))
 
 -- the mod r/m byte: the mod field in bits 7 and 6, reg in 5 to 3, r/m in 2 to 0; then the displacement
@@ -117,12 +117,12 @@ Fills (is.RegisterOrMemory w) m o d = (o ≡ at_place w m.rm m.memory) × (d ≡
 Fills (is.Register w) m o d = (o ≡ register w m.register) × (d ≡ [])
 Fills is.Memory m o d = (a : Address) × (m.memory ≡ Some a) × (o ≡ operand.Memory Word a) × (d ≡ [])
 Fills is.ByteValue m o d = (n : ℕ) × (n < 2 ^ 8) × (o ≡ operand.ByteValue n) × (d ≡ n ∷ [])
-Fills is.WordValue m o d = (n : ℕ) × (n < 2 ^ 16) × (o ≡ operand.WordValue n) × (d ≡ word n)
-Fills is.SignedValue m o d = (n : ℕ) × (n < 2 ^ 8) × (o ≡ operand.WordValue (extended n)) × (d ≡ n ∷ [])
-Fills is.Short m o d = (n : ℕ) × (n < 2 ^ 8) × (o ≡ operand.Target (extended n)) × (d ≡ n ∷ [])
-Fills is.Near m o d = (n : ℕ) × (n < 2 ^ 16) × (o ≡ operand.Target n) × (d ≡ word n)
-Fills (is.Direct w) m o d = (n : ℕ) × (n < 2 ^ 16) × (o ≡ operand.Memory w (direct n)) × (d ≡ word n)
-Fills is.Far m o d = (n s : ℕ) × (n < 2 ^ 16) × (s < 2 ^ 16) × (o ≡ operand.FarTarget n s) × (d ≡ word n ++ word s)
+Fills is.WordValue m o d = (n : ℕ) × (n < 2 ^ 16) × (o ≡ operand.WordValue n) × (d ≡ word_bytes n)
+Fills is.SignedValue m o d = (n : ℕ) × (n < 2 ^ 8) × (o ≡ operand.WordValue (sign_extended n)) × (d ≡ n ∷ [])
+Fills is.Short m o d = (n : ℕ) × (n < 2 ^ 8) × (o ≡ operand.Target (sign_extended n)) × (d ≡ n ∷ [])
+Fills is.Near m o d = (n : ℕ) × (n < 2 ^ 16) × (o ≡ operand.Target n) × (d ≡ word_bytes n)
+Fills (is.Direct w) m o d = (n : ℕ) × (n < 2 ^ 16) × (o ≡ operand.Memory w (direct n)) × (d ≡ word_bytes n)
+Fills is.Far m o d = (n s : ℕ) × (n < 2 ^ 16) × (s < 2 ^ 16) × (o ≡ operand.FarTarget n s) × (d ≡ word_bytes n ++ word_bytes s)
 Fills (is.Escape r) m o d = (o ≡ operand.ByteValue (8 * (r % 8) + m.register)) × (d ≡ [])
 Fills (is.Byte r) m o d = (o ≡ operand.ByteRegister r) × (d ≡ [])
 Fills (is.Word r) m o d = (o ≡ operand.WordRegister r) × (d ≡ [])

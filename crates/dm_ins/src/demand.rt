@@ -1,7 +1,7 @@
 //! What an operand asks of an instruction's bytes.
 
 ghost use Rattle.std.specs.Prelude.{◌≡◌, ◌<◌, IfSome, IsSome, IsFalse, None};
-ghost use Rattle.dm_ins.specs.Spelling.{extended};
+ghost use Rattle.dm_ins.specs.Spelling.{sign_extended};
 ghost use Rattle.dm_ins.specs.inner.Search.{DemandFits, OperandFits, as_signed, asks_data, asks_place, asks_register, demand_of, is_direct, numbered, same_width};
 
 use crate::operand::{Address, Base, Operand, Width, extend};

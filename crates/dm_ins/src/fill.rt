@@ -2,7 +2,7 @@
 
 ghost use Rattle.std.specs.Prelude.{◌≡◌, ◌+◌, ◌<◌, ◌≤◌, ◌++◌, IfSome, IsSome, IsFalse, None};
 ghost use Rattle.arrayvec.specs.ArrayVec.{array_vec_len};
-ghost use Rattle.dm_ins.specs.Spelling.{word};
+ghost use Rattle.dm_ins.specs.Spelling.{word_bytes};
 ghost use Rattle.dm_ins.specs.inner.Search.{OperandFits, PlaceFits, behind_bytes, bytes_of, data_bytes, either, fields_bytes, memory_bytes, rm_of, seen_bytes, with_displacement};
 
 use crate::demand::{Data, RegisterOrMemory, demand_for, has_no_base, may_be};
@@ -46,7 +46,7 @@ fn rm_field(base: Base) -> u8
 /// Puts a word, its low byte first.
 fn put_word(out: &mut RowBytes, n: u16)
     requires { array_vec_len out.old + 2 ≤ 12 }
-    ensures items { out.new.items ≡ out.old.items ++ word n }
+    ensures items { out.new.items ≡ out.old.items ++ word_bytes n }
     ensures len { array_vec_len out.new ≡ array_vec_len out.old + 2 }
 {
     out.push((n % 256) as u8);

@@ -2,7 +2,7 @@
 //! (Intel 8086 Family User's Manual, section 2.8, "Addressing Modes").
 
 ghost use Rattle.std.specs.Prelude.{◌≡◌, ◌<◌, slice_index_or};
-ghost use Rattle.dm_ins.specs.Spelling.{extended};
+ghost use Rattle.dm_ins.specs.Spelling.{sign_extended};
 ghost use Rattle.dm_ins.specs.Registers.{bases, byte_registers, word_registers, byte_number, segment_number, word_number};
 
 /// How much of memory, or which half of a register, an operand names.
@@ -187,7 +187,7 @@ pub enum Operand {
 
 /// A byte extended by sign to a word.
 pub fn extend(byte: u8) -> u16
-    ensures { result ≡ extended byte }
+    ensures { result ≡ sign_extended byte }
 {
     if byte < 0x80 {
         byte as u16

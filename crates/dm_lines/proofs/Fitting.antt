@@ -27,9 +27,9 @@ use Rattle.dm_lines.specs.declared.term.Term.TheVariants as term
 use Rattle.dm_lines.specs.declared.statement.Instruction.{Instruction}
 use Rattle.dm_lines.specs.Words.{all_words, spelling_of, meaning_of, keyword_token, reserved}
 use Rattle.dm_lines.specs.Tokens.{uppercase, is_word_byte, digit_of, magnitude_of, number_of, padded_of, or_name, word_token, closed, with_front, then_tokens, marked, inside_quotes, lexed, tokens_of}
-use Rattle.dm_lines.specs.Operands.{minus, amount_of, added_of, plain, value_of, amount_word, base_at, based, onto, is_close, inside, memory_of, far_pointer, from_number, term_of, begin, is_comma, parts, term_pair, terms_of}
+use Rattle.dm_lines.specs.Operands.{minus, amount_of, added_of, plain, parsed_value, amount_word, base_at, based, onto, is_close, inside, memory_of, far_pointer, from_number, term_of, begin, is_comma, parts, term_pair, terms_of}
 use Rattle.dm_lines.specs.Statements as line
-use Rattle.dm_lines.specs.Statements.{Item, Statement, instruction, joined_to, then_list, one, letters, bytes_item, word_items, mnemonic_at, prefixed, exchanges, is_memory, with_terms, operated, action_of, instruction_of, item_of, labelled, statement_of, line_of}
+use Rattle.dm_lines.specs.Statements.{Item, Statement, instruction, joined_to, then_list, list_of_one, letters, bytes_item, word_items, mnemonic_at, prefixed, exchanges, is_memory, with_terms, operated, after_prefixes, instruction_of, item_of, labelled, statement_of, line_of}
 use Rattle.dm_lines.specs.Laws.{AmountFits, TermFits, ItemFits, NumbersFit}
 
 -- a fact of what is there
@@ -166,7 +166,7 @@ plain_fits : (o : Option Amount) → Holds AmountFits o → Holds ValueFits (pla
 plain_fits None h = tt
 plain_fits (Some n) h = h
 
-value_fits : (ts : List Token) → TokensFit ts → Holds ValueFits (value_of ts)
+value_fits : (ts : List Token) → TokensFit ts → Holds ValueFits (parsed_value ts)
 value_fits (t.Name l ∷ ts) h = then_holds AmountFits ValueFits (added_of ts) (λ n. Some (record { label = Some l; amount = n })) (added_fits ts h.1) (λ n k. k)
 value_fits ts h = plain_fits (amount_of ts) (amount_fits ts h)
 
@@ -186,7 +186,7 @@ base_fits (t.Word Bx ∷ ts) h = h.1
 base_fits _ h = tt
 
 based_fits : (s : Size) (o : Option (Base × List Token)) (ts : List Token) → Holds RestFits o → TokensFit ts → Holds TermFits (based s o ts)
-based_fits s None ts h k = then_holds ValueFits TermFits (value_of ts) (λ v. Some (term.Address s v)) (value_fits ts k) (λ v m. m)
+based_fits s None ts h k = then_holds ValueFits TermFits (parsed_value ts) (λ v. Some (term.Address s v)) (value_fits ts k) (λ v m. m)
 based_fits s (Some b) ts h k = then_holds AmountFits TermFits (added_of b.1) _ (added_fits b.1 h) (λ n m. m)
 
 onto_fits : (x : Token) (o : Option (List Token)) → TokenFits x → Holds TokensFit o → Holds TokensFit (onto x o)
@@ -211,7 +211,7 @@ far_fits n ts h k = then_holds AmountFits TermFits (amount_of ts) _ (amount_fits
 number_term_fits : (ts : List Token) → TokensFit ts → Holds TermFits (from_number ts)
 number_term_fits (t.Number n ∷ t.Colon ∷ ts) h = far_fits (Plus n) ts h.0 h.1.1
 number_term_fits (t.Minus ∷ t.Number n ∷ t.Colon ∷ ts) h = then_holds AmountFits TermFits (minus n) _ (minus_fits n h.1.0) (λ m k. far_fits m ts k h.1.1.1)
-number_term_fits ts h = then_holds ValueFits TermFits (value_of ts) (λ v. Some (term.Number v)) (value_fits ts h) (λ v m. m)
+number_term_fits ts h = then_holds ValueFits TermFits (parsed_value ts) (λ v. Some (term.Number v)) (value_fits ts h) (λ v m. m)
 
 term_fits : (ts : List Token) → TokensFit ts → Holds TermFits (term_of ts)
 unfolding term_of
@@ -287,7 +287,7 @@ exchanged_fits p m x y h k = by (if exchanges m then is_memory y else false)
 operated_fits : (p : Prefixes) (ts : List Token) → TokensFit ts → Holds InstructionFits (operated p ts)
 operated_fits p ts h = then_holds RestFits InstructionFits (mnemonic_at ts) _ (mnemonic_fits ts h) (λ m k. then_holds TermsFit InstructionFits (terms_of m.1) _ (terms_fit m.1 k) (λ xs l. exchanged_fits p m.0 xs.0 xs.1 l.0 l.1))
 
-action_fits : (p : Prefixes) (ts : List Token) → TokensFit ts → Holds InstructionFits (action_of p ts)
+action_fits : (p : Prefixes) (ts : List Token) → TokensFit ts → Holds InstructionFits (after_prefixes p ts)
 action_fits p (t.Nop ∷ []) h = (tt, tt)
 action_fits p ts h = operated_fits p ts h
 
@@ -310,7 +310,7 @@ then_list_fits : {A : Type 0} (P : A → Type 0) (o r : Option (List A)) → Hol
 then_list_fits P None r h k = tt
 then_list_fits P (Some xs) r h k = joined_to_fits P xs r h k
 
-one_fits : {A : Type 0} (P : A → Type 0) (o : Option A) → Holds P o → Holds (ListFits P) (one o)
+one_fits : {A : Type 0} (P : A → Type 0) (o : Option A) → Holds P o → Holds (ListFits P) (list_of_one o)
 unfolding ListFits
 one_fits P None h = tt
 one_fits P (Some x) h = (h, tt)
@@ -333,7 +333,7 @@ bytes_fit (p ∷ ps) h = then_list_fits AmountFits (bytes_item p) (line.byte_ite
 words_fit : (ps : List (List Token)) → PartsFit ps → Holds (ListFits ValueFits) (word_items ps)
 unfolding ListFits PartsFit
 words_fit [] h = tt
-words_fit (p ∷ ps) h = then_list_fits ValueFits (one (value_of p)) (word_items ps) (one_fits ValueFits (value_of p) (value_fits p h.0)) (words_fit ps h.1)
+words_fit (p ∷ ps) h = then_list_fits ValueFits (list_of_one (parsed_value p)) (word_items ps) (one_fits ValueFits (parsed_value p) (value_fits p h.0)) (words_fit ps h.1)
 
 item_fits : (ts : List Token) → TokensFit ts → Holds ItemFits (item_of ts)
 unfolding ListFits

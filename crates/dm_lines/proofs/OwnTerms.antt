@@ -17,7 +17,7 @@ use Rattle.dm_lines.specs.declared.term.Amount.{Amount}
 use Rattle.dm_lines.specs.declared.term.Amount.TheVariants.{Plus, Minus}
 use Rattle.dm_lines.specs.declared.term.Value.{Value}
 use Rattle.dm_lines.specs.declared.term.Term.TheVariants as term
-use Rattle.dm_lines.specs.Placing.{displaced, word_from, standing, low_byte_of, byte_of, distance_of, number_at, label_at, numeral_from, numeral_at, written_of, number_outline, label_outline, numeral_without, numeral_outline, word_without, word_outline}
+use Rattle.dm_lines.specs.Placing.{displaced, word_from, standing, low_byte_of, amount_byte, distance_of, number_at, label_at, numeral_from, numeral_at, written_of, number_outline, label_outline, numeral_without, numeral_outline, word_without, word_outline}
 use Rattle.dm_lines.specs.Own.{memory_term}
 use Rattle.dm_lines.specs.Laws.{AmountFits, OwnTermsAreWritten, OutlinesStand}
 
@@ -50,7 +50,7 @@ low_stands m n = by (nat_lt n 256)
     by true = (omega arith, λ _. refl)
     by false = tt
 
-byte_stands : (m : Mnemonic) (n : Amount) → IfSome (byte_of n) (λ b. (amount_word n % 64 < 2 ^ 8) × (is_move m ≡ false → amount_word n % 64 ≡ b % 64))
+byte_stands : (m : Mnemonic) (n : Amount) → IfSome (amount_byte n) (λ b. (amount_word n % 64 < 2 ^ 8) × (is_move m ≡ false → amount_word n % 64 ≡ b % 64))
 byte_stands m (Plus n) = low_stands m n
 byte_stands m (Minus n) = by (nat_le n 128) refl
   where

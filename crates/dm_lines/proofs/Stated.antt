@@ -25,8 +25,8 @@ use Rattle.dm_lines.specs.declared.term.Amount.TheVariants.{Plus}
 use Rattle.dm_lines.specs.declared.term.Term.{Term}
 use Rattle.dm_lines.specs.declared.term.Term.TheVariants as term
 use Rattle.dm_lines.specs.declared.statement.Instruction.{Instruction}
-use Rattle.dm_lines.specs.Operands.{onto, inside, base_at, place_of, memory_of, term_of, is_comma, begin, parts, term_pair, terms_of}
-use Rattle.dm_lines.specs.Statements.{instruction, mnemonic_at, is_memory, exchanges, with_terms, action_of, statement_of}
+use Rattle.dm_lines.specs.Operands.{onto, inside, base_at, memory_operand, memory_of, term_of, is_comma, begin, parts, term_pair, terms_of}
+use Rattle.dm_lines.specs.Statements.{instruction, mnemonic_at, is_memory, exchanges, with_terms, after_prefixes, statement_of}
 use Rattle.dm_lines.specs.Own.{memory_term, own_term, own_statement}
 use Rattle.dm_lines.proofs.Named.{size_tokens, mnemonic_tokens}
 use Rattle.dm_lines.proofs.Again.{base_tokens, displacement_tokens, address_tokens, operand_tokens, second_tokens, operands_tokens, action_tokens, segment_tokens, lock_tokens, repeat_tokens, prefix_tokens}
@@ -42,47 +42,47 @@ zero_or : (n : ℕ) (z : Bool) → (n == 0) ≡ z → (if z then 0 else n) ≡ n
 zero_or n true e = sym (eqb-true n 0 e)
 zero_or n false e = refl
 
-place_read : (s : Size) (b : Base) (n : ℕ) → place_of s (address_tokens b n) ≡ Some (memory_term s b n)
+place_read : (s : Size) (b : Base) (n : ℕ) → memory_operand s (address_tokens b n) ≡ Some (memory_term s b n)
 unfolding base_at
 place_read s Direct n = refl
 place_read s BxSi n = by (n == 0) refl
   where
-    by : (z : Bool) → (n == 0) ≡ z → place_of s (base_tokens BxSi ++ (if z then [] else t.Plus ∷ t.Number n ∷ [])) ≡ Some (term.Memory s BxSi (Plus n))
+    by : (z : Bool) → (n == 0) ≡ z → memory_operand s (base_tokens BxSi ++ (if z then [] else t.Plus ∷ t.Number n ∷ [])) ≡ Some (term.Memory s BxSi (Plus n))
     by true e = ap (λ (k : ℕ). Some (term.Memory s BxSi (Plus k))) (sym (eqb-true n 0 e))
     by false e = refl
 place_read s BxDi n = by (n == 0) refl
   where
-    by : (z : Bool) → (n == 0) ≡ z → place_of s (base_tokens BxDi ++ (if z then [] else t.Plus ∷ t.Number n ∷ [])) ≡ Some (term.Memory s BxDi (Plus n))
+    by : (z : Bool) → (n == 0) ≡ z → memory_operand s (base_tokens BxDi ++ (if z then [] else t.Plus ∷ t.Number n ∷ [])) ≡ Some (term.Memory s BxDi (Plus n))
     by true e = ap (λ (k : ℕ). Some (term.Memory s BxDi (Plus k))) (sym (eqb-true n 0 e))
     by false e = refl
 place_read s BpSi n = by (n == 0) refl
   where
-    by : (z : Bool) → (n == 0) ≡ z → place_of s (base_tokens BpSi ++ (if z then [] else t.Plus ∷ t.Number n ∷ [])) ≡ Some (term.Memory s BpSi (Plus n))
+    by : (z : Bool) → (n == 0) ≡ z → memory_operand s (base_tokens BpSi ++ (if z then [] else t.Plus ∷ t.Number n ∷ [])) ≡ Some (term.Memory s BpSi (Plus n))
     by true e = ap (λ (k : ℕ). Some (term.Memory s BpSi (Plus k))) (sym (eqb-true n 0 e))
     by false e = refl
 place_read s BpDi n = by (n == 0) refl
   where
-    by : (z : Bool) → (n == 0) ≡ z → place_of s (base_tokens BpDi ++ (if z then [] else t.Plus ∷ t.Number n ∷ [])) ≡ Some (term.Memory s BpDi (Plus n))
+    by : (z : Bool) → (n == 0) ≡ z → memory_operand s (base_tokens BpDi ++ (if z then [] else t.Plus ∷ t.Number n ∷ [])) ≡ Some (term.Memory s BpDi (Plus n))
     by true e = ap (λ (k : ℕ). Some (term.Memory s BpDi (Plus k))) (sym (eqb-true n 0 e))
     by false e = refl
 place_read s OnSi n = by (n == 0) refl
   where
-    by : (z : Bool) → (n == 0) ≡ z → place_of s (base_tokens OnSi ++ (if z then [] else t.Plus ∷ t.Number n ∷ [])) ≡ Some (term.Memory s OnSi (Plus n))
+    by : (z : Bool) → (n == 0) ≡ z → memory_operand s (base_tokens OnSi ++ (if z then [] else t.Plus ∷ t.Number n ∷ [])) ≡ Some (term.Memory s OnSi (Plus n))
     by true e = ap (λ (k : ℕ). Some (term.Memory s OnSi (Plus k))) (sym (eqb-true n 0 e))
     by false e = refl
 place_read s OnDi n = by (n == 0) refl
   where
-    by : (z : Bool) → (n == 0) ≡ z → place_of s (base_tokens OnDi ++ (if z then [] else t.Plus ∷ t.Number n ∷ [])) ≡ Some (term.Memory s OnDi (Plus n))
+    by : (z : Bool) → (n == 0) ≡ z → memory_operand s (base_tokens OnDi ++ (if z then [] else t.Plus ∷ t.Number n ∷ [])) ≡ Some (term.Memory s OnDi (Plus n))
     by true e = ap (λ (k : ℕ). Some (term.Memory s OnDi (Plus k))) (sym (eqb-true n 0 e))
     by false e = refl
 place_read s OnBp n = by (n == 0) refl
   where
-    by : (z : Bool) → (n == 0) ≡ z → place_of s (base_tokens OnBp ++ (if z then [] else t.Plus ∷ t.Number n ∷ [])) ≡ Some (term.Memory s OnBp (Plus n))
+    by : (z : Bool) → (n == 0) ≡ z → memory_operand s (base_tokens OnBp ++ (if z then [] else t.Plus ∷ t.Number n ∷ [])) ≡ Some (term.Memory s OnBp (Plus n))
     by true e = ap (λ (k : ℕ). Some (term.Memory s OnBp (Plus k))) (sym (eqb-true n 0 e))
     by false e = refl
 place_read s OnBx n = by (n == 0) refl
   where
-    by : (z : Bool) → (n == 0) ≡ z → place_of s (base_tokens OnBx ++ (if z then [] else t.Plus ∷ t.Number n ∷ [])) ≡ Some (term.Memory s OnBx (Plus n))
+    by : (z : Bool) → (n == 0) ≡ z → memory_operand s (base_tokens OnBx ++ (if z then [] else t.Plus ∷ t.Number n ∷ [])) ≡ Some (term.Memory s OnBx (Plus n))
     by true e = ap (λ (k : ℕ). Some (term.Memory s OnBx (Plus k))) (sym (eqb-true n 0 e))
     by false e = refl
 
@@ -240,10 +240,10 @@ one_word m (t.Short ∷ ts) h = absurd cc
 one_word m (t.Far ∷ ts) h = absurd cc
 one_word m (x ∷ ts) h = refl
 
-word_ends : (p : Prefixes) (m : Mnemonic) (ts : List Token) → plain ts ≡ true → action_of p (t.Mnemonic m ∷ ts) ≡ (terms_of ts >>= λ xs. Some (with_terms p m xs.0 xs.1))
+word_ends : (p : Prefixes) (m : Mnemonic) (ts : List Token) → plain ts ≡ true → after_prefixes p (t.Mnemonic m ∷ ts) ≡ (terms_of ts >>= λ xs. Some (with_terms p m xs.0 xs.1))
 word_ends p m ts h = rw (one_word m ts h) refl
 
-action_read : (p : Prefixes) (m : Mnemonic) (ts : List Token) (x y : Term) → plain ts ≡ true → terms_of ts ≡ Some (x, y) → action_of p (mnemonic_tokens m ++ ts) ≡ Some (with_terms p m x y)
+action_read : (p : Prefixes) (m : Mnemonic) (ts : List Token) (x y : Term) → plain ts ≡ true → terms_of ts ≡ Some (x, y) → after_prefixes p (mnemonic_tokens m ++ ts) ≡ Some (with_terms p m x y)
 action_read p op.CallFar ts x y h e = rw e refl
 action_read p op.JmpFar ts x y h e = rw e refl
 action_read p op.JmpShort ts x y h e = rw e refl
@@ -307,7 +307,7 @@ in_place_read : (p : Prefixes) (a : Action) (next : ℕ) (b : Bool) → b ≡ fa
 in_place_read p a next true h = absurd cc
 in_place_read p a next false h = refl
 
-worded_read : (p : Prefixes) (a : Action) (next : ℕ) → CanBeWritten a next → action_of p (mnemonic_tokens a.mnemonic ++ operands_tokens a next a.first a.second) ≡ Some (own p a next)
+worded_read : (p : Prefixes) (a : Action) (next : ℕ) → CanBeWritten a next → after_prefixes p (mnemonic_tokens a.mnemonic ++ operands_tokens a next a.first a.second) ≡ Some (own p a next)
 unfolding own
 worded_read p a next c =
     let o = operands_read a next a.first a.second c.alone in
@@ -344,10 +344,10 @@ nop_read p a next h =
 
 -- ---- prefixes
 
-line_read : (p : Prefixes) (m : Mnemonic) (ts : List Token) (i : Instruction) → action_of p (t.Mnemonic m ∷ ts) ≡ Some i → statement_of (prefix_tokens p ++ t.Mnemonic m ∷ ts) ≡ Some (record { label = None; item = instruction i })
+line_read : (p : Prefixes) (m : Mnemonic) (ts : List Token) (i : Instruction) → after_prefixes p (t.Mnemonic m ∷ ts) ≡ Some i → statement_of (prefix_tokens p ++ t.Mnemonic m ∷ ts) ≡ Some (record { label = None; item = instruction i })
 line_read p m ts i = by p.segment p.lock p.repeat
   where
-    by : (s : Option SegmentRegister) (l : Bool) (r : Option Repeat) → action_of (record { segment = s; lock = l; repeat = r }) (t.Mnemonic m ∷ ts) ≡ Some i → statement_of (segment_tokens s ++ lock_tokens l ++ repeat_tokens r ++ t.Mnemonic m ∷ ts) ≡ Some (record { label = None; item = instruction i })
+    by : (s : Option SegmentRegister) (l : Bool) (r : Option Repeat) → after_prefixes (record { segment = s; lock = l; repeat = r }) (t.Mnemonic m ∷ ts) ≡ Some i → statement_of (segment_tokens s ++ lock_tokens l ++ repeat_tokens r ++ t.Mnemonic m ∷ ts) ≡ Some (record { label = None; item = instruction i })
     by None false None h = rw h refl
     by None false (Some r) h = rw h refl
     by None true None h = rw h refl
@@ -371,7 +371,7 @@ nop_line p = by p.segment p.lock p.repeat
     by (Some s) true None = refl
     by (Some s) true (Some r) = refl
 
-worded_line : (p : Prefixes) (m : Mnemonic) (ts : List Token) (i : Instruction) → action_of p (mnemonic_tokens m ++ ts) ≡ Some i → statement_of (prefix_tokens p ++ (mnemonic_tokens m ++ ts)) ≡ Some (record { label = None; item = instruction i })
+worded_line : (p : Prefixes) (m : Mnemonic) (ts : List Token) (i : Instruction) → after_prefixes p (mnemonic_tokens m ++ ts) ≡ Some i → statement_of (prefix_tokens p ++ (mnemonic_tokens m ++ ts)) ≡ Some (record { label = None; item = instruction i })
 worded_line p op.CallFar ts i h = line_read p op.Call (t.Far ∷ ts) i h
 worded_line p op.JmpFar ts i h = line_read p op.Jmp (t.Far ∷ ts) i h
 worded_line p op.JmpShort ts i h = line_read p op.Jmp (t.Short ∷ ts) i h

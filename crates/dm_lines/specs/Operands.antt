@@ -40,11 +40,11 @@ plain None = None
 plain (Some n) = Some (record { label = None; amount = n })
 
 -- a number, or a label and what is added to it
-abbrev pub value_of : List Token → Option Value
-value_of (t.Name l ∷ ts) = do
+abbrev pub parsed_value : List Token → Option Value
+parsed_value (t.Name l ∷ ts) = do
   n ← added_of ts
   Some (record { label = Some l; amount = n })
-value_of ts = plain (amount_of ts)
+parsed_value ts = plain (amount_of ts)
 
 -- a number as a word, modulo 10000h
 abbrev pub amount_word : Amount → ℕ
@@ -71,11 +71,11 @@ based s (Some b) ts = do
   n ← added_of b.1
   Some (term.Memory s b.0 n)
 based s None ts = do
-  v ← value_of ts
+  v ← parsed_value ts
   Some (term.Address s v)
 
-abbrev pub place_of : Size → List Token → Option Term
-place_of s ts = based s (base_at ts) ts
+abbrev pub memory_operand : Size → List Token → Option Term
+memory_operand s ts = based s (base_at ts) ts
 
 abbrev pub onto : Token → Option (List Token) → Option (List Token)
 onto t None = None
@@ -94,7 +94,7 @@ inside (t ∷ u ∷ ts) = onto t (inside (u ∷ ts))
 abbrev pub memory_of : Size → List Token → Option Term
 memory_of s ts = do
   inner ← inside ts
-  place_of s inner
+  memory_operand s inner
 
 -- ---- operands
 
@@ -110,7 +110,7 @@ from_number (t.Minus ∷ t.Number n ∷ t.Colon ∷ ts) = do
   segment ← minus n
   far_pointer segment ts
 from_number ts = do
-  v ← value_of ts
+  v ← parsed_value ts
   Some (term.Number v)
 
 unfoldable pub term_of : List Token → Option Term

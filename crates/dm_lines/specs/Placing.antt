@@ -36,9 +36,9 @@ abbrev pub low_byte_of : ℕ → Option ℕ
 low_byte_of n = if nat_lt n 256 then Some n else None
 
 -- a byte is -80h to FFh
-abbrev pub byte_of : Amount → Option ℕ
-byte_of (Plus n) = low_byte_of n
-byte_of (Minus n) = if nat_le n 128 then Some ((256 - n) % 256) else None
+abbrev pub amount_byte : Amount → Option ℕ
+amount_byte (Plus n) = low_byte_of n
+amount_byte (Minus n) = if nat_le n 128 then Some ((256 - n) % 256) else None
 
 -- displacements count modulo 10000h
 abbrev pub distance_of : ℕ → ℕ → ℕ
@@ -51,7 +51,7 @@ is_one_of (Minus n) = false
 -- ---- as each kind of operand
 
 abbrev pub number_at : Amount → ℕ → Numeral
-number_at n next = record { byte = byte_of n; word = Some (amount_word n); distance = distance_of (amount_word n) next; is_one = is_one_of n }
+number_at n next = record { byte = amount_byte n; word = Some (amount_word n); distance = distance_of (amount_word n) next; is_one = is_one_of n }
 
 -- a label is an immediate value of MOV alone
 abbrev pub label_at : Mnemonic → ℕ → ℕ → Numeral

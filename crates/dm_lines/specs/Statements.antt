@@ -22,7 +22,7 @@ use Rattle.dm_lines.specs.declared.statement.Item as Item'
 use Rattle.dm_lines.specs.declared.statement.Item.TheVariants as code
 use Rattle.dm_lines.specs.declared.statement.Statement as Statement'
 use Rattle.dm_lines.specs.Tokens.{tokens_of}
-use Rattle.dm_lines.specs.Operands.{amount_of, value_of, parts, terms_of}
+use Rattle.dm_lines.specs.Operands.{amount_of, parsed_value, parts, terms_of}
 
 -- what stands on a line behind its label
 pub data Item : Type 0 where
@@ -55,9 +55,9 @@ abbrev pub then_list : {A : Type 0} → Option (List A) → Option (List A) → 
 then_list None r = None
 then_list (Some xs) r = joined_to xs r
 
-abbrev pub one : {A : Type 0} → Option A → Option (List A)
-one None = None
-one (Some x) = Some (x ∷ [])
+abbrev pub list_of_one : {A : Type 0} → Option A → Option (List A)
+list_of_one None = None
+list_of_one (Some x) = Some (x ∷ [])
 
 -- the bytes of a text, up to the quote that ends it
 abbrev pub letters : List Token → Option (List Amount)
@@ -68,7 +68,7 @@ letters _ = None
 -- an item of a DB is a text between quotes or a number
 abbrev pub bytes_item : List Token → Option (List Amount)
 bytes_item (t.Quote ∷ ts) = letters ts
-bytes_item ts = one (amount_of ts)
+bytes_item ts = list_of_one (amount_of ts)
 
 abbrev pub byte_items : List (List Token) → Option (List Amount)
 byte_items [] = Some []
@@ -77,7 +77,7 @@ byte_items (p ∷ ps) = then_list (bytes_item p) (byte_items ps)
 -- an item of a DW is a number, or a label and what is added to it
 abbrev pub word_items : List (List Token) → Option (List Value)
 word_items [] = Some []
-word_items (p ∷ ps) = then_list (one (value_of p)) (word_items ps)
+word_items (p ∷ ps) = then_list (list_of_one (parsed_value p)) (word_items ps)
 
 -- ---- instructions
 
@@ -133,14 +133,14 @@ operated p ts = do
   Some (with_terms p m.0 xs.0 xs.1)
 
 -- NOP is XCHG AX,AX
-abbrev pub action_of : Prefixes → List Token → Option Instruction
-action_of p (t.Nop ∷ []) = Some (record { prefixes = p; mnemonic = op.Xchg; first = term.WordRegister Ax; second = term.WordRegister Ax })
-action_of p ts = operated p ts
+abbrev pub after_prefixes : Prefixes → List Token → Option Instruction
+after_prefixes p (t.Nop ∷ []) = Some (record { prefixes = p; mnemonic = op.Xchg; first = term.WordRegister Ax; second = term.WordRegister Ax })
+after_prefixes p ts = operated p ts
 
 abbrev pub instruction_of : List Token → Option Instruction
 instruction_of ts = do
   p ← prefixed no_prefix ts
-  action_of p.0 p.1
+  after_prefixes p.0 p.1
 
 -- ---- lines
 

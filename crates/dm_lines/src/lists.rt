@@ -3,7 +3,7 @@
 ghost use Rattle.std.specs.Prelude.{◌≡◌, ◌<◌, ◌≤◌, ◌+◌, length, option_map, IfSome};
 ghost use Rattle.arrayvec.specs.ArrayVec.{array_vec_len};
 ghost use Rattle.dm_lines.specs.Operands.{amount_of, parts};
-ghost use Rattle.dm_lines.specs.Statements.{joined_to, letters, one, bytes_item, byte_items, word_items};
+ghost use Rattle.dm_lines.specs.Statements.{joined_to, letters, list_of_one, bytes_item, byte_items, word_items};
 
 use crate::operands::{amount, front, value};
 use crate::statement::{Bytes, Words};
@@ -32,7 +32,7 @@ fn put_text(bytes: &mut Bytes, tokens: &[Token]) -> Option<()>
 /// Puts a number.
 fn put_number(bytes: &mut Bytes, tokens: &[Token]) -> Option<()>
     requires { array_vec_len bytes.old + length tokens.now ≤ 255 }
-    ensures items { option_map (λ _. bytes.new.items) result ≡ joined_to bytes.old.items (one (amount_of tokens.now)) }
+    ensures items { option_map (λ _. bytes.new.items) result ≡ joined_to bytes.old.items (list_of_one (amount_of tokens.now)) }
     ensures len { IfSome result (λ _. array_vec_len bytes.new ≤ array_vec_len bytes.old + length tokens.now) }
 {
     let number = amount(tokens)?;

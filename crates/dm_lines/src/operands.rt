@@ -2,7 +2,7 @@
 //! section 2.9).
 
 ghost use Rattle.std.specs.Prelude.{◌≡◌, ◌<◌, ◌≤◌, ◌+◌, ◌∷◌, length, IfSome};
-ghost use Rattle.dm_lines.specs.Operands.{is_close, is_comma, minus, amount_of, added_of, value_of, plain, amount_word, inside, base_at, based, place_of, memory_of, far_pointer, from_number, term_of, parts, term_pair, terms_of};
+ghost use Rattle.dm_lines.specs.Operands.{is_close, is_comma, minus, amount_of, added_of, parsed_value, plain, amount_word, inside, base_at, based, memory_operand, memory_of, far_pointer, from_number, term_of, parts, term_pair, terms_of};
 ghost use Rattle.dm_lines.specs.inner.Operands.{seen, option_now, parts_behind};
 
 use crate::term::{Amount, Term, Value};
@@ -59,7 +59,7 @@ fn number(tokens: &[Token]) -> Option<Value>
 
 /// A number, or a label and what is added to it.
 pub(crate) fn value(tokens: &[Token]) -> Option<Value>
-    ensures value { result ≡ value_of tokens.now }
+    ensures value { result ≡ parsed_value tokens.now }
     ensures some { IfSome result (λ _. 0 < length tokens.now) }
 {
     match tokens {
@@ -146,7 +146,7 @@ fn before_bracket(tokens: &[Token]) -> Option<&[Token]>
 
 /// The memory operand between whose brackets these tokens stand: registers and what is added to them, or a value.
 fn place(size: Size, tokens: &[Token]) -> Option<Term>
-    ensures { result ≡ place_of size tokens.now }
+    ensures { result ≡ memory_operand size tokens.now }
 {
     match base(tokens) {
         Some((base, rest)) => {

@@ -3,7 +3,7 @@
 
 ghost use Rattle.std.specs.Prelude.{◌≡◌};
 ghost use Rattle.dm_words.specs.StandIns.{is_move};
-ghost use Rattle.dm_lines.specs.Placing.{displaced, standing, low_byte_of, byte_of, distance_of, is_one_of, number_at, label_at, numeral_at, written_of, number_outline, label_outline, numeral_outline, word_outline, outline_of};
+ghost use Rattle.dm_lines.specs.Placing.{displaced, standing, low_byte_of, amount_byte, distance_of, is_one_of, number_at, label_at, numeral_at, written_of, number_outline, label_outline, numeral_outline, word_outline, outline_of};
 
 use crate::operands::word;
 use crate::term::{Amount, Term, Value};
@@ -43,7 +43,7 @@ fn low_byte(n: u16) -> Option<u8>
 
 /// The byte that a number is, from -80h to FFh.
 pub fn byte(amount: Amount) -> Option<u8>
-    ensures { result ≡ byte_of amount }
+    ensures { result ≡ amount_byte amount }
 {
     match amount {
         Amount::Plus(n) => low_byte(n),

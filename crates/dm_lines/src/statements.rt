@@ -3,7 +3,7 @@
 ghost use Rattle.std.specs.Prelude.{◌≡◌, ◌<◌, ◌≤◌, length, option_map, IfSome};
 ghost use Rattle.dm_ins.specs.Spelling.{no_prefix};
 ghost use Rattle.dm_lines.specs.inner.Operands.{seen};
-ghost use Rattle.dm_lines.specs.Statements.{seen_item, seen_statement, short_of, far_mnemonic, mnemonic_at, prefixed, is_memory, exchanges, with_terms, operated, action_of, instruction_of, item_of, statement_of, line_of};
+ghost use Rattle.dm_lines.specs.Statements.{seen_item, seen_statement, short_of, far_mnemonic, mnemonic_at, prefixed, is_memory, exchanges, with_terms, operated, after_prefixes, instruction_of, item_of, statement_of, line_of};
 
 use crate::lexing::{Tokens, put_tokens};
 use crate::lists::{put_bytes, put_words};
@@ -132,7 +132,7 @@ fn operated_by(prefixes: Prefixes, tokens: &[Token]) -> Option<Instruction>
 
 /// An instruction behind its prefixes.
 fn action(prefixes: Prefixes, tokens: &[Token]) -> Option<Instruction>
-    ensures { result ≡ action_of prefixes tokens.now }
+    ensures { result ≡ after_prefixes prefixes tokens.now }
 {
     match tokens {
         [Token::Nop] => Some(Instruction {

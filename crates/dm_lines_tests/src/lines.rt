@@ -363,7 +363,7 @@ fn lines_of_a_program(rt: HostRuntime) -> Result<(), Fail> {
     check(&rt, rt.alloc(), PROGRAM)
 }
 
-/// Definitions: dm_lines Operands amount_of added_of value_of minus amount_word
+/// Definitions: dm_lines Operands amount_of added_of parsed_value minus amount_word
 /// Definitions: dm_lines Tokens word_token number_of magnitude_of digit_of padded_of uppercase is_word_byte
 #[test]
 fn numbers_are_decimal_or_hexadecimal(rt: HostRuntime) -> Result<(), Fail> {
@@ -385,7 +385,7 @@ fn mnemonics_have_other_names(rt: HostRuntime) -> Result<(), Fail> {
     check(&rt, rt.alloc(), ALIASES)
 }
 
-/// Definitions: dm_lines Statements instruction_of prefixed action_of operated mnemonic_at short_of far_mnemonic
+/// Definitions: dm_lines Statements instruction_of prefixed after_prefixes operated mnemonic_at short_of far_mnemonic
 #[test]
 fn prefixes_stand_once_in_any_order(rt: HostRuntime) -> Result<(), Fail> {
     check(&rt, rt.alloc(), PREFIXES)
@@ -397,7 +397,7 @@ fn operands_are_registers_and_values(rt: HostRuntime) -> Result<(), Fail> {
     check(&rt, rt.alloc(), OPERANDS)
 }
 
-/// Definitions: dm_lines Operands memory_of place_of base_at inside
+/// Definitions: dm_lines Operands memory_of memory_operand base_at inside
 #[test]
 fn addresses_stand_between_brackets(rt: HostRuntime) -> Result<(), Fail> {
     check(&rt, rt.alloc(), MEMORY)
@@ -409,7 +409,7 @@ fn memory_comes_first_in_exchanges(rt: HostRuntime) -> Result<(), Fail> {
     check(&rt, rt.alloc(), EXCHANGES)
 }
 
-/// Definitions: dm_lines Statements instruction_of prefixed action_of operated mnemonic_at short_of far_mnemonic
+/// Definitions: dm_lines Statements instruction_of prefixed after_prefixes operated mnemonic_at short_of far_mnemonic
 #[test]
 fn jumps_and_calls_have_targets(rt: HostRuntime) -> Result<(), Fail> {
     check(&rt, rt.alloc(), TARGETS)

@@ -18,7 +18,7 @@ use Rattle.dm_state.specs.declared.stop.Stop.TheVariants.{Memory as NoMemory}
 use Rattle.dm_services.specs.declared.services.Service.{Service}
 use Rattle.dm_drivers.specs.declared.drivers.Driver.{Driver}
 use Rattle.dm_drivers.specs.declared.drivers.Driver.TheVariants.{ExpandedMemory, Multiplex, ExtendedMemory}
-use Rattle.dm_drivers.specs.Multiplex.{told}
+use Rattle.dm_drivers.specs.Multiplex.{multiplex_reply}
 use Rattle.dm_drivers.specs.Drivers.{driver_at, driven}
 use Rattle.dm_state.specs.State.{State, Answer, go, with_guest}
 use Rattle.dm_services.specs.Services.{service_at}
@@ -51,7 +51,7 @@ instructs-unseen f u s x (unlisted h e) =
 
 -- INT 2Fh changes registers alone
 multiplex-unseen : (f : Memory → Memory) (u : IsUnseen f) (s : State) → driven (with_change f s) Multiplex ≡ answer_with f (driven s Multiplex)
-multiplex-unseen f u s = ap (λ (g : Guest). go (with_guest s g)) (interrupt_return-unseen f u (guest (told s.cpu) s.memory))
+multiplex-unseen f u s = ap (λ (g : Guest). go (with_guest s g)) (interrupt_return-unseen f u (guest (multiplex_reply s.cpu) s.memory))
 
 drives-unseen : (f : Memory → Memory) (u : IsUnseen f) (s : State) (o : Option Driver) (x : Answer) → IsQuiet o → Drives s o x → Drives (with_change f s) o (answer_with f x)
 drives-unseen f u s (Some ExpandedMemory) x q e = absurd q

@@ -14,7 +14,7 @@ use Rattle.dm_state.specs.State.{State, Answer}
 use Rattle.dm_services.specs.Services.{service_at}
 use Rattle.dm_machine.specs.Step.{MakesStep, Runs, Acts, Drives, Instructs, listed, unlisted, after}
 use Rattle.dm_machine.specs.Run.{Answers, Goes, here, further, IsRun, over, whole, cut}
-use Rattle.dm_machine.specs.Laws.{Follows, none, step_on, run_on, changed, reserved, RoomIsEnoughForRuns, RoomIsEnoughForSteps}
+use Rattle.dm_machine.specs.Laws.{IsHistory, none, step_on, run_on, changed, reserved, RoomIsEnoughForRuns, RoomIsEnoughForSteps}
 use Rattle.dm_machine.proofs.OneRun.{steps-one}
 use Rattle.dm_services.specs.Laws.{limit}
 use Rattle.dm_services.proofs.Rooms.{Keeps, same, by, serves-keep}
@@ -65,7 +65,7 @@ run-keeps s t n stop (cut e w) =
     let last = answers-keep w.before (Some stop) t w.answers in
     omega (arith, before, last)
 
-follows-keep : (s t : State) → Follows s t → limit s.console ≤ limit t.console
+follows-keep : (s t : State) → IsHistory s t → limit s.console ≤ limit t.console
 follows-keep s t none = same _
 follows-keep s t (step_on r u stop f answers) =
     let before = follows-keep s r f in

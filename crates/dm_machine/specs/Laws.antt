@@ -97,12 +97,12 @@ abbrev pub RunLeavesExtended : Type 0
 RunLeavesExtended = (s t : State) (n : ℕ) (stop : Stop) → AreConsistent s → StaysQuiet s n → IsRun s n stop t → LeavesExtended s t
 
 -- steps and runs one after another, and between them changes of memory from outside, and more room
-pub data Follows (s : State) : State → Type 0 where
-  none : Follows s s
-  step_on : (t u : State) (stop : Option Stop) → Follows s t → Answers t stop u → Follows s u
-  run_on : (t u : State) (n : ℕ) (stop : Stop) → Follows s t → IsRun t n stop u → Follows s u
-  changed : (t : State) (memory : Memory) → Follows s t → Follows s (record t { memory = memory })
-  reserved : (t : State) (bytes : ℕ) → Follows s t → Follows s (record t { console = record t.console { room = max t.console.room bytes } })
+pub data IsHistory (s : State) : State → Type 0 where
+  none : IsHistory s s
+  step_on : (t u : State) (stop : Option Stop) → IsHistory s t → Answers t stop u → IsHistory s u
+  run_on : (t u : State) (n : ℕ) (stop : Stop) → IsHistory s t → IsRun t n stop u → IsHistory s u
+  changed : (t : State) (memory : Memory) → IsHistory s t → IsHistory s (record t { memory = memory })
+  reserved : (t : State) (bytes : ℕ) → IsHistory s t → IsHistory s (record t { console = record t.console { room = max t.console.room bytes } })
 
 -- each answer of a step from t leaves more output than so many bytes
 abbrev pub WantsBeyond : ℕ → State → Type 0
@@ -112,10 +112,10 @@ WantsBeyond bytes t = (x : Answer) → MakesStep t x → bytes < length x.state.
 -- stands before a step with which more would have gone out
 abbrev pub RoomIsEnoughForRuns : Type 0
 RoomIsEnoughForRuns =
-    (bytes : ℕ) (s t u : State) (n : ℕ) → bytes ≤ s.console.room → Follows s t → IsRun t n NoMemory u →
+    (bytes : ℕ) (s t u : State) (n : ℕ) → bytes ≤ s.console.room → IsHistory s t → IsRun t n NoMemory u →
     WantsBeyond (length s.console.output + bytes) u
 
 abbrev pub RoomIsEnoughForSteps : Type 0
 RoomIsEnoughForSteps =
-    (bytes : ℕ) (s t u : State) → bytes ≤ s.console.room → Follows s t → Answers t (Some NoMemory) u →
+    (bytes : ℕ) (s t u : State) → bytes ≤ s.console.room → IsHistory s t → Answers t (Some NoMemory) u →
     WantsBeyond (length s.console.output + bytes) u

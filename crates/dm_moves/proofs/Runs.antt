@@ -13,7 +13,7 @@ use Rattle.dm_space.specs.inner.Runs.{with_run}
 use Rattle.dm_space.proofs.Copies.{length-values, values-more, values-part, part-more, none-written, one-more, same-content}
 use Rattle.dm_space.proofs.Places.{peek-place, page-there}
 use Rattle.dm_moves.specs.declared.spans.SpanKind.TheVariants.{Linear, Pages, Single}
-use Rattle.dm_moves.specs.Spans.{Span, spot, place_in, byte_in, bytes_in, stored, span_moved, spans_exchanged, IsInside}
+use Rattle.dm_moves.specs.Spans.{Span, spot, place_in, byte_in, bytes_in, span_written, span_moved, spans_exchanged, IsInside}
 use Rattle.dm_moves.specs.inner.Copying.{read_in, written_out}
 use Rattle.dm_moves.proofs.Inside.{page-of, single-of, inside-shaped}
 use Rattle.dm_moves.proofs.Shapes.{stored-shaped}
@@ -36,7 +36,7 @@ poked : (m : Memory) (a v : ℕ) → poke m a v ≡ with_byte m (place m a) v
 unfolding poke
 poked m a v = refl
 
-stored-linear : (vs : List ℕ) (m : Memory) (r : Span) (k : ℕ) → r.kind ≡ Linear → writes m (r.start + k) vs ≡ stored m r k vs
+stored-linear : (vs : List ℕ) (m : Memory) (r : Span) (k : ℕ) → r.kind ≡ Linear → writes m (r.start + k) vs ≡ span_written m r k vs
 stored-linear [] m r k e = refl
 stored-linear (v ∷ vs) m r k e =
     let next : suc (r.start + k) ≡ r.start + suc k = omega arith in
@@ -59,7 +59,7 @@ block-read m r k p o n run fits = sym (values-part (byte_in m r) k n (page_bytes
 with_contents : Memory → List (List ℕ) → Memory
 with_contents m cs = with_blocks m (record m.blocks { contents = cs })
 
-block-stored : (vs : List ℕ) (m : Memory) (r : Span) (k p o : ℕ) → IsBlockRun r k p o (length vs) → p < length m.blocks.contents → o + length vs ≤ length (page_bytes m p) → stored m r k vs ≡ with_run m (Page p o) (length vs) vs
+block-stored : (vs : List ℕ) (m : Memory) (r : Span) (k p o : ℕ) → IsBlockRun r k p o (length vs) → p < length m.blocks.contents → o + length vs ≤ length (page_bytes m p) → span_written m r k vs ≡ with_run m (Page p o) (length vs) vs
 unfolding with_contents
 block-stored [] m r k p o run live fits = ap (with_contents m) (sym (ap (set m.blocks.contents p) (none-written (page_bytes m p) o) ∙ same-content m.blocks.contents p))
 block-stored (v ∷ vs) m r k p o run live fits =
@@ -73,7 +73,7 @@ block-stored (v ∷ vs) m r k p o run live fits =
     let rest : IsBlockRun r (suc k) p (suc o) (length vs) = λ u i h.
     let e : suc k + i ≡ k + suc i = omega arith in let f : o + suc i ≡ suc o + i = omega arith in
     ap (λ j. place_in u r j) e ∙ run u (suc i) (omega arith) ∙ ap (Page p) f in
-    ap (λ (x : Memory). stored x r (suc k) vs) first
+    ap (λ (x : Memory). span_written x r (suc k) vs) first
     ∙ block-stored vs t r (suc k) p (suc o) rest (omega (arith, length-set cs p (set xs o v), live)) (omega (arith, ap length page, length-set xs o v, fits))
     ∙ ap (λ (ys : List ℕ). with_contents m (set (set cs p (set xs o v)) p (with_part ys (suc o) (length vs) vs))) page
     ∙ ap (with_contents m) (set_twice cs p (set xs o v) (with_part (set xs o v) (suc o) (length vs) vs))
@@ -122,12 +122,12 @@ write-single h r k at n e inside some room = write-block h r k _ _ at n (single-
 
 -- ---- one run after another
 
-stored-more : (xs ys : List ℕ) (m : Memory) (r : Span) (k : ℕ) → stored m r k (xs ++ ys) ≡ stored (stored m r k xs) r (k + length xs) ys
-stored-more [] ys m r k = let e : k ≡ k + 0 = omega arith in ap (λ j. stored m r j ys) e
+stored-more : (xs ys : List ℕ) (m : Memory) (r : Span) (k : ℕ) → span_written m r k (xs ++ ys) ≡ span_written (span_written m r k xs) r (k + length xs) ys
+stored-more [] ys m r k = let e : k ≡ k + 0 = omega arith in ap (λ j. span_written m r j ys) e
 stored-more (x ∷ xs) ys m r k =
     let t = with_byte m (place_in m r k) x in
     let e : suc k + length xs ≡ k + suc (length xs) = omega arith in
-    stored-more xs ys t r (suc k) ∙ ap (λ j. stored (stored t r (suc k) xs) r j ys) e
+    stored-more xs ys t r (suc k) ∙ ap (λ j. span_written (span_written t r (suc k) xs) r j ys) e
 
 pub read-none : (h : Held) (r : Span) (k at : ℕ) → h ≡ read_in h r k at 0
 read-none h r k at = ap (λ (s : List ℕ). record h { scratch = s }) (sym (none-written h.scratch at))
@@ -147,8 +147,8 @@ pub write-more : (h : Held) (r : Span) (at n k : ℕ) → at + n ≤ length h.sc
 write-more h r at n k fits =
     let e : n ≡ 0 + length (part h.scratch at n) = omega (arith, part_length h.scratch at n fits) in
     ap (λ (m : Memory). record h { memory = m })
-    (ap (λ b. stored (stored h.memory r 0 (part h.scratch at n)) r b (part h.scratch (at + n) k)) e
-    ∙ sym (ap (stored h.memory r 0) (part-more h.scratch at n k) ∙ stored-more (part h.scratch at n) (part h.scratch (at + n) k) h.memory r 0))
+    (ap (λ b. span_written (span_written h.memory r 0 (part h.scratch at n)) r b (part h.scratch (at + n) k)) e
+    ∙ sym (ap (span_written h.memory r 0) (part-more h.scratch at n k) ∙ stored-more (part h.scratch at n) (part h.scratch (at + n) k) h.memory r 0))
 
 -- a block of a list
 pub indexed : {xs ys : List ℕ} {i j b : ℕ} → b ≡ get_or xs i b → xs ≡ ys → i ≡ j → j < length ys → b ≡ slice_index ys j
@@ -160,7 +160,7 @@ pub move-done : (h s t : Held) (from to : Span) (n : ℕ) → n ≤ length h.scr
 move-done h s t from to n fits e f =
     let vs = bytes_in h.memory from n in
     ap (λ (x : Held). x.memory) (f ∙ ap (λ (x : Held). written_out x to 0 0 n) e)
-    ∙ ap (stored h.memory to 0) (written h.scratch vs 0 n (length-values (byte_in h.memory from) 0 n) (omega (arith, fits)))
+    ∙ ap (span_written h.memory to 0) (written h.scratch vs 0 n (length-values (byte_in h.memory from) 0 n) (omega (arith, fits)))
 
 -- bytes of one block, written to another or the same
 pub blocks-done : (h : Held) (from to : Span) (p q n : ℕ) → from.kind ≡ Single → to.kind ≡ Single → p ≡ slice_index from.blocks 0 → q ≡ slice_index to.blocks 0 → 0 < n → IsInside h.memory from n → IsInside h.memory to n
@@ -177,7 +177,7 @@ blocks-done h from to p q n e f is js some inside there =
     let back : n ≡ length xs = sym long in
     let live = page-there m.blocks.contents q 0 (omega (arith, in_to, some)) in
     sym (block-stored xs m to 0 q (to.start + 0) (subst (IsBlockRun to 0 q (to.start + 0)) back goes) live (omega (arith, in_to, long)) ∙ ap (λ j. with_run m (Page q (to.start + 0)) j xs) long)
-    ∙ ap (stored m to 0) read
+    ∙ ap (span_written m to 0) read
 
 pub still-inside : (m : Memory) (t u : Held) (to from : Span) (at n len : ℕ) → t.memory ≡ m → u ≡ written_out t to 0 at n → IsInside m from len → IsInside u.memory from len
 still-inside m t u to from at n len e f inside =
@@ -195,5 +195,5 @@ exchange-done h s t u v from to n fits e f g i =
     let second : part both n n ≡ ys = written (with_part h.scratch 0 n xs) ys n n ey room in
     let is : t ≡ record h { scratch = both } = f ∙ ap (λ (x : Held). read_in x to 0 n n) e in
     ap (λ (x : Held). x.memory) (i ∙ ap (λ (x : Held). written_out x from 0 n n) (g ∙ ap (λ (x : Held). written_out x to 0 0 n) is))
-    ∙ ap (λ (ws : List ℕ). stored (stored h.memory to 0 ws) from 0 (part both n n)) first
-    ∙ ap (stored (stored h.memory to 0 xs) from 0) second
+    ∙ ap (λ (ws : List ℕ). span_written (span_written h.memory to 0 ws) from 0 (part both n n)) first
+    ∙ ap (span_written (span_written h.memory to 0 xs) from 0) second

@@ -39,17 +39,17 @@ abbrev pub bytes_in : Memory → Span → ℕ → List ℕ
 bytes_in m r n = values (byte_in m r) 0 n
 
 -- bytes written upwards, the first of them as byte k
-abbrev pub stored : Memory → Span → ℕ → List ℕ → Memory
-stored m r k [] = m
-stored m r k (v ∷ vs) = stored (with_byte m (place_in m r k) v) r (suc k) vs
+abbrev pub span_written : Memory → Span → ℕ → List ℕ → Memory
+span_written m r k [] = m
+span_written m r k (v ∷ vs) = span_written (with_byte m (place_in m r k) v) r (suc k) vs
 
 -- the whole source is read, and then written
 abbrev pub span_moved : Memory → Span → Span → ℕ → Memory
-span_moved m from to n = stored m to 0 (bytes_in m from n)
+span_moved m from to n = span_written m to 0 (bytes_in m from n)
 
 -- both are read, and then each is written where the other was
 abbrev pub spans_exchanged : Memory → Span → Span → ℕ → Memory
-spans_exchanged m from to n = stored (stored m to 0 (bytes_in m from n)) from 0 (bytes_in m to n)
+spans_exchanged m from to n = span_written (span_written m to 0 (bytes_in m from n)) from 0 (bytes_in m to n)
 
 -- ---- where a span of n bytes may lie
 

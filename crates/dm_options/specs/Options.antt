@@ -11,14 +11,14 @@ use Rattle.dm_options.specs.declared.command_line.OptionsError.{OptionsError}
 use Rattle.dm_options.specs.declared.command_line.OptionsError.TheVariants as refusal
 
 -- the text is the decimal numeral n, a `+` before it allowed, of at most k bits
-abbrev pub IsNumber : ℕ → Text → ℕ → Type 0
-IsNumber k text n = IsNumeral 10 (without_leading_plus text)
+abbrev pub IsNumeralWithin : ℕ → Text → ℕ → Type 0
+IsNumeralWithin k text n = IsNumeral 10 (without_leading_plus text)
     × (digits_value 10 (without_leading_plus text) < 2 ^ k)
     × (n ≡ digits_value 10 (without_leading_plus text))
 
 -- the text is there, and is the numeral n
 abbrev pub HasNumber : ℕ → Option Text → ℕ → Type 0
-HasNumber k text n = MatchOption text ⊥ (λ t. IsNumber k t n)
+HasNumber k text n = MatchOption text ⊥ (λ t. IsNumeralWithin k t n)
 
 -- the option is given or not
 pub record IsGiven (text : Option Text) (b : Bool) : Type 0 where

@@ -11,7 +11,7 @@ use Rattle.std.proofs.lemmas.List.{map-set, get_or-set_same, get_or-set_other}
 use Rattle.std.proofs.lemmas.Option.{none-some, same_Some}
 use Rattle.dm_region.specs.Parts.{part, with_part}
 use Rattle.dm_pool.specs.declared.extent.Extent.{Extent}
-use Rattle.dm_pool.specs.Gaps.{overlaps, is_clear, is_free, first_of, lowest, first_empty, next_index}
+use Rattle.dm_pool.specs.Gaps.{overlaps, is_clear, is_free, first_passing, lowest, first_empty, next_index}
 use Rattle.dm_pool.specs.Blocks.{Blocks, content, contents_of, Apart, IsPool, zeros, placed, taken, resized_from, at_base, new_base, resized, fitted, with_content}
 use Rattle.std.specs.List.{refill, length_refill}
 use Rattle.std.proofs.lemmas.List.{length-take, length-drop}
@@ -87,12 +87,12 @@ both_so : (a b : Bool) → (a && b) ≡ true → (a ≡ true) × (b ≡ true)
 both_so true b e = (refl, e)
 both_so false b e = absurd (true≢false (sym e))
 
-choose : (f : ℕ → Bool) (n p q : ℕ) (b : Bool) → f p ≡ b → (if f p then Some p else first_of f n (suc p)) ≡ Some q → (first_of f n (suc p) ≡ Some q → f q ≡ true) → f q ≡ true
-choose f n p q true t e on = ap f (sym (same_Some p q (sym (ap (λ c. if c then Some p else first_of f n (suc p)) t) ∙ e))) ∙ t
-choose f n p q false t e on = on (sym (ap (λ c. if c then Some p else first_of f n (suc p)) t) ∙ e)
+choose : (f : ℕ → Bool) (n p q : ℕ) (b : Bool) → f p ≡ b → (if f p then Some p else first_passing f n (suc p)) ≡ Some q → (first_passing f n (suc p) ≡ Some q → f q ≡ true) → f q ≡ true
+choose f n p q true t e on = ap f (sym (same_Some p q (sym (ap (λ c. if c then Some p else first_passing f n (suc p)) t) ∙ e))) ∙ t
+choose f n p q false t e on = on (sym (ap (λ c. if c then Some p else first_passing f n (suc p)) t) ∙ e)
 
-pub passes : (f : ℕ → Bool) (n p q : ℕ) → first_of f n p ≡ Some q → f q ≡ true
-unfolding first_of
+pub passes : (f : ℕ → Bool) (n p q : ℕ) → first_passing f n p ≡ Some q → f q ≡ true
+unfolding first_passing
 passes f zero p q e = absurd (none-some q e)
 passes f (suc n) p q e = choose f n p q (f p) refl e (passes f n (suc p) q)
 

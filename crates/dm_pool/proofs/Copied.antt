@@ -7,7 +7,7 @@ use Rattle.dm_pool.specs.declared.part.Part.TheVariants.{Low, Scratch, Block}
 use Rattle.dm_pool.specs.Blocks.{Blocks, contents_of, with_content, IsLaid}
 use Rattle.dm_pool.specs.FreeList.{AreBased}
 use Rattle.dm_pool.specs.inner.Order.{Layout, IsToldIn, blocks_in}
-use Rattle.dm_pool.specs.Parts.{HasPart, part_bytes, with_part_bytes, copied}
+use Rattle.dm_pool.specs.Parts.{HasPart, part_bytes, with_part_bytes, part_copied}
 use Rattle.dm_pool.specs.inner.Parts.{IsLaidOut, IsSpan}
 use Rattle.dm_pool.specs.Stored.{Stored}
 use Rattle.dm_pool.specs.inner.Stored.{IsStore, stored, low_part, scratch_part, pool_part}
@@ -108,7 +108,7 @@ module _ (xs : List ℕ) (l : Layout) (s : IsStore xs l) (laid : IsLaid l.units 
     pub copied_store : IsStore copied_bytes l
     copied_store = let h = span_left based q other m b left left_long in subst (λ (ys : List ℕ). IsStore ys l) (sym as_left) h.0
 
-    pub copied_stored : stored copied_bytes l ≡ copied (stored xs l) p from q to len
+    pub copied_stored : stored copied_bytes l ≡ part_copied (stored xs l) p from q to len
     copied_stored =
         let h = span_left based q other m b left left_long in
         ap (λ (ys : List ℕ). stored ys l) as_left ∙ h.1

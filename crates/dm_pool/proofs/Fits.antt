@@ -7,7 +7,7 @@ use Rattle.std.proofs.lemmas.List.Sums.{sum_by-cons}
 use Rattle.dm_pool.specs.declared.extent.Extent.{Extent}
 use Rattle.dm_pool.specs.Gaps.{Run, gaps, free_units, count_fitting}
 use Rattle.dm_pool.specs.inner.Gaps.{AreGaps, first_fit}
-use Rattle.dm_pool.specs.FreeList.{word, AreBased, Spells}
+use Rattle.dm_pool.specs.FreeList.{double_word, AreBased, Spells}
 use Rattle.dm_pool.specs.inner.FreeList.{Tells}
 use Rattle.dm_pool.proofs.Gaps.{past}
 use Rattle.dm_pool.proofs.Maximal.{gaps_are, gaps_are_one}
@@ -32,12 +32,12 @@ pub record Meets (places : List (Option Extent)) (units : ℕ) (bytes : List ℕ
   pub behind : List Run
   pub splits : rest ≡ run ∷ behind
   pub low : run.low ≡ at
-  pub size : word bytes (at * 1024) ≡ run.size
+  pub size : double_word bytes (at * 1024) ≡ run.size
   pub some : 0 < run.size
   pub room : run.low + run.size ≤ units
   pub gaps : AreGaps places units (run.low + run.size) behind
-  pub told : Spells bytes (word bytes (at * 1024 + 4)) behind
-  pub rising : (word bytes (at * 1024 + 4) ≡ 0xFFFFFFFF) ⊎ (at < word bytes (at * 1024 + 4))
+  pub told : Spells bytes (double_word bytes (at * 1024 + 4)) behind
+  pub rising : (double_word bytes (at * 1024 + 4) ≡ 0xFFFFFFFF) ⊎ (at < double_word bytes (at * 1024 + 4))
 
 after_run : (places : List (Option Extent)) (units from : ℕ) (bytes : List ℕ) (low at : ℕ) (gs : List Run) → AreGaps places units from gs → low < from → Spells bytes at gs → (at ≡ 0xFFFFFFFF) ⊎ (low < at)
 after_run places units from bytes low at [] are h told = inl told
@@ -47,20 +47,20 @@ meets_run : (places : List (Option Extent)) (units from : ℕ) (bytes : List ℕ
 meets_run places units from bytes at [] are told ne = absurd (ne told)
 meets_run places units from bytes at (g ∷ gs) are told ne =
     let low : g.low ≡ at = sym told.0 in
-    let link : word bytes (at * 1024 + 4) ≡ word bytes (g.low * 1024 + 4) = ap (λ n. word bytes (n * 1024 + 4)) (sym low) in
-    let behind : Spells bytes (word bytes (at * 1024 + 4)) gs = subst (λ n. Spells bytes n gs) (sym link) told.2 in
+    let link : double_word bytes (at * 1024 + 4) ≡ double_word bytes (g.low * 1024 + 4) = ap (λ n. double_word bytes (n * 1024 + 4)) (sym low) in
+    let behind : Spells bytes (double_word bytes (at * 1024 + 4)) gs = subst (λ n. Spells bytes n gs) (sym link) told.2 in
     let some = are.2 in
     record {
       run = g;
       behind = gs;
       splits = refl;
       low = low;
-      size = ap (λ n. word bytes (n * 1024)) (sym low) ∙ told.1;
+      size = ap (λ n. double_word bytes (n * 1024)) (sym low) ∙ told.1;
       some = some;
       room = are.4;
       gaps = are.6;
       told = behind;
-      rising = after_run places units (g.low + g.size) bytes at (word bytes (at * 1024 + 4)) gs are.6 (omega (arith, low, some)) behind;
+      rising = after_run places units (g.low + g.size) bytes at (double_word bytes (at * 1024 + 4)) gs are.6 (omega (arith, low, some)) behind;
     }
 
 no_run : (places : List (Option Extent)) (units from : ℕ) (bytes : List ℕ) (at : ℕ) (rest : List Run) → AreGaps places units from rest → Spells bytes at rest → at ≡ 0xFFFFFFFF → units < 2 ^ 31 → rest ≡ []
@@ -77,11 +77,11 @@ module _ (places : List (Option Extent)) (units : ℕ) (bytes : List ℕ) (at : 
   pub run_within : ¬ (at ≡ 0xFFFFFFFF) → at < units
   run_within ne = let m = meets ne in omega (arith, m.low, m.some, m.room)
 
-  pub run_falls : ¬ (at ≡ 0xFFFFFFFF) → units < 2 ^ 31 → units - word bytes (at * 1024 + 4) < units - at
+  pub run_falls : ¬ (at ≡ 0xFFFFFFFF) → units < 2 ^ 31 → units - double_word bytes (at * 1024 + 4) < units - at
   run_falls ne small = let h = run_within ne in elim (meets ne).rising [ inl e ↦ omega (arith, e, h, small) | inr r ↦ omega (arith, r, h) ]
 
 -- on to the runs behind
-abbrev pub goes_on : (places : List (Option Extent)) (units : ℕ) (bytes : List ℕ) (at next : ℕ) (rest : List Run) → next ≡ word bytes (at * 1024 + 4) → Meets places units bytes at rest → Passing places units bytes next
+abbrev pub goes_on : (places : List (Option Extent)) (units : ℕ) (bytes : List ℕ) (at next : ℕ) (rest : List Run) → next ≡ double_word bytes (at * 1024 + 4) → Meets places units bytes at rest → Passing places units bytes next
 goes_on places units bytes at next rest e m = record { rest = m.behind; from = m.run.low + m.run.size; gaps = m.gaps; told = subst (λ n. Spells bytes n m.behind) (sym e) m.told }
 
 -- the first run that holds so many units

@@ -6,7 +6,7 @@ use Rattle.std.proofs.Math.Bool.{true≢false}
 use Rattle.std.proofs.lemmas.Bool.Decides.{leb_tells}
 use Rattle.std.specs.Cmp.Derive.{both_true}
 use Rattle.std.proofs.lemmas.Option.{none-some, same_Some}
-use Rattle.dm_pool.specs.Gaps.{overlaps, is_clear, is_free, first_of, lowest, first_empty, next_index, Run}
+use Rattle.dm_pool.specs.Gaps.{overlaps, is_clear, is_free, first_passing, lowest, first_empty, next_index, Run}
 use Rattle.dm_pool.specs.inner.Gaps.{IsCovered, AreGaps, first_fit}
 use Rattle.dm_pool.specs.declared.extent.Extent.{Extent}
 
@@ -48,18 +48,18 @@ same_or_less zero (suc b) h = inr (omega arith)
 same_or_less (suc a) zero h = absurd (omega arith)
 same_or_less (suc a) (suc b) h = elim (same_or_less a b (omega arith)) [ inl e ↦ inl (ap suc e) | inr l ↦ inr (omega arith) ]
 
-pub found : (f : ℕ → Bool) (n p q : ℕ) → p ≤ q → q < p + n → f q ≡ true → ((r : ℕ) → p ≤ r → r < q → f r ≡ false) → first_of f n p ≡ Some q
-unfolding first_of
+pub found : (f : ℕ → Bool) (n p q : ℕ) → p ≤ q → q < p + n → f q ≡ true → ((r : ℕ) → p ≤ r → r < q → f r ≡ false) → first_passing f n p ≡ Some q
+unfolding first_passing
 found f zero p q le lt hit miss = absurd (omega arith)
 found f (suc n) p q le lt hit miss = elim (same_or_less p q le) [
-  | inl e ↦ ap (λ c. if c then Some p else first_of f n (suc p)) (ap f e ∙ hit) ∙ ap Some e
-  | inr l ↦ ap (λ c. if c then Some p else first_of f n (suc p)) (miss p (omega arith) l) ∙ found f n (suc p) q (omega arith) (omega arith) hit (λ r a b. miss r (omega arith) b)
+  | inl e ↦ ap (λ c. if c then Some p else first_passing f n (suc p)) (ap f e ∙ hit) ∙ ap Some e
+  | inr l ↦ ap (λ c. if c then Some p else first_passing f n (suc p)) (miss p (omega arith) l) ∙ found f n (suc p) q (omega arith) (omega arith) hit (λ r a b. miss r (omega arith) b)
 ]
 
-pub not_found : (f : ℕ → Bool) (n p : ℕ) → ((r : ℕ) → p ≤ r → r < p + n → f r ≡ false) → first_of f n p ≡ None
-unfolding first_of
+pub not_found : (f : ℕ → Bool) (n p : ℕ) → ((r : ℕ) → p ≤ r → r < p + n → f r ≡ false) → first_passing f n p ≡ None
+unfolding first_passing
 not_found f zero p miss = refl
-not_found f (suc n) p miss = ap (λ c. if c then Some p else first_of f n (suc p)) (miss p (omega arith) (omega arith)) ∙ not_found f n (suc p) (λ r a b. miss r (omega arith) (omega arith))
+not_found f (suc n) p miss = ap (λ c. if c then Some p else first_passing f n (suc p)) (miss p (omega arith) (omega arith)) ∙ not_found f n (suc p) (λ r a b. miss r (omega arith) (omega arith))
 
 pub free : (bs : List (Option Extent)) (n u p : ℕ) → p + u ≤ n → is_clear bs p u ≡ true → is_free bs n u p ≡ true
 free bs n u p le h = both_true (le-leb (p + u) n le) h

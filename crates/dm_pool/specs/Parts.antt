@@ -25,6 +25,6 @@ with_part_bytes s (Block i) xs = record s { blocks = with_content s.blocks i xs 
 
 -- the store with `len` bytes of one part, from its byte `from` on, copied to the place from byte `to` on of another or
 -- the same
-abbrev pub copied : Stored → Part → ℕ → Part → ℕ → ℕ → Stored
-copied s source from destination to len =
+abbrev pub part_copied : Stored → Part → ℕ → Part → ℕ → ℕ → Stored
+part_copied s source from destination to len =
     with_part_bytes s destination (with_part (part_bytes s destination) to len (part (part_bytes s source) from len))

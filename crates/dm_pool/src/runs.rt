@@ -2,7 +2,7 @@
 //! begins, four bytes each, low byte first; FFFFFFFFh stands for no run.
 ghost use Rattle.std.specs.Prelude.{◌≡◌, ℕ, ◌+◌, ◌-◌, ◌*◌, ◌^◌, ◌<◌, ◌≤◌, length};
 ghost use Rattle.dm_pool.specs.Blocks.{contents_of};
-ghost use Rattle.dm_pool.specs.FreeList.{word};
+ghost use Rattle.dm_pool.specs.FreeList.{double_word};
 ghost use Rattle.dm_pool.specs.inner.FreeList.{IsBelow, IsKeptOutside, Tells};
 ghost use Rattle.dm_pool.specs.Gaps.{lowest, gaps, free_units, largest, count_fitting};
 ghost use Rattle.dm_pool.specs.inner.Order.{IsCut, IsToldIn};
@@ -35,7 +35,7 @@ pub(crate) struct FreeRun {
 /// The run that begins at a unit.
 pub(crate) fn run_at(bytes: &[u8], unit: usize) -> FreeRun
     requires { (unit * 1024 + 8 ≤ length bytes.now) × (unit < 2 ^ 31) }
-    ensures { (result.units ≡ word bytes.now (unit * 1024)) × (result.next ≡ word bytes.now (unit * 1024 + 4)) }
+    ensures { (result.units ≡ double_word bytes.now (unit * 1024)) × (result.next ≡ double_word bytes.now (unit * 1024 + 4)) }
 {
     let at = unit * UNIT;
     FreeRun {
@@ -47,7 +47,7 @@ pub(crate) fn run_at(bytes: &[u8], unit: usize) -> FreeRun
 /// Writes a number into four bytes, low byte first.
 fn write_word(bytes: &mut [u8], at: usize, value: u32)
     requires { at + 4 ≤ length bytes.old }
-    ensures value { word bytes.new at ≡ value }
+    ensures value { double_word bytes.new at ≡ value }
     ensures kept { IsKeptOutside bytes.old at 4 bytes.new }
 {
     LittleEndian::write_u32(&mut bytes[at..at + 4], value);
@@ -56,8 +56,8 @@ fn write_word(bytes: &mut [u8], at: usize, value: u32)
 /// Writes the beginning of the run at a unit.
 fn write_run(bytes: &mut [u8], unit: usize, run: FreeRun)
     requires { (unit * 1024 + 8 ≤ length bytes.old) × (unit < 2 ^ 31) }
-    ensures units { word bytes.new (unit * 1024) ≡ run.units }
-    ensures next { word bytes.new (unit * 1024 + 4) ≡ run.next }
+    ensures units { double_word bytes.new (unit * 1024) ≡ run.units }
+    ensures next { double_word bytes.new (unit * 1024 + 4) ≡ run.next }
     ensures kept { IsKeptOutside bytes.old (unit * 1024) 8 bytes.new }
 {
     let at = unit * UNIT;

@@ -7,7 +7,7 @@ ghost use Rattle.dm_pool.specs.FreeList.{AreBased, Spells};
 ghost use Rattle.dm_pool.specs.Gaps.{gaps, free_units, largest, count_fitting};
 ghost use Rattle.dm_pool.specs.Stored.{zeros_of, units_of, IsTooLarge};
 ghost use Rattle.dm_pool.specs.Lending.{LendsLow, LendsScratch, LendsBlock};
-ghost use Rattle.dm_pool.specs.Parts.{HasPart, part_bytes, copied};
+ghost use Rattle.dm_pool.specs.Parts.{HasPart, part_bytes, part_copied};
 ghost use Rattle.dm_pool.specs.inner.Parts.{IsLaidOut, IsSpan};
 
 use crate::block::Block;
@@ -289,7 +289,7 @@ impl Store {
     pub fn copy(&mut self, source: Part, from: usize, destination: Part, to: usize, len: usize)
         requires source { HasPart self.old source × (from + len ≤ length (part_bytes self.old source)) }
         requires destination { HasPart self.old destination × (to + len ≤ length (part_bytes self.old destination)) }
-        ensures { self.new ≡ copied self.old source from destination to len }
+        ensures { self.new ≡ part_copied self.old source from destination to len }
     {
         self.table.recall();
         let from = start_of(&self.table, source) + from;

@@ -17,7 +17,7 @@ use Rattle.dm_proc.specs.declared.refusal.ExecRefusal.{ExecRefusal}
 use Rattle.dm_proc.specs.declared.refusal.ExecRefusal.TheVariants.{Function, NotFound, BadFormat, Environment, Destroyed, Short}
 use Rattle.dm_proc.specs.declared.refusal.ArenaDestroyed.{ArenaDestroyed}
 use Rattle.dm_proc.specs.Writes.{Write, apply, upwards, block, bytes_from}
-use Rattle.dm_proc.specs.Request.{IsNameAt, Names, NameRefused, pointer_at, tail_at, block_at, Passed, passed, environment_segment, load_segment, relocation_factor}
+use Rattle.dm_proc.specs.Request.{IsNameAt, Names, NameRefused, pointer_at, tail_at, control_block, Passed, passed, environment_segment, load_segment, relocation_factor}
 use Rattle.dm_proc.specs.Environment.{IsEnd, AreVariables, NoVariables}
 use Rattle.dm_proc.specs.Room.{paragraphs, least, most}
 use Rattle.dm_proc.specs.Start.{word_bytes, zeros, start_writes, prefix}
@@ -66,15 +66,15 @@ module _ (up : Bool) where
     tail-unseen m p =
         bytes_from-unseen m p.segment ((p.offset + 1) % 65536) _ ∙ ap (λ b. bytes_from m p.segment ((p.offset + 1) % 65536) (min b 126)) (at-unseen m p.segment p.offset)
 
-    block-unseen : (m : Memory) (p : FarPointer) → block_at (f m) p ≡ block_at m p
-    unfolding block_at
+    block-unseen : (m : Memory) (p : FarPointer) → control_block (f m) p ≡ control_block m p
+    unfolding control_block
     block-unseen m p = bytes_from-unseen m p.segment p.offset 16
 
     passed-unseen : (c : Cpu) (m : Memory) → passed c (f m) ≡ passed c m
     passed-unseen c m = λ i. record {
       tail = (tail-unseen m (pointer_at c (f m) 2) ∙ ap (tail_at m) (pointer-unseen c m 2)) i;
-      first = (block-unseen m (pointer_at c (f m) 6) ∙ ap (block_at m) (pointer-unseen c m 6)) i;
-      second = (block-unseen m (pointer_at c (f m) 10) ∙ ap (block_at m) (pointer-unseen c m 10)) i;
+      first = (block-unseen m (pointer_at c (f m) 6) ∙ ap (control_block m) (pointer-unseen c m 6)) i;
+      second = (block-unseen m (pointer_at c (f m) 10) ∙ ap (control_block m) (pointer-unseen c m 10)) i;
     }
 
     segment-unseen : (m : Memory) (present : ℕ) (c : Cpu) → environment_segment (f m) present c ≡ environment_segment m present c

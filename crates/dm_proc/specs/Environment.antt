@@ -14,12 +14,12 @@ abbrev pub environment : List ℕ → List ℕ → List ℕ
 environment variables name = variables ++ (closing variables ++ (1 ∷ 0 ∷ []) ++ name ++ (0 ∷ []))
 
 -- byte k of a segment
-abbrev pub byte_of : Memory → ℕ → ℕ → ℕ
-byte_of m segment k = peek m (linear m.a20 segment k)
+abbrev pub byte_at_offset : Memory → ℕ → ℕ → ℕ
+byte_at_offset m segment k = peek m (linear m.a20 segment k)
 
 -- an empty string begins at byte k of a segment: a zero with no byte before it, or behind a zero
 abbrev pub IsEnd : Memory → ℕ → ℕ → Type 0
-IsEnd m segment k = (byte_of m segment k ≡ 0) × (0 < k → byte_of m segment (k - 1) ≡ 0)
+IsEnd m segment k = (byte_at_offset m segment k ≡ 0) × (0 < k → byte_at_offset m segment (k - 1) ≡ 0)
 
 -- the variables with their zeros are the first n bytes of a segment: an empty string begins there, and none before
 pub record IsEnvironment (m : Memory) (segment n : ℕ) : Type 0 where

@@ -62,15 +62,15 @@ passed_of a = record { tail = a.tail.items; first = a.first; second = a.second }
 unfoldable pub tail_at : Memory → FarPointer → List ℕ
 tail_at m p = bytes_from m p.segment ((p.offset + 1) % 65536) (min (peek m (linear m.a20 p.segment p.offset)) 126)
 
-unfoldable pub block_at : Memory → FarPointer → List ℕ
-block_at m p = bytes_from m p.segment p.offset 16
+unfoldable pub control_block : Memory → FarPointer → List ℕ
+control_block m p = bytes_from m p.segment p.offset 16
 
 -- the parameter block's far pointers lead to the tail and to both file control blocks
 abbrev pub passed : Cpu → Memory → Passed
 passed c m = record {
   tail = tail_at m (pointer_at c m 2);
-  first = block_at m (pointer_at c m 6);
-  second = block_at m (pointer_at c m 10);
+  first = control_block m (pointer_at c m 6);
+  second = control_block m (pointer_at c m 10);
 }
 
 -- the parameter block's first word is the segment of the environment to be copied; 0 stands for the present process's

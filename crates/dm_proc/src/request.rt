@@ -94,9 +94,9 @@ fn tail_at(space: &Space, pointer: FarPointer) -> ArrayVec<u8, 126>
 }
 
 /// The first 16 bytes of the file control block that a far pointer leads to.
-#[tactic(auto, unfolding(crate::specs::Request::block_at))]
+#[tactic(auto, unfolding(crate::specs::Request::control_block))]
 fn block_at(space: &Space, pointer: FarPointer) -> [u8; 16]
-    ensures { result ≡ Rattle.dm_proc.specs.Request.block_at space.now.memory pointer }
+    ensures { result ≡ Rattle.dm_proc.specs.Request.control_block space.now.memory pointer }
 {
     let mut block = [0; 16];
     for at in 0..16 {

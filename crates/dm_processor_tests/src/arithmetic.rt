@@ -210,7 +210,7 @@ fn quotients_at_the_ends_of_the_range(rt: HostRuntime) {
     }
 }
 
-/// Definitions: dm_alu Adjustments adjusted_value joined low_digit_off high_digit_off decimal_change
+/// Definitions: dm_alu Adjustments adjusted_value word_of_halves low_digit_off high_digit_off decimal_change
 /// flags_after_adjustment after_ascii after_decimal after_accumulator
 #[test]
 fn adjusted_accumulators(rt: HostRuntime) {
@@ -429,7 +429,7 @@ fn checksum_of_adjustments(adjustment: Adjustment) -> u32 {
 // The expected numbers were made by a Python script, digit by digit from the manual's wording. An x86 processor of
 // today in its 32-bit mode gave the same for DAA, AAM and AAD, and for the others too where it does as the 8086 did:
 // without AL over F9h in AAA, under 6 in AAS, and under 6 with adjust set and carry clear in DAS.
-/// Definitions: dm_alu Adjustments adjusted_value joined low_digit_off high_digit_off decimal_change
+/// Definitions: dm_alu Adjustments adjusted_value word_of_halves low_digit_off high_digit_off decimal_change
 /// flags_after_adjustment after_ascii after_decimal after_accumulator
 #[test]
 fn adjustments_of_all_accumulators(rt: HostRuntime) {

@@ -670,7 +670,7 @@ fn word_wraps_at_segment_end(rt: HostRuntime) -> Result<(), Fail> {
     check(&rt, rt.alloc(), WORDS)
 }
 
-/// Definitions: dm_ins Spelling word extended
+/// Definitions: dm_ins Spelling word_bytes sign_extended
 /// Definitions: dm_cpu Operands value_of with_operand with_result address_of far_segment_of
 /// Definitions: dm_exec Moves move_effect moved exchanged pointer_loaded translated byte_extended word_extended
 /// flags_loaded flags_stored input

@@ -26,7 +26,7 @@ fn check(
 
 /// Definitions: dm_ins Ins Spells
 /// Definitions: dm_ins Spelling SpellsAction HasRow MaySpellFields has_fields uses_fields no_fields SpellsFields
-/// Definitions: dm_ins Spelling SpellsMemory based direct word extended
+/// Definitions: dm_ins Spelling SpellsMemory based direct word_bytes sign_extended
 /// Definitions: dm_ins Order before; dm_ins Preferred IsPreferred
 #[test]
 fn encode_gives_the_shortest_and_least(rt: HostRuntime) {

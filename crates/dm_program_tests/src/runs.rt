@@ -84,7 +84,7 @@ fn reserve(machine: &mut Machine, bytes: usize) -> bool
 }
 
 /// Definitions: dm_console Streams Streams; dm_services Text written; dm_services Wanting OrWants MayWant Overflows
-/// Definitions: dm_machine Laws RoomIsEnoughForRuns RoomIsEnoughForSteps WantsBeyond Follows
+/// Definitions: dm_machine Laws RoomIsEnoughForRuns RoomIsEnoughForSteps WantsBeyond IsHistory
 #[test]
 fn output_goes_into_room_made_beforehand(rt: HostRuntime) -> Result<(), Fail> {
     let mut machine = loaded(rt.alloc(), &HELLO, b"")?;
@@ -121,7 +121,7 @@ fn grows(rt: &impl Abort, alloc: Global, room: usize) -> Result<(), Fail> {
 
 /// To be run with each growth refused in turn: a refused room changes nothing.
 /// Definitions: dm_services Wanting OrWants MayWant Overflows; dm_machine Run Answers
-/// Definitions: dm_machine Laws RoomIsEnoughForRuns RoomIsEnoughForSteps WantsBeyond Follows
+/// Definitions: dm_machine Laws RoomIsEnoughForRuns RoomIsEnoughForSteps WantsBeyond IsHistory
 #[test]
 fn refused_growth(rt: HostRuntime) -> Result<(), Fail> {
     for room in [0, 2] {

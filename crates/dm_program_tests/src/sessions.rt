@@ -169,9 +169,9 @@ fn play(rt: &impl Abort, alloc: Global, program: &[u8], rows: &[Row]) -> Result<
     Ok(())
 }
 
-/// Definitions: dm_views Digits two four eight address_text
+/// Definitions: dm_views Digits two_digits four_digits eight_digits address_text
 /// Definitions: dm_views Registers IsRegistersText general special field field_text fields_text
-/// Definitions: dm_debug Sessions new_session Prints
+/// Definitions: dm_debug Sessions new_session Displays
 #[test]
 fn registers_are_told_at_the_start(rt: HostRuntime) -> Result<(), Fail> {
     play(&rt, rt.alloc(), HELLO, &START)

@@ -1,7 +1,7 @@
 -- The names of calls: MS-DOS Programmer's Reference, "System Calls"; LIM EMS 4.0, section 3; XMS 3.0. Numbers that are
 -- no function have none.
 use Rattle.std.specs.Prelude.{ℕ, ◌==◌, if◌then◌else◌, List, [], ◌++◌, codes}
-use Rattle.dm_views.specs.Digits.{two}
+use Rattle.dm_views.specs.Digits.{two_digits}
 use Rattle.dm_findings.specs.declared.calls.Call.{Call}
 use Rattle.dm_findings.specs.declared.calls.Call.TheVariants.{DivideError, Terminate, Dos, ExpandedMemory, Multiplex, ExtendedMemory}
 
@@ -84,7 +84,7 @@ extended_name number =
 abbrev pub call_text : Call → List ℕ
 call_text DivideError = codes "interrupt 0"
 call_text Terminate = codes "INT 20h"
-call_text (Dos number) = codes "INT 21h function " ++ two number ++ codes "h" ++ dos_name number
-call_text (ExpandedMemory number) = codes "INT 67h function " ++ two number ++ codes "h" ++ expanded_name number
+call_text (Dos number) = codes "INT 21h function " ++ two_digits number ++ codes "h" ++ dos_name number
+call_text (ExpandedMemory number) = codes "INT 67h function " ++ two_digits number ++ codes "h" ++ expanded_name number
 call_text Multiplex = codes "INT 2Fh"
-call_text (ExtendedMemory number) = codes "XMS function " ++ two number ++ codes "h" ++ extended_name number
+call_text (ExtendedMemory number) = codes "XMS function " ++ two_digits number ++ codes "h" ++ extended_name number

@@ -1,7 +1,7 @@
 -- The text of a finding. The form is this machine's own.
 use Rattle.std.specs.Prelude.{ℕ, Bool, if◌then◌else◌, List, [], ◌∷◌, ◌++◌, codes, decimal}
 use Rattle.dm_text.specs.Texts.{text_of}
-use Rattle.dm_views.specs.Digits.{two, four, address_text}
+use Rattle.dm_views.specs.Digits.{two_digits, four_digits, address_text}
 use Rattle.dm_findings.specs.declared.finding.Contents.{Contents}
 use Rattle.dm_findings.specs.declared.finding.Act.{Act}
 use Rattle.dm_findings.specs.declared.finding.Act.TheVariants as act
@@ -13,25 +13,25 @@ use Rattle.dm_reports.specs.Names.{call_text}
 
 -- signature, owner and size of a header
 abbrev pub contents_text : Contents → List ℕ
-contents_text c = two c.signature ++ codes " " ++ four c.owner ++ codes " " ++ four c.size
+contents_text c = two_digits c.signature ++ codes " " ++ four_digits c.owner ++ codes " " ++ four_digits c.size
 
 -- a locked block
 abbrev pub lock_text : Bool → List ℕ
 lock_text locked = if locked then codes ", locked" else []
 
 abbrev pub finding_text : Finding → List ℕ
-finding_text (Overwritten at old new) = codes "header at " ++ four at ++ codes " overwritten: " ++ contents_text old ++ codes " became " ++ contents_text new
-finding_text (MappedAway at) = codes "header at " ++ four at ++ codes " mapped away"
-finding_text (Destroyed at) = codes "arena destroyed at " ++ four at
+finding_text (Overwritten at old new) = codes "header at " ++ four_digits at ++ codes " overwritten: " ++ contents_text old ++ codes " became " ++ contents_text new
+finding_text (MappedAway at) = codes "header at " ++ four_digits at ++ codes " mapped away"
+finding_text (Destroyed at) = codes "arena destroyed at " ++ four_digits at
 finding_text Whole = codes "arena whole again"
-finding_text (FreedTwice at) = codes "block at " ++ four at ++ codes " freed twice"
-finding_text (Refused code) = codes "refused with code " ++ two code ++ codes "h"
-finding_text (Short asked largest) = codes "refused with code 08h: " ++ four asked ++ codes "h paragraphs wanted, " ++ four largest ++ codes "h available"
+finding_text (FreedTwice at) = codes "block at " ++ four_digits at ++ codes " freed twice"
+finding_text (Refused code) = codes "refused with code " ++ two_digits code ++ codes "h"
+finding_text (Short asked largest) = codes "refused with code 08h: " ++ four_digits asked ++ codes "h paragraphs wanted, " ++ four_digits largest ++ codes "h available"
 finding_text (PagesKept handle pages) = codes "EMS handle " ++ decimal handle ++ codes ": " ++ decimal pages ++ codes " pages not freed"
 finding_text (MapKept handle) = codes "EMS handle " ++ decimal handle ++ codes ": map not restored"
 finding_text (WindowKept window) = codes "window " ++ decimal window ++ codes " still mapped"
 finding_text (BlockKept handle kib locked) = codes "XMS handle " ++ decimal handle ++ codes ": " ++ decimal kib ++ codes " KiB not freed" ++ lock_text locked
-finding_text (UpperKept at) = codes "upper block at " ++ four at ++ codes " not freed"
+finding_text (UpperKept at) = codes "upper block at " ++ four_digits at ++ codes " not freed"
 finding_text AreaKept = codes "HMA not released"
 finding_text LineKept = codes "A20 left on"
 

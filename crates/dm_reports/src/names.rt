@@ -1,7 +1,7 @@
 //! The names of calls (MS-DOS Programmer's Reference, "System Calls"; LIM EMS 4.0, section 3; XMS 3.0).
 
 ghost use Rattle.std.specs.Prelude.{◌≡◌, ◌++◌, OnOk, codes};
-ghost use Rattle.dm_views.specs.Digits.{two};
+ghost use Rattle.dm_views.specs.Digits.{two_digits};
 ghost use Rattle.dm_reports.specs.Names.{call_text, dos_name, expanded_name, extended_name};
 
 use dm_findings::Call;
@@ -100,7 +100,7 @@ fn extended_name(number: u8) -> &'static [u8]
 
 /// Puts the number of a function in hexadecimal, and its name.
 fn put_function(out: &mut Vec<u8>, number: u8, name: &[u8]) -> Result<(), AllocError>
-    ensures { OnOk result (out.new.items ≡ out.old.items ++ (two number ++ codes "h" ++ name.now)) }
+    ensures { OnOk result (out.new.items ≡ out.old.items ++ (two_digits number ++ codes "h" ++ name.now)) }
 {
     out.extend_from_slice(&byte_digits(number))?;
     out.extend_from_slice(b"h")?;

@@ -3,7 +3,7 @@
 ghost use Rattle.std.specs.Prelude.{◌≡◌, ◌++◌, OnOk, codes, decimal};
 ghost use Rattle.dm_findings.specs.Findings.{is_error};
 ghost use Rattle.dm_text.specs.Texts.{text_of};
-ghost use Rattle.dm_views.specs.Digits.{two, four};
+ghost use Rattle.dm_views.specs.Digits.{two_digits, four_digits};
 ghost use Rattle.dm_reports.specs.Texts.{act_text, contents_text, finding_text, found_line, kind_text, lock_text};
 
 use crate::names::put_call;
@@ -29,7 +29,7 @@ fn put_segment(
     segment: u16,
     after: &[u8],
 ) -> Result<(), AllocError>
-    ensures { OnOk result (out.new.items ≡ out.old.items ++ (before.now ++ four segment ++ after.now)) }
+    ensures { OnOk result (out.new.items ≡ out.old.items ++ (before.now ++ four_digits segment ++ after.now)) }
 {
     out.extend_from_slice(before)?;
     out.extend_from_slice(&word_digits(segment))?;
@@ -61,7 +61,7 @@ fn put_overwritten(
     new: Contents,
 ) -> Result<(), AllocError>
     ensures { OnOk result (out.new.items ≡ out.old.items
-        ++ (codes "header at " ++ four at ++ codes " overwritten: " ++ contents_text old ++ codes " became " ++ contents_text new)) }
+        ++ (codes "header at " ++ four_digits at ++ codes " overwritten: " ++ contents_text old ++ codes " became " ++ contents_text new)) }
 {
     put_segment(out, b"header at ", at, b" overwritten: ")?;
     put_contents(out, old)?;
@@ -71,7 +71,7 @@ fn put_overwritten(
 
 fn put_short(out: &mut Vec<u8>, asked: u16, largest: u16) -> Result<(), AllocError>
     ensures { OnOk result (out.new.items ≡ out.old.items
-        ++ (codes "refused with code 08h: " ++ four asked ++ codes "h paragraphs wanted, " ++ four largest ++ codes "h available")) }
+        ++ (codes "refused with code 08h: " ++ four_digits asked ++ codes "h paragraphs wanted, " ++ four_digits largest ++ codes "h available")) }
 {
     put_segment(
         out,
@@ -84,7 +84,7 @@ fn put_short(out: &mut Vec<u8>, asked: u16, largest: u16) -> Result<(), AllocErr
 }
 
 fn put_refused(out: &mut Vec<u8>, code: u8) -> Result<(), AllocError>
-    ensures { OnOk result (out.new.items ≡ out.old.items ++ (codes "refused with code " ++ two code ++ codes "h")) }
+    ensures { OnOk result (out.new.items ≡ out.old.items ++ (codes "refused with code " ++ two_digits code ++ codes "h")) }
 {
     out.extend_from_slice(b"refused with code ")?;
     out.extend_from_slice(&byte_digits(code))?;

@@ -247,7 +247,7 @@ calls-kept s Keep x a = keeping-kept s x a
 calls-kept s Terminate x a = terminating-kept s 0 x a
 calls-kept s ExitCode x e = by s x _ e (tell_code-kept s)
 calls-kept s Process x e = by s x _ e (tell_process-kept s)
-calls-kept s AllocationStrategy x e = strategy-kept s (strategies.function_of (byte_of s.cpu Al)) x e
+calls-kept s AllocationStrategy x e = strategy-kept s (strategies.subfunction_of (byte_of s.cpu Al)) x e
 calls-kept s Unknown x e = by s x _ e (no_function-kept s)
 
 served-kept : (s : State) (service : Service) (x : Answer) → Serves s service x → Kept s x

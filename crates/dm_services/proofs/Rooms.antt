@@ -226,7 +226,7 @@ calls-keep s Keep x a = keeping-keeps s x a
 calls-keep s Terminate x a = terminating-keeps s 0 x a
 calls-keep s ExitCode x e = by s x _ e (tell_code-keeps s)
 calls-keep s Process x e = by s x _ e (tell_process-keeps s)
-calls-keep s AllocationStrategy x e = strategy-keeps s (strategies.function_of (byte_of s.cpu Al)) x e
+calls-keep s AllocationStrategy x e = strategy-keeps s (strategies.subfunction_of (byte_of s.cpu Al)) x e
 calls-keep s Unknown x e = by s x _ e (no_function-keeps s)
 
 pub serves-keep : (s : State) (service : Service) (x : Answer) → Serves s service x → Keeps s x

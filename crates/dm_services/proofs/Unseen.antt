@@ -186,7 +186,7 @@ calls-unseen f u s Resize x a = record {
   resizes = resizing-unseen s.upper f u s.memory a.memory s.cpu.es s.cpu.bx a.result a.resizes;
   answer = ap (answer_with f) a.answer ∙ sym (settled-unseen f u s a.result a.memory);
 }
-calls-unseen f u s AllocationStrategy x e = strategy-unseen f u s (strategies.function_of (byte_of s.cpu Al)) x e
+calls-unseen f u s AllocationStrategy x e = strategy-unseen f u s (strategies.subfunction_of (byte_of s.cpu Al)) x e
 calls-unseen f u s Terminate x a = terminating-unseen f u s 0 x a
 calls-unseen f u s LoadProgram x a = loading-unseen f u s _ x a
 calls-unseen f u s Exit x a = terminating-unseen f u s _ x a

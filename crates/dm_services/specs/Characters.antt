@@ -58,9 +58,9 @@ unfoldable pub direct_character : State → Answer
 direct_character s = if byte_of s.cpu Dl == 0xFF then poll_character s else write_character s
 
 -- 0Bh: AL = FFh if input is left, else 0
-abbrev pub status_of : List ℕ → ℕ
-status_of [] = 0
-status_of (byte ∷ rest) = 0xFF
+abbrev pub input_status : List ℕ → ℕ
+input_status [] = 0
+input_status (byte ∷ rest) = 0xFF
 
 unfoldable pub check_input : State → Answer
-check_input s = go (interrupt_returned (with_al s (status_of s.console.input)))
+check_input s = go (interrupt_returned (with_al s (input_status s.console.input)))

@@ -75,5 +75,5 @@ Calls s Keep x = Keeping s x
 Calls s Terminate x = Terminating s 0 x
 Calls s ExitCode x = x ≡ tell_code s
 Calls s Process x = x ≡ tell_process s
-Calls s AllocationStrategy x = StrategyCalls s (strategies.function_of (byte_of s.cpu Al)) x
+Calls s AllocationStrategy x = StrategyCalls s (strategies.subfunction_of (byte_of s.cpu Al)) x
 Calls s Unknown x = x ≡ no_function s

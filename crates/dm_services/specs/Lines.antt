@@ -13,8 +13,8 @@ unfoldable pub line_length : List ℕ → Option ℕ
 line_length input = position (λ byte. byte == 0x0D) input
 
 -- what a buffer for m bytes keeps of a line: its first m - 1 bytes other than 0Ah
-unfoldable pub kept : ℕ → List ℕ → List ℕ
-kept m line = take (m - 1) (filter (λ byte. not (byte == 0x0A)) line)
+unfoldable pub kept_bytes : ℕ → List ℕ → List ℕ
+kept_bytes m line = take (m - 1) (filter (λ byte. not (byte == 0x0A)) line)
 
 -- a buffer has the bytes and 0Dh from byte 2 on, and their count (without the 0Dh) in byte 1
 abbrev pub filled : Memory → ℕ → ℕ → List ℕ → Memory
@@ -24,7 +24,7 @@ filled m segment offset bytes =
 -- the line of so many bytes is taken with its 0Dh
 abbrev pub with_line : State → ℕ → ℕ → State
 with_line s m line = record s {
-  memory = filled s.memory s.cpu.ds s.cpu.dx (kept m (take line s.console.input));
+  memory = filled s.memory s.cpu.ds s.cpu.dx (kept_bytes m (take line s.console.input));
   console = record s.console { input = drop (line + 1) s.console.input };
 }
 

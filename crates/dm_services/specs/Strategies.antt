@@ -29,8 +29,8 @@ number_of_fit First = 0
 number_of_fit Best = 1
 number_of_fit Last = 2
 
-abbrev pub number_of : Strategy → ℕ
-number_of strategy = number_of_area strategy.area + number_of_fit strategy.fit
+abbrev pub strategy_number : Strategy → ℕ
+strategy_number strategy = number_of_area strategy.area + number_of_fit strategy.fit
 
 abbrev pub strategy : Fit → Area → Strategy
 strategy fit area = record { fit = fit; area = area }
@@ -55,8 +55,8 @@ strategy_of upper number =
 -- ---- the calls
 
 -- the function that AL names
-abbrev pub function_of : ℕ → StrategyFunction
-function_of number =
+abbrev pub subfunction_of : ℕ → StrategyFunction
+subfunction_of number =
     if number == 0 then TellStrategy else
     if number == 1 then SetStrategy else
     if number == 2 then TellLink else
@@ -67,8 +67,8 @@ abbrev pub unlisted : State → Answer
 unlisted s = answered s (record s.cpu { ax = 1 }) s.memory true
 
 -- AX is the strategy's number
-abbrev pub told : State → Answer
-told s = answered s (record s.cpu { ax = number_of s.strategy }) s.memory false
+abbrev pub strategy_reported : State → Answer
+strategy_reported s = answered s (record s.cpu { ax = strategy_number s.strategy }) s.memory false
 
 -- the strategy is the one with the number in BX, if there is one
 abbrev pub set_to : State → Option Strategy → Answer
@@ -108,7 +108,7 @@ SetsLink None s x = x ≡ unlisted s
 SetsLink (Some on) s x = Linking on s x
 
 abbrev pub StrategyCalls : State → StrategyFunction → Answer → Type 0
-StrategyCalls s TellStrategy x = x ≡ told s
+StrategyCalls s TellStrategy x = x ≡ strategy_reported s
 StrategyCalls s SetStrategy x = x ≡ set_to s (strategy_of s.upper s.cpu.bx)
 StrategyCalls s TellLink x = TellsLink s.upper s x
 StrategyCalls s SetLink x = SetsLink (wanted s.upper s.cpu.bx) s x

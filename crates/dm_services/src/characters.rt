@@ -2,7 +2,7 @@
 //! 07h, 08h and 0Bh). Input and output are redirected byte streams.
 ghost use Rattle.std.specs.Prelude.{◌≡◌, None};
 ghost use Rattle.dm_services.specs.inner.Wanting.{OrMemory};
-ghost use Rattle.dm_services.specs.Characters.{read_character, echo_character, write_character, poll_character, direct_character, check_input, status_of};
+ghost use Rattle.dm_services.specs.Characters.{read_character, echo_character, write_character, poll_character, direct_character, check_input, input_status};
 
 use dm_ins::ByteRegister;
 use dm_state::{Parts, Stop};
@@ -87,7 +87,7 @@ pub(crate) fn direct_character(parts: &mut Parts) -> Option<Stop>
 
 /// What AL tells of the input: FFh where some is left, else 0.
 fn status(parts: &Parts) -> u8
-    ensures { result ≡ status_of parts.now.console.input }
+    ensures { result ≡ input_status parts.now.console.input }
 {
     if parts.console.left() == 0 { 0 } else { 0xFF }
 }

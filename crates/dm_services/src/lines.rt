@@ -2,7 +2,7 @@
 //! Input"). The buffer begins with how many bytes it is for, then comes how many it got.
 ghost use Rattle.std.specs.Prelude.{◌≡◌, ◌<◌, ◌≤◌, IfSome, length};
 ghost use Rattle.dm_services.specs.inner.Wanting.{OrMemory};
-ghost use Rattle.dm_services.specs.Lines.{line_length, kept, read_line};
+ghost use Rattle.dm_services.specs.Lines.{line_length, kept_bytes, read_line};
 
 use arrayvec::ArrayVec;
 use dm_state::{Parts, Stop};
@@ -17,9 +17,9 @@ fn line_length(input: &[u8]) -> Option<usize>
 }
 
 /// What a buffer for `size` bytes keeps of a line: its first `size` - 1 bytes other than 0Ah.
-#[tactic(auto, unfolding(crate::specs::Lines::kept))]
+#[tactic(auto, unfolding(crate::specs::Lines::kept_bytes))]
 fn kept(size: u8, line: &[u8]) -> ArrayVec<u8, 255>
-    ensures items { result.items ≡ kept size line.now }
+    ensures items { result.items ≡ kept_bytes size line.now }
     ensures fits { length result.items ≤ 254 }
 {
     let most = size.saturating_sub(1) as usize;

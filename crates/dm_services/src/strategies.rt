@@ -28,7 +28,7 @@ pub enum StrategyFunction {
 
 /// The function with a number, which calls have in AL.
 fn function_of(number: u8) -> StrategyFunction
-    ensures { result ≡ Strategies.function_of number }
+    ensures { result ≡ Strategies.subfunction_of number }
 {
     match number {
         0 => StrategyFunction::TellStrategy,
@@ -41,7 +41,7 @@ fn function_of(number: u8) -> StrategyFunction
 
 /// The number of a strategy: its fit in the low bits, its area in the high ones.
 fn number_of(strategy: Strategy) -> u16
-    ensures { result ≡ Strategies.number_of strategy }
+    ensures { result ≡ Strategies.strategy_number strategy }
 {
     let area = match strategy.area {
         Area::All => 0,
@@ -114,7 +114,7 @@ fn refuse_number(parts: &mut Parts)
 
 /// AL = 0: AX tells the strategy's number.
 fn tell_strategy(parts: &mut Parts)
-    ensures { parts.new ≡ (Strategies.told parts.old).state }
+    ensures { parts.new ≡ (Strategies.strategy_reported parts.old).state }
 {
     parts.cpu.ax = number_of(parts.strategy);
     answer(parts, false);
@@ -179,7 +179,7 @@ fn set_link(parts: &mut Parts)
 
 /// 58h: tells the allocation strategy or the link with upper memory, or sets one.
 pub(crate) fn allocation_strategy(parts: &mut Parts)
-    ensures { StrategyCalls parts.old (Strategies.function_of (byte_of parts.old.cpu Al)) (record { stop = None; state = parts.new }) }
+    ensures { StrategyCalls parts.old (Strategies.subfunction_of (byte_of parts.old.cpu Al)) (record { stop = None; state = parts.new }) }
 {
     match function_of(parts.cpu.byte(ByteRegister::Al)) {
         StrategyFunction::TellStrategy => tell_strategy(parts),

@@ -160,14 +160,14 @@ E 0:0 00,00| none
 E 0:0 0x| none
 E 0:0 'hi'| none";
 
-/// Definitions: dm_command Commands command_of of_words named alone with_one with_two at_address
+/// Definitions: dm_command Commands command_of of_words command_named alone with_one with_two at_address
 /// Definitions: dm_command Names name_of letter_name pair_name uppercase
 #[test]
 fn each_command_has_its_letters(rt: HostRuntime) -> Result<(), Fail> {
     check(&rt, rt.alloc(), COMMANDS)
 }
 
-/// Definitions: dm_command Commands command_of of_words named alone with_one with_two at_address
+/// Definitions: dm_command Commands command_of of_words command_named alone with_one with_two at_address
 /// Definitions: dm_command Names name_of letter_name pair_name uppercase; dm_command Words words_of words_behind ended
 #[test]
 fn spaces_part_words(rt: HostRuntime) -> Result<(), Fail> {
@@ -181,7 +181,7 @@ fn numbers_are_hexadecimal(rt: HostRuntime) -> Result<(), Fail> {
     check(&rt, rt.alloc(), NUMBERS)
 }
 
-/// Definitions: dm_command Numbers number_of digits_of up_to word_from_digits address_of parts_of
+/// Definitions: dm_command Numbers number_of digits_of up_to word_from_digits logical_address parts_of
 #[test]
 fn addresses_are_two_words(rt: HostRuntime) -> Result<(), Fail> {
     check(&rt, rt.alloc(), ADDRESSES)

@@ -371,7 +371,7 @@ fn scratch_byte(space: &Space, at: usize) -> Option<u8> {
     space.scratch().get(at).copied()
 }
 
-/// Definitions: dm_pool Parts HasPart part_bytes with_part_bytes copied
+/// Definitions: dm_pool Parts HasPart part_bytes with_part_bytes part_copied
 /// Definitions: dm_space Copies reads writes values copied_in copied_out
 #[test]
 fn bytes_are_copied_in_across_borders(rt: HostRuntime) -> Result<(), Fail> {
@@ -432,7 +432,7 @@ fn bytes_are_copied_in_across_borders(rt: HostRuntime) -> Result<(), Fail> {
     Ok(())
 }
 
-/// Definitions: dm_pool Parts HasPart part_bytes with_part_bytes copied
+/// Definitions: dm_pool Parts HasPart part_bytes with_part_bytes part_copied
 /// Definitions: dm_space Copies reads writes values copied_in copied_out
 #[test]
 fn bytes_are_copied_out_across_borders(rt: HostRuntime) -> Result<(), Fail> {

@@ -6,10 +6,10 @@ use Rattle.dm_blocks.specs.declared.header.Header.{Header}
 use Rattle.dm_blocks.specs.declared.header.Entry.{Entry}
 use Rattle.dm_blocks.specs.Chain.{first_header, link_header, signature, is_parted, IsArenaBehind}
 use Rattle.dm_blocks.specs.Listing.{Leads, Follows}
-use Rattle.dm_views.specs.Digits.{four}
+use Rattle.dm_views.specs.Digits.{four_digits}
 
 abbrev pub header_line : ℕ → Header → List ℕ
-header_line signed b = four b.segment ++ (32 ∷ signed ∷ 32 ∷ []) ++ four b.owner ++ codes " " ++ four b.size ++ 10 ∷ []
+header_line signed b = four_digits b.segment ++ (32 ∷ signed ∷ 32 ∷ []) ++ four_digits b.owner ++ codes " " ++ four_digits b.size ++ 10 ∷ []
 
 -- the lines of a whole list: the last header is signed `Z`
 abbrev pub list_text : List Header → List ℕ
@@ -25,7 +25,7 @@ abbrev pub end_line : List ℕ
 end_line = codes "end" ++ 10 ∷ []
 
 abbrev pub destroyed_line : ℕ → List ℕ
-destroyed_line segment = codes "destroyed at " ++ four segment ++ 10 ∷ []
+destroyed_line segment = codes "destroyed at " ++ four_digits segment ++ 10 ∷ []
 
 -- what stands before the second list
 abbrev pub unlinked_line : List ℕ

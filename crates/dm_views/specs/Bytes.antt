@@ -2,28 +2,28 @@
 -- Source: MS-DOS User's Reference, "DEBUG" (Dump). The form is this machine's own.
 use Rattle.std.specs.Prelude.{ℕ, ◌+◌, ◌-◌, ◌*◌, ◌/◌, ◌&&◌, min, nat_le, if◌then◌else◌, List, [], ◌∷◌, ◌++◌, codes}
 use Rattle.dm_space.specs.Memory.{Memory}
-use Rattle.dm_views.specs.Digits.{two, address_text, numbered}
+use Rattle.dm_views.specs.Digits.{two_digits, address_text, in_turn}
 use Rattle.dm_cpu.specs.Guest.{up}
 use Rattle.dm_space.specs.EightBytes.{byte_after}
 
 -- what can be printed is told as it is, all else as a point
-abbrev pub shown : ℕ → ℕ
-shown b = if nat_le 0x20 b && nat_le b 0x7E then b else 46
+abbrev pub printable : ℕ → ℕ
+printable b = if nat_le 0x20 b && nat_le b 0x7E then b else 46
 
 abbrev pub in_digits : Memory → ℕ → ℕ → ℕ → List ℕ
-in_digits m segment offset k = codes " " ++ two (byte_after m segment offset k)
+in_digits m segment offset k = codes " " ++ two_digits (byte_after m segment offset k)
 
 abbrev pub as_text : Memory → ℕ → ℕ → ℕ → List ℕ
-as_text m segment offset k = shown (byte_after m segment offset k) ∷ []
+as_text m segment offset k = printable (byte_after m segment offset k) ∷ []
 
 -- the line of so many bytes from segment:offset on
 abbrev pub line_text : Memory → ℕ → ℕ → ℕ → List ℕ
 line_text m segment offset count =
-    address_text segment offset ++ numbered (in_digits m segment offset) count ++ codes "  " ++ numbered (as_text m segment offset) count ++ 10 ∷ []
+    address_text segment offset ++ in_turn (in_digits m segment offset) count ++ codes "  " ++ in_turn (as_text m segment offset) count ++ 10 ∷ []
 
 -- line j of so many bytes: 16 of them, and in the last line what is left
 abbrev pub line_at : Memory → ℕ → ℕ → ℕ → ℕ → List ℕ
 line_at m segment offset count j = line_text m segment (up offset (16 * j)) (min 16 (count - 16 * j))
 
 abbrev pub bytes_text : Memory → ℕ → ℕ → ℕ → List ℕ
-bytes_text m segment offset count = numbered (line_at m segment offset count) ((count + 15) / 16)
+bytes_text m segment offset count = in_turn (line_at m segment offset count) ((count + 15) / 16)

@@ -9,15 +9,15 @@ use Rattle.dm_ins.specs.declared.ins.Ins.{Ins}
 use Rattle.dm_ins.specs.Ins.{BeginsWith}
 use Rattle.dm_cpu.specs.Guest.{up}
 use Rattle.dm_text.specs.Texts.{text_of}
-use Rattle.dm_views.specs.Digits.{two, address_text}
+use Rattle.dm_views.specs.Digits.{two_digits, address_text}
 
 -- the line of an instruction with these bytes, where the next one stands at an offset
 abbrev pub listed_line : ℕ → ℕ → List ℕ → Ins → ℕ → List ℕ
-listed_line segment offset bytes i next = address_text segment offset ++ codes " " ++ flat_map two bytes ++ codes " " ++ text_of i next ++ 10 ∷ []
+listed_line segment offset bytes i next = address_text segment offset ++ codes " " ++ flat_map two_digits bytes ++ codes " " ++ text_of i next ++ 10 ∷ []
 
 -- the line of a byte that begins no instruction
 abbrev pub unlisted_line : ℕ → ℕ → ℕ → List ℕ
-unlisted_line segment offset byte = address_text segment offset ++ codes " " ++ two byte ++ codes " DB" ++ 10 ∷ []
+unlisted_line segment offset byte = address_text segment offset ++ codes " " ++ two_digits byte ++ codes " DB" ++ 10 ∷ []
 
 -- the line of the k bytes at segment:offset: of an instruction that stands there, or of a byte with which none begins
 pub data IsLine (m : Memory) (segment offset : ℕ) : ℕ → List ℕ → Type 0 where

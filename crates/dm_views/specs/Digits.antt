@@ -3,20 +3,20 @@
 use Rattle.std.specs.Prelude.{ℕ, zero, suc, ◌/◌, ◌%◌, List, [], ◌∷◌, ◌++◌, codes}
 use Rattle.dm_text.specs.Pieces.{digit}
 
-unfoldable pub two : ℕ → List ℕ
-two n = digit (n / 16) ∷ digit (n % 16) ∷ []
+unfoldable pub two_digits : ℕ → List ℕ
+two_digits n = digit (n / 16) ∷ digit (n % 16) ∷ []
 
-unfoldable pub four : ℕ → List ℕ
-four n = digit (n / 4096) ∷ digit (n / 256 % 16) ∷ digit (n / 16 % 16) ∷ digit (n % 16) ∷ []
+unfoldable pub four_digits : ℕ → List ℕ
+four_digits n = digit (n / 4096) ∷ digit (n / 256 % 16) ∷ digit (n / 16 % 16) ∷ digit (n % 16) ∷ []
 
 -- of a number below 2^32
-unfoldable pub eight : ℕ → List ℕ
-eight n = four (n / 65536 % 65536) ++ four (n % 65536)
+unfoldable pub eight_digits : ℕ → List ℕ
+eight_digits n = four_digits (n / 65536 % 65536) ++ four_digits (n % 65536)
 
 abbrev pub address_text : ℕ → ℕ → List ℕ
-address_text segment offset = four segment ++ codes ":" ++ four offset
+address_text segment offset = four_digits segment ++ codes ":" ++ four_digits offset
 
 -- the texts of the numbers below n, one after the other
-unfoldable pub numbered : (ℕ → List ℕ) → ℕ → List ℕ
-numbered f zero = []
-numbered f (suc n) = numbered f n ++ f n
+unfoldable pub in_turn : (ℕ → List ℕ) → ℕ → List ℕ
+in_turn f zero = []
+in_turn f (suc n) = in_turn f n ++ f n

@@ -7,11 +7,11 @@ use Rattle.dm_xms.specs.declared.tables.Upper.{Upper}
 use Rattle.dm_xms.specs.Tables.{Tables}
 use Rattle.dm_xms.specs.Calls.{slot}
 use Rattle.dm_xms.specs.Blocks.{address}
-use Rattle.dm_views.specs.Digits.{two, four, eight, numbered}
+use Rattle.dm_views.specs.Digits.{two_digits, four_digits, eight_digits, in_turn}
 
 -- handle, linear address, KiB, locks
 abbrev pub block_line : ℕ → ℕ → ℕ → ℕ → List ℕ
-block_line number base kib locks = four number ++ codes " " ++ eight base ++ codes " " ++ four kib ++ codes " " ++ two locks ++ 10 ∷ []
+block_line number base kib locks = four_digits number ++ codes " " ++ eight_digits base ++ codes " " ++ four_digits kib ++ codes " " ++ two_digits locks ++ 10 ∷ []
 
 -- nothing for a handle that is not in use
 abbrev pub if_used : Memory → ℕ → Option Handle → List ℕ
@@ -25,7 +25,7 @@ block_text xms m before = if_used m (before + 1) (slot xms (before + 1))
 -- segment and paragraphs of an upper memory block, if there is one
 abbrev pub upper_line : Option Upper → List ℕ
 upper_line None = []
-upper_line (Some u) = codes "upper " ++ four u.segment ++ codes " " ++ four u.paragraphs ++ 10 ∷ []
+upper_line (Some u) = codes "upper " ++ four_digits u.segment ++ codes " " ++ four_digits u.paragraphs ++ 10 ∷ []
 
 -- the line of upper memory block k
 abbrev pub upper_text : Tables → ℕ → List ℕ
@@ -37,4 +37,4 @@ switches_text on taken = (if on then codes "A20 on" else codes "A20 off") ++ (if
 
 -- there are 64 handles, and at most 64 upper memory blocks
 abbrev pub extended_text : Tables → Memory → List ℕ
-extended_text xms m = numbered (block_text xms m) 64 ++ numbered (upper_text xms) 64 ++ switches_text m.a20 xms.area
+extended_text xms m = in_turn (block_text xms m) 64 ++ in_turn (upper_text xms) 64 ++ switches_text m.a20 xms.area

@@ -7,13 +7,13 @@ use Rattle.dm_text.specs.Pieces.{digit}
 use Rattle.dm_ems.specs.declared.readers.Holding.{Holding}
 use Rattle.dm_ems.specs.Tables.{Tables}
 use Rattle.dm_ems.specs.Readers.{holding, page_shown}
-use Rattle.dm_views.specs.Digits.{two, four, numbered}
+use Rattle.dm_views.specs.Digits.{two_digits, four_digits, in_turn}
 
 -- ---- handles
 
 -- number, pages, and the bytes of the name
 abbrev pub holding_text : ℕ → Holding → List ℕ
-holding_text number h = four number ++ codes " " ++ four h.pages ++ codes " " ++ flat_map two h.name ++ 10 ∷ []
+holding_text number h = four_digits number ++ codes " " ++ four_digits h.pages ++ codes " " ++ flat_map two_digits h.name ++ 10 ∷ []
 
 -- nothing for a handle that is not in use
 abbrev pub if_used : ℕ → Option Holding → List ℕ
@@ -29,7 +29,7 @@ handle_text ems number = if_used number (holding ems number)
 -- the handle and the page that a window shows
 abbrev pub shown_text : Option (ℕ × ℕ) → List ℕ
 shown_text None = codes "none" ++ 10 ∷ []
-shown_text (Some n) = four n.0 ++ codes " " ++ four n.1 ++ 10 ∷ []
+shown_text (Some n) = four_digits n.0 ++ codes " " ++ four_digits n.1 ++ 10 ∷ []
 
 abbrev pub window_line : ℕ → Option (ℕ × ℕ) → List ℕ
 window_line number page = codes "window " ++ (digit number ∷ 32 ∷ []) ++ shown_text page
@@ -41,4 +41,4 @@ window_text ems m number = window_line number (page_shown ems m number)
 -- ---- all of it
 
 abbrev pub pages_text : Tables → Memory → List ℕ
-pages_text ems m = numbered (handle_text ems) 64 ++ numbered (window_text ems m) 4
+pages_text ems m = in_turn (handle_text ems) 64 ++ in_turn (window_text ems m) 4

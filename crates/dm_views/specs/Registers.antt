@@ -7,14 +7,14 @@ use Rattle.dm_space.specs.Memory.{Memory}
 use Rattle.dm_alu.specs.Flags.{flags_word}
 use Rattle.dm_cpu.specs.declared.cpu.Cpu.{Cpu}
 use Rattle.dm_views.specs.declared.registers.Field.{Field}
-use Rattle.dm_views.specs.Digits.{four}
+use Rattle.dm_views.specs.Digits.{four_digits}
 use Rattle.dm_views.specs.Code.{IsLine}
 
 abbrev pub field : List ℕ → ℕ → Field
 field name value = record { name = name; value = value }
 
 abbrev pub field_text : Field → List ℕ
-field_text f = f.name ++ codes "=" ++ four f.value
+field_text f = f.name ++ codes "=" ++ four_digits f.value
 
 -- a line, with a space between any two
 abbrev pub fields_text : List Field → List ℕ

@@ -4,7 +4,7 @@ ghost use Rattle.std.specs.Prelude.{◌≡◌, ◌++◌, ◌∷◌, [], false, I
 ghost use Rattle.dm_blocks.specs.declared.header.Header.{Header};
 ghost use Rattle.dm_blocks.specs.Chain.{first_header, link_header, signature_byte, IsArena};
 ghost use Rattle.dm_blocks.specs.Listing.{start_of};
-ghost use Rattle.dm_views.specs.Digits.{four};
+ghost use Rattle.dm_views.specs.Digits.{four_digits};
 ghost use Rattle.dm_views.specs.Arena.{header_line, end_line, destroyed_line, unlinked_line, IsArenaText, IsListText};
 ghost use Rattle.dm_views.specs.inner.Telling.{TellsList};
 
@@ -41,7 +41,7 @@ fn put_end(out: &mut Vec<u8>) -> Result<(), AllocError>
 
 /// Puts the digits of a word, and a line end.
 fn put_word_line(out: &mut Vec<u8>, word: u16) -> Result<(), AllocError>
-    ensures { OnOk result (out.new.items ≡ out.old.items ++ (four word ++ 10 ∷ [])) }
+    ensures { OnOk result (out.new.items ≡ out.old.items ++ (four_digits word ++ 10 ∷ [])) }
 {
     out.extend_from_slice(&word_digits(word))?;
     out.extend_from_slice(b"\n")

@@ -1,8 +1,8 @@
 //! Bytes in memory, as text.
 
 ghost use Rattle.std.specs.Prelude.{◌≡◌, ◌+◌, ◌*◌, ◌≤◌, ◌++◌, codes, OnOk};
-ghost use Rattle.dm_views.specs.Bytes.{shown, in_digits, as_text, line_text, bytes_text};
-ghost use Rattle.dm_views.specs.Digits.{two, numbered};
+ghost use Rattle.dm_views.specs.Bytes.{printable, in_digits, as_text, line_text, bytes_text};
+ghost use Rattle.dm_views.specs.Digits.{two_digits, in_turn};
 
 use crate::digits::{byte_digits, put_address};
 use dm_space::Space;
@@ -13,7 +13,7 @@ const IN_LINE: u32 = 16;
 
 /// A byte as it is told: itself, or a point where it can't be printed.
 fn printed(byte: u8) -> u8
-    ensures { result ≡ shown byte }
+    ensures { result ≡ printable byte }
 {
     if 0x20 <= byte && byte <= 0x7E {
         byte
@@ -24,7 +24,7 @@ fn printed(byte: u8) -> u8
 
 /// Puts the digits of a byte behind a space.
 fn put_byte(out: &mut Vec<u8>, byte: u8) -> Result<(), AllocError>
-    ensures { OnOk result (out.new.items ≡ out.old.items ++ (codes " " ++ two byte)) }
+    ensures { OnOk result (out.new.items ≡ out.old.items ++ (codes " " ++ two_digits byte)) }
 {
     out.extend_from_slice(b" ")?;
     out.extend_from_slice(&byte_digits(byte))
@@ -38,7 +38,7 @@ fn put_digits(
     offset: u16,
     count: u16,
 ) -> Result<(), AllocError>
-    ensures { OnOk result (out.new.items ≡ out.old.items ++ numbered (in_digits space.now.memory segment offset) count) }
+    ensures { OnOk result (out.new.items ≡ out.old.items ++ in_turn (in_digits space.now.memory segment offset) count) }
 {
     for k in 0..count {
         put_byte(out, space.peek(segment, offset.wrapping_add(k)))?;
@@ -54,7 +54,7 @@ fn put_characters(
     offset: u16,
     count: u16,
 ) -> Result<(), AllocError>
-    ensures { OnOk result (out.new.items ≡ out.old.items ++ numbered (as_text space.now.memory segment offset) count) }
+    ensures { OnOk result (out.new.items ≡ out.old.items ++ in_turn (as_text space.now.memory segment offset) count) }
 {
     for k in 0..count {
         let byte = space.peek(segment, offset.wrapping_add(k));

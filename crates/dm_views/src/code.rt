@@ -4,7 +4,7 @@ ghost use Rattle.std.specs.Prelude.{◌≡◌, ◌+◌, ◌%◌, ◌++◌, ◌�
 ghost use Rattle.std.specs.List.{flat_map};
 ghost use Rattle.dm_space.specs.EightBytes.{sixteen_after};
 ghost use Rattle.dm_text.specs.Texts.{text_of};
-ghost use Rattle.dm_views.specs.Digits.{two};
+ghost use Rattle.dm_views.specs.Digits.{two_digits};
 ghost use Rattle.dm_views.specs.Code.{listed_line, unlisted_line, IsLine, IsCode};
 
 use crate::digits::{byte_digits, put_address};
@@ -42,7 +42,7 @@ fn window(space: &Space, segment: u16, offset: u16) -> [u8; 16]
 
 /// Puts bytes as joined pairs of digits.
 pub(crate) fn put_pairs(out: &mut Vec<u8>, bytes: &[u8]) -> Result<(), AllocError>
-    ensures { OnOk result (out.new.items ≡ out.old.items ++ flat_map two bytes.now) }
+    ensures { OnOk result (out.new.items ≡ out.old.items ++ flat_map two_digits bytes.now) }
 {
     for byte in bytes {
         out.extend_from_slice(&byte_digits(*byte))?;

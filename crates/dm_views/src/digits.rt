@@ -2,7 +2,7 @@
 
 ghost use Rattle.std.specs.Prelude.{◌≡◌, ◌<◌, ◌++◌, OnOk};
 ghost use Rattle.dm_text.specs.Pieces.{digit};
-ghost use Rattle.dm_views.specs.Digits.{two, four, eight, address_text};
+ghost use Rattle.dm_views.specs.Digits.{two_digits, four_digits, eight_digits, address_text};
 
 use std::alloc::AllocError;
 
@@ -19,18 +19,18 @@ pub(crate) fn digit_of(n: u16) -> u8
 }
 
 /// The two digits of a byte.
-#[tactic(auto, unfolding(crate::specs::Digits::two))]
+#[tactic(auto, unfolding(crate::specs::Digits::two_digits))]
 pub fn byte_digits(n: u8) -> [u8; 2]
-    ensures { result ≡ two n }
+    ensures { result ≡ two_digits n }
 {
     let n = n as u16;
     [digit_of(n / 16), digit_of(n % 16)]
 }
 
 /// The four digits of a word.
-#[tactic(auto, unfolding(crate::specs::Digits::four))]
+#[tactic(auto, unfolding(crate::specs::Digits::four_digits))]
 pub fn word_digits(n: u16) -> [u8; 4]
-    ensures { result ≡ four n }
+    ensures { result ≡ four_digits n }
 {
     [
         digit_of(n / 4096),
@@ -41,9 +41,9 @@ pub fn word_digits(n: u16) -> [u8; 4]
 }
 
 /// Puts the eight digits of a number below 2^32.
-#[tactic(auto, unfolding(crate::specs::Digits::eight))]
+#[tactic(auto, unfolding(crate::specs::Digits::eight_digits))]
 pub(crate) fn put_double(out: &mut Vec<u8>, n: usize) -> Result<(), AllocError>
-    ensures { OnOk result (out.new.items ≡ out.old.items ++ eight n) }
+    ensures { OnOk result (out.new.items ≡ out.old.items ++ eight_digits n) }
 {
     out.extend_from_slice(&word_digits((n / 65536 % 65536) as u16))?;
     out.extend_from_slice(&word_digits((n % 65536) as u16))

@@ -12,7 +12,7 @@ use Rattle.dm_ins.specs.declared.action.Mnemonic.TheVariants as op
 use Rattle.dm_ins.specs.declared.fields.Fields.{Fields}
 use Rattle.dm_ins.specs.declared.table.OperandKind.{OperandKind}
 use Rattle.dm_ins.specs.declared.table.OperandKind.TheVariants as is
-use Rattle.dm_ins.specs.Spelling.{word, direct, register, Fills}
+use Rattle.dm_ins.specs.Spelling.{word_bytes, direct, register, Fills}
 use Rattle.dm_ins.specs.inner.Search.{OperandFits}
 use Rattle.dm_words.specs.StandIns.{is_move, has_no_base}
 use Rattle.dm_words.proofs.Known.{Known, suits, is_near, is_escape, is_opposite}
@@ -90,7 +90,7 @@ exchanged m is.ByteValue f g o p d lt r s u al fit kn h =
     (k.0 ∷ [], (k.0, (rw k.1 at fit), k.1, refl), ap length (sym h.3))
 exchanged m is.WordValue f g o p d lt r s u al fit kn h =
     let k = rw h.2 at al in
-    (word k.0, (k.0, (rw k.1 at fit), k.1, refl), ap length (sym h.3))
+    (word_bytes k.0, (k.0, (rw k.1 at fit), k.1, refl), ap length (sym h.3))
 exchanged m is.SignedValue f g o p d lt r s u al fit kn h =
     let k = rw h.2 at al in
     (d, (h.0, h.1, k.1 ∙ ap operand.WordValue (k.2 (is_opposite (is_move m) s)), h.3), refl)
@@ -100,10 +100,10 @@ exchanged m is.Short f g o p d lt r s u al fit kn h =
     (t.0 ∷ [], (t.0, t.1, k.1 ∙ ap operand.Target t.2, refl), ap length (sym h.3))
 exchanged m is.Near f g o p d lt r s u al fit kn h =
     let k = rw h.2 at al in
-    (word k.0, (k.0, (rw k.1 at fit), k.1, refl), ap length (sym h.3))
+    (word_bytes k.0, (k.0, (rw k.1 at fit), k.1, refl), ap length (sym h.3))
 exchanged m (is.Direct v) f g o p d lt r s u al fit kn h =
     let k = rw h.2 at al in
-    (word k.0.displacement, (k.0.displacement, (rw k.1 at fit), k.1 ∙ ap (operand.Memory v) (direct_is k.0 (ap has_no_base k.2.base)), refl), ap length (sym h.3))
+    (word_bytes k.0.displacement, (k.0.displacement, (rw k.1 at fit), k.1 ∙ ap (operand.Memory v) (direct_is k.0 (ap has_no_base k.2.base)), refl), ap length (sym h.3))
 exchanged m is.Far f g o p d lt r s u al fit kn h = (d, (h.0, h.1, h.2, h.3, (rw h.4 at al), h.5), refl)
 exchanged m (is.Escape c) f g o p d lt r s u al fit kn h =
     let k = rw h.0 at al in

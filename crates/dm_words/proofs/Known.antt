@@ -13,7 +13,7 @@ use Rattle.dm_ins.specs.declared.table.OperandKind.{OperandKind}
 use Rattle.dm_ins.specs.declared.table.OperandKind.TheVariants as is
 use Rattle.dm_ins.specs.declared.table.Row.{Row}
 use Rattle.dm_ins.specs.Table.{entry_of}
-use Rattle.dm_ins.specs.Spelling.{extended, register, at_place, Fills, SpellsAction}
+use Rattle.dm_ins.specs.Spelling.{sign_extended, register, at_place, Fills, SpellsAction}
 use Rattle.dm_ins.specs.inner.Search.{OperandFits}
 use Rattle.dm_ins.proofs.TableRules.{both_true}
 use Rattle.dm_ins.proofs.Shortest.{action_fits}
@@ -61,7 +61,7 @@ all_suit = refl
 
 -- a target of one byte is one extended by sign; ESC's number is one of 64
 unfoldable pub Known : Mnemonic → Operand → Type 0
-Known m (operand.Target d) = is_near m ≡ false → (j : ℕ) × (j < 2 ^ 8) × (d ≡ extended j)
+Known m (operand.Target d) = is_near m ≡ false → (j : ℕ) × (j < 2 ^ 8) × (d ≡ sign_extended j)
 Known m (operand.ByteValue n) = is_escape m ≡ true → n < 64
 Known m _ = Unit {0}
 

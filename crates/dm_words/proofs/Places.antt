@@ -14,7 +14,7 @@ use Rattle.dm_ins.specs.declared.table.Row.{Row}
 use Rattle.dm_ins.specs.declared.table.Entry.{Entry}
 use Rattle.dm_ins.specs.declared.table.Entry.TheVariants.{Unlisted, Plain, Group, Second}
 use Rattle.dm_ins.specs.Registers.{bases}
-use Rattle.dm_ins.specs.Spelling.{word, direct, based, at_place, Fills, SpellsMemory, SpellsFields, HasRow, MaySpellFields, has_fields, no_fields}
+use Rattle.dm_ins.specs.Spelling.{word_bytes, direct, based, at_place, Fills, SpellsMemory, SpellsFields, HasRow, MaySpellFields, has_fields, no_fields}
 use Rattle.dm_ins.specs.inner.Search.{OperandFits}
 use Rattle.dm_ins.proofs.TableRules.{passes}
 use Rattle.dm_words.specs.StandIns.{has_no_base}
@@ -59,7 +59,7 @@ based_is_not_direct : {P : Type 0} (n rm k : ℕ) → Some (direct n) ≡ Some (
 unfolding base_of
 based_is_not_direct n rm k e = absurd (direct_has_none (get_or bases rm BxSi) (ap base_of e) (based_has_base rm))
 
-direct_spelled : (n j mode rm : ℕ) (d : List ℕ) → j < 2 ^ 16 → SpellsMemory (Some (direct n)) mode rm d → SpellsMemory (Some (direct j)) mode rm (word j) × (length (word j) ≡ length d)
+direct_spelled : (n j mode rm : ℕ) (d : List ℕ) → j < 2 ^ 16 → SpellsMemory (Some (direct n)) mode rm d → SpellsMemory (Some (direct j)) mode rm (word_bytes j) × (length (word_bytes j) ≡ length d)
 direct_spelled n j mode rm d lt (inl h) = (inl (h.0, h.1, j, lt, refl, refl), ap length (sym h.5))
 direct_spelled n j mode rm d lt (inr (inl h)) = based_is_not_direct n rm 0 h.2
 direct_spelled n j mode rm d lt (inr (inr (inl h))) = based_is_not_direct n rm _ h.3
@@ -73,8 +73,8 @@ fields_moved : (f g : Fields) (d : List ℕ) → MovedFields f g → SpellsField
 fields_moved f g d h s =
     let m = direct_spelled h.old h.new s.mode f.rm s.displacement h.fits (rw h.was at s.spells_memory) in
     rw h.now (
-      (64 * s.mode + 8 * f.register + f.rm) ∷ word h.new,
-      record { mode = s.mode; displacement = word h.new; register_fits = s.register_fits; rm_fits = s.rm_fits; spells_memory = m.0; parts = refl },
+      (64 * s.mode + 8 * f.register + f.rm) ∷ word_bytes h.new,
+      record { mode = s.mode; displacement = word_bytes h.new; register_fits = s.register_fits; rm_fits = s.rm_fits; spells_memory = m.0; parts = refl },
       rw s.parts (omega (arith, m.1)),
     )
 

@@ -4,12 +4,12 @@ use Rattle.std.proofs.Common.{◌≡◌, ℕ, false, ◌+◌, ◌*◌, ◌<◌, 
 use Rattle.dm_pool.specs.declared.extent.Extent.{Extent}
 use Rattle.dm_pool.specs.Blocks.{Blocks, IsLive}
 use Rattle.dm_space.specs.Memory.{Memory}
-use Rattle.dm_xms.specs.Blocks.{base_of, address}
+use Rattle.dm_xms.specs.Blocks.{first_unit, address}
 
-no_base : (s : Blocks) (i : ℕ) → i < 576 → (IsLive s i → ⊥) → base_of (get_or s.places i None) ≡ 0
+no_base : (s : Blocks) (i : ℕ) → i < 576 → (IsLive s i → ⊥) → first_unit (get_or s.places i None) ≡ 0
 no_base s i h n = either (get_or s.places i None) refl
   where
-    either : (o : Option Extent) → get_or s.places i None ≡ o → base_of o ≡ 0
+    either : (o : Option Extent) → get_or s.places i None ≡ o → first_unit o ≡ 0
     either None e = refl
     either (Some b) e = absurd (n (h, (b, e)))
 

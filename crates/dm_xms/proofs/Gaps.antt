@@ -12,7 +12,7 @@ use Rattle.dm_pool.proofs.FreeRuns.{lowered}
 use Rattle.dm_pool.proofs.Maximal.{gaps_are, gaps_are_one}
 use Rattle.dm_xms.specs.declared.tables.Upper.{Upper}
 use Rattle.dm_xms.specs.inner.Tables.{Rise}
-use Rattle.dm_xms.specs.Uppers.{places_of}
+use Rattle.dm_xms.specs.Uppers.{extents_of}
 use Rattle.dm_xms.specs.inner.Walks.{with_gap, gaps_between}
 
 -- ---- where rising blocks lie
@@ -126,24 +126,24 @@ walked bs from (u ∷ us) d r behind come =
 
 -- ---- all of the list
 
-is_in_at : (us : List Upper) (i : ℕ) (b : Extent) → get_or (places_of us) i None ≡ Some b → IsIn b us
+is_in_at : (us : List Upper) (i : ℕ) (b : Extent) → get_or (extents_of us) i None ≡ Some b → IsIn b us
 is_in_at [] i b e = absurd (none-some b e)
 is_in_at (u ∷ us) zero b e = inl (sym (same_Some (the_place u) b e))
 is_in_at (u ∷ us) (suc i) b e = inr (is_in_at us i b e)
 
-at_of_in : (us : List Upper) (b : Extent) → IsIn b us → (i : ℕ) × (get_or (places_of us) i None ≡ Some b)
+at_of_in : (us : List Upper) (b : Extent) → IsIn b us → (i : ℕ) × (get_or (extents_of us) i None ≡ Some b)
 at_of_in [] b x = absurd x
 at_of_in (u ∷ us) b (inl e) = (0, ap Some (sym e))
 at_of_in (u ∷ us) b (inr x) = let y = at_of_in us b x in (suc y.0, y.1)
 
-based : (us : List Upper) → Rise 0xD000 us → AreBased (places_of us)
+based : (us : List Upper) → Rise 0xD000 us → AreBased (extents_of us)
 based us r i b e none = let x = rises 0xD000 us b (omega arith) r (is_in_at us i b e) in absurd (omega (arith, x.1, none))
 
-pub are_between : (us : List Upper) → Rise 0xD000 us → AreGaps (places_of us) 0x1000 0 (gaps_between 0 us)
-are_between us r = walked (places_of us) 0xD000 us (omega arith) r (λ i b e. inr (is_in_at us i b e)) (at_of_in us)
+pub are_between : (us : List Upper) → Rise 0xD000 us → AreGaps (extents_of us) 0x1000 0 (gaps_between 0 us)
+are_between us r = walked (extents_of us) 0xD000 us (omega arith) r (λ i b e. inr (is_in_at us i b e)) (at_of_in us)
 
-pub gaps_are_between : (us : List Upper) → Rise 0xD000 us → gaps_between 0 us ≡ gaps (places_of us) 0x1000
-gaps_are_between us r = gaps_are_one (places_of us) 0x1000 0 (gaps_between 0 us) (gaps (places_of us) 0x1000) (are_between us r) (gaps_are (places_of us) 0x1000 (based us r))
+pub gaps_are_between : (us : List Upper) → Rise 0xD000 us → gaps_between 0 us ≡ gaps (extents_of us) 0x1000
+gaps_are_between us r = gaps_are_one (extents_of us) 0x1000 0 (gaps_between 0 us) (gaps (extents_of us) 0x1000) (are_between us r) (gaps_are (extents_of us) 0x1000 (based us r))
 
-pub first_fit_is_lowest : (us : List Upper) (n : ℕ) → 0 < n → Rise 0xD000 us → first_fit (gaps_between 0 us) n ≡ lowest (places_of us) 0x1000 n
-first_fit_is_lowest us n pos r = fit_is_lowest (places_of us) 0x1000 n (gaps_between 0 us) pos (are_between us r)
+pub first_fit_is_lowest : (us : List Upper) (n : ℕ) → 0 < n → Rise 0xD000 us → first_fit (gaps_between 0 us) n ≡ lowest (extents_of us) 0x1000 n
+first_fit_is_lowest us n pos r = fit_is_lowest (extents_of us) 0x1000 n (gaps_between 0 us) pos (are_between us r)

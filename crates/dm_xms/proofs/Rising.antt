@@ -10,7 +10,7 @@ use Rattle.dm_pool.proofs.Blocks.{clear_apart}
 use Rattle.dm_pool.proofs.Takes.{lowest_free}
 use Rattle.dm_xms.specs.declared.tables.Upper.{Upper}
 use Rattle.dm_xms.specs.inner.Tables.{Rise}
-use Rattle.dm_xms.specs.Uppers.{is_below, begins_at, begin_or_end, inserted, places_of}
+use Rattle.dm_xms.specs.Uppers.{is_below, begins_at, begin_or_end, inserted, extents_of}
 
 rise_from : (from lower : ℕ) (us : List Upper) → lower ≤ from → Rise from us → Rise lower us
 rise_from from lower [] h r = omega (arith, h, r)
@@ -60,7 +60,7 @@ rise_insert from u (v ∷ vs) h some top apart r = elim (cases_lt v.segment u.se
 
 -- a run of paragraphs that each block is apart from
 apart_of : (from : ℕ) (u : Upper) (us : List Upper) → 0xD000 ≤ from → 0xD000 ≤ u.segment → Rise from us
-    → ((i : ℕ) (b : Extent) → get_or (places_of us) i None ≡ Some b → (b.base + b.units ≤ u.segment - 0xD000) ⊎ (u.segment - 0xD000 + u.paragraphs ≤ b.base)) → Apart u us
+    → ((i : ℕ) (b : Extent) → get_or (extents_of us) i None ≡ Some b → (b.base + b.units ≤ u.segment - 0xD000) ⊎ (u.segment - 0xD000 + u.paragraphs ≤ b.base)) → Apart u us
 apart_of from u [] d e r each = tt
 apart_of from u (v ∷ vs) d e r each =
     let here : (v.segment + v.paragraphs ≤ u.segment) ⊎ (u.segment + u.paragraphs ≤ v.segment) =
@@ -69,13 +69,13 @@ apart_of from u (v ∷ vs) d e r each =
     (here, apart_of (v.segment + v.paragraphs) u vs (omega (arith, d, r.0)) e r.2 (λ i b h. each (suc i) b h))
 
 -- a new block in the lowest gap
-pub rise_new : (us : List Upper) (n p : ℕ) → 0 < n → Rise 0xD000 us → lowest (places_of us) 0x1000 n ≡ Some p → Rise 0xD000 (inserted (record { segment = 0xD000 + p; paragraphs = n }) us)
+pub rise_new : (us : List Upper) (n p : ℕ) → 0 < n → Rise 0xD000 us → lowest (extents_of us) 0x1000 n ≡ Some p → Rise 0xD000 (inserted (record { segment = 0xD000 + p; paragraphs = n }) us)
 rise_new us n p some r e =
     let u : Upper = record { segment = 0xD000 + p; paragraphs = n } in
-    let found = lowest_free (places_of us) 0x1000 n p e in
+    let found = lowest_free (extents_of us) 0x1000 n p e in
     let back : u.segment - 0xD000 ≡ p = omega arith in
-    let free : is_clear (places_of us) (u.segment - 0xD000) n ≡ true = subst (λ z. is_clear (places_of us) z n ≡ true) (sym back) found.1 in
-    rise_insert 0xD000 u us (omega arith) some (omega (arith, found.0)) (apart_of 0xD000 u us (omega arith) (omega arith) r (clear_apart (places_of us) (u.segment - 0xD000) n free)) r
+    let free : is_clear (extents_of us) (u.segment - 0xD000) n ≡ true = subst (λ z. is_clear (extents_of us) z n ≡ true) (sym back) found.1 in
+    rise_insert 0xD000 u us (omega arith) some (omega (arith, found.0)) (apart_of 0xD000 u us (omega arith) (omega arith) r (clear_apart (extents_of us) (u.segment - 0xD000) n free)) r
 
 -- ---- one gets another size
 

@@ -44,13 +44,13 @@ deallocate x handle =
     Ok (tt, leaving x (with_slot x.xms handle None) (without x.memory.blocks s.block)))
 
 -- the first unit of the block that lies there
-abbrev pub base_of : Option Extent → ℕ
-base_of None = 0
-base_of (Some b) = b.base
+abbrev pub first_unit : Option Extent → ℕ
+first_unit None = 0
+first_unit (Some b) = b.base
 
 -- the linear address of a block's first byte; the pool lies from 110000h on, behind all memory that has addresses
 abbrev pub address : Memory → ℕ → ℕ
-address m block = 0x110000 + 0x400 * base_of (get_or m.blocks.places block None)
+address m block = 0x110000 + 0x400 * first_unit (get_or m.blocks.places block None)
 
 -- one lock more, 255 at most; the answer is the block's linear address
 unfoldable pub lock : Extended → ℕ → Result (ℕ × Extended) Status

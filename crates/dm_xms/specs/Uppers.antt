@@ -20,19 +20,19 @@ abbrev pub at_least_one : ℕ → ℕ
 at_least_one n = max 1 n
 
 -- where a block lies among the paragraphs
-abbrev pub place_of : Upper → Option Extent
-place_of u = Some (record { base = u.segment - first_segment; units = u.paragraphs })
+abbrev pub extent_of : Upper → Option Extent
+extent_of u = Some (record { base = u.segment - first_segment; units = u.paragraphs })
 
-abbrev pub places_of : List Upper → List (Option Extent)
-places_of us = map place_of us
+abbrev pub extents_of : List Upper → List (Option Extent)
+extents_of us = map extent_of us
 
 -- the paragraphs of the largest gap
 abbrev pub largest_upper : List Upper → ℕ
-largest_upper us = largest (gaps (places_of us) all_paragraphs)
+largest_upper us = largest (gaps (extents_of us) all_paragraphs)
 
 -- the lowest gap that holds so many paragraphs
 abbrev pub lowest_upper : List Upper → ℕ → Option ℕ
-lowest_upper us n = lowest (places_of us) all_paragraphs n
+lowest_upper us n = lowest (extents_of us) all_paragraphs n
 
 abbrev pub is_below : ℕ → Upper → Bool
 is_below segment u = nat_lt u.segment segment

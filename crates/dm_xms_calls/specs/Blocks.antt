@@ -9,7 +9,7 @@ use Rattle.dm_xms.specs.declared.blocks.HandleInformation.{HandleInformation}
 use Rattle.dm_xms.specs.Status.{code_of}
 use Rattle.dm_xms.specs.Blocks as rows
 use Rattle.dm_xms.specs.Moves as moves
-use Rattle.dm_xms_calls.specs.Caller.{Caller, on_cpu, settled, after, after_tables}
+use Rattle.dm_xms_calls.specs.Caller.{Caller, on_cpu, settled, after_call, after_tables}
 
 abbrev pub with_free : Cpu → Result FreeMemory Status → Cpu
 with_free cpu (Ok free) = with_byte (record cpu { ax = free.largest; dx = free.total }) Bl 0
@@ -22,15 +22,15 @@ tell_free c = on_cpu c (with_free c.cpu (rows.free_memory c.x))
 
 -- 09h: DX is a new handle with a block of DX KiB
 unfoldable pub allocate : Caller → Caller
-allocate c = after c (rows.allocate c.x c.cpu.dx) (λ handle. record c.cpu { dx = handle })
+allocate c = after_call c (rows.allocate c.x c.cpu.dx) (λ handle. record c.cpu { dx = handle })
 
 -- 0Ah: the handle in DX and its block are freed
 unfoldable pub deallocate : Caller → Caller
-deallocate c = after c (rows.deallocate c.x c.cpu.dx) (λ done. c.cpu)
+deallocate c = after_call c (rows.deallocate c.x c.cpu.dx) (λ done. c.cpu)
 
 -- 0Bh: a move as the structure at DS:SI describes it
 unfoldable pub move_memory : Caller → Caller
-move_memory c = after c (moves.move_memory c.x c.cpu.ds c.cpu.si) (λ done. c.cpu)
+move_memory c = after_call c (moves.move_memory c.x c.cpu.ds c.cpu.si) (λ done. c.cpu)
 
 -- a linear address in DX:BX
 abbrev pub with_address : Cpu → ℕ → Cpu
@@ -38,7 +38,7 @@ with_address cpu address = record cpu { dx = address / 65536 % 65536; bx = addre
 
 -- 0Ch: the block of the handle in DX is locked, and DX:BX is where it begins
 unfoldable pub lock : Caller → Caller
-lock c = after c (rows.lock c.x c.cpu.dx) (with_address c.cpu)
+lock c = after_call c (rows.lock c.x c.cpu.dx) (with_address c.cpu)
 
 -- 0Dh
 unfoldable pub unlock : Caller → Caller
@@ -54,4 +54,4 @@ tell_information c = on_cpu c (settled c.cpu (rows.information c.x.xms c.cpu.dx)
 
 -- 0Fh: the block of the handle in DX gets BX KiB
 unfoldable pub reallocate : Caller → Caller
-reallocate c = after c (rows.reallocate c.x c.cpu.dx c.cpu.bx) (λ done. c.cpu)
+reallocate c = after_call c (rows.reallocate c.x c.cpu.dx c.cpu.bx) (λ done. c.cpu)

@@ -36,8 +36,8 @@ settled cpu (Ok v) set = succeeded (set v)
 settled cpu (Err e) set = refused cpu (code_of e)
 
 -- after a call that may change the tables or memory
-abbrev pub after : {A : Type 0} → Caller → Result (A × Extended) Status → (A → Cpu) → Caller
-after c r set = record { cpu = settled c.cpu (answer r) set; x = left c.x r }
+abbrev pub after_call : {A : Type 0} → Caller → Result (A × Extended) Status → (A → Cpu) → Caller
+after_call c r set = record { cpu = settled c.cpu (answer r) set; x = left c.x r }
 
 -- after a call that may change the tables alone
 abbrev pub after_tables : {A : Type 0} → Caller → Result (A × Tables) Status → (A → Cpu) → Caller

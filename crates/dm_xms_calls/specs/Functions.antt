@@ -62,5 +62,5 @@ call upper c ResizeUpper = uppers.resize upper c
 call upper c Unknown = on_cpu c (no_function c.cpu)
 
 -- the driver does what AH names
-abbrev pub called : Bool → Caller → Caller
-called upper c = call upper c (function_of (byte_of c.cpu Ah))
+abbrev pub dispatched : Bool → Caller → Caller
+dispatched upper c = call upper c (function_of (byte_of c.cpu Ah))

@@ -3,9 +3,9 @@ use Rattle.std.specs.Prelude.{Bool}
 use Rattle.dm_xms.specs.Consistent.{IsConsistent}
 use Rattle.dm_xms.specs.Outside.{LeavesOutside}
 use Rattle.dm_xms_calls.specs.Caller.{Caller}
-use Rattle.dm_xms_calls.specs.Functions.{called}
+use Rattle.dm_xms_calls.specs.Functions.{dispatched}
 
 -- tables and memory stay consistent, and what is outside stays
 pub record ExtendedMemoryCallsKeep : Type 0 where
-  pub consistency : (upper : Bool) (c : Caller) → IsConsistent c.x → IsConsistent (called upper c).x
-  pub outside : (upper : Bool) (c : Caller) → LeavesOutside c.x (called upper c).x
+  pub consistency : (upper : Bool) (c : Caller) → IsConsistent c.x → IsConsistent (dispatched upper c).x
+  pub outside : (upper : Bool) (c : Caller) → LeavesOutside c.x (dispatched upper c).x

@@ -3,7 +3,7 @@ use Rattle.std.specs.Prelude.{if◌then◌else◌}
 use Rattle.dm_cpu.specs.declared.cpu.Cpu.{Cpu}
 use Rattle.dm_space.specs.Memory.{Memory}
 use Rattle.dm_xms.specs.Line as rows
-use Rattle.dm_xms_calls.specs.Caller.{Caller, succeeded, refused, after, after_act}
+use Rattle.dm_xms_calls.specs.Caller.{Caller, succeeded, refused, after_call, after_act}
 
 -- 03h
 unfoldable pub enable_globally : Caller → Caller
@@ -15,7 +15,7 @@ disable_globally c = after_act c (rows.disable_globally c.x)
 
 -- 05h
 unfoldable pub enable_locally : Caller → Caller
-enable_locally c = after c (rows.enable_locally c.x) (λ done. c.cpu)
+enable_locally c = after_call c (rows.enable_locally c.x) (λ done. c.cpu)
 
 -- 06h
 unfoldable pub disable_locally : Caller → Caller

@@ -21,17 +21,17 @@ abbrev pub settled : {A : Type 0} → Cpu → Result A UpperRefusal → (A → C
 settled cpu (Ok v) set = succeeded (set v)
 settled cpu (Err e) set = refused (with_room cpu e) (code_of e)
 
-abbrev pub after : {A : Type 0} → Caller → Result (A × Tables) UpperRefusal → (A → Cpu) → Caller
-after c r set = record { cpu = settled c.cpu (answer r) set; x = extended (left c.x.xms r) c.x.memory }
+abbrev pub after_call : {A : Type 0} → Caller → Result (A × Tables) UpperRefusal → (A → Cpu) → Caller
+after_call c r set = record { cpu = settled c.cpu (answer r) set; x = extended (left c.x.xms r) c.x.memory }
 
 -- 10h: a block of DX paragraphs; BX is its segment, DX its size
 unfoldable pub request : Bool → Caller → Caller
-request upper c = after c (if upper then Err refusal.NoneFree else rows.request_upper c.x.xms c.cpu.dx) (λ (u : Upper). record c.cpu { bx = u.segment; dx = u.paragraphs })
+request upper c = after_call c (if upper then Err refusal.NoneFree else rows.request_upper c.x.xms c.cpu.dx) (λ (u : Upper). record c.cpu { bx = u.segment; dx = u.paragraphs })
 
 -- 11h: the block at segment DX is freed
 unfoldable pub release : Bool → Caller → Caller
-release upper c = after c (if upper then Err refusal.Unknown else rows.release_upper c.x.xms c.cpu.dx) (λ done. c.cpu)
+release upper c = after_call c (if upper then Err refusal.Unknown else rows.release_upper c.x.xms c.cpu.dx) (λ done. c.cpu)
 
 -- 12h: the block at segment DX gets BX paragraphs
 unfoldable pub resize : Bool → Caller → Caller
-resize upper c = after c (if upper then Err refusal.Unknown else rows.resize_upper c.x.xms c.cpu.dx c.cpu.bx) (λ done. c.cpu)
+resize upper c = after_call c (if upper then Err refusal.Unknown else rows.resize_upper c.x.xms c.cpu.dx c.cpu.bx) (λ done. c.cpu)

@@ -3,7 +3,7 @@ ghost use Rattle.std.specs.Prelude.{◌≡◌};
 ghost use Rattle.dm_xms.specs.Tables.{extended};
 ghost use Rattle.dm_xms.specs.Consistent.{IsConsistent};
 ghost use Rattle.dm_xms_calls.specs.Caller.{caller};
-ghost use Rattle.dm_xms_calls.specs.Functions.{no_function, call, called};
+ghost use Rattle.dm_xms_calls.specs.Functions.{no_function, call, dispatched};
 
 use crate::answers::refuse;
 use crate::area::{release_area, take_area, tell_version};
@@ -129,7 +129,7 @@ fn call(cpu: &mut Cpu, xms: &mut Xms, space: &mut Space, upper: bool, function: 
 /// blocks.
 pub fn extended_memory_call(cpu: &mut Cpu, xms: &mut Xms, space: &mut Space, upper: bool)
     requires { IsConsistent (extended xms.old space.old.memory) }
-    ensures { caller cpu.new xms.new space.new.memory ≡ called upper (caller cpu.old xms.old space.old.memory) }
+    ensures { caller cpu.new xms.new space.new.memory ≡ dispatched upper (caller cpu.old xms.old space.old.memory) }
 {
     let function = function_of(cpu.byte(ByteRegister::Ah));
     call(cpu, xms, space, upper, function);

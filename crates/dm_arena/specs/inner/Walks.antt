@@ -17,7 +17,7 @@ use Rattle.dm_arena.specs.declared.fit.Fit.TheVariants.{Best, First, Last}
 use Rattle.dm_blocks.specs.Reading.{IsFoundAt, IsSpelledFrom, is_nil}
 use Rattle.dm_arena.specs.Owned.{AllFree, IsNoBlock, absorb, is_link_block, released}
 use Rattle.dm_arena.specs.declared.allocation.Plan.{Plan}
-use Rattle.dm_arena.specs.Allocation.{Taking, changed}
+use Rattle.dm_arena.specs.Allocation.{Taking, with_cut}
 use Rattle.dm_blocks.specs.inner.Standing.{Occupies}
 use Rattle.dm_arena.specs.inner.Standing.{OccupiesOutside}
 
@@ -122,7 +122,7 @@ pub record IsPlan (upper : Bool) (S : Memory) (start : ℕ) (strategy : Strategy
   pub taking : Taking upper S start strategy n
   pub cut_is : cut_list plan.cut ≡ cut strategy.fit n owner taking.block
   pub segment_is : plan.segment ≡ taken_segment strategy.fit n taking.block + 1
-  pub clear : IsClear S (changed taking owner)
+  pub clear : IsClear S (with_cut taking owner)
 
 -- the headers C may stand in the place of a block of the joined arena
 pub record Placing (upper : Bool) (S : Memory) (start : ℕ) (C : List Header) : Type 0 where

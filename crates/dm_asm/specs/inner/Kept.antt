@@ -9,7 +9,7 @@ use Rattle.dm_asm.specs.declared.codes.Problem.{Problem}
 use Rattle.dm_asm.specs.declared.codes.Problem.TheVariants as problem
 use Rattle.dm_lines.specs.Statements.{Item}
 use Rattle.dm_asm.specs.Lines.{lines_of}
-use Rattle.dm_asm.specs.Programs.{Sized, Laid, total, most, labels_of}
+use Rattle.dm_asm.specs.Programs.{Sized, Laid, total, longest_program, labels_of}
 use Rattle.dm_asm.specs.Labels.{Label, find}
 use Rattle.dm_asm.specs.Codes.{Codes, Knows}
 use Rattle.dm_asm.specs.declared.known.Known.{Known}
@@ -33,6 +33,6 @@ IsProblem labels at item problem.Range = Knows labels item × ((code : List ℕ)
 pub record AreLaid (text : List ℕ) (kept : Labels) (known : Known) : Type 0 where
   pub statements : List Sized
   pub laid : Laid (lines_of text) statements
-  pub room : total statements ≤ most
+  pub room : total statements ≤ longest_program
   pub keeps : AreKept kept (labels_of statements)
   pub knows : AreKnown statements known.lines.items known.bytes.items

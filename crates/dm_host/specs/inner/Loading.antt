@@ -7,7 +7,7 @@ use Rattle.dm_debug.specs.Debugged.{Debugged}
 use Rattle.dm_debug.specs.Sessions.{new_session}
 use Rattle.dm_host.specs.declared.refusal.Refusal.{Refusal}
 use Rattle.dm_host.specs.declared.refusal.Refusal.TheVariants.{Memory, Short, BadName, TailTooLong}
-use Rattle.dm_host.specs.Setups.{Prepared, IsFound, IsNoProgram}
+use Rattle.dm_host.specs.Setups.{Prepared, IsLoadable, IsNoProgram}
 use Rattle.dm_host.specs.Loading.{IsMachine}
 
 -- a session over a new machine of the setup with the program loaded
@@ -33,7 +33,7 @@ pub data IsUntested (s : Prepared) (name tail : List ℕ) (why : Refusal) : Type
 pub record IsTestedGood (s : Prepared) (name tail : List ℕ) : Type 0 where
   pub name_is : IsName name
   pub short : length tail ≤ 126
-  pub found : IsFound s name
+  pub found : IsLoadable s name
 
 abbrev pub IsTestedWith : Prepared → List ℕ → List ℕ → Result (Unit {0}) Refusal → Type 0
 IsTestedWith s name tail (Ok x) = IsTestedGood s name tail

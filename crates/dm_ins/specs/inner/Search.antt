@@ -29,7 +29,7 @@ use Rattle.dm_ins.specs.declared.table.Entry.{Entry}
 use Rattle.dm_ins.specs.declared.table.Entry.TheVariants.{Unlisted, Plain, Group, Second}
 use Rattle.dm_ins.specs.Registers.{word_number, byte_number, segment_number}
 use Rattle.dm_ins.specs.Table.{entry_of, member_of}
-use Rattle.dm_ins.specs.Spelling.{word, extended}
+use Rattle.dm_ins.specs.Spelling.{word_bytes, sign_extended}
 use Rattle.dm_ins.specs.Order.{before}
 use Rattle.dm_ins.specs.Walks.{◌>>=◌}
 use Rattle.dm_ins.specs.inner.Keys.{keyed, key_at}
@@ -71,7 +71,7 @@ asks_place p = record { register = None; place = Some p; tail = data_is.Nothing 
 
 -- a word that is a byte extended by sign
 abbrev pub as_signed : ℕ → Option Demand
-as_signed n = if extended (n % 256) == n then Some (asks_data (data_is.Byte (n % 256))) else None
+as_signed n = if sign_extended (n % 256) == n then Some (asks_data (data_is.Byte (n % 256))) else None
 
 unfoldable pub demand_of : OperandKind → Operand → Option Demand
 demand_of is.Nothing operand.Nothing = Some (asks_data data_is.Nothing)
@@ -113,15 +113,15 @@ demand_of is.One _ = None
 abbrev pub data_bytes : Data → List ℕ
 data_bytes data_is.Nothing = []
 data_bytes (data_is.Byte n) = n ∷ []
-data_bytes (data_is.Word n) = word n
-data_bytes (data_is.Words n s) = word n ++ word s
+data_bytes (data_is.Word n) = word_bytes n
+data_bytes (data_is.Words n s) = word_bytes n ++ word_bytes s
 
 abbrev pub with_displacement : ℕ → ℕ → ℕ → List ℕ
-with_displacement r rm n = if extended (n % 256) == n then (64 + (8 * r + rm)) ∷ n % 256 ∷ [] else (128 + (8 * r + rm)) ∷ word n
+with_displacement r rm n = if sign_extended (n % 256) == n then (64 + (8 * r + rm)) ∷ n % 256 ∷ [] else (128 + (8 * r + rm)) ∷ word_bytes n
 
 abbrev pub memory_bytes : ℕ → Address → List ℕ
 memory_bytes r a =
-    if is_direct a.base then (8 * r + 6) ∷ word a.displacement
+    if is_direct a.base then (8 * r + 6) ∷ word_bytes a.displacement
     else if rm_of a.base == 6 then with_displacement r 6 a.displacement
     else if a.displacement == 0 then (8 * r + rm_of a.base) ∷ []
     else with_displacement r (rm_of a.base) a.displacement

@@ -47,7 +47,7 @@ fn base_of(store: &Store, block: Option<Block>) -> Option<usize> {
     }
 }
 
-/// Definitions: dm_pool FreeList Spells word
+/// Definitions: dm_pool FreeList Spells double_word
 #[test]
 fn free_bytes_tell_the_gaps(rt: HostRuntime) -> Result<(), Fail> {
     let sizes = Sizes {

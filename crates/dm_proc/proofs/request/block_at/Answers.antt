@@ -1,7 +1,7 @@
 use Rattle.std.proofs.Common.{◌≡◌, ℕ, [], ◌∷◌, ◌++◌, take, sym, ◌∙◌, ap, arith}
 use Rattle.std.proofs.lemmas.List.{length-set, take_all, take_more_set}
 use Rattle.dm_proc.specs.Writes.{bytes_from}
-use Rattle.dm_proc.specs.Request.{block_at}
+use Rattle.dm_proc.specs.Request.{control_block}
 use Rattle.dm_proc.proofs.Bytes.{from-more, one-more}
 use Rattle.dm_proc.proofs.request.block_at.Goals as goal
 
@@ -16,7 +16,7 @@ loop-at-preserved c =
     }
 
 pub returns : goal.returns
-unfolding block_at
+unfolding control_block
 returns c =
     let e : c.loop-at.at ≡ 16 = omega arith in
     sym (take_all c.loop-at.at c.loop-at.block (omega (arith, c.loop-at.invariant.length))) ∙ c.loop-at.invariant.items

@@ -1,5 +1,5 @@
 use Rattle.std.proofs.Common.{List, ℕ, ◌+◌, sym, ap, ◌∙◌, subst, arith}
-use Rattle.dm_pool.specs.Parts.{copied}
+use Rattle.dm_pool.specs.Parts.{part_copied}
 use Rattle.dm_pool.specs.Stored.{Stored}
 use Rattle.dm_pool.specs.inner.Stored.{IsStore, stored}
 use Rattle.dm_pool.proofs.Copied.{laid_out, span_fits, copied_store, copied_stored, within_span}
@@ -54,4 +54,4 @@ returns c =
     let to = within_span s.region s.table c.args.self.now c.args.destination c.start_of-2.result c.start_of-2.ensures.span.0 (c.args.to + c.args.len) c.self.invariant c.recall.ensures.laid c.self.view_is c.start_of-2.ensures.span.1 c.requires.destination.1 in
     ap (λ (ys : List ℕ). stored ys s.table) c.copy.ensures
     ∙ copied_stored s.region s.table c.self.invariant c.recall.ensures.laid c.recall.ensures.based c.args.source c.args.destination c.start_of.result c.start_of-2.result c.start_of.ensures.span.0 c.start_of-2.ensures.span.0 c.args.from c.args.to c.args.len c.start_of.ensures.span.1 c.start_of-2.ensures.span.1 from to
-    ∙ ap (λ (v : Stored). copied v c.args.source c.args.from c.args.destination c.args.to c.args.len) c.self.view_is
+    ∙ ap (λ (v : Stored). part_copied v c.args.source c.args.from c.args.destination c.args.to c.args.len) c.self.view_is
