@@ -2,17 +2,17 @@
 -- Source: MS-DOS User's Reference, "DEBUG" (D, E, G, R, T, U); the others, the bounds and what is taken for numbers
 -- that are left out are this machine's own.
 use Rattle.std.specs.Prelude.{ℕ, List, [], ◌∷◌, Option, Some, None}
-use Rattle.dm_command.specs.declared.command.Address.{Address}
+use Rattle.dm_command.specs.declared.command.LogicalAddress.{LogicalAddress}
 use Rattle.dm_command.specs.declared.command.Command.{Command}
 use Rattle.dm_command.specs.declared.command.Command.TheVariants as command
-use Rattle.dm_command.specs.declared.names.Name.{Name}
-use Rattle.dm_command.specs.declared.names.Name.TheVariants as name
+use Rattle.dm_command.specs.declared.names.CommandName.{CommandName}
+use Rattle.dm_command.specs.declared.names.CommandName.TheVariants as name
 use Rattle.dm_command.specs.Words.{words_of}
 use Rattle.dm_command.specs.Numbers.{◌>>=◌, number_of, up_to, logical_address, bytes_from_digits}
 use Rattle.dm_command.specs.Names.{name_of}
 
 -- nothing behind the name
-abbrev pub alone : Name → Option Command
+abbrev pub alone : CommandName → Option Command
 alone name.Registers = Some command.Registers
 alone name.Arena = Some command.Arena
 alone name.Pages = Some command.Pages
@@ -24,7 +24,7 @@ alone name.Output = Some command.Output
 alone _ = None
 
 -- one word behind it
-abbrev pub with_one : Name → List ℕ → Option Command
+abbrev pub with_one : CommandName → List ℕ → Option Command
 with_one name.Unassemble w = do
   a ← logical_address w
   Some (command.Unassemble a 8)
@@ -46,7 +46,7 @@ with_one name.Clear w = do
 with_one _ w = None
 
 -- an address and one more word behind it
-abbrev pub at_address : Name → Address → List ℕ → Option Command
+abbrev pub at_address : CommandName → LogicalAddress → List ℕ → Option Command
 at_address name.Unassemble a w = do
   n ← up_to 0x1000 (number_of w)
   Some (command.Unassemble a n)
@@ -58,12 +58,12 @@ at_address name.Enter a w = do
   Some (command.Enter a bytes)
 at_address _ a w = None
 
-abbrev pub with_two : Name → List ℕ → List ℕ → Option Command
+abbrev pub with_two : CommandName → List ℕ → List ℕ → Option Command
 with_two n v w = do
   a ← logical_address v
   at_address n a w
 
-abbrev pub command_named : Name → List (List ℕ) → Option Command
+abbrev pub command_named : CommandName → List (List ℕ) → Option Command
 command_named n [] = alone n
 command_named n (v ∷ []) = with_one n v
 command_named n (v ∷ w ∷ []) = with_two n v w

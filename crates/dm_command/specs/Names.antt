@@ -1,13 +1,13 @@
 -- The names of commands: one letter or two, in either case.
 -- Source: MS-DOS User's Reference, "DEBUG" (D, E, G, R, T, U); the others are this machine's own.
 use Rattle.std.specs.Prelude.{ℕ, ◌-◌, ◌&&◌, ◌==◌, nat_le, if◌then◌else◌, List, [], ◌∷◌, Option, Some, None}
-use Rattle.dm_command.specs.declared.names.Name.{Name}
-use Rattle.dm_command.specs.declared.names.Name.TheVariants.{Registers, Unassemble, Dump, Arena, Pages, Extended, Go, Trace, Break, Clear, Breakpoints, Enter, Output}
+use Rattle.dm_command.specs.declared.names.CommandName.{CommandName}
+use Rattle.dm_command.specs.declared.names.CommandName.TheVariants.{Registers, Unassemble, Dump, Arena, Pages, Extended, Go, Trace, Break, Clear, Breakpoints, Enter, Output}
 
 abbrev pub uppercase : ℕ → ℕ
 uppercase b = if nat_le 97 b && nat_le b 122 then b - 32 else b
 
-abbrev pub letter_name : ℕ → Option Name
+abbrev pub letter_name : ℕ → Option CommandName
 letter_name b =
     if b == 66 then Some Break
     else if b == 68 then Some Dump
@@ -23,11 +23,11 @@ letter_name b =
     else None
 
 -- BC and BL
-abbrev pub pair_name : ℕ → ℕ → Option Name
+abbrev pub pair_name : ℕ → ℕ → Option CommandName
 pair_name a b =
     if a == 66 then (if b == 67 then Some Clear else if b == 76 then Some Breakpoints else None) else None
 
-abbrev pub name_of : List ℕ → Option Name
+abbrev pub name_of : List ℕ → Option CommandName
 name_of (a ∷ []) = letter_name (uppercase a)
 name_of (a ∷ b ∷ []) = pair_name (uppercase a) (uppercase b)
 name_of _ = None

@@ -3,7 +3,7 @@
 use Rattle.std.specs.Prelude.{ℕ, ◌+◌, ◌*◌, ◌/◌, ◌==◌, ◌||◌, nat_lt, nat_le, if◌then◌else◌, List, [], ◌∷◌, ◌++◌, length, Option, Some, None, Result, Ok, Err}
 use Rattle.hex.specs.Hex.{hex_digit_value, decode_of}
 use Rattle.hex.specs.declared.error.FromHexError.{FromHexError}
-use Rattle.dm_command.specs.declared.command.Address.{Address}
+use Rattle.dm_command.specs.declared.command.LogicalAddress.{LogicalAddress}
 
 -- what follows a value; where there is none, there is none
 infixl 10 ◌>>=◌
@@ -35,7 +35,7 @@ parts_of front [] = None
 parts_of front (b ∷ bs) = if b == 58 then Some (front, bs) else parts_of (front ++ b ∷ []) bs
 
 -- a segment and an offset, with a colon between them
-abbrev pub logical_address : List ℕ → Option Address
+abbrev pub logical_address : List ℕ → Option LogicalAddress
 logical_address w = do
   p ← parts_of [] w
   segment ← word_from_digits p.0

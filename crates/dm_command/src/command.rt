@@ -7,7 +7,7 @@ use std::marker::Model;
 
 /// A segment and an offset in it.
 #[derive(Clone, Copy, Debug, PartialEq, Eq)]
-pub struct Address {
+pub struct LogicalAddress {
     pub segment: u16,
     pub offset: u16,
 }
@@ -53,9 +53,9 @@ pub enum Command {
     /// R: the registers, and the instruction at CS:IP.
     Registers,
     /// U: so many instructions from an address on, at most 1000h.
-    Unassemble(Address, u16),
+    Unassemble(LogicalAddress, u16),
     /// D: so many bytes from an address on, at most 10000h.
-    Dump(Address, u32),
+    Dump(LogicalAddress, u32),
     /// M: the headers of the arena.
     Arena,
     /// P: the handles of expanded memory, and the windows.
@@ -67,13 +67,13 @@ pub enum Command {
     /// T: so many steps, at most 1000h, and the registers after each.
     Trace(u16),
     /// B: a breakpoint is set.
-    Break(Address),
+    Break(LogicalAddress),
     /// BC: a breakpoint is cleared.
-    Clear(Address),
+    Clear(LogicalAddress),
     /// BL: the breakpoints.
     Breakpoints,
     /// E: bytes are written from an address on, 1 to 64 of them.
-    Enter(Address, Bytes),
+    Enter(LogicalAddress, Bytes),
     /// O: what the console wrote.
     Output,
 }

@@ -10,5 +10,5 @@ mod numbers;
 mod reading;
 mod words;
 
-pub use command::{Address, Bytes, Command};
+pub use command::{Bytes, Command, LogicalAddress};
 pub use reading::read_command;

@@ -5,7 +5,7 @@ ghost use Rattle.dm_command.specs.Names.{uppercase, letter_name, pair_name, name
 
 /// The name of a command.
 #[derive(Clone, Copy, Debug, PartialEq, Eq)]
-pub(crate) enum Name {
+pub(crate) enum CommandName {
     Registers,
     Unassemble,
     Dump,
@@ -33,41 +33,41 @@ fn upper_byte(byte: u8) -> u8
 }
 
 /// The name of one letter.
-fn of_letter(letter: u8) -> Option<Name>
+fn of_letter(letter: u8) -> Option<CommandName>
     ensures { result ≡ letter_name letter }
 {
     match letter {
-        b'B' => Some(Name::Break),
-        b'D' => Some(Name::Dump),
-        b'E' => Some(Name::Enter),
-        b'G' => Some(Name::Go),
-        b'M' => Some(Name::Arena),
-        b'O' => Some(Name::Output),
-        b'P' => Some(Name::Pages),
-        b'R' => Some(Name::Registers),
-        b'T' => Some(Name::Trace),
-        b'U' => Some(Name::Unassemble),
-        b'X' => Some(Name::Extended),
+        b'B' => Some(CommandName::Break),
+        b'D' => Some(CommandName::Dump),
+        b'E' => Some(CommandName::Enter),
+        b'G' => Some(CommandName::Go),
+        b'M' => Some(CommandName::Arena),
+        b'O' => Some(CommandName::Output),
+        b'P' => Some(CommandName::Pages),
+        b'R' => Some(CommandName::Registers),
+        b'T' => Some(CommandName::Trace),
+        b'U' => Some(CommandName::Unassemble),
+        b'X' => Some(CommandName::Extended),
         _ => None,
     }
 }
 
 /// The name of two letters.
-fn of_letters(first: u8, second: u8) -> Option<Name>
+fn of_letters(first: u8, second: u8) -> Option<CommandName>
     ensures { result ≡ pair_name first second }
 {
     if first != b'B' {
         return None;
     }
     match second {
-        b'C' => Some(Name::Clear),
-        b'L' => Some(Name::Breakpoints),
+        b'C' => Some(CommandName::Clear),
+        b'L' => Some(CommandName::Breakpoints),
         _ => None,
     }
 }
 
 /// The name that a word is, if it is one.
-pub(crate) fn read_name(word: &[u8]) -> Option<Name>
+pub(crate) fn read_name(word: &[u8]) -> Option<CommandName>
     ensures { result ≡ name_of word.now }
 {
     match word {

@@ -4,7 +4,7 @@ ghost use Rattle.std.specs.Prelude.{◌≡◌, ◌<◌, ◌≤◌, [], IfSome, o
 ghost use Rattle.hex.specs.Hex.{hex_digit_value};
 ghost use Rattle.dm_command.specs.Numbers.{number_of, up_to, word_from_digits, parts_of, logical_address, bytes_from_digits};
 
-use crate::command::{Address, Bytes};
+use crate::command::{Bytes, LogicalAddress};
 
 /// The most digits of a number.
 const DIGITS: usize = 8;
@@ -71,13 +71,13 @@ fn parts(word: &[u8]) -> Option<(&[u8], &[u8])>
 }
 
 /// A segment and an offset, with a colon between them.
-pub(crate) fn read_address(word: &[u8]) -> Option<Address>
+pub(crate) fn read_address(word: &[u8]) -> Option<LogicalAddress>
     ensures { result ≡ logical_address word.now }
 {
     let (before, behind) = parts(word)?;
     let segment = read_word(before)?;
     let offset = read_word(behind)?;
-    Some(Address { segment, offset })
+    Some(LogicalAddress { segment, offset })
 }
 
 /// One to 64 bytes, each two digits, with nothing between them.

@@ -4,7 +4,7 @@ ghost use Rattle.std.specs.Prelude.{◌≡◌};
 ghost use Rattle.dm_command.specs.Commands.{alone, with_one, with_two, command_of};
 
 use crate::command::Command;
-use crate::names::{Name, read_name};
+use crate::names::{CommandName, read_name};
 use crate::numbers::{read_address, read_bytes, read_number, read_up_to};
 use crate::words::next_word;
 
@@ -15,52 +15,52 @@ const MOST_LINES: u32 = 0x1000;
 const MOST_BYTES: u32 = 0x1_0000;
 
 /// A command with nothing behind its name.
-fn alone(name: Name) -> Option<Command>
+fn alone(name: CommandName) -> Option<Command>
     ensures { result ≡ alone name }
 {
     match name {
-        Name::Registers => Some(Command::Registers),
-        Name::Arena => Some(Command::Arena),
-        Name::Pages => Some(Command::Pages),
-        Name::Extended => Some(Command::Extended),
-        Name::Go => Some(Command::Go(0xFF_FFFF)),
-        Name::Trace => Some(Command::Trace(1)),
-        Name::Breakpoints => Some(Command::Breakpoints),
-        Name::Output => Some(Command::Output),
+        CommandName::Registers => Some(Command::Registers),
+        CommandName::Arena => Some(Command::Arena),
+        CommandName::Pages => Some(Command::Pages),
+        CommandName::Extended => Some(Command::Extended),
+        CommandName::Go => Some(Command::Go(0xFF_FFFF)),
+        CommandName::Trace => Some(Command::Trace(1)),
+        CommandName::Breakpoints => Some(Command::Breakpoints),
+        CommandName::Output => Some(Command::Output),
         _ => None,
     }
 }
 
 /// A command with one word behind its name.
-fn with_one(name: Name, word: &[u8]) -> Option<Command>
+fn with_one(name: CommandName, word: &[u8]) -> Option<Command>
     ensures { result ≡ with_one name word.now }
 {
     match name {
-        Name::Unassemble => Some(Command::Unassemble(read_address(word)?, 8)),
-        Name::Dump => Some(Command::Dump(read_address(word)?, 0x80)),
-        Name::Go => Some(Command::Go(read_number(word)?)),
-        Name::Trace => Some(Command::Trace(read_up_to(word, MOST_LINES)? as u16)),
-        Name::Break => Some(Command::Break(read_address(word)?)),
-        Name::Clear => Some(Command::Clear(read_address(word)?)),
+        CommandName::Unassemble => Some(Command::Unassemble(read_address(word)?, 8)),
+        CommandName::Dump => Some(Command::Dump(read_address(word)?, 0x80)),
+        CommandName::Go => Some(Command::Go(read_number(word)?)),
+        CommandName::Trace => Some(Command::Trace(read_up_to(word, MOST_LINES)? as u16)),
+        CommandName::Break => Some(Command::Break(read_address(word)?)),
+        CommandName::Clear => Some(Command::Clear(read_address(word)?)),
         _ => None,
     }
 }
 
 /// A command with two words behind its name.
-fn with_two(name: Name, first: &[u8], second: &[u8]) -> Option<Command>
+fn with_two(name: CommandName, first: &[u8], second: &[u8]) -> Option<Command>
     ensures { result ≡ with_two name first.now second.now }
 {
     let address = read_address(first)?;
     match name {
-        Name::Unassemble => {
+        CommandName::Unassemble => {
             let count = read_up_to(second, MOST_LINES)?;
             Some(Command::Unassemble(address, count as u16))
         }
-        Name::Dump => {
+        CommandName::Dump => {
             let length = read_up_to(second, MOST_BYTES)?;
             Some(Command::Dump(address, length))
         }
-        Name::Enter => {
+        CommandName::Enter => {
             let bytes = read_bytes(second)?;
             Some(Command::Enter(address, bytes))
         }

@@ -1,33 +1,33 @@
 -- The breakpoints of a session, in the order of setting.
 use Rattle.std.specs.Prelude.{ℕ, Bool, ◌&&◌, ◌==◌, List, [], ◌∷◌, ◌++◌, position, remove, is_some, Option, Some, None}
 use Rattle.std.specs.List.{flat_map}
-use Rattle.dm_command.specs.declared.command.Address.{Address}
+use Rattle.dm_command.specs.declared.command.LogicalAddress.{LogicalAddress}
 use Rattle.dm_machine.specs.declared.until.Breakpoint.{Breakpoint}
 use Rattle.dm_views.specs.Digits.{address_text}
 
-abbrev pub point_at : Address → Breakpoint
+abbrev pub point_at : LogicalAddress → Breakpoint
 point_at a = record { segment = a.segment; offset = a.offset }
 
-abbrev pub is_point : Address → Breakpoint → Bool
+abbrev pub is_point : LogicalAddress → Breakpoint → Bool
 is_point a p = p.offset == a.offset && p.segment == a.segment
 
 -- a breakpoint is set at the address
-abbrev pub is_set : List Breakpoint → Address → Bool
+abbrev pub is_set : List Breakpoint → LogicalAddress → Bool
 is_set points a = is_some (position (is_point a) points)
 
 -- one that stands is not set again
-abbrev pub set_if : Option ℕ → List Breakpoint → Address → List Breakpoint
+abbrev pub set_if : Option ℕ → List Breakpoint → LogicalAddress → List Breakpoint
 set_if None points a = points ++ point_at a ∷ []
 set_if (Some i) points a = points
 
-abbrev pub with_point : List Breakpoint → Address → List Breakpoint
+abbrev pub with_point : List Breakpoint → LogicalAddress → List Breakpoint
 with_point points a = set_if (position (is_point a) points) points a
 
 abbrev pub cleared : Option ℕ → List Breakpoint → List Breakpoint
 cleared None points = points
 cleared (Some i) points = remove points i
 
-abbrev pub without_point : List Breakpoint → Address → List Breakpoint
+abbrev pub without_point : List Breakpoint → LogicalAddress → List Breakpoint
 without_point points a = cleared (position (is_point a) points) points
 
 -- a line each

@@ -8,7 +8,7 @@ use Rattle.dm_state.specs.declared.stop.Stop.{Stop}
 use Rattle.dm_state.specs.State.{State}
 use Rattle.dm_machine.specs.declared.until.Breakpoint.{Breakpoint}
 use Rattle.dm_machine.specs.Until.{RunsUntil}
-use Rattle.dm_command.specs.declared.command.Address.{Address}
+use Rattle.dm_command.specs.declared.command.LogicalAddress.{LogicalAddress}
 use Rattle.dm_command.specs.declared.command.Command.{Command}
 use Rattle.dm_command.specs.declared.command.Command.TheVariants as c
 use Rattle.dm_command.specs.Commands.{command_of}
@@ -37,14 +37,14 @@ with_machine s t = record s { machine = t }
 abbrev pub with_points : Debugged → List Breakpoint → Debugged
 with_points s points = record s { points = points }
 
-abbrev pub with_entered : Debugged → Address → List ℕ → Debugged
+abbrev pub with_entered : Debugged → LogicalAddress → List ℕ → Debugged
 with_entered s a bytes = with_machine s (record s.machine { memory = with_bytes s.machine.memory a.segment a.offset bytes })
 
 -- a command that changes nothing: a listing of one state, or what the console wrote
 pub data Displays (s : Debugged) : Command → List ℕ → Type 0 where
   registers : (text : List ℕ) → IsRegistersText s.machine.cpu s.machine.memory text → Displays s c.Registers text
-  code : (a : Address) (n : ℕ) (text : List ℕ) → IsCode s.machine.memory a.segment a.offset n text → Displays s (c.Unassemble a n) text
-  bytes : (a : Address) (n : ℕ) → Displays s (c.Dump a n) (bytes_text s.machine.memory a.segment a.offset n)
+  code : (a : LogicalAddress) (n : ℕ) (text : List ℕ) → IsCode s.machine.memory a.segment a.offset n text → Displays s (c.Unassemble a n) text
+  bytes : (a : LogicalAddress) (n : ℕ) → Displays s (c.Dump a n) (bytes_text s.machine.memory a.segment a.offset n)
   arena : (text : List ℕ) → IsArenaText s.machine.upper s.machine.memory text → Displays s c.Arena text
   pages : Displays s c.Pages (pages_text s.machine.ems s.machine.memory)
   extended : Displays s c.Extended (extended_text s.machine.xms s.machine.memory)
@@ -56,9 +56,9 @@ pub data Does (s : Debugged) : Command → List ℕ → Debugged → Type 0 wher
   shows : (command : Command) (text : List ℕ) → Displays s command text → Does s command text s
   goes : (n : ℕ) (text : List ℕ) (t : State) → GoesTo s.machine n s.points text t → Does s (c.Go n) text (with_machine s t)
   traces : (n : ℕ) (text : List ℕ) (t : State) → IsTrace s.machine n text t → Does s (c.Trace n) text (with_machine s t)
-  sets : (a : Address) → Does s (c.Break a) done (with_points s (with_point s.points a))
-  clears : (a : Address) → Does s (c.Clear a) done (with_points s (without_point s.points a))
-  enters : (a : Address) (typed : List ℕ) → Does s (c.Enter a typed) done (with_entered s a typed)
+  sets : (a : LogicalAddress) → Does s (c.Break a) done (with_points s (with_point s.points a))
+  clears : (a : LogicalAddress) → Does s (c.Clear a) done (with_points s (without_point s.points a))
+  enters : (a : LogicalAddress) (typed : List ℕ) → Does s (c.Enter a typed) done (with_entered s a typed)
 
 -- some first part of what a command changes has changed
 pub data DoesPart (s : Debugged) : Command → Debugged → Type 0 where

@@ -8,7 +8,7 @@ ghost use Rattle.dm_views.specs.Extended.{extended_text};
 ghost use Rattle.dm_views.specs.Pages.{pages_text};
 ghost use Rattle.dm_views.specs.Registers.{IsRegistersText};
 
-use dm_command::Address;
+use dm_command::LogicalAddress;
 use dm_machine::Machine;
 use dm_views::{put_arena, put_bytes, put_code, put_extended, put_pages, put_registers};
 use std::alloc::AllocError;
@@ -24,7 +24,7 @@ pub(crate) fn put_machine(out: &mut Vec<u8>, machine: &Machine) -> Result<(), Al
 pub(crate) fn unassemble(
     out: &mut Vec<u8>,
     machine: &Machine,
-    at: Address,
+    at: LogicalAddress,
     count: u16,
 ) -> Result<(), AllocError>
     ensures { OnOk result ((text : List ℕ) × (out.new.items ≡ out.old.items ++ text) × IsCode machine.now.memory at.segment at.offset count text) }
@@ -36,7 +36,7 @@ pub(crate) fn unassemble(
 pub(crate) fn dump(
     out: &mut Vec<u8>,
     machine: &Machine,
-    at: Address,
+    at: LogicalAddress,
     count: u32,
 ) -> Result<(), AllocError>
     ensures { OnOk result (out.new.items ≡ out.old.items ++ bytes_text machine.now.memory at.segment at.offset count) }

@@ -5,7 +5,7 @@ ghost use Rattle.arrayvec.specs.ArrayVec.{array_vec_len};
 ghost use Rattle.dm_debug.specs.Points.{is_point, point_at, points_text};
 
 use arrayvec::ArrayVec;
-use dm_command::Address;
+use dm_command::LogicalAddress;
 use dm_machine::Breakpoint;
 use dm_views::put_address;
 use std::alloc::AllocError;
@@ -17,7 +17,7 @@ pub(crate) const MOST: usize = 16;
 pub type Points = ArrayVec<Breakpoint, 16>;
 
 /// The breakpoint at an address.
-pub(crate) fn point_at(address: Address) -> Breakpoint
+pub(crate) fn point_at(address: LogicalAddress) -> Breakpoint
     ensures { result ≡ point_at address }
 {
     Breakpoint {
@@ -27,14 +27,14 @@ pub(crate) fn point_at(address: Address) -> Breakpoint
 }
 
 /// Whether a breakpoint is at an address.
-fn is_point(address: Address, point: Breakpoint) -> bool
+fn is_point(address: LogicalAddress, point: Breakpoint) -> bool
     ensures { result ≡ is_point address point }
 {
     point.offset == address.offset && point.segment == address.segment
 }
 
 /// Where the breakpoint at an address stands among the others.
-pub(crate) fn place_of(points: &[Breakpoint], address: Address) -> Option<usize>
+pub(crate) fn place_of(points: &[Breakpoint], address: LogicalAddress) -> Option<usize>
     ensures first { result ≡ position (is_point address) points.now }
     ensures there { IfSome result (λ k. k < length points.now) }
 {

@@ -16,7 +16,7 @@ use crate::points::{MOST, Points, place_of, point_at, put_points};
 use crate::refusal::CommandRefusal;
 use crate::runs::{enter, go, trace};
 use arrayvec::ArrayVec;
-use dm_command::{Address, Bytes, Command, read_command};
+use dm_command::{Bytes, Command, LogicalAddress, read_command};
 use dm_machine::{Breakpoint, Machine, Out, Stop};
 use dm_out::write_all;
 use std::alloc::{AllocError, Global};
@@ -106,7 +106,7 @@ impl Session {
     }
 
     /// Whether a breakpoint is set at an address.
-    fn is_set(&self, address: Address) -> bool
+    fn is_set(&self, address: LogicalAddress) -> bool
         ensures { result ≡ Rattle.dm_debug.specs.Points.is_set self.now.points address }
     {
         place_of(self.points.as_slice(), address).is_some()
@@ -133,7 +133,7 @@ impl Session {
     }
 
     /// Sets a breakpoint, if it is not set.
-    fn set(&mut self, address: Address)
+    fn set(&mut self, address: LogicalAddress)
         requires { is_over self.old (Break address) ≡ false }
         ensures { self.new ≡ with_points self.old (with_point self.old.points address) }
     {
@@ -143,7 +143,7 @@ impl Session {
     }
 
     /// Clears a breakpoint, if it is set.
-    fn clear(&mut self, address: Address)
+    fn clear(&mut self, address: LogicalAddress)
         ensures { self.new ≡ with_points self.old (without_point self.old.points address) }
     {
         if let Some(at) = place_of(self.points.as_slice(), address) {
@@ -152,7 +152,7 @@ impl Session {
     }
 
     /// Sets a breakpoint, if it is not set.
-    fn set_point(&mut self, address: Address, text: &mut Vec<u8>) -> Result<(), AllocError>
+    fn set_point(&mut self, address: LogicalAddress, text: &mut Vec<u8>) -> Result<(), AllocError>
         requires over { is_over self.old (Break address) ≡ false }
         ensures ok { OnOk result (self.new ≡ with_points self.old (with_point self.old.points address)) }
         ensures told { OnOk result (text.new.items ≡ text.old.items ++ done) }
@@ -164,7 +164,7 @@ impl Session {
     }
 
     /// Clears a breakpoint, if it is set.
-    fn clear_point(&mut self, address: Address, text: &mut Vec<u8>) -> Result<(), AllocError>
+    fn clear_point(&mut self, address: LogicalAddress, text: &mut Vec<u8>) -> Result<(), AllocError>
         ensures ok { OnOk result (self.new ≡ with_points self.old (without_point self.old.points address)) }
         ensures told { OnOk result (text.new.items ≡ text.old.items ++ done) }
         ensures err { OnErr result (self.new ≡ self.old) }
@@ -177,7 +177,7 @@ impl Session {
     /// Writes bytes from an address on.
     fn enter_bytes(
         &mut self,
-        address: Address,
+        address: LogicalAddress,
         bytes: &Bytes,
         text: &mut Vec<u8>,
     ) -> Result<(), AllocError>

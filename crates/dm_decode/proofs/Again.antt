@@ -12,8 +12,8 @@ use Rattle.dm_ins.specs.declared.operand.SegmentRegister.TheVariants.{Es, Cs, Ss
 use Rattle.dm_ins.specs.declared.prefix.Repeat.TheVariants.{NotEqual, Equal}
 use Rattle.dm_ins.specs.declared.action.Action.{Action}
 use Rattle.dm_ins.specs.declared.table.Row.{Row}
-use Rattle.dm_ins.specs.declared.table.Entry.{Entry}
-use Rattle.dm_ins.specs.declared.table.Entry.TheVariants.{Unlisted, Plain, Group, Second}
+use Rattle.dm_ins.specs.declared.table.OpcodeEntry.{OpcodeEntry}
+use Rattle.dm_ins.specs.declared.table.OpcodeEntry.TheVariants.{Unlisted, Plain, Group, Second}
 use Rattle.dm_ins.specs.Table.{entry_of}
 use Rattle.dm_ins.specs.declared.fields.Fields.{Fields}
 use Rattle.dm_ins.specs.declared.operand.Operand.{Operand}
@@ -78,7 +78,7 @@ plain_again : (b : Bool) (p : Row) (m : Fields) (d rest : List ℕ) → MaySpell
 plain_again true p m d rest h = rw (fields_again m d rest h) refl
 plain_again false p m d rest h = rw (h.0, h.1) refl
 
-row_again : (e : Entry) (m : Fields) (r : Row) (d rest : List ℕ) → HasRow e m d r → row_at e (d ++ rest) ≡ Some ((r, m), rest)
+row_again : (e : OpcodeEntry) (m : Fields) (r : Row) (d rest : List ℕ) → HasRow e m d r → row_at e (d ++ rest) ≡ Some ((r, m), rest)
 unfolding row_at
 row_again Unlisted m r d rest h = absurd h
 row_again (Plain p) m r d rest h = rw h.0 (plain_again (has_fields p) p m d rest h.1)

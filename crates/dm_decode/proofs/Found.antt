@@ -13,8 +13,8 @@ use Rattle.dm_ins.specs.declared.action.Action.{Action}
 use Rattle.dm_ins.specs.declared.table.OperandKind.{OperandKind}
 use Rattle.dm_ins.specs.declared.table.OperandKind.TheVariants as is
 use Rattle.dm_ins.specs.declared.table.Row.{Row}
-use Rattle.dm_ins.specs.declared.table.Entry.{Entry}
-use Rattle.dm_ins.specs.declared.table.Entry.TheVariants.{Unlisted, Plain, Group, Second}
+use Rattle.dm_ins.specs.declared.table.OpcodeEntry.{OpcodeEntry}
+use Rattle.dm_ins.specs.declared.table.OpcodeEntry.TheVariants.{Unlisted, Plain, Group, Second}
 use Rattle.dm_ins.specs.Table.{entry_of, member_of}
 use Rattle.dm_ins.specs.Spelling.{word_bytes, SpellsMemory, SpellsFields, Fills, has_fields, no_fields, MaySpellFields, HasRow, SpellsAction, prefix_byte, no_prefix, with_prefix, kept, SpellsPrefixed}
 use Rattle.dm_ins.specs.Walks.{◌>>=◌}
@@ -181,10 +181,10 @@ plain_found true p bytes x h e =
 plain_found false p bytes x h e =
     subst (λ (y : (Row × Fields) × List ℕ). (d : List ℕ) × Takes bytes d y.1 × (y.0.0 ≡ p) × ((y.0.1 ≡ no_fields) × (d ≡ []))) (some_is ((p, no_fields), bytes) x e) ([], takes_none bytes h, refl, (refl, refl))
 
-abbrev RowFound : Entry → List ℕ → (Row × Fields) × List ℕ → Type 0
+abbrev RowFound : OpcodeEntry → List ℕ → (Row × Fields) × List ℕ → Type 0
 RowFound e bytes x = (d : List ℕ) × Takes bytes d x.1 × HasRow e x.0.1 d x.0.0
 
-row_found : (e : Entry) (bytes : List ℕ) (x : (Row × Fields) × List ℕ) → IsBytes bytes → row_at e bytes ≡ Some x → RowFound e bytes x
+row_found : (e : OpcodeEntry) (bytes : List ℕ) (x : (Row × Fields) × List ℕ) → IsBytes bytes → row_at e bytes ≡ Some x → RowFound e bytes x
 unfolding row_at
 row_found Unlisted bytes x h e = absurd cc
 row_found (Plain p) bytes x h e =

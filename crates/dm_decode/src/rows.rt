@@ -9,7 +9,7 @@ use crate::operands::{fields_of, operand_of};
 use crate::reading::byte_of;
 use dm_ins::Action;
 use dm_ins::fields::Fields;
-use dm_ins::table::{Entry, OperandKind, Row, entry_at, member};
+use dm_ins::table::{OpcodeEntry, OperandKind, Row, entry_at, member};
 
 fn needs_fields(kind: OperandKind) -> bool
     ensures { result ≡ uses_fields kind }
@@ -26,7 +26,7 @@ fn needs_fields(kind: OperandKind) -> bool
 /// The row under the first byte's entry with the fields of its mod r/m byte, if it has one, and the
 /// bytes behind them.
 #[tactic(auto, unfolding(crate::specs::inner::Reading::row_at))]
-fn row_of(entry: Entry, bytes: &[u8]) -> Option<((Row, Fields), &[u8])>
+fn row_of(entry: OpcodeEntry, bytes: &[u8]) -> Option<((Row, Fields), &[u8])>
     requires { IfGroup entry (λ g. g < 17) }
     ensures reads { seen result ≡ row_at entry bytes.now }
     ensures fits { IfSome result (λ x. (x.0.1.register < 8) × (x.0.1.rm < 8)) }
@@ -37,8 +37,8 @@ fn row_of(entry: Entry, bytes: &[u8]) -> Option<((Row, Fields), &[u8])>
         memory: None,
     };
     match entry {
-        Entry::Unlisted => None,
-        Entry::Plain(row) => {
+        OpcodeEntry::Unlisted => None,
+        OpcodeEntry::Plain(row) => {
             if needs_fields(row.first) || needs_fields(row.second) {
                 let (fields, rest) = fields_of(bytes)?;
                 Some(((row, fields), rest))
@@ -46,12 +46,12 @@ fn row_of(entry: Entry, bytes: &[u8]) -> Option<((Row, Fields), &[u8])>
                 Some(((row, none), bytes))
             }
         }
-        Entry::Group(group) => {
+        OpcodeEntry::Group(group) => {
             let (fields, rest) = fields_of(bytes)?;
             let row = member(group, fields.register)?;
             Some(((row, fields), rest))
         }
-        Entry::Second(second, row) => {
+        OpcodeEntry::Second(second, row) => {
             let (b, rest) = byte_of(bytes)?;
             if b == second {
                 Some(((row, none), rest))

@@ -7,8 +7,8 @@ use Rattle.dm_ins.specs.declared.fields.Fields.{Fields}
 use Rattle.dm_ins.specs.declared.action.Action.{Action}
 use Rattle.dm_ins.specs.declared.fill.Choice.{Choice}
 use Rattle.dm_ins.specs.declared.table.Row.{Row}
-use Rattle.dm_ins.specs.declared.table.Entry.{Entry}
-use Rattle.dm_ins.specs.declared.table.Entry.TheVariants.{Unlisted, Plain, Group, Second}
+use Rattle.dm_ins.specs.declared.table.OpcodeEntry.{OpcodeEntry}
+use Rattle.dm_ins.specs.declared.table.OpcodeEntry.TheVariants.{Unlisted, Plain, Group, Second}
 use Rattle.dm_ins.specs.Table.{entries, entry_of, groups, member_of}
 use Rattle.dm_ins.specs.Spelling.{has_fields, MaySpellFields, HasRow, SpellsAction}
 use Rattle.dm_ins.specs.inner.Search.{either, behind_bytes, bytes_of, choice_at}
@@ -31,7 +31,7 @@ regular_fields r = exactly_one (asks_for_register r.first) (asks_for_register r.
 abbrev pub no_demand : Row → Bool
 no_demand r = neither (asks_for_register r.first) (asks_for_register r.second) && neither (asks_for_place r.first) (asks_for_place r.second)
 
-abbrev pub regular : Entry → Bool
+abbrev pub regular : OpcodeEntry → Bool
 regular (Plain p) = cond (has_fields p) (regular_fields p) (no_demand p)
 regular (Second c p) = no_demand p
 regular _ = true
@@ -61,7 +61,7 @@ none_of true b x e = absurd cc
 none_of false true x e = absurd cc
 none_of false false x e = refl
 
-record Chosen (e : Entry) (b : ℕ) (m : Fields) (r : Row) (behind : List ℕ) : Type 0 where
+record Chosen (e : OpcodeEntry) (b : ℕ) (m : Fields) (r : Row) (behind : List ℕ) : Type 0 where
   g : ℕ
   choice : Choice
   is_choice : choice_at e b g ≡ Some choice
@@ -91,7 +91,7 @@ plain_chosen false p b m behind t h =
       least = rw (none_of (asks_for_register p.first) (asks_for_register p.second) m.register u.0) (inl (sym h.1));
     }
 
-chosen : (e : Entry) (b : ℕ) (m : Fields) (r : Row) (behind : List ℕ) → regular e ≡ true → HasRow e m behind r → Chosen e b m r behind
+chosen : (e : OpcodeEntry) (b : ℕ) (m : Fields) (r : Row) (behind : List ℕ) → regular e ≡ true → HasRow e m behind r → Chosen e b m r behind
 chosen Unlisted b m r behind t h = absurd h
 chosen (Plain p) b m r behind t h = subst (λ q. Chosen (Plain p) b m q behind) (sym h.0) (plain_chosen (has_fields p) p b m behind t h.1)
 chosen (Group g) b m r behind t h =
@@ -132,7 +132,7 @@ pub record ActionLeast (a : Action) (bytes : List ℕ) : Type 0 where
   pub is_bytes : bytes_of choice a.first a.second ≡ Some c
   pub least : AtMost c bytes
 
-pub row_fits : (e : Entry) (m : Fields) (d : List ℕ) (r : Row) → HasRow e m d r → (m.register < 8) × (m.rm < 8)
+pub row_fits : (e : OpcodeEntry) (m : Fields) (d : List ℕ) (r : Row) → HasRow e m d r → (m.register < 8) × (m.rm < 8)
 row_fits Unlisted m d r h = absurd h
 row_fits (Plain p) m d r h = by (has_fields p) h.1
   where

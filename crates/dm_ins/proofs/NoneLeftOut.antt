@@ -10,8 +10,8 @@ use Rattle.dm_ins.specs.declared.action.Mnemonic.{Mnemonic}
 use Rattle.dm_ins.specs.declared.fill.Choice.{Choice}
 use Rattle.dm_ins.specs.declared.keys.Key.{Key}
 use Rattle.dm_ins.specs.declared.table.Row.{Row}
-use Rattle.dm_ins.specs.declared.table.Entry.{Entry}
-use Rattle.dm_ins.specs.declared.table.Entry.TheVariants.{Unlisted, Plain, Group, Second}
+use Rattle.dm_ins.specs.declared.table.OpcodeEntry.{OpcodeEntry}
+use Rattle.dm_ins.specs.declared.table.OpcodeEntry.TheVariants.{Unlisted, Plain, Group, Second}
 use Rattle.dm_ins.specs.Table.{entries, entry_of, groups, member_of}
 use Rattle.dm_ins.specs.inner.Keys.{key, has_field, is_of, onto, member_keys, entry_keys, keys_from, keyed, key_at}
 use Rattle.dm_ins.specs.inner.Search.{choice_at}
@@ -38,7 +38,7 @@ member_fits n g r e = elim (cases_lt g 8) [
   | inr le ↦ absurd (let f = groups_few n in let past : length (get_or groups n []) ≤ g = omega arith in some_none (get_or (get_or groups n []) g None) r (get_or_past (get_or groups n []) g None past) e)
 ]
 
-pub choice_fits : (e : Entry) (b g : ℕ) (x : Choice) → choice_at e b g ≡ Some x → g < 8
+pub choice_fits : (e : OpcodeEntry) (b g : ℕ) (x : Choice) → choice_at e b g ≡ Some x → g < 8
 choice_fits Unlisted b g x h = absurd cc
 choice_fits (Plain p) b g x h = let z : g ≡ 0 = eqb-true g 0 (chosen_true (eqb g 0) _ x h).0 in omega arith
 choice_fits (Group n) b g x h = let r = bind_some (member_of n g) _ x h in member_fits n g r.0 r.1
@@ -81,7 +81,7 @@ alone : (m : Mnemonic) (b g : ℕ) (p : Row) (x y : Choice) → y ≡ x → y.ro
 alone m b g p x y e f z t =
     has_first (is_of m p) (key b 0) [] b g (same_is m p x.row (sym f ∙ ap (λ (c : Choice). c.row) e) t) (ap (key b) (sym (eqb-true g 0 z)))
 
-in_entry : (m : Mnemonic) (b g : ℕ) (e : Entry) (x : Choice) → choice_at e b g ≡ Some x → is_of m x.row ≡ true → Has (entry_keys m b e) b g
+in_entry : (m : Mnemonic) (b g : ℕ) (e : OpcodeEntry) (x : Choice) → choice_at e b g ≡ Some x → is_of m x.row ≡ true → Has (entry_keys m b e) b g
 unfolding member_of
 in_entry m b g Unlisted x h t = absurd cc
 in_entry m b g (Plain p) x h t = let c = chosen_true (eqb g 0) (record { opcode = b; row = p; register = None; second = None }) x h in alone m b g p x _ c.1 refl c.0 t
@@ -91,7 +91,7 @@ in_entry m b g (Group n) x h t =
     in_members m b 0 g g (get_or groups n []) r.0 (omega arith) r.1 (same_is m r.0 x.row (ap (λ (c : Choice). c.row) (is_some y x r.2)) t)
 in_entry m b g (Second c p) x h t = let d = chosen_true (eqb g 0) (record { opcode = b; row = p; register = None; second = Some c }) x h in alone m b g p x _ d.1 refl d.0 t
 
-in_entries : (m : Mnemonic) (from i b g : ℕ) (es : List Entry) (x : Choice) → b ≡ from + i → choice_at (get_or es i Unlisted) b g ≡ Some x → is_of m x.row ≡ true → Has (keys_from m from es) b g
+in_entries : (m : Mnemonic) (from i b g : ℕ) (es : List OpcodeEntry) (x : Choice) → b ≡ from + i → choice_at (get_or es i Unlisted) b g ≡ Some x → is_of m x.row ≡ true → Has (keys_from m from es) b g
 in_entries m from i b g [] x e h t = absurd cc
 in_entries m from zero b g (y ∷ es) x e h t =
     let f : b ≡ from = omega arith in

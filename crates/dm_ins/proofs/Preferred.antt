@@ -17,8 +17,8 @@ use Rattle.dm_ins.specs.declared.fill.Choice.{Choice}
 use Rattle.dm_ins.specs.declared.ins.Ins.{Ins}
 use Rattle.dm_ins.specs.declared.operand.Address.{Address}
 use Rattle.dm_ins.specs.declared.operand.Operand.{Operand}
-use Rattle.dm_ins.specs.declared.table.Entry.{Entry}
-use Rattle.dm_ins.specs.declared.table.Entry.TheVariants.{Unlisted, Plain, Group, Second}
+use Rattle.dm_ins.specs.declared.table.OpcodeEntry.{OpcodeEntry}
+use Rattle.dm_ins.specs.declared.table.OpcodeEntry.TheVariants.{Unlisted, Plain, Group, Second}
 use Rattle.dm_ins.specs.declared.keys.Key.{Key}
 use Rattle.dm_ins.specs.declared.table.OperandKind.{OperandKind}
 use Rattle.dm_ins.specs.declared.table.OperandKind.TheVariants as is
@@ -161,7 +161,7 @@ may_short : (f : Bool) (m : Fields) (d : List ℕ) → MaySpellFields f m d → 
 may_short true m d s = fields_short m d s
 may_short false m d s = rw s.1 (omega arith)
 
-row_short : (e : Entry) (m : Fields) (d : List ℕ) (r : Row) → HasRow e m d r → length d ≤ 3
+row_short : (e : OpcodeEntry) (m : Fields) (d : List ℕ) (r : Row) → HasRow e m d r → length d ≤ 3
 row_short Unlisted m d r h = absurd h
 row_short (Plain p) m d r h = may_short (has_fields p) m d h.1
 row_short (Group g) m d r h = fields_short m d h.1

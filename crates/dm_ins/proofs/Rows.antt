@@ -7,8 +7,8 @@ use Rattle.dm_ins.specs.declared.demand.RegisterOrMemory.TheVariants as place
 use Rattle.dm_ins.specs.declared.demand.Demand.{Demand}
 use Rattle.dm_ins.specs.declared.fill.Choice.{Choice}
 use Rattle.dm_ins.specs.declared.table.Row.{Row}
-use Rattle.dm_ins.specs.declared.table.Entry.{Entry}
-use Rattle.dm_ins.specs.declared.table.Entry.TheVariants.{Unlisted, Plain, Group, Second}
+use Rattle.dm_ins.specs.declared.table.OpcodeEntry.{OpcodeEntry}
+use Rattle.dm_ins.specs.declared.table.OpcodeEntry.TheVariants.{Unlisted, Plain, Group, Second}
 use Rattle.dm_ins.specs.Table.{entry_of, member_of}
 use Rattle.dm_ins.specs.Spelling.{SpellsFields, has_fields, no_fields, MaySpellFields, HasRow, SpellsAction}
 use Rattle.dm_ins.specs.inner.Search.{data_bytes, either, behind_bytes, bytes_of, choice_at, demand_of, CandidateAt}
@@ -40,7 +40,7 @@ record Agree (m : Fields) (r : Row) (d e : Demand) : Type 0 where
   first_place : d.place ≡ asked (asks_for_place r.first) (named_place m.rm m.memory)
   second_place : e.place ≡ asked (asks_for_place r.second) (named_place m.rm m.memory)
 
-record Filled (en : Entry) (b : ℕ) (ch : Choice) (d e : Demand) : Type 0 where
+record Filled (en : OpcodeEntry) (b : ℕ) (ch : Choice) (d e : Demand) : Type 0 where
   m : Fields
   is_opcode : ch.opcode ≡ b
   has_row : HasRow en m (behind_of ch d e) ch.row
@@ -73,10 +73,10 @@ module _ (p : Row) (d e : Demand) (s : Shaped p.first d) (t : Shaped p.second e)
       let n = named_from g q.0 in
       (fields_from g q.0, n.1, rw q.4 (fields_spell g q.0 lt q.1), record { first_register = rw n.1 r.0; second_register = rw n.1 r.1; first_place = rw n.0 q.2; second_place = rw n.0 q.3 })
 
-abbrev Made : Entry → ℕ → Demand → Demand → Choice → Type 0
+abbrev Made : OpcodeEntry → ℕ → Demand → Demand → Choice → Type 0
 Made en b d e ch = Shaped ch.row.first d → Shaped ch.row.second e → Filled en b ch d e
 
-filled : (en : Entry) (b g : ℕ) (ch : Choice) (d e : Demand) → regular en ≡ true → g < 8 → choice_at en b g ≡ Some ch → Made en b d e ch
+filled : (en : OpcodeEntry) (b g : ℕ) (ch : Choice) (d e : Demand) → regular en ≡ true → g < 8 → choice_at en b g ≡ Some ch → Made en b d e ch
 filled Unlisted b g ch d e h lt i = absurd cc
 filled (Plain p) b g ch d e h lt i =
     let c = chosen_true (eqb g 0) (record { opcode = b; row = p; register = None; second = None }) ch i in

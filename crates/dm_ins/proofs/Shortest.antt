@@ -16,8 +16,8 @@ use Rattle.dm_ins.specs.declared.keys.Key.{Key}
 use Rattle.dm_ins.specs.declared.table.OperandKind.{OperandKind}
 use Rattle.dm_ins.specs.declared.table.OperandKind.TheVariants as is
 use Rattle.dm_ins.specs.declared.table.Row.{Row}
-use Rattle.dm_ins.specs.declared.table.Entry.{Entry}
-use Rattle.dm_ins.specs.declared.table.Entry.TheVariants.{Unlisted, Plain, Group, Second}
+use Rattle.dm_ins.specs.declared.table.OpcodeEntry.{OpcodeEntry}
+use Rattle.dm_ins.specs.declared.table.OpcodeEntry.TheVariants.{Unlisted, Plain, Group, Second}
 use Rattle.dm_ins.specs.Table.{entry_of}
 use Rattle.dm_ins.specs.Spelling.{sign_extended, SpellsMemory, Fills, has_fields, MaySpellFields, HasRow, SpellsAction, prefix_byte, no_prefix, kept, SpellsPrefixed, register, at_place}
 use Rattle.dm_ins.specs.Order.{before}
@@ -44,7 +44,7 @@ memory_fits a mode rm d (inr (inr (inl h))) = rw h.3 (extended_fits h.1 h.2)
 memory_fits a mode rm d (inr (inr (inr (inl h)))) = rw h.3 h.2
 memory_fits a mode rm d (inr (inr (inr (inr h)))) = rw h.1 tt
 
-fields_fit : (e : Entry) (m : Fields) (d : List ℕ) (r : Row) → HasRow e m d r → MemoryFits m.memory
+fields_fit : (e : OpcodeEntry) (m : Fields) (d : List ℕ) (r : Row) → HasRow e m d r → MemoryFits m.memory
 fields_fit Unlisted m d r h = absurd h
 fields_fit (Plain p) m d r h = by (has_fields p) h.1
   where

@@ -2,8 +2,8 @@
 use Rattle.std.proofs.Common.{◌≡◌, ℕ, zero, suc, ◌<◌, Bool, true, false, List, [], ◌∷◌, get_or, refl, nat_lt, ◌&&◌}
 use Rattle.std.specs.List.{list_all}
 use Rattle.std.proofs.lemmas.Bool.{ltb-true}
-use Rattle.dm_ins.specs.declared.table.Entry.{Entry}
-use Rattle.dm_ins.specs.declared.table.Entry.TheVariants.{Unlisted, Plain, Group, Second}
+use Rattle.dm_ins.specs.declared.table.OpcodeEntry.{OpcodeEntry}
+use Rattle.dm_ins.specs.declared.table.OpcodeEntry.TheVariants.{Unlisted, Plain, Group, Second}
 use Rattle.dm_ins.specs.Table.{entries, entry_of, IfGroup}
 
 pub both_true : (a b : Bool) → (a && b) ≡ true → (a ≡ true) × (b ≡ true)
@@ -17,11 +17,11 @@ passes p d h [] k e = h
 passes p d h (x ∷ xs) zero e = (both_true (p x) (list_all p xs) e).0
 passes p d h (x ∷ xs) (suc k) e = passes p d h xs k (both_true (p x) (list_all p xs) e).1
 
-group_exists : Entry → Bool
+group_exists : OpcodeEntry → Bool
 group_exists (Group g) = nat_lt g 17
 group_exists _ = true
 
-group_listed : (e : Entry) → group_exists e ≡ true → IfGroup e (λ g. g < 17)
+group_listed : (e : OpcodeEntry) → group_exists e ≡ true → IfGroup e (λ g. g < 17)
 unfolding group_exists
 group_listed (Group g) h = ltb-true g 17 h
 group_listed Unlisted h = tt

@@ -23,8 +23,8 @@ use Rattle.dm_ins.specs.declared.fields.Fields.{Fields}
 use Rattle.dm_ins.specs.declared.table.OperandKind.{OperandKind}
 use Rattle.dm_ins.specs.declared.table.OperandKind.TheVariants as is
 use Rattle.dm_ins.specs.declared.table.Row.{Row}
-use Rattle.dm_ins.specs.declared.table.Entry.{Entry}
-use Rattle.dm_ins.specs.declared.table.Entry.TheVariants.{Unlisted, Plain, Group, Second}
+use Rattle.dm_ins.specs.declared.table.OpcodeEntry.{OpcodeEntry}
+use Rattle.dm_ins.specs.declared.table.OpcodeEntry.TheVariants.{Unlisted, Plain, Group, Second}
 use Rattle.dm_ins.specs.Registers.{bases}
 use Rattle.dm_ins.specs.Table.{entry_of, member_of}
 use Rattle.dm_ins.specs.Registers.{word_registers, byte_registers}
@@ -154,7 +154,7 @@ MaySpellFields false m d = (m ≡ no_fields) × (d ≡ [])
 
 -- the row r that a first byte's entry has where the mod r/m byte has the fields m, and the bytes d
 -- between the first byte and the operands'
-abbrev pub HasRow : Entry → Fields → List ℕ → Row → Type 0
+abbrev pub HasRow : OpcodeEntry → Fields → List ℕ → Row → Type 0
 HasRow Unlisted m d r = ⊥
 HasRow (Plain p) m d r = (r ≡ p) × MaySpellFields (has_fields p) m d
 HasRow (Group g) m d r = (member_of g m.register ≡ Some r) × SpellsFields m d

@@ -15,8 +15,8 @@ use Rattle.dm_ins.specs.declared.action.Mnemonic.TheVariants as op
 use Rattle.dm_ins.specs.declared.table.OperandKind.{OperandKind}
 use Rattle.dm_ins.specs.declared.table.OperandKind.TheVariants as is
 use Rattle.dm_ins.specs.declared.table.Row.{Row}
-use Rattle.dm_ins.specs.declared.table.Entry.{Entry}
-use Rattle.dm_ins.specs.declared.table.Entry.TheVariants.{Unlisted, Plain, Group, Second}
+use Rattle.dm_ins.specs.declared.table.OpcodeEntry.{OpcodeEntry}
+use Rattle.dm_ins.specs.declared.table.OpcodeEntry.TheVariants.{Unlisted, Plain, Group, Second}
 use Rattle.dm_ins.specs.Registers.{word_registers, byte_registers}
 
 -- ---- signs of opcode maps: E is the operand of the mod and r/m fields, G the register of the
@@ -87,13 +87,13 @@ S r = is.TheSegment r
 abbrev pub row : Mnemonic → OperandKind → OperandKind → Row
 row m a b = record { mnemonic = m; first = a; second = b }
 
-abbrev pub two : Mnemonic → OperandKind → OperandKind → Entry
+abbrev pub two : Mnemonic → OperandKind → OperandKind → OpcodeEntry
 two m a b = Plain (row m a b)
 
-abbrev pub one : Mnemonic → OperandKind → Entry
+abbrev pub one : Mnemonic → OperandKind → OpcodeEntry
 one m a = two m a is.Nothing
 
-abbrev pub bare : Mnemonic → Entry
+abbrev pub bare : Mnemonic → OpcodeEntry
 bare m = one m is.Nothing
 
 -- ---- runs of rows that differ by a number
@@ -107,11 +107,11 @@ abbrev pub conditions : List Mnemonic
 conditions = op.Jo ∷ op.Jno ∷ op.Jb ∷ op.Jae ∷ op.Jz ∷ op.Jnz ∷ op.Jbe ∷ op.Ja ∷ op.Js ∷ op.Jns ∷ op.Jp ∷ op.Jnp ∷ op.Jl ∷ op.Jge ∷ op.Jle ∷ op.Jg ∷ []
 
 -- the six forms of an arithmetic mnemonic
-abbrev pub six : Mnemonic → List Entry
+abbrev pub six : Mnemonic → List OpcodeEntry
 six m = two m Eb Gb ∷ two m Ew Gw ∷ two m Gb Eb ∷ two m Gw Ew ∷ two m AL Ib ∷ two m AX Iw ∷ []
 
 -- an entry for each word register
-abbrev pub each_word : (WordRegister → Entry) → List Entry
+abbrev pub each_word : (WordRegister → OpcodeEntry) → List OpcodeEntry
 each_word f = map f word_registers
 
 -- the groups of arithmetic with an immediate, of shifts and of F6 and F7
@@ -131,12 +131,12 @@ abbrev pub zeroth : Row → List (Option Row)
 zeroth r = (Some r ∷ None ∷ None ∷ None ∷ None ∷ None ∷ None ∷ None ∷ [])
 
 -- a string instruction by bytes and by words
-abbrev pub pair : Mnemonic → Mnemonic → List Entry
+abbrev pub pair : Mnemonic → Mnemonic → List OpcodeEntry
 pair m n = bare m ∷ bare n ∷ []
 
 -- ---- the table, 16 first bytes after each comment
 
-abbrev pub entries : List Entry
+abbrev pub entries : List OpcodeEntry
 entries =
     -- 00
     six op.Add ++ one op.Push (S Es) ∷ one op.Pop (S Es) ∷ []
@@ -197,7 +197,7 @@ entries =
     ++ Group 16 ∷ []
 
 -- what a first byte begins
-unfoldable pub entry_of : ℕ → Entry
+unfoldable pub entry_of : ℕ → OpcodeEntry
 entry_of b = slice_index_or entries b Unlisted
 
 -- the groups in the order of their first bytes: 80 81 82 83, 8C, 8E, 8F C6 C7, D0 D1 D2 D3, F6 F7, FE,
@@ -219,6 +219,6 @@ unfoldable pub member_of : ℕ → ℕ → Option Row
 member_of g r = slice_index_or (slice_index_or groups g []) r None
 
 -- a fact of the number of an entry's group, if the entry is one
-abbrev pub IfGroup : Entry → (ℕ → Type 0) → Type 0
+abbrev pub IfGroup : OpcodeEntry → (ℕ → Type 0) → Type 0
 IfGroup (Group g) P = P g
 IfGroup _ P = Unit {0}

@@ -8,7 +8,7 @@ ghost use Rattle.dm_ins.specs.inner.Search.{CandidateAt, IsLeast, better_of, cho
 use crate::action::{Action, Mnemonic};
 use crate::fill::{Choice, RowBytes, fill, may_fill};
 use crate::keys::{Key, keys_of};
-use crate::table::{Entry, entry_at, member};
+use crate::table::{OpcodeEntry, entry_at, member};
 
 /// The row under the first byte and, in a group, the reg field. A row outside the groups stands
 /// under the reg field 0 alone, so that each is met once.
@@ -18,8 +18,8 @@ fn choice(opcode: u8, register: u8) -> Option<Choice>
     ensures fits { IfSome result (λ c. IfSome c.register (λ n. n < 8)) }
 {
     match entry_at(opcode) {
-        Entry::Unlisted => None,
-        Entry::Plain(row) => {
+        OpcodeEntry::Unlisted => None,
+        OpcodeEntry::Plain(row) => {
             if register == 0 {
                 Some(Choice {
                     opcode,
@@ -31,7 +31,7 @@ fn choice(opcode: u8, register: u8) -> Option<Choice>
                 None
             }
         }
-        Entry::Group(group) => {
+        OpcodeEntry::Group(group) => {
             let row = member(group, register)?;
             Some(Choice {
                 opcode,
@@ -40,7 +40,7 @@ fn choice(opcode: u8, register: u8) -> Option<Choice>
                 second: None,
             })
         }
-        Entry::Second(second, row) => {
+        OpcodeEntry::Second(second, row) => {
             if register == 0 {
                 Some(Choice {
                     opcode,

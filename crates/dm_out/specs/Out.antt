@@ -31,6 +31,6 @@ AppendsPart old new bytes = (k : ℕ) × (k ≤ length bytes) × Appends old new
 
 -- a writer as contracts see it: the bytes that it holds, where they are known, and how many of its writes and flushes
 -- failed, a write that took nothing among them
-pub record Written : Type 0 where
+pub record WriterState : Type 0 where
   pub bytes : Option (List ℕ)
   pub failures : ℕ

@@ -1,6 +1,6 @@
 //! A standard writer as an `Out`.
 ghost use Rattle.std.specs.Prelude.{◌≡◌, ◌+◌, min};
-ghost use Rattle.dm_out.specs.Out.{Written, most_failures};
+ghost use Rattle.dm_out.specs.Out.{WriterState, most_failures};
 
 use crate::writer::{Failed, Out};
 use std::io;
@@ -16,7 +16,7 @@ pub struct Sink<W: io::Write + Drop> {
 }
 
 impl<W: io::Write + Drop> Model for Sink<W> {
-    ghost Value = { Written };
+    ghost Value = { WriterState };
 
     ghost view = { λ s. record { bytes = W.contents s.writer; failures = s.count } };
 }

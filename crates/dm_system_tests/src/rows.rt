@@ -7,7 +7,7 @@
 //! Addresses and bytes are in hexadecimal, counts are decimal.
 
 use crate::checks::same;
-use dm_command::{Address, Bytes, Command, read_command};
+use dm_command::{Bytes, Command, LogicalAddress, read_command};
 use std::alloc::Global;
 use std::process::Abort;
 use std::test::Fail;
@@ -17,7 +17,7 @@ fn part(row: &str, number: usize) -> Result<&str, Fail> {
     Ok(row.split('|').nth(number).ok_or("a part is missing")?)
 }
 
-fn put_address(text: &mut String, name: &str, address: Address) -> Result<(), Fail> {
+fn put_address(text: &mut String, name: &str, address: LogicalAddress) -> Result<(), Fail> {
     let segment = address.segment;
     let offset = address.offset;
     write!(text, "{name} {segment:04X}:{offset:04X}")?;

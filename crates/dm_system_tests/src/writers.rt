@@ -37,7 +37,7 @@ impl Write for Slow<'_> {
     }
 }
 
-/// Definitions: dm_out Out Written HasFailed AppendsPart
+/// Definitions: dm_out Out WriterState HasFailed AppendsPart
 #[test]
 fn stops_at_each_failing_write(rt: HostRuntime) -> Result<(), Fail> {
     let text = b"hello".as_slice();
@@ -58,7 +58,7 @@ fn stops_at_each_failing_write(rt: HostRuntime) -> Result<(), Fail> {
     Ok(())
 }
 
-/// Definitions: dm_out Out Written
+/// Definitions: dm_out Out WriterState
 #[test]
 fn passes_on_a_failed_flush(rt: HostRuntime) -> Result<(), Fail> {
     for refuses in [false, true] {

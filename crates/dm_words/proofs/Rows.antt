@@ -3,8 +3,8 @@ use Rattle.std.proofs.Common.{◌≡◌, ℕ, ◌<◌, Bool, true, false, List, 
 use Rattle.std.specs.List.{list_all}
 use Rattle.dm_ins.specs.declared.fields.Fields.{Fields}
 use Rattle.dm_ins.specs.declared.table.Row.{Row}
-use Rattle.dm_ins.specs.declared.table.Entry.{Entry}
-use Rattle.dm_ins.specs.declared.table.Entry.TheVariants.{Unlisted, Plain, Group, Second}
+use Rattle.dm_ins.specs.declared.table.OpcodeEntry.{OpcodeEntry}
+use Rattle.dm_ins.specs.declared.table.OpcodeEntry.TheVariants.{Unlisted, Plain, Group, Second}
 use Rattle.dm_ins.specs.Table.{entries, groups, entry_of, member_of}
 use Rattle.dm_ins.specs.Spelling.{HasRow, MaySpellFields, has_fields}
 use Rattle.dm_ins.proofs.TableRules.{both_true, passes}
@@ -13,7 +13,7 @@ unfoldable pub if_row : (Row → Bool) → Option Row → Bool
 if_row p None = true
 if_row p (Some r) = p r
 
-unfoldable pub entry_all : (Row → Bool) → Entry → Bool
+unfoldable pub entry_all : (Row → Bool) → OpcodeEntry → Bool
 entry_all p Unlisted = true
 entry_all p (Plain r) = p r
 entry_all p (Group g) = true
@@ -26,7 +26,7 @@ of_member : (p : Row → Bool) (g k : ℕ) (r : Row) → list_all (list_all (if_
 unfolding member_of if_row
 of_member p g k r h e = subst (λ (o : Option Row). if_row p o ≡ true) e (passes (if_row p) None refl (get_or groups g []) k (passes (list_all (if_row p)) [] refl groups g h))
 
-of_entry : (p : Row → Bool) (en : Entry) (m : Fields) (d : List ℕ) (r : Row) → entry_all p en ≡ true → list_all (list_all (if_row p)) groups ≡ true → HasRow en m d r → p r ≡ true
+of_entry : (p : Row → Bool) (en : OpcodeEntry) (m : Fields) (d : List ℕ) (r : Row) → entry_all p en ≡ true → list_all (list_all (if_row p)) groups ≡ true → HasRow en m d r → p r ≡ true
 unfolding entry_all
 of_entry p Unlisted m d r h g x = absurd x
 of_entry p (Plain q) m d r h g x = subst (λ (r : Row). p r ≡ true) (sym x.0) h
@@ -44,7 +44,7 @@ may_fit : (b : Bool) (m : Fields) (d : List ℕ) → MaySpellFields b m d → m.
 may_fit true m d h = h.register_fits
 may_fit false m d h = rw h.0 (omega arith)
 
-pub register_fits : (en : Entry) (m : Fields) (d : List ℕ) (r : Row) → HasRow en m d r → m.register < 8
+pub register_fits : (en : OpcodeEntry) (m : Fields) (d : List ℕ) (r : Row) → HasRow en m d r → m.register < 8
 register_fits Unlisted m d r h = absurd h
 register_fits (Plain p) m d r h = may_fit (has_fields p) m d h.1
 register_fits (Group g) m d r h = h.1.register_fits

@@ -6,8 +6,8 @@ use Rattle.dm_ins.specs.contracts.action.Mnemonic.{the_type}
 use Rattle.dm_ins.specs.declared.action.Mnemonic.{Mnemonic}
 use Rattle.dm_ins.specs.declared.keys.Key.{Key}
 use Rattle.dm_ins.specs.declared.table.Row.{Row}
-use Rattle.dm_ins.specs.declared.table.Entry.{Entry}
-use Rattle.dm_ins.specs.declared.table.Entry.TheVariants.{Unlisted, Plain, Group, Second}
+use Rattle.dm_ins.specs.declared.table.OpcodeEntry.{OpcodeEntry}
+use Rattle.dm_ins.specs.declared.table.OpcodeEntry.TheVariants.{Unlisted, Plain, Group, Second}
 use Rattle.dm_ins.specs.Table.{entries, groups}
 
 abbrev pub key : ℕ → ℕ → Key
@@ -30,14 +30,14 @@ member_keys m b g [] = []
 member_keys m b g (None ∷ rs) = member_keys m b (g + 1) rs
 member_keys m b g (Some r ∷ rs) = onto (is_of m r) (key b g) (member_keys m b (g + 1) rs)
 
-abbrev pub entry_keys : Mnemonic → ℕ → Entry → List Key
+abbrev pub entry_keys : Mnemonic → ℕ → OpcodeEntry → List Key
 entry_keys m b Unlisted = []
 entry_keys m b (Plain r) = onto (is_of m r) (key b 0) []
 entry_keys m b (Group n) = member_keys m b 0 (slice_index_or groups n [])
 entry_keys m b (Second c r) = onto (is_of m r) (key b 0) []
 
 -- from the first byte b on
-abbrev pub keys_from : Mnemonic → ℕ → List Entry → List Key
+abbrev pub keys_from : Mnemonic → ℕ → List OpcodeEntry → List Key
 keys_from m b [] = []
 keys_from m b (e ∷ es) = entry_keys m b e ++ keys_from m (b + 1) es
 

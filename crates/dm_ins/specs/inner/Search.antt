@@ -25,8 +25,8 @@ use Rattle.dm_ins.specs.declared.fill.Choice.{Choice}
 use Rattle.dm_ins.specs.declared.keys.Key.{Key}
 use Rattle.dm_ins.specs.declared.table.OperandKind.{OperandKind}
 use Rattle.dm_ins.specs.declared.table.OperandKind.TheVariants as is
-use Rattle.dm_ins.specs.declared.table.Entry.{Entry}
-use Rattle.dm_ins.specs.declared.table.Entry.TheVariants.{Unlisted, Plain, Group, Second}
+use Rattle.dm_ins.specs.declared.table.OpcodeEntry.{OpcodeEntry}
+use Rattle.dm_ins.specs.declared.table.OpcodeEntry.TheVariants.{Unlisted, Plain, Group, Second}
 use Rattle.dm_ins.specs.Registers.{word_number, byte_number, segment_number}
 use Rattle.dm_ins.specs.Table.{entry_of, member_of}
 use Rattle.dm_ins.specs.Spelling.{word_bytes, sign_extended}
@@ -151,7 +151,7 @@ bytes_of c one two = do
   Some (c.opcode ∷ behind_bytes (either c.register (either d.register e.register)) (either d.place e.place) c.second ++ (data_bytes d.tail ++ data_bytes e.tail))
 
 -- the rows, numbered by the first byte and the reg field
-abbrev pub choice_at : Entry → ℕ → ℕ → Option Choice
+abbrev pub choice_at : OpcodeEntry → ℕ → ℕ → Option Choice
 choice_at Unlisted b r = None
 choice_at (Plain p) b r = if r == 0 then Some (record { opcode = b; row = p; register = None; second = None }) else None
 choice_at (Group g) b r = do
