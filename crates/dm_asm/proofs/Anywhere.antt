@@ -23,7 +23,7 @@ use Rattle.dm_lines.specs.Operands.{amount_word}
 use Rattle.dm_lines.specs.Placing.{number_at, written_of}
 use Rattle.dm_lines.specs.Laws.{TermFits, OutlinesStand}
 use Rattle.dm_asm.specs.Labels.{Label}
-use Rattle.dm_asm.specs.Codes.{placed, placed_words, outlined, IsCoded}
+use Rattle.dm_asm.specs.Codes.{written_for, placed_words, outlined, IsCoded}
 use Rattle.dm_asm.specs.inner.Fixed.{AreFixed, names_none, targets}
 use Rattle.dm_asm.proofs.Placed.{some_same, stands}
 
@@ -32,12 +32,12 @@ use Rattle.dm_asm.proofs.Placed.{some_same, stands}
 -- before another instruction the operand is the same
 record Again (m : Mnemonic) (t : Term) (labels : List Label) (next : ℕ) (o : Operand) (old : Written) : Type 0 where
   written : Written
-  is_placed : placed labels m next t ≡ Some written
+  is_placed : written_for labels m next t ≡ Some written
   is : IsWritten written o
   word : word_written written ≡ word_written old
 
 module _ (m : Mnemonic) (labels : List Label) (next : ℕ) (o : Operand) (old : Written) where
-  same_again : (t : Term) (x : Written) → placed labels m next t ≡ Some x → Some x ≡ Some old → IsWritten old o → Again m t labels next o old
+  same_again : (t : Term) (x : Written) → written_for labels m next t ≡ Some x → Some x ≡ Some old → IsWritten old o → Again m t labels next o old
   same_again t x p e h = record {
     written = x;
     is_placed = p;

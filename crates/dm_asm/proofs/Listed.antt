@@ -37,7 +37,7 @@ use Rattle.dm_disassembler.proofs.Lines.{IsPart, shows_part}
 use Rattle.dm_disassembler.proofs.Once.{bytes_long}
 use Rattle.dm_lines.specs.declared.token.Name as Name'
 use Rattle.dm_asm.specs.Labels.{Label, term_place}
-use Rattle.dm_asm.specs.Codes.{Codes, HasLength, HasShape, IsCoded, outlined, placed, placed_words}
+use Rattle.dm_asm.specs.Codes.{Codes, HasLength, HasShape, IsCoded, outlined, written_for, placed_words}
 use Rattle.dm_asm.specs.Lines.{lines_of}
 use Rattle.dm_asm.specs.inner.Lines.{trim}
 use Rattle.dm_asm.specs.Programs.{Sized, AreRead, AreOnce, AreCoded, joined, total, own_label, labels_of, longest_program, Assembles}
@@ -176,7 +176,7 @@ own_fits a next operand.One h = omega arith
 own_fits a next (operand.Target d) h = omega arith
 own_fits a next (operand.FarTarget n s) h = (h.1, h.0)
 
-own_placed : Laws → (a : Action) (next : ℕ) (o : Operand) → placed [] a.mnemonic next (own_term a next o) ≡ Some (read.written_of a next o)
+own_placed : Laws → (a : Action) (next : ℕ) (o : Operand) → written_for [] a.mnemonic next (own_term a next o) ≡ Some (read.written_of a next o)
 own_placed g a next o = rw (own_bare a next o) (g.own_terms a next 0 o)
 
 own_words : Laws → (i : Ins) (next : ℕ) → placed_words [] next (own_instruction i next) ≡ Some (words_of_action i.action next)

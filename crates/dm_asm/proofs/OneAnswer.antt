@@ -9,7 +9,7 @@ use Rattle.dm_asm.specs.declared.refusal.AssemblyRefusal.{AssemblyRefusal}
 use Rattle.dm_asm.specs.declared.refusal.AssemblyRefusal.TheVariants as refusal
 use Rattle.dm_asm.specs.Lines.{lines_of}
 use Rattle.dm_asm.specs.Labels.{Label, IsFree, label_place, term_place}
-use Rattle.dm_asm.specs.Codes.{Codes, Knows, placed, value_word}
+use Rattle.dm_asm.specs.Codes.{Codes, Knows, written_for, value_word}
 use Rattle.dm_asm.specs.Programs.{Sized, Reads, AreRead, AreOnce, AreCoded, joined, total, own_label, labels_from, labels_of, Laid, longest_program, IsBehindGood, IsBehindCoded, Assembles, Refuses, syntax, twice, too_long, unknown, range, IsAnswer}
 use Rattle.dm_asm.proofs.Found.{once_free}
 use Rattle.dm_asm.proofs.Placed.{bind_some, coded_once}
@@ -114,7 +114,7 @@ bad_laid one text n l xs ys e g b laid = not_bad one l xs n e b (good_at one (li
 some_at : {A : Type 0} (r : Option A) (x : A) → r ≡ Some x → IsSome r
 some_at r x e = is_some_at r x (sym e)
 
-known_term : (labels : List Label) (m : _) (next : ℕ) (t : _) (w : _) → placed labels m next t ≡ Some w → IsSome (term_place labels t)
+known_term : (labels : List Label) (m : _) (next : ℕ) (t : _) (w : _) → written_for labels m next t ≡ Some w → IsSome (term_place labels t)
 known_term labels m next t w h = let p = bind_some (term_place labels t) _ w h in some_at (term_place labels t) p.0 p.1
 
 known_words : (labels : List Label) (vs : List Value) (ws : List ℕ) → map (value_word labels) vs ≡ map Some ws → AllByRecursion (λ v. IsSome (label_place labels v)) vs
@@ -128,8 +128,8 @@ known_words labels (v ∷ vs) (w ∷ ws) h =
 knows_coded : (labels : List Label) (at : ℕ) (i : Item) (code : List ℕ) → Codes labels at i code → Knows labels i
 knows_coded labels at nothing code c = tt
 knows_coded labels at (instruction i) code c =
-    let a = bind_some (placed labels i.mnemonic (at + length code) i.first) _ c.written c.placed in
-    let b = bind_some (placed labels i.mnemonic (at + length code) i.second) _ c.written a.2 in
+    let a = bind_some (written_for labels i.mnemonic (at + length code) i.first) _ c.written c.placed in
+    let b = bind_some (written_for labels i.mnemonic (at + length code) i.second) _ c.written a.2 in
     (known_term labels i.mnemonic (at + length code) i.first a.0 a.1, known_term labels i.mnemonic (at + length code) i.second b.0 b.1)
 knows_coded labels at (bytes b) code c = tt
 knows_coded labels at (words w) code c = known_words labels w c.values c.are

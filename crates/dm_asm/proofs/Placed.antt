@@ -12,7 +12,7 @@ use Rattle.dm_words.specs.Laws.{WordsAreOne, LengthsAreKnown}
 use Rattle.dm_lines.specs.declared.statement.Instruction.{Instruction}
 use Rattle.dm_lines.specs.Laws.{TermFits, OutlinesStand}
 use Rattle.dm_asm.specs.Labels.{Label, term_place}
-use Rattle.dm_asm.specs.Codes.{placed, placed_words, outlined, HasShape, IsCoded}
+use Rattle.dm_asm.specs.Codes.{written_for, placed_words, outlined, HasShape, IsCoded}
 use Rattle.dm_asm.proofs.Chosen.{shape_once, words_encode_once}
 
 pub bind_some : {A B : Type 0} (r : Option A) (f : A → Option B) (y : B) → (r >>= f) ≡ Some y → (x : A) × (r ≡ Some x) × (f x ≡ Some y)
@@ -27,8 +27,8 @@ not_none r x p q = cc
 
 pub stands : OutlinesStand → (labels : List Label) (next : ℕ) (i : Instruction) (w : Words) → TermFits i.first → TermFits i.second → placed_words labels next i ≡ Some w → StandsFor (outlined i) w
 stands law labels next i w ff fs h =
-    let a = bind_some (placed labels i.mnemonic next i.first) _ w h in
-    let b = bind_some (placed labels i.mnemonic next i.second) _ w a.2 in
+    let a = bind_some (written_for labels i.mnemonic next i.first) _ w h in
+    let b = bind_some (written_for labels i.mnemonic next i.second) _ w a.2 in
     let p = bind_some (term_place labels i.first) _ a.0 a.1 in
     let q = bind_some (term_place labels i.second) _ b.0 b.1 in
     subst (StandsFor (outlined i)) (some_same _ w b.2)

@@ -19,16 +19,16 @@ use Rattle.dm_asm.specs.Labels.{Label, label_place, term_place}
 -- ---- with the places of labels
 
 -- what is written where an operand stands, before an instruction at an offset
-abbrev pub placed : List Label → Mnemonic → ℕ → Term → Option Written
-placed labels m next term = do
+abbrev pub written_for : List Label → Mnemonic → ℕ → Term → Option Written
+written_for labels m next term = do
   place ← term_place labels term
   written_of m term place next
 
 -- what is written in an instruction
 abbrev pub placed_words : List Label → ℕ → Instruction → Option Words
 placed_words labels next i = do
-  first ← placed labels i.mnemonic next i.first
-  second ← placed labels i.mnemonic next i.second
+  first ← written_for labels i.mnemonic next i.first
+  second ← written_for labels i.mnemonic next i.second
   Some (record { mnemonic = i.mnemonic; first = first; second = second })
 
 -- the word that a value is

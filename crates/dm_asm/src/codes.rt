@@ -9,7 +9,7 @@ ghost use Rattle.dm_lines.specs.Placing.{amount_byte};
 ghost use Rattle.dm_lines.specs.Laws.{AmountFits, TermFits};
 ghost use Rattle.dm_asm.specs.Labels.{Label};
 ghost use Rattle.dm_asm.specs.inner.Kept.{AreKept, AreNear};
-ghost use Rattle.dm_asm.specs.Codes.{placed as placed_of, placed_words as words_of, value_word as value_of, IsCoded, AreWordsOf, HasShape, HasLength, Codes, Knows};
+ghost use Rattle.dm_asm.specs.Codes.{written_for as placed_of, placed_words as words_of, value_word as value_of, IsCoded, AreWordsOf, HasShape, HasLength, Codes, Knows};
 
 use crate::labels::Labels;
 use arrayvec::ArrayVec;
