@@ -13,7 +13,7 @@ use Rattle.dm_blocks.specs.Chain.{IsHeader, signature, Spells, HasHeader, IsNonE
 use Rattle.dm_blocks.specs.Reading.{is_nil}
 use Rattle.dm_arena.specs.inner.Walks.{pick, Fills, IsReplaceable, IsReplaced, IsJoined, Placing, IsPlan}
 use Rattle.dm_blocks.specs.Chain.{is_free}
-use Rattle.dm_arena.specs.Blocks.{in_effect, is_candidate, merge, join, join_after, fits, cut, cut_low, cut_high, taken_segment, IsIn}
+use Rattle.dm_arena.specs.Blocks.{in_effect, is_candidate, merge, join, join_after, fits, cut_block, cut_low, cut_high, taken_segment, IsIn}
 use Rattle.dm_arena.specs.inner.Blocks.{cut_list}
 use Rattle.dm_arena.specs.Allocation.{Taking, with_cut}
 use Rattle.dm_arena.specs.inner.Standing.{MaySplit, IsNew}
@@ -45,7 +45,7 @@ cut_high-fills n owner b false e h =
     let l = less_of b.size n e h in
     fills_by _ _ _ (record { segment = b.segment; owner = 0; size = b.size - n - 1 } ∷ record { segment = b.segment + b.size - n; owner = owner; size = n } ∷ []) (rw e refl) (refl, (omega arith, omega arith))
 
-pub cut_fills : (f : Fit) (n owner : ℕ) (b : Header) → n ≤ b.size → Fills b.segment (cut f n owner b) (next b)
+pub cut_fills : (f : Fit) (n owner : ℕ) (b : Header) → n ≤ b.size → Fills b.segment (cut_block f n owner b) (next b)
 cut_fills First n owner b h = cut_low-fills n owner b _ refl h
 cut_fills Best n owner b h = cut_low-fills n owner b _ refl h
 cut_fills Last n owner b h = cut_high-fills n owner b _ refl h
@@ -109,7 +109,7 @@ module _ (up : Bool) where
   changed_fills S start st n o t =
       let r = join_fills up S start t.list t.arena.0.1 in
       let F : List Header → Type 0 = λ X. Fills r.1 X r.0 in
-      (r.1, r.0, fills_replaced r.1 r.0 t.before t.block (cut st.fit n o t.block) t.after (subst F t.joined r.2) (cut_fills st.fit n o t.block (fits_size (in_effect up t.list st) n t.block t.fit.fit)))
+      (r.1, r.0, fills_replaced r.1 r.0 t.before t.block (cut_block st.fit n o t.block) t.after (subst F t.joined r.2) (cut_fills st.fit n o t.block (fits_size (in_effect up t.list st) n t.block t.fit.fit)))
 
   -- the block that the search found
   abbrev pub taking_of : (S : Memory) (start : ℕ) (st : Strategy) (n : ℕ) (L : List Header) (b : Header) → IsArena S start L → pick up (in_effect up L st) n None (join up L) ≡ Some b → Taking up S start st n
@@ -125,7 +125,7 @@ module _ (up : Bool) where
     pub block_ends : next b ≤ 0xFFFF
     block_ends = (let f = fit_found up (in_effect up L st) n (join up L) b e in block_fits S start L f.1.0 b f.1.1 a.0.1 f.1.2)
 
-    module _ (c : Cut) (is : cut_list c ≡ cut st.fit n owner b) where
+    module _ (c : Cut) (is : cut_list c ≡ cut_block st.fit n owner b) where
       abbrev pub found : Taking up S start st n
       found = taking_of S start st n L b a e
 
@@ -180,7 +180,7 @@ module _ (up : Bool) where
       pub unplanned : (MaySplit S (join up L) c.second → ⊥) → (t : Taking up S start st n) × (IsClear S (with_cut t owner) → ⊥)
       unplanned m = (found, unclear_changed m)
 
-  abbrev pub placing_of : (S : Memory) (start : ℕ) (st : Strategy) (n owner : ℕ) (c : Cut) (t : Taking up S start st n) → cut_list c ≡ cut st.fit n owner t.block → IsClear S (with_cut t owner) → Placing up S start (cut_list c)
+  abbrev pub placing_of : (S : Memory) (start : ℕ) (st : Strategy) (n owner : ℕ) (c : Cut) (t : Taking up S start st n) → cut_list c ≡ cut_block st.fit n owner t.block → IsClear S (with_cut t owner) → Placing up S start (cut_list c)
   placing_of S start st n owner c t is k = record {
     list = t.list;
     before = t.before;
@@ -192,7 +192,7 @@ module _ (up : Bool) where
     clear = (let F : List Header → Type 0 = λ X. IsClear S (t.before ++ (X ++ t.after)) in subst F (sym is) k);
   }
 
-  pub placed : (S : Memory) (start : ℕ) (st : Strategy) (n owner : ℕ) (c : Cut) (t : Taking up S start st n) → cut_list c ≡ cut st.fit n owner t.block → IsClear S (with_cut t owner) → (T : Memory) → ((p : Placing up S start (cut_list c)) → Becomes S start (p.before ++ (cut_list c ++ p.after)) T) → Becomes S start (with_cut t owner) T
+  pub placed : (S : Memory) (start : ℕ) (st : Strategy) (n owner : ℕ) (c : Cut) (t : Taking up S start st n) → cut_list c ≡ cut_block st.fit n owner t.block → IsClear S (with_cut t owner) → (T : Memory) → ((p : Placing up S start (cut_list c)) → Becomes S start (p.before ++ (cut_list c ++ p.after)) T) → Becomes S start (with_cut t owner) T
   placed S start st n owner c t is k T f = let F : List Header → Type 0 = λ X. Becomes S start (t.before ++ (X ++ t.after)) T in subst F is (f (placing_of S start st n owner c t is k))
 
   module _ (S U : Memory) (start : ℕ) (c : Cut) (p : Placing up S start (cut_list c)) (j : IsJoined up S start p.list U) where

@@ -12,7 +12,7 @@ use Rattle.dm_arena.specs.declared.fit.Fit.TheVariants.{First, Best, Last}
 use Rattle.dm_arena.specs.declared.fit.Area.TheVariants.{All}
 use Rattle.dm_arena.specs.declared.fit.Strategy.{Strategy}
 use Rattle.dm_arena.specs.Allocation.{Taking, with_cut}
-use Rattle.dm_arena.specs.Blocks.{cut, cut_high, cut_low, in_effect, join, join_after, merge}
+use Rattle.dm_arena.specs.Blocks.{cut_block, cut_high, cut_low, in_effect, join, join_after, merge}
 use Rattle.dm_arena.specs.inner.Blocks.{cut_list}
 use Rattle.dm_arena.specs.inner.Walks.{pick}
 use Rattle.dm_arena.proofs.Allocating.{changed_either, changed_has, join-within, taking_of}
@@ -37,7 +37,7 @@ high-linked : (n o p : ℕ) (b : Header) (Q : List Header) (r : Bool) → nat_eq
 high-linked n o p b Q true e = rw e refl
 high-linked n o p b Q false e = rw e refl
 
-cut-linked : (f : Fit) (n o p : ℕ) (b : Header) (Q : List Header) → is_linked (cut f n o b ++ Q) ≡ is_linked (cut f n p b ++ Q)
+cut-linked : (f : Fit) (n o p : ℕ) (b : Header) (Q : List Header) → is_linked (cut_block f n o b ++ Q) ≡ is_linked (cut_block f n p b ++ Q)
 cut-linked First n o p b Q = low-linked n o p b Q _ refl
 cut-linked Best n o p b Q = low-linked n o p b Q _ refl
 cut-linked Last n o p b Q = high-linked n o p b Q _ refl
@@ -76,10 +76,10 @@ effect-linked up st X Y e = ap (λ (z : Bool). record st { area = if up && z the
 
 -- whoever owns the block that is taken, the same strategy is in effect
 pub effect-owner : (up : Bool) (S : Memory) (start : ℕ) (st : Strategy) (n : ℕ) (t : Taking up S start st n) (o p : ℕ) → in_effect up (with_cut t o) st ≡ in_effect up (with_cut t p) st
-effect-owner up S start st n t o p = effect-linked up st (with_cut t o) (with_cut t p) (behind-linked t.before (cut st.fit n o t.block ++ t.after) (cut st.fit n p t.block ++ t.after) (cut-linked st.fit n o p t.block t.after))
+effect-owner up S start st n t o p = effect-linked up st (with_cut t o) (with_cut t p) (behind-linked t.before (cut_block st.fit n o t.block ++ t.after) (cut_block st.fit n p t.block ++ t.after) (cut-linked st.fit n o p t.block t.after))
 
 -- a list with the new header of a cut beside it
-beside-linked : (S : Memory) (start : ℕ) (st : Strategy) (n o : ℕ) (L : List Header) (b : Header) (a : IsArena S start L) (e : pick true (in_effect true L st) n None (join true L) ≡ Some b) (c : Cut) → cut_list c ≡ cut st.fit n o b → is_linked (option_to_list c.second ++ L) ≡ is_linked (with_cut (taking_of true S start st n L b a e) o)
+beside-linked : (S : Memory) (start : ℕ) (st : Strategy) (n o : ℕ) (L : List Header) (b : Header) (a : IsArena S start L) (e : pick true (in_effect true L st) n None (join true L) ≡ Some b) (c : Cut) → cut_list c ≡ cut_block st.fit n o b → is_linked (option_to_list c.second ++ L) ≡ is_linked (with_cut (taking_of true S start st n L b a e) o)
 beside-linked S start st n o L b a e c is =
     linked-same (option_to_list c.second ++ L) _ (λ w. changed_has true S start st n o L b a e c is 0x9FFF (forth w)) (λ w. back (changed_either true S start st n o L b a e c is 0x9FFF w))
   where
@@ -95,10 +95,10 @@ beside-linked S start st n o L b a e c is =
       | inr r ↦ has_right (option_to_list c.second) L 0x9FFF (join-within true L 0x9FFF r)
     ]
 
-effect-beside : (up : Bool) (S : Memory) (start : ℕ) (st : Strategy) (n o : ℕ) (L : List Header) (b : Header) (a : IsArena S start L) (e : pick up (in_effect up L st) n None (join up L) ≡ Some b) (c : Cut) → cut_list c ≡ cut st.fit n o b → in_effect up (option_to_list c.second ++ L) st ≡ in_effect up (with_cut (taking_of up S start st n L b a e) o) st
+effect-beside : (up : Bool) (S : Memory) (start : ℕ) (st : Strategy) (n o : ℕ) (L : List Header) (b : Header) (a : IsArena S start L) (e : pick up (in_effect up L st) n None (join up L) ≡ Some b) (c : Cut) → cut_list c ≡ cut_block st.fit n o b → in_effect up (option_to_list c.second ++ L) st ≡ in_effect up (with_cut (taking_of up S start st n L b a e) o) st
 effect-beside true S start st n o L b a e c is = effect-linked true st (option_to_list c.second ++ L) (with_cut (taking_of true S start st n L b a e) o) (beside-linked S start st n o L b a e c is)
 effect-beside false S start st n o L b a e c is = refl
 
 -- the strategy E that is in effect with the new header of a cut is that of the list in which the block is taken
-pub effect_taken : (up : Bool) (S : Memory) (start : ℕ) (st : Strategy) (n o : ℕ) (L : List Header) (b : Header) (a : IsArena S start L) (e : pick up (in_effect up L st) n None (join up L) ≡ Some b) (c : Cut) → cut_list c ≡ cut st.fit n o b → (E : Strategy) → E ≡ in_effect up (option_to_list c.second ++ L) st → (p : ℕ) → E ≡ in_effect up (with_cut (taking_of up S start st n L b a e) p) st
+pub effect_taken : (up : Bool) (S : Memory) (start : ℕ) (st : Strategy) (n o : ℕ) (L : List Header) (b : Header) (a : IsArena S start L) (e : pick up (in_effect up L st) n None (join up L) ≡ Some b) (c : Cut) → cut_list c ≡ cut_block st.fit n o b → (E : Strategy) → E ≡ in_effect up (option_to_list c.second ++ L) st → (p : ℕ) → E ≡ in_effect up (with_cut (taking_of up S start st n L b a e) p) st
 effect_taken up S start st n o L b a e c is E E-is p = E-is ∙ effect-beside up S start st n o L b a e c is ∙ effect-owner up S start st n (taking_of up S start st n L b a e) o p

@@ -10,7 +10,7 @@ use Rattle.dm_blocks.specs.Chain.{Spells, HasHeader, IsNonEmpty, next, IsClear, 
 use Rattle.dm_blocks.specs.Reading.{IsSpelledFrom, IsFront, IsFoundAt}
 use Rattle.dm_arena.specs.inner.Walks.{Fills, IsReplaceable, IsReplaced, IsGrown, IsGrowable}
 use Rattle.dm_blocks.specs.Chain.{is_free}
-use Rattle.dm_arena.specs.Blocks.{merge, cut, cut_low}
+use Rattle.dm_arena.specs.Blocks.{merge, cut_block, cut_low}
 use Rattle.dm_arena.specs.inner.Blocks.{cut_list}
 use Rattle.dm_arena.specs.Owned.{BlockRunAt, absorb, AllFree, BeginsTaken, is_link_block, resized}
 use Rattle.dm_arena.specs.inner.Standing.{AreOutside, IsNew, MaySplit}
@@ -150,7 +150,7 @@ module _ (up : Bool) where
       ];
     }
 
-    module _ (within : n ≤ g.header.size) (c : Cut) (cut_is : cut_list c ≡ cut First n g.header.owner g.header) where
+    module _ (within : n ≤ g.header.size) (c : Cut) (cut_is : cut_list c ≡ cut_block First n g.header.owner g.header) where
       list_is : cut_list c ≡ cut_low n e.header.owner (absorb e.header R)
       list_is = cut_is ∙ ap₂ (λ o z. cut_low n o z) (ap (λ z. z.owner) x.header ∙ absorb-owner e.header R) x.header
 

@@ -8,7 +8,7 @@ use Rattle.dm_arena.specs.declared.fit.Strategy.{Strategy}
 use Rattle.dm_blocks.specs.Chain.{first_header, link_header, HasHeader, IsArenaBehind, IsChain, IsClear, IsArena, Becomes, DiffersInHeaders, is_parted}
 use Rattle.dm_arena.specs.Owned.{BlockAt, IsNoBlock, is_link_block, ReleasesOne, ReleasesBoth, freed, Frees, FreeRefused, absorb, AllFree, BeginsTaken, BlockRunAt, resized, Resizes, ResizeRefused, released, ReleaseRefused, Releases}
 use Rattle.dm_blocks.specs.Chain.{is_free}
-use Rattle.dm_arena.specs.Blocks.{in_effect, join, largest, fits, prefers, IsIn, cut, cut_low, taken_segment}
+use Rattle.dm_arena.specs.Blocks.{in_effect, join, largest, fits, prefers, IsIn, cut_block, cut_low, taken_segment}
 use Rattle.dm_arena.specs.inner.Walks.{Fills}
 use Rattle.dm_arena.specs.Allocation.{Taking, with_cut, Allocates, AllocateRefused}
 use Rattle.dm_blocks.proofs.Chains.{has_either, has_right}
@@ -67,7 +67,7 @@ module _ (up : Bool) where
     taken_segment-same = ap (taken_segment st.fit n) same.1
 
     pub changed-same : (owner : ℕ) → with_cut t owner ≡ with_cut u owner
-    changed-same owner = ap₂ (λ P R. P ++ R) same.0 (ap₂ (λ b Q. cut st.fit n owner b ++ Q) same.1 same.2)
+    changed-same owner = ap₂ (λ P R. P ++ R) same.0 (ap₂ (λ b Q. cut_block st.fit n owner b ++ Q) same.1 same.2)
 
   -- a list in which no block fits up st has none that is taken
   -- the strategy is in effect in the same way

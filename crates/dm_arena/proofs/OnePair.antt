@@ -7,7 +7,7 @@ use Rattle.dm_arena.specs.declared.refusal.ArenaRefusal.TheVariants.{Destroyed, 
 use Rattle.dm_arena.specs.declared.fit.Spoken.{Spoken}
 use Rattle.dm_arena.specs.declared.fit.Strategy.{Strategy}
 use Rattle.dm_blocks.specs.Chain.{first_header, IsArena, IsClear, Becomes}
-use Rattle.dm_arena.specs.Blocks.{in_effect, join, largest, fits, IsFit, IsIn, cut, taken_segment}
+use Rattle.dm_arena.specs.Blocks.{in_effect, join, largest, fits, IsFit, IsIn, cut_block, taken_segment}
 use Rattle.dm_arena.specs.inner.Walks.{pick, left_of, rest_of, Fills}
 use Rattle.dm_arena.specs.Allocation.{Taking, with_cut}
 use Rattle.dm_arena.specs.Pair.{Pairing, Planned, with_pair, IsPair, Placed, placed_of, Pairs, PairRefused}
@@ -105,7 +105,7 @@ module _ (up : Bool) where
       paired-same =
           let u = second_unique o k v w p q in
           ap₂ (λ P R. P ++ R) blocks.0
-          (ap (λ x. cut st.fit x o p.block ++ p.after) u.size ∙ ap (λ x. cut st.fit w x p.block ++ p.after) u.owner ∙ ap₂ (λ c Q. cut st.fit w v c ++ Q) blocks.1 blocks.2)
+          (ap (λ x. cut_block st.fit x o p.block ++ p.after) u.size ∙ ap (λ x. cut_block st.fit w x p.block ++ p.after) u.owner ∙ ap₂ (λ c Q. cut_block st.fit w v c ++ Q) blocks.1 blocks.2)
 
     -- where the blocks are
     pub placed-same : (x y : Planned) → IsPair up S start st n least most x → IsPair up S start st n least most y → placed_of x ≡ placed_of y

@@ -12,7 +12,7 @@ use Rattle.dm_arena.specs.declared.fit.Fit.{Fit}
 use Rattle.dm_arena.specs.declared.fit.Fit.TheVariants.{First, Best, Last}
 use Rattle.dm_blocks.specs.Chain.{HasHeader, IsClear, IsArena, IsNonEmpty, Spells, Becomes, next}
 use Rattle.dm_blocks.specs.Chain.{is_free, is_link}
-use Rattle.dm_arena.specs.Blocks.{in_effect, join, fits, largest, free_size, cut, cut_low, cut_high, taken_segment, IsIn, IsFit}
+use Rattle.dm_arena.specs.Blocks.{in_effect, join, fits, largest, free_size, cut_block, cut_low, cut_high, taken_segment, IsIn, IsFit}
 use Rattle.dm_arena.specs.inner.Blocks.{cut_list}
 use Rattle.dm_arena.specs.inner.Standing.{MaySplit, IsNew}
 use Rattle.dm_arena.specs.inner.Walks.{pick, better, left_of, left_part, rest_of, Fills, IsJoined, IsReplaceable, IsReplaced}
@@ -110,7 +110,7 @@ module _ (up : Bool) where
   high-pick st m n owner best b true e h = rw e (better-taken st m best (record b { owner = owner }) (owned-taken (record b { owner = owner }) h))
   high-pick st m n owner best b false e h = rw e (better-taken st m (better up st m best (record { segment = b.segment; owner = 0; size = b.size - n - 1 })) (record { segment = b.segment + b.size - n; owner = owner; size = n }) (owned-taken (record { segment = b.segment + b.size - n; owner = owner; size = n }) h))
 
-  cut-pick : (f : Fit) (st : Strategy) (m n owner : ℕ) (best : Option Header) (b : Header) → 0 < owner → pick up st m best (cut f n owner b) ≡ pick up st m best (option_to_list (rest_of f n b))
+  cut-pick : (f : Fit) (st : Strategy) (m n owner : ℕ) (best : Option Header) (b : Header) → 0 < owner → pick up st m best (cut_block f n owner b) ≡ pick up st m best (option_to_list (rest_of f n b))
   cut-pick First st m n owner best b h = low-pick st m n owner best b _ refl h
   cut-pick Best st m n owner best b h = low-pick st m n owner best b _ refl h
   cut-pick Last st m n owner best b h = high-pick st m n owner best b _ refl h
@@ -126,7 +126,7 @@ module _ (up : Bool) where
   high-largest st n owner b true e h = rw e (ap (λ x. max x 0) (owned-size st (record b { owner = owner }) h) ∙ omega arith)
   high-largest st n owner b false e h = rw e (max-after _ _ (owned-size st (record { segment = b.segment + b.size - n; owner = owner; size = n }) h))
 
-  cut-largest : (st : Strategy) (f : Fit) (n owner : ℕ) (b : Header) → 0 < owner → largest up st (cut f n owner b) ≡ largest up st (option_to_list (rest_of f n b))
+  cut-largest : (st : Strategy) (f : Fit) (n owner : ℕ) (b : Header) → 0 < owner → largest up st (cut_block f n owner b) ≡ largest up st (option_to_list (rest_of f n b))
   cut-largest st First n owner b h = low-largest st n owner b _ refl h
   cut-largest st Best n owner b h = low-largest st n owner b _ refl h
   cut-largest st Last n owner b h = high-largest st n owner b _ refl h
@@ -150,8 +150,8 @@ module _ (up : Bool) where
         let P = t.before in
         let Q = t.after in
         let R : List Header = option_to_list (rest_of st.fit n b) in
-        pick-append up E m None P (cut st.fit n o b ++ Q)
-        ∙ pick-append up E m (pick up E m None P) (cut st.fit n o b) Q
+        pick-append up E m None P (cut_block st.fit n o b ++ Q)
+        ∙ pick-append up E m (pick up E m None P) (cut_block st.fit n o b) Q
         ∙ ap (λ x. pick up E m x Q) (cut-pick st.fit E m n o (pick up E m None P) b h)
         ∙ sym (pick-append up E m (pick up E m None P) R Q)
         ∙ sym (pick-append up E m None P (R ++ Q))
@@ -163,8 +163,8 @@ module _ (up : Bool) where
         let P = t.before in
         let Q = t.after in
         let R : List Header = option_to_list (rest_of st.fit n b) in
-        largest-append up E P (cut st.fit n o b ++ Q)
-        ∙ ap (max (largest up E P)) (largest-append up E (cut st.fit n o b) Q ∙ ap (λ x. max x (largest up E Q)) (cut-largest E st.fit n o b h) ∙ sym (largest-append up E R Q))
+        largest-append up E P (cut_block st.fit n o b ++ Q)
+        ∙ ap (max (largest up E P)) (largest-append up E (cut_block st.fit n o b) Q ∙ ap (λ x. max x (largest up E Q)) (cut-largest E st.fit n o b h) ∙ sym (largest-append up E R Q))
         ∙ sym (largest-append up E P (R ++ Q))
         ∙ ap (largest up E) (sym (left-is o))
 
@@ -174,10 +174,10 @@ module _ (up : Bool) where
         let F : List Header → Type 0 = λ X. IsIn c X in
         let G : List Header → Type 0 = λ X. IsIn b X in
         let whole : next b ≤ 0xFFFF = joined_fit S start L a.0.1 b (subst G (sym t.joined) (in_middle t.before b t.after)) in
-        elim (in_either t.before (cut st.fit n o b ++ t.after) c i) [
+        elim (in_either t.before (cut_block st.fit n o b ++ t.after) c i) [
           | inl l ↦ joined_fit S start L a.0.1 c (subst F (sym t.joined) (in_left t.before (b ∷ t.after) c l))
-          | inr r ↦ elim (in_either (cut st.fit n o b) t.after c r) [
-            | inl l ↦ (let y = fills_in b.segment (next b) (cut st.fit n o b) (cut_fills st.fit n o b (fits_size up (in_effect up L st) n b t.fit.fit)) c l in omega arith)
+          | inr r ↦ elim (in_either (cut_block st.fit n o b) t.after c r) [
+            | inl l ↦ (let y = fills_in b.segment (next b) (cut_block st.fit n o b) (cut_fills st.fit n o b (fits_size up (in_effect up L st) n b t.fit.fit)) c l in omega arith)
             | inr q ↦ joined_fit S start L a.0.1 c (subst F (sym t.joined) (in_right t.before (b ∷ t.after) c (inr q)))
           ]
         ]
@@ -217,7 +217,7 @@ module _ (up : Bool) where
               owner_is = owner-of;
             }
 
-        module _ (c d : Cut) (c-is : cut_list c ≡ cut st.fit n o b) (d-is : cut_list d ≡ cut st.fit m o w) where
+        module _ (c d : Cut) (c-is : cut_list c ≡ cut_block st.fit n o b) (d-is : cut_list d ≡ cut_block st.fit m o w) where
           second-fills : Fills w.segment (cut_list d) (next w)
           second-fills = let F : List Header → Type 0 = λ X. Fills w.segment X (next w) in subst F (sym d-is) (cut_fills st.fit m o w second_within)
 
@@ -291,10 +291,10 @@ module _ (up : Bool) where
   none_first S start st n least most L a is o k p = none_taken up S start st n L a (none_found up (in_effect up L st) n (join up L) is) p.first
 
   module _ (S : Memory) (start : ℕ) (st : Strategy) (n least most : ℕ) (pair : Planned) (p : IsPair up S start st n least most pair) (c d : Cut) (c-is : cut_list c ≡ pair.first) (d-is : cut_list d ≡ pair.second) (U : Memory) (j : IsJoined up S start p.pairing.first.list U) where
-    c-cut : cut_list c ≡ cut st.fit n pair.program p.pairing.first.block
+    c-cut : cut_list c ≡ cut_block st.fit n pair.program p.pairing.first.block
     c-cut = c-is ∙ p.first_is
 
-    d-cut : cut_list d ≡ cut st.fit pair.size pair.program p.pairing.block
+    d-cut : cut_list d ≡ cut_block st.fit pair.size pair.program p.pairing.block
     d-cut = d-is ∙ p.second_is
 
     new_fills : Fills p.pairing.block.segment (cut_list d) (next p.pairing.block)

@@ -7,7 +7,7 @@ use Rattle.dm_arena.specs.declared.refusal.ArenaRefusal.{ArenaRefusal}
 use Rattle.dm_arena.specs.declared.refusal.ArenaRefusal.TheVariants.{Destroyed, NoBlock, Short}
 use Rattle.dm_arena.specs.declared.fit.Strategy.{Strategy}
 use Rattle.dm_blocks.specs.Chain.{Becomes, IsArena, IsClear, NoArena, first_header}
-use Rattle.dm_arena.specs.Blocks.{IsFit, IsIn, cut, fits, in_effect, join, largest, taken_segment}
+use Rattle.dm_arena.specs.Blocks.{IsFit, IsIn, cut_block, fits, in_effect, join, largest, taken_segment}
 
 -- the arena, and the block of its joined list that the strategy takes for n paragraphs
 pub record Taking (upper : Bool) (S : Memory) (start : ℕ) (strategy : Strategy) (n : ℕ) : Type 0 where
@@ -21,7 +21,7 @@ pub record Taking (upper : Bool) (S : Memory) (start : ℕ) (strategy : Strategy
 
 -- the joined list with that block cut
 abbrev pub with_cut : {upper : Bool} {S : Memory} {start : ℕ} {strategy : Strategy} {n : ℕ} → Taking upper S start strategy n → ℕ → List Header
-with_cut {upper} {S} {start} {strategy} {n} t owner = t.before ++ (cut strategy.fit n owner t.block ++ t.after)
+with_cut {upper} {S} {start} {strategy} {n} t owner = t.before ++ (cut_block strategy.fit n owner t.block ++ t.after)
 
 -- no arena, or a new list that is not clear; no free block large enough among those that the strategy looks at
 abbrev pub AllocateRefused : Bool → Memory → ℕ → Strategy → ℕ → ℕ → ArenaRefusal → Type 0

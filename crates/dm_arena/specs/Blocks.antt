@@ -91,10 +91,10 @@ cut_high n owner b = cond (b.size == n)
     (record b { owner = owner } ∷ [])
     (record { segment = b.segment; owner = 0; size = b.size - n - 1 } ∷ record { segment = b.segment + b.size - n; owner = owner; size = n } ∷ [])
 
-abbrev pub cut : Fit → ℕ → ℕ → Header → List Header
-cut First n owner b = cut_low n owner b
-cut Best n owner b = cut_low n owner b
-cut Last n owner b = cut_high n owner b
+abbrev pub cut_block : Fit → ℕ → ℕ → Header → List Header
+cut_block First n owner b = cut_low n owner b
+cut_block Best n owner b = cut_low n owner b
+cut_block Last n owner b = cut_high n owner b
 
 -- the segment of the header whose block is the taken part
 abbrev pub taken_segment : Fit → ℕ → Header → ℕ

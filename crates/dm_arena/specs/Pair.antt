@@ -7,7 +7,7 @@ use Rattle.dm_arena.specs.declared.fit.Strategy.{Strategy}
 use Rattle.dm_arena.specs.declared.refusal.ArenaRefusal.{ArenaRefusal}
 use Rattle.dm_arena.specs.declared.refusal.ArenaRefusal.TheVariants.{Destroyed, Short, NoBlock}
 use Rattle.dm_blocks.specs.Chain.{first_header, IsArena, NoArena, IsClear, Becomes}
-use Rattle.dm_arena.specs.Blocks.{in_effect, join, largest, IsFit, cut, taken_segment}
+use Rattle.dm_arena.specs.Blocks.{in_effect, join, largest, IsFit, cut_block, taken_segment}
 use Rattle.dm_arena.specs.Allocation.{Taking, with_cut}
 
 -- the block that the strategy takes for the environment; then, of the list in which it is taken, the block for the
@@ -28,7 +28,7 @@ pub record Pairing (upper : Bool) (S : Memory) (start : ℕ) (strategy : Strateg
 
 -- the list with both blocks taken
 abbrev pub with_pair : {upper : Bool} {S : Memory} {start : ℕ} {strategy : Strategy} {environment least most owner size : ℕ} → Pairing upper S start strategy environment least most owner size → List Header
-with_pair {upper} {S} {start} {strategy} {environment} {least} {most} {owner} {size} p = p.before ++ (cut strategy.fit size owner p.block ++ p.after)
+with_pair {upper} {S} {start} {strategy} {environment} {least} {most} {owner} {size} p = p.before ++ (cut_block strategy.fit size owner p.block ++ p.after)
 
 -- no arena, or a last list that is not clear; no room for both blocks
 abbrev pub PairRefused : Bool → Memory → ℕ → Strategy → ℕ → ℕ → ℕ → ArenaRefusal → Type 0
@@ -53,8 +53,8 @@ pub record Planned : Type 0 where
 pub record IsPair (upper : Bool) (S : Memory) (start : ℕ) (strategy : Strategy) (environment least most : ℕ) (pair : Planned) : Type 0 where
   pub pairing : Pairing upper S start strategy environment least most pair.program pair.size
   pub environment_is : pair.environment ≡ taken_segment strategy.fit environment pairing.first.block + 1
-  pub first_is : pair.first ≡ cut strategy.fit environment pair.program pairing.first.block
-  pub second_is : pair.second ≡ cut strategy.fit pair.size pair.program pairing.block
+  pub first_is : pair.first ≡ cut_block strategy.fit environment pair.program pairing.first.block
+  pub second_is : pair.second ≡ cut_block strategy.fit pair.size pair.program pairing.block
   pub clear : IsClear S (with_pair pairing)
 
 -- where the blocks of a pair are: the segments of both, and the size of the program's in paragraphs

@@ -2,7 +2,7 @@
 ghost use Rattle.std.specs.Prelude.{◌≡◌, ℕ, ◌+◌, ◌<◌, ◌≤◌, List, MatchOption};
 ghost use Rattle.dm_blocks.specs.declared.header.Header.{Header};
 ghost use Rattle.dm_blocks.specs.Chain.{next};
-ghost use Rattle.dm_arena.specs.Blocks.{cut, taken_segment};
+ghost use Rattle.dm_arena.specs.Blocks.{cut_block, taken_segment};
 ghost use Rattle.dm_arena.specs.inner.Blocks.{cut_list};
 ghost use Rattle.dm_arena.specs.inner.Walks.{IsReplaceable, IsReplaced};
 
@@ -22,7 +22,7 @@ pub(crate) struct Cut {
 pub(crate) fn cut_of(fit: Fit, n: u16, owner: u16, block: Header) -> Cut
     requires within { n ≤ block.size }
     requires fits { next block ≤ 0xFFFF }
-    ensures cut { cut_list result ≡ cut fit n owner block }
+    ensures cut { cut_list result ≡ cut_block fit n owner block }
     ensures first { next result.first ≤ 0xFFFF }
     ensures second { MatchOption result.second (Unit {0}) (λ c. next c ≤ 0xFFFF) }
 {

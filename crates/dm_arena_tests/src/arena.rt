@@ -125,7 +125,7 @@ fn block_grows_back_over_the_rest(rt: HostRuntime) -> Result<(), Fail> {
     Ok(())
 }
 
-/// Definitions: dm_blocks Chain IsClear HasHeader; dm_arena Blocks cut cut_low cut_high taken_segment
+/// Definitions: dm_blocks Chain IsClear HasHeader; dm_arena Blocks cut_block cut_low cut_high taken_segment
 /// Definitions: dm_arena Allocation Allocates Taking with_cut
 #[test]
 fn rest_of_a_block_may_be_empty(rt: HostRuntime) -> Result<(), Fail> {
@@ -156,8 +156,8 @@ fn rest_of_a_block_may_be_empty(rt: HostRuntime) -> Result<(), Fail> {
 }
 
 /// Definitions: dm_blocks Chain Becomes DiffersInHeaders
-/// Definitions: dm_arena Blocks IsFit fits is_candidate prefers prefers_in prefers_by largest cut cut_low cut_high
-/// Definitions: dm_arena Blocks taken_segment
+/// Definitions: dm_arena Blocks IsFit fits is_candidate prefers prefers_in prefers_by largest
+/// Definitions: dm_arena Blocks cut_block cut_low cut_high taken_segment
 /// Definitions: dm_arena Allocation Allocates Taking with_cut
 #[test]
 fn strategies_take_other_blocks(rt: HostRuntime) -> Result<(), Fail> {

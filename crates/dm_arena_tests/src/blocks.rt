@@ -211,8 +211,8 @@ fn blocks_are_resized_and_freed(rt: HostRuntime) -> Result<(), Fail> {
 }
 
 /// Definitions: dm_blocks Chain Becomes DiffersInHeaders
-/// Definitions: dm_arena Blocks join join_after merge IsFit fits is_candidate prefers prefers_in prefers_by largest cut
-/// Definitions: dm_arena Blocks cut_low cut_high taken_segment
+/// Definitions: dm_arena Blocks join join_after merge IsFit fits is_candidate prefers prefers_in prefers_by largest
+/// Definitions: dm_arena Blocks cut_block cut_low cut_high taken_segment
 /// Definitions: dm_arena Allocation Allocates Taking with_cut
 #[test]
 fn strategies_choose_and_cut(rt: HostRuntime) -> Result<(), Fail> {

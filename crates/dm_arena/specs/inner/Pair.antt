@@ -2,7 +2,7 @@
 use Rattle.std.specs.Prelude.{◌≤◌, MatchOption, ◌≡◌, ◌+◌, ◌⊎◌, ◌∷◌, ◌++◌}
 use Rattle.dm_arena.specs.declared.cut.Cut.{Cut}
 use Rattle.dm_blocks.specs.Chain.{next}
-use Rattle.dm_arena.specs.Blocks.{cut}
+use Rattle.dm_arena.specs.Blocks.{cut_block}
 
 -- the headers of a cut lead to no segment past FFFFh
 abbrev pub IsCutFitting : Cut → Type 0

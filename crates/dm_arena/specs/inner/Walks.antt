@@ -10,7 +10,7 @@ use Rattle.dm_blocks.specs.Chain.{DiffersInHeaders, HasHeader, IsArena, IsClear,
 use Rattle.dm_arena.specs.declared.fit.Strategy.{Strategy}
 use Rattle.dm_arena.specs.declared.fit.Spoken.{Spoken}
 use Rattle.dm_arena.specs.declared.fit.Choice.{Choice}
-use Rattle.dm_arena.specs.Blocks.{cut, fits, join, join_after, largest, prefers, taken_segment}
+use Rattle.dm_arena.specs.Blocks.{cut_block, fits, join, join_after, largest, prefers, taken_segment}
 use Rattle.dm_arena.specs.inner.Blocks.{cut_list}
 use Rattle.dm_arena.specs.declared.fit.Fit.{Fit}
 use Rattle.dm_arena.specs.declared.fit.Fit.TheVariants.{Best, First, Last}
@@ -120,7 +120,7 @@ pub record IsChoosing (upper : Bool) (S : Memory) (L : List Header) (strategy : 
 -- what is planned
 pub record IsPlan (upper : Bool) (S : Memory) (start : ℕ) (strategy : Strategy) (n owner : ℕ) (plan : Plan) : Type 0 where
   pub taking : Taking upper S start strategy n
-  pub cut_is : cut_list plan.cut ≡ cut strategy.fit n owner taking.block
+  pub cut_is : cut_list plan.cut ≡ cut_block strategy.fit n owner taking.block
   pub segment_is : plan.segment ≡ taken_segment strategy.fit n taking.block + 1
   pub clear : IsClear S (with_cut taking owner)
 
