@@ -238,7 +238,7 @@ fn nothing_is_freed_inside_a_block(rt: HostRuntime) -> Result<(), Fail> {
 /// Definitions: dm_blocks Listing Steps IsStep IsStepFrom Follows Closes AreTold
 /// Definitions: dm_arena Allocation AllocateRefused
 /// Definitions: dm_arena Owned Frees BlockAt freed FreeRefused IsNoBlock is_link_block ResizeRefused Releases
-/// ReleasesOne ReleasesBoth ReleaseRefused released released_block
+/// Definitions: dm_arena Owned ReleasesOne ReleasesBoth ReleaseRefused released released_block
 #[test]
 fn broken_signature_destroys_the_arena(rt: HostRuntime) -> Result<(), Fail> {
     let mut space = new_space(rt.alloc())?;

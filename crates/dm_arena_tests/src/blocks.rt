@@ -130,7 +130,8 @@ type Row<'a> = (&'a [(u16, u16)], Call, &'a [(u16, u16)]);
 
 /// Definitions: dm_blocks Chain Becomes DiffersInHeaders
 /// Definitions: dm_arena Owned Frees BlockAt freed FreeRefused IsNoBlock is_link_block Resizes BlockRunAt resized
-/// absorb AllFree BeginsTaken Releases ReleasesOne ReleasesBoth ReleaseRefused released released_block
+/// Definitions: dm_arena Owned absorb AllFree BeginsTaken
+/// Definitions: dm_arena Owned Releases ReleasesOne ReleasesBoth ReleaseRefused released released_block
 #[test]
 fn blocks_are_resized_and_freed(rt: HostRuntime) -> Result<(), Fail> {
     let rows: [Row; 15] = [
@@ -510,7 +511,7 @@ fn refused_calls_leave_the_list(rt: HostRuntime) -> Result<(), Fail> {
 }
 
 /// Definitions: dm_blocks Chain IsHeader word next signature IsChain Spells IsNonEmpty IsClear HasHeader IsArena
-/// NoArena first_header
+/// Definitions: dm_blocks Chain NoArena first_header
 #[test]
 fn bytes_that_spell_no_list(rt: HostRuntime) -> Result<(), Fail> {
     // the list, and the byte at 0100h:offset that breaks it

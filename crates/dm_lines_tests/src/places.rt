@@ -82,8 +82,8 @@ fn check_row(rt: &impl Abort, alloc: Global, row: &str) -> Result<(), Fail> {
     Ok(())
 }
 
-/// Definitions: dm_lines Placing written_of numeral_at number_at label_at standing displaced amount_byte; dm_words StandIns is_move
-/// outline_of numeral_outline number_outline label_outline
+/// Definitions: dm_lines Placing written_of numeral_at number_at label_at standing displaced amount_byte
+/// Definitions: dm_lines Placing outline_of numeral_outline number_outline label_outline; dm_words StandIns is_move
 #[test]
 fn labels_have_places(rt: HostRuntime) -> Result<(), Fail> {
     for row in PLACES.lines() {

@@ -211,7 +211,7 @@ fn quotients_at_the_ends_of_the_range(rt: HostRuntime) {
 }
 
 /// Definitions: dm_alu Adjustments adjusted_value word_of_halves low_digit_off high_digit_off decimal_change
-/// flags_after_adjustment after_ascii after_decimal after_accumulator
+/// Definitions: dm_alu Adjustments flags_after_adjustment after_ascii after_decimal after_accumulator
 #[test]
 fn adjusted_accumulators(rt: HostRuntime) {
     for (adjustment, ax, word, expected, after) in [
@@ -283,7 +283,7 @@ fn checksum_of_differences(borrow: bool) -> u32 {
 
 /// Definitions: dm_alu Width leaves_range; dm_alu Flags after_result even_parity
 /// Definitions: dm_alu Sums sum_value flags_after_sum sum_overflows difference_value flags_after_difference
-/// difference_overflows
+/// Definitions: dm_alu Sums difference_overflows
 #[test]
 fn sums_of_all_bytes(rt: HostRuntime) {
     same(
@@ -384,7 +384,7 @@ fn folded_shifts(checksum: u32, operation: ShiftOperation, carry: bool, count: u
 }
 
 /// Definitions: dm_alu Shifts shift_value shifted moves one_move to_left to_right flags_after_shift flags_of_move
-/// overflow_after_move second_bit differ
+/// Definitions: dm_alu Shifts overflow_after_move second_bit differ
 #[test]
 fn shifts_of_all_bytes_by_0_to_31(rt: HostRuntime) {
     let mut checksum = 0;
@@ -430,7 +430,7 @@ fn checksum_of_adjustments(adjustment: Adjustment) -> u32 {
 // today in its 32-bit mode gave the same for DAA, AAM and AAD, and for the others too where it does as the 8086 did:
 // without AL over F9h in AAA, under 6 in AAS, and under 6 with adjust set and carry clear in DAS.
 /// Definitions: dm_alu Adjustments adjusted_value word_of_halves low_digit_off high_digit_off decimal_change
-/// flags_after_adjustment after_ascii after_decimal after_accumulator
+/// Definitions: dm_alu Adjustments flags_after_adjustment after_ascii after_decimal after_accumulator
 #[test]
 fn adjustments_of_all_accumulators(rt: HostRuntime) {
     for (adjustment, checksum) in [

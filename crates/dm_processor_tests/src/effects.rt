@@ -648,7 +648,7 @@ pub(crate) const ALL: [&str; 19] = [
 /// Definitions: dm_cpu Operands value_of with_operand with_result address_of far_segment_of
 /// Definitions: dm_cpu Values width_of value_in read_in written_in accumulator with_accumulator
 /// Definitions: dm_exec Moves move_effect moved exchanged pointer_loaded translated byte_extended word_extended
-/// flags_loaded flags_stored input
+/// Definitions: dm_exec Moves flags_loaded flags_stored input
 #[test]
 fn moves_between_registers_memory_and_values(rt: HostRuntime) -> Result<(), Fail> {
     check(&rt, rt.alloc(), MOVES)
@@ -659,7 +659,7 @@ fn moves_between_registers_memory_and_values(rt: HostRuntime) -> Result<(), Fail
 /// Definitions: dm_cpu Operands base_of offset_of segment_for data_segment value_of with_operand with_result address_of
 /// Definitions: dm_cpu Operands far_segment_of
 /// Definitions: dm_exec Moves move_effect moved exchanged pointer_loaded translated byte_extended
-/// word_extended flags_loaded flags_stored input
+/// Definitions: dm_exec Moves word_extended flags_loaded flags_stored input
 #[test]
 fn bases_and_overrides_name_the_place(rt: HostRuntime) -> Result<(), Fail> {
     check(&rt, rt.alloc(), ADDRESSES)
@@ -673,7 +673,7 @@ fn word_wraps_at_segment_end(rt: HostRuntime) -> Result<(), Fail> {
 /// Definitions: dm_ins Spelling word_bytes sign_extended
 /// Definitions: dm_cpu Operands value_of with_operand with_result address_of far_segment_of
 /// Definitions: dm_exec Moves move_effect moved exchanged pointer_loaded translated byte_extended word_extended
-/// flags_loaded flags_stored input
+/// Definitions: dm_exec Moves flags_loaded flags_stored input
 #[test]
 fn exchanges_pointers_and_conversions(rt: HostRuntime) -> Result<(), Fail> {
     check(&rt, rt.alloc(), TRANSFERS_OF_DATA)
@@ -702,7 +702,7 @@ fn interrupts_push_three_words_and_return(rt: HostRuntime) -> Result<(), Fail> {
 /// Definitions: dm_alu Sums sum_value flags_after_sum sum_overflows
 /// Definitions: dm_cpu Values width_of value_in read_in written_in accumulator with_accumulator
 /// Definitions: dm_exec Arithmetic arithmetic sum_into difference_into compared logic_into tested incremented
-/// decremented negated complemented
+/// Definitions: dm_exec Arithmetic decremented negated complemented
 #[test]
 fn sums(rt: HostRuntime) -> Result<(), Fail> {
     check(&rt, rt.alloc(), SUMS)
@@ -710,7 +710,7 @@ fn sums(rt: HostRuntime) -> Result<(), Fail> {
 
 /// Definitions: dm_alu Width leaves_range; dm_alu Sums difference_value flags_after_difference difference_overflows
 /// Definitions: dm_exec Arithmetic arithmetic sum_into difference_into compared logic_into tested incremented
-/// decremented negated complemented
+/// Definitions: dm_exec Arithmetic decremented negated complemented
 #[test]
 fn differences(rt: HostRuntime) -> Result<(), Fail> {
     check(&rt, rt.alloc(), DIFFERENCES)
@@ -718,7 +718,7 @@ fn differences(rt: HostRuntime) -> Result<(), Fail> {
 
 /// Definitions: dm_alu Bitwise logic_value flags_after_logic
 /// Definitions: dm_exec Arithmetic arithmetic sum_into difference_into compared logic_into tested incremented
-/// decremented negated complemented
+/// Definitions: dm_exec Arithmetic decremented negated complemented
 #[test]
 fn logic_clears_carry_and_keeps_adjust(rt: HostRuntime) -> Result<(), Fail> {
     check(&rt, rt.alloc(), BITWISE)

@@ -311,7 +311,7 @@ fn new_base(
 
 /// 400 calls, one by one against a plain list of places.
 /// Definitions: dm_pool Blocks taken placed zeros without resized new_base at_base fitted IsLaid IsPool Apart
-/// content contents_of
+/// Definitions: dm_pool Blocks content contents_of
 #[test]
 fn blocks_lie_where_a_plain_list_has_them(rt: HostRuntime) -> Result<(), Fail> {
     let mut taken = Taken {

@@ -70,7 +70,7 @@ fn memory_starts_over_a_used_store(rt: HostRuntime) -> Result<(), Fail> {
 
 /// Definitions: dm_space Memory linear place shown byte_at with_byte peek poke with_a20; dm_space Rom rom rom_offset
 /// Definitions: dm_space Start IsStart IsStartOfRam start_byte IsStartOver IsLaidOver vector_offset vector_segment
-/// vector_byte
+/// Definitions: dm_space Start vector_byte
 #[test]
 fn each_part_of_the_map_reads_as_it_starts(rt: HostRuntime) -> Result<(), Fail> {
     let mut space = new_space(rt.alloc())?;
