@@ -13,7 +13,7 @@ use Rattle.dm_services.specs.declared.services.Service.{Service}
 use Rattle.dm_services.specs.Services.{service_at}
 use Rattle.dm_drivers.specs.declared.drivers.Driver.{Driver}
 use Rattle.dm_drivers.specs.Drivers.{driver_at}
-use Rattle.dm_machine.specs.Step.{MakesStep, Runs, Acts, Drives, Instructs, listed, unlisted, fetched, after}
+use Rattle.dm_machine.specs.Step.{MakesStep, ActsUnlessEnded, Acts, Drives, Instructs, listed, unlisted, fetched, after}
 use Rattle.dm_ins.specs.Ins.{BeginsWith}
 use Rattle.dm_machine.specs.Run.{Answers}
 use Rattle.dm_findings.specs.declared.calls.Call.{Call}
@@ -62,7 +62,7 @@ unlisted_acts : (s t : State) → ((i : Ins) (k : ℕ) → BeginsWith (fetched s
 unlisted_acts s t none (listed i k b e) = none i k b
 unlisted_acts s t none (unlisted f e) = (let stop : None ≡ Some Unlisted = ap (λ (x : Answer). x.stop) e in cc)
 
-unlisted_runs : (s t : State) (o : Option ℕ) → IsUnlisted s → Runs s o (record { stop = None; state = t }) → ⊥
+unlisted_runs : (s t : State) (o : Option ℕ) → IsUnlisted s → ActsUnlessEnded s o (record { stop = None; state = t }) → ⊥
 unlisted_runs s t (Some code) u e = (let stop : None ≡ Some (Exited code) = ap (λ (x : Answer). x.stop) e in cc)
 unlisted_runs s t None u h = unlisted_acts s t u.none (uncalled_acts s _ u.call h)
 
@@ -81,7 +81,7 @@ instructs_none : (s t : State) (code : ℕ) → Instructs s (record { stop = Som
 instructs_none s t code (listed i k b e) = exits_none s t (next_of i.action.mnemonic) (effect (guest s.cpu s.memory) i k) code e
 instructs_none s t code (unlisted f e) = (let stop : Some (Exited code) ≡ Some Unlisted = ap (λ (x : Answer). x.stop) e in cc)
 
-exits_over : (s t : State) (code : ℕ) (o : Option ℕ) → call_of s.cpu ≡ None → Runs s o (record { stop = Some (Exited code); state = t }) → t ≡ s
+exits_over : (s t : State) (code : ℕ) (o : Option ℕ) → call_of s.cpu ≡ None → ActsUnlessEnded s o (record { stop = Some (Exited code); state = t }) → t ≡ s
 exits_over s t code (Some other) none e = ap (λ (x : Answer). x.state) e
 exits_over s t code None none h = absurd (instructs_none s t code (uncalled_acts s _ none h))
 

@@ -7,7 +7,7 @@ use Rattle.dm_cpu.specs.Guest.{Guest, guest}
 use Rattle.dm_state.specs.declared.stop.Stop.{Stop}
 use Rattle.dm_state.specs.declared.stop.Stop.TheVariants.{Exited, Steps as AllSteps, Halted, Unlisted}
 use Rattle.dm_state.specs.State.{State, Answer, stop_at}
-use Rattle.dm_machine.specs.Step.{MakesStep, Runs, Instructs, listed, unlisted, after}
+use Rattle.dm_machine.specs.Step.{MakesStep, ActsUnlessEnded, Instructs, listed, unlisted, after}
 use Rattle.dm_machine.specs.Run.{Answers, Goes, here, further, IsRun, over, whole, cut}
 use Rattle.dm_machine.proofs.OneRun.{none-made}
 use Rattle.dm_findings.specs.Calls.{call_of}
@@ -27,7 +27,7 @@ instructs_other : (s t : State) → Instructs s (record { stop = Some AllSteps; 
 instructs_other s t (listed i k b e) = after_other s t (next_of i.action.mnemonic) (effect (guest s.cpu s.memory) i k) e
 instructs_other s t (unlisted f e) = (let stop : Some AllSteps ≡ Some Unlisted = ap (λ (x : Answer). x.stop) e in cc)
 
-runs_other : (s t : State) (o : Option ℕ) → call_of s.cpu ≡ None → Runs s o (record { stop = Some AllSteps; state = t }) → ⊥
+runs_other : (s t : State) (o : Option ℕ) → call_of s.cpu ≡ None → ActsUnlessEnded s o (record { stop = Some AllSteps; state = t }) → ⊥
 runs_other s t (Some code) none e = (let stop : Some AllSteps ≡ Some (Exited code) = ap (λ (x : Answer). x.stop) e in cc)
 runs_other s t None none h = instructs_other s t (uncalled_acts s _ none h)
 
@@ -40,7 +40,7 @@ other_stop s t none h = runs_other s t s.exited none h
 was_ended : (s t : State) (code : ℕ) → s.exited ≡ Some code → t ≡ s → Answers s (Some (Exited code)) t
 unfolding MakesStep
 was_ended s t code e same =
-    let here : Answers s (Some (Exited code)) s = subst (λ o. Runs s o (stop_at (Exited code) s)) (sym e) refl in
+    let here : Answers s (Some (Exited code)) s = subst (λ o. ActsUnlessEnded s o (stop_at (Exited code) s)) (sym e) refl in
     subst (λ u. Answers s (Some (Exited code)) u) (sym same) here
 
 answers_by : (s t : State) (a b : Stop) → a ≡ b → Answers s (Some b) t → Answers s (Some a) t

@@ -74,11 +74,11 @@ refused_by_status status = if (status == 0) || (status == 0x92) then [] else Ref
 abbrev pub refused_by_error : Cpu → List Finding
 refused_by_error d = if (d.ax == 0) && not (byte_of d Bl == 0) then Refused (byte_of d Bl) ∷ [] else []
 
-abbrev pub refused : Cpu → Cpu → Option Call → List Finding
-refused c d None = []
-refused c d (Some DivideError) = []
-refused c d (Some Terminate) = []
-refused c d (Some (Dos number)) = if is_arena number || (number == 0x4B) then refused_by_dos c d number else []
-refused c d (Some (ExpandedMemory number)) = refused_by_status (byte_of d Ah)
-refused c d (Some Multiplex) = []
-refused c d (Some (ExtendedMemory number)) = refused_by_error d
+abbrev pub refusal_findings : Cpu → Cpu → Option Call → List Finding
+refusal_findings c d None = []
+refusal_findings c d (Some DivideError) = []
+refusal_findings c d (Some Terminate) = []
+refusal_findings c d (Some (Dos number)) = if is_arena number || (number == 0x4B) then refused_by_dos c d number else []
+refusal_findings c d (Some (ExpandedMemory number)) = refused_by_status (byte_of d Ah)
+refusal_findings c d (Some Multiplex) = []
+refusal_findings c d (Some (ExtendedMemory number)) = refused_by_error d

@@ -18,7 +18,7 @@ use Rattle.dm_findings.specs.declared.finding.Found.{Found}
 use Rattle.dm_findings.specs.Calls.{call_of}
 use Rattle.dm_checker.specs.Shown.{Shown, IsShown}
 use Rattle.dm_checker.specs.Headers.{overwritten, mapped_away}
-use Rattle.dm_checker.specs.Calls.{arranges, freed_twice, refused}
+use Rattle.dm_checker.specs.Calls.{arranges, freed_twice, refusal_findings}
 
 -- the arena was whole and is destroyed, or was destroyed and is whole
 abbrev pub turned : Option ℕ → Option ℕ → List Finding
@@ -38,7 +38,7 @@ findings s t old new =
     ++ flat_map (mapped_away s.memory t.memory) old.headers
     ++ turned old.broken new.broken
     ++ freed_twice s.cpu t.cpu (call_of s.cpu) old.headers
-    ++ refused s.cpu t.cpu (call_of s.cpu)
+    ++ refusal_findings s.cpu t.cpu (call_of s.cpu)
 
 -- what is found of the step from s to t
 pub record Finds (s t : State) (found : List Finding) : Type 0 where

@@ -2,7 +2,7 @@
 //! section 3; XMS 3.0).
 
 ghost use Rattle.std.specs.Prelude.{◌≡◌, ◌++◌, map, OnOk};
-ghost use Rattle.dm_checker.specs.Calls.{is_arena, is_ending, is_starting, arranges, leaves, is_free_at, freed_twice, refused_by_dos, refused_by_status, refused_by_error, refused};
+ghost use Rattle.dm_checker.specs.Calls.{is_arena, is_ending, is_starting, arranges, leaves, is_free_at, freed_twice, refused_by_dos, refused_by_status, refused_by_error, refusal_findings};
 ghost use Rattle.dm_checker.specs.inner.Watching.{header_of};
 
 use crate::put::put;
@@ -135,7 +135,7 @@ pub(crate) fn put_refused(
     after: &Cpu,
     call: Option<Call>,
 ) -> Result<(), AllocError>
-    ensures { OnOk result (out.new.items ≡ out.old.items ++ refused before.now after.now call) }
+    ensures { OnOk result (out.new.items ≡ out.old.items ++ refusal_findings before.now after.now call) }
 {
     match call {
         Some(Call::Dos(number)) => {

@@ -23,7 +23,7 @@ use Rattle.dm_drivers.specs.Drivers.{driver_at, driven}
 use Rattle.dm_state.specs.State.{State, Answer, go, with_guest}
 use Rattle.dm_services.specs.Services.{service_at}
 use Rattle.dm_services.specs.Wanting.{MayWant}
-use Rattle.dm_machine.specs.Step.{MakesStep, Runs, Acts, Drives, Instructs, listed, unlisted, fetched, after, instructed}
+use Rattle.dm_machine.specs.Step.{MakesStep, ActsUnlessEnded, Acts, Drives, Instructs, listed, unlisted, fetched, after, instructed}
 use Rattle.dm_ins.specs.Ins.{BeginsWith}
 use Rattle.dm_machine.specs.Run.{Answers, here, further, StopsWithin, over, whole, cut}
 use Rattle.dm_services.specs.Laws.{with_change, answer_with}
@@ -63,7 +63,7 @@ acts-unseen : (f : Memory → Memory) (u : IsUnseen f) (s : State) (o : Option S
 acts-unseen f u s (Some service) x q h = serves-unseen f u s service x h
 acts-unseen f u s None x q h = drives-unseen f u s (driver_at s.cpu) x q h
 
-runs-unseen : (f : Memory → Memory) (u : IsUnseen f) (s : State) (o : Option ℕ) (x : Answer) → IsQuiet (driver_at s.cpu) → Runs s o x → Runs (with_change f s) o (answer_with f x)
+runs-unseen : (f : Memory → Memory) (u : IsUnseen f) (s : State) (o : Option ℕ) (x : Answer) → IsQuiet (driver_at s.cpu) → ActsUnlessEnded s o x → ActsUnlessEnded (with_change f s) o (answer_with f x)
 runs-unseen f u s (Some code) x q e = ap (answer_with f) e
 runs-unseen f u s None x q h = acts-unseen f u s (service_at s.cpu) x q h
 

@@ -20,7 +20,7 @@ use Rattle.dm_services.proofs.Map.{tables-kept}
 use Rattle.dm_drivers.specs.declared.drivers.Driver.{Driver}
 use Rattle.dm_drivers.specs.declared.drivers.Driver.TheVariants.{ExpandedMemory, Multiplex, ExtendedMemory}
 use Rattle.dm_drivers.specs.Drivers.{driver_at, driven}
-use Rattle.dm_machine.specs.Step.{MakesStep, Runs, Acts, Drives, Instructs, listed, unlisted, after, instructed}
+use Rattle.dm_machine.specs.Step.{MakesStep, ActsUnlessEnded, Acts, Drives, Instructs, listed, unlisted, after, instructed}
 use Rattle.dm_machine.specs.Run.{Answers, Goes, here, further, IsRun, over, whole, cut}
 use Rattle.dm_machine.specs.Laws.{IsQuiet, StaysQuiet, is_extended, with_unseen_blocks, with_extended_blocks, ExtendedBlocksChangeNoRun, RunLeavesExtended}
 use Rattle.dm_machine.proofs.Confined.{fewer-quiet, run-unseen}
@@ -58,7 +58,7 @@ acts-same : (s : State) (o : Option Service) (x : Answer) → IsQuiet (driver_at
 acts-same s (Some service) x q h = tables-kept s service x h
 acts-same s None x q h = drives-same s (driver_at s.cpu) x q h
 
-runs-same : (s : State) (o : Option ℕ) (x : Answer) → IsQuiet (driver_at s.cpu) → Runs s o x → SameTables s x.state
+runs-same : (s : State) (o : Option ℕ) (x : Answer) → IsQuiet (driver_at s.cpu) → ActsUnlessEnded s o x → SameTables s x.state
 runs-same s (Some code) x q e = answer-same s x _ e (same s)
 runs-same s None x q h = acts-same s (service_at s.cpu) x q h
 

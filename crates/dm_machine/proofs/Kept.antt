@@ -23,7 +23,7 @@ use Rattle.dm_services.proofs.Map.{serves-kept}
 use Rattle.dm_drivers.specs.declared.drivers.Driver.{Driver}
 use Rattle.dm_drivers.specs.declared.drivers.Driver.TheVariants.{ExpandedMemory, Multiplex, ExtendedMemory}
 use Rattle.dm_drivers.specs.Drivers.{driver_at, driven}
-use Rattle.dm_machine.specs.Step.{MakesStep, Runs, Acts, Drives, Instructs, listed, unlisted, after, instructed}
+use Rattle.dm_machine.specs.Step.{MakesStep, ActsUnlessEnded, Acts, Drives, Instructs, listed, unlisted, after, instructed}
 use Rattle.dm_machine.specs.Run.{Answers, Goes, here, further, IsRun, over, whole, cut}
 use Rattle.dm_machine.specs.Laws.{IsQuiet, StaysQuiet, RunLeavesUnseen}
 use Rattle.dm_machine.proofs.Confined.{steps-unseen, fewer-quiet}
@@ -56,7 +56,7 @@ acts-shaped : (s : State) (o : Option Service) (x : Answer) → IsQuiet (driver_
 acts-shaped s (Some service) x q h = serves-kept s service x h
 acts-shaped s None x q h = drives-shaped s (driver_at s.cpu) x q h
 
-runs-shaped : (s : State) (o : Option ℕ) (x : Answer) → IsQuiet (driver_at s.cpu) → Runs s o x → IsShaped s.memory x.state.memory
+runs-shaped : (s : State) (o : Option ℕ) (x : Answer) → IsQuiet (driver_at s.cpu) → ActsUnlessEnded s o x → IsShaped s.memory x.state.memory
 runs-shaped s (Some code) x q e = memory-shaped s x _ e (shaped-same s.memory)
 runs-shaped s None x q h = acts-shaped s (service_at s.cpu) x q h
 

@@ -12,7 +12,7 @@ use Rattle.dm_drivers.specs.declared.drivers.Driver.TheVariants.{ExpandedMemory,
 use Rattle.dm_drivers.specs.Drivers.{driver_at}
 use Rattle.dm_state.specs.State.{State, Answer}
 use Rattle.dm_services.specs.Services.{service_at}
-use Rattle.dm_machine.specs.Step.{MakesStep, Runs, Acts, Drives, Instructs, listed, unlisted, after}
+use Rattle.dm_machine.specs.Step.{MakesStep, ActsUnlessEnded, Acts, Drives, Instructs, listed, unlisted, after}
 use Rattle.dm_machine.specs.Run.{Answers, Goes, here, further, IsRun, over, whole, cut}
 use Rattle.dm_machine.specs.Laws.{IsHistory, none, step_on, run_on, changed, reserved, RoomIsEnoughForRuns, RoomIsEnoughForSteps}
 use Rattle.dm_machine.proofs.OneRun.{steps-one}
@@ -37,7 +37,7 @@ acts-keep : (s : State) (o : Option Service) (x : Answer) → Acts s o x → Kee
 acts-keep s (Some service) x h = serves-keep s service x h
 acts-keep s None x h = drives-keep s (driver_at s.cpu) x h
 
-runs-keep : (s : State) (o : Option ℕ) (x : Answer) → Runs s o x → Keeps s x
+runs-keep : (s : State) (o : Option ℕ) (x : Answer) → ActsUnlessEnded s o x → Keeps s x
 runs-keep s (Some code) x e = by s x _ e (same _)
 runs-keep s None x h = acts-keep s (service_at s.cpu) x h
 
