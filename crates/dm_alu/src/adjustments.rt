@@ -66,21 +66,23 @@ fn adjusted_value(adjustment: Adjustment, ax: u16, flags: Flags) -> u16
     let low_off = low_digit_off(low, flags);
     let change = decimal_change(low, flags);
     match adjustment {
-        Adjustment::AsciiAddition if low_off => joined(high + 1, (low + 6) % 0x10),
-        Adjustment::AsciiSubtraction if low_off => joined(
+        Adjustment::AsciiAddition if low_off => word_of_halves(high + 1, (low + 6) % 0x10),
+        Adjustment::AsciiSubtraction if low_off => word_of_halves(
             high + 0x100 - 1,
             (low + 0x100 - 6) % 0x10,
         ),
-        Adjustment::AsciiAddition | Adjustment::AsciiSubtraction => joined(high, low % 0x10),
-        Adjustment::DecimalAddition => joined(high, low + change),
-        Adjustment::DecimalSubtraction => joined(high, low + 0x100 - change),
-        Adjustment::AsciiMultiplication => joined(low / 10, low % 10),
-        Adjustment::AsciiDivision => joined(0, high * 10 + low),
+        Adjustment::AsciiAddition | Adjustment::AsciiSubtraction => {
+            word_of_halves(high, low % 0x10)
+        }
+        Adjustment::DecimalAddition => word_of_halves(high, low + change),
+        Adjustment::DecimalSubtraction => word_of_halves(high, low + 0x100 - change),
+        Adjustment::AsciiMultiplication => word_of_halves(low / 10, low % 10),
+        Adjustment::AsciiDivision => word_of_halves(0, high * 10 + low),
     }
 }
 
 /// AX of its halves, each modulo 256.
-fn joined(high: u16, low: u16) -> u16
+fn word_of_halves(high: u16, low: u16) -> u16
     ensures { result ≡ word_of_halves high low }
 {
     high % 0x100 * 0x100 + low % 0x100

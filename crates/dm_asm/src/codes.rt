@@ -33,7 +33,12 @@ pub(crate) enum Problem {
 }
 
 /// What is written where an operand stands.
-fn placed(labels: &Labels, instruction: &Instruction, next: u16, term: &Term) -> Option<Written>
+fn written_for(
+    labels: &Labels,
+    instruction: &Instruction,
+    next: u16,
+    term: &Term,
+) -> Option<Written>
     requires { AreNear labels.now }
     ensures { (list : List Label) → AreKept labels.now list → result ≡ placed_of list instruction.now.mnemonic next term.now }
 {
@@ -46,8 +51,8 @@ fn placed_words(labels: &Labels, instruction: &Instruction, next: u16) -> Option
     requires { AreNear labels.now }
     ensures { (list : List Label) → AreKept labels.now list → result ≡ words_of list next instruction.now }
 {
-    let first = placed(labels, instruction, next, &instruction.first)?;
-    let second = placed(labels, instruction, next, &instruction.second)?;
+    let first = written_for(labels, instruction, next, &instruction.first)?;
+    let second = written_for(labels, instruction, next, &instruction.second)?;
     Some(Words {
         mnemonic: instruction.mnemonic,
         first,

@@ -25,7 +25,7 @@ fn text_status_of(refusal: AssemblyRefusal) -> u32
 }
 
 /// The line that is wrong, or the number before.
-fn line_of(refusal: AssemblyRefusal, before: usize) -> usize
+fn wrong_line(refusal: AssemblyRefusal, before: usize) -> usize
     ensures { result ≡ wrong_line refusal before }
 {
     match refusal {
@@ -51,7 +51,7 @@ pub extern "C" fn mezguld_assemble(
     match assemble(alloc, text) {
         Ok(bytes) => give(bytes.as_slice(), buffer, wanted),
         Err(refusal) => {
-            *line = line_of(refusal, *line);
+            *line = wrong_line(refusal, *line);
             text_status_of(refusal)
         }
     }

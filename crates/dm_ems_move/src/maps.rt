@@ -71,7 +71,7 @@ fn put_entry(bytes: &mut Bytes, numbers: (u16, u16))
 }
 
 /// The bytes of the map of what four windows show.
-fn entries(pages: &[Page], windows: [Option<Block>; 4]) -> Bytes
+fn map_entries(pages: &[Page], windows: [Option<Block>; 4]) -> Bytes
     requires { length pages.now ≤ 512 }
     ensures { result.items ≡ map_entries pages.now windows }
 {
@@ -126,7 +126,7 @@ fn map_at(ems: &Ems, space: &Space, segment: u16, offset: u16) -> Option<[Option
 fn write_map(ems: &Ems, space: &mut Space, segment: u16, offset: u16)
     ensures { space.new ≡ record space.old { memory = with_bytes space.old.memory segment offset (map_entries ems.now.pages space.old.memory.windows) } }
 {
-    let bytes = entries(ems.pages(), space.windows());
+    let bytes = map_entries(ems.pages(), space.windows());
     space.write_bytes(segment, offset, bytes.as_slice());
 }
 

@@ -95,7 +95,7 @@ fn tail_at(space: &Space, pointer: FarPointer) -> ArrayVec<u8, 126>
 
 /// The first 16 bytes of the file control block that a far pointer leads to.
 #[tactic(auto, unfolding(crate::specs::Request::control_block))]
-fn block_at(space: &Space, pointer: FarPointer) -> [u8; 16]
+fn control_block(space: &Space, pointer: FarPointer) -> [u8; 16]
     ensures { result ≡ Rattle.dm_proc.specs.Request.control_block space.now.memory pointer }
 {
     let mut block = [0; 16];
@@ -111,8 +111,8 @@ pub(crate) fn arguments_at(cpu: &Cpu, space: &Space) -> Arguments
 {
     Arguments {
         tail: tail_at(space, pointer_at(cpu, space, 2)),
-        first: block_at(space, pointer_at(cpu, space, 6)),
-        second: block_at(space, pointer_at(cpu, space, 10)),
+        first: control_block(space, pointer_at(cpu, space, 6)),
+        second: control_block(space, pointer_at(cpu, space, 10)),
     }
 }
 

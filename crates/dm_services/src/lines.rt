@@ -18,7 +18,7 @@ fn line_length(input: &[u8]) -> Option<usize>
 
 /// What a buffer for `size` bytes keeps of a line: its first `size` - 1 bytes other than 0Ah.
 #[tactic(auto, unfolding(crate::specs::Lines::kept_bytes))]
-fn kept(size: u8, line: &[u8]) -> ArrayVec<u8, 255>
+fn kept_bytes(size: u8, line: &[u8]) -> ArrayVec<u8, 255>
     ensures items { result.items ≡ kept_bytes size line.now }
     ensures fits { length result.items ≤ 254 }
 {
@@ -46,7 +46,7 @@ pub(crate) fn read_line(parts: &mut Parts) -> Option<Stop>
         let Some(length) = line_length(parts.console.input()) else {
             return Some(Stop::InputEnded);
         };
-        let mut bytes = kept(size, &parts.console.input()[..length]);
+        let mut bytes = kept_bytes(size, &parts.console.input()[..length]);
         let count = bytes.len() as u8;
         bytes.push(b'\r');
         parts

@@ -27,7 +27,7 @@ pub enum StrategyFunction {
 }
 
 /// The function with a number, which calls have in AL.
-fn function_of(number: u8) -> StrategyFunction
+fn subfunction_of(number: u8) -> StrategyFunction
     ensures { result ≡ Strategies.subfunction_of number }
 {
     match number {
@@ -40,7 +40,7 @@ fn function_of(number: u8) -> StrategyFunction
 }
 
 /// The number of a strategy: its fit in the low bits, its area in the high ones.
-fn number_of(strategy: Strategy) -> u16
+fn strategy_number(strategy: Strategy) -> u16
     ensures { result ≡ Strategies.strategy_number strategy }
 {
     let area = match strategy.area {
@@ -116,7 +116,7 @@ fn refuse_number(parts: &mut Parts)
 fn tell_strategy(parts: &mut Parts)
     ensures { parts.new ≡ (Strategies.strategy_reported parts.old).state }
 {
-    parts.cpu.ax = number_of(parts.strategy);
+    parts.cpu.ax = strategy_number(parts.strategy);
     answer(parts, false);
 }
 
@@ -181,7 +181,7 @@ fn set_link(parts: &mut Parts)
 pub(crate) fn allocation_strategy(parts: &mut Parts)
     ensures { StrategyCalls parts.old (Strategies.subfunction_of (byte_of parts.old.cpu Al)) (record { stop = None; state = parts.new }) }
 {
-    match function_of(parts.cpu.byte(ByteRegister::Al)) {
+    match subfunction_of(parts.cpu.byte(ByteRegister::Al)) {
         StrategyFunction::TellStrategy => tell_strategy(parts),
         StrategyFunction::SetStrategy => set_strategy(parts),
         StrategyFunction::TellLink => tell_link(parts),

@@ -1,6 +1,6 @@
 use Rattle.std.proofs.Common.{◌≡◌, length, take}
 use Rattle.dm_proc.specs.Writes.{bytes_from}
-use Rattle.dm_proc.proofs.request.block_at.Given as goal
+use Rattle.dm_proc.proofs.request.control_block.Given as goal
 
 abbrev pub invariant-loop-at : goal.invariant-loop-at
 invariant-loop-at l = record {

@@ -3,7 +3,7 @@ use Rattle.std.proofs.lemmas.List.{length-set, take_all, take_more_set}
 use Rattle.dm_proc.specs.Writes.{bytes_from}
 use Rattle.dm_proc.specs.Request.{control_block}
 use Rattle.dm_proc.proofs.Bytes.{from-more, one-more}
-use Rattle.dm_proc.proofs.request.block_at.Goals as goal
+use Rattle.dm_proc.proofs.request.control_block.Goals as goal
 
 pub loop-at-preserved : goal.loop-at-preserved
 loop-at-preserved c =
