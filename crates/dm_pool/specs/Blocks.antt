@@ -50,6 +50,7 @@ abbrev pub content : List ℕ → Option Extent → List ℕ
 content bytes None = []
 content bytes (Some b) = part bytes (b.base * 1024) (b.units * 1024)
 
+-- by number, the bytes that each block has in the bytes of the pool; none for a number with no block
 abbrev pub contents_of : List (Option Extent) → List ℕ → List (List ℕ)
 contents_of places bytes = map (content bytes) places
 
