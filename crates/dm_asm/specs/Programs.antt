@@ -36,6 +36,7 @@ abbrev pub total : List Sized → ℕ
 total [] = 0
 total (x ∷ xs) = x.long + total xs
 
+-- the label of a statement at an offset, if it has one
 abbrev pub labelled : Option Name'.Name → ℕ → List Label
 labelled None at = []
 labelled (Some name) at = record { name = name; place = at } ∷ []
@@ -73,6 +74,7 @@ AreCoded labels at [] (p ∷ ps) = ⊥
 AreCoded labels at (x ∷ xs) [] = ⊥
 AreCoded labels at (x ∷ xs) (p ∷ ps) = Codes labels at x.statement.item p × AreCoded labels (at + length p) xs ps
 
+-- the pieces, one after the other
 abbrev pub joined : List (List ℕ) → List ℕ
 joined [] = []
 joined (p ∷ ps) = p ++ joined ps

@@ -24,33 +24,41 @@ byte_digits n = 48 ∷ digit (n / 16) ∷ digit (n % 16) ∷ 104 ∷ []
 unfoldable pub word_digits : ℕ → List ℕ
 word_digits n = 48 ∷ digit (n / 4096) ∷ digit (n / 256 % 16) ∷ digit (n / 16 % 16) ∷ digit (n % 16) ∷ 104 ∷ []
 
+-- the bytes of a piece, in ASCII
 abbrev pub piece_bytes : Piece → List ℕ
 piece_bytes (name w) = w
 piece_bytes (byte n) = byte_digits n
 piece_bytes (word n) = word_digits n
 piece_bytes (sign b) = b ∷ []
 
+-- the bytes of pieces, one after the other
 abbrev pub text_bytes : List Piece → List ℕ
 text_bytes [] = []
 text_bytes (p ∷ ps) = piece_bytes p ++ text_bytes ps
 
 -- ---- the signs
 
+-- the space after a mnemonic, a prefix word or a size word
 abbrev pub space : Piece
 space = sign 32
 
+-- the + between the parts of an address
 abbrev pub plus : Piece
 plus = sign 43
 
+-- the comma between two operands
 abbrev pub comma : Piece
 comma = sign 44
 
+-- the colon between a segment and an offset
 abbrev pub colon : Piece
 colon = sign 58
 
+-- the bracket before an address
 abbrev pub left_bracket : Piece
 left_bracket = sign 91
 
+-- the bracket after an address
 abbrev pub right_bracket : Piece
 right_bracket = sign 93
 
@@ -60,6 +68,7 @@ right_bracket = sign 93
 abbrev pub is_in_names : ℕ → Bool
 is_in_names b = (nat_le 48 b && nat_le b 57) || (nat_le 65 b && nat_le b 90)
 
+-- at least one byte, all of them digits and capital letters
 abbrev pub is_name : List ℕ → Bool
 is_name [] = false
 is_name (b ∷ w) = list_all is_in_names (b ∷ w)

@@ -39,6 +39,7 @@ IsWritten (w.Far s n) o = o ≡ operand.FarTarget n s
 
 -- ---- the word before memory
 
+-- the size word of memory of this width: BYTE or WORD
 abbrev pub width_word : Width → Size
 width_word width.Byte = Byte
 width_word width.Word = Word
@@ -60,6 +61,7 @@ abbrev pub word_before : Action → Operand → Size
 word_before a (operand.Memory v m) = size_word a v
 word_before a _ = Absent
 
+-- the size word that is written before memory; other operands have none
 abbrev pub word_written : Written → Size
 word_written (w.Memory s m) = s
 word_written _ = Absent
