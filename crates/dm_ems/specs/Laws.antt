@@ -17,6 +17,7 @@ use Rattle.dm_ems.specs.Names.{set_name}
 abbrev pub StartIsConsistent : Type 0
 StartIsConsistent = (total units : ℕ) (low : List ℕ) → total ≤ 512 → IsConsistent (expanded (new_tables total) (of_ram low (no_blocks units)))
 
+-- each call leaves tables and memory consistent, and so do the steps of reallocation
 pub record CallsKeepConsistency : Type 0 where
   pub allocating : (x : Expanded) (n : ℕ) → IsConsistent x → IsConsistent (left x (allocate x n))
   pub deallocating : (x : Expanded) (handle : ℕ) → IsConsistent x → IsConsistent (left x (deallocate x handle))
@@ -43,6 +44,6 @@ pub record CallsLeaveOutside : Type 0 where
   pub cutting : (x : Expanded) (handle count : ℕ) → LeavesOutside x (cut x handle count)
   pub writing : (x : Expanded) (m : Memory) → IsShaped x.memory m → LeavesOutside x (with_memory x m)
 
--- a new handle has as many pages as were asked for
+-- a new handle has as many pages as were asked for, all new and of zeros, and tables and memory stay consistent
 abbrev pub PagesCome : Type 0
 PagesCome = (x y : Expanded) (n handle : ℕ) → IsConsistent x → HasNumbers x → allocate x n ≡ Ok (handle, y) → HasPages x y handle n

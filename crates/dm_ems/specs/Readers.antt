@@ -9,6 +9,7 @@ use Rattle.dm_ems.specs.Tables.{Tables, is_of, is_block, page_count}
 
 -- ---- handles
 
+-- a handle in use, with its number of pages and its name
 abbrev pub held : ℕ → Option Handle → Option Holding
 held pages None = None
 held pages (Some h) = Some (record { pages = pages; name = h.name })
@@ -19,6 +20,7 @@ holding ems handle = held (page_count ems handle) (slice_index_or ems.handles ha
 
 -- ---- windows
 
+-- page i of the list
 abbrev pub page_at : List Page → ℕ → Page
 page_at pages i = slice_index_or pages i (record { handle = 0; block = 0 })
 

@@ -22,9 +22,11 @@ or_none (Some n) = n
 abbrev pub numbers : List Page → Option ℕ → ℕ × ℕ
 numbers pages window = or_none (numbers_of pages window)
 
+-- a handle and a logical page as four bytes, two words
 abbrev pub entry : ℕ × ℕ → List ℕ
 entry n = word n.0 ++ word n.1
 
+-- the bytes of windows, four for each
 abbrev pub entries : List Page → List (Option ℕ) → List ℕ
 entries pages [] = []
 entries pages (window ∷ windows) = entry (numbers pages window) ++ entries pages windows
@@ -57,6 +59,7 @@ map_at ems m segment offset =
 
 -- ---- the call
 
+-- the four windows of the frame show these blocks, or none
 abbrev pub showing_all : Expanded → List (Option ℕ) → Expanded
 showing_all x windows = with_memory x (with_windows x.memory windows)
 

@@ -18,6 +18,7 @@ use Rattle.dm_xms.specs.Blocks.{allocate, deallocate, lock, unlock, reallocate}
 abbrev pub StartIsConsistent : Type 0
 StartIsConsistent = (units : ℕ) (low : List ℕ) → IsConsistent (extended new_tables (of_ram low (no_blocks units)))
 
+-- each call leaves tables, A20 and memory consistent
 pub record CallsKeepConsistency : Type 0 where
   pub taking_area : (x : Extended) → IsConsistent x → IsConsistent (extended (left x.xms (take_area x.xms)) x.memory)
   pub releasing_area : (x : Extended) → IsConsistent x → IsConsistent (extended (left x.xms (release_area x.xms)) x.memory)

@@ -5,12 +5,15 @@ use Rattle.dm_xms.specs.declared.status.Status.{Status}
 use Rattle.dm_xms.specs.declared.status.Status.TheVariants.{LineError, LineStillOn}
 use Rattle.dm_xms.specs.Tables.{Extended}
 
+-- whether line A20 is on, by the global switch and the local count
 abbrev pub is_on : Bool → ℕ → Bool
 is_on global local = global || not (local == 0)
 
+-- the switches as given, and line A20 as they say
 abbrev pub switched : Extended → Bool → ℕ → Extended
 switched x global local = record { xms = record x.xms { global = global; local = local }; memory = with_a20 x.memory (is_on global local) }
 
+-- 03h: the global switch is on
 unfoldable pub enable_globally : Extended → Extended
 enable_globally x = switched x true x.xms.local
 

@@ -29,6 +29,7 @@ described m segment offset k = record { handle = word_after m segment offset k; 
 abbrev pub conventional : ℕ → Side
 conventional offset = record { region = span Linear (offset / 65536 * 16 + offset % 65536) []; end = 0x10FFF0 }
 
+-- the side of a handle's block, from a byte of the block on
 abbrev pub of_block : Handle → ℕ → Side
 of_block s offset = record { region = span Single offset (s.block ∷ []); end = 0x400 * s.kib }
 

@@ -11,6 +11,7 @@ use Rattle.dm_xms.specs.Blocks as rows
 use Rattle.dm_xms.specs.Moves as moves
 use Rattle.dm_xms_calls.specs.Caller.{Caller, on_cpu, settled, after, after_tables}
 
+-- AX, DX and BL after 08h: the largest gap and all that is free, in KiB; or zeros and the error code
 abbrev pub with_free : Cpu → Result FreeMemory Status → Cpu
 with_free cpu (Ok free) = with_byte (record cpu { ax = free.largest; dx = free.total }) Bl 0
 with_free cpu (Err e) = with_byte (record cpu { ax = 0; dx = 0 }) Bl (code_of e)

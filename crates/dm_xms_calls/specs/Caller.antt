@@ -15,6 +15,7 @@ pub record Caller : Type 0 where
   pub cpu : Cpu
   pub x : Extended
 
+-- a caller of these registers, tables and memory
 abbrev pub caller : Cpu → Tables → Memory → Caller
 caller cpu xms memory = record { cpu = cpu; x = extended xms memory }
 

@@ -17,10 +17,12 @@ with_room cpu (refusal.Smaller n) = record cpu { dx = n }
 with_room cpu refusal.NoneFree = record cpu { dx = 0 }
 with_room cpu refusal.Unknown = cpu
 
+-- the registers after an answer: success as `set` has it, a refusal with its error code, and DX where it says a size
 abbrev pub settled : {A : Type 0} → Cpu → Result A UpperRefusal → (A → Cpu) → Cpu
 settled cpu (Ok v) set = succeeded (set v)
 settled cpu (Err e) set = refused (with_room cpu e) (code_of e)
 
+-- after a call on upper memory blocks, which may change the tables alone
 abbrev pub after : {A : Type 0} → Caller → Result (A × Tables) UpperRefusal → (A → Cpu) → Caller
 after c r set = record { cpu = settled c.cpu (answer r) set; x = extended (left c.x.xms r) c.x.memory }
 
