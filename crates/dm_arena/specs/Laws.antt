@@ -20,15 +20,19 @@ AllocationHasOneAnswer = (upper : Bool) (S : Memory) (strategy : Strategy) (n ow
 abbrev pub FreeingHasOneAnswer : Type 0
 FreeingHasOneAnswer = (upper : Bool) (S : Memory) (segment : ℕ) (r q : Result (Unit {0}) Refusal) (T U : Memory) → Frees upper S segment r T → Frees upper S segment q U → (r ≡ q) × (T ≡ U)
 
+-- the result of a resize (4Ah), and the memory that it leaves, are functions of memory and arguments
 abbrev pub ResizingHasOneAnswer : Type 0
 ResizingHasOneAnswer = (upper : Bool) (S : Memory) (segment n : ℕ) (r q : Result (Unit {0}) Refusal) (T U : Memory) → Resizes upper S segment n r T → Resizes upper S segment n q U → (r ≡ q) × (T ≡ U)
 
+-- so are those of the freeing of all blocks of an owner
 abbrev pub ReleasingHasOneAnswer : Type 0
 ReleasingHasOneAnswer = (upper : Bool) (S : Memory) (owner : ℕ) (r q : Result (Unit {0}) Refusal) (T U : Memory) → Releases upper S owner r T → Releases upper S owner q U → (r ≡ q) × (T ≡ U)
 
+-- so are those of the allocation of two blocks, a program's and its environment's
 abbrev pub PairingHasOneAnswer : Type 0
 PairingHasOneAnswer = (upper : Bool) (S : Memory) (strategy : Strategy) (environment least most : ℕ) (r q : Result Placed Refusal) (T U : Memory) → Pairs upper S strategy environment least most r T → Pairs upper S strategy environment least most q U → (r ≡ q) × (T ≡ U)
 
+-- so are those of linking and unlinking upper memory (58h)
 abbrev pub LinkingHasOneAnswer : Type 0
 LinkingHasOneAnswer = (S : Memory) (on : Bool) (r q : Result (Unit {0}) Refusal) (T U : Memory) → Links S on r T → Links S on q U → (r ≡ q) × (T ≡ U)
 
@@ -42,6 +46,7 @@ pub record CallsIgnoreUnseen (change : Memory → Memory) : Type 0 where
   pub telling : (S : Memory) (r : Result Bool Refusal) → TellsLinked S r → TellsLinked (change S) r
   pub linking : (S T : Memory) (on : Bool) (r : Result (Unit {0}) Refusal) → Links S on r T → Links (change S) on r (change T)
 
+-- each change of memory that no program sees leaves each call what it is
 abbrev pub IgnoresUnseen : Type 0
 IgnoresUnseen = (change : Memory → Memory) → IsUnseen change → CallsIgnoreUnseen change
 

@@ -63,6 +63,7 @@ pub record Placed : Type 0 where
   pub program : ℕ
   pub size : ℕ
 
+-- where the blocks of a planned pair are
 abbrev pub placed_of : Planned → Placed
 placed_of pair = record { environment = pair.environment; program = pair.program; size = pair.size }
 

@@ -51,6 +51,7 @@ abbrev pub signature : List Header → ℕ
 signature [] = signature_byte true
 signature (c ∷ L) = signature_byte false
 
+-- the list has a header
 abbrev pub IsNonEmpty : List Header → Type 0
 IsNonEmpty [] = ⊥
 IsNonEmpty (b ∷ L) = Unit {0}

@@ -36,5 +36,6 @@ abbrev pub AreVariables : Memory → ℕ → List ℕ → Type 0
 AreVariables m segment variables =
     ((segment ≡ 0) × (variables ≡ [])) ⊎ ((0 < segment) × ((n : ℕ) × IsEnvironment m segment n × (variables ≡ bytes_from m segment 0 n)))
 
+-- there is an environment at the segment, and its first 32,768 bytes have no end
 abbrev pub NoVariables : Memory → ℕ → Type 0
 NoVariables m segment = (0 < segment) × HasNoEnd m segment

@@ -17,21 +17,25 @@ ExecHasOneAnswer =
     (ps₁ ps₂ : Processes) (c₁ c₂ : Cpu) (m₁ m₂ : Memory) →
     Executes upper ps c m store strategy r ps₁ c₁ m₁ → Executes upper ps c m store strategy q ps₂ c₂ m₂ → (r ≡ q) × (ps₁ ≡ ps₂) × (c₁ ≡ c₂) × (m₁ ≡ m₂)
 
+-- so are those of the load of the first program
 abbrev pub LoadHasOneAnswer : Type 0
 LoadHasOneAnswer =
     (upper : Bool) (m : Memory) (strategy : Strategy) (file variables name : List ℕ) (a : Passed) (r q : Result (Processes × Cpu) Refusal) (m₁ m₂ : Memory) →
     Loads upper m strategy file variables name a r m₁ → Loads upper m strategy file variables name a q m₂ → (r ≡ q) × (m₁ ≡ m₂)
 
+-- so are those of the load of an overlay (4Bh with AL = 3)
 abbrev pub OverlayHasOneAnswer : Type 0
 OverlayHasOneAnswer =
     (c : Cpu) (m : Memory) (store : List (List ℕ × List ℕ)) (r q : Result (Unit {0}) Refusal) (m₁ m₂ : Memory) →
     Overlays c m store r m₁ → Overlays c m store q m₂ → (r ≡ q) × (m₁ ≡ m₂)
 
+-- so are those of the end of a process
 abbrev pub TerminatingHasOneAnswer : Type 0
 TerminatingHasOneAnswer =
     (upper : Bool) (ps : Processes) (c : Cpu) (m : Memory) (code : ℕ) (r q : Result Ending ArenaDestroyed) (ps₁ ps₂ : Processes) (c₁ c₂ : Cpu) (m₁ m₂ : Memory) →
     Terminates upper ps c m code r ps₁ c₁ m₁ → Terminates upper ps c m code q ps₂ c₂ m₂ → (r ≡ q) × (ps₁ ≡ ps₂) × (c₁ ≡ c₂) × (m₁ ≡ m₂)
 
+-- so are those of the end of a process that stays resident (31h)
 abbrev pub KeepingHasOneAnswer : Type 0
 KeepingHasOneAnswer =
     (upper : Bool) (ps : Processes) (c : Cpu) (m : Memory) (code paragraphs : ℕ) (r q : Result Ending ArenaDestroyed) (ps₁ ps₂ : Processes) (c₁ c₂ : Cpu) (m₁ m₂ : Memory) →
@@ -61,5 +65,6 @@ pub record CallsIgnoreUnseen (change : Memory → Memory) : Type 0 where
   pub keeping : (upper : Bool) (ps : Processes) (c : Cpu) (m : Memory) (code paragraphs : ℕ) (r : Result Ending ArenaDestroyed) (qs : Processes) (d : Cpu) (n : Memory) →
       Keeps upper ps c m code paragraphs r qs d n → Keeps upper ps c (change m) code paragraphs r qs d (change n)
 
+-- each change of memory that no program sees leaves each call what it is
 abbrev pub IgnoresUnseen : Type 0
 IgnoresUnseen = (change : Memory → Memory) → IsUnseen change → CallsIgnoreUnseen change

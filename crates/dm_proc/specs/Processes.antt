@@ -73,6 +73,7 @@ pub record Asks (ps : Processes) (c : Cpu) (m : Memory) (store : List (List ℕ 
   pub variables : List ℕ
   pub old : AreVariables m (environment_segment m ps.present c) variables
 
+-- the bytes of the child's environment: the variables that are copied, and the name
 abbrev pub environment_of : {ps : Processes} {c : Cpu} {m : Memory} {store : List (List ℕ × List ℕ)} → Asks ps c m store → List ℕ
 environment_of a = environment a.variables a.name
 

@@ -55,6 +55,7 @@ pub record Passed : Type 0 where
   pub first : List ℕ
   pub second : List ℕ
 
+-- the arguments of a start as contracts see them
 abbrev pub passed_of : Arguments → Passed
 passed_of a = record { tail = a.tail.items; first = a.first; second = a.second }
 
@@ -62,6 +63,7 @@ passed_of a = record { tail = a.tail.items; first = a.first; second = a.second }
 unfoldable pub tail_at : Memory → FarPointer → List ℕ
 tail_at m p = bytes_from m p.segment ((p.offset + 1) % 65536) (min (peek m (linear m.a20 p.segment p.offset)) 126)
 
+-- the 16 bytes at a far pointer, those of a file control block that a program is passed
 unfoldable pub block_at : Memory → FarPointer → List ℕ
 block_at m p = bytes_from m p.segment p.offset 16
 
@@ -82,5 +84,6 @@ environment_segment m present c = if peek16 m c.es c.bx == 0 then peek16 m prese
 abbrev pub load_segment : Cpu → Memory → ℕ
 load_segment c m = peek16 m c.es c.bx
 
+-- the parameter block's second word: the segment that an overlay's relocations add
 abbrev pub relocation_factor : Cpu → Memory → ℕ
 relocation_factor c m = peek16 m c.es ((c.bx + 2) % 65536)
