@@ -22,12 +22,15 @@ driver_at c =
 abbrev pub expanded_caller : State → expanded.Caller
 expanded_caller s = expanded.caller s.cpu s.ems s.memory
 
+-- the same for the extended memory driver
 abbrev pub extended_caller : State → extended.Caller
 extended_caller s = extended.caller s.cpu s.xms s.memory
 
+-- the state with the registers, memory and tables that the expanded memory driver leaves
 abbrev pub after_expanded : State → expanded.Caller → State
 after_expanded s c = record s { cpu = c.cpu; memory = c.x.memory; ems = c.x.ems }
 
+-- the state with the registers, memory and tables that the extended memory driver leaves
 abbrev pub after_extended : State → extended.Caller → State
 after_extended s c = record s { cpu = c.cpu; memory = c.x.memory; xms = c.x.xms }
 

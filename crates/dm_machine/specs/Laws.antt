@@ -13,9 +13,11 @@ use Rattle.dm_drivers.specs.Drivers.{driver_at}
 use Rattle.dm_machine.specs.Step.{MakesStep}
 use Rattle.dm_machine.specs.Run.{Answers, Goes, IsRun}
 
+-- a step from a state has one result
 abbrev pub StepHasOneAnswer : Type 0
 StepHasOneAnswer = (s : State) (x y : Answer) → MakesStep s x → MakesStep s y → x ≡ y
 
+-- n steps from a state lead to one state
 abbrev pub ThereIsOneRun : Type 0
 ThereIsOneRun = (s t u : State) (n : ℕ) → Goes s n t → Goes s n u → t ≡ u
 
@@ -63,6 +65,7 @@ pub record LeavesUnseen (m n : Memory) : Type 0 where
   pub places : n.blocks.places ≡ m.blocks.places
   pub bytes : (block : ℕ) → shows m.windows block ≡ false → page_bytes n block ≡ page_bytes m block
 
+-- a run in which neither acts leaves the windows, and all bytes that no window shows
 abbrev pub RunLeavesUnseen : Type 0
 RunLeavesUnseen = (s t : State) (n : ℕ) (stop : Stop) → StaysQuiet s n → IsRun s n stop t → LeavesUnseen s.memory t.memory
 
@@ -93,6 +96,7 @@ pub record LeavesExtended (s t : State) : Type 0 where
   pub extended : t.xms ≡ s.xms
   pub bytes : (block : ℕ) → is_extended s.xms.handles block ≡ true → page_bytes t.memory block ≡ page_bytes s.memory block
 
+-- a run in which neither acts leaves extended memory, and the tables of both drivers
 abbrev pub RunLeavesExtended : Type 0
 RunLeavesExtended = (s t : State) (n : ℕ) (stop : Stop) → AreConsistent s → StaysQuiet s n → IsRun s n stop t → LeavesExtended s t
 
@@ -115,6 +119,7 @@ RoomIsEnoughForRuns =
     (bytes : ℕ) (s t u : State) (n : ℕ) → bytes ≤ s.console.room → Follows s t → IsRun t n NoMemory u →
     WantsBeyond (length s.console.output + bytes) u
 
+-- nor does a single step want memory, where it writes no more of them
 abbrev pub RoomIsEnoughForSteps : Type 0
 RoomIsEnoughForSteps =
     (bytes : ℕ) (s t u : State) → bytes ≤ s.console.room → Follows s t → Answers t (Some NoMemory) u →

@@ -9,6 +9,7 @@ use Rattle.dm_state.specs.declared.stop.Stop.TheVariants.{InputEnded}
 use Rattle.dm_state.specs.State.{State, Answer, go, stop_at, interrupt_returned}
 use Rattle.dm_services.specs.Text.{written}
 
+-- the state with another value in AL
 abbrev pub with_al : State → ℕ → State
 with_al s byte = record s { cpu = with_byte s.cpu Al byte }
 
@@ -20,6 +21,7 @@ with_input s rest = record s { console = record s.console { input = rest } }
 abbrev pub with_written : State → List ℕ → State
 with_written s bytes = record s { console = written s.console bytes }
 
+-- the state with ZF set or clear
 abbrev pub with_zero : State → Bool → State
 with_zero s b = record s { cpu = record s.cpu { flags = record s.cpu.flags { zero = b } } }
 
@@ -50,6 +52,7 @@ abbrev pub poll_of : State → List ℕ → Answer
 poll_of s [] = go (with_zero (interrupt_returned (with_al s 0)) true)
 poll_of s (byte ∷ rest) = go (with_zero (interrupt_returned (with_al (with_input s rest) byte)) false)
 
+-- 06h with DL = FFh: AL is the next byte of the input, if one is left
 unfoldable pub poll_character : State → Answer
 poll_character s = poll_of s s.console.input
 
@@ -62,5 +65,6 @@ abbrev pub status_of : List ℕ → ℕ
 status_of [] = 0
 status_of (byte ∷ rest) = 0xFF
 
+-- 0Bh: AL says whether input is left
 unfoldable pub check_input : State → Answer
 check_input s = go (interrupt_returned (with_al s (status_of s.console.input)))

@@ -6,6 +6,7 @@ use Rattle.dm_state.specs.State.{State, Answer, go, interrupt_returned, with_car
 use Rattle.dm_services.specs.Characters.{with_input, with_written}
 use Rattle.dm_space.specs.Buffers.{with_bytes}
 
+-- the state with another value in AX
 abbrev pub with_ax : State → ℕ → State
 with_ax s ax = record s { cpu = record s.cpu { ax = ax } }
 

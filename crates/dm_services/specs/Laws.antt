@@ -25,6 +25,7 @@ ServicesKeepTheTables = (s : State) (service : Service) (x : Answer) → Serves 
 abbrev pub with_change : (Memory → Memory) → State → State
 with_change change s = record s { memory = change s.memory }
 
+-- what a step returns, with its memory changed
 abbrev pub answer_with : (Memory → Memory) → Answer → Answer
 answer_with change x = record { stop = x.stop; state = with_change change x.state }
 

@@ -16,6 +16,7 @@ use Rattle.dm_state.specs.declared.stop.Stop.TheVariants as stop
 use Rattle.dm_state.specs.State.{State, Answer, go, stop_at, interrupt_returned}
 use Rattle.dm_services.specs.Allocation.{answered}
 
+-- the error code of a refused call of 4Bh, in AX
 abbrev pub code_of : Refusal → ℕ
 code_of Function = 1
 code_of NotFound = 2
@@ -37,6 +38,7 @@ abbrev pub executed : State → Result (Unit {0}) Refusal → Processes → Cpu 
 executed s (Ok u) qs d n = go (with_processes s qs d n)
 executed s (Err e) qs d n = not_loaded s e
 
+-- 4Bh with AL = 0: a child is started, or the call is refused
 pub record Executing (s : State) (x : Answer) : Type 0 where
   pub result : Result (Unit {0}) Refusal
   pub processes : Processes
@@ -50,6 +52,7 @@ abbrev pub overlaid : State → Result (Unit {0}) Refusal → Memory → Answer
 overlaid s (Ok u) n = answered s s.cpu n false
 overlaid s (Err e) n = not_loaded s e
 
+-- 4Bh with AL = 3: an overlay is loaded, or the call is refused
 pub record Overlaying (s : State) (x : Answer) : Type 0 where
   pub result : Result (Unit {0}) Refusal
   pub memory : Memory

@@ -59,6 +59,7 @@ pub record AreConsistentWith (pages : Tables) (blocks : xms.Tables) (m : Memory)
   pub apart : (k : ℕ) → IfSome (handle_at blocks.handles k) (λ h. IsOwned pages.pages h.block → ⊥)
   pub whole : (block : ℕ) → IsLive m.blocks block → IsOwned pages.pages block ⊎ IsHandled blocks.handles block
 
+-- tables and memory of the state are consistent
 abbrev pub AreConsistent : State → Type 0
 AreConsistent s = AreConsistentWith s.ems s.xms s.memory
 
@@ -75,6 +76,7 @@ go s = record { stop = None; state = record s { steps = min (s.steps + 1) (2 ^ 6
 abbrev pub stop_at : Stop → State → Answer
 stop_at stop s = record { stop = Some stop; state = s }
 
+-- the state with these registers and this memory
 abbrev pub with_guest : State → Guest → State
 with_guest s g = record s { cpu = g.cpu; memory = g.memory }
 
@@ -86,5 +88,6 @@ interrupt_returned s = with_guest s (interrupt_return (guest s.cpu s.memory))
 abbrev pub far_returned : State → State
 far_returned s = with_guest s (stack.far_returned (guest s.cpu s.memory) 0)
 
+-- the state with CF set or clear
 abbrev pub with_carry : State → Bool → State
 with_carry s b = record s { cpu = record s.cpu { flags = record s.cpu.flags { carry = b } } }
