@@ -77,5 +77,6 @@ registers_of cpu = record {
   flags = flags.word_of cpu.flags;
 }
 
+-- a breakpoint as C gives it
 abbrev pub point_of : Point → Breakpoint
 point_of p = record { segment = p.segment; offset = p.offset }

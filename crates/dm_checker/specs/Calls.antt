@@ -74,6 +74,7 @@ refused_by_status status = if (status == 0) || (status == 0x92) then [] else Ref
 abbrev pub refused_by_error : Cpu → List Finding
 refused_by_error d = if (d.ax == 0) && not (byte_of d Bl == 0) then Refused (byte_of d Bl) ∷ [] else []
 
+-- the refusal of a call, by the registers before and after it; none where it was not refused
 abbrev pub refused : Cpu → Cpu → Option Call → List Finding
 refused c d None = []
 refused c d (Some DivideError) = []

@@ -50,6 +50,7 @@ pub record Finds (s t : State) (found : List Finding) : Type 0 where
 
 -- ---- what acts in a step: the call of a service or a driver, else the instruction at CS:IP
 
+-- what acts in the step from s: a call, or an instruction with the offset of the next one
 pub data IsAct (s : State) (a : Act) : Type 0 where
   called : (call : Call) → call_of s.cpu ≡ Some call → a ≡ act.Call call → IsAct s a
   instructed : (i : Ins) (length : ℕ) → call_of s.cpu ≡ None → BeginsWith (fetched s.memory s.cpu) i length → a ≡ act.Instruction i (up s.cpu.ip length) → IsAct s a

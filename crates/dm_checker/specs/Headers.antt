@@ -22,6 +22,7 @@ shown_at m segment = contents (λ k. peek m (16 * segment + k))
 abbrev pub kept_at : Memory → Memory → ℕ → Contents
 kept_at S T segment = contents (λ k. byte_at T (place S (16 * segment + k)))
 
+-- the two headers have the same signature, owner and size
 abbrev pub same_contents : Contents → Contents → Bool
 same_contents a b = (a.signature == b.signature) && (a.owner == b.owner) && (a.size == b.size)
 

@@ -6,6 +6,7 @@ use Rattle.dm_asm.specs.declared.refusal.Refusal.TheVariants as refusal
 use Rattle.dm_cli.specs.declared.fault.Fault.{Fault}
 use Rattle.dm_cli.specs.declared.fault.Fault.TheVariants as fault
 
+-- the fault that the refusal of an assembly text becomes
 abbrev pub refusal_fault : Refusal → Fault
 refusal_fault (refusal.Syntax line) = fault.Syntax line
 refusal_fault (refusal.Unknown line) = fault.Unknown line

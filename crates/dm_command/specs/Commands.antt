@@ -58,17 +58,20 @@ at_address name.Enter a w = do
   Some (command.Enter a bytes)
 at_address _ a w = None
 
+-- a name and two words, the first an address
 abbrev pub with_two : Name → List ℕ → List ℕ → Option Command
 with_two n v w = do
   a ← address_of v
   at_address n a w
 
+-- the command of a name and the words after it, if there is one
 abbrev pub named : Name → List (List ℕ) → Option Command
 named n [] = alone n
 named n (v ∷ []) = with_one n v
 named n (v ∷ w ∷ []) = with_two n v w
 named n _ = None
 
+-- the command of a line's words, the first its name
 abbrev pub of_words : List (List ℕ) → Option Command
 of_words [] = None
 of_words (w ∷ ws) = do

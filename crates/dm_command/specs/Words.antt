@@ -11,5 +11,6 @@ abbrev pub words_behind : List ℕ → List ℕ → List (List ℕ)
 words_behind w [] = ended w
 words_behind w (b ∷ bs) = if b == 32 then ended w ++ words_behind [] bs else words_behind (w ++ b ∷ []) bs
 
+-- the words of a line
 abbrev pub words_of : List ℕ → List (List ℕ)
 words_of line = words_behind [] line

@@ -5,9 +5,11 @@ use Rattle.dm_command.specs.declared.command.Address.{Address}
 use Rattle.dm_machine.specs.declared.until.Breakpoint.{Breakpoint}
 use Rattle.dm_views.specs.Digits.{address_text}
 
+-- the breakpoint at an address
 abbrev pub point_at : Address → Breakpoint
 point_at a = record { segment = a.segment; offset = a.offset }
 
+-- the breakpoint is the one at the address
 abbrev pub is_point : Address → Breakpoint → Bool
 is_point a p = p.offset == a.offset && p.segment == a.segment
 
@@ -20,13 +22,16 @@ abbrev pub set_if : Option ℕ → List Breakpoint → Address → List Breakpoi
 set_if None points a = points ++ point_at a ∷ []
 set_if (Some i) points a = points
 
+-- the breakpoints with one at the address set last, unless it is set
 abbrev pub with_point : List Breakpoint → Address → List Breakpoint
 with_point points a = set_if (position (is_point a) points) points a
 
+-- the breakpoints without the one at a place of the list
 abbrev pub cleared : Option ℕ → List Breakpoint → List Breakpoint
 cleared None points = points
 cleared (Some i) points = remove points i
 
+-- the breakpoints without the one at the address
 abbrev pub without_point : List Breakpoint → Address → List Breakpoint
 without_point points a = cleared (position (is_point a) points) points
 

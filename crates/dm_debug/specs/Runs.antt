@@ -26,6 +26,7 @@ abbrev pub code_text : Option Stop → List ℕ
 code_text (Some (stop.Exited code)) = two code
 code_text _ = []
 
+-- the line of why a run stopped
 abbrev pub stop_line : Option Stop → List ℕ
 stop_line why = stop_text why ++ code_text why ++ 10 ∷ []
 

@@ -28,15 +28,19 @@ new_session m = record { machine = m; points = [] }
 
 -- ---- what commands leave and tell
 
+-- the line `ok`, which a command prints that prints nothing else
 abbrev pub done : List ℕ
 done = codes "ok" ++ 10 ∷ []
 
+-- the session with another state of its machine
 abbrev pub with_machine : Debugged → State → Debugged
 with_machine s t = record s { machine = t }
 
+-- the session with other breakpoints
 abbrev pub with_points : Debugged → List Breakpoint → Debugged
 with_points s points = record s { points = points }
 
+-- the session with bytes written to memory from an address on, as E does
 abbrev pub with_entered : Debugged → Address → List ℕ → Debugged
 with_entered s a bytes = with_machine s (record s.machine { memory = with_bytes s.machine.memory a.segment a.offset bytes })
 
@@ -68,10 +72,12 @@ pub data DoesPart (s : Debugged) : Command → Debugged → Type 0 where
 
 -- ---- lines
 
+-- the command clears a breakpoint that is not set
 abbrev pub clears_none : Debugged → Command → Bool
 clears_none s (c.Clear a) = not (is_set s.points a)
 clears_none s _ = false
 
+-- the command sets a breakpoint where sixteen others are set
 abbrev pub is_over : Debugged → Command → Bool
 is_over s (c.Break a) = if is_set s.points a then false else nat_le 16 (length s.points)
 is_over s _ = false

@@ -3,6 +3,7 @@ use Rattle.std.specs.Prelude.{ℕ, suc, ◌-◌, ◌^◌, min, not, nat_lt, Bool
 use Rattle.dm_findings.specs.declared.finding.Found.{Found}
 use Rattle.dm_findings.specs.Findings.{is_an_error}
 
+-- what was found is a note, not an error
 abbrev pub is_a_note : Found → Bool
 is_a_note f = not (is_an_error f)
 

@@ -14,6 +14,7 @@ pub record Prepared : Type 0 where
   pub upper : Bool
   pub programs : List (List ℕ × List ℕ)
 
+-- the setup with one more program in its store
 abbrev pub added : Prepared → List ℕ → List ℕ → Prepared
 added s name bytes = record s { programs = s.programs ++ (name, bytes) ∷ [] }
 

@@ -19,6 +19,7 @@ contents_text c = two c.signature ++ codes " " ++ four c.owner ++ codes " " ++ f
 abbrev pub lock_text : Bool → List ℕ
 lock_text locked = if locked then codes ", locked" else []
 
+-- what was found, in words
 abbrev pub finding_text : Finding → List ℕ
 finding_text (Overwritten at old new) = codes "header at " ++ four at ++ codes " overwritten: " ++ contents_text old ++ codes " became " ++ contents_text new
 finding_text (MappedAway at) = codes "header at " ++ four at ++ codes " mapped away"
@@ -40,6 +41,7 @@ abbrev pub act_text : Act → List ℕ
 act_text (act.Call call) = call_text call
 act_text (act.Instruction i next) = text_of i next
 
+-- the first word of a finding's line
 abbrev pub kind_text : Bool → List ℕ
 kind_text error = if error then codes "error" else codes "note"
 

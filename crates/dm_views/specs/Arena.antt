@@ -8,6 +8,7 @@ use Rattle.dm_blocks.specs.Chain.{first_header, link_header, signature, is_parte
 use Rattle.dm_blocks.specs.Listing.{Leads, Follows}
 use Rattle.dm_views.specs.Digits.{four}
 
+-- the line of a header with this signature: segment, signature, owner, size
 abbrev pub header_line : ℕ → Header → List ℕ
 header_line signed b = four b.segment ++ (32 ∷ signed ∷ 32 ∷ []) ++ four b.owner ++ codes " " ++ four b.size ++ 10 ∷ []
 
@@ -21,9 +22,11 @@ abbrev pub front_text : List Header → List ℕ
 front_text [] = []
 front_text (b ∷ P) = header_line 0x4D b ++ front_text P
 
+-- the line after the last header of a whole list
 abbrev pub end_line : List ℕ
 end_line = codes "end" ++ 10 ∷ []
 
+-- the line of the segment where no header can follow
 abbrev pub destroyed_line : ℕ → List ℕ
 destroyed_line segment = codes "destroyed at " ++ four segment ++ 10 ∷ []
 
@@ -45,6 +48,7 @@ pub record IsCutShort (m : Memory) (F : List Header) (start : ℕ) (text : List 
   pub none : (e : Entry) → Follows m F headers at e → ⊥
   pub is : text ≡ front_text headers ++ destroyed_line at
 
+-- the lines of a list from a segment on, whole or cut short
 pub data IsListText (m : Memory) (F : List Header) (start : ℕ) (text : List ℕ) : Type 0 where
   whole : (L : List Header) → IsWhole m F start L text → IsListText m F start text
   cut_short : IsCutShort m F start text → IsListText m F start text

@@ -10,9 +10,11 @@ use Rattle.dm_space.specs.EightBytes.{byte_after}
 abbrev pub shown : ℕ → ℕ
 shown b = if nat_le 0x20 b && nat_le b 0x7E then b else 46
 
+-- the byte k places after segment:offset, a space before its two digits
 abbrev pub in_digits : Memory → ℕ → ℕ → ℕ → List ℕ
 in_digits m segment offset k = codes " " ++ two (byte_after m segment offset k)
 
+-- the byte k places after segment:offset, as a character
 abbrev pub as_text : Memory → ℕ → ℕ → ℕ → List ℕ
 as_text m segment offset k = shown (byte_after m segment offset k) ∷ []
 
@@ -25,5 +27,6 @@ line_text m segment offset count =
 abbrev pub line_at : Memory → ℕ → ℕ → ℕ → ℕ → List ℕ
 line_at m segment offset count j = line_text m segment (up offset (16 * j)) (min 16 (count - 16 * j))
 
+-- the lines of so many bytes from segment:offset on
 abbrev pub bytes_text : Memory → ℕ → ℕ → ℕ → List ℕ
 bytes_text m segment offset count = numbered (line_at m segment offset count) ((count + 15) / 16)

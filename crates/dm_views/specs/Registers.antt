@@ -10,9 +10,11 @@ use Rattle.dm_views.specs.declared.registers.Field.{Field}
 use Rattle.dm_views.specs.Digits.{four}
 use Rattle.dm_views.specs.Code.{IsLine}
 
+-- a register with its name and its value
 abbrev pub field : List ℕ → ℕ → Field
 field name value = record { name = name; value = value }
 
+-- a register as NAME=VALUE, its value in four digits
 abbrev pub field_text : Field → List ℕ
 field_text f = f.name ++ codes "=" ++ four f.value
 
@@ -21,6 +23,7 @@ abbrev pub fields_text : List Field → List ℕ
 fields_text [] = 10 ∷ []
 fields_text (f ∷ fs) = field_text f ++ flat_map (λ g. codes " " ++ field_text g) fs ++ 10 ∷ []
 
+-- the general registers, in the order of the first line
 abbrev pub general : Cpu → List Field
 general c =
     field (codes "AX") c.ax ∷ field (codes "BX") c.bx ∷ field (codes "CX") c.cx ∷ field (codes "DX") c.dx
