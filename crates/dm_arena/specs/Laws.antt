@@ -1,4 +1,4 @@
--- Laws of the definitions: each call has one answer.
+-- Laws of the definitions: each call has one result.
 use Rattle.std.specs.Prelude.{◌≡◌, ◌==◌, ℕ, Bool, false, List, Result}
 use Rattle.dm_space.specs.Memory.{Memory}
 use Rattle.dm_space.specs.Unseen.{IsUnseen}
@@ -12,7 +12,7 @@ use Rattle.dm_blocks.specs.Chain.{is_free, is_parted}
 use Rattle.dm_arena.specs.Pair.{Placed, Pairs}
 use Rattle.dm_arena.specs.Linking.{Links, TellsLinked}
 
--- an allocation's answer, and the memory that it leaves, are functions of the memory and the arguments
+-- an allocation's result, and the memory that it leaves, are functions of the memory and the arguments
 abbrev pub AllocationHasOneAnswer : Type 0
 AllocationHasOneAnswer = (upper : Bool) (S : Memory) (strategy : Strategy) (n owner : ℕ) (r q : Result ℕ Refusal) (T U : Memory) → Allocates upper S strategy n owner r T → Allocates upper S strategy n owner q U → (r ≡ q) × (T ≡ U)
 

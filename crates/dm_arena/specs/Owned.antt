@@ -59,7 +59,7 @@ abbrev pub BeginsTaken : Bool → List Header → Type 0
 BeginsTaken upper [] = Unit {0}
 BeginsTaken upper (b ∷ L) = is_free upper b ≡ false
 
--- the arena, its block at a segment, which isn't the link block, and the run of free blocks behind it
+-- the arena, its block at a segment, which isn't the link block, and the run of free blocks after it
 pub record BlockRunAt (upper : Bool) (S : Memory) (start : ℕ) (segment : ℕ) : Type 0 where
   pub list : List Header
   pub before : List Header

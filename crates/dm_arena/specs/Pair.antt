@@ -40,7 +40,7 @@ PairRefused upper S start strategy environment least most (Short room) =
     × ((owner size : ℕ) → Pairing upper S start strategy environment least most owner size → ⊥)
 PairRefused upper S start strategy environment least most NoBlock = ⊥
 
--- what a pair tells: the segments of both blocks, of which the program's owns both, and its size; and the headers that
+-- a planned pair: the segments of both blocks, of which the program's owns both, and its size; and the headers that
 -- stand in the place of those of the blocks that are cut
 pub record Planned : Type 0 where
   pub environment : ℕ

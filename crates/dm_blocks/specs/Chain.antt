@@ -22,7 +22,7 @@ link_header = 0x9FFF
 abbrev pub word : Memory → ℕ → ℕ
 word S a = peek S a + 256 * peek S (a + 1)
 
--- the segment behind the block of a header
+-- the segment after the block of a header
 abbrev pub next : Header → ℕ
 next b = b.segment + 1 + b.size
 

@@ -1,4 +1,4 @@
--- What each export does with a machine: its status, what it writes, and the machine behind it.
+-- What each export does with a machine: its status, what it writes, and the machine after it.
 use Rattle.std.specs.Prelude.{◌≡◌, ◌⊎◌, ℕ, Bool, List, [], map, length, Option, Some, None}
 use Rattle.dm_pool.specs.declared.sizes.Sizes.{Sizes}
 use Rattle.dm_state.specs.declared.stop.Stop.{Stop}

@@ -70,7 +70,7 @@ refused_by_dos c d number =
 abbrev pub refused_by_status : ℕ → List Finding
 refused_by_status status = if (status == 0) || (status == 0x92) then [] else Refused status ∷ []
 
--- AX is 0, and BL tells an error: 07h has 0 in both where A20 is off
+-- AX is 0, and BL is an error code: 07h has 0 in both where A20 is off
 abbrev pub refused_by_error : Cpu → List Finding
 refused_by_error d = if (d.ax == 0) && not (byte_of d Bl == 0) then Refused (byte_of d Bl) ∷ [] else []
 

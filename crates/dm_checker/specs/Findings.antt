@@ -59,7 +59,7 @@ pub data IsAct (s : State) (a : Act) : Type 0 where
 abbrev pub found_at : State → State → Act → List Finding → List Found
 found_at s t a = map (λ f. record { step = t.steps; segment = s.cpu.cs; offset = s.cpu.ip; act = a; finding = f })
 
--- nothing is found, or the findings are told with the step
+-- nothing is found, or the findings are kept with the step
 pub data IsFound (s t : State) (fs : List Finding) (found : List Found) : Type 0 where
   none : fs ≡ [] → found ≡ [] → IsFound s t fs found
   some : (a : Act) → IsAct s a → found ≡ found_at s t a fs → IsFound s t fs found

@@ -19,7 +19,7 @@ of_each f (suc n) = of_each f n ++ f n
 
 -- ---- expanded memory
 
--- a handle in use, and its pages, of which it may have none. Handle 0 is always in use: it is told where it has pages
+-- a handle in use, and its pages, of which it may have none. Handle 0 is always in use: it is found where it has pages
 abbrev pub pages_kept : ℕ → ℕ → List Finding
 pages_kept handle pages = if (handle == 0) && (pages == 0) then [] else PagesKept handle pages ∷ []
 

@@ -12,7 +12,7 @@ pub record Shown : Type 0 where
   pub headers : List Header
   pub broken : Option ℕ
 
--- behind the headers F, the headers P lead from a segment to one where no header can follow
+-- after the headers F, the headers P lead from a segment to one where no header can follow
 pub record IsCut (m : Memory) (F : List Header) (start : ℕ) (P : List Header) (at : ℕ) : Type 0 where
   pub leads : Leads m F start P at
   pub none : (e : Entry) → Follows m F P at e → ⊥

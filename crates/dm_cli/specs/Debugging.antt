@@ -29,7 +29,7 @@ pub data Tells (s : Debugged) (line : List ℕ) : Debugged → List ℕ → Type
 
 -- ---- the lines of a text
 
--- The lines of a text are answered one after the other, up to its end or a line that ends the session: what is written,
+-- The lines of a text are handled one after the other, up to its end or a line that ends the session: what is written,
 -- the session after that, the fault that ends them before, if one does, and whether each answer that is begun is
 -- written whole and handed on. A line ends with 0Ah, or with the text; the lines may have n bytes in all, their ends
 -- among them.

@@ -34,16 +34,16 @@ fault_text (fault.Range line) = codes "line " ++ decimal line ++ codes ": range"
 fault_text (fault.Twice line) = codes "line " ++ decimal line ++ codes ": twice"
 fault_text fault.OutOfMemory = codes "out of memory"
 
--- what is printed for it on standard error
+-- the line of a fault on standard error
 abbrev pub fault_line : Fault → List ℕ
 fault_line f = codes "dm: " ++ fault_text f ++ 10 ∷ []
 
--- what has this name can't be read
+-- the file or stream of this name can't be read
 abbrev pub IsUnread : List ℕ → Fault → Type 0
 IsUnread name (fault.CannotRead read) = read.now ≡ name
 IsUnread name _ = ⊥
 
--- what has this name can't be written
+-- the file or stream of this name can't be written
 abbrev pub IsUnwritten : List ℕ → Fault → Type 0
 IsUnwritten name (fault.CannotWrite written) = written.now ≡ name
 IsUnwritten name _ = ⊥

@@ -26,7 +26,7 @@ use Rattle.dm_cli.specs.Statuses.{status_of, status_after}
 
 -- ---- the commands
 
--- `dm run`: the whole output of the run, behind what was written before; or a first part of it, where a write failed;
+-- `dm run`: the whole output of the run, after what was written before; or a first part of it, where a write failed;
 -- or nothing
 pub data Runs (files : List ℕ → Option (List ℕ)) (typed : Option (List ℕ)) (o : MachineOptions) (before after : Option (List ℕ)) (failed_before failed_after : ℕ) : Result Stop Fault → Type 0 where
   ran : (m t : State) (stop : Stop) → IsStartedBy files typed o m → IsRun m o.steps stop t → Appends before after t.console.output → failed_after ≡ failed_before

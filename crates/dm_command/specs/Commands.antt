@@ -11,7 +11,7 @@ use Rattle.dm_command.specs.Words.{words_of}
 use Rattle.dm_command.specs.Numbers.{◌>>=◌, number_of, up_to, address_of, bytes_from_digits}
 use Rattle.dm_command.specs.Names.{name_of}
 
--- nothing behind the name
+-- a name alone
 abbrev pub alone : Name → Option Command
 alone name.Registers = Some command.Registers
 alone name.Arena = Some command.Arena
@@ -23,7 +23,7 @@ alone name.Breakpoints = Some command.Breakpoints
 alone name.Output = Some command.Output
 alone _ = None
 
--- one word behind it
+-- a name and one word
 abbrev pub with_one : Name → List ℕ → Option Command
 with_one name.Unassemble w = do
   a ← address_of w
@@ -45,7 +45,7 @@ with_one name.Clear w = do
   Some (command.Clear a)
 with_one _ w = None
 
--- an address and one more word behind it
+-- a name, an address and one more word
 abbrev pub at_address : Name → Address → List ℕ → Option Command
 at_address name.Unassemble a w = do
   n ← up_to 0x1000 (number_of w)

@@ -31,7 +31,7 @@ up_to most (Some n) = if nat_le n most then Some n else None
 abbrev pub word_from_digits : List ℕ → Option ℕ
 word_from_digits w = up_to 0xFFFF (number_of w)
 
--- what stands before the first colon, behind the bytes `front`, and what stands behind it
+-- what stands before the first colon, after the bytes `front`, and what stands after it
 abbrev pub parts_of : List ℕ → List ℕ → Option (List ℕ × List ℕ)
 parts_of front [] = None
 parts_of front (b ∷ bs) = if b == 58 then Some (front, bs) else parts_of (front ++ b ∷ []) bs

@@ -65,7 +65,7 @@ abbrev pub with_page : Expanded → ℕ → Option (ℕ × Blocks) → Expanded
 with_page x handle None = x
 with_page x handle (Some p) = record { ems = record x.ems { pages = x.ems.pages ++ record { handle = handle; block = p.0 } ∷ [] }; memory = with_blocks x.memory p.1 }
 
--- a page more behind those of a handle: zeros, in the lowest gap that holds 16 units
+-- a page more after those of a handle: zeros, in the lowest gap that holds 16 units
 unfoldable pub appended_page : Expanded → ℕ → Expanded
 appended_page x handle = with_page x handle (taken x.memory.blocks 16)
 

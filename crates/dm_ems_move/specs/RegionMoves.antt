@@ -34,7 +34,7 @@ described m segment offset k = record {
 
 -- ---- regions
 
--- n bytes of conventional memory: none lies behind FFFFFh
+-- n bytes of conventional memory: none lies above FFFFFh
 abbrev pub conventional : Description → ℕ → Result Span Status
 conventional d n = if nat_lt 0x100000 (d.page * 16 + d.offset + n) then Err PastMemory else Ok (span Linear (d.page * 16 + d.offset) [])
 
@@ -85,7 +85,7 @@ exchange_between x n from to =
     then (if are_mixed from to then Err KindsOverlap else Err ExchangeOverlaps)
     else Ok (tt, with_memory x (exchanged x.memory from to n))
 
--- the bytes of one region come to another; where the two overlap, that is told
+-- the bytes of one region come to another; where the two overlap, the result says so
 unfoldable pub move_region : Expanded → ℕ → ℕ → Result (Moved × Expanded) Status
 move_region x segment offset =
     if length_at x.memory segment offset == 0 then Ok (moved_is.Apart, x) else

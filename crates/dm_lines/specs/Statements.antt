@@ -24,7 +24,7 @@ use Rattle.dm_lines.specs.declared.statement.Statement as Statement'
 use Rattle.dm_lines.specs.Tokens.{tokens_of}
 use Rattle.dm_lines.specs.Operands.{amount_of, value_of, parts, terms_of}
 
--- what stands on a line behind its label
+-- what stands on a line after its label
 pub data Item : Type 0 where
   nothing : Item
   instruction : Instruction → Item
@@ -87,7 +87,7 @@ word_items (p ∷ ps) = then_list (one (value_of p)) (word_items ps)
 
 -- ---- instructions
 
--- SHORT stands behind JMP alone, FAR behind JMP and CALL
+-- SHORT stands after JMP alone, FAR after JMP and CALL
 abbrev pub short_of : Mnemonic → Option Mnemonic
 short_of op.Jmp = Some op.JmpShort
 short_of _ = None

@@ -31,11 +31,11 @@ magnitude_of base n (b ∷ bs) = do
   d ← digit_of b
   if nat_le base d then None else if nat_le 65536 (n * base + d) then None else magnitude_of base (n * base + d) bs
 
--- hexadecimal with H behind, else decimal
+-- hexadecimal with an H at the end, else decimal
 abbrev pub number_of : List ℕ → Option ℕ
 number_of w = if slice_index w (length w - 1) == 72 then magnitude_of 16 0 (take (length w - 1) w) else magnitude_of 10 0 w
 
--- with zeros behind, 31 bytes
+-- the bytes of a name: a word, and zeros up to 31 bytes
 abbrev pub padded_of : List ℕ → Name'.Name
 padded_of w = record { bytes = w ++ drop (length w) (replicate 31 0) }
 
@@ -89,7 +89,7 @@ marked b =
 abbrev pub inside_quotes : ℕ → Token
 inside_quotes b = if b == 39 then Quote else Letter b
 
--- the tokens of what is left of a line, inside quotes (true) or behind the first bytes of a word: a quoted text ends
+-- the tokens of what is left of a line, inside quotes (true) or after the first bytes of a word: a quoted text ends
 -- with a quote, and a semicolon outside ends the line
 abbrev pub lexed : Bool → List ℕ → List ℕ → Option (List Token)
 lexed true w [] = None

@@ -34,7 +34,7 @@ pages file = word file 0x04
 abbrev pub header_length : List ℕ → ℕ
 header_length file = word file 0x08 * 16
 
--- the paragraphs that a program needs behind its image, and those that it asks for
+-- word 0Ah: the paragraphs that a program needs after its image
 abbrev pub minimum : List ℕ → ℕ
 minimum file = word file 0x0A
 

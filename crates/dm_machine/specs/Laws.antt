@@ -108,7 +108,7 @@ pub data Follows (s : State) : State → Type 0 where
   changed : (t : State) (memory : Memory) → Follows s t → Follows s (record t { memory = memory })
   reserved : (t : State) (bytes : ℕ) → Follows s t → Follows s (record t { console = record t.console { room = max t.console.room bytes } })
 
--- each answer of a step from t leaves more output than so many bytes
+-- each result of a step from t leaves more output than so many bytes
 abbrev pub WantsBeyond : ℕ → State → Type 0
 WantsBeyond bytes t = (x : Answer) → MakesStep t x → bytes < length x.state.console.output
 

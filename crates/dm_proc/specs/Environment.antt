@@ -17,7 +17,7 @@ environment variables name = variables ++ (closing variables ++ (1 ∷ 0 ∷ [])
 abbrev pub byte_of : Memory → ℕ → ℕ → ℕ
 byte_of m segment k = peek m (linear m.a20 segment k)
 
--- an empty string begins at byte k of a segment: a zero with no byte before it, or behind a zero
+-- an empty string begins at byte k of a segment: a zero with no byte before it, or after a zero
 abbrev pub IsEnd : Memory → ℕ → ℕ → Type 0
 IsEnd m segment k = (byte_of m segment k ≡ 0) × (0 < k → byte_of m segment (k - 1) ≡ 0)
 

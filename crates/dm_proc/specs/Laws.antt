@@ -1,4 +1,4 @@
--- Laws of the definitions: each call has one answer, and none depends on what no program sees.
+-- Laws of the definitions: each call has one result, and none depends on what no program sees.
 use Rattle.std.specs.Prelude.{◌≡◌, ℕ, Bool, List, Result, Ok}
 use Rattle.dm_space.specs.Memory.{Memory}
 use Rattle.dm_space.specs.Unseen.{IsUnseen}
@@ -10,7 +10,7 @@ use Rattle.dm_proc.specs.declared.refusal.ArenaDestroyed.{ArenaDestroyed}
 use Rattle.dm_proc.specs.Request.{Passed}
 use Rattle.dm_proc.specs.Processes.{Processes, AreLoaded, Executes, Loads, Overlays, Terminates, Keeps}
 
--- the answer of a call, and all that it leaves, are functions of the state and the arguments
+-- the result of a call, and all that it leaves, are functions of the state and the arguments
 abbrev pub ExecHasOneAnswer : Type 0
 ExecHasOneAnswer =
     (upper : Bool) (ps : Processes) (c : Cpu) (m : Memory) (store : List (List ℕ × List ℕ)) (strategy : Strategy) (r q : Result (Unit {0}) Refusal)

@@ -58,7 +58,7 @@ PlanRefused upper m strategy count file Destroyed = Plans upper m strategy count
 PlanRefused upper m strategy count file Short = (room : ℕ) × Plans upper m strategy count file (Err (arena.Short room)) m
 PlanRefused upper m strategy count file _ = ⊥
 
--- a program is placed and written: all that is written behind the headers was read before
+-- a program is placed and written: all that is written after the headers was read before
 pub record Starts (upper : Bool) (m : Memory) (strategy : Strategy) (environment file : List ℕ) (parent : ℕ) (a : Passed) (placed : Placed) (n : Memory) : Type 0 where
   pub middle : Memory
   pub plans : Plans upper m strategy (length environment) file (Ok placed) middle

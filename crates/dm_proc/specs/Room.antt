@@ -8,7 +8,7 @@ use Rattle.dm_load.specs.Image.{is_mz, image, minimum, maximum}
 abbrev pub paragraphs : ℕ → ℕ
 paragraphs n = (n + 15) / 16
 
--- what a program's block has at least: the prefix, the image, and behind it a COM program's word of stack or the
+-- what a program's block has at least: the prefix, the image, and after it a COM program's word of stack or the
 -- minimum of an MZ header
 unfoldable pub least : List ℕ → ℕ
 least file =

@@ -44,7 +44,7 @@ stack_writes a20 p file = if is_mz file then [] else zero_word a20 p.program (co
 abbrev pub start : Placed → ℕ
 start p = (p.program + 0x10) % 65536
 
--- all writes of a start behind those of the headers, in their order: the environment, the prefix, the image, a COM
+-- all writes of a start after those of the headers, in their order: the environment, the prefix, the image, a COM
 -- program's word of zero
 unfoldable pub start_writes : Bool → Placed → List ℕ → List ℕ → List ℕ → List Write
 start_writes a20 p environment prefix file =

@@ -96,7 +96,7 @@ pub record Keeping (s : State) (x : Answer) : Type 0 where
   pub keeps : Keeps s.upper s.processes s.cpu s.memory (byte_of s.cpu Al) s.cpu.dx result processes cpu memory
   pub answer : x ≡ concluded s (byte_of s.cpu Al) result processes cpu memory
 
--- 4Dh: AX is the word of the last ending, which is told once
+-- 4Dh: AX is the word of the last ending, which can be read once
 unfoldable pub tell_code : State → Answer
 tell_code s =
     go (interrupt_returned (record s { cpu = record s.cpu { ax = s.processes.code }; processes = record s.processes { code = 0 } }))

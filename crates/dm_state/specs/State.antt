@@ -1,4 +1,4 @@
--- The state of the machine, and what a step answers.
+-- The state of the machine, and what a step returns.
 use Rattle.std.specs.Prelude.{◌≡◌, ◌⊎◌, ℕ, ◌+◌, ◌-◌, ◌^◌, ◌<◌, min, Bool, List, Option, Some, None, IfSome}
 use Rattle.dm_pool.specs.Blocks.{IsLive}
 use Rattle.dm_space.specs.Memory.{Memory}
@@ -63,7 +63,7 @@ pub record AreConsistentWith (pages : Tables) (blocks : xms.Tables) (m : Memory)
 abbrev pub AreConsistent : State → Type 0
 AreConsistent s = AreConsistentWith s.ems s.xms s.memory
 
--- what a step answers
+-- what a step returns: why the machine stops, if it does, and the state
 pub record Answer : Type 0 where
   pub stop : Option Stop
   pub state : State

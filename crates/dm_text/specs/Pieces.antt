@@ -1,5 +1,5 @@
 -- The pieces that a line of text is made of, and their bytes. The way numbers are written is that of ASM-86:
--- hexadecimal, a digit in front, and an h behind.
+-- hexadecimal, a digit in front, and an h at the end.
 -- Source: Intel 8086 Family User's Manual, section 2.9 (programming facilities: constants of ASM-86). How many digits
 -- there are is this machine's own.
 use Rattle.std.specs.Prelude.{ℕ, ◌+◌, ◌/◌, ◌%◌, Bool, true, false, ◌&&◌, ◌||◌, ◌==◌, List, [], ◌∷◌, ◌++◌, nat_lt, nat_le, if◌then◌else◌}
@@ -62,7 +62,7 @@ left_bracket = sign 91
 abbrev pub right_bracket : Piece
 right_bracket = sign 93
 
--- ---- pieces that a reader can tell apart
+-- ---- pieces that a reader can distinguish
 
 -- digits and capital letters
 abbrev pub is_in_names : ℕ → Bool
@@ -77,7 +77,7 @@ is_name (b ∷ w) = list_all is_in_names (b ∷ w)
 abbrev pub is_mark : ℕ → Bool
 is_mark b = (b == 32) || (b == 43) || (b == 44) || (b == 58) || (b == 91) || (b == 93)
 
--- each name is digits and capital letters, each sign one of these six; and no name or number stands right behind
+-- each name is digits and capital letters, each sign one of these six; and no name or number stands right after
 -- another one (the first argument says whether one stands in front)
 abbrev pub parted : Bool → List Piece → Bool
 parted behind [] = true

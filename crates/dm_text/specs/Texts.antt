@@ -41,7 +41,7 @@ base_pieces OnDi = name (word_name Di) ∷ []
 base_pieces OnBp = name (word_name Bp) ∷ []
 base_pieces OnBx = name (word_name Bx) ∷ []
 
--- a displacement of 0 is left out behind registers
+-- a displacement of 0 is left out after registers
 abbrev pub displacement_pieces : ℕ → List Piece
 displacement_pieces n = if n == 0 then [] else plus ∷ word n ∷ []
 
@@ -106,16 +106,16 @@ operand_pieces a next operand.One = name (codes "1") ∷ []
 operand_pieces a next (operand.Target d) = word ((next + d) % 65536) ∷ []
 operand_pieces a next (operand.FarTarget o s) = word s ∷ colon ∷ word o ∷ []
 
--- an operand behind a sign, where there is one
+-- an operand after a sign, where there is one
 abbrev pub behind : Piece → Operand → List Piece → List Piece
 behind s operand.Nothing ps = []
 behind s _ ps = s ∷ ps
 
--- the second operand stands behind a comma
+-- the second operand stands after a comma
 abbrev pub second_pieces : Action → ℕ → List Piece
 second_pieces a next = behind comma a.second (operand_pieces a next a.second)
 
--- the first one behind a space
+-- the first one after a space
 abbrev pub operands_pieces : Action → ℕ → List Piece
 operands_pieces a next = behind space a.first (operand_pieces a next a.first ++ second_pieces a next)
 
@@ -140,7 +140,7 @@ is_nop a = elim a.mnemonic [ op.Xchg ↦ (if is_accumulator a.first then is_accu
 unfoldable pub action_pieces : Action → ℕ → List Piece
 action_pieces a next = if is_nop a then name (codes "NOP") ∷ [] else mnemonic_pieces a.mnemonic ++ operands_pieces a next
 
--- ---- the prefixes that are kept: the segment's, LOCK, REP or REPNE, each with a space behind it
+-- ---- the prefixes that are kept: the segment's, LOCK, REP or REPNE, each with a space after it
 
 -- the word of a segment override, if there is one
 abbrev pub segment_pieces : Option SegmentRegister → List Piece

@@ -34,12 +34,12 @@ destroyed_line segment = codes "destroyed at " ++ four segment ++ 10 ∷ []
 abbrev pub unlinked_line : List ℕ
 unlinked_line = codes "unlinked" ++ 10 ∷ []
 
--- behind the headers F, memory spells the list L from a segment on: its lines, and its end
+-- after the headers F, memory spells the list L from a segment on: its lines, and its end
 pub record IsWhole (m : Memory) (F : List Header) (start : ℕ) (L : List Header) (text : List ℕ) : Type 0 where
   pub list : IsArenaBehind m F start L
   pub is : text ≡ list_text L ++ end_line
 
--- behind the headers F, headers may stand in a list from a segment on, up to a place where none can follow: their
+-- after the headers F, headers may stand in a list from a segment on, up to a place where none can follow: their
 -- lines, and that place
 pub record IsCutShort (m : Memory) (F : List Header) (start : ℕ) (text : List ℕ) : Type 0 where
   pub headers : List Header
@@ -53,7 +53,7 @@ pub data IsListText (m : Memory) (F : List Header) (start : ℕ) (text : List �
   whole : (L : List Header) → IsWhole m F start L text → IsListText m F start text
   cut_short : IsCutShort m F start text → IsListText m F start text
 
--- the first list; and behind it `unlinked` and the second one, where there is a second one
+-- the first list; and after it `unlinked` and the second one, where there is a second one
 pub data IsArenaText (upper : Bool) (m : Memory) (text : List ℕ) : Type 0 where
   destroyed : IsCutShort m [] first_header text → IsArenaText upper m text
   alone : (L : List Header) → IsWhole m [] first_header L text → is_parted upper L ≡ false → IsArenaText upper m text

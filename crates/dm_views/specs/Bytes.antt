@@ -6,7 +6,7 @@ use Rattle.dm_views.specs.Digits.{two, address_text, numbered}
 use Rattle.dm_cpu.specs.Guest.{up}
 use Rattle.dm_space.specs.EightBytes.{byte_after}
 
--- what can be printed is told as it is, all else as a point
+-- a printable character as it is, any other byte as a point
 abbrev pub shown : ℕ → ℕ
 shown b = if nat_le 0x20 b && nat_le b 0x7E then b else 46
 

@@ -6,7 +6,7 @@ use Rattle.dm_views.specs.Registers.{IsRegistersText}
 use Rattle.dm_views.specs.Code.{IsCode}
 use Rattle.dm_views.specs.Arena.{IsArenaText}
 
--- the listings that are told as relations are one text of one state
+-- the listing of instructions is one text of one state
 abbrev pub CodeHasOneText : Type 0
 CodeHasOneText = (m : Memory) (segment offset n : ℕ) (a b : List ℕ) → IsCode m segment offset n a → IsCode m segment offset n b → a ≡ b
 

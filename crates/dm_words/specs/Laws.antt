@@ -24,7 +24,7 @@ WordsAreOne = (words : Words) (a b : Action) (x y : List ℕ) → AreWords words
 abbrev pub OwnWordsAreRead : Type 0
 OwnWordsAreRead = (a : Action) (next : ℕ) (x : List ℕ) → next < 2 ^ 16 → SpellsAction a x → AreWords (words_of_action a next) a
 
--- a word before memory as the text has it, with a space behind it
+-- a word before memory as the text has it, with a space after it
 abbrev pub word_pieces : Size → List Piece
 word_pieces Absent = []
 word_pieces Byte = name (codes "BYTE") ∷ space ∷ []

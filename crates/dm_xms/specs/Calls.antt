@@ -1,4 +1,4 @@
--- What calls answer and leave. A call's row is one value: a refusal, or an answer with what the call leaves; so a
+-- What calls return and leave. A call's row is one value: a refusal, or a result with what the call leaves; so a
 -- refusal changes nothing.
 use Rattle.std.specs.Prelude.{ℕ, ◌-◌, ◌==◌, if◌then◌else◌, slice_index_or, slice_set, Option, Some, None, Result, Ok, Err}
 use Rattle.dm_xms.specs.declared.tables.Handle.{Handle}

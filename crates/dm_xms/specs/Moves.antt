@@ -12,7 +12,7 @@ use Rattle.dm_xms.specs.declared.moves.Side.{Side}
 use Rattle.dm_xms.specs.Tables.{Extended}
 use Rattle.dm_xms.specs.Calls.{need, slot}
 
--- what follows an answer; a refusal stays
+-- what follows a success; a refusal stays
 abbrev pub and_then : {A B E : Type 0} → Result A E → (A → Result B E) → Result B E
 and_then (Ok v) f = f v
 and_then (Err e) f = Err e

@@ -72,7 +72,7 @@ release_upper xms segment =
     need (position (begins_at segment) xms.uppers) refusal.Unknown (λ k.
     Ok (tt, with_uppers xms (remove xms.uppers k)))
 
--- where the block behind begins, or upper memory ends
+-- where the next block begins, or upper memory ends
 abbrev pub begin_or_end : Option Upper → ℕ
 begin_or_end None = first_segment + all_paragraphs
 begin_or_end (Some u) = u.segment

@@ -17,7 +17,7 @@ with_free cpu (Ok free) = with_byte (record cpu { ax = free.largest; dx = free.t
 with_free cpu (Err e) = with_byte (record cpu { ax = 0; dx = 0 }) Bl (code_of e)
 
 -- 08h: AX is the largest gap, DX all that is free, in KiB, and BL is 0; where nothing is free AX and DX are 0, and BL
--- tells it
+-- is the error code
 unfoldable pub tell_free : Caller → Caller
 tell_free c = on_cpu c (with_free c.cpu (rows.free_memory c.x))
 

@@ -17,7 +17,7 @@ with_room cpu (refusal.Smaller n) = record cpu { dx = n }
 with_room cpu refusal.NoneFree = record cpu { dx = 0 }
 with_room cpu refusal.Unknown = cpu
 
--- the registers after an answer: success as `set` has it, a refusal with its error code, and DX where it says a size
+-- the registers after a call: success as `set` has it, a refusal with its error code, and DX where it says a size
 abbrev pub settled : {A : Type 0} → Cpu → Result A UpperRefusal → (A → Cpu) → Cpu
 settled cpu (Ok v) set = succeeded (set v)
 settled cpu (Err e) set = refused (with_room cpu e) (code_of e)
