@@ -26,7 +26,7 @@ pub fn check(alloc: Global, machine: &mut Machine, n: u64) -> Result<(Stop, Repo
     ensures loaded { HasProgram machine.new }
 {
     let mut report = Report::new(alloc);
-    // No step is made: it tells whether the program has ended.
+    // No step is made: it finds whether the program has ended.
     if let Stop::Exited(code) = machine.run(0) {
         return Ok((Stop::Exited(code), report));
     }

@@ -14,7 +14,7 @@ const MOST_LINES: u32 = 0x1000;
 /// The most bytes that are listed.
 const MOST_BYTES: u32 = 0x1_0000;
 
-/// A command with nothing behind its name.
+/// A command with nothing after its name.
 fn alone(name: Name) -> Option<Command>
     ensures { result ≡ alone name }
 {
@@ -31,7 +31,7 @@ fn alone(name: Name) -> Option<Command>
     }
 }
 
-/// A command with one word behind its name.
+/// A command with one word after its name.
 fn with_one(name: Name, word: &[u8]) -> Option<Command>
     ensures { result ≡ with_one name word.now }
 {
@@ -46,7 +46,7 @@ fn with_one(name: Name, word: &[u8]) -> Option<Command>
     }
 }
 
-/// A command with two words behind its name.
+/// A command with two words after its name.
 fn with_two(name: Name, first: &[u8], second: &[u8]) -> Option<Command>
     ensures { result ≡ with_two name first.now second.now }
 {

@@ -65,7 +65,7 @@ impl Finding {
 pub enum Act {
     /// A service or a driver serves a call.
     Call(Call),
-    /// An instruction, and the offset behind it.
+    /// An instruction, and the offset after it.
     Instruction(Ins, u16),
 }
 

@@ -8,7 +8,7 @@ use crate::host::{Host, Stage};
 use crate::refusal::Refusal;
 use std::alloc::Global;
 
-/// Why a session did not answer. Where a write failed, memory for the answer was refused.
+/// Why a session refused a line. Where a write failed, memory for the answer was refused.
 fn refusal_of(refusal: dm_debug::Refusal) -> Refusal
     ensures { result ≡ Answers.refusal_of refusal }
 {

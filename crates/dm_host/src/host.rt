@@ -112,7 +112,7 @@ impl Host {
         }
     }
 
-    /// The answer of the last command that was answered.
+    /// The answer of the last command that had one.
     pub fn answer(&self) -> &[u8]
         ensures { result.now ≡ self.now.answer }
     {

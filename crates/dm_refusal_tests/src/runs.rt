@@ -61,7 +61,7 @@ fn reserve(rt: &impl Print, alloc: Global, scene: Scene, bytes: usize) -> Result
     Ok(())
 }
 
-/// Machines with room for output: before there is any, and behind some.
+/// Machines with room for output: before there is any, and after some.
 pub(crate) fn make_room(rt: &impl Print, alloc: Global) -> Result<()> {
     for (steps, bytes) in [(3, 2), (7, 100)] {
         let scene = Scene {
@@ -116,7 +116,7 @@ fn is_at(alloc: Global, machine: &Machine, scene: Scene) -> Result<bool> {
     Ok(are_alike(machine, &other))
 }
 
-/// Tells what a step answered, and what is seen after it.
+/// Prints what a step returned, and what is seen after it.
 fn tell_step(rt: &impl Print, call: &str, stop: Option<Stop>, machine: &Machine) -> Result<()> {
     let output = str::from_utf8(machine.output())?;
     let steps = machine.steps();
@@ -203,7 +203,7 @@ fn make_run(machine: &mut Machine) -> Stop
     machine.run(STEPS)
 }
 
-/// Tells how a run stopped, after how many steps and behind how many bytes.
+/// Prints how a run stopped, after how many steps and how many bytes.
 fn tell_run(
     rt: &impl Print,
     call: &str,
@@ -228,7 +228,7 @@ pub(crate) fn run_whole(rt: &impl Print, alloc: Global) -> Result<()> {
     tell_run(rt, call, stop, &machine, machine.output().len())
 }
 
-/// Runs that program as far as it goes, and writes its output behind the bytes.
+/// Runs that program as far as it goes, and writes its output after the bytes.
 fn run_into(machine: &mut Machine, taken: &mut Vec<u8>) -> Result<Stop>
     requires { HasProgram machine.old }
 {

@@ -19,7 +19,7 @@ fn bad_handle(parts: &mut Parts)
     parts.count();
 }
 
-/// 3Fh: takes CX bytes of the input, or all that are left, to DS:DX. AX tells how many.
+/// 3Fh: takes CX bytes of the input, or all that are left, to DS:DX. AX is how many.
 #[tactic(auto, unfolding(crate::specs::Handles::read_handle))]
 pub(crate) fn read_handle(parts: &mut Parts) -> Option<Stop>
     ensures answer { OrMemory parts.old (read_handle parts.old) result parts.new }
