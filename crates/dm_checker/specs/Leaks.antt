@@ -1,5 +1,6 @@
 -- What a program that has ended left allocated, by the tables and the map of memory.
--- Source: LIM EMS 4.0, section 2 (handles, pages, saved maps, windows); XMS 3.0 (handles, locks, upper memory blocks, the high memory area, A20).
+-- Source: LIM EMS 4.0, section 2 (handles, pages, saved maps, windows); XMS 3.0 (handles, locks, upper memory blocks,
+-- the high memory area, A20).
 use Rattle.std.specs.Prelude.{ℕ, zero, suc, ◌+◌, ◌==◌, ◌&&◌, nat_lt, is_some, Bool, if◌then◌else◌, List, [], ◌∷◌, ◌++◌, slice_index_or, slice_get, Option, Some, None}
 use Rattle.dm_space.specs.Memory.{Memory}
 use Rattle.dm_ems.specs.declared.tables.Handle.{Handle}

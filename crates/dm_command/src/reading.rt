@@ -72,8 +72,8 @@ fn with_two(name: Name, first: &[u8], second: &[u8]) -> Option<Command>
 ///
 /// Words are parted by spaces, which may be many and stand at the ends too. Letters are in either case, and numbers are
 /// hexadecimal with one to eight digits. Segments and offsets are at most FFFFh, instructions and traced steps at most
-/// 1000h, listed bytes at most 10000h. Where a number may be left out, it is 8 for U, 80h for D, FFFFFFh for G and 1
-/// for T.
+/// 1000h, listed bytes at most 10000h. The bytes of E are one word of 1 to 64 pairs of digits. Where a number may be
+/// left out, it is 8 for U, 80h for D, FFFFFFh for G and 1 for T.
 pub fn read_command(line: &[u8]) -> Option<Command>
     ensures { result ≡ command_of line.now }
 {

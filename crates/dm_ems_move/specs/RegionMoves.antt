@@ -17,7 +17,7 @@ use Rattle.dm_ems_move.specs.declared.region_moves.Moved.TheVariants as moved_is
 use Rattle.dm_moves.specs.Buffers.{word_after}
 use Rattle.dm_ems_move.specs.Steps.{and_then}
 
--- ---- the structure at segment:offset: how many bytes, a double word; then the source and the destination, seven bytes each
+-- ---- the structure at segment:offset: the length, a double word; then source and destination, seven bytes each
 
 -- how many bytes the structure says, a double word
 abbrev pub length_at : Memory → ℕ → ℕ → ℕ

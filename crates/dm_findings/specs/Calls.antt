@@ -30,6 +30,7 @@ call_by c (Some s) d = Some (of_service c s)
 call_by c None (Some d) = Some (of_driver c d)
 call_by c None None = None
 
--- the call that a step from these registers serves: that of the service or driver at CS:IP; none where an instruction acts
+-- the call that a step from these registers serves: that of the service or driver at CS:IP; none where an instruction
+-- acts
 unfoldable pub call_of : Cpu → Option Call
 call_of c = call_by c (service_at c) (driver_at c)

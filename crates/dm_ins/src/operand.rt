@@ -133,8 +133,8 @@ pub enum Base {
 }
 
 impl Base {
-    /// The registers that the r/m field names where the mod field is not 3 and the address is not
-    /// direct.
+    /// The registers that the r/m field, 0 to 7, names where the mod field is not 3 and the address is
+    /// not direct.
     pub fn from_number(number: u8) -> Self
         requires { number < 8 }
         ensures { result ≡ slice_index_or bases number Base.BxSi }

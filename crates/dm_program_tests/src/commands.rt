@@ -93,8 +93,8 @@ error: step 6, F000:0084 INT 21h function 49h (Free Allocated Memory): block at 
 errors: 1, notes: 0
 ";
 
-/// Checked runs: without a finding, whatever the stop; with an error, with a note, and where an instruction destroys the
-/// arena. What keeps a run from its start, or its output from being written, is reported as for `dm run`.
+/// Checked runs: without a finding, whatever the stop; with an error, with a note, and where an instruction destroys
+/// the arena. What keeps a run from its start, or its output from being written, is reported as for `dm run`.
 const CHECKS: [Row; 10] = [
     ("dm check hi.com", 0, b"", b"hi", "errors: 0, notes: 0\n"),
     (

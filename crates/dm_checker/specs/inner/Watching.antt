@@ -1,4 +1,5 @@
--- What is kept of the headers that memory showed, and when memory shows them still. No definition of a finding mentions it.
+-- What is kept of the headers that memory showed, and when memory shows them still. No definition of a finding mentions
+-- it.
 use Rattle.std.specs.Prelude.{◌≡◌, ℕ, ◌+◌, ◌*◌, ◌<◌, Bool, true, false, All, List, [], ◌∷◌, ◌++◌, map, slice_index, slice_index_or, Option, Some, None, IfSome, Result, Ok, Err}
 use Rattle.dm_space.specs.Memory.{Memory, IsPage, place, peek}
 use Rattle.dm_space.specs.EightBytes.{little}
