@@ -127,7 +127,7 @@ fn answer_at_once<W: Out>(
     }
 }
 
-/// Answers the lines of the commands as they are read, up to their end or a line that ends the session. They may have
+/// Does the lines of the commands as they are read, up to their end or a line that ends the session. They may have
 /// 16 MiB in all.
 fn converse<R: BufRead, W: Out>(
     alloc: Global,

@@ -29,7 +29,7 @@ use dm_space::Space;
 const RELOCATED: usize = 0x11_0000;
 
 /// Puts the first part of an image, relocated to the start segment, into the scratch part; its
-/// length. Behind it no word is relocated.
+/// length. After it no word is relocated.
 fn relocate(space: &mut Space, image: &Image, start: u16) -> usize
     ensures memory { space.new.memory ≡ space.old.memory }
     ensures scratch { take result space.new.scratch ≡ take 0x110000 (relocated image.now start) }

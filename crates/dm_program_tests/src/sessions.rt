@@ -159,7 +159,7 @@ fn breaks_off(
     Ok(())
 }
 
-/// Answers the lines of a session over a program that has the name HI.COM.
+/// Does the lines of a session over a program that has the name HI.COM.
 fn play(rt: &impl Abort, alloc: Global, program: &[u8], rows: &[Row]) -> Result<(), Fail> {
     let machine = loaded_as(alloc, b"HI.COM", program, b"")?;
     let mut session = Session::new(machine);

@@ -135,7 +135,7 @@ fn step(rt: &impl Print, alloc: Global, call: &str, scene: Scene) -> Result<()> 
     tell_step(rt, call, stop, &machine)
 }
 
-/// A step of each service that writes. (Behind three steps of a program, or two: so many lead to its service.)
+/// A step of each service that writes. (After three steps of a program, or two: so many lead to its service.)
 pub(crate) fn make_steps(rt: &impl Print, alloc: Global) -> Result<()> {
     // MOV AH,1; INT 21h / MOV AH,2; MOV DL,`x`; INT 21h / MOV AH,6; MOV DL,`x`; INT 21h
     // MOV BX,1; MOV CX,1; MOV DX,10Dh; MOV AH,40h; INT 21h; `x`

@@ -68,7 +68,7 @@ fn new_session(alloc: Global) -> Result<Session> {
     Ok(Session::new(machine))
 }
 
-/// Answers a line.
+/// Does a line of a session.
 fn answer(
     alloc: Global,
     session: &mut Session,

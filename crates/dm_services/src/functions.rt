@@ -106,7 +106,7 @@ fn function_of(number: u8) -> Function
     }
 }
 
-/// Answers that there is no such function.
+/// Returns from the call with error 1: no such function.
 #[tactic(auto, unfolding(crate::specs::Functions::no_function))]
 fn refuse(parts: &mut Parts)
     ensures { parts.new ≡ (no_function parts.old).state }

@@ -7,7 +7,7 @@ ghost use Rattle.dm_services.specs.Handles.{bad_handle, read_handle, write_handl
 use crate::buffers::send;
 use dm_state::{Parts, Stop};
 
-/// Answers that the handle is bad.
+/// Returns from the call with error 6: a bad handle.
 #[tactic(auto, unfolding(crate::specs::Handles::bad_handle))]
 fn bad_handle(parts: &mut Parts)
     ensures answer { record { stop = None; state = parts.new } ≡ bad_handle parts.old }

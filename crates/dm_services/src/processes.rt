@@ -25,7 +25,7 @@ fn code_of(refusal: Refusal) -> u16
     }
 }
 
-/// Answers that no program was loaded.
+/// Returns from the call with an error in AX: no program was loaded.
 fn refuse_program(parts: &mut Parts, refusal: Refusal)
     ensures { parts.new ≡ (not_loaded parts.old refusal).state }
 {

@@ -104,7 +104,7 @@ fn wanted(number: u16, upper: bool) -> Option<bool>
     }
 }
 
-/// Tells that there is no such function, or no such value for it.
+/// Returns from the call with error 1: no such function, or no such value for it.
 fn refuse_number(parts: &mut Parts)
     ensures { parts.new ≡ (Strategies.unlisted parts.old).state }
 {
