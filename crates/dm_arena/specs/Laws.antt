@@ -16,23 +16,23 @@ use Rattle.dm_arena.specs.Linking.{Links, TellsLinked}
 abbrev pub AllocationHasOneAnswer : Type 0
 AllocationHasOneAnswer = (upper : Bool) (S : Memory) (strategy : Strategy) (n owner : ℕ) (r q : Result ℕ Refusal) (T U : Memory) → Allocates upper S strategy n owner r T → Allocates upper S strategy n owner q U → (r ≡ q) × (T ≡ U)
 
--- and so are those of the other calls
+-- freeing a block (49h) has one result, and leaves one memory
 abbrev pub FreeingHasOneAnswer : Type 0
 FreeingHasOneAnswer = (upper : Bool) (S : Memory) (segment : ℕ) (r q : Result (Unit {0}) Refusal) (T U : Memory) → Frees upper S segment r T → Frees upper S segment q U → (r ≡ q) × (T ≡ U)
 
--- the result of a resize (4Ah), and the memory that it leaves, are functions of memory and arguments
+-- resizing a block (4Ah) has one result, and leaves one memory
 abbrev pub ResizingHasOneAnswer : Type 0
 ResizingHasOneAnswer = (upper : Bool) (S : Memory) (segment n : ℕ) (r q : Result (Unit {0}) Refusal) (T U : Memory) → Resizes upper S segment n r T → Resizes upper S segment n q U → (r ≡ q) × (T ≡ U)
 
--- so are those of the freeing of all blocks of an owner
+-- freeing all blocks of an owner has one result, and leaves one memory
 abbrev pub ReleasingHasOneAnswer : Type 0
 ReleasingHasOneAnswer = (upper : Bool) (S : Memory) (owner : ℕ) (r q : Result (Unit {0}) Refusal) (T U : Memory) → Releases upper S owner r T → Releases upper S owner q U → (r ≡ q) × (T ≡ U)
 
--- so are those of the allocation of two blocks, a program's and its environment's
+-- allocating two blocks, a program's and its environment's, has one result, and leaves one memory
 abbrev pub PairingHasOneAnswer : Type 0
 PairingHasOneAnswer = (upper : Bool) (S : Memory) (strategy : Strategy) (environment least most : ℕ) (r q : Result Placed Refusal) (T U : Memory) → Pairs upper S strategy environment least most r T → Pairs upper S strategy environment least most q U → (r ≡ q) × (T ≡ U)
 
--- so are those of linking and unlinking upper memory (58h)
+-- linking the arena with upper memory, or parting it (58h), has one result, and leaves one memory
 abbrev pub LinkingHasOneAnswer : Type 0
 LinkingHasOneAnswer = (S : Memory) (on : Bool) (r q : Result (Unit {0}) Refusal) (T U : Memory) → Links S on r T → Links S on q U → (r ≡ q) × (T ≡ U)
 

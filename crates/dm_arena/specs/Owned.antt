@@ -88,7 +88,7 @@ abbrev pub Resizes : Bool → Memory → ℕ → ℕ → Result (Unit {0}) Refus
 Resizes upper S segment n (Ok u) T = (r : BlockRunAt upper S first_header segment) × (n ≤ (absorb r.block r.run).size) × Becomes S first_header (resized r n) T
 Resizes upper S segment n (Err e) T = (T ≡ S) × ResizeRefused upper S first_header segment n e
 
--- each block of the owner made free
+-- the block, made free if it is the owner's
 abbrev pub released_block : ℕ → Header → Header
 released_block owner b = record b { owner = (if b.owner == owner then 0 else b.owner) }
 

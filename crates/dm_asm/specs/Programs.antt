@@ -46,7 +46,7 @@ abbrev pub labels_from : ℕ → List Sized → List Label
 labels_from at [] = []
 labels_from at (x ∷ xs) = labelled x.statement.label at ++ labels_from (at + x.long) xs
 
--- a program begins at offset 0100h
+-- the labels of a program, which begins at offset 0100h
 abbrev pub labels_of : List Sized → List Label
 labels_of xs = labels_from 0x100 xs
 

@@ -48,7 +48,7 @@ abbrev pub if_allocated : ℕ → Option Block → List Finding
 if_allocated handle None = []
 if_allocated handle (Some b) = BlockKept handle b.kib (nat_lt 0 b.locks) ∷ []
 
--- handles count from 1
+-- what is found of a handle of extended memory: the one after so many, as handles count from 1
 abbrev pub block_kept : xms.Tables → ℕ → List Finding
 block_kept tables before = if_allocated (before + 1) (slot tables (before + 1))
 

@@ -17,7 +17,7 @@ is_point a p = p.offset == a.offset && p.segment == a.segment
 abbrev pub is_set : List Breakpoint → Address → Bool
 is_set points a = is_some (position (is_point a) points)
 
--- one that stands is not set again
+-- the breakpoints with one more at the address, unless it is set already
 abbrev pub set_if : Option ℕ → List Breakpoint → Address → List Breakpoint
 set_if None points a = points ++ point_at a ∷ []
 set_if (Some i) points a = points
@@ -35,6 +35,6 @@ cleared (Some i) points = remove points i
 abbrev pub without_point : List Breakpoint → Address → List Breakpoint
 without_point points a = cleared (position (is_point a) points) points
 
--- a line each
+-- the breakpoints, a line each: segment:offset
 abbrev pub points_text : List Breakpoint → List ℕ
 points_text points = flat_map (λ p. address_text p.segment p.offset ++ 10 ∷ []) points

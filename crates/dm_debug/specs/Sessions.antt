@@ -22,7 +22,7 @@ use Rattle.dm_debug.specs.Debugged.{Debugged}
 use Rattle.dm_debug.specs.Points.{is_set, with_point, without_point, points_text}
 use Rattle.dm_debug.specs.Runs.{GoesTo, IsTrace, TracesPart}
 
--- no breakpoints, over a machine
+-- a session over a machine, with no breakpoints
 abbrev pub new_session : State → Debugged
 new_session m = record { machine = m; points = [] }
 

@@ -7,6 +7,6 @@ use Rattle.dm_ems.specs.Names.{word, writing}
 abbrev pub frame : List ℕ
 frame = word 0xE000 ++ word 0 ++ word 0xE400 ++ word 1 ++ word 0xE800 ++ word 2 ++ word 0xEC00 ++ word 3
 
--- they are written at segment:offset
+-- each window's segment and number are written at segment:offset
 abbrev pub list_frame : Expanded → ℕ → ℕ → Expanded
 list_frame x segment offset = writing x segment offset frame

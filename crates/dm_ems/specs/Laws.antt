@@ -13,7 +13,7 @@ use Rattle.dm_ems.specs.Handles.{allocate, deallocate}
 use Rattle.dm_ems.specs.Maps.{map_page, save_map, restore_map}
 use Rattle.dm_ems.specs.Names.{set_name}
 
--- with a pool of no block, and no window
+-- the tables of a new machine and its memory are consistent: the pool has no block, and no window shows one
 abbrev pub StartIsConsistent : Type 0
 StartIsConsistent = (total units : ℕ) (low : List ℕ) → total ≤ 512 → IsConsistent (expanded (new_tables total) (of_ram low (no_blocks units)))
 
@@ -28,7 +28,7 @@ pub record CallsKeepConsistency : Type 0 where
   pub appending : (x : Expanded) (handle : ℕ) → IsUsed x.ems.handles handle → IsConsistent x → IsConsistent (appended_page x handle)
   pub cutting : (x : Expanded) (handle count : ℕ) → IsConsistent x → IsConsistent (cut x handle count)
 
--- a memory of the same map, as a write leaves it
+-- tables stay consistent with a memory of the same map, as a write leaves it
 abbrev pub WritesKeepConsistency : Type 0
 WritesKeepConsistency = (x : Expanded) (m : Memory) → IsShaped x.memory m → IsConsistent x → IsConsistent (with_memory x m)
 

@@ -69,7 +69,7 @@ with_page x handle (Some p) = record { ems = record x.ems { pages = x.ems.pages 
 unfoldable pub appended_page : Expanded → ℕ → Expanded
 appended_page x handle = with_page x handle (taken x.memory.blocks 16)
 
--- n pages more
+-- n pages more after those of a handle
 abbrev pub appended : Expanded → ℕ → ℕ → Expanded
 appended x handle zero = x
 appended x handle (suc n) = appended_page (appended x handle n) handle
@@ -111,7 +111,7 @@ without_page x block (Some i) = record {
 unfoldable pub forgotten : Expanded → ℕ → Expanded
 forgotten x block = without_page x block (position (is_block block) x.ems.pages)
 
--- each of the pages in turn
+-- the pages that are these blocks go, one after the other
 abbrev pub forgotten_all : Expanded → List ℕ → Expanded
 forgotten_all x [] = x
 forgotten_all x (block ∷ blocks) = forgotten_all (forgotten x block) blocks

@@ -34,12 +34,12 @@ succeeded cpu = with_status cpu 0
 abbrev pub refused : Cpu → Status → Cpu
 refused cpu e = with_status cpu (code_of e)
 
--- the registers after a call: success changes them as `set` does, a refusal not at all
+-- the registers after a call: success changes them as `set` does, a refusal AH alone
 abbrev pub settled : {A : Type 0} → Cpu → Result A Status → (A → Cpu) → Cpu
 settled cpu (Ok v) set = succeeded (set v)
 settled cpu (Err e) set = refused cpu e
 
--- the same where success sets AH too
+-- the registers after a call whose success sets AH too
 abbrev pub concluded : {A : Type 0} → Cpu → Result A Status → (A → Cpu) → Cpu
 concluded cpu (Ok v) set = set v
 concluded cpu (Err e) set = refused cpu e

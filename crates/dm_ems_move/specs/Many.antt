@@ -21,7 +21,7 @@ paired blocks by_segment page value windows =
     need (slice_get blocks page) NoSuchPage (λ block.
     Ok (slice_set windows window (Some block))))
 
--- what they show after the first n of the pairs that stand at segment:offset, or why one of these is bad
+-- what the windows show after the first n of the pairs that stand at segment:offset, or why one of these is bad
 abbrev pub after_pairs : Memory → List ℕ → Bool → ℕ → ℕ → ℕ → Result (List (Option ℕ)) Status
 after_pairs m blocks by_segment segment offset zero = Ok m.windows
 after_pairs m blocks by_segment segment offset (suc n) =

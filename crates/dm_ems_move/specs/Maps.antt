@@ -18,7 +18,7 @@ abbrev pub or_none : Option (ℕ × ℕ) → ℕ × ℕ
 or_none None = (0xFFFF, 0xFFFF)
 or_none (Some n) = n
 
--- those of the page that a window shows
+-- the handle and the logical page that a window shows; FFFFh twice where it shows none
 abbrev pub numbers : List Page → Option ℕ → ℕ × ℕ
 numbers pages window = or_none (numbers_of pages window)
 
@@ -44,7 +44,7 @@ meant ems handle page =
     if (handle == 0xFFFF) && (page == 0xFFFF) then Some None else
     when (slice_index_or ems.handles handle None) (λ s. when (slice_get (blocks_of ems handle) page) (λ block. Some (Some block)))
 
--- that of the window k of a map at segment:offset
+-- what window k is to show by a map at segment:offset, if the map means a page or none
 abbrev pub meant_at : Tables → Memory → ℕ → ℕ → ℕ → Option (Option ℕ)
 meant_at ems m segment offset k = meant ems (word_after m segment offset (4 * k)) (word_after m segment offset (4 * k + 2))
 

@@ -65,7 +65,7 @@ is_linear Linear = true
 is_linear Pages = false
 is_linear Single = false
 
--- one is of conventional memory, and the other is not
+-- one span is of conventional memory, and the other is not
 abbrev pub are_mixed : Span → Span → Bool
 are_mixed from to = if is_linear from.kind then (if is_linear to.kind then false else true) else is_linear to.kind
 

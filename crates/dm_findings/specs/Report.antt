@@ -21,7 +21,7 @@ first_of most errors notes (f ∷ fs) =
     then (if nat_lt errors most then f ∷ first_of most (suc errors) notes fs else first_of most (suc errors) notes fs)
     else (if nat_lt notes most then f ∷ first_of most errors (suc notes) fs else first_of most errors (suc notes) fs)
 
--- numbers stay at 2^64 - 1
+-- how many findings there are of a kind; the number stays at 2^64 - 1
 abbrev pub counted : (Found → Bool) → List Found → ℕ
 counted is fs = min (count_by is fs) (2 ^ 64 - 1)
 

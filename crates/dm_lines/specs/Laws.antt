@@ -103,7 +103,7 @@ data_text b bs = codes "DB " ++ byte_digits b ++ flat_map (λ c. codes "," ++ by
 abbrev pub data_statement : List ℕ → Statement
 data_statement bs = record { label = None; item = bytes (map Plus bs) }
 
--- such a line is read as these bytes, with a comment after it too
+-- a DB line of bytes is read as these bytes, with a comment after it too
 abbrev pub DataIsRead : Type 0
 DataIsRead = (b : ℕ) (bs comment : List ℕ) → AllByRecursion (λ c. c < 2 ^ 8) (b ∷ bs) → IsComment comment → length (data_text b bs ++ comment) ≤ 255 → line_of (data_text b bs ++ comment) ≡ Some (data_statement (b ∷ bs))
 

@@ -18,17 +18,17 @@ use Rattle.dm_lines.specs.declared.term.Term.TheVariants as term
 
 -- ---- numbers and labels
 
--- a number is 8000h at most below zero
+-- a number below zero, 8000h at most
 abbrev pub minus : ℕ → Option Amount
 minus n = if nat_le n 0x8000 then Some (Minus n) else None
 
--- a number
+-- a number, with a - before it or none
 abbrev pub amount_of : List Token → Option Amount
 amount_of (t.Number n ∷ []) = Some (Plus n)
 amount_of (t.Minus ∷ t.Number n ∷ []) = minus n
 amount_of _ = None
 
--- what is added to a label or to registers; - stands for +-
+-- what is added to a label or to registers: a number after + or -, or nothing; - stands for +-
 abbrev pub added_of : List Token → Option Amount
 added_of [] = Some (Plus 0)
 added_of (t.Plus ∷ ts) = amount_of ts

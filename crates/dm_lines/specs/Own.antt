@@ -48,6 +48,6 @@ own_instruction i next = record {
   second = own_term i.action next i.action.second;
 }
 
--- it has no label
+-- the statement of an instruction's own text, which has no label
 abbrev pub own_statement : Ins → ℕ → Statement
 own_statement i next = record { label = None; item = instruction (own_instruction i next) }

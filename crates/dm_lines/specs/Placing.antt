@@ -37,12 +37,12 @@ standing v place = word_from v.label v.amount place
 abbrev pub low_byte_of : ℕ → Option ℕ
 low_byte_of n = if nat_lt n 256 then Some n else None
 
--- a byte is -80h to FFh
+-- a number as a byte, -80h to FFh
 abbrev pub byte_of : Amount → Option ℕ
 byte_of (Plus n) = low_byte_of n
 byte_of (Minus n) = if nat_le n 128 then Some ((256 - n) % 256) else None
 
--- displacements count modulo 10000h
+-- the displacement from the next instruction to a target, modulo 10000h
 abbrev pub distance_of : ℕ → ℕ → ℕ
 distance_of target next = (target + 65536 - next) % 65536
 
@@ -57,7 +57,7 @@ is_one_of (Minus n) = false
 abbrev pub number_at : Amount → ℕ → Numeral
 number_at n next = record { byte = byte_of n; word = Some (amount_word n); distance = distance_of (amount_word n) next; is_one = is_one_of n }
 
--- a label is an immediate value of MOV alone
+-- a label at its place as each kind of operand; it is an immediate value of MOV alone
 abbrev pub label_at : Mnemonic → ℕ → ℕ → Numeral
 label_at m target next =
     if is_move m
@@ -93,7 +93,8 @@ written_of m (term.Far s o) place next = Some (w.Far s o)
 
 -- ---- before any label has a place: each byte is in range, each target is near
 
--- a byte counts modulo 64: it is in range then, and the number of ESC, which decides its first byte, is below 64
+-- a number as each kind of operand. A byte counts modulo 64: it is in range then, and the number of ESC, which decides
+-- its first byte, is below 64
 abbrev pub number_outline : Amount → Numeral
 number_outline n = record { byte = Some (amount_word n % 64); word = Some (amount_word n); distance = 0; is_one = is_one_of n }
 

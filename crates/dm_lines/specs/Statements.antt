@@ -36,7 +36,7 @@ pub record Statement : Type 0 where
   pub label : Option Name'.Name
   pub item : Item
 
--- a statement whose items of data are beside it
+-- the item of a line, with its data, as contracts see it
 abbrev pub seen_item : Items → Item'.Item → Item
 seen_item d code.Nothing = nothing
 seen_item d (code.Instruction i) = instruction i
@@ -87,7 +87,7 @@ word_items (p ∷ ps) = then_list (one (value_of p)) (word_items ps)
 
 -- ---- instructions
 
--- SHORT stands after JMP alone, FAR after JMP and CALL
+-- the mnemonic with SHORT after it: JMP alone has one
 abbrev pub short_of : Mnemonic → Option Mnemonic
 short_of op.Jmp = Some op.JmpShort
 short_of _ = None
@@ -142,7 +142,7 @@ operated p ts = do
   xs ← terms_of m.1
   Some (with_terms p m.0 xs.0 xs.1)
 
--- NOP is XCHG AX,AX
+-- an instruction after its prefix words; NOP is XCHG AX,AX
 abbrev pub action_of : Prefixes → List Token → Option Instruction
 action_of p (t.Nop ∷ []) = Some (record { prefixes = p; mnemonic = op.Xchg; first = term.WordRegister Ax; second = term.WordRegister Ax })
 action_of p ts = operated p ts
@@ -178,6 +178,6 @@ abbrev pub statement_of : List Token → Option Statement
 statement_of (t.Name l ∷ t.Colon ∷ ts) = labelled (Some l) (item_of ts)
 statement_of ts = labelled None (item_of ts)
 
--- a line has at most 255 bytes
+-- the statement of a line of at most 255 bytes, if it is one
 unfoldable pub line_of : List ℕ → Option Statement
 line_of line = if nat_lt 255 (length line) then None else tokens_of line >>= statement_of

@@ -31,7 +31,7 @@ magnitude_of base n (b ∷ bs) = do
   d ← digit_of b
   if nat_le base d then None else if nat_le 65536 (n * base + d) then None else magnitude_of base (n * base + d) bs
 
--- hexadecimal with an H at the end, else decimal
+-- the number that a word spells: hexadecimal with an H at the end, else decimal
 abbrev pub number_of : List ℕ → Option ℕ
 number_of w = if slice_index w (length w - 1) == 72 then magnitude_of 16 0 (take (length w - 1) w) else magnitude_of 10 0 w
 

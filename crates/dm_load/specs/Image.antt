@@ -22,7 +22,7 @@ is_mz file =
 abbrev pub kind_of : List ℕ → Kind
 kind_of file = if is_mz file then Mz else Com
 
--- the words of an MZ header
+-- word 02h modulo 512: how many bytes the last page has, 0 where it is full
 abbrev pub last_page : List ℕ → ℕ
 last_page file = word file 0x02 % 512
 
@@ -42,7 +42,7 @@ minimum file = word file 0x0A
 abbrev pub maximum : List ℕ → ℕ
 maximum file = word file 0x0C
 
--- CS:IP from words 16h and 14h, SS:SP from words 0Eh and 10h
+-- CS:IP at the start, from words 16h and 14h; the segment counts from the image
 abbrev pub code : List ℕ → FarPointer
 code file = record { segment = word file 0x16; offset = word file 0x14 }
 
@@ -50,11 +50,11 @@ code file = record { segment = word file 0x16; offset = word file 0x14 }
 abbrev pub stack : List ℕ → FarPointer
 stack file = record { segment = word file 0x0E; offset = word file 0x10 }
 
--- the bytes of the pages: the last one is full where its length is 0
+-- the bytes of header and image, by the pages: the last one is full where its length is 0
 unfoldable pub size : List ℕ → ℕ
 size file = if last_page file == 0 then pages file * 512 else (pages file - 1) * 512 + last_page file
 
--- how many relocations there are, and where the word of the k-th one stands in the image
+-- word 06h: how many relocations an MZ file has; a COM file has none
 unfoldable pub relocations : List ℕ → ℕ
 relocations file = if is_mz file then word file 0x06 else 0
 
@@ -66,7 +66,7 @@ entry file k = word file 0x18 + 4 * k
 abbrev pub target : List ℕ → ℕ → ℕ
 target file k = word file (entry file k + 2) * 16 + word file (entry file k)
 
--- from the header's end to the size; a COM file is its own image
+-- the image: the bytes from the header's end up to the size; a COM file is its own image
 unfoldable pub image : List ℕ → List ℕ
 image file = if is_mz file then slice_range file (header_length file) (size file) else file
 
@@ -79,7 +79,7 @@ pub record IsGoodMz (file : List ℕ) : Type 0 where
   pub header_fits : header_length file ≤ size file
   pub inside : (k : ℕ) → k < word file 0x06 → target file k + 2 ≤ size file - header_length file
 
--- a file that can be loaded
+-- a file of this kind that can be loaded; a COM file has at most 65,278 bytes
 abbrev pub IsGoodAs : Kind → List ℕ → Type 0
 IsGoodAs Com file = length file ≤ 65278
 IsGoodAs Mz file = IsGoodMz file

@@ -43,7 +43,8 @@ UnseenBytesChangeNoStep =
     (change : Memory → Memory) → IsUnseen change → (s t : State) (n : ℕ) → StaysQuiet s n →
     Goes s n t → Goes (with_change change s) n (with_change change t)
 
--- so does a whole run, and it stops for the same reason
+-- a run in which neither acts stops for the same reason, in the same state, where memory is changed out of every
+-- program's sight, and the change stays
 abbrev pub UnseenBytesChangeNoRun : Type 0
 UnseenBytesChangeNoRun =
     (change : Memory → Memory) → IsUnseen change → (s t : State) (n : ℕ) (stop : Stop) → StaysQuiet s n →
@@ -83,14 +84,14 @@ extended_as handles other m = with_blocks m (record m.blocks { contents = mixed 
 abbrev pub with_extended_blocks : (ℕ → List ℕ) → State → State
 with_extended_blocks other s = record s { memory = extended_as s.xms.handles other s.memory }
 
--- where tables and memory are consistent, as they do in each machine, a run doesn't depend on the bytes of any block of
--- extended memory
+-- where tables and memory are consistent, as they are in each machine, a run doesn't depend on the bytes of any block
+-- of extended memory
 abbrev pub ExtendedBlocksChangeNoRun : Type 0
 ExtendedBlocksChangeNoRun =
     (other : ℕ → List ℕ) (s t : State) (n : ℕ) (stop : Stop) → AreConsistent s → StaysQuiet s n →
     IsRun s n stop t → IsRun (with_extended_blocks other s) n stop (with_extended_blocks other t)
 
--- what it leaves: the tables of expanded and of extended memory, and the bytes of each block of extended memory
+-- what a run leaves: the tables of expanded and of extended memory, and the bytes of each block of extended memory
 pub record LeavesExtended (s t : State) : Type 0 where
   pub expanded : t.ems ≡ s.ems
   pub extended : t.xms ≡ s.xms
@@ -119,7 +120,7 @@ RoomIsEnoughForRuns =
     (bytes : ℕ) (s t u : State) (n : ℕ) → bytes ≤ s.console.room → Follows s t → IsRun t n NoMemory u →
     WantsBeyond (length s.console.output + bytes) u
 
--- nor does a single step want memory, where it writes no more of them
+-- where there is room for so many bytes, a step that writes no more of them doesn't want memory
 abbrev pub RoomIsEnoughForSteps : Type 0
 RoomIsEnoughForSteps =
     (bytes : ℕ) (s t u : State) → bytes ≤ s.console.room → Follows s t → Answers t (Some NoMemory) u →

@@ -10,32 +10,32 @@ use Rattle.dm_proc.specs.declared.refusal.ArenaDestroyed.{ArenaDestroyed}
 use Rattle.dm_proc.specs.Request.{Passed}
 use Rattle.dm_proc.specs.Processes.{Processes, AreLoaded, Executes, Loads, Overlays, Terminates, Keeps}
 
--- the result of a call, and all that it leaves, are functions of the state and the arguments
+-- starting a child (4Bh with AL = 0) has one result, and leaves one state
 abbrev pub ExecHasOneAnswer : Type 0
 ExecHasOneAnswer =
     (upper : Bool) (ps : Processes) (c : Cpu) (m : Memory) (store : List (List ℕ × List ℕ)) (strategy : Strategy) (r q : Result (Unit {0}) Refusal)
     (ps₁ ps₂ : Processes) (c₁ c₂ : Cpu) (m₁ m₂ : Memory) →
     Executes upper ps c m store strategy r ps₁ c₁ m₁ → Executes upper ps c m store strategy q ps₂ c₂ m₂ → (r ≡ q) × (ps₁ ≡ ps₂) × (c₁ ≡ c₂) × (m₁ ≡ m₂)
 
--- so are those of the load of the first program
+-- loading the first program has one result, and leaves one memory
 abbrev pub LoadHasOneAnswer : Type 0
 LoadHasOneAnswer =
     (upper : Bool) (m : Memory) (strategy : Strategy) (file variables name : List ℕ) (a : Passed) (r q : Result (Processes × Cpu) Refusal) (m₁ m₂ : Memory) →
     Loads upper m strategy file variables name a r m₁ → Loads upper m strategy file variables name a q m₂ → (r ≡ q) × (m₁ ≡ m₂)
 
--- so are those of the load of an overlay (4Bh with AL = 3)
+-- loading an overlay (4Bh with AL = 3) has one result, and leaves one memory
 abbrev pub OverlayHasOneAnswer : Type 0
 OverlayHasOneAnswer =
     (c : Cpu) (m : Memory) (store : List (List ℕ × List ℕ)) (r q : Result (Unit {0}) Refusal) (m₁ m₂ : Memory) →
     Overlays c m store r m₁ → Overlays c m store q m₂ → (r ≡ q) × (m₁ ≡ m₂)
 
--- so are those of the end of a process
+-- ending a process has one result, and leaves one state
 abbrev pub TerminatingHasOneAnswer : Type 0
 TerminatingHasOneAnswer =
     (upper : Bool) (ps : Processes) (c : Cpu) (m : Memory) (code : ℕ) (r q : Result Ending ArenaDestroyed) (ps₁ ps₂ : Processes) (c₁ c₂ : Cpu) (m₁ m₂ : Memory) →
     Terminates upper ps c m code r ps₁ c₁ m₁ → Terminates upper ps c m code q ps₂ c₂ m₂ → (r ≡ q) × (ps₁ ≡ ps₂) × (c₁ ≡ c₂) × (m₁ ≡ m₂)
 
--- so are those of the end of a process that stays resident (31h)
+-- ending a process that stays resident (31h) has one result, and leaves one state
 abbrev pub KeepingHasOneAnswer : Type 0
 KeepingHasOneAnswer =
     (upper : Bool) (ps : Processes) (c : Cpu) (m : Memory) (code paragraphs : ℕ) (r q : Result Ending ArenaDestroyed) (ps₁ ps₂ : Processes) (c₁ c₂ : Cpu) (m₁ m₂ : Memory) →

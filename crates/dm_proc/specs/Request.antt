@@ -32,7 +32,7 @@ pub record Names (c : Cpu) (m : Memory) (store : List (List ℕ × List ℕ)) (n
   pub named : IsNameAt m c.ds c.dx name
   pub found : program_of store name ≡ Some file
 
--- and the file can be loaded
+-- the name at DS:DX is that of a file of the store which can be loaded
 abbrev pub NamesGood : Cpu → Memory → List (List ℕ × List ℕ) → List ℕ → List ℕ → Type 0
 NamesGood c m store name file = Names c m store name file × IsGood file
 
@@ -80,7 +80,7 @@ passed c m = record {
 abbrev pub environment_segment : Memory → ℕ → Cpu → ℕ
 environment_segment m present c = if peek16 m c.es c.bx == 0 then peek16 m present 0x2C else peek16 m c.es c.bx
 
--- where an overlay goes, and the segment that its relocations add
+-- the parameter block's first word: the segment where an overlay goes
 abbrev pub load_segment : Cpu → Memory → ℕ
 load_segment c m = peek16 m c.es c.bx
 

@@ -15,7 +15,7 @@ least file =
     if is_mz file then 0x10 + paragraphs (length (image file)) + minimum file
     else 0x10 + paragraphs (length (image file) + 2)
 
--- what it has at most, if there is so much: all there is, or the maximum of an MZ header
+-- what a program's block has at most, if there is so much: all there is, or the maximum of an MZ header
 unfoldable pub most : List ℕ → ℕ
 most file =
     if is_mz file then

@@ -40,7 +40,7 @@ zero_word a20 segment offset =
 abbrev pub stack_writes : Bool → Placed → List ℕ → List Write
 stack_writes a20 p file = if is_mz file then [] else zero_word a20 p.program (com_stack p)
 
--- where the image begins
+-- the start segment: the image begins there, after the 16 paragraphs of the prefix
 abbrev pub start : Placed → ℕ
 start p = (p.program + 0x10) % 65536
 
@@ -53,7 +53,7 @@ start_writes a20 p environment prefix file =
     ++ block a20 (start p) (relocated file (start p))
     ++ stack_writes a20 p file
 
--- the registers of a new process
+-- the flags of a new process: interrupts are enabled, all other flags clear
 abbrev pub start_flags : Flags
 start_flags = record { carry = false; parity = false; adjust = false; zero = false; sign = false; trap = false; interrupt = true; direction = false; overflow = false }
 

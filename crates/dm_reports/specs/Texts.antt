@@ -15,7 +15,7 @@ use Rattle.dm_reports.specs.Names.{call_text}
 abbrev pub contents_text : Contents → List ℕ
 contents_text c = two c.signature ++ codes " " ++ four c.owner ++ codes " " ++ four c.size
 
--- a locked block
+-- what follows the KiB of a block that is locked
 abbrev pub lock_text : Bool → List ℕ
 lock_text locked = if locked then codes ", locked" else []
 

@@ -13,11 +13,11 @@ use Rattle.dm_services.specs.Text.{written}
 abbrev pub with_al : State → ℕ → State
 with_al s byte = record s { cpu = with_byte s.cpu Al byte }
 
--- what is left of the input
+-- the state with this input left
 abbrev pub with_input : State → List ℕ → State
 with_input s rest = record s { console = record s.console { input = rest } }
 
--- bytes go out
+-- the state with bytes written to the console
 abbrev pub with_written : State → List ℕ → State
 with_written s bytes = record s { console = written s.console bytes }
 
@@ -25,7 +25,7 @@ with_written s bytes = record s { console = written s.console bytes }
 abbrev pub with_zero : State → Bool → State
 with_zero s b = record s { cpu = record s.cpu { flags = record s.cpu.flags { zero = b } } }
 
--- 07h, 08h: AL is the next byte
+-- 07h, 08h: AL is the next byte of the input; where none is left, the machine stops
 abbrev pub character_of : State → List ℕ → Answer
 character_of s [] = stop_at InputEnded s
 character_of s (byte ∷ rest) = go (interrupt_returned (with_al (with_input s rest) byte))
@@ -34,7 +34,7 @@ character_of s (byte ∷ rest) = go (interrupt_returned (with_al (with_input s r
 unfoldable pub read_character : State → Answer
 read_character s = character_of s s.console.input
 
--- 01h: so it is, and that byte is written
+-- 01h: AL is the next byte of the input, which is written; where none is left, the machine stops
 abbrev pub echo_of : State → List ℕ → Answer
 echo_of s [] = stop_at InputEnded s
 echo_of s (byte ∷ rest) = go (interrupt_returned (with_al (with_written (with_input s rest) (byte ∷ [])) byte))

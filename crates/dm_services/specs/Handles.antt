@@ -14,11 +14,11 @@ with_ax s ax = record s { cpu = record s.cpu { ax = ax } }
 unfoldable pub bad_handle : State → Answer
 bad_handle s = go (with_carry (interrupt_returned (with_ax s 6)) true)
 
--- the bytes stand at DS:DX and upwards
+-- the state with bytes at DS:DX and upwards
 abbrev pub with_read : State → List ℕ → State
 with_read s bytes = record s { memory = with_bytes s.memory s.cpu.ds s.cpu.dx bytes }
 
--- the same, they are taken from the input, AX is their count, CF = 0
+-- 3Fh: bytes of the input come to DS:DX and upwards, and are gone from it; AX is their count, CF = 0
 abbrev pub read_from_console : State → List ℕ → Answer
 read_from_console s bytes =
     go (with_carry (interrupt_returned (with_ax (with_input (with_read s bytes) (drop (length bytes) s.console.input)) (length bytes))) false)

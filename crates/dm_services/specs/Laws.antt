@@ -17,7 +17,7 @@ ServicesHaveOneAnswer = (s : State) (service : Service) (x y : Answer) → Serve
 abbrev pub ServicesKeepTheMap : Type 0
 ServicesKeepTheMap = (s : State) (service : Service) (x : Answer) → Serves s service x → IsShaped s.memory x.state.memory
 
--- and so it does the tables of expanded and of extended memory
+-- each service keeps the tables of expanded and of extended memory
 abbrev pub ServicesKeepTheTables : Type 0
 ServicesKeepTheTables = (s : State) (service : Service) (x : Answer) → Serves s service x → (x.state.ems ≡ s.ems) × (x.state.xms ≡ s.xms)
 

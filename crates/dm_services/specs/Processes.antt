@@ -33,7 +33,7 @@ not_loaded s e = answered s (record s.cpu { ax = code_of e }) s.memory true
 abbrev pub with_processes : State → Processes → Cpu → Memory → State
 with_processes s qs d n = record s { cpu = d; memory = n; processes = qs }
 
--- 4Bh with AL = 0: the child goes on
+-- 4Bh with AL = 0: the child goes on, or the call is refused
 abbrev pub executed : State → Result (Unit {0}) Refusal → Processes → Cpu → Memory → Answer
 executed s (Ok u) qs d n = go (with_processes s qs d n)
 executed s (Err e) qs d n = not_loaded s e

@@ -8,13 +8,13 @@ use Rattle.dm_state.specs.State.{State, Answer}
 abbrev pub Overflows : State → Answer → Type 0
 Overflows s x = s.console.room + length s.console.output < length x.state.console.output
 
--- a result that may be given is one
+-- a result that may be given overflows
 pub record MayWant (s : State) (Gives : Answer → Type 0) : Type 0 where
   pub answer : Answer
   pub gives : Gives answer
   pub overflows : Overflows s answer
 
--- the result is one that may be given; or memory is wanting in its place, and nothing changes
+-- the result is one that may be given; or one of those overflows, memory is wanting, and nothing changes
 abbrev pub OrWants : State → (Answer → Type 0) → Option Stop → State → Type 0
 OrWants s Gives (Some NoMemory) t = MayWant s Gives × (t ≡ s)
 OrWants s Gives stop t = Gives (record { stop = stop; state = t })

@@ -71,7 +71,7 @@ abbrev pub peek16 : Memory → ℕ → ℕ → ℕ
 peek16 m segment offset =
     peek m (linear m.a20 segment offset) + 256 * peek m (linear m.a20 segment ((offset + 1) % 65536))
 
--- the high byte is at the next offset, modulo 65,536
+-- the memory with a word at segment:offset: its high byte is at the next offset, modulo 65,536
 abbrev pub poke16 : Memory → ℕ → ℕ → ℕ → Memory
 poke16 m segment offset v =
     poke (poke m (linear m.a20 segment offset) (v % 256)) (linear m.a20 segment ((offset + 1) % 65536)) (v / 256)

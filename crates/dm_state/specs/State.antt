@@ -72,7 +72,7 @@ pub record Answer : Type 0 where
 abbrev pub go : State → Answer
 go s = record { stop = None; state = record s { steps = min (s.steps + 1) (2 ^ 64 - 1) } }
 
--- no step is made
+-- no step is made, and the machine stops
 abbrev pub stop_at : Stop → State → Answer
 stop_at stop s = record { stop = Some stop; state = s }
 

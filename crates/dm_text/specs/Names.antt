@@ -44,7 +44,7 @@ segment_name Ds = codes "DS"
 
 -- ---- the names of mnemonics; a transfer to another segment, and a short jump, have two words
 
--- the names
+-- the name of a mnemonic, in ASCII
 unfoldable pub name_of : Mnemonic → List ℕ
 name_of op.Add = codes "ADD"
 name_of op.Or = codes "OR"

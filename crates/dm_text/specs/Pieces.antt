@@ -16,11 +16,11 @@ pub data Piece : Type 0 where
 abbrev pub digit : ℕ → ℕ
 digit d = if nat_lt d 10 then 48 + d else 55 + d
 
--- 0, two digits, h
+-- a byte in text: 0, two hexadecimal digits, h
 unfoldable pub byte_digits : ℕ → List ℕ
 byte_digits n = 48 ∷ digit (n / 16) ∷ digit (n % 16) ∷ 104 ∷ []
 
--- 0, four digits, h
+-- a word in text: 0, four hexadecimal digits, h
 unfoldable pub word_digits : ℕ → List ℕ
 word_digits n = 48 ∷ digit (n / 4096) ∷ digit (n / 256 % 16) ∷ digit (n / 16 % 16) ∷ digit (n % 16) ∷ 104 ∷ []
 
@@ -64,7 +64,7 @@ right_bracket = sign 93
 
 -- ---- pieces that a reader can distinguish
 
--- digits and capital letters
+-- the byte may stand in a name: a digit or a capital letter
 abbrev pub is_in_names : ℕ → Bool
 is_in_names b = (nat_le 48 b && nat_le b 57) || (nat_le 65 b && nat_le b 90)
 
@@ -73,7 +73,7 @@ abbrev pub is_name : List ℕ → Bool
 is_name [] = false
 is_name (b ∷ w) = list_all is_in_names (b ∷ w)
 
--- a space and + , : [ ]
+-- the byte is a sign: a space or + , : [ ]
 abbrev pub is_mark : ℕ → Bool
 is_mark b = (b == 32) || (b == 43) || (b == 44) || (b == 58) || (b == 91) || (b == 93)
 

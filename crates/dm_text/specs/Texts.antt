@@ -41,11 +41,11 @@ base_pieces OnDi = name (word_name Di) ∷ []
 base_pieces OnBp = name (word_name Bp) ∷ []
 base_pieces OnBx = name (word_name Bx) ∷ []
 
--- a displacement of 0 is left out after registers
+-- the displacement after registers; 0 is left out
 abbrev pub displacement_pieces : ℕ → List Piece
 displacement_pieces n = if n == 0 then [] else plus ∷ word n ∷ []
 
--- a direct address is a number, also where it is 0
+-- an address; a direct one is a number, also where it is 0
 abbrev pub address_pieces : Address → List Piece
 address_pieces a = elim a.base [ Direct ↦ word a.displacement ∷ [] | _ ↦ base_pieces a.base ++ displacement_pieces a.displacement ]
 
@@ -115,7 +115,7 @@ behind s _ ps = s ∷ ps
 abbrev pub second_pieces : Action → ℕ → List Piece
 second_pieces a next = behind comma a.second (operand_pieces a next a.second)
 
--- the first one after a space
+-- the operands: the first one after a space, the second one after a comma
 abbrev pub operands_pieces : Action → ℕ → List Piece
 operands_pieces a next = behind space a.first (operand_pieces a next a.first ++ second_pieces a next)
 
@@ -132,7 +132,7 @@ mnemonic_pieces m = name (name_of m) ∷ []
 abbrev pub is_accumulator : Operand → Bool
 is_accumulator o = elim o [ operand.WordRegister r ↦ (elim r [ Ax ↦ true | _ ↦ false ]) | _ ↦ false ]
 
--- XCHG AX,AX is written NOP
+-- the action is XCHG AX,AX, which is written NOP
 abbrev pub is_nop : Action → Bool
 is_nop a = elim a.mnemonic [ op.Xchg ↦ (if is_accumulator a.first then is_accumulator a.second else false) | _ ↦ false ]
 

@@ -17,7 +17,7 @@ abbrev pub list_text : List Header → List ℕ
 list_text [] = []
 list_text (b ∷ L) = header_line (signature L) b ++ list_text L
 
--- those of headers that others follow: all are signed `M`
+-- the lines of headers that others follow: all are signed `M`
 abbrev pub front_text : List Header → List ℕ
 front_text [] = []
 front_text (b ∷ P) = header_line 0x4D b ++ front_text P
@@ -30,7 +30,7 @@ end_line = codes "end" ++ 10 ∷ []
 abbrev pub destroyed_line : ℕ → List ℕ
 destroyed_line segment = codes "destroyed at " ++ four segment ++ 10 ∷ []
 
--- what stands before the second list
+-- the line `unlinked`, which stands before the second list
 abbrev pub unlinked_line : List ℕ
 unlinked_line = codes "unlinked" ++ 10 ∷ []
 

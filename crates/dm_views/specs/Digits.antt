@@ -11,7 +11,7 @@ two n = digit (n / 16) ∷ digit (n % 16) ∷ []
 unfoldable pub four : ℕ → List ℕ
 four n = digit (n / 4096) ∷ digit (n / 256 % 16) ∷ digit (n / 16 % 16) ∷ digit (n % 16) ∷ []
 
--- of a number below 2^32
+-- a number below 2^32 as eight hexadecimal digits
 unfoldable pub eight : ℕ → List ℕ
 eight n = four (n / 65536 % 65536) ++ four (n % 65536)
 

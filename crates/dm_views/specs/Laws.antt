@@ -10,10 +10,10 @@ use Rattle.dm_views.specs.Arena.{IsArenaText}
 abbrev pub CodeHasOneText : Type 0
 CodeHasOneText = (m : Memory) (segment offset n : ℕ) (a b : List ℕ) → IsCode m segment offset n a → IsCode m segment offset n b → a ≡ b
 
--- so is that of the registers
+-- the listing of the registers is one text of one state
 abbrev pub RegistersHaveOneText : Type 0
 RegistersHaveOneText = (c : Cpu) (m : Memory) (a b : List ℕ) → IsRegistersText c m a → IsRegistersText c m b → a ≡ b
 
--- so is that of the arena
+-- the listing of the arena is one text of one state
 abbrev pub ArenaHasOneText : Type 0
 ArenaHasOneText = (upper : Bool) (m : Memory) (a b : List ℕ) → IsArenaText upper m a → IsArenaText upper m b → a ≡ b

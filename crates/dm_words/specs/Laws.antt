@@ -41,6 +41,6 @@ SizesAreShown = (a : Action) (v : Width) → size_pieces a v ≡ word_pieces (si
 abbrev pub StandInsAreRead : Type 0
 StandInsAreRead = (stand words : Words) (a : Action) (x : List ℕ) → StandsFor stand words → AreWords words a → SpellsAction a x → (b : Action) × (y : List ℕ) × AreWords stand b × SpellsAction b y
 
--- and both have as many bytes, as `encode` chooses them
+-- words and those that stand for them have as many bytes, as `encode` chooses them
 abbrev pub LengthsAreKnown : Type 0
 LengthsAreKnown = (stand words : Words) (i j : Ins) (x y : List ℕ) → StandsFor stand words → AreWords stand i.action → AreWords words j.action → i.prefixes ≡ j.prefixes → IsPreferred i x → IsPreferred j y → length x ≡ length y

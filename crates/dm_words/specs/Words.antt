@@ -56,7 +56,7 @@ jump_word m s = s
 abbrev pub size_word : Action → Width → Size
 size_word a v = jump_word a.mnemonic (if gives_size a then Absent else width_word v)
 
--- the word that an operand has before it, and the one that is written
+-- the size word that an action has before an operand
 abbrev pub word_before : Action → Operand → Size
 word_before a (operand.Memory v m) = size_word a v
 word_before a _ = Absent

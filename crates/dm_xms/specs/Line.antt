@@ -17,15 +17,15 @@ switched x global local = record { xms = record x.xms { global = global; local =
 unfoldable pub enable_globally : Extended → Extended
 enable_globally x = switched x true x.xms.local
 
--- it acts also where the local count keeps the line on
+-- 04h: the global switch is off. Where the local count keeps the line on, the result says so
 unfoldable pub disable_globally : Extended → (Result (Unit {0}) Status × Extended)
 disable_globally x = (if x.xms.local == 0 then Ok tt else Err LineStillOn, switched x false x.xms.local)
 
--- the count is a word
+-- 05h: the local count is one more; it is a word
 unfoldable pub enable_locally : Extended → Result (Unit {0} × Extended) Status
 enable_locally x = if x.xms.local == 0xFFFF then Err LineError else Ok (tt, switched x x.xms.global (x.xms.local + 1))
 
--- at 0 it changes nothing; else it acts also where the line stays on
+-- 06h: the local count is one less; at 0 nothing changes. Where the line stays on, the result says so
 unfoldable pub disable_locally : Extended → (Result (Unit {0}) Status × Extended)
 disable_locally x =
     if x.xms.local == 0 then (Err LineError, x) else

@@ -41,7 +41,7 @@ with_address cpu address = record cpu { dx = address / 65536 % 65536; bx = addre
 unfoldable pub lock : Caller → Caller
 lock c = after c (rows.lock c.x c.cpu.dx) (with_address c.cpu)
 
--- 0Dh
+-- 0Dh: the block of the handle in DX has one lock less
 unfoldable pub unlock : Caller → Caller
 unlock c = after_tables c (rows.unlock c.x.xms c.cpu.dx) (λ done. c.cpu)
 
@@ -49,7 +49,7 @@ unlock c = after_tables c (rows.unlock c.x.xms c.cpu.dx) (λ done. c.cpu)
 abbrev pub with_information : Cpu → HandleInformation → Cpu
 with_information cpu i = record cpu { bx = i.locks * 256 + i.free; dx = i.kib }
 
--- 0Eh: of the handle in DX
+-- 0Eh: BX and DX are the locks, the free handles and the KiB of the handle in DX
 unfoldable pub tell_information : Caller → Caller
 tell_information c = on_cpu c (settled c.cpu (rows.information c.x.xms c.cpu.dx) (with_information c.cpu))
 

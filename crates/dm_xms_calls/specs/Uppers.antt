@@ -11,7 +11,7 @@ use Rattle.dm_xms.specs.Uppers as rows
 use Rattle.dm_xms.specs.Uppers.{code_of}
 use Rattle.dm_xms_calls.specs.Caller.{Caller, succeeded, refused}
 
--- DX is the paragraphs that could be had, where that is why
+-- DX after a refusal: the paragraphs that could be had, where the size is why
 abbrev pub with_room : Cpu → UpperRefusal → Cpu
 with_room cpu (refusal.Smaller n) = record cpu { dx = n }
 with_room cpu refusal.NoneFree = record cpu { dx = 0 }
