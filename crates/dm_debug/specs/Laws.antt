@@ -1,4 +1,4 @@
--- Laws of runs in a session: what G and T print and leave are functions of the state, unless memory was wanting.
+-- Laws of runs in a session: what G and T print and leave are functions of the state, unless an allocation failed.
 use Rattle.std.specs.Prelude.{◌≡◌, ◌≢◌, ℕ, List, Option, Some, None}
 use Rattle.dm_state.specs.declared.stop.Stop.{Stop}
 use Rattle.dm_state.specs.declared.stop.Stop.TheVariants.{Memory as NoMemory}

@@ -21,7 +21,7 @@ StepHasOneAnswer = (s : State) (x y : Answer) → MakesStep s x → MakesStep s 
 abbrev pub ThereIsOneRun : Type 0
 ThereIsOneRun = (s t u : State) (n : ℕ) → Goes s n t → Goes s n u → t ≡ u
 
--- runs of at most so many steps that meet no want of memory stop for the same reason, in the same state
+-- runs of at most so many steps in which no allocation fails stop for the same reason, in the same state
 abbrev pub RunHasOneStop : Type 0
 RunHasOneStop = (s t u : State) (n : ℕ) (a b : Stop) → IsRun s n a t → IsRun s n b u → a ≢ NoMemory → b ≢ NoMemory → (a ≡ b) × (t ≡ u)
 
@@ -113,14 +113,14 @@ pub data Follows (s : State) : State → Type 0 where
 abbrev pub WantsBeyond : ℕ → State → Type 0
 WantsBeyond bytes t = (x : Answer) → MakesStep t x → bytes < length x.state.console.output
 
--- where there is room for so many bytes, steps and runs that write no more of them don't want memory: one that does
--- stands before a step with which more would have gone out
+-- where there is room for so many bytes, no allocation fails in steps and runs that write no more of them: one in which
+-- one fails stands before a step with which more would have gone out
 abbrev pub RoomIsEnoughForRuns : Type 0
 RoomIsEnoughForRuns =
     (bytes : ℕ) (s t u : State) (n : ℕ) → bytes ≤ s.console.room → Follows s t → IsRun t n NoMemory u →
     WantsBeyond (length s.console.output + bytes) u
 
--- where there is room for so many bytes, a step that writes no more of them doesn't want memory
+-- where there is room for so many bytes, no allocation fails in a step that writes no more of them
 abbrev pub RoomIsEnoughForSteps : Type 0
 RoomIsEnoughForSteps =
     (bytes : ℕ) (s t u : State) → bytes ≤ s.console.room → Follows s t → Answers t (Some NoMemory) u →

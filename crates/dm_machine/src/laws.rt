@@ -21,7 +21,7 @@ pub fn a_step_has_one_answer()
 {}
 
 /// There is one run: from one state, the same number of steps leads to one state; and runs of at
-/// most so many steps stop for one reason in one state, unless one of them wants memory.
+/// most so many steps stop for one reason in one state, unless an allocation fails in one.
 pub fn there_is_one_run()
     ensures steps { ThereIsOneRun }
     ensures stops { RunHasOneStop }

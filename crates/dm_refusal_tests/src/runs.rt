@@ -171,7 +171,7 @@ pub(crate) fn make_steps(rt: &impl Print, alloc: Global) -> Result<()> {
     Ok(())
 }
 
-/// Whether a run that stopped for want of memory is before a service that writes, and has done all before it.
+/// Whether a run that stopped because an allocation failed is before a service that writes, and has done all before it.
 fn stands_before_output(alloc: Global, machine: &Machine) -> Result<bool> {
     let steps = machine.steps();
     let scene = Scene {

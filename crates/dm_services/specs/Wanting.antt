@@ -1,4 +1,4 @@
--- Where memory may be wanting: a step that writes more bytes than the room.
+-- Where an allocation may fail: a step that writes more bytes than the room.
 use Rattle.std.specs.Prelude.{◌≡◌, ◌+◌, ◌<◌, length, Option, Some}
 use Rattle.dm_state.specs.declared.stop.Stop.{Stop}
 use Rattle.dm_state.specs.declared.stop.Stop.TheVariants.{Memory as NoMemory}
@@ -14,7 +14,7 @@ pub record MayWant (s : State) (Gives : Answer → Type 0) : Type 0 where
   pub gives : Gives answer
   pub overflows : Overflows s answer
 
--- the result is one that may be given; or one of those overflows, memory is wanting, and nothing changes
+-- the result is one that may be given; or one of those overflows, an allocation fails, and nothing changes
 abbrev pub OrWants : State → (Answer → Type 0) → Option Stop → State → Type 0
 OrWants s Gives (Some NoMemory) t = MayWant s Gives × (t ≡ s)
 OrWants s Gives stop t = Gives (record { stop = stop; state = t })
