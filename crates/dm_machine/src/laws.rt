@@ -28,8 +28,8 @@ pub fn there_is_one_run()
 {}
 
 /// There is one run up to breakpoints: from one state, such runs of at most as many steps, up to the same breakpoints,
-/// end for one reason in one state, unless one of them wants memory. That a run ends at the first breakpoint to which a
-/// step leads is the law `a_run_until_is_a_run`.
+/// end for one reason in one state, unless an allocation fails in one. That a run ends at the first breakpoint to which
+/// a step leads is the law `a_run_until_is_a_run`.
 pub fn there_is_one_run_until()
     ensures { UntilHasOneStop }
 {}
