@@ -82,8 +82,8 @@ fn check_row(rt: &impl Abort, alloc: Global, row: &str) -> Result<(), Fail> {
     Ok(())
 }
 
-/// Definitions: dm_lines Placing written_of numeral_at number_at label_at standing displaced byte_of; dm_words StandIns
-/// is_move outline_of numeral_outline number_outline label_outline
+/// Definitions: dm_lines Placing written_of numeral_at number_at label_at standing displaced byte_of; dm_words StandIns is_move
+/// outline_of numeral_outline number_outline label_outline
 #[test]
 fn labels_have_places(rt: HostRuntime) -> Result<(), Fail> {
     for row in PLACES.lines() {
