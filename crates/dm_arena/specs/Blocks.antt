@@ -85,7 +85,7 @@ pub record IsFit (upper : Bool) (strategy : Strategy) (n : ℕ) (L : List Header
   pub fit : IsTrue (fits upper strategy n b)
   pub preferred : (c : Header) → IsIn c L → IsTrue (fits upper strategy n c) → IsTrue (prefers strategy b c)
 
--- the block b with n paragraphs of it taken by the owner, at its low or its high end
+-- the block b with n paragraphs at its low end owned; what is left above them is free
 abbrev pub cut_low : ℕ → ℕ → Header → List Header
 cut_low n owner b = cond (b.size == n)
     (record b { owner = owner } ∷ [])

@@ -45,7 +45,7 @@ impl Header {
     }
 
     /// Whether the block is free: it has no owner. Where upper memory belongs to the arena, which
-    /// `upper` tells, the link block counts as taken, whatever its owner.
+    /// `upper` says, the link block counts as taken, whatever its owner.
     pub fn is_free(self, upper: bool) -> bool
         ensures { result ≡ Chain.is_free upper self }
     {

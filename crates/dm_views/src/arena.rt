@@ -90,7 +90,7 @@ fn put_unlinked(out: &mut Vec<u8>, first: Headers<'_>) -> Result<(), AllocError>
 }
 
 /// Puts the headers of the arena, a line each: segment, signature, owner and size; then `end`, or where the first
-/// stands that breaks the list. Where upper memory belongs to the arena, which `upper` tells, and the list ends but
+/// stands that breaks the list. Where upper memory belongs to the arena, which `upper` says, and the list ends but
 /// isn't linked with that of upper memory, `unlinked` follows and the second list, from the link block on, in the same
 /// form; a header on a place of the first breaks it. There are at most FF00h headers in a list.
 ///
