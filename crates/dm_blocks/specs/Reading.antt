@@ -33,7 +33,7 @@ pub record IsFoundAt (S : Memory) (L : List Header) (segment : ℕ) (e : Entry) 
   pub last : e.last ≡ is_nil Q
   pub rest : Spells S (next e.header) Q
 
--- the entry of the list from a segment on whose block begins at a second segment; None where no list has one
+-- a search of the list from a segment on for the block that begins at a second segment; None where there is none
 abbrev pub FindsBlock : Memory → ℕ → ℕ → Option Entry → Type 0
 FindsBlock S start segment None = (L : List Header) → IsSpelledFrom S start L → NoBlockAt L segment
 FindsBlock S start segment (Some e) = (L : List Header) → IsSpelledFrom S start L → (P : List Header) × (Q : List Header) × IsFoundAt S L segment e P Q
@@ -50,7 +50,7 @@ pub record IsEndingAt (S : Memory) (L : List Header) (segment : ℕ) (e : Entry)
   pub last : e.last ≡ is_nil Q
   pub rest : Spells S (next e.header) Q
 
--- the entry of the list from a segment on whose block ends at a second segment; None where no list has one
+-- a search of the list from a segment on for the block that ends at a second segment; None where there is none
 abbrev pub EndsBefore : Memory → ℕ → ℕ → Option Entry → Type 0
 EndsBefore S start segment None = (L : List Header) → IsSpelledFrom S start L → NoEndAt L segment
 EndsBefore S start segment (Some e) = (L : List Header) → IsSpelledFrom S start L → (P : List Header) × (Q : List Header) × IsEndingAt S L segment e P Q

@@ -155,7 +155,7 @@ pair m n = bare m ∷ bare n ∷ []
 
 -- ---- the table, 16 first bytes after each comment
 
--- the 256 entries, by first byte; the bytes of prefixes have none
+-- the 256 entries, by first byte; bytes of prefixes, and those that begin no instruction, have none
 abbrev pub entries : List Entry
 entries =
     -- 00
