@@ -50,8 +50,8 @@ class Definition:
         return "/specs/inner/" in self.path
 
     def size(self):
-        """Its lines, with those of its comment."""
-        return len(self.lines) + len(self.comment)
+        """Its lines without comments: neither the one above it, nor those of its fields."""
+        return sum(not line.strip().startswith("--") for line in self.lines)
 
     def meaning(self):
         """Its comment, or else those of its fields."""

@@ -1,4 +1,4 @@
--- Allocation: what it answers, and what it leaves.
+-- Allocation: what it returns, and what it leaves.
 -- MS-DOS Programmer's Reference, function 48h.
 use Rattle.std.specs.Prelude.{Bool, Err, IsTrue, List, Ok, Result, ℕ, ◌++◌, ◌+◌, ◌∷◌, ◌≡◌, ◌⊎◌}
 use Rattle.dm_space.specs.Memory.{Memory}

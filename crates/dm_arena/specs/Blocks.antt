@@ -19,6 +19,7 @@ abbrev pub join_after : Bool → Header → List Header → List Header
 join_after upper b [] = b ∷ []
 join_after upper b (c ∷ L) = cond (is_free upper b && is_free upper c) (join_after upper (merge b c) L) (b ∷ join_after upper c L)
 
+-- the list L with each run of free blocks made one
 abbrev pub join : Bool → List Header → List Header
 join upper [] = []
 join upper (b ∷ L) = join_after upper b L
@@ -41,6 +42,7 @@ in_effect upper L strategy = record strategy { area = if upper && is_linked L th
 abbrev pub is_candidate : Bool → Strategy → Header → Bool
 is_candidate upper strategy b = is_free upper b && is_in strategy.area b
 
+-- the paragraphs of a block that the strategy looks at; 0 for any other one
 abbrev pub free_size : Bool → Strategy → Header → ℕ
 free_size upper strategy b = cond (is_candidate upper strategy b) b.size 0
 
@@ -49,6 +51,7 @@ abbrev pub largest : Bool → Strategy → List Header → ℕ
 largest upper strategy [] = 0
 largest upper strategy (b ∷ L) = max (free_size upper strategy b) (largest upper strategy L)
 
+-- the strategy looks at the block, and the block has at least n paragraphs
 abbrev pub fits : Bool → Strategy → ℕ → Header → Bool
 fits upper strategy n b = is_candidate upper strategy b && nat_le n b.size
 
@@ -62,6 +65,7 @@ prefers_by Last b c = nat_le c.segment b.segment
 abbrev pub before_or : Bool → Bool → Bool → Bool
 before_or b c test = cond b (not c || test) (not c && test)
 
+-- the fit decides, but with `UpperFirst` a block of upper memory comes before one of conventional memory
 abbrev pub prefers_in : Area → Fit → Header → Header → Bool
 prefers_in All fit b c = prefers_by fit b c
 prefers_in Upper fit b c = prefers_by fit b c
@@ -71,6 +75,7 @@ prefers_in UpperFirst fit b c = before_or (is_upper b) (is_upper c) (prefers_by 
 abbrev pub prefers : Strategy → Header → Header → Bool
 prefers strategy b c = prefers_in strategy.area strategy.fit b c
 
+-- the list has the header b
 abbrev pub IsIn : Header → List Header → Type 0
 IsIn b [] = ⊥
 IsIn b (c ∷ L) = (b ≡ c) ⊎ IsIn b L
@@ -80,17 +85,19 @@ pub record IsFit (upper : Bool) (strategy : Strategy) (n : ℕ) (L : List Header
   pub fit : IsTrue (fits upper strategy n b)
   pub preferred : (c : Header) → IsIn c L → IsTrue (fits upper strategy n c) → IsTrue (prefers strategy b c)
 
--- the block b with n paragraphs of it taken by the owner, at its low or its high end
+-- the block b with n paragraphs at its low end owned; what is left above them is free
 abbrev pub cut_low : ℕ → ℕ → Header → List Header
 cut_low n owner b = cond (b.size == n)
     (record b { owner = owner } ∷ [])
     (record { segment = b.segment; owner = owner; size = n } ∷ record { segment = b.segment + 1 + n; owner = 0; size = b.size - n - 1 } ∷ [])
 
+-- the block b with n paragraphs at its high end owned; what is left below them is free
 abbrev pub cut_high : ℕ → ℕ → Header → List Header
 cut_high n owner b = cond (b.size == n)
     (record b { owner = owner } ∷ [])
     (record { segment = b.segment; owner = 0; size = b.size - n - 1 } ∷ record { segment = b.segment + b.size - n; owner = owner; size = n } ∷ [])
 
+-- the block b cut by its fit: at the low end for first and best fit, at the high end for last fit
 abbrev pub cut_block : Fit → ℕ → ℕ → Header → List Header
 cut_block First n owner b = cut_low n owner b
 cut_block Best n owner b = cut_low n owner b

@@ -23,7 +23,7 @@ abbrev pub BeginsAt : List Header → ℕ → Type 0
 BeginsAt [] segment = ⊥
 BeginsAt (b ∷ L) segment = b.segment ≡ segment
 
--- the arena is so already, and nothing changes
+-- the arena is linked already where it is to be, or parted where it is to be, and nothing changes
 pub record IsSo (S : Memory) (on : Bool) (T : Memory) : Type 0 where
   pub list : List Header
   pub arena : IsArena S first_header list

@@ -24,6 +24,7 @@ pub record BlockAt (upper : Bool) (S : Memory) (start : ℕ) (segment : ℕ) : T
   pub at : block.segment + 1 ≡ segment
   pub other : is_link_block upper segment ≡ false
 
+-- the block with no owner
 abbrev pub freed : Header → Header
 freed b = record b { owner = 0 }
 
@@ -31,6 +32,7 @@ freed b = record b { owner = 0 }
 abbrev pub IsNoBlock : Bool → List Header → ℕ → Type 0
 IsNoBlock upper L segment = NoBlockAt L segment ⊎ (is_link_block upper segment ≡ true)
 
+-- why a block is not freed: the arena is destroyed, or the segment has no block that may be freed
 abbrev pub FreeRefused : Bool → Memory → ℕ → ℕ → ArenaRefusal → Type 0
 FreeRefused upper S start segment Destroyed = NoArena S start
 FreeRefused upper S start segment (Short most) = ⊥
@@ -47,15 +49,17 @@ abbrev pub absorb : Header → List Header → Header
 absorb b [] = b
 absorb b (c ∷ R) = absorb (merge b c) R
 
+-- each block of the list is free
 abbrev pub AllFree : Bool → List Header → Type 0
 AllFree upper [] = Unit {0}
 AllFree upper (b ∷ L) = (is_free upper b ≡ true) × AllFree upper L
 
+-- the list is empty, or its first block is not free
 abbrev pub BeginsTaken : Bool → List Header → Type 0
 BeginsTaken upper [] = Unit {0}
 BeginsTaken upper (b ∷ L) = is_free upper b ≡ false
 
--- the arena, its block at a segment, which isn't the link block, and the run of free blocks behind it
+-- the arena, its block at a segment, which isn't the link block, and the run of free blocks after it
 pub record BlockRunAt (upper : Bool) (S : Memory) (start : ℕ) (segment : ℕ) : Type 0 where
   pub list : List Header
   pub before : List Header
@@ -84,10 +88,11 @@ abbrev pub Resizes : Bool → Memory → ℕ → ℕ → Result (Unit {0}) Arena
 Resizes upper S segment n (Ok u) T = (r : BlockRunAt upper S first_header segment) × (n ≤ (absorb r.block r.run).size) × Becomes S first_header (resized r n) T
 Resizes upper S segment n (Err e) T = (T ≡ S) × ResizeRefused upper S first_header segment n e
 
--- each block of the owner made free
+-- the block, made free if it is the owner's
 abbrev pub released_block : ℕ → Header → Header
 released_block owner b = record b { owner = (if b.owner == owner then 0 else b.owner) }
 
+-- the list with each block of the owner made free
 abbrev pub released : ℕ → List Header → List Header
 released owner [] = []
 released owner (b ∷ L) = released_block owner b ∷ released owner L

@@ -40,7 +40,7 @@ PairRefused upper S start strategy environment least most (Short room) =
     × ((owner size : ℕ) → Pairing upper S start strategy environment least most owner size → ⊥)
 PairRefused upper S start strategy environment least most NoBlock = ⊥
 
--- what a pair tells: the segments of both blocks, of which the program's owns both, and its size; and the headers that
+-- a planned pair: the segments of both blocks, of which the program's owns both, and its size; and the headers that
 -- stand in the place of those of the blocks that are cut
 pub record Planned : Type 0 where
   pub environment : ℕ
@@ -63,6 +63,7 @@ pub record Placed : Type 0 where
   pub program : ℕ
   pub size : ℕ
 
+-- where the blocks of a planned pair are
 abbrev pub placed_of : Planned → Placed
 placed_of pair = record { environment = pair.environment; program = pair.program; size = pair.size }
 

@@ -1,7 +1,7 @@
 //! Lists of blocks before and after one call of the arena, worked by hand.
 //!
-//! A list is told by the owner and the size of each block. Its first header stands at 0100h, each
-//! next one behind the block before it, and the last one is `Z`.
+//! A list is written as the owner and the size of each block. Its first header stands at 0100h, each
+//! next one after the block before it, and the last one is `Z`.
 
 use self::Call::{Allocate, Free, FreeAll, Pair, Resize};
 use crate::checks::same;
@@ -95,7 +95,7 @@ fn pair(
     Ok(placed)
 }
 
-/// Makes a call for the owner 7. It answers the segment of an allocated block, of two blocks where
+/// Makes a call for the owner 7. It returns the segment of an allocated block, of two blocks where
 /// they are and the second one's size, else zeros.
 pub(crate) fn answer(space: &mut Space, call: Call) -> Result<(u16, u16, u16), ArenaRefusal> {
     match call {
@@ -107,7 +107,7 @@ pub(crate) fn answer(space: &mut Space, call: Call) -> Result<(u16, u16, u16), A
     }
 }
 
-/// Makes a call and compares what it answers and leaves.
+/// Makes a call and compares what it returns and leaves.
 fn leaves(
     rt: &impl Abort,
     alloc: Global,
@@ -147,7 +147,7 @@ fn blocks_are_resized_and_freed(rt: HostRuntime) -> Result<(), Fail> {
             &[(7, 4), (0, 10), (7, 1)],
         ),
         (&[(7, 8), (0, 3)], Resize(0x101, 11), &[(7, 11), (0, 0)]),
-        // shrunk with none behind it, to nothing, and left as it is
+        // shrunk with none after it, to nothing, and left as it is
         (
             &[(7, 3), (9, 1)],
             Resize(0x101, 1),
@@ -163,7 +163,7 @@ fn blocks_are_resized_and_freed(rt: HostRuntime) -> Result<(), Fail> {
             Resize(0x101, 3),
             &[(7, 3), (0, 2), (9, 1)],
         ),
-        // grown over all of the free blocks behind it
+        // grown over all of the free blocks after it
         (
             &[(9, 1), (0, 3), (0, 2), (7, 1)],
             Resize(0x101, 8),
@@ -469,7 +469,7 @@ fn refused_calls_leave_the_list(rt: HostRuntime) -> Result<(), Fail> {
     let short = |largest| ArenaRefusal::Short { largest };
     let runs = [(0, 2), (0, 3), (9, 1), (0, 1), (0, 1)];
     let rows: [(&[(u16, u16)], Call, ArenaRefusal); 22] = [
-        // what is told is the largest block once runs are joined
+        // what is reported is the largest block once runs are joined
         (&runs, Allocate(first, 7), short(6)),
         (&runs, Allocate(best, 7), short(6)),
         (&runs, Allocate(last, 0xFFFF), short(6)),
@@ -478,7 +478,7 @@ fn refused_calls_leave_the_list(rt: HostRuntime) -> Result<(), Fail> {
         (&runs, Pair(first, 1, 0x1_0000, 0x2_0000), short(6)),
         (&[(7, 1)], Allocate(first, 0), short(0)),
         (&[(0, 1), (9, 1)], Pair(first, 1, 0, 5), short(1)),
-        // a block grows over the free ones behind it, and over no other
+        // a block grows over the free ones after it, and over no other
         (
             &[(7, 1), (0, 3), (0, 2), (9, 1)],
             Resize(0x101, 9),
@@ -522,7 +522,7 @@ fn bytes_that_spell_no_list(rt: HostRuntime) -> Result<(), Fail> {
         (&[(7, 2)], 0x00, b'z'),
         (&[(7, 2), (0, 3)], 0x30, b'M'),
         (&[(7, 2), (0, 3)], 0x30, 0),
-        // a last block that ends behind FFFFh, and a header at C000h
+        // a last block that ends past FFFFh, and a header at C000h
         (&[(0, 0xFEFF)], 0x00, b'Z'),
         (&[(7, 0xBEFF), (0, 1)], 0x00, b'M'),
     ];

@@ -1,6 +1,6 @@
 //! Lists of blocks that go through the frame, upper memory, ROM or nothing, worked by hand.
 //!
-//! Windows are told by the pages that they show, 1 to 4, or 0 for none. A list is told by the owner
+//! Windows are written as the pages that they show, 1 to 4, or 0 for none. A list is written as the owner
 //! and the size of each block from 0100h on: with a first block of h - 101h paragraphs the second
 //! header stands at h.
 
@@ -81,7 +81,7 @@ fn is_memory(rt: &impl Abort, call: Call, space: &Space, wanted: &Space) {
 
 type Windows = [usize; 4];
 
-/// Makes a call, whatever A20 is, and compares what it answers and leaves.
+/// Makes a call, whatever A20 is, and compares what it returns and leaves.
 fn leaves(
     rt: &impl Abort,
     alloc: Global,
@@ -406,13 +406,13 @@ fn new_headers_need_a_place_of_their_own(rt: HostRuntime) -> Result<(), Fail> {
             &[(7, 0xDEFE), (0, 0x1000)],
             Pair(first, 0x10, 0x3FF, 0x3FF),
         ),
-        // on the place of E011h, a free block behind another one, which stay apart
+        // on the place of E011h, a free block after another one, which stay apart
         (
             [1, 2, 1, 3],
             &[(9, 0xDEFF), (0, 0x10), (0, 0x3EE), (7, 0x7FF), (9, 1)],
             Resize(0xE401, 0x410),
         ),
-        // at E010h, on the place of E810h behind it
+        // at E010h, on the place of E810h after it
         (
             [1, 2, 1, 3],
             &[(9, 0xDEFF), (7, 0x80F), (9, 1)],
@@ -452,7 +452,7 @@ fn lists_that_are_not_clear(rt: HostRuntime) -> Result<(), Fail> {
         ([1, 2, 3, 4], &[(7, 0xCEFE), (0, 1)]),
         ([1, 2, 3, 4], &[(7, 0xEEFF), (0, 1)]),
         ([1, 2, 3, 4], &[(7, 0xFEFE), (0, 1)]),
-        // the last block ends behind FFFFh
+        // the last block ends past FFFFh
         (NONE, &[(7, 0xBEFE), (0, 0x4000)]),
         ([1, 2, 3, 4], &[(7, 0xEEFE), (0, 0x1000)]),
     ];

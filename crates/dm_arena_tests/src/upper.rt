@@ -2,7 +2,7 @@
 //! look at upper memory, and endings in both lists.
 //!
 //! A program with its prefix at 0103h has all of conventional memory: its environment's header
-//! stands at 0100h, its own at 0102h. The link block's header stands at 9FFFh, and behind it at D000h
+//! stands at 0100h, its own at 0102h. The link block's header stands at 9FFFh, and after it at D000h
 //! that of the free block of upper memory.
 
 use self::Act::{Allocates, Frees, FreesAll, Links, Pairs, Resizes, Stands, Tells, Writes};
@@ -18,7 +18,7 @@ use std::alloc::Global;
 use std::process::Abort;
 use std::test::Fail;
 
-/// A call with what it answers, or a header.
+/// A call with what it returns, or a header.
 #[derive(Clone, Copy, Debug, PartialEq, Eq)]
 enum Act {
     /// Whether the lists are linked.
@@ -80,7 +80,7 @@ fn pair(
     Ok(placed)
 }
 
-/// Makes the call of an act; the act with what was answered.
+/// Makes the call of an act; the act with its result.
 fn done(space: &mut Space, act: Act) -> Act {
     match act {
         Tells(_) => Tells(linked(space)),

@@ -24,26 +24,26 @@ written_for labels m next term = do
   place ← term_place labels term
   written_of m term place next
 
--- what is written in an instruction
+-- what is written in an instruction, with the places of its labels
 abbrev pub placed_words : List Label → ℕ → Instruction → Option Words
 placed_words labels next i = do
   first ← written_for labels i.mnemonic next i.first
   second ← written_for labels i.mnemonic next i.second
   Some (record { mnemonic = i.mnemonic; first = first; second = second })
 
--- the word that a value is
+-- the word that a value is, with the place of its label
 abbrev pub value_word : List Label → Value → Option ℕ
 value_word labels v = do
   place ← label_place labels v
   standing v place
 
--- the low byte of a word stands first
+-- a word as two bytes, low byte first
 abbrev pub low_high : ℕ → List ℕ
 low_high w = w % 256 ∷ w / 256 ∷ []
 
 -- ---- before labels have places
 
--- what is written in an instruction
+-- what is written in an instruction, before its labels have places
 abbrev pub outlined : Instruction → Words
 outlined i = record { mnemonic = i.mnemonic; first = outline_of i.mnemonic i.first; second = outline_of i.mnemonic i.second }
 

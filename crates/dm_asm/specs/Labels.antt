@@ -21,6 +21,7 @@ abbrev pub place_from : List Label → Option Name'.Name → Option ℕ
 place_from labels None = Some 0
 place_from labels (Some name) = find name labels
 
+-- where the label of a value stands, an offset in the program's segment; 0 for a number alone
 abbrev pub label_place : List Label → Value → Option ℕ
 label_place labels v = place_from labels v.label
 

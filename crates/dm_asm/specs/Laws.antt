@@ -14,7 +14,7 @@ use Rattle.dm_asm.specs.Codes.{placed_words}
 use Rattle.dm_asm.specs.Lines.{lines_of}
 use Rattle.dm_asm.specs.Programs.{Sized, Laid, labels_of, total, longest_program, Assembles, IsAnswer}
 
--- a text has one answer: the same bytes always, or no bytes and the same refusal
+-- a text has one result: the same bytes always, or no bytes and the same refusal
 abbrev pub TextsHaveOneAnswer : Type 0
 TextsHaveOneAnswer = (text : List ℕ) (a b : Result (List ℕ) AssemblyRefusal) → IsAnswer text a → IsAnswer text b → a ≡ b
 
@@ -22,7 +22,7 @@ TextsHaveOneAnswer = (text : List ℕ) (a b : Result (List ℕ) AssemblyRefusal)
 abbrev pub ListingsAssemble : Type 0
 ListingsAssemble = (bytes text : List ℕ) → AllByRecursion (λ b. b < 2 ^ 8) bytes → length bytes ≤ longest_program → IsListing bytes text → Assembles text bytes
 
--- so what a text that is such lines is answered is these bytes, and no refusal
+-- so a text of such lines assembles to these bytes, and is not refused
 abbrev pub ListingsAreAnswered : Type 0
 ListingsAreAnswered = (bytes text : List ℕ) (answer : Result (List ℕ) AssemblyRefusal) → AllByRecursion (λ b. b < 2 ^ 8) bytes → length bytes ≤ longest_program → IsListing bytes text → IsAnswer text answer → answer ≡ Ok bytes
 
@@ -37,7 +37,7 @@ pub record IsSpelled (labels : List Label) (bytes : List ℕ) (at long : ℕ) (i
   pub stands : StandsInFile bytes at ins long
   pub preferred : IsPreferred ins (bytes_at bytes at long)
 
--- the bytes of a text spell each of its instructions at the instruction's place, which is behind the bytes of all
+-- the bytes of a text spell each of its instructions at the instruction's place, which is after the bytes of all
 -- statements before it
 abbrev pub TextsAreSpelled : Type 0
 TextsAreSpelled = (text bytes : List ℕ) (before after : List Sized) (x : Sized) (i : Instruction) → Assembles text bytes → Laid (lines_of text) (before ++ x ∷ after) → x.statement.item ≡ instruction i → IsSpelled (labels_of (before ++ x ∷ after)) bytes (total before) x.long i

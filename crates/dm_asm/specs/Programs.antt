@@ -1,5 +1,5 @@
 -- The program that a text is: a statement a line, each label at the offset of its statement, the bytes of each
--- statement behind those of the ones before it, from offset 0100h on; and what is first wrong with a text that is none.
+-- statement after those of the ones before it, from offset 0100h on; and what is first wrong with a text that is none.
 -- Nothing here goes over a text in passes.
 -- Source: Intel 8086 Family User's Manual, section 2.9 (ASM-86); the order of refusals is this machine's own
 -- (docs/DECISIONS.md).
@@ -36,6 +36,7 @@ abbrev pub total : List Sized → ℕ
 total [] = 0
 total (x ∷ xs) = x.long + total xs
 
+-- the label of a statement at an offset, if it has one
 abbrev pub own_label : Option Name'.Name → ℕ → List Label
 own_label None at = []
 own_label (Some name) at = record { name = name; place = at } ∷ []
@@ -45,7 +46,7 @@ abbrev pub labels_from : ℕ → List Sized → List Label
 labels_from at [] = []
 labels_from at (x ∷ xs) = own_label x.statement.label at ++ labels_from (at + x.long) xs
 
--- a program begins at offset 0100h
+-- the labels of a program, which begins at offset 0100h
 abbrev pub labels_of : List Sized → List Label
 labels_of xs = labels_from 0x100 xs
 
@@ -61,18 +62,19 @@ pub record Laid (lines : List (List ℕ)) (xs : List Sized) : Type 0 where
 
 -- ---- the program
 
--- a program has at most 65,278 bytes: the segment's 10000h without the 0100h before it and the two of the stack behind
+-- a program has at most 65,278 bytes: the segment's 10000h without the 0100h before it and the two of the stack after
 -- it
 abbrev pub longest_program : ℕ
 longest_program = 65278
 
--- each statement has its piece of the bytes, at the offset behind the pieces before it
+-- each statement has its piece of the bytes, at the offset after the pieces before it
 abbrev pub AreCoded : List Label → ℕ → List Sized → List (List ℕ) → Type 0
 AreCoded labels at [] [] = Unit {0}
 AreCoded labels at [] (p ∷ ps) = ⊥
 AreCoded labels at (x ∷ xs) [] = ⊥
 AreCoded labels at (x ∷ xs) (p ∷ ps) = Codes labels at x.statement.item p × AreCoded labels (at + length p) xs ps
 
+-- the pieces, one after the other
 abbrev pub joined : List (List ℕ) → List ℕ
 joined [] = []
 joined (p ∷ ps) = p ++ joined ps
@@ -88,7 +90,7 @@ pub record Assembles (text bytes : List ℕ) : Type 0 where
 
 -- ---- refusals
 
--- line n, counted from 1, behind lines that all read, with no label twice
+-- line n, counted from 1, after lines that all read, with no label twice
 pub record IsBehindGood (text : List ℕ) (n : ℕ) (line : List ℕ) (xs : List Sized) : Type 0 where
   pub before : List (List ℕ)
   pub after : List (List ℕ)

@@ -1,6 +1,6 @@
 //! Bytes and their lines, and the way back.
 //!
-//! A row is bytes and their lines, as `8B C3| DB 08Bh,0C3h ; MOV AX,BX`; behind each line stands `/`.
+//! A row is bytes and their lines, as `8B C3| DB 08Bh,0C3h ; MOV AX,BX`; after each line stands `/`.
 
 use crate::checks::same;
 use crate::rows::{part, put_bytes};

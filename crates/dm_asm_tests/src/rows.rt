@@ -13,7 +13,7 @@ use std::alloc::Global;
 use std::process::Abort;
 use std::test::Fail;
 
-/// A part of a row: 0 what stands before the first `|`, 1 what stands behind it.
+/// A part of a row: 0 what stands before the first `|`, 1 what stands after it.
 pub(crate) fn part(row: &str, number: usize) -> Result<&str, Fail> {
     Ok(row.split('|').nth(number).ok_or("a part is missing")?)
 }
@@ -61,7 +61,7 @@ fn text_of(alloc: Global, written: &str) -> Result<String, Fail> {
     Ok(text)
 }
 
-/// Bytes as an answer tells them.
+/// Bytes as an answer shows them.
 pub(crate) fn shown(alloc: Global, bytes: &[u8]) -> Result<String, Fail> {
     let mut text = String::new(alloc);
     for (at, byte) in bytes.iter().enumerate() {

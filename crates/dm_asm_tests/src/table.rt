@@ -1,4 +1,4 @@
-//! Each row of the instruction table once: its text as a listing tells it, and its preferred bytes, by the manual
+//! Each row of the instruction table once: its text as a listing shows it, and its preferred bytes, by the manual
 //! (Intel 8086 Family User's Manual, section 4, tables 4-13 and 4-14), written by hand. Together they are one program,
 //! which is assembled to its bytes and listed as its text again.
 //!

@@ -22,7 +22,7 @@ link_header = 0x9FFF
 abbrev pub word : Memory → ℕ → ℕ
 word S a = peek S a + 256 * peek S (a + 1)
 
--- the segment behind the block of a header
+-- the segment after the block of a header
 abbrev pub next : Header → ℕ
 next b = b.segment + 1 + b.size
 
@@ -51,6 +51,7 @@ abbrev pub signature : List Header → ℕ
 signature [] = signature_byte true
 signature (c ∷ L) = signature_byte false
 
+-- the list has a header
 abbrev pub IsNonEmpty : List Header → Type 0
 IsNonEmpty [] = ⊥
 IsNonEmpty (b ∷ L) = Unit {0}

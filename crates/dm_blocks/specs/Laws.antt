@@ -5,9 +5,11 @@ use Rattle.dm_blocks.specs.declared.header.Header.{Header}
 use Rattle.dm_blocks.specs.Chain.{first_header, IsChain}
 use Rattle.dm_blocks.specs.Listing.{Leads, start_of}
 
+-- memory spells at most one list from a segment on
 abbrev pub ChainIsUnique : Type 0
 ChainIsUnique = (S : Memory) (start : ℕ) (L M : List Header) → IsChain S start L → IsChain S start M → L ≡ M
 
+-- a list that memory spells from the first header on has at most 65,280 headers
 abbrev pub ChainIsShort : Type 0
 ChainIsShort = (S : Memory) (L : List Header) → IsChain S first_header L → length L ≤ 0xFF00
 

@@ -1,5 +1,5 @@
--- A walk that tells the headers of a list one by one, up to the end or the first that breaks the list. The second list
--- is walked over behind the first one, and must be clear with it.
+-- A walk over the headers of a list, one by one, up to the end or the first that breaks the list. The second list
+-- is walked over after the first one, and must be clear with it.
 use Rattle.std.specs.Prelude.{◌≡◌, ℕ, List, [], ◌∷◌, ◌++◌, Bool, Option, Some, None, false, true, if◌then◌else◌, IfSome}
 use Rattle.dm_space.specs.Memory.{Memory}
 use Rattle.dm_blocks.specs.declared.header.Header.{Header}
@@ -8,8 +8,8 @@ use Rattle.dm_blocks.specs.declared.listing.Step.{Step}
 use Rattle.dm_blocks.specs.declared.listing.Step.TheVariants.{Told, End, Destroyed}
 use Rattle.dm_blocks.specs.Chain.{first_header, link_header, next, signature_byte, AreApart, IsHeader, IsClear, IsArena, IsArenaBehind, NoArenaBehind}
 
--- the memory that is walked over; whether it is the second list, behind the first one; and the segment where the next
--- header has to stand, none once the last was told
+-- the memory that is walked over; whether it is the second list, after the first one; and the segment where the next
+-- header has to stand, none once the walk is at the end
 pub record Walking : Type 0 where
   pub memory : Memory
   pub second : Bool
@@ -19,7 +19,7 @@ pub record Walking : Type 0 where
 abbrev pub start_of : Bool → ℕ
 start_of second = if second then link_header else first_header
 
--- the headers of the list behind which a walk goes: for the second list those of the first, for the first one none
+-- the headers of the list after which a walk goes: for the second list those of the first, for the first one none
 abbrev pub IsBehind : Memory → Bool → List Header → Type 0
 IsBehind S false F = F ≡ []
 IsBehind S true F = IsArena S first_header F
@@ -29,7 +29,7 @@ abbrev pub Path : Memory → ℕ → List Header → ℕ → Type 0
 Path S h [] t = h ≡ t
 Path S h (b ∷ P) t = (b.segment ≡ h) × IsHeader S b 0x4D × Path S (next b) P t
 
--- behind the headers F the headers P, that may stand in a list, lead from its first segment to the segment t
+-- after the headers F the headers P, that may stand in a list, lead from its first segment to the segment t
 pub record Leads (S : Memory) (F : List Header) (start : ℕ) (P : List Header) (t : ℕ) : Type 0 where
   pub path : Path S start P t
   pub clear : IsClear S (F ++ P)
@@ -46,7 +46,7 @@ pub record Follows (S : Memory) (F P : List Header) (t : ℕ) (e : Entry) : Type
 abbrev pub Closes : Memory → List Header → ℕ → List Header → Entry → Type 0
 Closes S F start P e = e.last ≡ true → IsArenaBehind S F start (P ++ e.header ∷ [])
 
--- a step from the segment t, behind the headers P
+-- a step from the segment t, after the headers P
 abbrev pub IsStepFrom : Memory → List Header → ℕ → ℕ → Step → Option ℕ → Type 0
 IsStepFrom S F start t (Told e) at =
     (at ≡ (if e.last then None else Some (next e.header))) × ((P : List Header) → Leads S F start P t → Follows S F P t e × Closes S F start P e)
@@ -54,14 +54,14 @@ IsStepFrom S F start t End at = ⊥
 IsStepFrom S F start t (Destroyed h) at =
     (h ≡ t) × (at ≡ Some t) × NoArenaBehind S F start × ((P : List Header) → Leads S F start P t → (e : Entry) → Follows S F P t e → ⊥)
 
--- the header at the present segment is told, or it breaks the list; behind the last one is the end
+-- the header at the present segment is returned, or it breaks the list; after the last one comes the end
 abbrev pub IsStep : Memory → List Header → ℕ → Option ℕ → Step → Option ℕ → Type 0
 IsStep S F start (Some t) step at = IsStepFrom S F start t step at
 IsStep S F start None (Told e) at = ⊥
 IsStep S F start None End at = at ≡ None
 IsStep S F start None (Destroyed h) at = ⊥
 
--- the headers told lead to where the walk stands
+-- the headers so far lead to where the walk stands
 abbrev pub AreTold : Memory → List Header → ℕ → Option ℕ → Type 0
 AreTold S F start at = IfSome at (λ t. (P : List Header) × Leads S F start P t)
 

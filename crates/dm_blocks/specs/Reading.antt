@@ -15,6 +15,7 @@ pub record IsSpelledFrom (S : Memory) (h : ℕ) (L : List Header) : Type 0 where
   pub nonempty : IsNonEmpty L
   pub spells : Spells S h L
 
+-- the list has no header
 abbrev pub is_nil : List Header → Bool
 is_nil [] = true
 is_nil (b ∷ L) = false
@@ -25,12 +26,14 @@ pub record IsFront (S : Memory) (L : List Header) (e : Entry) (K : List Header) 
   pub last : e.last ≡ is_nil K
   pub rest : Spells S (next e.header) K
 
+-- e is the header of L whose block begins at the segment; P are the headers before it, Q those after it
 pub record IsFoundAt (S : Memory) (L : List Header) (segment : ℕ) (e : Entry) (P Q : List Header) : Type 0 where
   pub is : L ≡ P ++ e.header ∷ Q
   pub at : e.header.segment + 1 ≡ segment
   pub last : e.last ≡ is_nil Q
   pub rest : Spells S (next e.header) Q
 
+-- a search of the list from a segment on for the block that begins at a second segment; None where there is none
 abbrev pub FindsBlock : Memory → ℕ → ℕ → Option Entry → Type 0
 FindsBlock S start segment None = (L : List Header) → IsSpelledFrom S start L → NoBlockAt L segment
 FindsBlock S start segment (Some e) = (L : List Header) → IsSpelledFrom S start L → (P : List Header) × (Q : List Header) × IsFoundAt S L segment e P Q
@@ -40,12 +43,14 @@ abbrev pub NoEndAt : List Header → ℕ → Type 0
 NoEndAt [] segment = Unit {0}
 NoEndAt (b ∷ L) segment = (next b ≢ segment) × NoEndAt L segment
 
+-- e is the header of L whose block ends where the segment begins; P are the headers before it, Q those after it
 pub record IsEndingAt (S : Memory) (L : List Header) (segment : ℕ) (e : Entry) (P Q : List Header) : Type 0 where
   pub is : L ≡ P ++ e.header ∷ Q
   pub at : next e.header ≡ segment
   pub last : e.last ≡ is_nil Q
   pub rest : Spells S (next e.header) Q
 
+-- a search of the list from a segment on for the block that ends at a second segment; None where there is none
 abbrev pub EndsBefore : Memory → ℕ → ℕ → Option Entry → Type 0
 EndsBefore S start segment None = (L : List Header) → IsSpelledFrom S start L → NoEndAt L segment
 EndsBefore S start segment (Some e) = (L : List Header) → IsSpelledFrom S start L → (P : List Header) × (Q : List Header) × IsEndingAt S L segment e P Q

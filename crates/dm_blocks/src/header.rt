@@ -16,7 +16,7 @@ const MORE: u8 = b'M';
 /// The signature of the last header.
 const LAST: u8 = b'Z';
 
-/// What an arena header tells of its block.
+/// What an arena header says of its block.
 #[derive(Clone, Copy, Debug, PartialEq, Eq)]
 pub struct Header {
     /// The header's own segment; its block begins at the next one.
@@ -36,7 +36,7 @@ pub struct Entry {
 }
 
 impl Header {
-    /// The segment behind the block, where the next header stands.
+    /// The segment after the block, where the next header stands.
     pub fn next(self) -> u16
         requires { next self ≤ 0xFFFF }
         ensures { result ≡ next self }
@@ -45,7 +45,7 @@ impl Header {
     }
 
     /// Whether the block is free: it has no owner. Where upper memory belongs to the arena, which
-    /// `upper` tells, the link block counts as taken, whatever its owner.
+    /// `upper` says, the link block counts as taken, whatever its owner.
     pub fn is_free(self, upper: bool) -> bool
         ensures { result ≡ Chain.is_free upper self }
     {
@@ -92,7 +92,7 @@ pub fn is_last(space: &Space, segment: u16) -> bool
     byte_of(space, segment, 0) == LAST
 }
 
-/// The header at a segment. None where it has no signature of a header, or where the header behind
+/// The header at a segment. None where it has no signature of a header, or where the header after
 /// its block would stand past FFFFh.
 pub fn header_at(space: &Space, segment: u16) -> Option<Entry>
     ensures { IsEntryAt space.now.memory segment result }

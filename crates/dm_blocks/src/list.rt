@@ -29,7 +29,7 @@ pub fn entry_at(space: &Space, segment: u16) -> Entry
     entry
 }
 
-/// The walk behind the end of its list; None where the list is broken.
+/// The walk at the end of its list; None where the list is broken.
 fn tell_all(headers: Headers<'_>) -> Option<Headers<'_>>
     requires { (t : ℕ) × (headers.at ≡ Some t) × (t ≤ 0xFFFF) }
     ensures { HasToldAll headers.entry result }

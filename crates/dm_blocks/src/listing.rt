@@ -14,7 +14,7 @@ use std::marker::Model;
 pub enum Step {
     /// The next header of the list.
     Told(Entry),
-    /// The end: the last header was told before.
+    /// The end: there is no other header.
     End,
     /// No header can stand at the segment, where the list would have its next one: it is the first
     /// that has no signature, or leads past FFFFh, or stands where a write would be lost, or on the
@@ -26,7 +26,7 @@ pub enum Step {
 /// A walk over the headers of a list, from the first one on. It takes no memory.
 ///
 /// Contracts see the memory, whether the list is the second one, that of upper memory, which is
-/// walked over behind the first, and where the next header has to stand.
+/// walked over after the first, and where the next header has to stand.
 #[derive(Drop)]
 pub struct Headers<'a> {
     space: &'a Space,
@@ -48,7 +48,7 @@ impl<'a> Model for Headers<'a> {
     ghost invariant = { λ w. IsMarkedWalk (record { memory = w.space.now.memory; second = w.second; at = w.at }) w.beside w.seen.marks };
 }
 
-/// A walk over the first list that has told no header yet.
+/// A walk over the first list that stands at its first header.
 pub fn walk(space: &Space) -> Headers<'_>
     ensures memory { result.memory ≡ space.now.memory }
     ensures second { result.second ≡ false }
@@ -74,8 +74,8 @@ fn stands_at(cursor: Option<u16>, segment: u16) -> bool
 }
 
 impl<'a> Headers<'a> {
-    /// Tells the next header, or that the list has ended or is destroyed. Behind the end, and at a
-    /// header that breaks the list, the walk stays and answers the same again.
+    /// Returns the next header, or that the list has ended or is destroyed. At the end, and at a
+    /// header that breaks the list, the walk stays and returns the same again.
     pub fn advance(&mut self) -> Step
         ensures memory { self.new.memory ≡ self.old.memory }
         ensures second { self.new.second ≡ self.old.second }
@@ -102,7 +102,7 @@ impl<'a> Headers<'a> {
         Step::Told(entry)
     }
 
-    /// The walk over the second list, behind the first one, which has told all its headers.
+    /// The walk over the second list, after the first one, which is through all its headers.
     pub fn walk_second(self) -> Headers<'a>
         requires first { self.second ≡ false }
         requires over { self.at ≡ None }

@@ -80,7 +80,7 @@ impl Seen {
         true
     }
 
-    /// Whether a header may stand at a segment behind those whose places are marked: what is written
+    /// Whether a header may stand at a segment after those whose places are marked: what is written
     /// there is kept, and none of them has its place. Then its own place is marked too.
     pub(crate) fn admit(&mut self, space: &Space, segment: u16) -> bool
         ensures { Admits space.now.memory segment self.old.marks result self.new.marks }

@@ -27,6 +27,6 @@ held_coded = coded_option (the_row).coded
 abbrev pub mark_held : ℕ
 mark_held = 0x6D657A67756C6431
 
--- the mark tells whether there is a machine
+-- the mark says whether there is a machine
 abbrev pub IsMarked : Option Hosted → ℕ → Type 0
 IsMarked value mark = is_some value ≡ (mark == mark_held)

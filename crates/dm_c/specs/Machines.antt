@@ -1,4 +1,4 @@
--- What each export does with a machine: its status, what it writes, and the machine behind it.
+-- What each export does with a machine: its status, what it writes, and the machine after it.
 use Rattle.std.specs.Prelude.{◌≡◌, ◌⊎◌, ℕ, Bool, List, [], map, length, Option, Some, None}
 use Rattle.dm_pool.specs.declared.sizes.Sizes.{Sizes}
 use Rattle.dm_state.specs.declared.stop.Stop.{Stop}
@@ -27,49 +27,61 @@ pub data Makes (old new : Option Hosted) (sizes : Sizes) (variables : List ℕ) 
       → Makes old new sizes variables upper status
   refused : (why : Refusal) → old ≡ None → new ≡ None → status ≡ status_of why → IsNewFault sizes variables why → Makes old new sizes variables upper status
 
+-- `mezguld_add`: the store has one more program, or the status says why not
 abbrev pub AddsTo : Hosted → List ℕ → List ℕ → ℕ → Hosted → Type 0
 AddsTo h name program status g = IsDoneOrRefused status (Adds h name program g) (λ why. IsUnadded h name why × (g ≡ h))
 
+-- `mezguld_load`: the first program is loaded, or the status says why not
 abbrev pub LoadsTo : Hosted → List ℕ → List ℕ → List ℕ → ℕ → Hosted → Type 0
 LoadsTo h name tail input status g = IsDoneOrRefused status (Loads h name tail input g) (λ why. IsUnloaded h name tail input why g)
 
+-- `mezguld_run`: a run of at most n steps, and why it stopped; with no program loaded nothing changes
 abbrev pub RunsTo : Hosted → ℕ → Stopped → Stopped → ℕ → Hosted → Type 0
 RunsTo h n before after status g =
     IsDoneOrRefused status ((stop : Stop) × Works h (λ s t. IsRun s.machine n stop t.machine × (t.points ≡ s.points)) g × (after ≡ stopped_of (Some stop)))
     (λ why. IsNotLoaded h why × (g ≡ h) × (after ≡ before))
 
+-- `mezguld_run_until`: a run of at most n steps, up to a breakpoint; where it is refused nothing changes
 abbrev pub RunsUntilTo : Hosted → ℕ → List Point → Stopped → Stopped → ℕ → Hosted → Type 0
 RunsUntilTo h n points before after status g =
     IsDoneOrRefused status ((stop : Option Stop) × Works h (λ s t. RunsUntil s.machine n (map point_of points) stop t.machine × (t.points ≡ s.points)) g × (after ≡ stopped_of stop))
     (λ why. (IsNotLoaded h why ⊎ (why ≡ NoMemory)) × (g ≡ h) × (after ≡ before))
 
+-- `mezguld_steps`: how many steps were made, where a program is loaded
 abbrev pub StepsTo : Hosted → ℕ → ℕ → ℕ → Hosted → Type 0
 StepsTo h before after status g = IsDoneOrRefused status (Shows h (λ s. after ≡ s.steps)) (λ why. IsNotLoaded h why × (after ≡ before)) × (g ≡ h)
 
+-- `mezguld_registers`: the registers, where a program is loaded
 abbrev pub RegistersTo : Hosted → Registers → Registers → ℕ → Hosted → Type 0
 RegistersTo h before after status g = IsDoneOrRefused status (Shows h (λ s. after ≡ registers_of s.cpu)) (λ why. IsNotLoaded h why × (after ≡ before)) × (g ≡ h)
 
+-- `mezguld_read`: the bytes from segment:offset on fill the buffer, where a program is loaded
 abbrev pub ReadsTo : Hosted → ℕ → ℕ → List ℕ → List ℕ → ℕ → Hosted → Type 0
 ReadsTo h segment offset before after status g =
     IsDoneOrRefused status (Shows h (λ s. after ≡ bytes_at s.memory segment offset (length before))) (λ why. IsNotLoaded h why × (after ≡ before)) × (g ≡ h)
 
+-- `mezguld_write`: the bytes are written from segment:offset on, where a program is loaded
 abbrev pub WritesTo : Hosted → ℕ → ℕ → List ℕ → ℕ → Hosted → Type 0
 WritesTo h segment offset bytes status g =
     IsDoneOrRefused status (Works h (λ s t. t ≡ with_machine s (record s.machine { memory = with_bytes s.machine.memory segment offset bytes })) g) (λ why. IsNotLoaded h why × (g ≡ h))
 
+-- `mezguld_output`: what the console wrote, and how many bytes that is, where a program is loaded
 abbrev pub OutputTo : Hosted → List ℕ → List ℕ → ℕ → ℕ → ℕ → Hosted → Type 0
 OutputTo h before after wanted_before wanted status g =
     (Shows h (λ s. Gives s.console.output before after wanted status)
     ⊎ (IsNotLoaded h NotLoaded × (status ≡ status_of NotLoaded) × (after ≡ before) × (wanted ≡ wanted_before))) × (g ≡ h)
 
+-- `mezguld_command`: a line of the debugger; `wanted` is how many bytes it prints
 abbrev pub CommandsTo : Hosted → List ℕ → ℕ → ℕ → ℕ → Hosted → Type 0
 CommandsTo h line before wanted status g =
     IsDoneOrRefused status (IsCommanded h line g × (wanted ≡ length g.answer)) (λ why. IsUncommanded h line why g × (wanted ≡ before))
 
+-- `mezguld_check`: a run of at most n steps with findings; `wanted` is how many bytes their lines are
 abbrev pub ChecksTo : Hosted → ℕ → Stopped → Stopped → ℕ → ℕ → ℕ → Hosted → Type 0
 ChecksTo h n before after wanted_before wanted status g =
     IsDoneOrRefused status ((stop : Stop) × Checks h n stop g × (after ≡ stopped_of (Some stop)) × (wanted ≡ length g.answer))
     (λ why. IsUnchecked h n why g × (after ≡ before) × (wanted ≡ wanted_before))
 
+-- `mezguld_answer`: what the last command or check printed, and how many bytes that is
 abbrev pub AnswersTo : Hosted → List ℕ → List ℕ → ℕ → ℕ → Hosted → Type 0
 AnswersTo h before after wanted status g = Gives h.answer before after wanted status × (g ≡ h)

@@ -13,7 +13,7 @@ use Rattle.dm_c.specs.declared.values.Stopped.{Stopped}
 use Rattle.dm_c.specs.declared.values.Registers.{Registers}
 use Rattle.dm_c.specs.declared.values.Point.{Point}
 
--- 0: done. 1: no machine. 2: in use. 4: too small
+-- the status of a refusal. Of the other statuses 0 is success, 1 no machine, 2 a handle in use, 4 a buffer too small
 abbrev pub status_of : Refusal → ℕ
 status_of why.Memory = 3
 status_of why.TooLarge = 5
@@ -29,7 +29,7 @@ status_of why.NotLoaded = 14
 status_of why.Syntax = 15
 status_of why.Full = 16
 
--- why a text has no bytes
+-- the status of a text that has no bytes
 abbrev pub text_status_of : asm.AssemblyRefusal → ℕ
 text_status_of (text.Syntax line) = 17
 text_status_of (text.Unknown line) = 18
@@ -58,7 +58,7 @@ stopped_of (Some stop.Destroyed) = record { why = 5; code = 0 }
 stopped_of (Some stop.Memory) = record { why = 6; code = 0 }
 stopped_of None = record { why = 7; code = 0 }
 
--- `flags` is the word that PUSHF stores
+-- the registers as C sees them; `flags` is the word that PUSHF stores
 abbrev pub registers_of : Cpu → Registers
 registers_of cpu = record {
   ax = cpu.ax;
@@ -77,5 +77,6 @@ registers_of cpu = record {
   flags = flags.flags_word cpu.flags;
 }
 
+-- a breakpoint as C gives it
 abbrev pub point_of : Point → Breakpoint
 point_of p = record { segment = p.segment; offset = p.offset }

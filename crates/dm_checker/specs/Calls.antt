@@ -1,5 +1,6 @@
 -- What a step's call makes of the arena, and how calls are refused.
--- Source: MS-DOS Programmer's Reference, "System Calls" (CF and AX); LIM EMS 4.0, section 3 (AH is the status); XMS 3.0 (AX, and BL the error).
+-- Source: MS-DOS Programmer's Reference, "System Calls" (CF and AX); LIM EMS 4.0, section 3 (AH is the status); XMS 3.0
+-- (AX, and BL the error).
 use Rattle.std.specs.Prelude.{ℕ, ◌+◌, ◌==◌, ◌&&◌, ◌||◌, not, Bool, true, false, if◌then◌else◌, List, [], ◌∷◌, Option, Some, None}
 use Rattle.dm_ins.specs.declared.operand.ByteRegister.TheVariants.{Ah, Al, Bl}
 use Rattle.dm_cpu.specs.declared.cpu.Cpu.{Cpu}
@@ -34,7 +35,8 @@ arranges c (Some (ExpandedMemory number)) = false
 arranges c (Some Multiplex) = false
 arranges c (Some (ExtendedMemory number)) = false
 
--- an end of a process by which it keeps nothing: interrupt 0, INT 20h, and functions 00h and 4Ch of INT 21h. By 31h a program stays resident
+-- an end of a process by which it keeps nothing: interrupt 0, INT 20h, and functions 00h and 4Ch of INT 21h. By 31h a
+-- program stays resident
 abbrev pub leaves : Option Call → Bool
 leaves None = false
 leaves (Some DivideError) = true
@@ -59,8 +61,8 @@ freed_twice c d _ headers = []
 
 -- ---- refusals, by the registers before and after a call
 
--- a function of the arena or of processes is refused: CF is set, and AX is the code, below 256. Code 8 of 48h and of 4Ah: BX paragraphs were
--- asked for, and then BX is how many there are
+-- a function of the arena or of processes is refused: CF is set, and AX is the code, below 256. Code 8 of 48h and of
+-- 4Ah: BX paragraphs were asked for, and then BX is how many there are
 abbrev pub refused_by_dos : Cpu → Cpu → ℕ → List Finding
 refused_by_dos c d number =
     if not d.flags.carry then [] else
@@ -70,10 +72,11 @@ refused_by_dos c d number =
 abbrev pub refused_by_status : ℕ → List Finding
 refused_by_status status = if (status == 0) || (status == 0x92) then [] else Refused status ∷ []
 
--- AX is 0, and BL tells an error: 07h has 0 in both where A20 is off
+-- AX is 0, and BL is an error code: 07h has 0 in both where A20 is off
 abbrev pub refused_by_error : Cpu → List Finding
 refused_by_error d = if (d.ax == 0) && not (byte_of d Bl == 0) then Refused (byte_of d Bl) ∷ [] else []
 
+-- the refusal of a call, by the registers before and after it; none where it was not refused
 abbrev pub refusal_findings : Cpu → Cpu → Option Call → List Finding
 refusal_findings c d None = []
 refusal_findings c d (Some DivideError) = []

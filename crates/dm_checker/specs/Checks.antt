@@ -19,8 +19,8 @@ pub record FindsAt (s t : State) (found : List Found) : Type 0 where
   pub finds : Finds s t findings
   pub told : IsFound s t findings found
 
--- what the first program left allocated, if it ended by a call that keeps nothing: the tables and the map after its last step, which no service
--- changes
+-- what the first program left allocated, if it ended by a call that keeps nothing: the tables and the map after its
+-- last step, which no service changes
 abbrev pub left_behind : State → State → List Finding
 left_behind s t = if leaves (call_of s.cpu) then leaks t else []
 
@@ -45,7 +45,8 @@ pub data FindsIn (s : State) : ℕ → State → List Found → Type 0 where
   here : FindsIn s 0 s []
   further : (n : ℕ) (t u : State) (fs gs : List Found) → FindsIn s n t fs → MakesStep t (record { stop = None; state = u }) → FindsAt t u gs → FindsIn s (n + 1) u (fs ++ gs)
 
--- a run of at most n steps, and what is found in it: the program had ended before; or n steps were made; or a stop comes earlier
+-- a run of at most n steps, and what is found in it: the program had ended before; or n steps were made; or a stop
+-- comes earlier
 pub data Checks (s : State) (n : ℕ) (stop : Stop) (t : State) (found : List Found) : Type 0 where
   over : (code : ℕ) → s.exited ≡ Some code → stop ≡ Exited code → t ≡ s → found ≡ [] → Checks s n stop t found
   whole : s.exited ≡ None → stop ≡ AllSteps → FindsIn s n t found → Checks s n stop t found

@@ -30,8 +30,8 @@ turned _ _ = []
 abbrev pub all_overwritten : Bool → Memory → Memory → List Header → List Finding
 all_overwritten may S T headers = if may then [] else flat_map (overwritten S T) headers
 
--- in this order: headers that bytes were written over, headers that are no longer shown, both in the order of the list; the arena destroyed, or
--- whole again; a block freed twice; a call refused
+-- in this order: headers that bytes were written over, headers that are no longer shown, both in the order of the list;
+-- the arena destroyed, or whole again; a block freed twice; a call refused
 abbrev pub findings : State → State → Shown → Shown → List Finding
 findings s t old new =
     all_overwritten (arranges s.cpu (call_of s.cpu)) s.memory t.memory old.headers
@@ -50,15 +50,17 @@ pub record Finds (s t : State) (found : List Finding) : Type 0 where
 
 -- ---- what acts in a step: the call of a service or a driver, else the instruction at CS:IP
 
+-- what acts in the step from s: a call, or an instruction with the offset of the next one
 pub data IsAct (s : State) (a : Act) : Type 0 where
   called : (call : Call) → call_of s.cpu ≡ Some call → a ≡ act.Call call → IsAct s a
   instructed : (i : Ins) (length : ℕ) → call_of s.cpu ≡ None → BeginsWith (fetched s.memory s.cpu) i length → a ≡ act.Instruction i (up s.cpu.ip length) → IsAct s a
 
--- the findings of a step with its number, which is how many steps were made with it, CS and IP before it, and what acted
+-- the findings of a step with its number, which is how many steps were made with it, CS and IP before it, and what
+-- acted
 abbrev pub found_at : State → State → Act → List Finding → List Found
 found_at s t a = map (λ f. record { step = t.steps; segment = s.cpu.cs; offset = s.cpu.ip; act = a; finding = f })
 
--- nothing is found, or the findings are told with the step
+-- nothing is found, or the findings are kept with the step
 pub data IsFound (s t : State) (fs : List Finding) (found : List Found) : Type 0 where
   none : fs ≡ [] → found ≡ [] → IsFound s t fs found
   some : (a : Act) → IsAct s a → found ≡ found_at s t a fs → IsFound s t fs found

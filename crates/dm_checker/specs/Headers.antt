@@ -22,6 +22,7 @@ shown_at m segment = contents (λ k. peek m (16 * segment + k))
 abbrev pub kept_at : Memory → Memory → ℕ → Contents
 kept_at S T segment = contents (λ k. byte_at T (place S (16 * segment + k)))
 
+-- the two headers have the same signature, owner and size
 abbrev pub same_contents : Contents → Contents → Bool
 same_contents a b = (a.signature == b.signature) && (a.owner == b.owner) && (a.size == b.size)
 
@@ -36,14 +37,15 @@ is_there m (Page block k) = is_live m.blocks block
 is_there m (Rom k) = true
 is_there m Nothing = true
 
--- other bytes at the places of a header, whatever the step wrote them by. If its page was freed, nothing is said of its bytes
+-- other bytes at the places of a header, whatever the step wrote them by. If its page was freed, nothing is said of its
+-- bytes
 abbrev pub overwritten : Memory → Memory → Header → List Finding
 overwritten S T b =
     if is_there T (place S (16 * b.segment)) && not (same_contents (kept_at S T b.segment) (shown_at S b.segment))
     then Overwritten b.segment (shown_at S b.segment) (kept_at S T b.segment) ∷ [] else []
 
--- a header that the segment no longer shows: its page was freed, or a change of windows lets other bytes be read there than those at its
--- places. The other page may hold the same five bytes: then nothing has changed
+-- a header that the segment no longer shows: its page was freed, or a change of windows lets other bytes be read there
+-- than those at its places. The other page may hold the same five bytes: then nothing has changed
 abbrev pub mapped_away : Memory → Memory → Header → List Finding
 mapped_away S T b =
     if is_there T (place S (16 * b.segment)) && same_contents (kept_at S T b.segment) (shown_at T b.segment)

@@ -11,7 +11,8 @@ use Rattle.dm_checker.specs.Checks.{Checks}
 abbrev pub ACheckedRunIsARun : Type 0
 ACheckedRunIsARun = (s t : State) (n : ℕ) (stop : Stop) (found : List Found) → Checks s n stop t found → IsRun s n stop t
 
--- from one state, runs of at most as many steps that meet no want of memory stop for one reason in one state, and one list of findings is found
+-- from one state, runs of at most as many steps in which no allocation fails stop for one reason in one state, and one
+-- list of findings is found
 abbrev pub CheckHasOneReport : Type 0
 CheckHasOneReport =
     (s t u : State) (n : ℕ) (a b : Stop) (fs gs : List Found) → Checks s n a t fs → Checks s n b u gs →

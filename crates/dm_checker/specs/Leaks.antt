@@ -1,5 +1,6 @@
 -- What a program that has ended left allocated, by the tables and the map of memory.
--- Source: LIM EMS 4.0, section 2 (handles, pages, saved maps, windows); XMS 3.0 (handles, locks, upper memory blocks, the high memory area, A20).
+-- Source: LIM EMS 4.0, section 2 (handles, pages, saved maps, windows); XMS 3.0 (handles, locks, upper memory blocks,
+-- the high memory area, A20).
 use Rattle.std.specs.Prelude.{ℕ, zero, suc, ◌+◌, ◌==◌, ◌&&◌, nat_lt, is_some, Bool, if◌then◌else◌, List, [], ◌∷◌, ◌++◌, slice_index_or, slice_get, Option, Some, None}
 use Rattle.dm_space.specs.Memory.{Memory}
 use Rattle.dm_ems.specs.declared.tables.Handle.{Handle}
@@ -19,17 +20,20 @@ of_each f (suc n) = of_each f n ++ f n
 
 -- ---- expanded memory
 
--- a handle in use, and its pages, of which it may have none. Handle 0 is always in use: it is told where it has pages
+-- a handle in use, and its pages, of which it may have none. Handle 0 is always in use: it is found where it has pages
 abbrev pub pages_kept : ℕ → ℕ → List Finding
 pages_kept handle pages = if (handle == 0) && (pages == 0) then [] else PagesKept handle pages ∷ []
 
+-- a handle whose map was saved and not restored
 abbrev pub map_kept : ℕ → Handle → List Finding
 map_kept handle h = if is_some h.saved then MapKept handle ∷ [] else []
 
+-- what is found of a handle of expanded memory, if it is in use
 abbrev pub if_in_use : Tables → ℕ → Option Handle → List Finding
 if_in_use ems handle None = []
 if_in_use ems handle (Some h) = pages_kept handle (page_count ems handle) ++ map_kept handle h
 
+-- what is found of a handle of expanded memory
 abbrev pub handle_kept : Tables → ℕ → List Finding
 handle_kept ems handle = if_in_use ems handle (slice_index_or ems.handles handle None)
 
@@ -39,26 +43,31 @@ window_kept m window = if is_some (slice_index_or m.windows window None) then Wi
 
 -- ---- extended memory
 
+-- a block of extended memory that was not freed: its KiB, and whether it is locked
 abbrev pub if_allocated : ℕ → Option Block → List Finding
 if_allocated handle None = []
 if_allocated handle (Some b) = BlockKept handle b.kib (nat_lt 0 b.locks) ∷ []
 
--- handles count from 1
+-- what is found of a handle of extended memory: the one after so many, as handles count from 1
 abbrev pub block_kept : xms.Tables → ℕ → List Finding
 block_kept tables before = if_allocated (before + 1) (slot tables (before + 1))
 
+-- an upper memory block that was not freed
 abbrev pub if_given : Option Upper → List Finding
 if_given None = []
 if_given (Some u) = UpperKept u.segment ∷ []
 
+-- block k of upper memory, if there are so many
 abbrev pub upper_kept : xms.Tables → ℕ → List Finding
 upper_kept tables k = if_given (slice_get tables.uppers k)
 
+-- the high memory area that was not released, and line A20 that was left on
 abbrev pub switches_kept : Bool → Bool → List Finding
 switches_kept area on = (if area then AreaKept ∷ [] else []) ++ (if on then LineKept ∷ [] else [])
 
 -- ---- all of it: there are 64 handles of each, and at most 64 upper memory blocks
 
+-- all that is found of a program that has ended, in the order of handles, windows, blocks and switches
 unfoldable pub leaks : State → List Finding
 leaks s =
     of_each (handle_kept s.ems) 64 ++ of_each (window_kept s.memory) 4

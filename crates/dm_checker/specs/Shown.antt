@@ -12,13 +12,13 @@ pub record Shown : Type 0 where
   pub headers : List Header
   pub broken : Option ℕ
 
--- behind the headers F, the headers P lead from a segment to one where no header can follow
+-- after the headers F, the headers P lead from a segment to one where no header can follow
 pub record IsCut (m : Memory) (F : List Header) (start : ℕ) (P : List Header) (at : ℕ) : Type 0 where
   pub leads : Leads m F start P at
   pub none : (e : Entry) → Follows m F P at e → ⊥
 
--- the second list is shown too where upper memory belongs to the arena and the first list isn't linked with it. A list that breaks is shown up
--- to there
+-- the second list is shown too where upper memory belongs to the arena and the first list isn't linked with it. A list
+-- that breaks is shown up to there
 pub data IsShown (upper : Bool) (m : Memory) (shown : Shown) : Type 0 where
   cut : (at : ℕ) → IsCut m [] first_header shown.headers at → shown.broken ≡ Some at → IsShown upper m shown
   alone : IsArena m first_header shown.headers → is_parted upper shown.headers ≡ false → shown.broken ≡ None → IsShown upper m shown

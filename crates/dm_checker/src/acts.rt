@@ -21,7 +21,7 @@ pub(crate) struct Before {
     pub(crate) bytes: [u8; 16],
 }
 
-/// Eight bytes from CS:IP on, behind so many others, one by one.
+/// Eight bytes from CS:IP on, after so many others, one by one.
 #[inline(never)]
 fn fetch_each(cpu: &Cpu, space: &Space, skipped: u16) -> [u8; 8]
     ensures { result ≡ map (λ k. byte_after space.now.memory cpu.now.cs cpu.now.ip (skipped + k)) (0 ∷ 1 ∷ 2 ∷ 3 ∷ 4 ∷ 5 ∷ 6 ∷ 7 ∷ []) }
@@ -30,7 +30,7 @@ fn fetch_each(cpu: &Cpu, space: &Space, skipped: u16) -> [u8; 8]
     [at(0), at(1), at(2), at(3), at(4), at(5), at(6), at(7)]
 }
 
-/// Eight bytes from CS:IP on, behind so many others.
+/// Eight bytes from CS:IP on, after so many others.
 #[inline(always)]
 fn fetch_eight(cpu: &Cpu, space: &Space, skipped: u16) -> [u8; 8]
     ensures { result ≡ map (λ k. byte_after space.now.memory cpu.now.cs cpu.now.ip (skipped + k)) (0 ∷ 1 ∷ 2 ∷ 3 ∷ 4 ∷ 5 ∷ 6 ∷ 7 ∷ []) }

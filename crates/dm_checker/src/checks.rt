@@ -13,8 +13,8 @@ use dm_machine::{Machine, Stop};
 use std::alloc::{AllocError, Global};
 
 /// Makes at most `n` steps, as `Machine::run` does, and reports what they did to the headers of the arena, which calls
-/// were refused, and, where the first program ended by a call that keeps nothing, what it left allocated. It returns why
-/// the run stopped, and the report.
+/// were refused, and, where the first program ended by a call that keeps nothing, what it left allocated. It returns
+/// why the run stopped, and the report.
 ///
 /// An `Err` says that an allocation of the checker failed: the machine has made a first part of the run, and the report
 /// is lost.
@@ -26,7 +26,7 @@ pub fn check(alloc: Global, machine: &mut Machine, n: u64) -> Result<(Stop, Repo
     ensures loaded { HasProgram machine.new }
 {
     let mut report = Report::new(alloc);
-    // No step is made: it tells whether the program has ended.
+    // No step is made: it finds whether the program has ended.
     if let Stop::Exited(code) = machine.run(0) {
         return Ok((Stop::Exited(code), report));
     }

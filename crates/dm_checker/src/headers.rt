@@ -31,7 +31,7 @@ fn contents_of(bits: u64) -> Contents
     }
 }
 
-/// A byte of a block; 0 behind its end.
+/// A byte of a block; 0 past its end.
 fn byte_in(bytes: &[u8], at: usize) -> u8
     ensures { result ≡ slice_index bytes.now at }
 {

@@ -8,7 +8,7 @@ pub fn a_checked_run_is_a_run()
 {}
 
 /// The law that a run has one report: what is found in the steps from a state is a function of that state and of the
-/// number of steps, unless memory was wanting. It does nothing when called.
+/// number of steps, unless an allocation failed. It does nothing when called.
 pub fn a_check_has_one_report()
     ensures { CheckHasOneReport }
 {}

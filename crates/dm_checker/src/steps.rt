@@ -148,7 +148,7 @@ fn check_end(
     tell(report, before, machine.steps(), Act::Call(call), &found)
 }
 
-/// Makes a step of an instruction. (A run repeats instructions that were decoded before; it tells no steps from a stop
+/// Makes a step of an instruction. (A run repeats instructions that were decoded before; steps and a stop differ there
 /// only where a call is served.)
 fn run_once(machine: &mut Machine) -> Option<Stop>
     requires program { HasProgram machine.old }

@@ -80,7 +80,7 @@ fn broken_of(space: &Space, segment: u16) -> Broken
     }
 }
 
-/// Puts the headers that a walk over a list has still to tell. The walk behind the end of its list, or the segment
+/// Puts the headers that a walk over a list has yet to return. The walk at the end of its list, or the segment
 /// where the list breaks.
 fn collect<'a>(
     out: &mut Vec<Watched>,
@@ -101,7 +101,7 @@ fn collect<'a>(
     }
 }
 
-/// Puts the headers of the second list behind those of the first, which a walk has told. Where the second list breaks.
+/// Puts the headers of the second list after those of the first, which a walk is through. Where the second list breaks.
 fn collect_second(
     out: &mut Vec<Watched>,
     space: &Space,

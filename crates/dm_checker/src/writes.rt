@@ -69,7 +69,7 @@ fn may_write(ins: &Ins) -> bool
     }
 }
 
-/// Whether eight bytes begin with an instruction that writes no memory, whatever stands behind them.
+/// Whether eight bytes begin with an instruction that writes no memory, whatever stands after them.
 #[inline(never)]
 fn begin_reading(eight: u64) -> bool
     ensures { IsTrue result → BeginReading eight }

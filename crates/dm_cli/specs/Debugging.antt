@@ -29,9 +29,9 @@ pub data Tells (s : Debugged) (line : List ℕ) : Debugged → List ℕ → Type
 
 -- ---- the lines of a text
 
--- The lines of a text are answered one after the other, up to its end or a line that ends the session: what is written,
+-- The lines of a text are handled one after the other, up to its end or a line that ends the session: what is written,
 -- the session after that, the fault that ends them before, if one does, and whether each answer that is begun is
--- written whole and handed on. A line ends with 0Ah, or with the text; the lines may have n bytes in all, their ends
+-- written whole and flushed. A line ends with 0Ah, or with the text; the lines may have n bytes in all, their ends
 -- among them.
 pub data Converses : ℕ → Debugged → List ℕ → List ℕ → Debugged → Option Fault → Bool → Type 0 where
   ended : (n : ℕ) (s : Debugged) → Converses n s [] [] s None true
@@ -51,7 +51,7 @@ pub data Converses : ℕ → Debugged → List ℕ → List ℕ → Debugged →
       → ¬ IsQuit (first_piece 10 text) → Tells s (first_piece 10 text) t told → IsWriteFault fault → Converses n s text told t (Some fault) false
 
 -- the lines of a reader, whose bytes are known or not, what was appended to a writer, and the count of its failures
--- before and after: an answer is cut or not handed on exactly where a write or a flush failed in between
+-- before and after: an answer is cut or not flushed exactly where a write or a flush failed in between
 pub record IsConversation (n : ℕ) (known : Option (List ℕ)) (s t : Debugged) (before after : Option (List ℕ)) (opened failures : ℕ) (end : Option Fault) : Type 0 where
   pub text : List ℕ
   pub told : List ℕ

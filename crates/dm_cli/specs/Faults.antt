@@ -6,6 +6,7 @@ use Rattle.dm_asm.specs.declared.refusal.AssemblyRefusal.TheVariants as refusal
 use Rattle.dm_cli.specs.declared.fault.Fault.{Fault}
 use Rattle.dm_cli.specs.declared.fault.Fault.TheVariants as fault
 
+-- the fault that the refusal of an assembly text becomes
 abbrev pub refusal_fault : AssemblyRefusal → Fault
 refusal_fault (refusal.Syntax line) = fault.Syntax line
 refusal_fault (refusal.Unknown line) = fault.Unknown line
@@ -33,16 +34,16 @@ fault_text (fault.Range line) = codes "line " ++ decimal line ++ codes ": range"
 fault_text (fault.Twice line) = codes "line " ++ decimal line ++ codes ": twice"
 fault_text fault.OutOfMemory = codes "out of memory"
 
--- what is printed for it on standard error
+-- the line of a fault on standard error
 abbrev pub fault_line : Fault → List ℕ
 fault_line f = codes "dm: " ++ fault_text f ++ 10 ∷ []
 
--- what has this name can't be read
+-- the file or stream of this name can't be read
 abbrev pub IsUnread : List ℕ → Fault → Type 0
 IsUnread name (fault.CannotRead read) = read.now ≡ name
 IsUnread name _ = ⊥
 
--- what has this name can't be written
+-- the file or stream of this name can't be written
 abbrev pub IsUnwritten : List ℕ → Fault → Type 0
 IsUnwritten name (fault.CannotWrite written) = written.now ≡ name
 IsUnwritten name _ = ⊥

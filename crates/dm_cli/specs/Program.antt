@@ -26,7 +26,7 @@ use Rattle.dm_cli.specs.Statuses.{status_of, status_after}
 
 -- ---- the commands
 
--- `dm run`: the whole output of the run, behind what was written before; or a first part of it, where a write failed;
+-- `dm run`: the whole output of the run, after what was written before; or a first part of it, where a write failed;
 -- or nothing
 pub data Runs (files : List ℕ → Option (List ℕ)) (typed : Option (List ℕ)) (o : MachineOptions) (before after : Option (List ℕ)) (failed_before failed_after : ℕ) : Result Stop Fault → Type 0 where
   ran : (m t : State) (stop : Stop) → IsStartedBy files typed o m → IsRun m o.steps stop t → Appends before after t.console.output → failed_after ≡ failed_before
@@ -39,8 +39,8 @@ pub data Runs (files : List ℕ → Option (List ℕ)) (typed : Option (List ℕ
 -- ---- the program
 
 -- the bytes of files by their paths and of standard input, what stands on standard output before, and which files were
--- written before, each where it is known; and how many writes and flushes of standard output and how many saves of files
--- have failed before
+-- written before, each where it is known; and how many writes and flushes of standard output and how many saves of
+-- files have failed before
 pub record Given : Type 0 where
   pub files : List ℕ → Option (List ℕ)
   pub typed : Option (List ℕ)
@@ -75,7 +75,8 @@ abbrev pub SavesNothing : Given → Left → Type 0
 SavesNothing g l = (l.saved ≡ g.saved) × (l.failed_saves ≡ g.failed_saves)
 
 -- a wrong line, or a call for help, does nothing; a right one does what its command does; an allocation may fail while
--- the words are read. Of a wrong line or a call for help standard error has `clap`'s text, of which nothing is said here
+-- the words are read. Of a wrong line or a call for help standard error has `clap`'s text, of which nothing is said
+-- here
 pub data Does (g : Given) (words : List Text) (l : Left) : Type 0 where
   usage : fault_of dm_app words ≢ [] → IsSilent g l → SavesNothing g l → l.status ≡ 2 → Does g words l
   no_memory : Prints (fault_line OutOfMemory) g.messages l.messages → IsSilent g l → SavesNothing g l → l.status ≡ 126 → Does g words l

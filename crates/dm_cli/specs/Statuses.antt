@@ -8,12 +8,12 @@ abbrev pub stop_status : Stop → ℕ
 stop_status (Exited code) = code
 stop_status _ = 125
 
--- that of a stop, or 126 at a fault
+-- the exit status of a run: that of its stop, or 126 at a fault
 abbrev pub status_of : {E : Type 0} → Result Stop E → ℕ
 status_of (Ok stop) = stop_status stop
 status_of (Err _) = 126
 
--- 0, or 126 at a fault
+-- the exit status of other commands: 0, or 126 at a fault
 abbrev pub status_after : {E : Type 0} → Option E → ℕ
 status_after None = 0
 status_after (Some _) = 126

@@ -42,8 +42,8 @@ pub data IsFaultOf (known : Option (List ℕ)) (store : List (List ℕ × List �
   twice : (bytes : List ℕ) → IsRead known bytes → IsName (last_part path) → has_name store (last_part path) ≡ true → IsFaultOf known store path NameTwice
   no_memory : IsFaultOf known store path OutOfMemory
 
--- a new machine of these sizes, which are not too large, with upper memory in its arena or not, with no variables, over a store and an input,
--- and its first program loaded with a tail of at most 126 bytes
+-- a new machine of these sizes, which are not too large, with upper memory in its arena or not, with no variables, over
+-- a store and an input, and its first program loaded with a tail of at most 126 bytes
 pub record IsBegun (store : List (List ℕ × List ℕ)) (input : List ℕ) (sizes : Sizes) (upper : Bool) (paths : List (List ℕ)) (tail : List ℕ) (m : State) : Type 0 where
   pub small : ¬ IsTooLarge sizes
   pub fresh : State

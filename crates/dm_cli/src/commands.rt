@@ -126,7 +126,7 @@ fn told<E: Out>(outcome: Result<(), Fault<'_>>, error: &mut E) -> u8
 ///
 /// `dm debug` exits with status 0, also where the program has ended, or reports a fault with status 126, in the same
 /// order: the console's input is the file of `--input`, and none without it. The commands are read after `short`, a
-/// line at a time, and each is answered before the next is read; where they have more than 16 MiB, `input too long`
+/// line at a time, and each is done before the next is read; where they have more than 16 MiB, `input too long`
 /// comes after the answers so far.
 ///
 /// `dm asm` and `dm disasm` exit with status 0, or report a fault with status 126: `cannot read NAME` or

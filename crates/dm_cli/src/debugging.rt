@@ -109,7 +109,7 @@ fn answer<W: Out>(
     }
 }
 
-/// Answers a line, and flushes the answer before anything else is read.
+/// Does a line's command, and flushes its answer before anything else is read.
 fn answer_at_once<W: Out>(
     alloc: Global,
     session: &mut Session,
@@ -127,7 +127,7 @@ fn answer_at_once<W: Out>(
     }
 }
 
-/// Answers the lines of the commands as they are read, up to their end or a line that ends the session. They may have
+/// Does the lines of the commands as they are read, up to their end or a line that ends the session. They may have
 /// 16 MiB in all.
 fn converse<R: BufRead, W: Out>(
     alloc: Global,
@@ -154,7 +154,7 @@ fn converse<R: BufRead, W: Out>(
     Ok(())
 }
 
-/// `dm debug`: loads the first file, and answers the commands as they are read.
+/// `dm debug`: loads the first file, and does the commands as they are read.
 pub(crate) fn debug<'a, F: Storage, I: Read + Drop, W: Out>(
     alloc: Global,
     storage: &F,

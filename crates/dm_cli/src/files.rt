@@ -22,10 +22,10 @@ pub trait Storage {
     /// An open file.
     type File: Read + Drop;
 
-    // The bytes of the file at a path, where the storage can tell them.
+    // The bytes of the file at a path, where the storage knows them.
     ghost contents: { Self → List ℕ → Option (List ℕ) } = { λ _ _. None };
 
-    // The files that were written, by their paths, in their order, where the storage can tell them.
+    // The files that were written, by their paths, in their order, where the storage knows them.
     ghost saved: { Self → Option (List (List ℕ × List ℕ)) } = { λ _. None };
 
     // How many saves failed.

@@ -11,7 +11,7 @@ use Rattle.dm_command.specs.Words.{words_of}
 use Rattle.dm_command.specs.Numbers.{◌>>=◌, number_of, up_to, logical_address, bytes_from_digits}
 use Rattle.dm_command.specs.Names.{name_of}
 
--- nothing behind the name
+-- a name alone
 abbrev pub alone : CommandName → Option Command
 alone name.Registers = Some command.Registers
 alone name.Arena = Some command.Arena
@@ -23,7 +23,7 @@ alone name.Breakpoints = Some command.Breakpoints
 alone name.Output = Some command.Output
 alone _ = None
 
--- one word behind it
+-- a name and one word
 abbrev pub with_one : CommandName → List ℕ → Option Command
 with_one name.Unassemble w = do
   a ← logical_address w
@@ -45,7 +45,7 @@ with_one name.Clear w = do
   Some (command.Clear a)
 with_one _ w = None
 
--- an address and one more word behind it
+-- a name, an address and one more word
 abbrev pub at_address : CommandName → LogicalAddress → List ℕ → Option Command
 at_address name.Unassemble a w = do
   n ← up_to 0x1000 (number_of w)
@@ -58,17 +58,20 @@ at_address name.Enter a w = do
   Some (command.Enter a bytes)
 at_address _ a w = None
 
+-- a name and two words, the first an address
 abbrev pub with_two : CommandName → List ℕ → List ℕ → Option Command
 with_two n v w = do
   a ← logical_address v
   at_address n a w
 
+-- the command of a name and the words after it, if there is one
 abbrev pub command_named : CommandName → List (List ℕ) → Option Command
 command_named n [] = alone n
 command_named n (v ∷ []) = with_one n v
 command_named n (v ∷ w ∷ []) = with_two n v w
 command_named n _ = None
 
+-- the command of a line's words, the first its name
 abbrev pub of_words : List (List ℕ) → Option Command
 of_words [] = None
 of_words (w ∷ ws) = do

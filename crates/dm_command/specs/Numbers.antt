@@ -22,14 +22,16 @@ digits_of n (b ∷ bs) = do
 unfoldable pub number_of : List ℕ → Option ℕ
 number_of w = if length w == 0 || nat_lt 8 (length w) then None else digits_of 0 w
 
+-- the number, if it is at most `most`
 abbrev pub up_to : ℕ → Option ℕ → Option ℕ
 up_to most None = None
 up_to most (Some n) = if nat_le n most then Some n else None
 
+-- one to eight digits that spell a number up to FFFFh
 abbrev pub word_from_digits : List ℕ → Option ℕ
 word_from_digits w = up_to 0xFFFF (number_of w)
 
--- what stands before the first colon, behind the bytes `front`, and what stands behind it
+-- what stands before the first colon, after the bytes `front`, and what stands after it
 abbrev pub parts_of : List ℕ → List ℕ → Option (List ℕ × List ℕ)
 parts_of front [] = None
 parts_of front (b ∷ bs) = if b == 58 then Some (front, bs) else parts_of (front ++ b ∷ []) bs
@@ -42,6 +44,7 @@ logical_address w = do
   offset ← word_from_digits p.1
   Some (record { segment = segment; offset = offset })
 
+-- the bytes that were decoded, if the digits are good
 abbrev pub if_good : Result (List ℕ) FromHexError → Option (List ℕ)
 if_good (Ok bytes) = Some bytes
 if_good (Err e) = None

@@ -57,7 +57,7 @@ fn read_word(word: &[u8]) -> Option<u16>
     Some(n as u16)
 }
 
-/// What stands before the first colon, and what stands behind it.
+/// What stands before the first colon, and what stands after it.
 fn parts(word: &[u8]) -> Option<(&[u8], &[u8])>
     ensures { option_map (λ x. (x.0.now, x.1.now)) result ≡ parts_of [] word.now }
 {

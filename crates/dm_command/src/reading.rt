@@ -14,7 +14,7 @@ const MOST_LINES: u32 = 0x1000;
 /// The most bytes that are listed.
 const MOST_BYTES: u32 = 0x1_0000;
 
-/// A command with nothing behind its name.
+/// A command with nothing after its name.
 fn alone(name: CommandName) -> Option<Command>
     ensures { result ≡ alone name }
 {
@@ -31,7 +31,7 @@ fn alone(name: CommandName) -> Option<Command>
     }
 }
 
-/// A command with one word behind its name.
+/// A command with one word after its name.
 fn with_one(name: CommandName, word: &[u8]) -> Option<Command>
     ensures { result ≡ with_one name word.now }
 {
@@ -46,7 +46,7 @@ fn with_one(name: CommandName, word: &[u8]) -> Option<Command>
     }
 }
 
-/// A command with two words behind its name.
+/// A command with two words after its name.
 fn with_two(name: CommandName, first: &[u8], second: &[u8]) -> Option<Command>
     ensures { result ≡ with_two name first.now second.now }
 {
@@ -72,8 +72,8 @@ fn with_two(name: CommandName, first: &[u8], second: &[u8]) -> Option<Command>
 ///
 /// Words are parted by spaces, which may be many and stand at the ends too. Letters are in either case, and numbers are
 /// hexadecimal with one to eight digits. Segments and offsets are at most FFFFh, instructions and traced steps at most
-/// 1000h, listed bytes at most 10000h. Where a number may be left out, it is 8 for U, 80h for D, FFFFFFh for G and 1
-/// for T.
+/// 1000h, listed bytes at most 10000h. The bytes of E are one word of 1 to 64 pairs of digits. Where a number may be
+/// left out, it is 8 for U, 80h for D, FFFFFFh for G and 1 for T.
 pub fn read_command(line: &[u8]) -> Option<Command>
     ensures { result ≡ command_of line.now }
 {

@@ -15,7 +15,7 @@ fn trimmed(line: &[u8]) -> &[u8]
     rest
 }
 
-/// The first word of a line that begins with it, and what stands behind the space that ends it.
+/// The first word of a line that begins with it, and what stands after the space that ends it.
 fn front(line: &[u8]) -> (&[u8], &[u8])
     requires some { 0 < length line.now }
     requires first { slice_index line.now 0 ≢ 32 }
@@ -29,7 +29,7 @@ fn front(line: &[u8]) -> (&[u8], &[u8])
     (line, &line[line.len()..])
 }
 
-/// The first word of a line, and what stands behind it; None where there is no word.
+/// The first word of a line, and what stands after it; None where there is no word.
 pub(crate) fn next_word(line: &[u8]) -> Option<(&[u8], &[u8])>
     ensures some { IfSome result (λ x. words_of line.now ≡ x.0.now ∷ words_of x.1.now) }
     ensures none { IfNone result (words_of line.now ≡ []) }

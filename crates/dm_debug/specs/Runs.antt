@@ -21,11 +21,12 @@ stop_text (Some stop.InputEnded) = codes "input ended"
 stop_text (Some stop.Destroyed) = codes "destroyed"
 stop_text (Some stop.Memory) = codes "memory"
 
--- the code of an end
+-- the exit code of a program that has ended, in two digits
 abbrev pub code_text : Option Stop → List ℕ
 code_text (Some (stop.Exited code)) = two_digits code
 code_text _ = []
 
+-- the line of why a run stopped
 abbrev pub stop_line : Option Stop → List ℕ
 stop_line why = stop_text why ++ code_text why ++ 10 ∷ []
 
@@ -47,7 +48,7 @@ pub data IsTrace (s : State) (n : ℕ) (text : List ℕ) (t : State) : Type 0 wh
   whole : Traces s n text t → IsTrace s n text t
   cut : (made : ℕ) (before : State) (told : List ℕ) (why : Stop) → made < n → Traces s made told before → Answers before (Some why) t → text ≡ told ++ stop_line (Some why) → IsTrace s n text t
 
--- some first steps of them
+-- some first steps of a trace
 pub data TracesPart (s : State) (n : ℕ) (t : State) : Type 0 where
   some : (made : ℕ) (told : List ℕ) → made ≤ n → Traces s made told t → TracesPart s n t
   next : (made : ℕ) (before : State) (told : List ℕ) → made < n → Traces s made told before → Answers before None t → TracesPart s n t

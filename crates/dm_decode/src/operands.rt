@@ -40,7 +40,7 @@ fn on_nothing(displacement: u16) -> Address
     }
 }
 
-/// The memory operand that the mod and r/m fields name, if they name one, and the bytes behind its
+/// The memory operand that the mod and r/m fields name, if they name one, and the bytes after its
 /// displacement.
 #[tactic(auto, unfolding(crate::specs::inner::Reading::memory_at))]
 fn memory_of(mode: u8, rm: u8, bytes: &[u8]) -> Option<(Option<Address>, &[u8])>
@@ -65,7 +65,7 @@ fn memory_of(mode: u8, rm: u8, bytes: &[u8]) -> Option<(Option<Address>, &[u8])>
     }
 }
 
-/// The fields of the mod r/m byte with the displacement, and the bytes behind them.
+/// The fields of the mod r/m byte with the displacement, and the bytes after them.
 #[tactic(auto, unfolding(crate::specs::inner::Reading::fields_at))]
 pub fn fields_of(bytes: &[u8]) -> Option<(Fields, &[u8])>
     ensures reads { seen result ≡ fields_at bytes.now }
@@ -93,7 +93,7 @@ fn place(width: Width, fields: Fields) -> Operand
     }
 }
 
-/// The operand of the kind, where the mod r/m byte has these fields, and the bytes behind it.
+/// The operand of the kind, where the mod r/m byte has these fields, and the bytes after it.
 #[tactic(auto, unfolding(crate::specs::inner::Reading::operand_at))]
 pub fn operand_of(kind: OperandKind, fields: Fields, bytes: &[u8]) -> Option<(Operand, &[u8])>
     requires register { fields.register < 8 }

@@ -52,7 +52,7 @@ fn strip(prefixes: Prefixes, bytes: &[u8]) -> (Prefixes, &[u8])
     }
 }
 
-/// At most four prefixes and the action behind them, and the bytes behind that.
+/// At most four prefixes and the action after them, and the bytes after that.
 #[tactic(auto, unfolding(crate::specs::inner::Reading::prefixed_at))]
 pub fn prefixed_of(bytes: &[u8]) -> Option<((Prefixes, Action), &[u8])>
     ensures { seen result ≡ prefixed_at bytes.now }

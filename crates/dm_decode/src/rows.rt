@@ -24,7 +24,7 @@ fn needs_fields(kind: OperandKind) -> bool
 }
 
 /// The row under the first byte's entry with the fields of its mod r/m byte, if it has one, and the
-/// bytes behind them.
+/// bytes after them.
 #[tactic(auto, unfolding(crate::specs::inner::Reading::row_at))]
 fn row_of(entry: OpcodeEntry, bytes: &[u8]) -> Option<((Row, Fields), &[u8])>
     requires { IfGroup entry (λ g. g < 17) }
@@ -62,7 +62,7 @@ fn row_of(entry: OpcodeEntry, bytes: &[u8]) -> Option<((Row, Fields), &[u8])>
     }
 }
 
-/// The action that the bytes begin with, and the bytes behind it.
+/// The action that the bytes begin with, and the bytes after it.
 #[tactic(auto, unfolding(crate::specs::inner::Reading::action_at))]
 pub fn action_of(bytes: &[u8]) -> Option<(Action, &[u8])>
     ensures { seen result ≡ action_at bytes.now }

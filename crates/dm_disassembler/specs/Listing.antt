@@ -1,7 +1,7 @@
 -- The lines of some bytes, with which a program for offset 0100h is written down: at each place the instruction that
 -- stands there, as text where its bytes are its preferred ones, else as data with the text in a comment; a byte that
 -- begins no instruction alone. Source: Intel 8086 Family User's Manual, section 2.9 (statements of ASM-86); how data is
--- told is this machine's own.
+-- written is this machine's own.
 use Rattle.std.specs.Prelude.{ℕ, ◌+◌, ◌<◌, ◌≤◌, List, [], ◌∷◌, ◌++◌, length, take, drop, flat_map, codes}
 use Rattle.dm_ins.specs.declared.ins.Ins.{Ins}
 use Rattle.dm_ins.specs.Ins.{Spells}
@@ -19,7 +19,7 @@ pub record StandsInFile (bytes : List ℕ) (at : ℕ) (i : Ins) (k : ℕ) : Type
   pub short : k ≤ 16
   pub spells : Spells i (bytes_at bytes at k)
 
--- numbers with commas between them, behind DB
+-- numbers with commas between them, after DB
 abbrev pub data_text : List ℕ → List ℕ
 data_text [] = codes "DB "
 data_text (b ∷ bytes) = codes "DB " ++ byte_digits b ++ flat_map (λ c. codes "," ++ byte_digits c) bytes

@@ -18,20 +18,23 @@ driver_at c =
     if c.cs == expanded_memory_segment then (if c.ip == expanded_memory_offset then Some ExpandedMemory else None) else
     if c.cs == entry_segment then (if c.ip == multiplex_offset then Some Multiplex else if c.ip == extended_memory_offset then Some ExtendedMemory else None) else None
 
--- what a driver acts on: the caller's registers, the driver's tables and memory
+-- what the expanded memory driver acts on: the caller's registers, the driver's tables, and memory
 abbrev pub expanded_caller : State → expanded.Caller
 expanded_caller s = expanded.caller s.cpu s.ems s.memory
 
+-- what the extended memory driver acts on: the caller's registers, the driver's tables, and memory
 abbrev pub extended_caller : State → extended.Caller
 extended_caller s = extended.caller s.cpu s.xms s.memory
 
+-- the state with the registers, memory and tables that the expanded memory driver leaves
 abbrev pub after_expanded : State → expanded.Caller → State
 after_expanded s c = record s { cpu = c.cpu; memory = c.x.memory; ems = c.x.ems }
 
+-- the state with the registers, memory and tables that the extended memory driver leaves
 abbrev pub after_extended : State → extended.Caller → State
 after_extended s c = record s { cpu = c.cpu; memory = c.x.memory; xms = c.x.xms }
 
--- after the driver's act
+-- the state after the driver's act, before the return to the program
 abbrev pub acted : State → Driver → State
 acted s ExpandedMemory = after_expanded s (expanded_memory.dispatched (expanded_caller s))
 acted s Multiplex = record s { cpu = multiplex_reply s.cpu }

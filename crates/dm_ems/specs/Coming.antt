@@ -11,7 +11,8 @@ pub record IsNewPage (x y : Expanded) (block : ℕ) : Type 0 where
   pub live : IsLive y.memory.blocks block
   pub bytes : page_bytes y.memory block ≡ zeros 16
 
--- the handle has n pages: the first ones that it had, and behind them new ones. Each page is still a block of its own
+-- the handle has n pages: the first ones that it had, and after them new ones of zeros. Each page is still a block of
+-- its own
 pub record HasPages (x y : Expanded) (handle n : ℕ) : Type 0 where
   pub count : page_count y.ems handle ≡ n
   pub new : List ℕ

@@ -7,12 +7,15 @@ use Rattle.dm_ems.specs.declared.tables.Handle.{Handle}
 use Rattle.dm_ems.specs.declared.tables.Page.{Page}
 use Rattle.dm_ems.specs.Tables.{Expanded}
 
+-- the block of page k of the list
 abbrev pub block_at : List Page → ℕ → ℕ
 block_at pages k = (slice_index_or pages k (record { handle = 0; block = 0 })).block
 
+-- the handle of page k of the list
 abbrev pub handle_at : List Page → ℕ → ℕ
 handle_at pages k = (slice_index_or pages k (record { handle = 0; block = 0 })).handle
 
+-- the handle is in use
 abbrev pub IsUsed : List (Option Handle) → ℕ → Type 0
 IsUsed handles handle = IsSome (slice_index_or handles handle None)
 
@@ -20,6 +23,7 @@ IsUsed handles handle = IsSome (slice_index_or handles handle None)
 abbrev pub IsOwned : List Page → ℕ → Type 0
 IsOwned pages block = (k : ℕ) × (k < length pages) × (block_at pages k ≡ block)
 
+-- two pages have different blocks
 abbrev pub HasOtherBlock : Page → Page → Type 0
 HasOtherBlock p q = p.block ≢ q.block
 
@@ -27,10 +31,12 @@ HasOtherBlock p q = p.block ≢ q.block
 abbrev pub ShowsPages : List Page → List (Option ℕ) → Type 0
 ShowsPages pages windows = (k : ℕ) → IfSome (slice_index_or windows k None) (IsOwned pages)
 
+-- each saved window of a handle shows a page, if it shows anything
 abbrev pub SavesPages : List Page → Option Handle → Type 0
 SavesPages pages None = Unit {0}
 SavesPages pages (Some handle) = IfSome handle.saved (ShowsPages pages)
 
+-- tables of expanded memory and memory are consistent
 pub record IsConsistent (x : Expanded) : Type 0 where
   pub places : length x.memory.blocks.places ≡ 576
   pub contents : length x.memory.blocks.contents ≡ 576

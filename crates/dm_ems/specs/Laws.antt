@@ -13,10 +13,11 @@ use Rattle.dm_ems.specs.Handles.{allocate, deallocate}
 use Rattle.dm_ems.specs.Maps.{map_page, save_map, restore_map}
 use Rattle.dm_ems.specs.Names.{set_name}
 
--- with a pool of no block, and no window
+-- the tables of a new machine and its memory are consistent: the pool has no block, and no window shows one
 abbrev pub StartIsConsistent : Type 0
 StartIsConsistent = (total units : ℕ) (low : List ℕ) → total ≤ 512 → IsConsistent (expanded (new_tables total) (of_ram low (no_blocks units)))
 
+-- each call leaves tables and memory consistent, and so do the steps of reallocation
 pub record CallsKeepConsistency : Type 0 where
   pub allocating : (x : Expanded) (n : ℕ) → IsConsistent x → IsConsistent (left x (allocate x n))
   pub deallocating : (x : Expanded) (handle : ℕ) → IsConsistent x → IsConsistent (left x (deallocate x handle))
@@ -27,7 +28,7 @@ pub record CallsKeepConsistency : Type 0 where
   pub appending : (x : Expanded) (handle : ℕ) → IsUsed x.ems.handles handle → IsConsistent x → IsConsistent (appended_page x handle)
   pub cutting : (x : Expanded) (handle count : ℕ) → IsConsistent x → IsConsistent (cut x handle count)
 
--- a memory of the same map, as a write leaves it
+-- tables stay consistent with a memory of the same map, as a write leaves it
 abbrev pub WritesKeepConsistency : Type 0
 WritesKeepConsistency = (x : Expanded) (m : Memory) → IsShaped x.memory m → IsConsistent x → IsConsistent (with_memory x m)
 
@@ -43,6 +44,6 @@ pub record CallsLeaveOutside : Type 0 where
   pub cutting : (x : Expanded) (handle count : ℕ) → LeavesOutside x (cut x handle count)
   pub writing : (x : Expanded) (m : Memory) → IsShaped x.memory m → LeavesOutside x (with_memory x m)
 
--- a new handle has as many pages as were asked for
+-- a new handle has as many pages as were asked for, all new and of zeros, and tables and memory stay consistent
 abbrev pub PagesCome : Type 0
 PagesCome = (x y : Expanded) (n handle : ℕ) → IsConsistent x → HasNumbers x → allocate x n ≡ Ok (handle, y) → HasPages x y handle n

@@ -7,7 +7,7 @@ use Rattle.dm_ems.specs.declared.status.Status.TheVariants.{UnknownHandle, NoSuc
 use Rattle.dm_ems.specs.Tables.{Expanded, blocks_of, with_windows}
 use Rattle.dm_ems.specs.Calls.{need, slot, with_slot, with_memory}
 
--- page FFFFh unmaps
+-- a window shows a block from now on, or none
 abbrev pub showing : Expanded → ℕ → Option ℕ → Expanded
 showing x window block = with_memory x (with_window x.memory window block)
 

@@ -12,6 +12,7 @@ use Rattle.dm_ems.specs.Tables.{Tables, Expanded, page_count, no_name}
 use Rattle.dm_ems.specs.Calls.{need, slot, with_slot, with_memory}
 use Rattle.dm_ems.specs.Handles.{in_use}
 
+-- a word as two bytes, low byte first
 abbrev pub word_bytes : ℕ → List ℕ
 word_bytes w = w % 256 ∷ w / 256 ∷ []
 
@@ -29,6 +30,7 @@ abbrev pub page_entry : Tables → ℕ → Option Handle → List ℕ
 page_entry ems handle None = []
 page_entry ems handle (Some s) = word_bytes handle ++ word_bytes (page_count ems handle)
 
+-- the entries of all 64 handles, rising; a handle that is not in use has none
 abbrev pub page_entries : Expanded → List ℕ
 page_entries x = in_turn (λ handle. page_entry x.ems handle (slot x handle)) 64
 
@@ -41,6 +43,7 @@ abbrev pub name_entry : ℕ → Option Handle → List ℕ
 name_entry handle None = []
 name_entry handle (Some s) = word_bytes handle ++ s.name
 
+-- the entries of all 64 handles, rising; a handle that is not in use has none
 abbrev pub name_entries : Expanded → List ℕ
 name_entries x = in_turn (λ handle. name_entry handle (slot x handle)) 64
 
@@ -52,6 +55,7 @@ list_names x segment offset = (in_use x, writing x segment offset (name_entries 
 abbrev pub is_no_name : List ℕ → Bool
 is_no_name name = pointwise nat_eq name no_name
 
+-- the handle is in use, and has this name
 abbrev pub has_name : List ℕ → Option Handle → Bool
 has_name name None = false
 has_name name (Some s) = pointwise nat_eq s.name name

@@ -11,7 +11,7 @@ pub record IsOutside (x : Expanded) (block bytes : ℕ) : Type 0 where
   pub size : length (page_bytes x.memory block) ≡ bytes
   pub apart : IsOwned x.ems.pages block → ⊥
 
--- such blocks stay, no other one is there that is no page's, and A20 stays
+-- blocks that are no pages stay, no other one is there, and A20 stays
 pub record LeavesOutside (x y : Expanded) : Type 0 where
   pub blocks : (block bytes : ℕ) → IsOutside x block bytes → IsOutside y block bytes
   pub others : (block : ℕ) → IsLive y.memory.blocks block → (IsOwned y.ems.pages block → ⊥) → IsLive x.memory.blocks block × (IsOwned x.ems.pages block → ⊥)

@@ -20,9 +20,11 @@ pub record Expanded : Type 0 where
   pub ems : Tables
   pub memory : Memory
 
+-- expanded memory of these tables and this memory
 abbrev pub expanded : Tables → Memory → Expanded
 expanded ems memory = record { ems = ems; memory = memory }
 
+-- eight zeros: a handle with no name
 abbrev pub no_name : List ℕ
 no_name = 0 ∷ 0 ∷ 0 ∷ 0 ∷ 0 ∷ 0 ∷ 0 ∷ 0 ∷ []
 
@@ -36,6 +38,7 @@ new_tables total = record { total = total; handles = Some blank ∷ replicate 63
 
 -- ---- pages
 
+-- the page is one of this handle
 abbrev pub is_of : ℕ → Page → Bool
 is_of handle page = page.handle == handle
 
@@ -43,6 +46,7 @@ is_of handle page = page.handle == handle
 abbrev pub blocks_of : Tables → ℕ → List ℕ
 blocks_of ems handle = map (λ (page : Page). page.block) (filter (is_of handle) ems.pages)
 
+-- how many pages a handle has
 abbrev pub page_count : Tables → ℕ → ℕ
 page_count ems handle = count_by (is_of handle) ems.pages
 
@@ -56,21 +60,23 @@ unallocated x = min (count_fitting 16 (gaps x.memory.blocks.places x.memory.bloc
 
 -- ---- a page comes
 
+-- a new block as one more page of a handle, if there is the block
 abbrev pub with_page : Expanded → ℕ → Option (ℕ × Blocks) → Expanded
 with_page x handle None = x
 with_page x handle (Some p) = record { ems = record x.ems { pages = x.ems.pages ++ record { handle = handle; block = p.0 } ∷ [] }; memory = with_blocks x.memory p.1 }
 
--- a page more behind those of a handle: zeros, in the lowest gap that holds 16 units
+-- a page more after those of a handle: zeros, in the lowest gap that holds 16 units
 unfoldable pub appended_page : Expanded → ℕ → Expanded
 appended_page x handle = with_page x handle (taken x.memory.blocks 16)
 
--- n pages more
+-- n pages more after those of a handle
 abbrev pub appended : Expanded → ℕ → ℕ → Expanded
 appended x handle zero = x
 appended x handle (suc n) = appended_page (appended x handle n) handle
 
 -- ---- a page goes
 
+-- the memory with other windows in the frame
 abbrev pub with_windows : Memory → List (Option ℕ) → Memory
 with_windows m windows = record m { windows = windows }
 
@@ -79,6 +85,7 @@ abbrev pub unmapped : ℕ → Option ℕ → Option ℕ
 unmapped block None = None
 unmapped block (Some shown) = if shown == block then None else Some shown
 
+-- what saved windows show once a block is gone
 abbrev pub unmapped_saved : ℕ → Option (List (Option ℕ)) → Option (List (Option ℕ))
 unmapped_saved block None = None
 unmapped_saved block (Some windows) = Some (map (unmapped block) windows)
@@ -88,6 +95,7 @@ abbrev pub unmapped_slot : ℕ → Option Handle → Option Handle
 unmapped_slot block None = None
 unmapped_slot block (Some handle) = Some (record handle { saved = unmapped_saved block handle.saved })
 
+-- the page is this block
 abbrev pub is_block : ℕ → Page → Bool
 is_block block page = page.block == block
 
@@ -99,10 +107,11 @@ without_page x block (Some i) = record {
   memory = with_blocks (with_windows x.memory (map (unmapped block) x.memory.windows)) (without x.memory.blocks block);
 }
 
+-- the page that is this block goes, if there is one
 unfoldable pub forgotten : Expanded → ℕ → Expanded
 forgotten x block = without_page x block (position (is_block block) x.ems.pages)
 
--- each of the pages in turn
+-- the pages that are these blocks go, one after the other
 abbrev pub forgotten_all : Expanded → List ℕ → Expanded
 forgotten_all x [] = x
 forgotten_all x (block ∷ blocks) = forgotten_all (forgotten x block) blocks

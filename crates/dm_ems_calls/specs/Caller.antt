@@ -1,4 +1,4 @@
--- What a call of a driver acts on, and how it answers (LIM EMS 4.0, section 3: AH is the status, 0 for success).
+-- What a call of a driver acts on, and how it returns (LIM EMS 4.0, section 3: AH is the status, 0 for success).
 use Rattle.std.specs.Prelude.{ℕ, Result, Ok, Err}
 use Rattle.dm_space.specs.Memory.{Memory}
 use Rattle.dm_ins.specs.declared.operand.ByteRegister.TheVariants.{Ah}
@@ -34,12 +34,12 @@ succeeded cpu = with_status cpu 0
 abbrev pub refused : Cpu → Status → Cpu
 refused cpu e = with_status cpu (code_of e)
 
--- the registers after an answer: success changes them as `set` does, a refusal not at all
+-- the registers after a call: success changes them as `set` does, a refusal AH alone
 abbrev pub settled : {A : Type 0} → Cpu → Result A Status → (A → Cpu) → Cpu
 settled cpu (Ok v) set = succeeded (set v)
 settled cpu (Err e) set = refused cpu e
 
--- the same where success sets AH too
+-- the registers after a call whose success sets AH too
 abbrev pub settled_with_status : {A : Type 0} → Cpu → Result A Status → (A → Cpu) → Cpu
 settled_with_status cpu (Ok v) set = set v
 settled_with_status cpu (Err e) set = refused cpu e

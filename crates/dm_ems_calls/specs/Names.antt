@@ -16,7 +16,7 @@ get_name c = after_call c (rows.get_name c.x c.cpu.dx c.cpu.es c.cpu.di) (λ don
 unfoldable pub set_name : Caller → Caller
 set_name c = after_call c (rows.set_name c.x c.cpu.dx c.cpu.ds c.cpu.si) (λ done. c.cpu)
 
--- 53h
+-- 53h: AL says whether a name is read or set
 unfoldable pub handle_name : Caller → Caller
 handle_name c =
     if byte_of c.cpu Al == 0 then get_name c else
@@ -36,7 +36,7 @@ find_name c = on_cpu c (settled c.cpu (rows.find_name c.x c.cpu.ds c.cpu.si) (λ
 unfoldable pub tell_handles : Cpu → Cpu
 tell_handles cpu = succeeded (record cpu { bx = 64 })
 
--- 54h
+-- 54h: AL says whether all names are listed, one is searched, or handles are counted
 unfoldable pub directory : Caller → Caller
 directory c =
     if byte_of c.cpu Al == 0 then list_names c else

@@ -14,11 +14,11 @@ move_region c =
     let r = rows.move_region c.x c.cpu.ds c.cpu.si in
     record { cpu = settled_with_status c.cpu (answer r) (λ how. with_status c.cpu (rows.moved_code how)); x = left c.x r }
 
--- 57h, 1
+-- 57h, 1: the regions exchange their bytes
 unfoldable pub exchange_region : Caller → Caller
 exchange_region c = after_call c (rows.exchange_region c.x c.cpu.ds c.cpu.si) (λ done. c.cpu)
 
--- 57h
+-- 57h: AL says whether regions are moved or exchanged
 unfoldable pub regions : Caller → Caller
 regions c =
     if byte_of c.cpu Al == 0 then move_region c else

@@ -1,4 +1,4 @@
-//! How a call of the expanded memory driver answers (LIM EMS 4.0, section 3): AH is the status.
+//! How a call of the expanded memory driver returns (LIM EMS 4.0, section 3): AH is the status.
 ghost use Rattle.std.specs.Prelude.{◌≡◌};
 ghost use Rattle.dm_ems_move.specs.RegionMoves.{moved_code};
 ghost use Rattle.dm_ems_calls.specs.Caller.{with_status, succeeded, refused, settled, settled_with_status};

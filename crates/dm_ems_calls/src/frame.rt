@@ -55,7 +55,7 @@ fn count_windows(cpu: &mut Cpu)
     succeed(cpu);
 }
 
-/// 58h: AL says whether the windows are told or counted.
+/// 58h: AL says whether the windows are listed or counted.
 #[tactic(auto, unfolding(crate::specs::Frame::mappable))]
 pub(crate) fn mappable(cpu: &mut Cpu, ems: &Ems, space: &mut Space)
     ensures { caller cpu.new ems.now space.new.memory ≡ mappable (caller cpu.old ems.now space.old.memory) }

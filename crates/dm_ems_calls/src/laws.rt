@@ -1,8 +1,8 @@
 //! Laws of the driver's calls: the contract of a function that does nothing.
 ghost use Rattle.dm_ems_calls.specs.Laws.{ExpandedMemoryCallsKeep};
 
-/// The law that each call keeps the tables of expanded memory and the memory consistent, if they were before, and leaves
-/// A20 and the blocks of the pool that are no pages. It does nothing when called.
+/// The law that each call keeps the tables of expanded memory and the memory consistent, if they were before, and
+/// leaves A20 and the blocks of the pool that are no pages. It does nothing when called.
 pub fn expanded_memory_calls_keep()
     ensures { ExpandedMemoryCallsKeep }
 {}

@@ -1,5 +1,5 @@
-//! The calls of the expanded memory driver (LIM EMS 4.0): what each function of INT 67h reads and sets in the registers of
-//! the program that calls.
+//! The calls of the expanded memory driver (LIM EMS 4.0): what each function of INT 67h reads and sets in the registers
+//! of the program that calls.
 #![tactic(auto)]
 
 mod answers;

@@ -30,7 +30,7 @@ fn set_name(cpu: &mut Cpu, ems: &mut Ems, space: &Space)
     settle(cpu, res);
 }
 
-/// 53h: AL says whether a name is told or given.
+/// 53h: AL says whether a name is read or set.
 #[tactic(auto, unfolding(crate::specs::Names::handle_name))]
 pub(crate) fn handle_name(cpu: &mut Cpu, ems: &mut Ems, space: &mut Space)
     ensures { caller cpu.new ems.new space.new.memory ≡ handle_name (caller cpu.old ems.old space.old.memory) }
@@ -70,7 +70,7 @@ fn tell_handles(cpu: &mut Cpu)
     succeed(cpu);
 }
 
-/// 54h: AL says whether all names are told, one is searched, or handles are counted.
+/// 54h: AL says whether all names are listed, one is searched, or handles are counted.
 #[tactic(auto, unfolding(crate::specs::Names::directory))]
 pub(crate) fn directory(cpu: &mut Cpu, ems: &Ems, space: &mut Space)
     ensures { caller cpu.new ems.now space.new.memory ≡ directory (caller cpu.old ems.now space.old.memory) }

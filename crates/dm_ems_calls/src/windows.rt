@@ -40,7 +40,8 @@ pub(crate) fn restore_map(cpu: &mut Cpu, ems: &mut Ems, space: &mut Space)
     settle(cpu, res);
 }
 
-/// 4Eh: writes the map of the windows at ES:DI, sets it from DS:SI, does both, or returns its size in AL; AL selects which.
+/// 4Eh: writes the map of the windows at ES:DI, sets it from DS:SI, does both, or returns its size in AL; AL selects
+/// which.
 #[tactic(auto, unfolding(crate::specs::Windows::whole_map))]
 pub(crate) fn whole_map(cpu: &mut Cpu, ems: &Ems, space: &mut Space)
     requires { IsConsistent (expanded ems.now space.old.memory) }

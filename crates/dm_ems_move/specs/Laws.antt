@@ -12,7 +12,7 @@ use Rattle.dm_ems_move.specs.Many.{map_many}
 use Rattle.dm_ems_move.specs.Maps.{whole_map}
 use Rattle.dm_ems_move.specs.RegionMoves.{move_region, exchange_region}
 
--- each of these calls keeps tables and memory consistent, and leaves what is outside of expanded memory
+-- each of these calls leaves tables and memory consistent
 pub record MovesKeepConsistency : Type 0 where
   pub reallocating : (x : Expanded) (handle n : ℕ) → IsConsistent x → IsConsistent (left x (reallocate x handle n))
   pub mapping : (x : Expanded) (mode handle count segment offset : ℕ) → IsConsistent x → IsConsistent (left x (map_many x mode handle count segment offset))
@@ -20,6 +20,7 @@ pub record MovesKeepConsistency : Type 0 where
   pub moving : (x : Expanded) (segment offset : ℕ) → IsConsistent x → IsConsistent (left x (move_region x segment offset))
   pub exchanging : (x : Expanded) (segment offset : ℕ) → IsConsistent x → IsConsistent (left x (exchange_region x segment offset))
 
+-- each of these calls leaves what is outside of expanded memory
 pub record MovesLeaveOutside : Type 0 where
   pub reallocating : (x : Expanded) (handle n : ℕ) → LeavesOutside x (left x (reallocate x handle n))
   pub mapping : (x : Expanded) (mode handle count segment offset : ℕ) → LeavesOutside x (left x (map_many x mode handle count segment offset))
@@ -27,6 +28,7 @@ pub record MovesLeaveOutside : Type 0 where
   pub moving : (x : Expanded) (segment offset : ℕ) → LeavesOutside x (left x (move_region x segment offset))
   pub exchanging : (x : Expanded) (segment offset : ℕ) → LeavesOutside x (left x (exchange_region x segment offset))
 
--- a handle has as many pages as were asked for, if that was not refused
+-- a handle has as many pages as were asked for, if that was not refused: its first ones, then new ones of zeros; and
+-- tables and memory stay consistent
 abbrev pub PagesCome : Type 0
 PagesCome = (x y : Expanded) (handle n : ℕ) (r : Reallocated) → IsConsistent x → HasNumbers x → reallocate x handle n ≡ Ok (r, y) → r.refused ≡ None → HasPages x y handle n

@@ -21,14 +21,14 @@ paired blocks by_segment page value windows =
     need (slice_get blocks page) NoSuchPage (λ block.
     Ok (slice_set windows window (Some block))))
 
--- what they show after the first n of the pairs that stand at segment:offset, or why one of these is bad
+-- what the windows show after the first n of the pairs that stand at segment:offset, or why one of these is bad
 abbrev pub after_pairs : Memory → List ℕ → Bool → ℕ → ℕ → ℕ → Result (List (Option ℕ)) Status
 after_pairs m blocks by_segment segment offset zero = Ok m.windows
 after_pairs m blocks by_segment segment offset (suc n) =
     and_then (after_pairs m blocks by_segment segment offset n)
     (paired blocks by_segment (word_after m segment offset (4 * n)) (word_after m segment offset (4 * n + 2)))
 
--- pages of a handle come into windows, told by numbers (mode 0) or segments (mode 1)
+-- pages of a handle come into windows, named by numbers (mode 0) or segments (mode 1)
 unfoldable pub map_many : Expanded → ℕ → ℕ → ℕ → ℕ → ℕ → Result (Unit {0} × Expanded) Status
 map_many x mode handle count segment offset =
     if nat_lt 1 mode then Err NoSubfunction else

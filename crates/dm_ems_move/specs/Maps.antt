@@ -18,13 +18,15 @@ abbrev pub or_none : Option (ℕ × ℕ) → ℕ × ℕ
 or_none None = (0xFFFF, 0xFFFF)
 or_none (Some n) = n
 
--- those of the page that a window shows
+-- the handle and the logical page that a window shows; FFFFh twice where it shows none
 abbrev pub numbers : List Page → Option ℕ → ℕ × ℕ
 numbers pages window = or_none (numbers_of pages window)
 
+-- a handle and a logical page as four bytes, two words
 abbrev pub map_entry : ℕ × ℕ → List ℕ
 map_entry n = word_bytes n.0 ++ word_bytes n.1
 
+-- the bytes of windows, four for each
 abbrev pub map_entries : List Page → List (Option ℕ) → List ℕ
 map_entries pages [] = []
 map_entries pages (window ∷ windows) = map_entry (numbers pages window) ++ map_entries pages windows
@@ -42,7 +44,7 @@ meant ems handle page =
     if (handle == 0xFFFF) && (page == 0xFFFF) then Some None else
     when (slice_index_or ems.handles handle None) (λ s. when (slice_get (blocks_of ems handle) page) (λ block. Some (Some block)))
 
--- that of the window k of a map at segment:offset
+-- what window k is to show by a map at segment:offset, if the map means a page or none
 abbrev pub meant_at : Tables → Memory → ℕ → ℕ → ℕ → Option (Option ℕ)
 meant_at ems m segment offset k = meant ems (word_after m segment offset (4 * k)) (word_after m segment offset (4 * k + 2))
 
@@ -57,6 +59,7 @@ map_at ems m segment offset =
 
 -- ---- the call
 
+-- the four windows of the frame show these blocks, or none
 abbrev pub showing_all : Expanded → List (Option ℕ) → Expanded
 showing_all x windows = with_memory x (with_windows x.memory windows)
 

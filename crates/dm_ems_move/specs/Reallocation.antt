@@ -6,7 +6,7 @@ use Rattle.dm_ems.specs.Tables.{Expanded, page_count, unallocated, appended, cut
 use Rattle.dm_ems.specs.Calls.{need, slot}
 use Rattle.dm_ems_move.specs.declared.reallocation.Reallocated.{Reallocated}
 
--- with as many pages as before for over the total, then for over what is free
+-- what a reallocation returns: how many pages the handle has, and why it has no more
 abbrev pub reallocated : ℕ → Option Status → Reallocated
 reallocated pages refused = record { pages = pages; refused = refused }
 

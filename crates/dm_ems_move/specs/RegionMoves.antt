@@ -17,8 +17,9 @@ use Rattle.dm_ems_move.specs.declared.region_moves.Moved.TheVariants as moved_is
 use Rattle.dm_moves.specs.Buffers.{word_after}
 use Rattle.dm_ems_move.specs.Steps.{and_then}
 
--- ---- the structure at segment:offset: how many bytes, a double word; then the source and the destination, seven bytes each
+-- ---- the structure at segment:offset: the length, a double word; then source and destination, seven bytes each
 
+-- how many bytes the structure says, a double word
 abbrev pub length_at : Memory → ℕ → ℕ → ℕ
 length_at m segment offset = word_after m segment offset 0 + 65536 * word_after m segment offset 2
 
@@ -33,7 +34,7 @@ described m segment offset k = record {
 
 -- ---- regions
 
--- n bytes of conventional memory: none lies behind FFFFFh
+-- n bytes of conventional memory: none lies above FFFFFh
 abbrev pub conventional : Description → ℕ → Result Span Status
 conventional d n = if nat_lt 0x100000 (d.page * 16 + d.offset + n) then Err PastMemory else Ok (span Linear (d.page * 16 + d.offset) [])
 
@@ -46,6 +47,7 @@ expanded_region ems d n =
     if nat_lt (page_count ems d.handle * 0x4000) (d.page * 0x4000 + d.offset + n) then Err PastPages else
     Ok (span Pages (d.page * 0x4000 + d.offset) (blocks_of ems d.handle)))
 
+-- the region of n bytes that a description means: type 0 is conventional memory, type 1 expanded memory
 unfoldable pub region_of : Tables → Description → ℕ → Result Span Status
 region_of ems d n =
     if nat_lt 1 d.kind then Err UnknownKind else
@@ -57,30 +59,33 @@ regions_of x segment offset n =
     and_then (region_of x.ems (described x.memory segment offset 4) n) (λ from.
     and_then (region_of x.ems (described x.memory segment offset 11) n) (λ to. Ok (from, to)))
 
+-- a span of conventional memory
 abbrev pub is_linear : SpanKind → Bool
 is_linear Linear = true
 is_linear Pages = false
 is_linear Single = false
 
--- one is of conventional memory, and the other is not
+-- one span is of conventional memory, and the other is not
 abbrev pub are_mixed : Span → Span → Bool
 are_mixed from to = if is_linear from.kind then (if is_linear to.kind then false else true) else is_linear to.kind
 
 -- ---- the calls
 
+-- n bytes of one region come to the other; where they overlap, both must be of one type
 unfoldable pub move_between : Expanded → ℕ → Span → Span → Result (Moved × Expanded) Status
 move_between x n from to =
     if overlap x.memory from to n
     then (if are_mixed from to then Err KindsOverlap else Ok (moved_is.Overlapping, with_memory x (span_moved x.memory from to n)))
     else Ok (moved_is.Apart, with_memory x (span_moved x.memory from to n))
 
+-- two regions of n bytes exchange their bytes; they must not overlap
 unfoldable pub exchange_between : Expanded → ℕ → Span → Span → Result (Unit {0} × Expanded) Status
 exchange_between x n from to =
     if overlap x.memory from to n
     then (if are_mixed from to then Err KindsOverlap else Err ExchangeOverlaps)
     else Ok (tt, with_memory x (spans_exchanged x.memory from to n))
 
--- the bytes of one region come to another; where the two overlap, that is told
+-- the bytes of one region come to another; where the two overlap, the result says so
 unfoldable pub move_region : Expanded → ℕ → ℕ → Result (Moved × Expanded) Status
 move_region x segment offset =
     if length_at x.memory segment offset == 0 then Ok (moved_is.Apart, x) else

@@ -84,7 +84,7 @@ fn after_pairs(
 }
 
 /// Makes windows show logical pages of a handle: `count` pairs of two words stand at segment:offset, a logical page
-/// (FFFFh for none) and a window, which mode 0 tells by its number and mode 1 by its segment. Where pairs name one
+/// (FFFFh for none) and a window, which mode 0 names by its number and mode 1 by its segment. Where pairs name one
 /// window, the last of them counts.
 ///
 /// # Errors

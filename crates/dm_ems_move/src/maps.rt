@@ -132,8 +132,8 @@ fn write_map(ems: &Ems, space: &mut Space, segment: u16, offset: u16)
 
 /// The map of the frame, sixteen bytes: of each window the handle and the logical page that it shows, two words, or
 /// FFFFh twice where it shows none. Mode 0 writes it at the first address, mode 1 makes the windows show what a map at
-/// the second address tells, mode 2 does both, the second map read before the first is written, and mode 3 asks for its
-/// size alone, which is answered.
+/// the second address says, mode 2 does both, the second map read before the first is written, and mode 3 asks for its
+/// size alone, which it returns.
 ///
 /// # Errors
 ///

@@ -27,7 +27,7 @@ fn refused(pages: u16, status: Status) -> Reallocated
     }
 }
 
-/// Adds pages of zeros behind those of a handle.
+/// Adds pages of zeros after those of a handle.
 fn append_pages(ems: &mut Ems, space: &mut Space, handle: u16, count: u16)
     requires { length ems.old.pages + count ≤ ems.old.total }
     ensures left { expanded ems.new space.new.memory ≡ appended (expanded ems.old space.old.memory) handle count }
@@ -38,9 +38,9 @@ fn append_pages(ems: &mut Ems, space: &mut Space, handle: u16, count: u16)
     }
 }
 
-/// Gives a handle `count` pages in all. Its first ones stay; those behind `count` leave all windows and all saved
-/// windows; new ones, behind the others, are zeros. Where there are not enough (`OverTotal`, `OverFree`, in this
-/// order), nothing has changed, and the answer has the number of pages as it is.
+/// Gives a handle `count` pages in all. Its first ones stay; those after `count` leave all windows and all saved
+/// windows; new ones, after the others, are zeros. Where there are not enough (`OverTotal`, `OverFree`, in this
+/// order), nothing has changed, and the result has the number of pages as it is.
 ///
 /// # Errors
 ///

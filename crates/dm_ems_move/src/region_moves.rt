@@ -191,7 +191,7 @@ fn exchange_between(
 /// Moves bytes between regions of conventional memory and of pages of handles. The structure at segment:offset has
 /// eighteen bytes: how many bytes (a double word), and for the source and then the destination a type (0 conventional
 /// memory, 1 pages), a handle, an offset (in the segment or in the page), and a segment or a logical page (words). The
-/// source is read whole before anything is written; `Overlapping` tells that both regions share a byte. The scratch
+/// source is read whole before anything is written; `Overlapping` says that both regions share a byte. The scratch
 /// bytes of the space are overwritten.
 ///
 /// No bytes to move is `Apart`, whatever else the structure says, and the scratch bytes stay.

@@ -12,21 +12,25 @@ use Rattle.dm_drivers.specs.Drivers.{driver_at}
 use Rattle.dm_findings.specs.declared.calls.Call.{Call}
 use Rattle.dm_findings.specs.declared.calls.Call.TheVariants as call
 
+-- the call of a service; one of INT 21h has the number in AH
 abbrev pub of_service : Cpu → Service → Call
 of_service c service.DivideError = call.DivideError
 of_service c service.Terminate = call.Terminate
 of_service c service.Dos = call.Dos (byte_of c Ah)
 
+-- the call of a driver, with the function number in AH; INT 2Fh has none here
 abbrev pub of_driver : Cpu → Driver → Call
 of_driver c driver.ExpandedMemory = call.ExpandedMemory (byte_of c Ah)
 of_driver c driver.Multiplex = call.Multiplex
 of_driver c driver.ExtendedMemory = call.ExtendedMemory (byte_of c Ah)
 
+-- the call of the service, or else of the driver, if one of them acts
 abbrev pub call_by : Cpu → Option Service → Option Driver → Option Call
 call_by c (Some s) d = Some (of_service c s)
 call_by c None (Some d) = Some (of_driver c d)
 call_by c None None = None
 
--- the call that a step from these registers serves: that of the service or driver at CS:IP; none where an instruction acts
+-- the call that a step from these registers serves: that of the service or driver at CS:IP; none where an instruction
+-- acts
 unfoldable pub call_of : Cpu → Option Call
 call_of c = call_by c (service_at c) (driver_at c)

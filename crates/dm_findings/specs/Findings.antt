@@ -11,5 +11,6 @@ is_error (Refused code) = false
 is_error (Short asked largest) = false
 is_error _ = true
 
+-- what was found is an error, not a note
 abbrev pub is_an_error : Found → Bool
 is_an_error f = is_error f.finding

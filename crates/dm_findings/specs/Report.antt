@@ -3,6 +3,7 @@ use Rattle.std.specs.Prelude.{ℕ, suc, ◌-◌, ◌^◌, min, not, nat_lt, Bool
 use Rattle.dm_findings.specs.declared.finding.Found.{Found}
 use Rattle.dm_findings.specs.Findings.{is_an_error}
 
+-- what was found is a note, not an error
 abbrev pub is_a_note : Found → Bool
 is_a_note f = not (is_an_error f)
 
@@ -20,7 +21,7 @@ first_findings most errors notes (f ∷ fs) =
     then (if nat_lt errors most then f ∷ first_findings most (suc errors) notes fs else first_findings most (suc errors) notes fs)
     else (if nat_lt notes most then f ∷ first_findings most errors (suc notes) fs else first_findings most errors (suc notes) fs)
 
--- numbers stay at 2^64 - 1
+-- how many findings there are of a kind; the number stays at 2^64 - 1
 abbrev pub bounded_count : (Found → Bool) → List Found → ℕ
 bounded_count is fs = min (count_by is fs) (2 ^ 64 - 1)
 

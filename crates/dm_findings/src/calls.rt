@@ -1,4 +1,5 @@
-//! The calls that a program makes of services and drivers (MS-DOS Programmer's Reference, "System Calls"; LIM EMS 4.0; XMS 3.0).
+//! The calls that a program makes of services and drivers (MS-DOS Programmer's Reference, "System Calls"; LIM EMS 4.0;
+//! XMS 3.0).
 
 ghost use Rattle.std.specs.Prelude.{◌≡◌};
 ghost use Rattle.dm_findings.specs.Calls.{of_service, of_driver, call_of};

@@ -30,7 +30,8 @@ pub enum Finding {
     FreedTwice(u16),
     /// The call was refused with this code.
     Refused(u8),
-    /// The call was refused for want of memory: the paragraphs that it asked for, and the largest number of them that there is.
+    /// The call was refused, as there was not enough memory: the paragraphs that it asked for, and the largest number
+    /// of them that there is.
     Short(u16, u16),
     /// A handle of expanded memory, with so many pages.
     PagesKept(u16, u16),
@@ -65,7 +66,7 @@ impl Finding {
 pub enum Act {
     /// A service or a driver serves a call.
     Call(Call),
-    /// An instruction, and the offset behind it.
+    /// An instruction, and the offset after it.
     Instruction(Ins, u16),
 }
 

@@ -1,5 +1,5 @@
-//! Findings about the memory of programs, and their texts: what a step did to the headers of the arena, calls that were refused, and what a
-//! program left allocated.
+//! Findings about the memory of programs, and their texts: what a step did to the headers of the arena, calls that were
+//! refused, and what a program left allocated.
 #![tactic(auto)]
 
 mod calls;

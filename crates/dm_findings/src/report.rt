@@ -12,7 +12,8 @@ use std::marker::Model;
 /// How many findings of a kind a report keeps.
 const MOST: u64 = 100;
 
-/// The first 100 errors and the first 100 notes that were found, in the order in which they happened, and how many of each there are.
+/// The first 100 errors and the first 100 notes that were found, in the order in which they happened, and how many of
+/// each there are.
 ///
 /// Contracts see the findings that are kept and the two numbers.
 #[derive(Drop)]
@@ -68,7 +69,8 @@ impl Report {
         Ok(())
     }
 
-    /// Reports one more finding: it is kept if fewer than 100 of its kind stand before it, and counted. The numbers stay at 2^64 - 1.
+    /// Reports one more finding: it is kept if fewer than 100 of its kind stand before it, and counted. The numbers
+    /// stay at 2^64 - 1.
     ///
     /// An `Err` says that an allocation failed, and that nothing has changed.
     pub fn add(&mut self, found: Found) -> Result<(), AllocError>

@@ -33,8 +33,8 @@ pub record Checks (h : Hosted) (n : ℕ) (stop : Stop) (g : Hosted) : Type 0 whe
   pub checked : IsChecked before n stop text after
   pub is : g ≡ record { stage = Loaded after; answer = text }
 
--- why there is no report, and what is left: no program is loaded, and nothing has changed; or memory was refused, and a first part of the run
--- was made
+-- why there is no report, and what is left: no program is loaded, and nothing has changed; or memory was refused, and a
+-- first part of the run was made
 pub data IsUnchecked (h : Hosted) (n : ℕ) (why : Refusal) (g : Hosted) : Type 0 where
   not_loaded : machine_of h.stage ≡ None → why ≡ NotLoaded → g ≡ h → IsUnchecked h n why g
   no_memory : (s t : Debugged) → h.stage ≡ Loaded s → IsPartlyChecked s n t → why ≡ Memory → g ≡ with_stage h (Loaded t) → IsUnchecked h n why g

@@ -24,8 +24,8 @@ pub record IsCommanded (h : Hosted) (line : List ℕ) (g : Hosted) : Type 0 wher
 abbrev pub IsDoneOrPart : Debugged → List ℕ → Debugged → Type 0
 IsDoneOrPart s line t = IsCutOff s line t ⊎ ((command : Command) × (text : List ℕ) × (command_of line ≡ Some command) × Does s command text t)
 
--- why a line has no answer, and what is left: no program is loaded, or the session refuses the line; then nothing has changed. Or memory was
--- refused: the command may then be done, whole or in some first part
+-- why a line has no answer, and what is left: no program is loaded, or the session refuses the line; then nothing has
+-- changed. Or memory was refused: the command may then be done, whole or in some first part
 pub data IsUncommanded (h : Hosted) (line : List ℕ) (why : Refusal) (g : Hosted) : Type 0 where
   not_loaded : machine_of h.stage ≡ None → why ≡ NotLoaded → g ≡ h → IsUncommanded h line why g
   syntax : (s : Debugged) → h.stage ≡ Loaded s → is_syntax s (command_of line) ≡ true → why ≡ Syntax → g ≡ h → IsUncommanded h line why g

@@ -13,9 +13,11 @@ pub record Hosted : Type 0 where
   pub stage : Stage
   pub answer : List ℕ
 
+-- a machine that is prepared, with no program loaded and no answer
 abbrev pub new_host : Prepared → Hosted
 new_host s = record { stage = Fresh s; answer = [] }
 
+-- the machine at another stage; the answer of the last command stays
 abbrev pub with_stage : Hosted → Stage → Hosted
 with_stage h stage = record h { stage = stage }
 

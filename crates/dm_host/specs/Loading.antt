@@ -39,8 +39,9 @@ pub record Loads (h : Hosted) (name tail input : List ℕ) (g : Hosted) : Type 0
   pub loaded : IsLoaded start name tail machine
   pub is : g ≡ with_stage h (Loaded (new_session machine))
 
--- why nothing is loaded, and what is left: it is too late; the name or the tail is none; there is no such program, or it can't be loaded. Then
--- nothing has changed. Or memory has no room for it, or the host's memory was refused: then the setup is lost.
+-- why nothing is loaded, and what is left: it is too late; the name or the tail is none; there is no such program, or
+-- it can't be loaded. Then nothing has changed. Or memory has no room for it, or the host's memory was refused: then
+-- the setup is lost.
 pub data IsUnloaded (h : Hosted) (name tail input : List ℕ) (why : Refusal) (g : Hosted) : Type 0 where
   late : (IsFresh h → ⊥) → why ≡ Started → g ≡ h → IsUnloaded h name tail input why g
   bad_name : IsFresh h → (IsName name → ⊥) → why ≡ BadName → g ≡ h → IsUnloaded h name tail input why g

@@ -7,13 +7,15 @@ use Rattle.dm_load.specs.Image.{IsGood}
 use Rattle.dm_host.specs.declared.refusal.Refusal.{Refusal}
 use Rattle.dm_host.specs.declared.refusal.Refusal.TheVariants.{TooLarge, VariablesTooLong, Memory, BadName, NameTwice, NotFound, BadFormat}
 
--- sizes, the variables of the first program's environment with their zeros, whether the arena goes on in upper memory, and the programs
+-- sizes, the variables of the first program's environment with their zeros, whether the arena goes on in upper memory,
+-- and the programs
 pub record Prepared : Type 0 where
   pub sizes : Sizes
   pub variables : List ℕ
   pub upper : Bool
   pub programs : List (List ℕ × List ℕ)
 
+-- the setup with one more program in its store
 abbrev pub added : Prepared → List ℕ → List ℕ → Prepared
 added s name bytes = record s { programs = s.programs ++ (name, bytes) ∷ [] }
 

@@ -22,7 +22,8 @@ fn text_of(alloc: Global, report: &Report) -> Result<Vec<u8>, AllocError>
     Ok(text)
 }
 
-/// Runs a session under the checker, and returns it with the stop and the text of the report, if memory was not refused.
+/// Runs a session under the checker, and returns it with the stop and the text of the report, if memory was not
+/// refused.
 fn checked(alloc: Global, session: Session, n: u64) -> (Session, Option<(Stop, Vec<u8>)>)
     ensures { ChecksTo session n (option_map (λ r. (r.0, r.1.items)) result.1) result.0 }
 {
@@ -43,8 +44,8 @@ impl Host {
     ///
     /// # Errors
     ///
-    /// `NotLoaded` exactly where no program is loaded. Nothing has changed then. `Memory` where memory was refused: a first part of the run was
-    /// made, and the answer before stays.
+    /// `NotLoaded` exactly where no program is loaded. Nothing has changed then. `Memory` where memory was refused: a
+    /// first part of the run was made, and the answer before stays.
     pub fn check(&mut self, alloc: Global, n: u64) -> Result<Stop, Refusal>
         ensures ok { IfOk result (λ stop. Checks self.old n stop self.new) }
         ensures err { IfErr result (λ e. IsUnchecked self.old n e self.new) }

@@ -8,7 +8,7 @@ use crate::host::{Host, Stage};
 use crate::refusal::Refusal;
 use std::alloc::Global;
 
-/// Why a session did not answer. Where a write failed, memory for the answer was refused.
+/// Why a session refused a line. Where a write failed, memory for the answer was refused.
 fn refusal_of(refusal: dm_debug::CommandRefusal) -> Refusal
     ensures { result ≡ Answers.refusal_of refusal }
 {
@@ -25,9 +25,10 @@ impl Host {
     ///
     /// # Errors
     ///
-    /// In this order: `NotLoaded` where no program is loaded; `Syntax` where the line is no command, or clears a breakpoint that is not set;
-    /// `Full` where it sets a seventeenth breakpoint. Nothing has changed then, and the answer before stays. `Memory` where memory was refused: the
-    /// command may then be done, whole or in some first part, and the answer before stays.
+    /// In this order: `NotLoaded` where no program is loaded; `Syntax` where the line is no command, or clears a
+    /// breakpoint that is not set; `Full` where it sets a seventeenth breakpoint. Nothing has changed then, and the
+    /// answer before stays. `Memory` where memory was refused: the command may then be done, whole or in some first
+    /// part, and the answer before stays.
     pub fn command(&mut self, alloc: Global, line: &[u8]) -> Result<(), Refusal>
         ensures ok { OnOk result (IsCommanded self.old line.now self.new) }
         ensures err { IfErr result (λ e. IsUncommanded self.old line.now e self.new) }

@@ -38,13 +38,13 @@ impl Model for Host {
 }
 
 impl Host {
-    /// A machine with no programs. The variables of the first program's environment are each closed by a zero byte; with `upper` the arena goes
-    /// on in upper memory, from 9FFFh on.
+    /// A machine with no programs. The variables of the first program's environment are each closed by a zero byte;
+    /// with `upper` the arena goes on in upper memory, from 9FFFh on.
     ///
     /// # Errors
     ///
-    /// `TooLarge` exactly where the sizes are over 512 pages or 15,360 KiB; else `VariablesTooLong` exactly where the variables have over
-    /// 32,767 bytes; else `Memory` where memory was refused.
+    /// `TooLarge` exactly where the sizes are over 512 pages or 15,360 KiB; else `VariablesTooLong` exactly where the
+    /// variables have over 32,767 bytes; else `Memory` where memory was refused.
     pub fn new(alloc: Global, sizes: Sizes, variables: &[u8], upper: bool) -> Result<Host, Refusal>
         ensures ok { IfOk result (λ h. h ≡ new_host (record { sizes = sizes; variables = variables.now; upper = upper; programs = [] })) }
         ensures fits { OnOk result ((IsTooLarge sizes → ⊥) × (length variables.now ≤ 0x7FFF)) }
@@ -112,7 +112,7 @@ impl Host {
         }
     }
 
-    /// The answer of the last command that was answered.
+    /// The answer of the last command that had one.
     pub fn answer(&self) -> &[u8]
         ensures { result.now ≡ self.now.answer }
     {

@@ -62,8 +62,9 @@ impl Host {
     ///
     /// # Errors
     ///
-    /// `Started` where a program was loaded or its loading failed for good; else `BadName` where the name is empty, has over 64 bytes or has a
-    /// zero byte; else `NameTwice` where a program has it, ASCII case ignored; else `Memory` where memory was refused. Nothing has changed then.
+    /// `Started` where a program was loaded or its loading failed for good; else `BadName` where the name is empty, has
+    /// over 64 bytes or has a zero byte; else `NameTwice` where a program has it, ASCII case ignored; else `Memory`
+    /// where memory was refused. Nothing has changed then.
     pub fn add(&mut self, alloc: Global, name: &[u8], bytes: &[u8]) -> Result<(), Refusal>
         ensures ok { OnOk result (Adds self.old name.now bytes.now self.new) }
         ensures err { IfErr result (IsUnadded self.old name.now) }
@@ -79,10 +80,10 @@ impl Host {
     ///
     /// # Errors
     ///
-    /// In this order: `Started` where a program was loaded or its loading failed for good; `BadName` where the name is empty, has over 64 bytes
-    /// or has a zero byte; `TailTooLong` over 126 bytes; `NotFound` where no program has the name; `BadFormat` where it is neither a COM nor an
-    /// MZ program. Nothing has changed then. `Short` where conventional memory has no room for it, and `Memory` where memory was refused: then
-    /// the machine is spent.
+    /// In this order: `Started` where a program was loaded or its loading failed for good; `BadName` where the name is
+    /// empty, has over 64 bytes or has a zero byte; `TailTooLong` over 126 bytes; `NotFound` where no program has the
+    /// name; `BadFormat` where it is neither a COM nor an MZ program. Nothing has changed then. `Short` where
+    /// conventional memory has no room for it, and `Memory` where memory was refused: then the machine is spent.
     pub fn load(
         &mut self,
         alloc: Global,

@@ -22,7 +22,8 @@ fn read_each(machine: &Machine, segment: u16, offset: u16, buffer: &mut [u8])
     }
 }
 
-/// Copies all bytes to the front of a buffer, if it has room for them, and returns whether it has; without room the buffer stays.
+/// Copies all bytes to the front of a buffer, if it has room for them, and returns whether it has; without room the
+/// buffer stays.
 pub fn copy_all(bytes: &[u8], buffer: &mut [u8]) -> bool
     ensures { Copies bytes.now buffer.old buffer.new result }
 {
@@ -34,7 +35,8 @@ pub fn copy_all(bytes: &[u8], buffer: &mut [u8]) -> bool
 }
 
 impl Host {
-    /// Fills a buffer with the bytes of memory from segment:offset on; offsets wrap in their segment. FFh stands where there is no memory.
+    /// Fills a buffer with the bytes of memory from segment:offset on; offsets wrap in their segment. FFh stands where
+    /// there is no memory.
     ///
     /// # Errors
     ///
@@ -50,7 +52,8 @@ impl Host {
         Ok(())
     }
 
-    /// Writes bytes to memory from segment:offset on; offsets wrap in their segment. Bytes of the ROM, and where there is no memory, stay.
+    /// Writes bytes to memory from segment:offset on; offsets wrap in their segment. Bytes of the ROM, and where there
+    /// is no memory, stay.
     ///
     /// # Errors
     ///

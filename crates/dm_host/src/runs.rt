@@ -24,8 +24,8 @@ impl Host {
         Ok(session.run(n))
     }
 
-    /// Makes at most `n` steps, but none behind a step that led to one of these breakpoints, as `Machine::run_until`: it returns None where the
-    /// last step led to one.
+    /// Makes at most `n` steps, but none after a step that led to one of these breakpoints, as `Machine::run_until`: it
+    /// returns None where the last step led to one.
     ///
     /// # Errors
     ///

@@ -24,8 +24,8 @@ const MOST_VARIABLES: usize = 0x7FFF;
 /// The most bytes of a program's name.
 const MOST_NAME: usize = 64;
 
-/// What a machine is made from: how much memory it has, the variables of the first program's environment, whether the arena goes on in upper
-/// memory, and the programs that it can start.
+/// What a machine is made from: how much memory it has, the variables of the first program's environment, whether the
+/// arena goes on in upper memory, and the programs that it can start.
 #[derive(Drop)]
 pub struct Setup {
     pub(crate) config: Config,
@@ -55,8 +55,8 @@ impl Setup {
     ///
     /// # Errors
     ///
-    /// `TooLarge` exactly where the sizes are over 512 pages or 15,360 KiB; else `VariablesTooLong` exactly where the variables have over
-    /// 32,767 bytes; else `Memory` where memory was refused.
+    /// `TooLarge` exactly where the sizes are over 512 pages or 15,360 KiB; else `VariablesTooLong` exactly where the
+    /// variables have over 32,767 bytes; else `Memory` where memory was refused.
     pub fn new(alloc: Global, sizes: Sizes, variables: &[u8], upper: bool) -> Result<Setup, Refusal>
         ensures ok { IfOk result (λ s. s ≡ record { sizes = sizes; variables = variables.now; upper = upper; programs = [] }) }
         ensures fits { OnOk result ((IsTooLarge sizes → ⊥) × (length variables.now ≤ 0x7FFF)) }
@@ -86,8 +86,8 @@ impl Setup {
     ///
     /// # Errors
     ///
-    /// `BadName` exactly where the name is empty, has over 64 bytes or has a zero byte; else `NameTwice` exactly where a program has it, ASCII
-    /// case ignored; else `Memory` where memory was refused. Nothing has changed then.
+    /// `BadName` exactly where the name is empty, has over 64 bytes or has a zero byte; else `NameTwice` exactly where
+    /// a program has it, ASCII case ignored; else `Memory` where memory was refused. Nothing has changed then.
     pub fn add(&mut self, alloc: Global, name: &[u8], bytes: &[u8]) -> Result<(), Refusal>
         ensures ok { OnOk result (self.new ≡ added self.old name.now bytes.now) }
         ensures err { IfErr result (IsAddFault self.old name.now) }

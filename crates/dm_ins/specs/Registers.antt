@@ -10,10 +10,11 @@ use Rattle.dm_ins.specs.declared.operand.SegmentRegister.TheVariants.{Es, Cs, Ss
 use Rattle.dm_ins.specs.declared.operand.Base.{Base}
 use Rattle.dm_ins.specs.declared.operand.Base.TheVariants.{BxSi, BxDi, BpSi, BpDi, OnSi, OnDi, OnBp, OnBx}
 
--- the registers that the reg field names, in the order of their numbers
+-- the word registers that the reg field names, in the order of their numbers
 abbrev pub word_registers : List WordRegister
 word_registers = Ax ∷ Cx ∷ Dx ∷ Bx ∷ Sp ∷ Bp ∷ Si ∷ Di ∷ []
 
+-- the byte registers that the reg field names, in the order of their numbers
 abbrev pub byte_registers : List ByteRegister
 byte_registers = Al ∷ Cl ∷ Dl ∷ Bl ∷ Ah ∷ Ch ∷ Dh ∷ Bh ∷ []
 
@@ -21,7 +22,7 @@ byte_registers = Al ∷ Cl ∷ Dl ∷ Bl ∷ Ah ∷ Ch ∷ Dh ∷ Bh ∷ []
 abbrev pub bases : List Base
 bases = BxSi ∷ BxDi ∷ BpSi ∷ BpDi ∷ OnSi ∷ OnDi ∷ OnBp ∷ OnBx ∷ []
 
--- a register's place in these orders
+-- the number of a word register in the reg field
 abbrev pub word_number : WordRegister → ℕ
 word_number Ax = 0
 word_number Cx = 1
@@ -32,6 +33,7 @@ word_number Bp = 5
 word_number Si = 6
 word_number Di = 7
 
+-- the number of a byte register in the reg field
 abbrev pub byte_number : ByteRegister → ℕ
 byte_number Al = 0
 byte_number Cl = 1
@@ -42,6 +44,7 @@ byte_number Ch = 5
 byte_number Dh = 6
 byte_number Bh = 7
 
+-- the number of a segment register in the segment field of two bits
 abbrev pub segment_number : SegmentRegister → ℕ
 segment_number Es = 0
 segment_number Cs = 1

@@ -1,4 +1,4 @@
--- Which bytes spell an action, alone and behind prefixes: a relation that goes from instructions to
+-- Which bytes spell an action, alone and after prefixes: a relation that goes from instructions to
 -- bytes, with one line for each form of operand. Bytes are numbers below 2 ^ 8, words below 2 ^ 16.
 -- Source: Intel 8086 Family User's Manual, section 2.7 (prefixes) and section 4, "Machine Instruction
 -- Encoding and Decoding", with tables 4-7 to 4-11 (fields of the first bytes).
@@ -39,22 +39,25 @@ sign_extended n = if nat_lt n 0x80 then n else n + 0xFF00
 
 -- ---- prefixes
 
--- the bytes of the prefixes of each kind
+-- the byte of the prefix that overrides with a segment register
 abbrev pub segment_byte : SegmentRegister → ℕ
 segment_byte Es = 0x26
 segment_byte Cs = 0x2E
 segment_byte Ss = 0x36
 segment_byte Ds = 0x3E
 
+-- the byte of a repeat prefix: F2h of REPNE, F3h of REP and REPE
 abbrev pub repeat_byte : Repeat → ℕ
 repeat_byte NotEqual = 0xF2
 repeat_byte Equal = 0xF3
 
+-- the byte of a prefix: that of a segment override, F0h of LOCK, or that of a repeat prefix
 abbrev pub prefix_byte : Prefix → ℕ
 prefix_byte (prefix.Segment s) = segment_byte s
 prefix_byte prefix.Lock = 0xF0
 prefix_byte (prefix.Repeat r) = repeat_byte r
 
+-- an instruction without prefixes
 abbrev pub no_prefix : Prefixes
 no_prefix = record { segment = None; lock = false; repeat = None }
 
@@ -71,10 +74,11 @@ kept p (x ∷ xs) = kept (with_prefix p x) xs
 
 -- ---- the mod r/m byte
 
--- memory at the registers of an r/m field plus a displacement, and at a displacement alone
+-- memory at the registers of an r/m field plus a displacement
 abbrev pub based : ℕ → ℕ → Address
 based rm n = record { base = slice_index_or bases rm BxSi; displacement = n }
 
+-- memory at a displacement alone: a direct address
 abbrev pub direct : ℕ → Address
 direct n = record { base = Direct; displacement = n }
 

@@ -23,82 +23,101 @@ use Rattle.dm_ins.specs.Registers.{word_registers, byte_registers}
 -- reg field, M memory, S a segment register, I an immediate, Is a byte that is extended by sign, D a
 -- displacement, O a direct offset, Ap an offset and a segment; b is a byte, w a word
 
--- the signs of operand kinds: E the operand of mod and r/m, G the register of reg, M memory, I an immediate, Is a byte
--- extended by sign, D a displacement, O a direct offset, Ap an offset and a segment, S a segment register; b a byte, w
--- a word
+-- E, a byte: the byte register or memory operand of the mod and r/m fields
 abbrev pub Eb : OperandKind
 Eb = is.RegisterOrMemory Byte
 
+-- E, a word: the word register or memory operand of the mod and r/m fields
 abbrev pub Ew : OperandKind
 Ew = is.RegisterOrMemory Word
 
+-- G, a byte: the byte register of the reg field
 abbrev pub Gb : OperandKind
 Gb = is.Register Byte
 
+-- G, a word: the word register of the reg field
 abbrev pub Gw : OperandKind
 Gw = is.Register Word
 
+-- M: the memory operand of the mod and r/m fields, which cannot be a register
 abbrev pub M : OperandKind
 M = is.Memory
 
+-- I, a byte: an immediate byte
 abbrev pub Ib : OperandKind
 Ib = is.ByteValue
 
+-- I, a word: an immediate word, low byte first
 abbrev pub Iw : OperandKind
 Iw = is.WordValue
 
+-- Is: an immediate byte that is extended by sign to a word
 abbrev pub Is : OperandKind
 Is = is.SignedValue
 
+-- D, a byte: the displacement of a short jump, extended by sign
 abbrev pub Db : OperandKind
 Db = is.Short
 
+-- D, a word: the displacement of a near jump or call
 abbrev pub Dw : OperandKind
 Dw = is.Near
 
+-- O, a byte: the byte of memory at a direct offset
 abbrev pub Ob : OperandKind
 Ob = is.Direct Byte
 
+-- O, a word: the word of memory at a direct offset
 abbrev pub Ow : OperandKind
 Ow = is.Direct Word
 
+-- Ap: a far target, the word of its offset and then the word of its segment
 abbrev pub Ap : OperandKind
 Ap = is.Far
 
+-- the count 1 of a shift or rotate, which takes no byte
 abbrev pub One : OperandKind
 One = is.One
 
+-- the register AL, which takes no byte: the first byte names it
 abbrev pub AL : OperandKind
 AL = is.Byte Al
 
+-- the register CL, the count of a shift or rotate
 abbrev pub CL : OperandKind
 CL = is.Byte Cl
 
+-- the register AX, which takes no byte: the first byte names it
 abbrev pub AX : OperandKind
 AX = is.Word Ax
 
+-- the register DX, the port of IN and OUT
 abbrev pub DX : OperandKind
 DX = is.Word Dx
 
+-- S: this segment register, which the first byte or the reg field names
 abbrev pub S : SegmentRegister → OperandKind
 S r = is.TheSegment r
 
--- a row with two operands; then entries of one row with two, one and no operands
+-- a row: its mnemonic, and the kinds of its two operands
 abbrev pub row : Mnemonic → OperandKind → OperandKind → Row
 row m a b = record { mnemonic = m; first = a; second = b }
 
+-- an entry of one row with two operands
 abbrev pub two : Mnemonic → OperandKind → OperandKind → OpcodeEntry
 two m a b = Plain (row m a b)
 
+-- an entry of one row with one operand
 abbrev pub one : Mnemonic → OperandKind → OpcodeEntry
 one m a = two m a is.Nothing
 
+-- an entry of one row with no operand
 abbrev pub bare : Mnemonic → OpcodeEntry
 bare m = one m is.Nothing
 
 -- ---- runs of rows that differ by a number
 
--- the arithmetic mnemonics and the conditions, in the order of their numbers
+-- the arithmetic mnemonics, in the order of their numbers: reg fields 0 to 7
 abbrev pub arithmetics : List Mnemonic
 arithmetics = op.Add ∷ op.Or ∷ op.Adc ∷ op.Sbb ∷ op.And ∷ op.Sub ∷ op.Xor ∷ op.Cmp ∷ []
 
@@ -114,7 +133,7 @@ six m = two m Eb Gb ∷ two m Ew Gw ∷ two m Gb Eb ∷ two m Gw Ew ∷ two m AL
 abbrev pub each_word : (WordRegister → OpcodeEntry) → List OpcodeEntry
 each_word f = map f word_registers
 
--- the groups of arithmetic with an immediate, of shifts and of F6 and F7
+-- family: arithmetic with an immediate, 80h to 83h; 4 groups, 32 rows
 abbrev pub immediate : OperandKind → OperandKind → List (Option Row)
 immediate a b = (map (λ m. Some (row m a b)) arithmetics)
 
@@ -136,6 +155,7 @@ pair m n = bare m ∷ bare n ∷ []
 
 -- ---- the table, 16 first bytes after each comment
 
+-- the 256 entries, by first byte; bytes of prefixes, and those that begin no instruction, have none
 abbrev pub entries : List OpcodeEntry
 entries =
     -- 00

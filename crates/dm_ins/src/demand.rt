@@ -15,7 +15,7 @@ pub enum RegisterOrMemory {
     Memory(Address),
 }
 
-/// The bytes of an operand behind the mod r/m byte.
+/// The bytes of an operand after the mod r/m byte.
 #[derive(Clone, Copy)]
 pub enum Data {
     Nothing,

@@ -46,7 +46,7 @@ fn append(out: &mut ArrayVec<u8, 16>, bytes: &RowBytes)
     let _ = out.try_extend_from_slice(bytes.as_slice());
 }
 
-/// The kept prefixes, and behind them the bytes of the action.
+/// The kept prefixes, and after them the bytes of the action.
 fn whole(prefixes: Prefixes, bytes: &RowBytes) -> ArrayVec<u8, 16>
     ensures { result.items ≡ map prefix_byte (prefix_list prefixes) ++ bytes.now.items }
 {

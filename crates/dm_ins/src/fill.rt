@@ -141,7 +141,7 @@ fn first_place(a: Option<RegisterOrMemory>, b: Option<RegisterOrMemory>) -> Opti
     }
 }
 
-/// Puts what stands behind the first byte: a mod r/m byte with its displacement, or the second
+/// Puts what stands after the first byte: a mod r/m byte with its displacement, or the second
 /// byte that the row wants.
 fn put_behind(
     out: &mut RowBytes,

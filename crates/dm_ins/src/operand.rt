@@ -36,7 +36,7 @@ impl WordRegister {
         self as u8
     }
 
-    /// The register with the number.
+    /// The register with the number in the reg field, 0 to 7.
     pub fn from_number(number: u8) -> Self
         requires { number < 8 }
         ensures { result ≡ slice_index_or word_registers number WordRegister.Ax }
@@ -78,7 +78,7 @@ impl ByteRegister {
         self as u8
     }
 
-    /// The register with the number.
+    /// The register with the number in the reg field, 0 to 7.
     pub fn from_number(number: u8) -> Self
         requires { number < 8 }
         ensures { result ≡ slice_index_or byte_registers number ByteRegister.Al }
@@ -133,8 +133,8 @@ pub enum Base {
 }
 
 impl Base {
-    /// The registers that the r/m field names where the mod field is not 3 and the address is not
-    /// direct.
+    /// The registers that the r/m field, 0 to 7, names where the mod field is not 3 and the address is
+    /// not direct.
     pub fn from_number(number: u8) -> Self
         requires { number < 8 }
         ensures { result ≡ slice_index_or bases number Base.BxSi }

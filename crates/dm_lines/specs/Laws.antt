@@ -24,21 +24,25 @@ use Rattle.dm_lines.specs.Tokens.{closed, then_tokens, marked, tokens_of}
 
 -- ---- pieces of text
 
+-- the tokens of a piece: a word, a number or a sign; a space has none
 abbrev pub piece_tokens : Piece → Option (List Token)
 piece_tokens (name w) = closed w
 piece_tokens (byte n) = Some (t.Number n ∷ [])
 piece_tokens (word n) = Some (t.Number n ∷ [])
 piece_tokens (sign b) = marked b
 
+-- the tokens of pieces, one after the other, if each piece has its tokens
 abbrev pub all_tokens : List Piece → Option (List Token)
 all_tokens [] = Some []
 all_tokens (p ∷ ps) = then_tokens (piece_tokens p) (all_tokens ps)
 
+-- a byte's number is below 256, a word's below 65,536
 abbrev pub PieceFits : Piece → Type 0
 PieceFits (byte n) = n < 2 ^ 8
 PieceFits (word n) = n < 2 ^ 16
 PieceFits _ = Unit {0}
 
+-- the number of each piece fits
 abbrev pub AllFit : List Piece → Type 0
 AllFit [] = Unit {0}
 AllFit (p ∷ ps) = PieceFits p × AllFit ps
@@ -59,11 +63,12 @@ PiecesAreRead = (ps : List Piece) (comment : List ℕ) → parted false ps ≡ t
 abbrev pub OwnTermsAreWritten : Type 0
 OwnTermsAreWritten = (a : Action) (next place : ℕ) (o : Operand) → written_of a.mnemonic (own_term a next o) place next ≡ Some (read.written_of a next o)
 
--- the numbers in an operand fit their types
+-- the size of a number is below 65,536
 abbrev pub AmountFits : Amount → Type 0
 AmountFits (Plus n) = n < 2 ^ 16
 AmountFits (Minus n) = n < 2 ^ 16
 
+-- the numbers in an operand fit words
 abbrev pub TermFits : Term → Type 0
 TermFits (term.Memory s b n) = AmountFits n
 TermFits (term.Address s v) = AmountFits v.amount
@@ -79,11 +84,12 @@ OutlinesStand = (m : Mnemonic) (t : Term) (place next : ℕ) (x : Written) → T
 abbrev pub TextsAreRead : Type 0
 TextsAreRead = (i : Ins) (bytes : List ℕ) (next : ℕ) → SpellsAction i.action bytes → line_of (text_of i next) ≡ Some (own_statement i next)
 
--- each byte of an instruction's text is a letter, a digit or a sign; it is at most 63 bytes long
+-- a text of at most 63 bytes, with no control byte
 pub record IsPlain (text : List ℕ) : Type 0 where
   pub short : length text ≤ 63
   pub printed : AllByRecursion (λ b. 32 ≤ b) text
 
+-- the text of each instruction is short, and has no control byte
 abbrev pub TextsArePlain : Type 0
 TextsArePlain = (i : Ins) (next : ℕ) → IsPlain (text_of i next)
 
@@ -93,21 +99,23 @@ TextsArePlain = (i : Ins) (next : ℕ) → IsPlain (text_of i next)
 abbrev pub data_text : ℕ → List ℕ → List ℕ
 data_text b bs = codes "DB " ++ byte_digits b ++ flat_map (λ c. codes "," ++ byte_digits c) bs
 
+-- the statement of a DB with these bytes, with no label
 abbrev pub data_statement : List ℕ → Statement
 data_statement bs = record { label = None; item = bytes (map Plus bs) }
 
--- such a line is read as these bytes, with a comment behind it too
+-- a DB line of bytes is read as these bytes, with a comment after it too
 abbrev pub DataIsRead : Type 0
 DataIsRead = (b : ℕ) (bs comment : List ℕ) → AllByRecursion (λ c. c < 2 ^ 8) (b ∷ bs) → IsComment comment → length (data_text b bs ++ comment) ≤ 255 → line_of (data_text b bs ++ comment) ≡ Some (data_statement (b ∷ bs))
 
 -- ---- numbers
 
+-- the numbers in an instruction or in data fit words
 abbrev pub ItemFits : Item → Type 0
 ItemFits nothing = Unit {0}
 ItemFits (instruction i) = TermFits i.first × TermFits i.second
 ItemFits (bytes ns) = AllByRecursion AmountFits ns
 ItemFits (words vs) = AllByRecursion (λ v. AmountFits v.amount) vs
 
--- the numbers in a statement fit their types
+-- the numbers in each statement that a line is fit words
 abbrev pub NumbersFit : Type 0
 NumbersFit = (line : List ℕ) (s : Statement) → AllByRecursion (λ b. b < 2 ^ 8) line → line_of line ≡ Some s → ItemFits s.item

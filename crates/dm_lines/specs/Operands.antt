@@ -18,23 +18,24 @@ use Rattle.dm_lines.specs.declared.term.Term.TheVariants as term
 
 -- ---- numbers and labels
 
--- a number is 8000h at most below zero
+-- a number below zero, 8000h at most
 abbrev pub minus : ℕ → Option Amount
 minus n = if nat_le n 0x8000 then Some (Minus n) else None
 
--- a number
+-- a number, with a - before it or none
 abbrev pub amount_of : List Token → Option Amount
 amount_of (t.Number n ∷ []) = Some (Plus n)
 amount_of (t.Minus ∷ t.Number n ∷ []) = minus n
 amount_of _ = None
 
--- what is added to a label or to registers; - stands for +-
+-- what is added to a label or to registers: a number after + or -, or nothing; - stands for +-
 abbrev pub added_of : List Token → Option Amount
 added_of [] = Some (Plus 0)
 added_of (t.Plus ∷ ts) = amount_of ts
 added_of (t.Minus ∷ t.Number n ∷ []) = minus n
 added_of _ = None
 
+-- a number as a value with no label, if there is one
 abbrev pub plain : Option Amount → Option Value
 plain None = None
 plain (Some n) = Some (record { label = None; amount = n })
@@ -74,13 +75,16 @@ based s None ts = do
   v ← parsed_value ts
   Some (term.Address s v)
 
+-- an address inside brackets, with the size word before them
 abbrev pub memory_operand : Size → List Token → Option Term
 memory_operand s ts = based s (base_at ts) ts
 
+-- a token in front of others, if there are such
 abbrev pub onto : Token → Option (List Token) → Option (List Token)
 onto t None = None
 onto t (Some ts) = Some (t ∷ ts)
 
+-- the token is the bracket that ends an address
 abbrev pub is_close : Token → Bool
 is_close t.Close = true
 is_close _ = false
@@ -91,6 +95,7 @@ inside [] = None
 inside (t ∷ []) = if is_close t then Some [] else None
 inside (t ∷ u ∷ ts) = onto t (inside (u ∷ ts))
 
+-- a memory operand after its opening bracket: the last token closes it
 abbrev pub memory_of : Size → List Token → Option Term
 memory_of s ts = do
   inner ← inside ts
@@ -98,6 +103,7 @@ memory_of s ts = do
 
 -- ---- operands
 
+-- a far pointer of this segment, with its offset in these tokens
 abbrev pub far_pointer : Amount → List Token → Option Term
 far_pointer segment ts = do
   offset ← amount_of ts
@@ -113,6 +119,7 @@ from_number ts = do
   v ← parsed_value ts
   Some (term.Number v)
 
+-- the operand that the tokens are, if they are one
 unfoldable pub term_of : List Token → Option Term
 term_of (t.Byte r ∷ []) = Some (term.ByteRegister r)
 term_of (t.Word r ∷ []) = Some (term.WordRegister r)
@@ -123,10 +130,12 @@ term_of ts = from_number ts
 
 -- ---- commas part operands, and the items of data
 
+-- a token put in front of the first part
 abbrev pub begin : Token → List (List Token) → List (List Token)
 begin t [] = (t ∷ []) ∷ []
 begin t (p ∷ ps) = (t ∷ p) ∷ ps
 
+-- the token is a comma
 abbrev pub is_comma : Token → Bool
 is_comma t.Comma = true
 is_comma _ = false
@@ -147,6 +156,7 @@ term_pair (p ∷ q ∷ []) = do
   Some (x, y)
 term_pair _ = None
 
+-- the operands of an instruction: two, one, or none where no token is left
 abbrev pub terms_of : List Token → Option (Term × Term)
 terms_of [] = Some (term.Nothing, term.Nothing)
 terms_of ts = term_pair (parts ts)

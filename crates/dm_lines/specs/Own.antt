@@ -21,6 +21,7 @@ use Rattle.dm_lines.specs.Statements.{Statement, instruction}
 abbrev pub number : ℕ → Value
 number n = record { label = None; amount = Plus n }
 
+-- a memory operand: a direct address is a number, any other one has registers
 abbrev pub memory_term : Size → Base → ℕ → Term
 memory_term s Direct n = term.Address s (number n)
 memory_term s b n = term.Memory s b (Plus n)
@@ -38,6 +39,7 @@ own_term a next operand.One = term.Number (number 1)
 own_term a next (operand.Target d) = term.Number (number ((next + d) % 65536))
 own_term a next (operand.FarTarget n s) = term.Far s n
 
+-- the instruction that its own text shows, where the next one stands at an offset
 abbrev pub own_instruction : Ins → ℕ → Instruction
 own_instruction i next = record {
   prefixes = i.prefixes;
@@ -46,6 +48,6 @@ own_instruction i next = record {
   second = own_term i.action next i.action.second;
 }
 
--- it has no label
+-- the statement of an instruction's own text, which has no label
 abbrev pub own_statement : Ins → ℕ → Statement
 own_statement i next = record { label = None; item = instruction (own_instruction i next) }

@@ -24,37 +24,42 @@ use Rattle.dm_lines.specs.declared.statement.Statement as Statement'
 use Rattle.dm_lines.specs.Tokens.{tokens_of}
 use Rattle.dm_lines.specs.Operands.{amount_of, parsed_value, parts, terms_of}
 
--- what stands on a line behind its label
+-- what stands on a line after its label
 pub data Item : Type 0 where
   nothing : Item
   instruction : Instruction → Item
   bytes : List Amount → Item
   words : List Value → Item
 
+-- what a line says: its label, if it has one, and an instruction, data or nothing
 pub record Statement : Type 0 where
   pub label : Option Name'.Name
   pub item : Item
 
--- a statement whose items of data are beside it
+-- the item of a line, with its data, as contracts see it
 abbrev pub seen_item : Items → Item'.Item → Item
 seen_item d code.Nothing = nothing
 seen_item d (code.Instruction i) = instruction i
 seen_item d code.Bytes = bytes d.bytes.items
 seen_item d code.Words = words d.words.items
 
+-- a parsed statement, with its items of data, as contracts see it
 abbrev pub seen_statement : Items → Statement'.Statement → Statement
 seen_statement d s = record { label = s.label; item = seen_item d s.item }
 
 -- ---- data
 
+-- the elements in front of a list, if there is a list
 abbrev pub joined_to : {A : Type 0} → List A → Option (List A) → Option (List A)
 joined_to xs None = None
 joined_to xs (Some ys) = Some (xs ++ ys)
 
+-- two lists, one after the other, if there are both
 abbrev pub then_list : {A : Type 0} → Option (List A) → Option (List A) → Option (List A)
 then_list None r = None
 then_list (Some xs) r = joined_to xs r
 
+-- a list of one element, if there is the element
 abbrev pub list_of_one : {A : Type 0} → Option A → Option (List A)
 list_of_one None = None
 list_of_one (Some x) = Some (x ∷ [])
@@ -70,6 +75,7 @@ abbrev pub bytes_item : List Token → Option (List Amount)
 bytes_item (t.Quote ∷ ts) = letters ts
 bytes_item ts = list_of_one (amount_of ts)
 
+-- the bytes of a DB's items, one after the other, if each is an item
 abbrev pub byte_items : List (List Token) → Option (List Amount)
 byte_items [] = Some []
 byte_items (p ∷ ps) = then_list (bytes_item p) (byte_items ps)
@@ -81,11 +87,12 @@ word_items (p ∷ ps) = then_list (list_of_one (parsed_value p)) (word_items ps)
 
 -- ---- instructions
 
--- SHORT stands behind JMP alone, FAR behind JMP and CALL
+-- the mnemonic with SHORT after it: JMP alone has one
 abbrev pub short_of : Mnemonic → Option Mnemonic
 short_of op.Jmp = Some op.JmpShort
 short_of _ = None
 
+-- the mnemonic with FAR after it: JMP and CALL have one
 abbrev pub far_mnemonic : Mnemonic → Option Mnemonic
 far_mnemonic op.Jmp = Some op.JmpFar
 far_mnemonic op.Call = Some op.CallFar
@@ -109,11 +116,13 @@ prefixed p (t.Lock ∷ ts) = if p.lock then None else prefixed (record p { lock 
 prefixed p (t.Repeat r ∷ ts) = if is_some p.repeat then None else prefixed (record p { repeat = Some r }) ts
 prefixed p ts = Some (p, ts)
 
+-- the operand is memory
 abbrev pub is_memory : Term → Bool
 is_memory (term.Memory s b n) = true
 is_memory (term.Address s v) = true
 is_memory _ = false
 
+-- the mnemonic is XCHG or TEST, whose operands may stand in either order
 abbrev pub exchanges : Mnemonic → Bool
 exchanges op.Xchg = true
 exchanges op.Test = true
@@ -126,17 +135,19 @@ with_terms p m x y =
     then record { prefixes = p; mnemonic = m; first = y; second = x }
     else record { prefixes = p; mnemonic = m; first = x; second = y }
 
+-- an instruction of a mnemonic and its operands, after its prefix words
 abbrev pub operated : Prefixes → List Token → Option Instruction
 operated p ts = do
   m ← mnemonic_at ts
   xs ← terms_of m.1
   Some (with_terms p m.0 xs.0 xs.1)
 
--- NOP is XCHG AX,AX
+-- an instruction after its prefix words; NOP is XCHG AX,AX
 abbrev pub after_prefixes : Prefixes → List Token → Option Instruction
 after_prefixes p (t.Nop ∷ []) = Some (record { prefixes = p; mnemonic = op.Xchg; first = term.WordRegister Ax; second = term.WordRegister Ax })
 after_prefixes p ts = operated p ts
 
+-- the instruction that the tokens are, if they are one
 abbrev pub instruction_of : List Token → Option Instruction
 instruction_of ts = do
   p ← prefixed no_prefix ts
@@ -144,6 +155,7 @@ instruction_of ts = do
 
 -- ---- lines
 
+-- what stands after a label: nothing, the data of DB or DW, or an instruction
 abbrev pub item_of : List Token → Option Item
 item_of [] = Some nothing
 item_of (t.DataBytes ∷ ts) = do
@@ -156,14 +168,16 @@ item_of ts = do
   i ← instruction_of ts
   Some (instruction i)
 
+-- a statement with this label or none, if it has an item
 abbrev pub labelled : Option Name'.Name → Option Item → Option Statement
 labelled l None = None
 labelled l (Some i) = Some (record { label = l; item = i })
 
+-- the statement that a line's tokens are, if they are one
 abbrev pub statement_of : List Token → Option Statement
 statement_of (t.Name l ∷ t.Colon ∷ ts) = labelled (Some l) (item_of ts)
 statement_of ts = labelled None (item_of ts)
 
--- a line has at most 255 bytes
+-- the statement of a line of at most 255 bytes, if it is one
 unfoldable pub line_of : List ℕ → Option Statement
 line_of line = if nat_lt 255 (length line) then None else tokens_of line >>= statement_of

@@ -10,6 +10,7 @@ use Rattle.dm_lines.specs.declared.token.Token.TheVariants.{Name, Number, Comma,
 
 -- ---- bytes
 
+-- a small letter as a capital one; any other byte as it is
 abbrev pub uppercase : ℕ → ℕ
 uppercase b = if nat_le 97 b && nat_le b 122 then b - 32 else b
 
@@ -30,14 +31,15 @@ magnitude_of base n (b ∷ bs) = do
   d ← digit_of b
   if nat_le base d then None else if nat_le 65536 (n * base + d) then None else magnitude_of base (n * base + d) bs
 
--- hexadecimal with H behind, else decimal
+-- the number that a word spells: hexadecimal with an H at the end, else decimal
 abbrev pub number_of : List ℕ → Option ℕ
 number_of w = if slice_index w (length w - 1) == 72 then magnitude_of 16 0 (take (length w - 1) w) else magnitude_of 10 0 w
 
--- with zeros behind, 31 bytes
+-- the bytes of a name: a word, and zeros up to 31 bytes
 abbrev pub padded_of : List ℕ → Name'.Name
 padded_of w = record { bytes = w ++ drop (length w) (replicate 31 0) }
 
+-- a reserved word as its token, any other word as the name of a label, of at most 31 bytes
 abbrev pub or_name : List ℕ → Option Token → Option Token
 or_name w (Some t) = Some t
 or_name w None = if nat_le (length w) 31 then Some (Name (padded_of w)) else None
@@ -60,10 +62,12 @@ closed (b ∷ w) = do
   t ← word_token (b ∷ w)
   Some (t ∷ [])
 
+-- tokens in front of others, if there are others
 abbrev pub with_front : List Token → Option (List Token) → Option (List Token)
 with_front xs None = None
 with_front xs (Some ys) = Some (xs ++ ys)
 
+-- two runs of tokens, one after the other, if there are both
 abbrev pub then_tokens : Option (List Token) → Option (List Token) → Option (List Token)
 then_tokens None r = None
 then_tokens (Some xs) r = with_front xs r
@@ -81,10 +85,11 @@ marked b =
     else if b == 93 then Some (Close ∷ [])
     else None
 
+-- a byte of quoted text: the quote that ends it, or a letter
 abbrev pub inside_quotes : ℕ → Token
 inside_quotes b = if b == 39 then Quote else Letter b
 
--- the tokens of what is left of a line, inside quotes (true) or behind the first bytes of a word: a quoted text ends
+-- the tokens of what is left of a line, inside quotes (true) or after the first bytes of a word: a quoted text ends
 -- with a quote, and a semicolon outside ends the line
 abbrev pub lexed : Bool → List ℕ → List ℕ → Option (List Token)
 lexed true w [] = None
@@ -95,5 +100,6 @@ lexed false w (b ∷ bs) =
     else if b == 59 then closed w
     else then_tokens (closed w) (then_tokens (marked b) (lexed (b == 39) [] bs))
 
+-- the tokens of a line, if all of it is tokens, and each quoted text ends
 unfoldable pub tokens_of : List ℕ → Option (List Token)
 tokens_of line = lexed false [] line

@@ -20,6 +20,7 @@ use Rattle.dm_lines.specs.declared.token.Token.TheVariants as t
 
 -- ---- how they are written
 
+-- how another name of a mnemonic is written, in ASCII
 abbrev pub alias_name : Alias → List ℕ
 alias_name alias.Jc = codes "JC"
 alias_name alias.Jnae = codes "JNAE"
@@ -39,6 +40,7 @@ alias_name alias.Loopz = codes "LOOPZ"
 alias_name alias.Loopnz = codes "LOOPNZ"
 alias_name alias.Sal = codes "SAL"
 
+-- how a keyword is written, in ASCII
 abbrev pub keyword_name : Keyword → List ℕ
 keyword_name keyword.Nop = codes "NOP"
 keyword_name keyword.Lock = codes "LOCK"
@@ -55,6 +57,7 @@ keyword_name keyword.Near = codes "NEAR"
 keyword_name keyword.Db = codes "DB"
 keyword_name keyword.Dw = codes "DW"
 
+-- how a reserved word is written, in ASCII
 abbrev pub spelling_of : Reserved → List ℕ
 spelling_of (word.Byte r) = byte_name r
 spelling_of (word.Word r) = word_name r
@@ -85,6 +88,7 @@ alias_mnemonic alias.Loopz = op.Loope
 alias_mnemonic alias.Loopnz = op.Loopne
 alias_mnemonic alias.Sal = op.Shl
 
+-- the token that a keyword is: REP, REPE and REPZ are one, and so are REPNE and REPNZ
 abbrev pub keyword_token : Keyword → Token
 keyword_token keyword.Nop = t.Nop
 keyword_token keyword.Lock = t.Lock
@@ -101,6 +105,7 @@ keyword_token keyword.Near = t.Size size.Near
 keyword_token keyword.Db = t.DataBytes
 keyword_token keyword.Dw = t.DataWords
 
+-- the token that a reserved word is; another name of a mnemonic is that mnemonic
 abbrev pub meaning_of : Reserved → Token
 meaning_of (word.Byte r) = t.Byte r
 meaning_of (word.Word r) = t.Word r
@@ -111,6 +116,7 @@ meaning_of (word.Keyword k) = keyword_token k
 
 -- ---- which there are
 
+-- the element in front of the list, if it is wanted
 abbrev pub onto : {A : Type 0} → Bool → A → List A → List A
 onto true x xs = x ∷ xs
 onto false x xs = xs
@@ -120,9 +126,11 @@ abbrev pub those : {A : Type 0} → (A → Bool) → List A → List A
 those p [] = []
 those p (x ∷ xs) = onto (p x) x (those p xs)
 
+-- every other name of a mnemonic
 abbrev pub aliases : List Alias
 aliases = alias.Jc ∷ alias.Jnae ∷ alias.Jnc ∷ alias.Jnb ∷ alias.Je ∷ alias.Jne ∷ alias.Jna ∷ alias.Jnbe ∷ alias.Jpe ∷ alias.Jpo ∷ alias.Jnge ∷ alias.Jnl ∷ alias.Jng ∷ alias.Jnle ∷ alias.Loopz ∷ alias.Loopnz ∷ alias.Sal ∷ []
 
+-- every keyword
 abbrev pub keywords : List Keyword
 keywords = keyword.Nop ∷ keyword.Lock ∷ keyword.Rep ∷ keyword.Repe ∷ keyword.Repz ∷ keyword.Repne ∷ keyword.Repnz ∷ keyword.Far ∷ keyword.Short ∷ keyword.Byte ∷ keyword.Word ∷ keyword.Near ∷ keyword.Db ∷ keyword.Dw ∷ []
 

@@ -34,7 +34,7 @@ pub fn texts_are_plain()
     ensures { TextsArePlain }
 {}
 
-/// The law that DB and some bytes are read as these bytes, with a comment behind them too. It does nothing when called.
+/// The law that DB and some bytes are read as these bytes, with a comment after them too. It does nothing when called.
 #[tactic(auto, using(crate::proofs::Data::data_is_read))]
 pub fn data_is_read()
     ensures { DataIsRead }

@@ -69,7 +69,7 @@ fn magnitude(base: u8, digits: &[u8]) -> Option<u16>
     Some(n)
 }
 
-/// The number that a word spells: hexadecimal with an H behind it, else decimal.
+/// The number that a word spells: hexadecimal with an H after it, else decimal.
 fn number(word: &[u8]) -> Option<u16>
     requires { 0 < length word.now }
     ensures { result ≡ number_of word.now }

@@ -33,7 +33,7 @@ pub(crate) fn amount(tokens: &[Token]) -> Option<Amount>
     }
 }
 
-/// What is added to a label or to registers: nothing, or a number behind `+` or `-`.
+/// What is added to a label or to registers: nothing, or a number after `+` or `-`.
 fn added(tokens: &[Token]) -> Option<Amount>
     ensures { result ≡ added_of tokens.now }
 {
@@ -122,7 +122,7 @@ fn base(tokens: &[Token]) -> Option<(Base, &[Token])>
     }
 }
 
-/// Whether this is the bracket behind an address.
+/// Whether this is the bracket after an address.
 fn closes(token: Token) -> bool
     ensures { result ≡ is_close token }
 {
@@ -209,7 +209,7 @@ fn is_between(token: Token) -> bool
     matches!(token, Token::Comma)
 }
 
-/// The tokens before the first comma, and those behind it, where there is one.
+/// The tokens before the first comma, and those after it, where there is one.
 pub(crate) fn front(tokens: &[Token]) -> (&[Token], Option<&[Token]>)
     ensures parts { parts tokens.now ≡ result.0.now ∷ parts_behind result.1 }
     ensures shorter { IfSome result.1 (λ rest. length result.0.now + length rest.now < length tokens.now) }

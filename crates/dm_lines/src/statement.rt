@@ -43,7 +43,7 @@ impl Items {
     }
 }
 
-/// What stands on a line behind its label. The items of a DB and of a DW are in its `Items`.
+/// What stands on a line after its label. The items of a DB and of a DW are in its `Items`.
 #[derive(Clone, Copy, Debug, PartialEq, Eq)]
 pub enum Item {
     Nothing,

@@ -13,7 +13,7 @@ use crate::term::Term;
 use crate::token::Token;
 use dm_ins::{Mnemonic, Prefixes, WordRegister};
 
-/// The mnemonic with SHORT behind it: a jump's alone.
+/// The mnemonic with SHORT after it: a jump's alone.
 fn short(mnemonic: Mnemonic) -> Option<Mnemonic>
     ensures { result ≡ short_of mnemonic }
 {
@@ -23,7 +23,7 @@ fn short(mnemonic: Mnemonic) -> Option<Mnemonic>
     }
 }
 
-/// The mnemonic with FAR behind it: a jump's or a call's.
+/// The mnemonic with FAR after it: a jump's or a call's.
 fn far(mnemonic: Mnemonic) -> Option<Mnemonic>
     ensures { result ≡ far_mnemonic mnemonic }
 {
@@ -130,7 +130,7 @@ fn operated_by(prefixes: Prefixes, tokens: &[Token]) -> Option<Instruction>
     Some(with_operands(prefixes, mnemonic, first, second))
 }
 
-/// An instruction behind its prefixes.
+/// An instruction after its prefixes.
 fn action(prefixes: Prefixes, tokens: &[Token]) -> Option<Instruction>
     ensures { result ≡ after_prefixes prefixes tokens.now }
 {
@@ -153,7 +153,7 @@ fn read_instruction(tokens: &[Token]) -> Option<Instruction>
     action(found, rest)
 }
 
-/// What stands behind a label.
+/// What stands after a label.
 fn read_item(tokens: &[Token], items: &mut Items) -> Option<Item>
     requires { length tokens.now ≤ 255 }
     ensures { option_map (seen_item items.new) result ≡ item_of tokens.now }

@@ -4,7 +4,7 @@ use dm_ins::{ByteRegister, Mnemonic, Repeat, SegmentRegister, WordRegister};
 use dm_words::Size;
 
 /// A label: a letter or an underscore, then letters, digits and underscores, at most 31 in all. Letters are in upper
-/// case, and zeros stand behind.
+/// case, and zeros follow.
 #[derive(Clone, Copy, Debug, PartialEq, Eq)]
 pub struct Name {
     pub bytes: [u8; 31],

@@ -1,8 +1,8 @@
-//! What is written where an operand stands, by the manual (Intel 8086 Family User's Manual, section 2.9), reckoned by
+//! What is written where an operand stands, by the manual (Intel 8086 Family User's Manual, section 2.9), worked out by
 //! hand.
 //!
 //! A row is a line, then the label's place and the next instruction's, then what is written for the first operand and,
-//! behind a comma, for the second: a number as a byte, as a word and as a distance, `one` where it is 1. The last part
+//! after a comma, for the second: a number as a byte, as a word and as a distance, `one` where it is 1. The last part
 //! is the second operand's outline, before any label has a place.
 
 use crate::checks::same;

@@ -5,7 +5,7 @@
 //!     x: MOV AL,[BX+5] | X: MOV Al [Absent OnBx 5]
 //!
 //! A statement is its label, then prefixes, mnemonic and operands; or DB or DW and the items of data; or `nothing`.
-//! Numbers are decimal; a label has behind it what is added to it. An operand in memory is the word before it, its
+//! Numbers are decimal; a label has after it what is added to it. An operand in memory is the word before it, its
 //! registers and its value.
 
 use crate::checks::same;
@@ -18,7 +18,7 @@ use std::alloc::Global;
 use std::process::Abort;
 use std::test::Fail;
 
-/// A part of a row: 0 what stands before the first `|`, 1 what stands behind it.
+/// A part of a row: 0 what stands before the first `|`, 1 what stands after it.
 pub(crate) fn part(row: &str, number: usize) -> Result<&str, Fail> {
     Ok(row.split('|').nth(number).ok_or("a part is missing")?)
 }

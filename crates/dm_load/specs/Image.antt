@@ -9,6 +9,7 @@ use Rattle.dm_load.specs.declared.format.FarPointer.{FarPointer}
 abbrev pub word : List ℕ → ℕ → ℕ
 word bytes k = slice_index bytes k + 256 * slice_index bytes (k + 1)
 
+-- the bytes with another little-endian word at place k
 abbrev pub with_word : List ℕ → ℕ → ℕ → List ℕ
 with_word bytes k v = slice_set (slice_set bytes k (v % 256)) (k + 1) (v / 256)
 
@@ -17,51 +18,59 @@ unfoldable pub is_mz : List ℕ → Bool
 is_mz file =
     (slice_index file 0 == 0x4D && slice_index file 1 == 0x5A) || (slice_index file 0 == 0x5A && slice_index file 1 == 0x4D)
 
+-- whether a file is an MZ file or a COM file
 abbrev pub kind_of : List ℕ → Kind
 kind_of file = if is_mz file then Mz else Com
 
--- the words of an MZ header
+-- word 02h modulo 512: how many bytes the last page has, 0 where it is full
 abbrev pub last_page : List ℕ → ℕ
 last_page file = word file 0x02 % 512
 
+-- word 04h: how many pages of 512 bytes header and image have, the last one counted whole
 abbrev pub pages : List ℕ → ℕ
 pages file = word file 0x04
 
+-- word 08h: the length of the header, in paragraphs there and in bytes here
 abbrev pub header_length : List ℕ → ℕ
 header_length file = word file 0x08 * 16
 
--- the paragraphs that a program needs behind its image, and those that it asks for
+-- word 0Ah: the paragraphs that a program needs after its image
 abbrev pub minimum : List ℕ → ℕ
 minimum file = word file 0x0A
 
+-- word 0Ch: the paragraphs that a program asks for after its image
 abbrev pub maximum : List ℕ → ℕ
 maximum file = word file 0x0C
 
--- CS:IP from words 16h and 14h, SS:SP from words 0Eh and 10h
+-- CS:IP at the start, from words 16h and 14h; the segment counts from the image
 abbrev pub code : List ℕ → FarPointer
 code file = record { segment = word file 0x16; offset = word file 0x14 }
 
+-- SS:SP at the start, from words 0Eh and 10h; the segment counts from the image
 abbrev pub stack : List ℕ → FarPointer
 stack file = record { segment = word file 0x0E; offset = word file 0x10 }
 
--- the bytes of the pages: the last one is full where its length is 0
+-- the bytes of header and image, by the pages: the last one is full where its length is 0
 unfoldable pub size : List ℕ → ℕ
 size file = if last_page file == 0 then pages file * 512 else (pages file - 1) * 512 + last_page file
 
--- how many relocations there are, and where the word of the k-th one stands in the image
+-- word 06h: how many relocations an MZ file has; a COM file has none
 unfoldable pub relocations : List ℕ → ℕ
 relocations file = if is_mz file then word file 0x06 else 0
 
+-- where entry k of the relocation table stands in the file; word 18h is where the table begins
 abbrev pub entry : List ℕ → ℕ → ℕ
 entry file k = word file 0x18 + 4 * k
 
+-- where the word of relocation k stands in the image, in bytes
 abbrev pub target : List ℕ → ℕ → ℕ
 target file k = word file (entry file k + 2) * 16 + word file (entry file k)
 
--- from the header's end to the size; a COM file is its own image
+-- the image: the bytes from the header's end up to the size; a COM file is its own image
 unfoldable pub image : List ℕ → List ℕ
 image file = if is_mz file then slice_range file (header_length file) (size file) else file
 
+-- an MZ file that can be loaded: header, table and image lie in the file, and each relocation in the image
 pub record IsGoodMz (file : List ℕ) : Type 0 where
   pub header : 28 ≤ length file
   pub some_pages : 0 < pages file
@@ -70,11 +79,12 @@ pub record IsGoodMz (file : List ℕ) : Type 0 where
   pub header_fits : header_length file ≤ size file
   pub inside : (k : ℕ) → k < word file 0x06 → target file k + 2 ≤ size file - header_length file
 
--- a file that can be loaded
+-- a file of this kind that can be loaded; a COM file has at most 65,278 bytes
 abbrev pub IsGoodAs : Kind → List ℕ → Type 0
 IsGoodAs Com file = length file ≤ 65278
 IsGoodAs Mz file = IsGoodMz file
 
+-- a program file that can be loaded
 abbrev pub IsGood : List ℕ → Type 0
 IsGood file = IsGoodAs (kind_of file) file
 
@@ -85,5 +95,6 @@ relocated_by (suc k) file start =
     let before = relocated_by k file start in
     with_word before (target file k) ((word before (target file k) + start) % 65536)
 
+-- the image with all its relocations made for a start segment
 abbrev pub relocated : List ℕ → ℕ → List ℕ
 relocated file start = relocated_by (relocations file) file start

@@ -67,7 +67,7 @@ pub(crate) fn target(file: &[u8], index: usize) -> usize
     word(file, entry + 2) as usize * 16 + word(file, entry) as usize
 }
 
-/// No relocation has a word behind the first 110000h bytes.
+/// No relocation has a word past the first 110000h bytes.
 pub(crate) fn targets_reach(file: &[u8])
     ensures { (k : ℕ) → Rattle.dm_load.specs.Image.target file.now k + 2 ≤ 0x110000 }
 {}

@@ -29,7 +29,7 @@ impl<'a> Image<'a> {
     ///
     /// # Errors
     ///
-    /// `BadFormat` exactly where `kind` answers it.
+    /// `BadFormat` exactly where `kind` returns it.
     pub fn of(file: &'a [u8]) -> Result<Image<'a>, BadFormat>
         ensures { MatchResult result (λ i. (i ≡ file.now) × IsGood file.now) (λ _. IsGood file.now → ⊥) }
     {
@@ -93,7 +93,7 @@ impl<'a> Image<'a> {
         }
     }
 
-    /// How many paragraphs an MZ program needs behind its image.
+    /// How many paragraphs an MZ program needs after its image.
     pub fn minimum(&self) -> u16
         requires { is_mz self.now ≡ true }
         ensures { result ≡ minimum self.now }
@@ -101,7 +101,7 @@ impl<'a> Image<'a> {
         word(self.file, 0x0A)
     }
 
-    /// How many paragraphs an MZ program asks for behind its image.
+    /// How many paragraphs an MZ program asks for after its image.
     pub fn maximum(&self) -> u16
         requires { is_mz self.now ≡ true }
         ensures { result ≡ maximum self.now }
@@ -111,7 +111,7 @@ impl<'a> Image<'a> {
 
     /// Fills `bytes` with the image, relocated to a start segment: each relocation, in the order of
     /// the table, adds the segment to a word, modulo 65,536. The slice has the image's length or,
-    /// if that is larger, 110000h bytes: behind these stands no word of a relocation.
+    /// if that is larger, 110000h bytes: no word of a relocation stands past these.
     pub fn relocated(&self, start: u16, bytes: &mut [u8])
         requires { length bytes.old ≡ min (length (image self.now)) 0x110000 }
         ensures { bytes.new ≡ take 0x110000 (relocated self.now start) }
@@ -122,7 +122,7 @@ impl<'a> Image<'a> {
         }
     }
 
-    /// The bytes of the image behind the first 110000h: no relocation has a word there, so they are
+    /// The bytes of the image after the first 110000h: no relocation has a word there, so they are
     /// those of the relocated image too.
     pub fn rest(&self) -> &[u8]
         ensures bytes { (start : ℕ) → result.now ≡ drop 0x110000 (relocated self.now start) }

@@ -13,13 +13,15 @@ use Rattle.dm_drivers.specs.Drivers.{driver_at}
 use Rattle.dm_machine.specs.Step.{MakesStep}
 use Rattle.dm_machine.specs.Run.{Answers, Goes, IsRun}
 
+-- a step from a state has one result
 abbrev pub StepHasOneAnswer : Type 0
 StepHasOneAnswer = (s : State) (x y : Answer) → MakesStep s x → MakesStep s y → x ≡ y
 
+-- n steps from a state lead to one state
 abbrev pub ThereIsOneRun : Type 0
 ThereIsOneRun = (s t u : State) (n : ℕ) → Goes s n t → Goes s n u → t ≡ u
 
--- runs of at most so many steps that meet no want of memory stop for the same reason, in the same state
+-- runs of at most so many steps in which no allocation fails stop for the same reason, in the same state
 abbrev pub RunHasOneStop : Type 0
 RunHasOneStop = (s t u : State) (n : ℕ) (a b : Stop) → IsRun s n a t → IsRun s n b u → a ≢ NoMemory → b ≢ NoMemory → (a ≡ b) × (t ≡ u)
 
@@ -41,7 +43,8 @@ UnseenBytesChangeNoStep =
     (change : Memory → Memory) → IsUnseen change → (s t : State) (n : ℕ) → StaysQuiet s n →
     Goes s n t → Goes (with_change change s) n (with_change change t)
 
--- so does a whole run, and it stops for the same reason
+-- a run in which neither acts stops for the same reason, in the same state, where memory is changed out of every
+-- program's sight, and the change stays
 abbrev pub UnseenBytesChangeNoRun : Type 0
 UnseenBytesChangeNoRun =
     (change : Memory → Memory) → IsUnseen change → (s t : State) (n : ℕ) (stop : Stop) → StaysQuiet s n →
@@ -63,6 +66,7 @@ pub record LeavesUnseen (m n : Memory) : Type 0 where
   pub places : n.blocks.places ≡ m.blocks.places
   pub bytes : (block : ℕ) → shows m.windows block ≡ false → page_bytes n block ≡ page_bytes m block
 
+-- a run in which neither acts leaves the windows, and all bytes that no window shows
 abbrev pub RunLeavesUnseen : Type 0
 RunLeavesUnseen = (s t : State) (n : ℕ) (stop : Stop) → StaysQuiet s n → IsRun s n stop t → LeavesUnseen s.memory t.memory
 
@@ -80,19 +84,20 @@ extended_as handles other m = with_blocks m (record m.blocks { contents = mixed 
 abbrev pub with_extended_blocks : (ℕ → List ℕ) → State → State
 with_extended_blocks other s = record s { memory = extended_as s.xms.handles other s.memory }
 
--- where tables and memory are consistent, as they do in each machine, a run doesn't depend on the bytes of any block of
--- extended memory
+-- where tables and memory are consistent, as they are in each machine, a run doesn't depend on the bytes of any block
+-- of extended memory
 abbrev pub ExtendedBlocksChangeNoRun : Type 0
 ExtendedBlocksChangeNoRun =
     (other : ℕ → List ℕ) (s t : State) (n : ℕ) (stop : Stop) → AreConsistent s → StaysQuiet s n →
     IsRun s n stop t → IsRun (with_extended_blocks other s) n stop (with_extended_blocks other t)
 
--- what it leaves: the tables of expanded and of extended memory, and the bytes of each block of extended memory
+-- what a run leaves: the tables of expanded and of extended memory, and the bytes of each block of extended memory
 pub record LeavesExtended (s t : State) : Type 0 where
   pub expanded : t.ems ≡ s.ems
   pub extended : t.xms ≡ s.xms
   pub bytes : (block : ℕ) → is_extended s.xms.handles block ≡ true → page_bytes t.memory block ≡ page_bytes s.memory block
 
+-- a run in which neither acts leaves extended memory, and the tables of both drivers
 abbrev pub RunLeavesExtended : Type 0
 RunLeavesExtended = (s t : State) (n : ℕ) (stop : Stop) → AreConsistent s → StaysQuiet s n → IsRun s n stop t → LeavesExtended s t
 
@@ -104,17 +109,18 @@ pub data IsHistory (s : State) : State → Type 0 where
   changed : (t : State) (memory : Memory) → IsHistory s t → IsHistory s (record t { memory = memory })
   reserved : (t : State) (bytes : ℕ) → IsHistory s t → IsHistory s (record t { console = record t.console { room = max t.console.room bytes } })
 
--- each answer of a step from t leaves more output than so many bytes
+-- each result of a step from t leaves more output than so many bytes
 abbrev pub WantsBeyond : ℕ → State → Type 0
 WantsBeyond bytes t = (x : Answer) → MakesStep t x → bytes < length x.state.console.output
 
--- where there is room for so many bytes, steps and runs that write no more of them don't want memory: one that does
--- stands before a step with which more would have gone out
+-- where there is room for so many bytes, no allocation fails in steps and runs that write no more of them: one in which
+-- one fails stands before a step with which more would have gone out
 abbrev pub RoomIsEnoughForRuns : Type 0
 RoomIsEnoughForRuns =
     (bytes : ℕ) (s t u : State) (n : ℕ) → bytes ≤ s.console.room → IsHistory s t → IsRun t n NoMemory u →
     WantsBeyond (length s.console.output + bytes) u
 
+-- where there is room for so many bytes, no allocation fails in a step that writes no more of them
 abbrev pub RoomIsEnoughForSteps : Type 0
 RoomIsEnoughForSteps =
     (bytes : ℕ) (s t u : State) → bytes ≤ s.console.room → IsHistory s t → Answers t (Some NoMemory) u →

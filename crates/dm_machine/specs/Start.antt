@@ -20,9 +20,11 @@ use Rattle.dm_proc.specs.Environment.{environment}
 use Rattle.dm_proc.specs.Processes.{Begins, PlanRefused}
 use Rattle.dm_state.specs.State.{State}
 
+-- all flags clear
 abbrev pub clear_flags : Flags
 clear_flags = record { carry = false; parity = false; adjust = false; zero = false; sign = false; trap = false; interrupt = false; direction = false; overflow = false }
 
+-- all registers 0, all flags clear
 abbrev pub clear_registers : Cpu
 clear_registers = record { ax = 0; cx = 0; dx = 0; bx = 0; sp = 0; bp = 0; si = 0; di = 0; es = 0; cs = 0; ss = 0; ds = 0; ip = 0; flags = clear_flags }
 
@@ -35,6 +37,7 @@ with_upper_headers m =
     0x9FFF 0 (0x4D ∷ 0x08 ∷ 0 ∷ 0x00 ∷ 0x30 ∷ []))
     0xD000 0 (0x5A ∷ 0 ∷ 0 ∷ 0xFF ∷ 0x0F ∷ [])
 
+-- the memory with the headers of an arena that goes on in upper memory, if it does
 abbrev pub with_headers : Bool → Memory → Memory
 with_headers upper m = if upper then with_upper_headers m else m
 

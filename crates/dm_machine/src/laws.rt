@@ -21,15 +21,15 @@ pub fn a_step_has_one_answer()
 {}
 
 /// There is one run: from one state, the same number of steps leads to one state; and runs of at
-/// most so many steps stop for one reason in one state, unless one of them wants memory.
+/// most so many steps stop for one reason in one state, unless an allocation fails in one.
 pub fn there_is_one_run()
     ensures steps { ThereIsOneRun }
     ensures stops { RunHasOneStop }
 {}
 
 /// There is one run up to breakpoints: from one state, such runs of at most as many steps, up to the same breakpoints,
-/// end for one reason in one state, unless one of them wants memory. That a run ends at the first breakpoint to which a
-/// step leads is the law `a_run_until_is_a_run`.
+/// end for one reason in one state, unless an allocation fails in one. That a run ends at the first breakpoint to which
+/// a step leads is the law `a_run_until_is_a_run`.
 pub fn there_is_one_run_until()
     ensures { UntilHasOneStop }
 {}

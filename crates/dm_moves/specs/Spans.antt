@@ -16,6 +16,7 @@ pub record Span : Type 0 where
   -- the blocks of the pages, or the one block
   pub blocks : List ℕ
 
+-- the span of a kind that begins at a byte, with the blocks of its pages or its one block
 abbrev pub span : SpanKind → ℕ → List ℕ → Span
 span kind start blocks = record { kind = kind; start = start; blocks = blocks }
 
@@ -31,6 +32,7 @@ place_in m r k = spot m r.kind r.blocks (r.start + k)
 
 -- ---- bytes
 
+-- byte k of a span, read through its place
 abbrev pub byte_in : Memory → Span → ℕ → ℕ
 byte_in m r k = byte_at m (place_in m r k)
 
@@ -59,6 +61,7 @@ IsWithin m Linear blocks end = end ≤ 0x10FFF0
 IsWithin m Pages blocks end = (end ≤ 0x4000 * length blocks) × ((k : ℕ) → k < length blocks → IsPage m (slice_index blocks k))
 IsWithin m Single blocks end = (length blocks ≡ 1) × IsLive m.blocks (slice_index blocks 0) × (end ≤ length (page_bytes m (slice_index blocks 0)))
 
+-- n bytes of a span lie within what it is of: linear memory, its pages, or its block
 pub record IsInside (m : Memory) (r : Span) (n : ℕ) : Type 0 where
   pub small : r.start + n < 0x100000000
   pub within : IsWithin m r.kind r.blocks (r.start + n)

@@ -16,13 +16,13 @@ pub(crate) const PAGE: usize = 0x4000;
 pub enum SpanKind {
     /// Linear addresses, with A20 on.
     Linear,
-    /// Pages, one behind the other.
+    /// Pages, one after the other.
     Pages,
     /// A block of the pool.
     Single,
 }
 
-/// Where a span begins. Its bytes are counted from there; how many there are is told where it is used.
+/// Where a span begins. Its bytes are counted from there; how many there are is said where it is used.
 #[derive(Drop)]
 pub struct Span {
     kind: SpanKind,

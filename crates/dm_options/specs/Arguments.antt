@@ -46,6 +46,7 @@ abbrev pub with_machine_rules : App → App
 with_machine_rules a =
     with_rule (with_rule (with_rule (with_rule (with_rule (with_rule a steps_rule) ems_rule) xms_rule) upper_rule) tail_rule) files_rule
 
+-- `dm run`, with the options and files of a machine
 abbrev pub run_app : App
 run_app = with_machine_rules (new_app (codes "run"))
 
@@ -53,6 +54,7 @@ run_app = with_machine_rules (new_app (codes "run"))
 abbrev pub input_rule : Rule
 input_rule = record (new_rule (codes "input")) { long = Some (codes "input"); value_names = 1 }
 
+-- `dm debug`, with the options and files of a machine, and `--input`
 abbrev pub debug_app : App
 debug_app = with_rule (with_machine_rules (new_app (codes "debug"))) input_rule
 
@@ -60,15 +62,19 @@ debug_app = with_rule (with_machine_rules (new_app (codes "debug"))) input_rule
 abbrev pub path_rule : Text → Rule
 path_rule name = record (new_rule name) { value_names = 1; required = true }
 
+-- `dm check`, with the options and files of a machine
 abbrev pub check_app : App
 check_app = with_machine_rules (new_app (codes "check"))
 
+-- `dm asm`, with the files that it reads and writes
 abbrev pub asm_app : App
 asm_app = with_rule (with_rule (new_app (codes "asm")) (path_rule (codes "in"))) (path_rule (codes "out"))
 
+-- `dm disasm`, with the file that it reads
 abbrev pub disasm_app : App
 disasm_app = with_rule (new_app (codes "disasm")) (path_rule (codes "in"))
 
+-- `dm` with no subcommand, which must have one, and with `--version`
 abbrev pub named_app : App
 named_app = let empty = new_app (codes "dm") in record empty { top = record empty.top { has_version = true; subcommand_required = true } }
 

@@ -53,7 +53,7 @@ HasOptions given (command.Check o) = (given.0 ≡ codes "check") × HasMachineOp
 HasOptions given (command.Asm o) = (given.0 ≡ codes "asm") × HasAsmOptions given.1 o
 HasOptions given (command.Disasm path) = (given.0 ≡ codes "disasm") × (first_of (codes "in") given.1 ≡ Some path.now)
 
--- a usage error has one of the kinds that the first fault of the words may have; memory may be wanting at any words
+-- a usage error has one of the kinds that the first fault of the words may have; an allocation may fail at any words
 abbrev pub Explains : Kinds → OptionsError → Type 0
 Explains kinds (refusal.Usage e) = IsAmong (kind_of e) kinds
 Explains kinds refusal.Memory = ⊤

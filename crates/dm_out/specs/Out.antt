@@ -7,6 +7,7 @@ use Rattle.std.specs.Io.KnownBytes.{Appends}
 abbrev pub most_failures : ℕ
 most_failures = 2 ^ 64 - 1
 
+-- the write failed, or took no byte
 abbrev pub took_nothing : {E : Type 0} → Result ℕ E → Bool
 took_nothing (Ok n) = n == 0
 took_nothing (Err e) = true

@@ -21,7 +21,7 @@ pub trait Out {
     // How many writes of at least one byte failed or took nothing, and how many flushes failed.
     ghost failures: { Self → ℕ };
 
-    /// Offers `bytes`, and answers how many of them, counted from the first, were taken. After an error none were.
+    /// Offers `bytes`, and returns how many of them, counted from the first, were taken. After an error none were.
     fn write(&mut self, bytes: &[u8]) -> Result<usize, Failed>
         ensures bound { IfOk result (λ n. n ≤ length bytes.now) }
         ensures bytes { WriteAppends (taken self.old) (taken self.new) result bytes.now }

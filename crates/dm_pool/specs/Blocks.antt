@@ -50,6 +50,7 @@ abbrev pub content : List ℕ → Option Extent → List ℕ
 content bytes None = []
 content bytes (Some b) = part bytes (b.base * 1024) (b.units * 1024)
 
+-- by number, the bytes that each block has in the bytes of the pool; none for a number with no block
 abbrev pub contents_of : List (Option Extent) → List ℕ → List (List ℕ)
 contents_of places bytes = map (content bytes) places
 
@@ -64,7 +65,7 @@ pub record IsLaid (units : ℕ) (places : List (Option Extent)) : Type 0 where
   pub within : (i : ℕ) (b : Extent) → get_or places i None ≡ Some b → b.base + b.units ≤ units
   pub apart : (i j : ℕ) (b d : Extent) → ¬ (i ≡ j) → get_or places i None ≡ Some b → get_or places j None ≡ Some d → Apart b d
 
--- they lie so in its bytes
+-- the blocks of a pool lie within it, apart, and the pool has 1 KiB for each unit
 pub record IsPool (units : ℕ) (places : List (Option Extent)) (bytes : List ℕ) : Type 0 where
   pub laid : IsLaid units places
   pub whole : length bytes ≡ units * 1024
@@ -74,7 +75,7 @@ pub record IsPool (units : ℕ) (places : List (Option Extent)) (bytes : List �
 abbrev pub new_base : Blocks → ℕ → Extent → ℕ → Option ℕ
 new_base s i b u = if u == 0 then Some 0 else (if is_free (set s.places i None) s.units u b.base then Some b.base else lowest s.places s.units u)
 
--- its bytes up to the smaller size, and zeros
+-- the bytes of a block that gets u units: its own up to the smaller size, then zeros
 abbrev pub fitted : List ℕ → ℕ → List ℕ
 fitted xs u = take (u * 1024) (xs ++ zeros u)
 

@@ -13,6 +13,7 @@ abbrev pub with_new : Option (ℕ × Blocks) → Option Blocks
 with_new None = None
 with_new (Some p) = Some p.1
 
+-- the pool with one more new block of u units, if there is a pool and the block comes
 abbrev pub and_taken : Option Blocks → ℕ → Option Blocks
 and_taken None u = None
 and_taken (Some s) u = with_new (taken s u)

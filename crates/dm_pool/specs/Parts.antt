@@ -12,6 +12,7 @@ HasPart s Low = Unit {0}
 HasPart s Scratch = Unit {0}
 HasPart s (Block i) = IsLive s.blocks i
 
+-- the bytes of a part: the low bytes, the scratch bytes, or those of one block
 abbrev pub part_bytes : Stored → Part → List ℕ
 part_bytes s Low = s.low
 part_bytes s Scratch = s.scratch

@@ -17,7 +17,7 @@ environment variables name = variables ++ (closing variables ++ (1 ∷ 0 ∷ [])
 abbrev pub byte_at_offset : Memory → ℕ → ℕ → ℕ
 byte_at_offset m segment k = peek m (linear m.a20 segment k)
 
--- an empty string begins at byte k of a segment: a zero with no byte before it, or behind a zero
+-- an empty string begins at byte k of a segment: a zero with no byte before it, or after a zero
 abbrev pub IsEnd : Memory → ℕ → ℕ → Type 0
 IsEnd m segment k = (byte_at_offset m segment k ≡ 0) × (0 < k → byte_at_offset m segment (k - 1) ≡ 0)
 
@@ -36,5 +36,6 @@ abbrev pub AreVariables : Memory → ℕ → List ℕ → Type 0
 AreVariables m segment variables =
     ((segment ≡ 0) × (variables ≡ [])) ⊎ ((0 < segment) × ((n : ℕ) × IsEnvironment m segment n × (variables ≡ bytes_from m segment 0 n)))
 
+-- there is an environment at the segment, and its first 32,768 bytes have no end
 abbrev pub NoVariables : Memory → ℕ → Type 0
 NoVariables m segment = (0 < segment) × HasNoEnd m segment

@@ -1,4 +1,4 @@
--- Laws of the definitions: each call has one answer, and none depends on what no program sees.
+-- Laws of the definitions: each call has one result, and none depends on what no program sees.
 use Rattle.std.specs.Prelude.{◌≡◌, ℕ, Bool, List, Result, Ok}
 use Rattle.dm_space.specs.Memory.{Memory}
 use Rattle.dm_space.specs.Unseen.{IsUnseen}
@@ -10,28 +10,32 @@ use Rattle.dm_proc.specs.declared.refusal.ArenaDestroyed.{ArenaDestroyed}
 use Rattle.dm_proc.specs.Request.{Passed}
 use Rattle.dm_proc.specs.Processes.{Processes, AreLoaded, Executes, Loads, Overlays, Terminates, Keeps}
 
--- the answer of a call, and all that it leaves, are functions of the state and the arguments
+-- starting a child (4Bh with AL = 0) has one result, and leaves one state
 abbrev pub ExecHasOneAnswer : Type 0
 ExecHasOneAnswer =
     (upper : Bool) (ps : Processes) (c : Cpu) (m : Memory) (store : List (List ℕ × List ℕ)) (strategy : Strategy) (r q : Result (Unit {0}) ExecRefusal)
     (ps₁ ps₂ : Processes) (c₁ c₂ : Cpu) (m₁ m₂ : Memory) →
     Executes upper ps c m store strategy r ps₁ c₁ m₁ → Executes upper ps c m store strategy q ps₂ c₂ m₂ → (r ≡ q) × (ps₁ ≡ ps₂) × (c₁ ≡ c₂) × (m₁ ≡ m₂)
 
+-- loading the first program has one result, and leaves one memory
 abbrev pub LoadHasOneAnswer : Type 0
 LoadHasOneAnswer =
     (upper : Bool) (m : Memory) (strategy : Strategy) (file variables name : List ℕ) (a : Passed) (r q : Result (Processes × Cpu) ExecRefusal) (m₁ m₂ : Memory) →
     Loads upper m strategy file variables name a r m₁ → Loads upper m strategy file variables name a q m₂ → (r ≡ q) × (m₁ ≡ m₂)
 
+-- loading an overlay (4Bh with AL = 3) has one result, and leaves one memory
 abbrev pub OverlayHasOneAnswer : Type 0
 OverlayHasOneAnswer =
     (c : Cpu) (m : Memory) (store : List (List ℕ × List ℕ)) (r q : Result (Unit {0}) ExecRefusal) (m₁ m₂ : Memory) →
     Overlays c m store r m₁ → Overlays c m store q m₂ → (r ≡ q) × (m₁ ≡ m₂)
 
+-- ending a process has one result, and leaves one state
 abbrev pub TerminatingHasOneAnswer : Type 0
 TerminatingHasOneAnswer =
     (upper : Bool) (ps : Processes) (c : Cpu) (m : Memory) (code : ℕ) (r q : Result Ending ArenaDestroyed) (ps₁ ps₂ : Processes) (c₁ c₂ : Cpu) (m₁ m₂ : Memory) →
     Terminates upper ps c m code r ps₁ c₁ m₁ → Terminates upper ps c m code q ps₂ c₂ m₂ → (r ≡ q) × (ps₁ ≡ ps₂) × (c₁ ≡ c₂) × (m₁ ≡ m₂)
 
+-- ending a process that stays resident (31h) has one result, and leaves one state
 abbrev pub KeepingHasOneAnswer : Type 0
 KeepingHasOneAnswer =
     (upper : Bool) (ps : Processes) (c : Cpu) (m : Memory) (code paragraphs : ℕ) (r q : Result Ending ArenaDestroyed) (ps₁ ps₂ : Processes) (c₁ c₂ : Cpu) (m₁ m₂ : Memory) →
@@ -61,5 +65,6 @@ pub record CallsIgnoreUnseen (change : Memory → Memory) : Type 0 where
   pub keeping : (upper : Bool) (ps : Processes) (c : Cpu) (m : Memory) (code paragraphs : ℕ) (r : Result Ending ArenaDestroyed) (qs : Processes) (d : Cpu) (n : Memory) →
       Keeps upper ps c m code paragraphs r qs d n → Keeps upper ps c (change m) code paragraphs r qs d (change n)
 
+-- each change of memory that no program sees leaves each call what it is
 abbrev pub IgnoresUnseen : Type 0
 IgnoresUnseen = (change : Memory → Memory) → IsUnseen change → CallsIgnoreUnseen change

@@ -58,7 +58,7 @@ PlanRefused upper m strategy count file Destroyed = Plans upper m strategy count
 PlanRefused upper m strategy count file Short = (room : ℕ) × Plans upper m strategy count file (Err (arena.Short room)) m
 PlanRefused upper m strategy count file _ = ⊥
 
--- a program is placed and written: all that is written behind the headers was read before
+-- a program is placed and written: all that is written after the headers was read before
 pub record Starts (upper : Bool) (m : Memory) (strategy : Strategy) (environment file : List ℕ) (parent : ℕ) (a : Passed) (placed : Placed) (n : Memory) : Type 0 where
   pub middle : Memory
   pub plans : Plans upper m strategy (length environment) file (Ok placed) middle
@@ -73,10 +73,11 @@ pub record Asks (ps : Processes) (c : Cpu) (m : Memory) (store : List (List ℕ 
   pub variables : List ℕ
   pub old : AreVariables m (environment_segment m ps.present c) variables
 
+-- the bytes of the child's environment: the variables that are copied, and the name
 abbrev pub environment_of : {ps : Processes} {c : Cpu} {m : Memory} {store : List (List ℕ × List ℕ)} → Asks ps c m store → List ℕ
 environment_of a = environment a.variables a.name
 
--- a child is started
+-- a child is started: its memory, its registers, and its parent, which waits
 pub record Execs (upper : Bool) (ps : Processes) (c : Cpu) (m : Memory) (store : List (List ℕ × List ℕ)) (strategy : Strategy) (qs : Processes) (d : Cpu) (n : Memory) : Type 0 where
   pub asks : Asks ps c m store
   pub few : length ps.parents < 15
@@ -164,7 +165,7 @@ Terminates upper ps c m code (Ok ending) qs d n =
     (freed : Memory) × Releases upper m ps.present (Ok tt) freed × Ends ps c freed code ending qs d n
 Terminates upper ps c m code (Err e) qs d n = (qs ≡ ps) × (d ≡ c) × (n ≡ m) × Releases upper m ps.present (Err arena.Destroyed) m
 
--- its end with its block kept, resized to so many paragraphs where that is possible
+-- the end of the present process, whose block is kept, resized to so many paragraphs where that is possible
 abbrev pub Keeps : Bool → Processes → Cpu → Memory → ℕ → ℕ → Result Ending ArenaDestroyed → Processes → Cpu → Memory → Type 0
 Keeps upper ps c m code paragraphs (Ok ending) qs d n =
     (answer : Result (Unit {0}) ArenaRefusal) × (kept : Memory) × Resizes upper m ps.present paragraphs answer kept × (answer ≢ Err arena.Destroyed)

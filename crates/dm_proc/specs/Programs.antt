@@ -6,6 +6,7 @@ use Rattle.std.specs.Str.{str_eq_ignore_ascii_case}
 abbrev pub program_of : List (List ℕ × List ℕ) → List ℕ → Option (List ℕ)
 program_of store name = option_map (λ p. p.1) (find (λ p. str_eq_ignore_ascii_case p.0 name) store)
 
+-- the store has a program with this name, ASCII case ignored
 abbrev pub has_name : List (List ℕ × List ℕ) → List ℕ → Bool
 has_name store name = is_some (program_of store name)
 

@@ -32,7 +32,7 @@ pub record Names (c : Cpu) (m : Memory) (store : List (List ℕ × List ℕ)) (n
   pub named : IsNameAt m c.ds c.dx name
   pub found : program_of store name ≡ Some file
 
--- and the file can be loaded
+-- the name at DS:DX is that of a file of the store which can be loaded
 abbrev pub NamesGood : Cpu → Memory → List (List ℕ × List ℕ) → List ℕ → List ℕ → Type 0
 NamesGood c m store name file = Names c m store name file × IsGood file
 
@@ -55,6 +55,7 @@ pub record Passed : Type 0 where
   pub first : List ℕ
   pub second : List ℕ
 
+-- the arguments of a start as contracts see them
 abbrev pub passed_of : Arguments → Passed
 passed_of a = record { tail = a.tail.items; first = a.first; second = a.second }
 
@@ -62,6 +63,7 @@ passed_of a = record { tail = a.tail.items; first = a.first; second = a.second }
 unfoldable pub tail_at : Memory → FarPointer → List ℕ
 tail_at m p = bytes_from m p.segment ((p.offset + 1) % 65536) (min (peek m (linear m.a20 p.segment p.offset)) 126)
 
+-- the 16 bytes at a far pointer, those of a file control block that a program is passed
 unfoldable pub control_block : Memory → FarPointer → List ℕ
 control_block m p = bytes_from m p.segment p.offset 16
 
@@ -78,9 +80,10 @@ passed c m = record {
 abbrev pub environment_segment : Memory → ℕ → Cpu → ℕ
 environment_segment m present c = if peek16 m c.es c.bx == 0 then peek16 m present 0x2C else peek16 m c.es c.bx
 
--- where an overlay goes, and the segment that its relocations add
+-- the parameter block's first word: the segment where an overlay goes
 abbrev pub load_segment : Cpu → Memory → ℕ
 load_segment c m = peek16 m c.es c.bx
 
+-- the parameter block's second word: the segment that an overlay's relocations add
 abbrev pub relocation_factor : Cpu → Memory → ℕ
 relocation_factor c m = peek16 m c.es ((c.bx + 2) % 65536)

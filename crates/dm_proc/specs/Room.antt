@@ -8,14 +8,14 @@ use Rattle.dm_load.specs.Image.{is_mz, image, minimum, maximum}
 abbrev pub paragraphs : ℕ → ℕ
 paragraphs n = (n + 15) / 16
 
--- what a program's block has at least: the prefix, the image, and behind it a COM program's word of stack or the
+-- what a program's block has at least: the prefix, the image, and after it a COM program's word of stack or the
 -- minimum of an MZ header
 unfoldable pub least : List ℕ → ℕ
 least file =
     if is_mz file then 0x10 + paragraphs (length (image file)) + minimum file
     else 0x10 + paragraphs (length (image file) + 2)
 
--- what it has at most, if there is so much: all there is, or the maximum of an MZ header
+-- what a program's block has at most, if there is so much: all there is, or the maximum of an MZ header
 unfoldable pub most : List ℕ → ℕ
 most file =
     if is_mz file then

@@ -10,9 +10,11 @@ use Rattle.dm_arena.specs.Pair.{Placed}
 use Rattle.dm_proc.specs.Request.{Passed}
 use Rattle.dm_proc.specs.Writes.{Write, block, bytes_from}
 
+-- a word as two bytes, low byte first
 abbrev pub word_bytes : ℕ → List ℕ
 word_bytes w = w % 256 ∷ w / 256 ∷ []
 
+-- n bytes of zero
 unfoldable pub zeros : ℕ → List ℕ
 zeros n = replicate n 0
 
@@ -29,18 +31,20 @@ prefix m p parent a =
 abbrev pub com_stack : Placed → ℕ
 com_stack p = min 0xFFFE (16 * p.size - 2)
 
+-- the writes of a word of zero at segment:offset
 abbrev pub zero_word : Bool → ℕ → ℕ → List Write
 zero_word a20 segment offset =
     record { address = linear a20 segment offset; byte = 0 } ∷ record { address = linear a20 segment ((offset + 1) % 65536); byte = 0 } ∷ []
 
+-- the word of zero on a COM program's stack, which leads a near return to offset 0; an MZ program gets none
 abbrev pub stack_writes : Bool → Placed → List ℕ → List Write
 stack_writes a20 p file = if is_mz file then [] else zero_word a20 p.program (com_stack p)
 
--- where the image begins
+-- the start segment: the image begins there, after the 16 paragraphs of the prefix
 abbrev pub start : Placed → ℕ
 start p = (p.program + 0x10) % 65536
 
--- all writes of a start behind those of the headers, in their order: the environment, the prefix, the image, a COM
+-- all writes of a start after those of the headers, in their order: the environment, the prefix, the image, a COM
 -- program's word of zero
 unfoldable pub start_writes : Bool → Placed → List ℕ → List ℕ → List ℕ → List Write
 start_writes a20 p environment prefix file =
@@ -49,7 +53,7 @@ start_writes a20 p environment prefix file =
     ++ block a20 (start p) (relocated file (start p))
     ++ stack_writes a20 p file
 
--- the registers of a new process
+-- the flags of a new process: interrupts are enabled, all other flags clear
 abbrev pub start_flags : Flags
 start_flags = record { carry = false; parity = false; adjust = false; zero = false; sign = false; trap = false; interrupt = true; direction = false; overflow = false }
 
@@ -76,6 +80,7 @@ registers segment code stack = record {
 abbrev pub relocated_pointer : FarPointer → ℕ → FarPointer
 relocated_pointer p by = record p { segment = (p.segment + by) % 65536 }
 
+-- the registers of a new process: an MZ file says CS:IP and SS:SP, a COM file begins at offset 0100h
 abbrev pub start_registers : Placed → List ℕ → Cpu
 start_registers p file =
     if is_mz file then registers p.program (relocated_pointer (code file) (start p)) (relocated_pointer (stack file) (start p))

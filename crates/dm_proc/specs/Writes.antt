@@ -7,6 +7,7 @@ pub record Write : Type 0 where
   pub address : ℕ
   pub byte : ℕ
 
+-- the memory after the writes, in their order
 abbrev pub apply : List Write → Memory → Memory
 apply [] m = m
 apply (w ∷ ws) m = apply ws (poke m w.address w.byte)
@@ -20,6 +21,7 @@ abbrev pub upwards : Bool → ℕ → ℕ → List ℕ → List Write
 upwards a20 segment k [] = []
 upwards a20 segment k (b ∷ bs) = record { address = block_address a20 segment k; byte = b } ∷ upwards a20 segment (suc k) bs
 
+-- the writes of bytes upwards from offset 0 of a segment
 abbrev pub block : Bool → ℕ → List ℕ → List Write
 block a20 segment bytes = upwards a20 segment 0 bytes
 

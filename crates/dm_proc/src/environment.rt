@@ -33,7 +33,7 @@ fn closing(space: &Space, variables: usize) -> &'static [u8]
     if variables == 0 { &[0, 0] } else { &[0] }
 }
 
-/// Puts behind the variables at the front of the scratch part what closes a new environment; its
+/// Puts after the variables at the front of the scratch part what closes a new environment; its
 /// length.
 fn close_environment(space: &mut Space, variables: usize, name: &[u8]) -> usize
     requires variables { variables ≤ 0x8000 }

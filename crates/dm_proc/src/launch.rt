@@ -25,11 +25,11 @@ use dm_cpu::{Cpu, Flags};
 use dm_load::{FarPointer, Image, Kind};
 use dm_space::Space;
 
-/// The bytes of an image behind which no relocation has a word.
+/// The bytes of an image after which no relocation has a word.
 const RELOCATED: usize = 0x11_0000;
 
 /// Puts the first part of an image, relocated to the start segment, into the scratch part; its
-/// length. Behind it no word is relocated.
+/// length. After it no word is relocated.
 fn relocate(space: &mut Space, image: &Image, start: u16) -> usize
     ensures memory { space.new.memory ≡ space.old.memory }
     ensures scratch { take result space.new.scratch ≡ take 0x110000 (relocated image.now start) }
@@ -101,7 +101,7 @@ fn write_stack(space: &mut Space, image: &Image, blocks: Blocks)
     }
 }
 
-/// Makes all writes of a start behind those of the headers, in this order: environment (which the
+/// Makes all writes of a start after those of the headers, in this order: environment (which the
 /// scratch part begins with), prefix, image, a COM program's zero word.
 fn write_start(
     space: &mut Space,

@@ -1,29 +1,29 @@
 //! Laws of the definitions, proved of no process in particular.
 ghost use Rattle.dm_proc.specs.Laws.{ExecHasOneAnswer, LoadHasOneAnswer, OverlayHasOneAnswer, TerminatingHasOneAnswer, KeepingHasOneAnswer, CallsKeepLoaded, IgnoresUnseen};
 
-/// Processes, registers, memory, store and strategy determine what `Procs::exec` answers and all
+/// Processes, registers, memory, store and strategy determine what `Procs::exec` returns and all
 /// that it leaves.
 pub fn exec_has_one_answer()
     ensures { ExecHasOneAnswer }
 {}
 
-/// What is loaded and where determine what `Procs::load` answers and all that it leaves.
+/// What is loaded and where determine what `Procs::load` returns and all that it leaves.
 pub fn load_has_one_answer()
     ensures { LoadHasOneAnswer }
 {}
 
-/// Registers, memory and store determine what `overlay` answers and every byte that it leaves.
+/// Registers, memory and store determine what `overlay` returns and every byte that it leaves.
 pub fn overlay_has_one_answer()
     ensures { OverlayHasOneAnswer }
 {}
 
-/// Processes, registers, memory and code determine what `Procs::terminate` answers and all that it
+/// Processes, registers, memory and code determine what `Procs::terminate` returns and all that it
 /// leaves.
 pub fn terminating_has_one_answer()
     ensures { TerminatingHasOneAnswer }
 {}
 
-/// Processes, registers, memory, code and size determine what `Procs::keep` answers and all that it
+/// Processes, registers, memory, code and size determine what `Procs::keep` returns and all that it
 /// leaves.
 pub fn keeping_has_one_answer()
     ensures { KeepingHasOneAnswer }
@@ -35,7 +35,7 @@ pub fn programs_stay_loaded()
 {}
 
 /// No call depends on memory that no program sees, or changes it: with such a change made before,
-/// each call gives the same answer and leaves the same, with the same change made afterwards.
+/// each call has the same result and leaves the same, with the same change made afterwards.
 pub fn ignores_unseen()
     ensures { IgnoresUnseen }
 {}

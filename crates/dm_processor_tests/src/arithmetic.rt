@@ -279,7 +279,7 @@ fn checksum_of_differences(borrow: bool) -> u32 {
 
 // The expected numbers of the next four tests were made by a C program that executed the processor's own instructions
 // (ADD, ADC, SUB, SBB, the shifts and rotates by CL, MUL, IMUL, DIV, IDIV) on the same values, on an x86-64 processor,
-// and read its flags behind each; undefined flags were taken as clear, and IDIV's -128 as refused.
+// and read its flags after each; undefined flags were taken as clear, and IDIV's -128 as refused.
 
 /// Definitions: dm_alu Width leaves_range; dm_alu Flags after_result even_parity
 /// Definitions: dm_alu Sums sum_value flags_after_sum sum_overflows difference_value flags_after_difference

@@ -1,5 +1,5 @@
 //! Effects at the edges of a range: the largest quotients, shifts by a count of 1 in CL, stacks that wrap.
-//! Rows reckoned by hand from the manual (Intel 8086 Family User's Manual, section 2.7). How a row is
+//! Rows worked out by hand from the manual (Intel 8086 Family User's Manual, section 2.7). How a row is
 //! read stands in `rows`, what the flags' word holds in `effects`.
 
 use crate::rows::check;

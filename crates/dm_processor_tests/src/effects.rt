@@ -1,4 +1,4 @@
-//! Effects of single instructions: rows reckoned by hand from the manual (Intel 8086 Family User's
+//! Effects of single instructions: rows worked out by hand from the manual (Intel 8086 Family User's
 //! Manual, section 2.7). How a row is read stands in `rows`.
 //!
 //! In the flags' word carry is 0001h, parity 0004h, adjust 0010h, zero 0040h, sign 0080h, trap
@@ -586,7 +586,7 @@ SCASW     | AF    | 4000:0400=3344                        | DI=0402 FL=F097
 SCASW     | AF    | FL=F402 4000:0400=1122                | DI=03FE FL=F446
 SCASB SS: | 36 AE | 4000:0400=22                          | DI=0401 FL=F046";
 
-/// The string instructions behind a repeat prefix.
+/// The string instructions after a repeat prefix.
 const REPEATED: &str = "\
 # One repetition; IP stays at the first prefix until CX is 0, or ZF ends a comparison. At 0 nothing is done.
 REP MOVSB     | F3 A4    | CX=0002 2000:0300=5678            | CX=0001 SI=0301 DI=0401 4000:0400=78 IP=0100

@@ -1,5 +1,5 @@
 //! Rows of instructions that have forms of their own, beside those of `effects`: other operands of the same
-//! instructions. They are reckoned by hand from the manual (Intel 8086 Family User's Manual, section 2.7). How a row is
+//! instructions. They are made by hand from the manual (Intel 8086 Family User's Manual, section 2.7). How a row is
 //! read stands in `rows`, what the flags' word holds in `effects`.
 
 use crate::rows::check;

@@ -1,4 +1,4 @@
-//! The forms by number, so that a test can tell which it has met.
+//! The forms by number, so that a test knows which it has met.
 
 ghost use Rattle.std.specs.Prelude.{◌<◌};
 

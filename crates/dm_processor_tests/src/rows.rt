@@ -266,7 +266,7 @@ fn check_row(rt: &impl Abort, row: &str, rows: &str, memories: &mut Memories) ->
     clear_everywhere(memories, after)
 }
 
-/// Tries each row of a text. Bytes that a row names are compared behind each row, all others at the
+/// Tries each row of a text. Bytes that a row names are compared after each row, all others at the
 /// end.
 pub(crate) fn check(rt: &impl Abort, alloc: Global, rows: &str) -> Result<(), Fail> {
     let mut memories = Memories {

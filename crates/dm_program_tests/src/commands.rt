@@ -1,4 +1,4 @@
-//! The program `dm` over files, readers and writers in memory: what each line writes and tells, and its status.
+//! The program `dm` over files, readers and writers in memory: what each line writes and prints, and its status.
 use crate::checks::same_of;
 use crate::files::{Ending, Slow, Source, failing, filled, just, new_files};
 use dm_cli::{Sink, dm_main};
@@ -36,8 +36,8 @@ const REFUSED: [(&str, ErrorKind); 2] = [
     ("full.com", ErrorKind::OutOfMemory),
 ];
 
-/// A line, the status, what it writes to a file behind the file's path, what it writes to standard output, and what it
-/// tells.
+/// A line, the status, what it writes to a file after the file's path, what it writes to standard output, and what it
+/// writes to standard error.
 type Row<'a> = (&'a str, u8, &'a [u8], &'a [u8], &'a str);
 
 /// The files that are there.
@@ -87,14 +87,14 @@ const RUNS: [Row; 4] = [
     ),
 ];
 
-/// What is told of a block that is freed twice.
+/// What is reported of a block that is freed twice.
 const FREED_TWICE: &str = "\
 error: step 6, F000:0084 INT 21h function 49h (Free Allocated Memory): block at 0103 freed twice
 errors: 1, notes: 0
 ";
 
-/// Checked runs: without a finding, whatever the stop; with an error, with a note, and where an instruction destroys the
-/// arena. What keeps a run from its start, or its output from being written, is told as for `dm run`.
+/// Checked runs: without a finding, whatever the stop; with an error, with a note, and where an instruction destroys
+/// the arena. What keeps a run from its start, or its output from being written, is reported as for `dm run`.
 const CHECKS: [Row; 10] = [
     ("dm check hi.com", 0, b"", b"hi", "errors: 0, notes: 0\n"),
     (
@@ -260,7 +260,7 @@ const FILE_FAULTS: [Row; 14] = [
     ),
 ];
 
-/// Runs a command line over the files, with this standard input. Compares what is written, what is told, and the
+/// Runs a command line over the files, with this standard input. Compares what is written, what is reported, and the
 /// status.
 fn tells(
     rt: &impl Abort,
@@ -360,7 +360,7 @@ fn long_input_is_read_one_byte_too_far(rt: HostRuntime) -> Result<(), Fail> {
     Ok(())
 }
 
-/// The lines before the read that fails are answered, and a line that was cut is none.
+/// The lines before the read that fails are done, and a line that was cut is none.
 #[test]
 fn lines_before_a_failing_read_are_answered(rt: HostRuntime) -> Result<(), Fail> {
     let blocks = b"0100 M 0103 0001\n0102 Z 0103 9EFD\nend\n";
@@ -427,7 +427,7 @@ fn tells_failing_writes(rt: HostRuntime) -> Result<(), Fail> {
         ("dm run hi.com", 2, (0, "hi", "")),
         ("dm run hi.com", 3, (0, "hi", "")),
         ("dm disasm hi.com", 5, (126, "MOV A", failed)),
-        // a run that is stopped writes its output too, and where that fails the stop is not told
+        // a run that is stopped writes its output too, and where that fails the stop is not reported
         ("dm run --steps=6 hi.com", 0, (126, "", failed)),
         ("dm run --steps=6 hi.com", 1, (126, "h", failed)),
         (
@@ -448,7 +448,7 @@ fn tells_failing_writes(rt: HostRuntime) -> Result<(), Fail> {
     Ok(())
 }
 
-/// A line whose standard error fails, or takes nothing, after so many writes of one byte: what is told is cut there, and
+/// A line whose standard error fails, or takes nothing, after so many writes of one byte: the message is cut there, and
 /// nothing else changes.
 fn is_cut(
     rt: &impl Abort,

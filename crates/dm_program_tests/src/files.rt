@@ -11,7 +11,7 @@ pub(crate) enum Ending {
     Fault(ErrorKind),
 }
 
-/// Some bytes, so many zeros behind them, and the reader's end.
+/// Some bytes, so many zeros after them, and the reader's end.
 #[derive(Clone, Copy)]
 pub(crate) struct Source<'a> {
     pub(crate) bytes: &'a [u8],
@@ -24,7 +24,7 @@ pub(crate) fn just(bytes: &[u8]) -> Source<'_> {
     filled(bytes, 0)
 }
 
-/// These bytes, and so many zeros behind them.
+/// These bytes, and so many zeros after them.
 pub(crate) fn filled(bytes: &[u8], zeros: usize) -> Source<'_> {
     let ending = Ending::End;
     Source {

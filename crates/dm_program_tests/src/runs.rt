@@ -76,7 +76,7 @@ fn stops_change_nothing(rt: HostRuntime) -> Result<(), Fail> {
     Ok(())
 }
 
-/// Makes room for output, and tells whether it was made.
+/// Makes room for output, and returns whether it was made.
 fn reserve(machine: &mut Machine, bytes: usize) -> bool
     requires { HasProgram machine.old }
     ensures { HasProgram machine.new }

@@ -15,7 +15,7 @@ const HELLO: &[u8] = b"\xB4\x09\xBA\x0C\x01\xCD\x21\xB8\x00\x4C\xCD\x21hi$";
 /// HLT
 const HALT: &[u8] = b"\xF4";
 
-/// A line, how many writes are made before one that fails, what is answered, and the bytes that are taken.
+/// A line, how many writes are made before one that fails, what is returned, and the bytes that are taken.
 type Row<'a> = (&'a str, usize, Result<(), CommandRefusal>, &'a str);
 
 /// More writes than an answer has bytes.
@@ -110,7 +110,7 @@ DS=0103 ES=0103 SS=0103 CS=0103 IP=0101 FL=F202
     ),
 ];
 
-/// Answers a line, and compares what is answered and taken.
+/// Does a line, and compares the result and the bytes taken.
 fn answers(
     rt: &impl Abort,
     alloc: Global,
@@ -130,7 +130,7 @@ fn answers(
     Ok(())
 }
 
-/// Answers a listing with a writer that fails, or takes nothing, after so many bytes, and compares what is answered and
+/// Does a listing with a writer that fails, or takes nothing, after so many bytes, and compares what it returns and
 /// taken.
 fn breaks_off(
     rt: &impl Abort,
@@ -159,7 +159,7 @@ fn breaks_off(
     Ok(())
 }
 
-/// Answers the lines of a session over a program that has the name HI.COM.
+/// Does the lines of a session over a program that has the name HI.COM.
 fn play(rt: &impl Abort, alloc: Global, program: &[u8], rows: &[Row]) -> Result<(), Fail> {
     let machine = loaded_as(alloc, b"HI.COM", program, b"")?;
     let mut session = Session::new(machine);

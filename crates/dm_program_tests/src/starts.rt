@@ -52,7 +52,7 @@ fn store_takes_a_name_once(rt: HostRuntime) -> Result<(), Fail> {
 }
 
 /// Loads a program of this name from a store whose one program, HI.COM, is this file. The load
-/// answers so; where it is refused no byte changes.
+/// has this result; where it is refused no byte changes.
 fn answers(
     rt: &impl Abort,
     alloc: Global,

@@ -61,7 +61,7 @@ fn reserve(rt: &impl Print, alloc: Global, scene: Scene, bytes: usize) -> Result
     Ok(())
 }
 
-/// Machines with room for output: before there is any, and behind some.
+/// Machines with room for output: before there is any, and after some.
 pub(crate) fn make_room(rt: &impl Print, alloc: Global) -> Result<()> {
     for (steps, bytes) in [(3, 2), (7, 100)] {
         let scene = Scene {
@@ -116,7 +116,7 @@ fn is_at(alloc: Global, machine: &Machine, scene: Scene) -> Result<bool> {
     Ok(are_alike(machine, &other))
 }
 
-/// Tells what a step answered, and what is seen after it.
+/// Prints what a step returned, and what is seen after it.
 fn tell_step(rt: &impl Print, call: &str, stop: Option<Stop>, machine: &Machine) -> Result<()> {
     let output = str::from_utf8(machine.output())?;
     let steps = machine.steps();
@@ -135,7 +135,7 @@ fn step(rt: &impl Print, alloc: Global, call: &str, scene: Scene) -> Result<()> 
     tell_step(rt, call, stop, &machine)
 }
 
-/// A step of each service that writes. (Behind three steps of a program, or two: so many lead to its service.)
+/// A step of each service that writes. (After three steps of a program, or two: so many lead to its service.)
 pub(crate) fn make_steps(rt: &impl Print, alloc: Global) -> Result<()> {
     // MOV AH,1; INT 21h / MOV AH,2; MOV DL,`x`; INT 21h / MOV AH,6; MOV DL,`x`; INT 21h
     // MOV BX,1; MOV CX,1; MOV DX,10Dh; MOV AH,40h; INT 21h; `x`
@@ -171,7 +171,7 @@ pub(crate) fn make_steps(rt: &impl Print, alloc: Global) -> Result<()> {
     Ok(())
 }
 
-/// Whether a run that stopped for want of memory is before a service that writes, and has done all before it.
+/// Whether a run that stopped because an allocation failed is before a service that writes, and has done all before it.
 fn stands_before_output(alloc: Global, machine: &Machine) -> Result<bool> {
     let steps = machine.steps();
     let scene = Scene {
@@ -203,7 +203,7 @@ fn make_run(machine: &mut Machine) -> Stop
     machine.run(STEPS)
 }
 
-/// Tells how a run stopped, after how many steps and behind how many bytes.
+/// Prints how a run stopped, after how many steps and how many bytes.
 fn tell_run(
     rt: &impl Print,
     call: &str,
@@ -228,7 +228,7 @@ pub(crate) fn run_whole(rt: &impl Print, alloc: Global) -> Result<()> {
     tell_run(rt, call, stop, &machine, machine.output().len())
 }
 
-/// Runs that program as far as it goes, and writes its output behind the bytes.
+/// Runs that program as far as it goes, and writes its output after the bytes.
 fn run_into(machine: &mut Machine, taken: &mut Vec<u8>) -> Result<Stop>
     requires { HasProgram machine.old }
 {

@@ -16,7 +16,7 @@ const HELLO: [u8; 15] = [
 /// As much room as any answer takes.
 const ROOM: usize = 1024;
 
-/// Commands that have the same answer a second time, each with what is told of it, and its answer.
+/// Commands that have the same answer a second time, each with what is printed of it, and its answer.
 const COMMANDS: [(&str, &[u8], &[u8]); 12] = [
     (
         "Session::command R",
@@ -68,7 +68,7 @@ fn new_session(alloc: Global) -> Result<Session> {
     Ok(Session::new(machine))
 }
 
-/// Answers a line.
+/// Does a line of a session.
 fn answer(
     alloc: Global,
     session: &mut Session,
@@ -81,7 +81,7 @@ fn answer(
     answered
 }
 
-/// Answers a line; where memory was refused nothing was written, and it is answered once more.
+/// Does a line; where memory was refused nothing was written, and it is done once more.
 fn command(
     rt: &impl Print,
     alloc: Global,

@@ -1,5 +1,7 @@
--- Two runs of values leave the function at once as `&mut [R]`, and what owned them follows their last lists. Assumes `Logic`.
---     lends_two      a borrow of S is open, xs and ys lie at o₁ and o₂ of one block, and with any ws and zs there, as many, the rest makes F ws zs of S. F is any function on plain lists
+-- Two runs of values leave the function at once as `&mut [R]`, and what owned them follows their last lists. Assumes
+-- `Logic`.
+--     lends_two      a borrow of S is open, xs and ys lie at o₁ and o₂ of one block, and with any ws and zs there, as
+-- many, the rest makes F ws zs of S. F is any function on plain lists
 --     lends_ends      the first values of a `&mut [R]`, and those from a later place on
 use mathlib.Core.Path.{◌≡◌, refl, sym, ap, ◌∙◌}
 use Prim.Native.Nat.{ℕ, ◌+◌, ◌-◌, ◌*◌, ◌≤◌}

@@ -5,7 +5,7 @@ use Rattle.dm_views.specs.Digits.{two_digits}
 use Rattle.dm_findings.specs.declared.calls.Call.{Call}
 use Rattle.dm_findings.specs.declared.calls.Call.TheVariants.{DivideError, Terminate, Dos, ExpandedMemory, Multiplex, ExtendedMemory}
 
--- functions of INT 21h
+-- the name of a function of INT 21h
 abbrev pub dos_name : ℕ → List ℕ
 dos_name number =
     if number == 0x00 then codes " (Terminate Program)" else
@@ -34,7 +34,7 @@ dos_name number =
     if number == 0x58 then codes " (Allocation Strategy, Upper-Memory Link)" else
     if number == 0x62 then codes " (Get Program Segment Prefix Address)" else []
 
--- functions of INT 67h
+-- the name of a function of INT 67h
 abbrev pub expanded_name : ℕ → List ℕ
 expanded_name number =
     if number == 0x40 then codes " (Get Status)" else
@@ -57,7 +57,7 @@ expanded_name number =
     if number == 0x57 then codes " (Move/Exchange Memory Region)" else
     if number == 0x58 then codes " (Get Mappable Physical Address Array)" else []
 
--- functions of the extended memory driver
+-- the name of a function of the extended memory driver
 abbrev pub extended_name : ℕ → List ℕ
 extended_name number =
     if number == 0x00 then codes " (Get XMS Version Number)" else

@@ -15,10 +15,11 @@ use Rattle.dm_reports.specs.Names.{call_text}
 abbrev pub contents_text : Contents → List ℕ
 contents_text c = two_digits c.signature ++ codes " " ++ four_digits c.owner ++ codes " " ++ four_digits c.size
 
--- a locked block
+-- what follows the KiB of a block that is locked
 abbrev pub lock_text : Bool → List ℕ
 lock_text locked = if locked then codes ", locked" else []
 
+-- what was found, in words
 abbrev pub finding_text : Finding → List ℕ
 finding_text (Overwritten at old new) = codes "header at " ++ four_digits at ++ codes " overwritten: " ++ contents_text old ++ codes " became " ++ contents_text new
 finding_text (MappedAway at) = codes "header at " ++ four_digits at ++ codes " mapped away"
@@ -40,6 +41,7 @@ abbrev pub act_text : Act → List ℕ
 act_text (act.Call call) = call_text call
 act_text (act.Instruction i next) = text_of i next
 
+-- the first word of a finding's line
 abbrev pub kind_text : Bool → List ℕ
 kind_text error = if error then codes "error" else codes "note"
 

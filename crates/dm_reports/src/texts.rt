@@ -91,7 +91,7 @@ fn put_refused(out: &mut Vec<u8>, code: u8) -> Result<(), AllocError>
     out.extend_from_slice(b"h")
 }
 
-/// What is put behind a block that is locked.
+/// What is put after a block that is locked.
 fn lock_of(locked: bool) -> &'static [u8]
     ensures { result.now ≡ lock_text locked }
 {

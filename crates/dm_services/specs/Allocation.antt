@@ -32,7 +32,7 @@ pub record Allocation (s : State) (x : Answer) : Type 0 where
   pub allocates : Allocates s.upper s.memory s.strategy s.cpu.bx s.processes.present result memory
   pub answer : x ≡ allocated s result memory
 
--- what the calls answer that tell nothing but whether they were served
+-- what the calls return that report success or an error, and nothing more
 abbrev pub settled : State → Result (Unit {0}) ArenaRefusal → Memory → Answer
 settled s (Ok u) m = answered s s.cpu m false
 settled s (Err e) m = answered s (refused s.cpu e) m true

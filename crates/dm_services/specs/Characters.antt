@@ -9,21 +9,23 @@ use Rattle.dm_state.specs.declared.stop.Stop.TheVariants.{InputEnded}
 use Rattle.dm_state.specs.State.{State, Answer, go, stop_at, interrupt_returned}
 use Rattle.dm_services.specs.Text.{written}
 
+-- the state with another value in AL
 abbrev pub with_al : State → ℕ → State
 with_al s byte = record s { cpu = with_byte s.cpu Al byte }
 
--- what is left of the input
+-- the state with this input left
 abbrev pub with_input : State → List ℕ → State
 with_input s rest = record s { console = record s.console { input = rest } }
 
--- bytes go out
+-- the state with bytes written to the console
 abbrev pub with_written : State → List ℕ → State
 with_written s bytes = record s { console = written s.console bytes }
 
+-- the state with ZF set or clear
 abbrev pub with_zero : State → Bool → State
 with_zero s b = record s { cpu = record s.cpu { flags = record s.cpu.flags { zero = b } } }
 
--- 07h, 08h: AL is the next byte
+-- 07h, 08h: AL is the next byte of the input; where none is left, the machine stops
 abbrev pub character_of : State → List ℕ → Answer
 character_of s [] = stop_at InputEnded s
 character_of s (byte ∷ rest) = go (interrupt_returned (with_al (with_input s rest) byte))
@@ -32,7 +34,7 @@ character_of s (byte ∷ rest) = go (interrupt_returned (with_al (with_input s r
 unfoldable pub read_character : State → Answer
 read_character s = character_of s s.console.input
 
--- 01h: so it is, and that byte is written
+-- 01h: AL is the next byte of the input, which is written; where none is left, the machine stops
 abbrev pub echo_of : State → List ℕ → Answer
 echo_of s [] = stop_at InputEnded s
 echo_of s (byte ∷ rest) = go (interrupt_returned (with_al (with_written (with_input s rest) (byte ∷ [])) byte))
@@ -50,6 +52,7 @@ abbrev pub poll_of : State → List ℕ → Answer
 poll_of s [] = go (with_zero (interrupt_returned (with_al s 0)) true)
 poll_of s (byte ∷ rest) = go (with_zero (interrupt_returned (with_al (with_input s rest) byte)) false)
 
+-- 06h with DL = FFh: AL is the next byte of the input, if one is left
 unfoldable pub poll_character : State → Answer
 poll_character s = poll_of s s.console.input
 
@@ -62,5 +65,6 @@ abbrev pub input_status : List ℕ → ℕ
 input_status [] = 0
 input_status (byte ∷ rest) = 0xFF
 
+-- 0Bh: AL says whether input is left
 unfoldable pub check_input : State → Answer
 check_input s = go (interrupt_returned (with_al s (input_status s.console.input)))

@@ -1,4 +1,4 @@
--- The functions of INT 21h: MS-DOS Programmer's Reference, "System Calls". The answer to a function that is not there
+-- The functions of INT 21h: MS-DOS Programmer's Reference, "System Calls". The result of a function that is not there
 -- is this machine's own.
 use Rattle.std.specs.Prelude.{◌≡◌, ℕ, ◌==◌, if◌then◌else◌, true}
 use Rattle.dm_cpu.specs.Cpu.{byte_of}
@@ -51,7 +51,7 @@ function_of number =
 unfoldable pub no_function : State → Answer
 no_function s = go (with_carry (interrupt_returned (record s { cpu = record s.cpu { ax = 1 } })) true)
 
--- the call of a function from s answers x
+-- the call of a function from s returns x
 abbrev pub Calls : State → Function → Answer → Type 0
 Calls s EchoCharacter x = x ≡ echo_character s
 Calls s WriteCharacter x = x ≡ write_character s

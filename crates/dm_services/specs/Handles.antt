@@ -6,6 +6,7 @@ use Rattle.dm_state.specs.State.{State, Answer, go, interrupt_returned, with_car
 use Rattle.dm_services.specs.Characters.{with_input, with_written}
 use Rattle.dm_space.specs.Buffers.{with_bytes}
 
+-- the state with another value in AX
 abbrev pub with_ax : State → ℕ → State
 with_ax s ax = record s { cpu = record s.cpu { ax = ax } }
 
@@ -13,11 +14,11 @@ with_ax s ax = record s { cpu = record s.cpu { ax = ax } }
 unfoldable pub bad_handle : State → Answer
 bad_handle s = go (with_carry (interrupt_returned (with_ax s 6)) true)
 
--- the bytes stand at DS:DX and upwards
+-- the state with bytes at DS:DX and upwards
 abbrev pub with_read : State → List ℕ → State
 with_read s bytes = record s { memory = with_bytes s.memory s.cpu.ds s.cpu.dx bytes }
 
--- the same, they are taken from the input, AX is their count, CF = 0
+-- 3Fh: bytes of the input come to DS:DX and upwards, and are gone from it; AX is their count, CF = 0
 abbrev pub read_from_console : State → List ℕ → Answer
 read_from_console s bytes =
     go (with_carry (interrupt_returned (with_ax (with_input (with_read s bytes) (drop (length bytes) s.console.input)) (length bytes))) false)

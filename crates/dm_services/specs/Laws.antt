@@ -1,4 +1,4 @@
--- Laws of the services: each has one answer, none changes the map of memory, none depends on what no program sees, and
+-- Laws of the services: each has one result, none changes the map of memory, none depends on what no program sees, and
 -- none gives back room.
 use Rattle.std.specs.Prelude.{◌≡◌, ℕ, ◌+◌, ◌≤◌, length}
 use Rattle.dm_space.specs.Memory.{Memory}
@@ -9,7 +9,7 @@ use Rattle.dm_services.specs.declared.services.Service.{Service}
 use Rattle.dm_state.specs.State.{State, Answer}
 use Rattle.dm_services.specs.Services.{Serves}
 
--- what a service answers, and all that it leaves, are functions of the state
+-- what a service returns, and all that it leaves, are functions of the state
 abbrev pub ServicesHaveOneAnswer : Type 0
 ServicesHaveOneAnswer = (s : State) (service : Service) (x y : Answer) → Serves s service x → Serves s service y → x ≡ y
 
@@ -17,18 +17,19 @@ ServicesHaveOneAnswer = (s : State) (service : Service) (x y : Answer) → Serve
 abbrev pub ServicesKeepTheMap : Type 0
 ServicesKeepTheMap = (s : State) (service : Service) (x : Answer) → Serves s service x → IsShaped s.memory x.state.memory
 
--- and so it does the tables of expanded and of extended memory
+-- each service keeps the tables of expanded and of extended memory
 abbrev pub ServicesKeepTheTables : Type 0
 ServicesKeepTheTables = (s : State) (service : Service) (x : Answer) → Serves s service x → (x.state.ems ≡ s.ems) × (x.state.xms ≡ s.xms)
 
--- the state, or the answer, with its memory changed
+-- the state with its memory changed
 abbrev pub with_change : (Memory → Memory) → State → State
 with_change change s = record s { memory = change s.memory }
 
+-- what a step returns, with its memory changed
 abbrev pub answer_with : (Memory → Memory) → Answer → Answer
 answer_with change x = record { stop = x.stop; state = with_change change x.state }
 
--- where memory is changed out of every program's sight the answer is the same, and the change stays: no service of DOS
+-- where memory is changed out of every program's sight the result is the same, and the change stays: no service of DOS
 -- gives a program another view of memory, as drivers do
 abbrev pub ServicesIgnoreUnseen : Type 0
 ServicesIgnoreUnseen =

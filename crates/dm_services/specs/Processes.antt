@@ -16,6 +16,7 @@ use Rattle.dm_state.specs.declared.stop.Stop.TheVariants as stop
 use Rattle.dm_state.specs.State.{State, Answer, go, stop_at, interrupt_returned}
 use Rattle.dm_services.specs.Allocation.{answered}
 
+-- the error code of a refused call of 4Bh, in AX
 abbrev pub code_of : ExecRefusal → ℕ
 code_of Function = 1
 code_of NotFound = 2
@@ -32,11 +33,12 @@ not_loaded s e = answered s (record s.cpu { ax = code_of e }) s.memory true
 abbrev pub with_processes : State → Processes → Cpu → Memory → State
 with_processes s qs d n = record s { cpu = d; memory = n; processes = qs }
 
--- 4Bh with AL = 0: the child goes on
+-- 4Bh with AL = 0: the child goes on, or the call is refused
 abbrev pub executed : State → Result (Unit {0}) ExecRefusal → Processes → Cpu → Memory → Answer
 executed s (Ok u) qs d n = go (with_processes s qs d n)
 executed s (Err e) qs d n = not_loaded s e
 
+-- 4Bh with AL = 0: a child is started, or the call is refused
 pub record Executing (s : State) (x : Answer) : Type 0 where
   pub result : Result (Unit {0}) ExecRefusal
   pub processes : Processes
@@ -50,6 +52,7 @@ abbrev pub overlaid : State → Result (Unit {0}) ExecRefusal → Memory → Ans
 overlaid s (Ok u) n = answered s s.cpu n false
 overlaid s (Err e) n = not_loaded s e
 
+-- 4Bh with AL = 3: an overlay is loaded, or the call is refused
 pub record Overlaying (s : State) (x : Answer) : Type 0 where
   pub result : Result (Unit {0}) ExecRefusal
   pub memory : Memory
@@ -93,7 +96,7 @@ pub record Keeping (s : State) (x : Answer) : Type 0 where
   pub keeps : Keeps s.upper s.processes s.cpu s.memory (byte_of s.cpu Al) s.cpu.dx result processes cpu memory
   pub answer : x ≡ concluded s (byte_of s.cpu Al) result processes cpu memory
 
--- 4Dh: AX is the word of the last ending, which is told once
+-- 4Dh: AX is the word of the last ending, which can be read once
 unfoldable pub tell_code : State → Answer
 tell_code s =
     go (interrupt_returned (record s { cpu = record s.cpu { ax = s.processes.code }; processes = record s.processes { code = 0 } }))

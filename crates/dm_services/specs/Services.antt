@@ -23,7 +23,7 @@ service_at_offset ip =
 unfoldable pub service_at : Cpu → Option Service
 service_at c = if c.cs == entry_segment then service_at_offset c.ip else None
 
--- the service at s answers x: interrupt 0 ends the process with code FFh, INT 20h with 0, and INT 21h does what AH
+-- the service at s returns x: interrupt 0 ends the process with code FFh, INT 20h with 0, and INT 21h does what AH
 -- names
 abbrev pub Serves : State → Service → Answer → Type 0
 Serves s DivideError x = Terminating s 0xFF x

@@ -19,22 +19,27 @@ use Rattle.dm_services.specs.Allocation.{answered, refused, settled}
 
 -- ---- strategies by their numbers: the fit in the low bits, the area in the high ones
 
+-- the high bits of a strategy's number: 0, 40h for upper memory alone, 80h for upper memory first
 abbrev pub number_of_area : Area → ℕ
 number_of_area All = 0
 number_of_area Upper = 0x40
 number_of_area UpperFirst = 0x80
 
+-- the low bits of a strategy's number: first, best or last fit
 abbrev pub number_of_fit : Fit → ℕ
 number_of_fit First = 0
 number_of_fit Best = 1
 number_of_fit Last = 2
 
+-- the number of a strategy, as BX and AX have it
 abbrev pub strategy_number : Strategy → ℕ
 strategy_number strategy = number_of_area strategy.area + number_of_fit strategy.fit
 
+-- the strategy of a fit and an area
 abbrev pub strategy : Fit → Area → Strategy
 strategy fit area = record { fit = fit; area = area }
 
+-- a strategy that looks at upper memory, by its number
 abbrev pub upper_strategy_of : ℕ → Option Strategy
 upper_strategy_of number =
     if number == 0x40 then Some (strategy First Upper) else
@@ -96,6 +101,7 @@ abbrev pub wanted : Bool → ℕ → Option Bool
 wanted upper number =
     if upper then (if number == 0 then Some false else if number == 1 then Some true else None) else None
 
+-- 58h with AL = 3: upper memory is linked to the arena or unlinked, or the call is refused
 pub record Linking (on : Bool) (s : State) (x : Answer) : Type 0 where
   pub result : Result (Unit {0}) ArenaRefusal
   pub memory : Memory
@@ -107,6 +113,7 @@ abbrev pub SetsLink : Option Bool → State → Answer → Type 0
 SetsLink None s x = x ≡ unlisted s
 SetsLink (Some on) s x = Linking on s x
 
+-- 58h, by the function that AL names
 abbrev pub StrategyCalls : State → StrategyFunction → Answer → Type 0
 StrategyCalls s TellStrategy x = x ≡ strategy_reported s
 StrategyCalls s SetStrategy x = x ≡ set_to s (strategy_of s.upper s.cpu.bx)

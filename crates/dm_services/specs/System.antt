@@ -1,4 +1,4 @@
--- INT 21h, what the system tells of itself: MS-DOS Programmer's Reference, "Get MS-DOS Version Number" (30h), "Get PSP
+-- INT 21h, the system's version and PSP: MS-DOS Programmer's Reference, "Get MS-DOS Version Number" (30h), "Get PSP
 -- Address" (51h, 62h).
 use Rattle.dm_state.specs.State.{State, Answer, go, interrupt_returned}
 

@@ -6,6 +6,7 @@ use Rattle.dm_cpu.specs.Cpu.{byte_of}
 use Rattle.dm_ins.specs.declared.operand.ByteRegister.TheVariants.{Al}
 use Rattle.dm_state.specs.State.{State, Answer, go, interrupt_returned}
 
+-- the memory with another vector of an interrupt: its offset, and then its segment
 abbrev pub with_vector : Memory → ℕ → ℕ → ℕ → Memory
 with_vector m number segment offset = poke16 (poke16 m 0 (4 * number) offset) 0 (4 * number + 2) segment
 

@@ -31,7 +31,7 @@ pub(crate) fn answer(parts: &mut Parts, carry: bool)
     parts.count();
 }
 
-/// 48h: allocates BX paragraphs; AX tells the segment of the block.
+/// 48h: allocates BX paragraphs; AX is the segment of the block.
 pub(crate) fn allocate(parts: &mut Parts)
     ensures { Allocation parts.old (record { stop = None; state = parts.new }) }
 {

@@ -85,14 +85,14 @@ pub(crate) fn direct_character(parts: &mut Parts) -> Option<Stop>
     }
 }
 
-/// What AL tells of the input: FFh where some is left, else 0.
+/// What AL says of the input: FFh where some is left, else 0.
 fn status(parts: &Parts) -> u8
     ensures { result ≡ input_status parts.now.console.input }
 {
     if parts.console.left() == 0 { 0 } else { 0xFF }
 }
 
-/// 0Bh: AL tells whether input is left.
+/// 0Bh: AL says whether input is left.
 #[tactic(auto, unfolding(crate::specs::Characters::check_input))]
 pub(crate) fn check_input(parts: &mut Parts) -> Option<Stop>
     ensures answer { OrMemory parts.old (check_input parts.old) result parts.new }

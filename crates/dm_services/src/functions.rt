@@ -38,17 +38,17 @@ pub(crate) enum Function {
     WriteText,
     /// 0Ah: reads a line of the input into the buffer at DS:DX.
     ReadLine,
-    /// 0Bh: tells in AL whether input is left.
+    /// 0Bh: returns in AL whether input is left.
     CheckInput,
     /// 0Ch: does the function that AL names, if it reads the console.
     FlushAndRead,
     /// 25h: gives interrupt AL the vector DS:DX.
     SetVector,
-    /// 30h: tells the version.
+    /// 30h: returns the version.
     Version,
     /// 31h: ends the process with the code in AL, and keeps DX paragraphs.
     Keep,
-    /// 35h: tells the vector of interrupt AL in ES:BX.
+    /// 35h: returns the vector of interrupt AL in ES:BX.
     GetVector,
     /// 3Fh: reads CX bytes from handle BX to DS:DX.
     ReadHandle,
@@ -64,11 +64,11 @@ pub(crate) enum Function {
     LoadProgram,
     /// 4Ch: ends the process with the code in AL.
     Exit,
-    /// 4Dh: tells how the last child ended.
+    /// 4Dh: returns how the last child ended.
     ExitCode,
-    /// 51h and 62h: tells the segment of the present process in BX.
+    /// 51h and 62h: returns the segment of the present process in BX.
     Process,
-    /// 58h: tells or sets the allocation strategy, or the link with upper memory.
+    /// 58h: returns or sets the allocation strategy, or the link with upper memory.
     AllocationStrategy,
     /// Any other number.
     Unknown,
@@ -106,7 +106,7 @@ fn function_of(number: u8) -> Function
     }
 }
 
-/// Answers that there is no such function.
+/// Returns from the call with error 1: no such function.
 #[tactic(auto, unfolding(crate::specs::Functions::no_function))]
 fn refuse(parts: &mut Parts)
     ensures { parts.new ≡ (no_function parts.old).state }

@@ -7,7 +7,7 @@ ghost use Rattle.dm_services.specs.Handles.{bad_handle, read_handle, write_handl
 use crate::buffers::send;
 use dm_state::{Parts, Stop};
 
-/// Answers that the handle is bad.
+/// Returns from the call with error 6: a bad handle.
 #[tactic(auto, unfolding(crate::specs::Handles::bad_handle))]
 fn bad_handle(parts: &mut Parts)
     ensures answer { record { stop = None; state = parts.new } ≡ bad_handle parts.old }
@@ -19,7 +19,7 @@ fn bad_handle(parts: &mut Parts)
     parts.count();
 }
 
-/// 3Fh: takes CX bytes of the input, or all that are left, to DS:DX. AX tells how many.
+/// 3Fh: takes CX bytes of the input, or all that are left, to DS:DX. AX is how many.
 #[tactic(auto, unfolding(crate::specs::Handles::read_handle))]
 pub(crate) fn read_handle(parts: &mut Parts) -> Option<Stop>
     ensures answer { OrMemory parts.old (read_handle parts.old) result parts.new }

@@ -1,7 +1,7 @@
 //! Laws of the services, each the contract of a function that does nothing.
 ghost use Rattle.dm_services.specs.Laws.{ServicesHaveOneAnswer, ServicesIgnoreUnseen, ServicesKeepRoom, ServicesKeepTheMap, ServicesKeepTheTables};
 
-/// The state determines what a service answers, its stop included, and all that it leaves.
+/// The state determines what a service returns, its stop included, and all that it leaves.
 pub fn services_have_one_answer()
     ensures { ServicesHaveOneAnswer }
 {}

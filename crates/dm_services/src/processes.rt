@@ -25,7 +25,7 @@ fn code_of(refusal: ExecRefusal) -> u16
     }
 }
 
-/// Answers that no program was loaded.
+/// Returns from the call with an error in AX: no program was loaded.
 fn refuse_program(parts: &mut Parts, refusal: ExecRefusal)
     ensures { parts.new ≡ (not_loaded parts.old refusal).state }
 {
@@ -75,7 +75,7 @@ pub(crate) fn load_program(parts: &mut Parts)
     }
 }
 
-/// Counts the step that ended a process with a code, or tells that it could not end.
+/// Counts the step that ended a process with a code, or reports that it could not end.
 fn conclude(parts: &mut Parts, ended: Result<Ending, ArenaDestroyed>, code: u8) -> Option<Stop>
     ensures answer { record { stop = result; state = parts.new } ≡ concluded parts.old code ended parts.old.processes parts.old.cpu parts.old.memory }
     ensures program { parts.new.processes ≡ parts.old.processes }
@@ -124,7 +124,7 @@ pub(crate) fn keep(parts: &mut Parts) -> Option<Stop>
     conclude(parts, ended, code)
 }
 
-/// 4Dh: tells the word of the last ending, once.
+/// 4Dh: returns the word of the last ending, once.
 #[tactic(auto, unfolding(crate::specs::Processes::tell_code))]
 pub(crate) fn tell_code(parts: &mut Parts)
     ensures told { parts.new ≡ (tell_code parts.old).state }

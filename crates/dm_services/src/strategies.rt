@@ -14,11 +14,11 @@ use dm_state::Parts;
 /// What function 58h is asked for.
 #[derive(Clone, Copy, Debug, PartialEq, Eq)]
 pub enum StrategyFunction {
-    /// AL = 0: tells the strategy's number in AX.
+    /// AL = 0: returns the strategy's number in AX.
     TellStrategy,
     /// AL = 1: sets the strategy with the number in BX.
     SetStrategy,
-    /// AL = 2: tells in AL whether the arena is linked with upper memory.
+    /// AL = 2: returns in AL whether the arena is linked with upper memory.
     TellLink,
     /// AL = 3: links them (BX = 1), or parts them (BX = 0).
     SetLink,
@@ -104,7 +104,7 @@ fn wanted(number: u16, upper: bool) -> Option<bool>
     }
 }
 
-/// Tells that there is no such function, or no such value for it.
+/// Returns from the call with error 1: no such function, or no such value for it.
 fn refuse_number(parts: &mut Parts)
     ensures { parts.new ≡ (Strategies.unlisted parts.old).state }
 {
@@ -112,7 +112,7 @@ fn refuse_number(parts: &mut Parts)
     answer(parts, true);
 }
 
-/// AL = 0: AX tells the strategy's number.
+/// AL = 0: AX is the strategy's number.
 fn tell_strategy(parts: &mut Parts)
     ensures { parts.new ≡ (Strategies.strategy_reported parts.old).state }
 {
@@ -133,7 +133,7 @@ fn set_strategy(parts: &mut Parts)
     }
 }
 
-/// AL = 2: AL tells whether the arena is linked with upper memory.
+/// AL = 2: AL says whether the arena is linked with upper memory.
 fn tell_link(parts: &mut Parts)
     ensures { TellsLink parts.old.upper parts.old (record { stop = None; state = parts.new }) }
 {
@@ -177,7 +177,7 @@ fn set_link(parts: &mut Parts)
     }
 }
 
-/// 58h: tells the allocation strategy or the link with upper memory, or sets one.
+/// 58h: returns the allocation strategy or the link with upper memory, or sets one.
 pub(crate) fn allocation_strategy(parts: &mut Parts)
     ensures { StrategyCalls parts.old (Strategies.subfunction_of (byte_of parts.old.cpu Al)) (record { stop = None; state = parts.new }) }
 {

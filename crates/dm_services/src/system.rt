@@ -1,4 +1,4 @@
-//! INT 21h, what the system tells of itself (MS-DOS Programmer's Reference, functions 30h, 51h and
+//! INT 21h, what the system reports of itself (MS-DOS Programmer's Reference, functions 30h, 51h and
 //! 62h).
 ghost use Rattle.std.specs.Prelude.{◌≡◌};
 ghost use Rattle.dm_services.specs.inner.Wanting.{OrMemory};

@@ -36,6 +36,7 @@ place m a =
     if nat_lt a 0x100000 then Rom (a - 0xF0000) else
     if nat_lt a 0x10FFF0 then Low a else Nothing
 
+-- the bytes of a block of the pool, as of a page of expanded memory
 abbrev pub page_bytes : Memory → ℕ → List ℕ
 page_bytes m page = slice_index_or m.blocks.contents page []
 
@@ -46,9 +47,11 @@ byte_at m (Page page k) = slice_index (page_bytes m page) k
 byte_at m (Rom k) = rom k
 byte_at m Nothing = 0xFF
 
+-- the memory with another pool; RAM, windows and A20 stay
 abbrev pub with_blocks : Memory → Blocks → Memory
 with_blocks m blocks = record m { blocks = blocks }
 
+-- the memory with a byte written to a place: RAM and pages keep it, a write to ROM or to nothing changes nothing
 abbrev pub with_byte : Memory → Place → ℕ → Memory
 with_byte m (Low a) v = record m { low = slice_set m.low a v }
 with_byte m (Page page k) v = with_blocks m (with_content m.blocks page (slice_set (page_bytes m page) k v))
@@ -68,7 +71,7 @@ abbrev pub peek16 : Memory → ℕ → ℕ → ℕ
 peek16 m segment offset =
     peek m (linear m.a20 segment offset) + 256 * peek m (linear m.a20 segment ((offset + 1) % 65536))
 
--- the high byte is at the next offset, modulo 65,536
+-- the memory with a word at segment:offset: its high byte is at the next offset, modulo 65,536
 abbrev pub poke16 : Memory → ℕ → ℕ → ℕ → Memory
 poke16 m segment offset v =
     poke (poke m (linear m.a20 segment offset) (v % 256)) (linear m.a20 segment ((offset + 1) % 65536)) (v / 256)
@@ -103,6 +106,7 @@ pub record Held : Type 0 where
   pub memory : Memory
   pub scratch : List ℕ
 
+-- the memory fits the machine, and the scratch has 2 MiB
 pub record IsHeld (h : Held) : Type 0 where
   pub fits : Fits h.memory
   pub scratch_length : length h.scratch ≡ 0x200000

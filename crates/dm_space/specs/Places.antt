@@ -1,4 +1,4 @@
--- What a write does, told by places: for layers that compare the places of addresses and see nothing of the map.
+-- What a write does, in terms of places: for layers that compare the places of addresses and see nothing of the map.
 -- Two addresses with one place that is written to are aliased.
 use Rattle.std.specs.Prelude.{◌≡◌, ℕ, length}
 use Rattle.dm_space.specs.declared.place.Place.{Place}

@@ -11,6 +11,7 @@ use Rattle.dm_space.specs.Memory.{Memory, Held, of_ram}
 abbrev pub vector_offset : ℕ → ℕ
 vector_offset n = if n == 0x67 then expanded_memory_offset else n * 4
 
+-- the segment that the vector of interrupt n holds: F000h, but F100h for the expanded memory driver
 abbrev pub vector_segment : ℕ → ℕ
 vector_segment n = if n == 0x67 then expanded_memory_segment else entry_segment
 
@@ -40,6 +41,7 @@ pub record IsStartOver (s : Stored) (h : Held) : Type 0 where
   pub ram : IsLaidOver s.low h.memory.low
   pub others : h ≡ record { memory = of_ram h.memory.low s.blocks; scratch = s.scratch }
 
+-- all RAM as a machine starts: 110000h bytes, the vectors, the first arena header, and zeros
 pub record IsStartOfRam (ram : List ℕ) : Type 0 where
   pub size : length ram ≡ 0x110000
   pub bytes : (a : ℕ) → a < 0x110000 → slice_index ram a ≡ start_byte a

@@ -1,4 +1,4 @@
--- The state of the machine, and what a step answers.
+-- The state of the machine, and what a step returns.
 use Rattle.std.specs.Prelude.{◌≡◌, ◌⊎◌, ℕ, ◌+◌, ◌-◌, ◌^◌, ◌<◌, min, Bool, List, Option, Some, None, IfSome}
 use Rattle.dm_pool.specs.Blocks.{IsLive}
 use Rattle.dm_space.specs.Memory.{Memory}
@@ -59,10 +59,11 @@ pub record AreConsistentWith (pages : Tables) (blocks : xms.Tables) (m : Memory)
   pub apart : (k : ℕ) → IfSome (handle_at blocks.handles k) (λ h. IsOwned pages.pages h.block → ⊥)
   pub whole : (block : ℕ) → IsLive m.blocks block → IsOwned pages.pages block ⊎ IsHandled blocks.handles block
 
+-- tables and memory of the state are consistent
 abbrev pub AreConsistent : State → Type 0
 AreConsistent s = AreConsistentWith s.ems s.xms s.memory
 
--- what a step answers
+-- what a step returns: why the machine stops, if it does, and the state
 pub record Answer : Type 0 where
   pub stop : Option Stop
   pub state : State
@@ -71,10 +72,11 @@ pub record Answer : Type 0 where
 abbrev pub go : State → Answer
 go s = record { stop = None; state = record s { steps = min (s.steps + 1) (2 ^ 64 - 1) } }
 
--- no step is made
+-- no step is made, and the machine stops
 abbrev pub stop_at : Stop → State → Answer
 stop_at stop s = record { stop = Some stop; state = s }
 
+-- the state with these registers and this memory
 abbrev pub with_guest : State → Guest → State
 with_guest s g = record s { cpu = g.cpu; memory = g.memory }
 
@@ -86,5 +88,6 @@ interrupt_returned s = with_guest s (interrupt_return (guest s.cpu s.memory))
 abbrev pub far_returned : State → State
 far_returned s = with_guest s (stack.far_returned (guest s.cpu s.memory) 0)
 
+-- the state with CF set or clear
 abbrev pub with_carry : State → Bool → State
 with_carry s b = record s { cpu = record s.cpu { flags = record s.cpu.flags { carry = b } } }

@@ -1,4 +1,4 @@
-//! What instructions and services act on: the parts of a machine, what a step answers, and what a
+//! What instructions and services act on: the parts of a machine, what a step returns, and what a
 //! machine is made with.
 #![tactic(auto)]
 

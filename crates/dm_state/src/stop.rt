@@ -2,14 +2,14 @@
 
 /// Why a run, or a step, stopped.
 ///
-/// `Exited` is told by the step that ends the first program, and by every later call, which makes no
+/// `Exited` is returned by the step that ends the first program, and by every later call, which makes no
 /// step. The stops after it in this list make no step and leave the state before it, so that a later
 /// run meets the same instruction.
 #[derive(Clone, Copy, Debug, PartialEq, Eq)]
 pub enum Stop {
     /// All the steps that were asked for were made.
     Steps,
-    /// The first program has ended with this code. Every later call answers it again.
+    /// The first program has ended with this code. Every later call returns it again.
     Exited(u8),
     /// The next instruction is HLT.
     Halted,

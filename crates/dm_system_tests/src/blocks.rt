@@ -48,7 +48,7 @@ fn place_of(store: &Store, block: Block) -> (Option<usize>, usize) {
     }
 }
 
-/// Whether a block's first bytes are its own, and those behind them zeros.
+/// Whether a block's first bytes are its own, and those after them zeros.
 fn is_sound(store: &Store, block: Block, kept: usize, own: u8) -> bool {
     if !store.has(block) {
         return false;
@@ -176,7 +176,7 @@ fn blocks_take_the_lowest_gap(rt: HostRuntime) -> Result<(), Fail> {
         Step::Give(1),
         Step::Tells(2, 2, 1),
         Step::Take(3, 3, None),
-        // it stays where the units behind it are free
+        // it stays where the units after it are free
         Step::Resize(0, 5, Some(0)),
         Step::Tells(0, 0, 0),
         Step::Resize(0, 1, Some(0)),

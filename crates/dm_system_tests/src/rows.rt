@@ -12,7 +12,7 @@ use std::alloc::Global;
 use std::process::Abort;
 use std::test::Fail;
 
-/// A part of a row: 0 what stands before the first `|`, 1 what stands behind it.
+/// A part of a row: 0 what stands before the first `|`, 1 what stands after it.
 fn part(row: &str, number: usize) -> Result<&str, Fail> {
     Ok(row.split('|').nth(number).ok_or("a part is missing")?)
 }

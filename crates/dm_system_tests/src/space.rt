@@ -6,7 +6,7 @@ use dm_pool::{Block, Sizes, Store};
 use dm_space::Space;
 use std::test::Fail;
 
-/// Marks the first byte of a block, and below 110000h vector 33, the first arena header, a byte behind it, and one in
+/// Marks the first byte of a block, and below 110000h vector 33, the first arena header, a byte after it, and one in
 /// the segment of ROM.
 fn mark(store: &mut Store, block: Block) {
     if store.has(block) {
@@ -75,7 +75,7 @@ fn memory_starts_over_a_used_store(rt: HostRuntime) -> Result<(), Fail> {
 fn each_part_of_the_map_reads_as_it_starts(rt: HostRuntime) -> Result<(), Fail> {
     let mut space = new_space(rt.alloc())?;
     // segment, offset, byte: vectors 0, 21h and 67h, the arena header, the hole, upper RAM, the
-    // frame, ROM, and the start of memory as it shows behind FFFF:000F while A20 is off
+    // frame, ROM, and the start of memory as it shows above FFFF:000F while A20 is off
     let bytes = [
         (0x0000, 0x0003, 0xF0),
         (0x0000, 0x0084, 0x84),
@@ -220,7 +220,7 @@ fn eight_bytes_are_those_read_one_by_one(rt: HostRuntime) -> Result<(), Fail> {
     space.poke(0x2000, 0x0000, 0x22);
     space.poke(0x3000, 0x0000, 0x23);
     space.poke(0xBFFF, 0x000F, 0x24);
-    // Below the hole, beside it and in it; at the end of a segment; behind FFFF:000F, while A20 is off.
+    // Below the hole, beside it and in it; at the end of a segment; above FFFF:000F, while A20 is off.
     let places = [
         (0x0000, 0x0000),
         (0x2000, 0xFFF8),

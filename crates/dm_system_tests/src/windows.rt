@@ -1,5 +1,5 @@
 //! Pages of expanded memory as the windows of the frame show them, and bytes copied between addresses and the
-//! scratch. The figures are reckoned by hand from the map of memory.
+//! scratch. The figures are worked out by hand from the map of memory.
 
 ghost use Rattle.std.specs.Prelude.{IsTrue, ◌+◌, ◌≤◌};
 

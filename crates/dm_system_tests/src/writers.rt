@@ -4,8 +4,8 @@ use std::io;
 use std::io::Write;
 use std::test::Fail;
 
-/// Takes one byte a write, and fails once `left` writes were made. Where `refuses`, it takes nothing from then on, and each
-/// flush fails.
+/// Takes one byte a write, and fails once `left` writes were made. Where `refuses`, it takes nothing from then on, and
+/// each flush fails.
 #[derive(Drop)]
 struct Slow<'a> {
     taken: &'a mut Vec<u8>,

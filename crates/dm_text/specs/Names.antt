@@ -13,6 +13,7 @@ use Rattle.dm_ins.specs.declared.action.Mnemonic.TheVariants as op
 
 -- ---- the names of registers
 
+-- the name of a byte register, in ASCII
 abbrev pub byte_name : ByteRegister → List ℕ
 byte_name Al = codes "AL"
 byte_name Cl = codes "CL"
@@ -23,6 +24,7 @@ byte_name Ch = codes "CH"
 byte_name Dh = codes "DH"
 byte_name Bh = codes "BH"
 
+-- the name of a word register, in ASCII
 abbrev pub word_name : WordRegister → List ℕ
 word_name Ax = codes "AX"
 word_name Cx = codes "CX"
@@ -33,6 +35,7 @@ word_name Bp = codes "BP"
 word_name Si = codes "SI"
 word_name Di = codes "DI"
 
+-- the name of a segment register, in ASCII
 abbrev pub segment_name : SegmentRegister → List ℕ
 segment_name Es = codes "ES"
 segment_name Cs = codes "CS"
@@ -41,7 +44,7 @@ segment_name Ds = codes "DS"
 
 -- ---- the names of mnemonics; a transfer to another segment, and a short jump, have two words
 
--- the names
+-- the name of a mnemonic, in ASCII
 unfoldable pub name_of : Mnemonic → List ℕ
 name_of op.Add = codes "ADD"
 name_of op.Or = codes "OR"
@@ -155,6 +158,7 @@ mnemonics = op.Add ∷ op.Or ∷ op.Adc ∷ op.Sbb ∷ op.And ∷ op.Sub ∷ op.
     ∷ op.Not ∷ op.Output ∷ op.Pop ∷ op.Popf ∷ op.Push ∷ op.Pushf ∷ op.Ret ∷ op.Retf ∷ op.Sahf ∷ op.Stc ∷ op.Std
     ∷ op.Sti ∷ op.Test ∷ op.Wait ∷ op.Xchg ∷ op.Xlat ∷ []
 
+-- every segment register
 abbrev pub segment_registers : List SegmentRegister
 segment_registers = Es ∷ Cs ∷ Ss ∷ Ds ∷ []
 

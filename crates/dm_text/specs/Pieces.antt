@@ -1,5 +1,5 @@
 -- The pieces that a line of text is made of, and their bytes. The way numbers are written is that of ASM-86:
--- hexadecimal, a digit in front, and an h behind.
+-- hexadecimal, a digit in front, and an h at the end.
 -- Source: Intel 8086 Family User's Manual, section 2.9 (programming facilities: constants of ASM-86). How many digits
 -- there are is this machine's own.
 use Rattle.std.specs.Prelude.{ℕ, ◌+◌, ◌/◌, ◌%◌, Bool, true, false, ◌&&◌, ◌||◌, ◌==◌, List, [], ◌∷◌, ◌++◌, nat_lt, nat_le, if◌then◌else◌}
@@ -16,59 +16,68 @@ pub data Piece : Type 0 where
 abbrev pub digit : ℕ → ℕ
 digit d = if nat_lt d 10 then 48 + d else 55 + d
 
--- 0, two digits, h
+-- a byte in text: 0, two hexadecimal digits, h
 unfoldable pub byte_digits : ℕ → List ℕ
 byte_digits n = 48 ∷ digit (n / 16) ∷ digit (n % 16) ∷ 104 ∷ []
 
--- 0, four digits, h
+-- a word in text: 0, four hexadecimal digits, h
 unfoldable pub word_digits : ℕ → List ℕ
 word_digits n = 48 ∷ digit (n / 4096) ∷ digit (n / 256 % 16) ∷ digit (n / 16 % 16) ∷ digit (n % 16) ∷ 104 ∷ []
 
+-- the bytes of a piece, in ASCII
 abbrev pub piece_bytes : Piece → List ℕ
 piece_bytes (name w) = w
 piece_bytes (byte n) = byte_digits n
 piece_bytes (word n) = word_digits n
 piece_bytes (sign b) = b ∷ []
 
+-- the bytes of pieces, one after the other
 abbrev pub text_bytes : List Piece → List ℕ
 text_bytes [] = []
 text_bytes (p ∷ ps) = piece_bytes p ++ text_bytes ps
 
 -- ---- the signs
 
+-- the space after a mnemonic, a prefix word or a size word
 abbrev pub space : Piece
 space = sign 32
 
+-- the + between the parts of an address
 abbrev pub plus : Piece
 plus = sign 43
 
+-- the comma between two operands
 abbrev pub comma : Piece
 comma = sign 44
 
+-- the colon between a segment and an offset
 abbrev pub colon : Piece
 colon = sign 58
 
+-- the bracket before an address
 abbrev pub left_bracket : Piece
 left_bracket = sign 91
 
+-- the bracket after an address
 abbrev pub right_bracket : Piece
 right_bracket = sign 93
 
--- ---- pieces that a reader can tell apart
+-- ---- pieces that a reader can distinguish
 
--- digits and capital letters
+-- the byte may stand in a name: a digit or a capital letter
 abbrev pub is_in_names : ℕ → Bool
 is_in_names b = (nat_le 48 b && nat_le b 57) || (nat_le 65 b && nat_le b 90)
 
+-- at least one byte, all of them digits and capital letters
 abbrev pub is_name : List ℕ → Bool
 is_name [] = false
 is_name (b ∷ w) = list_all is_in_names (b ∷ w)
 
--- a space and + , : [ ]
+-- the byte is a sign: a space or + , : [ ]
 abbrev pub is_mark : ℕ → Bool
 is_mark b = (b == 32) || (b == 43) || (b == 44) || (b == 58) || (b == 91) || (b == 93)
 
--- each name is digits and capital letters, each sign one of these six; and no name or number stands right behind
+-- each name is digits and capital letters, each sign one of these six; and no name or number stands right after
 -- another one (the first argument says whether one stands in front)
 abbrev pub parted : Bool → List Piece → Bool
 parted behind [] = true

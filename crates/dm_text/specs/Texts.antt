@@ -25,9 +25,11 @@ use Rattle.dm_text.specs.Pieces.{Piece, name, byte, word, space, plus, comma, co
 
 -- ---- memory
 
+-- a base and an index register with + between them
 abbrev pub register_pair : WordRegister → WordRegister → List Piece
 register_pair r s = name (word_name r) ∷ plus ∷ name (word_name s) ∷ []
 
+-- the registers of an address; a direct address has none
 abbrev pub base_pieces : Base → List Piece
 base_pieces Direct = []
 base_pieces BxSi = register_pair Bx Si
@@ -39,14 +41,15 @@ base_pieces OnDi = name (word_name Di) ∷ []
 base_pieces OnBp = name (word_name Bp) ∷ []
 base_pieces OnBx = name (word_name Bx) ∷ []
 
--- a displacement of 0 is left out behind registers
+-- the displacement after registers; 0 is left out
 abbrev pub displacement_pieces : ℕ → List Piece
 displacement_pieces n = if n == 0 then [] else plus ∷ word n ∷ []
 
--- a direct address is a number, also where it is 0
+-- an address; a direct one is a number, also where it is 0
 abbrev pub address_pieces : Address → List Piece
 address_pieces a = elim a.base [ Direct ↦ word a.displacement ∷ [] | _ ↦ base_pieces a.base ++ displacement_pieces a.displacement ]
 
+-- the mnemonic is that of a shift or rotate
 abbrev pub is_shift : Mnemonic → Bool
 is_shift op.Rol = true
 is_shift op.Ror = true
@@ -57,6 +60,7 @@ is_shift op.Shr = true
 is_shift op.Sar = true
 is_shift _ = false
 
+-- the operand is a byte or word register
 abbrev pub is_general : Operand → Bool
 is_general (operand.ByteRegister r) = true
 is_general (operand.WordRegister r) = true
@@ -66,6 +70,7 @@ is_general _ = false
 abbrev pub gives_size : Action → Bool
 gives_size a = if is_general a.first then true else if is_shift a.mnemonic then false else is_general a.second
 
+-- the word that says the size of memory: BYTE or WORD
 abbrev pub width_word : Width → List ℕ
 width_word Byte = codes "BYTE"
 width_word Word = codes "WORD"
@@ -82,6 +87,7 @@ jump_pieces m s = s
 abbrev pub size_pieces : Action → Width → List Piece
 size_pieces a w = jump_pieces a.mnemonic (if gives_size a then [] else name (width_word w) ∷ space ∷ [])
 
+-- a memory operand: its size word, and its address in brackets
 abbrev pub memory_pieces : Action → Width → Address → List Piece
 memory_pieces a w m = size_pieces a w ++ left_bracket ∷ address_pieces m ++ right_bracket ∷ []
 
@@ -100,16 +106,16 @@ operand_pieces a next operand.One = name (codes "1") ∷ []
 operand_pieces a next (operand.Target d) = word ((next + d) % 65536) ∷ []
 operand_pieces a next (operand.FarTarget o s) = word s ∷ colon ∷ word o ∷ []
 
--- an operand behind a sign, where there is one
+-- an operand after a sign, where there is one
 abbrev pub behind : Piece → Operand → List Piece → List Piece
 behind s operand.Nothing ps = []
 behind s _ ps = s ∷ ps
 
--- the second operand stands behind a comma
+-- the second operand stands after a comma
 abbrev pub second_pieces : Action → ℕ → List Piece
 second_pieces a next = behind comma a.second (operand_pieces a next a.second)
 
--- the first one behind a space
+-- the operands: the first one after a space, the second one after a comma
 abbrev pub operands_pieces : Action → ℕ → List Piece
 operands_pieces a next = behind space a.first (operand_pieces a next a.first ++ second_pieces a next)
 
@@ -122,25 +128,30 @@ mnemonic_pieces op.JmpFar = name (name_of op.Jmp) ∷ space ∷ name (codes "FAR
 mnemonic_pieces op.JmpShort = name (name_of op.Jmp) ∷ space ∷ name (codes "SHORT") ∷ []
 mnemonic_pieces m = name (name_of m) ∷ []
 
+-- the operand is AX
 abbrev pub is_accumulator : Operand → Bool
 is_accumulator o = elim o [ operand.WordRegister r ↦ (elim r [ Ax ↦ true | _ ↦ false ]) | _ ↦ false ]
 
--- XCHG AX,AX is written NOP
+-- the action is XCHG AX,AX, which is written NOP
 abbrev pub is_nop : Action → Bool
 is_nop a = elim a.mnemonic [ op.Xchg ↦ (if is_accumulator a.first then is_accumulator a.second else false) | _ ↦ false ]
 
+-- the mnemonic and operands of an action, where the next instruction stands at an offset
 unfoldable pub action_pieces : Action → ℕ → List Piece
 action_pieces a next = if is_nop a then name (codes "NOP") ∷ [] else mnemonic_pieces a.mnemonic ++ operands_pieces a next
 
--- ---- the prefixes that are kept: the segment's, LOCK, REP or REPNE, each with a space behind it
+-- ---- the prefixes that are kept: the segment's, LOCK, REP or REPNE, each with a space after it
 
+-- the word of a segment override, if there is one
 abbrev pub segment_pieces : Option SegmentRegister → List Piece
 segment_pieces None = []
 segment_pieces (Some r) = name (segment_name r) ∷ space ∷ []
 
+-- the word LOCK, if there is the prefix
 abbrev pub lock_pieces : Bool → List Piece
 lock_pieces l = if l then name (codes "LOCK") ∷ space ∷ [] else []
 
+-- the word of a repeat prefix, if there is one: F3h is written REP, F2h REPNE
 abbrev pub repeat_pieces : Option Repeat → List Piece
 repeat_pieces None = []
 repeat_pieces (Some NotEqual) = name (codes "REPNE") ∷ space ∷ []
@@ -152,6 +163,7 @@ prefix_pieces p = segment_pieces p.segment ++ lock_pieces p.lock ++ repeat_piece
 
 -- ---- the whole text
 
+-- the text of an instruction in pieces, where the next one stands at an offset
 unfoldable pub pieces : Ins → ℕ → List Piece
 pieces i next = prefix_pieces i.prefixes ++ action_pieces i.action next
 

@@ -1,5 +1,5 @@
 //! A line of text, and how numbers are written on it: hexadecimal, with a digit in front and an h
-//! behind (Intel 8086 Family User's Manual, section 2.9, constants of ASM-86).
+//! at the end (Intel 8086 Family User's Manual, section 2.9, constants of ASM-86).
 
 ghost use Rattle.std.specs.Prelude.{◌≡◌, ◌+◌, ◌<◌, ◌≤◌, ◌++◌, List, ℕ, [], length};
 ghost use Rattle.dm_text.specs.Pieces.{digit, byte_digits, word_digits};

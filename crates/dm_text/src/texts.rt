@@ -42,7 +42,7 @@ fn put_base(line: &mut Line, base: Base)
     }
 }
 
-/// Puts the displacement behind registers: 0 is left out.
+/// Puts the displacement after registers: 0 is left out.
 fn put_displacement(line: &mut Line, n: u16)
     requires { length line.old + 7 ≤ 64 }
     ensures items { line.new ≡ line.old ++ text_bytes (displacement_pieces n) }
@@ -100,7 +100,7 @@ pub fn size_is_given(action: &Action) -> bool
     general(action.first) || !shifts(action.mnemonic) && general(action.second)
 }
 
-/// The word before a memory operand, with a space behind it.
+/// The word before a memory operand, with a space after it.
 fn size(action: &Action, width: Width) -> &'static [u8]
     ensures value { result.now ≡ text_bytes (size_pieces action.now width) }
     ensures within { length result.now ≤ 5 }
@@ -158,7 +158,7 @@ fn put_operand(line: &mut Line, action: &Action, next: u16, operand: Operand)
     }
 }
 
-/// Puts the second operand behind a comma, if there is one.
+/// Puts the second operand after a comma, if there is one.
 fn put_second(line: &mut Line, action: &Action, next: u16)
     requires { length line.old + 20 ≤ 64 }
     ensures items { line.new ≡ line.old ++ text_bytes (second_pieces action.now next) }
@@ -173,7 +173,7 @@ fn put_second(line: &mut Line, action: &Action, next: u16)
     }
 }
 
-/// Puts the operands behind a space, if there are any.
+/// Puts the operands after a space, if there are any.
 #[tactic(auto, using(crate::proofs::Pieces::appended))]
 fn put_operands(line: &mut Line, action: &Action, next: u16)
     requires { length line.old + 40 ≤ 64 }
@@ -220,7 +220,7 @@ fn put_action(line: &mut Line, action: &Action, next: u16)
     }
 }
 
-/// Puts a segment override, with a space behind it.
+/// Puts a segment override, with a space after it.
 fn put_segment(line: &mut Line, segment: Option<SegmentRegister>)
     requires { length line.old + 3 ≤ 64 }
     ensures items { line.new ≡ line.old ++ text_bytes (segment_pieces segment) }
@@ -232,7 +232,7 @@ fn put_segment(line: &mut Line, segment: Option<SegmentRegister>)
     }
 }
 
-/// The word of a LOCK prefix, with a space behind it.
+/// The word of a LOCK prefix, with a space after it.
 fn lock_word(lock: bool) -> &'static [u8]
     ensures value { result.now ≡ text_bytes (lock_pieces lock) }
     ensures within { length result.now ≤ 5 }
@@ -240,7 +240,7 @@ fn lock_word(lock: bool) -> &'static [u8]
     if lock { b"LOCK " } else { b"" }
 }
 
-/// The word of a repeat prefix, with a space behind it.
+/// The word of a repeat prefix, with a space after it.
 fn repeat_word(repeat: Option<Repeat>) -> &'static [u8]
     ensures value { result.now ≡ text_bytes (repeat_pieces repeat) }
     ensures within { length result.now ≤ 6 }
@@ -252,7 +252,7 @@ fn repeat_word(repeat: Option<Repeat>) -> &'static [u8]
     }
 }
 
-/// Puts the words of the prefixes that are kept, each with a space behind it.
+/// Puts the words of the prefixes that are kept, each with a space after it.
 #[tactic(auto, using(crate::proofs::Pieces::appended))]
 fn put_prefixes(line: &mut Line, prefixes: Prefixes)
     requires { length line.old + 14 ≤ 64 }

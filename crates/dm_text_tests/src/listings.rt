@@ -17,7 +17,7 @@ const ROWS: [(&[u8], &str); 16] = [
         ],
         "MOV AH,009h\nMOV DX,0010Ch\nINT 021h\nMOV AX,04C00h\nINT 021h\nDB 068h\nDB 069h\nDB 024h\n",
     ),
-    // Other bytes than the preferred ones are data, with the text behind them.
+    // Other bytes than the preferred ones are data, with the text after them.
     (&[0x8B, 0xC3], "DB 08Bh,0C3h ; MOV AX,BX\n"),
     (&[0x89, 0xD8], "MOV AX,BX\n"),
     (&[0x83, 0xC0, 0x05], "DB 083h,0C0h,005h ; ADD AX,00005h\n"),

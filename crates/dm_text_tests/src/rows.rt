@@ -4,7 +4,7 @@
 //!
 //!     8A 47 05 | MOV AL,[BX+00005h]
 //!
-//! The first byte stands at offset 0100h, from which the targets of jumps and calls are reckoned. A
+//! The first byte stands at offset 0100h, from which the targets of jumps and calls are counted. A
 //! line with `#` is a comment.
 
 use crate::checks::same;

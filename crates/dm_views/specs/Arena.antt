@@ -8,6 +8,7 @@ use Rattle.dm_blocks.specs.Chain.{first_header, link_header, signature, is_parte
 use Rattle.dm_blocks.specs.Listing.{Leads, Follows}
 use Rattle.dm_views.specs.Digits.{four_digits}
 
+-- the line of a header with this signature: segment, signature, owner, size
 abbrev pub header_line : ℕ → Header → List ℕ
 header_line signed b = four_digits b.segment ++ (32 ∷ signed ∷ 32 ∷ []) ++ four_digits b.owner ++ codes " " ++ four_digits b.size ++ 10 ∷ []
 
@@ -16,27 +17,29 @@ abbrev pub list_text : List Header → List ℕ
 list_text [] = []
 list_text (b ∷ L) = header_line (signature L) b ++ list_text L
 
--- those of headers that others follow: all are signed `M`
+-- the lines of headers that others follow: all are signed `M`
 abbrev pub front_text : List Header → List ℕ
 front_text [] = []
 front_text (b ∷ P) = header_line 0x4D b ++ front_text P
 
+-- the line after the last header of a whole list
 abbrev pub end_line : List ℕ
 end_line = codes "end" ++ 10 ∷ []
 
+-- the line of the segment where no header can follow
 abbrev pub destroyed_line : ℕ → List ℕ
 destroyed_line segment = codes "destroyed at " ++ four_digits segment ++ 10 ∷ []
 
--- what stands before the second list
+-- the line `unlinked`, which stands before the second list
 abbrev pub unlinked_line : List ℕ
 unlinked_line = codes "unlinked" ++ 10 ∷ []
 
--- behind the headers F, memory spells the list L from a segment on: its lines, and its end
+-- after the headers F, memory spells the list L from a segment on: its lines, and its end
 pub record IsWhole (m : Memory) (F : List Header) (start : ℕ) (L : List Header) (text : List ℕ) : Type 0 where
   pub list : IsArenaBehind m F start L
   pub is : text ≡ list_text L ++ end_line
 
--- behind the headers F, headers may stand in a list from a segment on, up to a place where none can follow: their
+-- after the headers F, headers may stand in a list from a segment on, up to a place where none can follow: their
 -- lines, and that place
 pub record IsCutShort (m : Memory) (F : List Header) (start : ℕ) (text : List ℕ) : Type 0 where
   pub headers : List Header
@@ -45,11 +48,12 @@ pub record IsCutShort (m : Memory) (F : List Header) (start : ℕ) (text : List 
   pub none : (e : Entry) → Follows m F headers at e → ⊥
   pub is : text ≡ front_text headers ++ destroyed_line at
 
+-- the lines of a list from a segment on, whole or cut short
 pub data IsListText (m : Memory) (F : List Header) (start : ℕ) (text : List ℕ) : Type 0 where
   whole : (L : List Header) → IsWhole m F start L text → IsListText m F start text
   cut_short : IsCutShort m F start text → IsListText m F start text
 
--- the first list; and behind it `unlinked` and the second one, where there is a second one
+-- the first list; and after it `unlinked` and the second one, where there is a second one
 pub data IsArenaText (upper : Bool) (m : Memory) (text : List ℕ) : Type 0 where
   destroyed : IsCutShort m [] first_header text → IsArenaText upper m text
   alone : (L : List Header) → IsWhole m [] first_header L text → is_parted upper L ≡ false → IsArenaText upper m text

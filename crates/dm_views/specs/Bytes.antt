@@ -6,13 +6,15 @@ use Rattle.dm_views.specs.Digits.{two_digits, address_text, in_turn}
 use Rattle.dm_cpu.specs.Guest.{up}
 use Rattle.dm_space.specs.EightBytes.{byte_after}
 
--- what can be printed is told as it is, all else as a point
+-- a printable character as it is, any other byte as a point
 abbrev pub printable : ℕ → ℕ
 printable b = if nat_le 0x20 b && nat_le b 0x7E then b else 46
 
+-- the byte k places after segment:offset, a space before its two digits
 abbrev pub in_digits : Memory → ℕ → ℕ → ℕ → List ℕ
 in_digits m segment offset k = codes " " ++ two_digits (byte_after m segment offset k)
 
+-- the byte k places after segment:offset, as a character
 abbrev pub as_text : Memory → ℕ → ℕ → ℕ → List ℕ
 as_text m segment offset k = printable (byte_after m segment offset k) ∷ []
 
@@ -25,5 +27,6 @@ line_text m segment offset count =
 abbrev pub line_at : Memory → ℕ → ℕ → ℕ → ℕ → List ℕ
 line_at m segment offset count j = line_text m segment (up offset (16 * j)) (min 16 (count - 16 * j))
 
+-- the lines of so many bytes from segment:offset on
 abbrev pub bytes_text : Memory → ℕ → ℕ → ℕ → List ℕ
 bytes_text m segment offset count = in_turn (line_at m segment offset count) ((count + 15) / 16)

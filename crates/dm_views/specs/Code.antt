@@ -24,7 +24,7 @@ pub data IsLine (m : Memory) (segment offset : ℕ) : ℕ → List ℕ → Type 
   listed : (i : Ins) (k : ℕ) → BeginsWith (sixteen_after m segment offset) i k → IsLine m segment offset k (listed_line segment offset (take k (sixteen_after m segment offset)) i (up offset k))
   unlisted : ((i : Ins) (k : ℕ) → BeginsWith (sixteen_after m segment offset) i k → ⊥) → IsLine m segment offset 1 (unlisted_line segment offset (byte_after m segment offset 0))
 
--- so many lines, each of what stands behind the bytes of the line before it, and the offset behind the last
+-- so many lines, each of what stands after the bytes of the line before it, and the offset after the last
 pub data AreLines (m : Memory) (segment offset : ℕ) : ℕ → ℕ → List ℕ → Type 0 where
   none : AreLines m segment offset 0 offset []
   more : (n at k : ℕ) (text line : List ℕ) → AreLines m segment offset n at text → IsLine m segment at k line → AreLines m segment offset (n + 1) (up at k) (text ++ line)

@@ -3,16 +3,19 @@
 use Rattle.std.specs.Prelude.{ℕ, zero, suc, ◌/◌, ◌%◌, List, [], ◌∷◌, ◌++◌, codes}
 use Rattle.dm_text.specs.Pieces.{digit}
 
+-- a byte as two hexadecimal digits
 unfoldable pub two_digits : ℕ → List ℕ
 two_digits n = digit (n / 16) ∷ digit (n % 16) ∷ []
 
+-- a word as four hexadecimal digits
 unfoldable pub four_digits : ℕ → List ℕ
 four_digits n = digit (n / 4096) ∷ digit (n / 256 % 16) ∷ digit (n / 16 % 16) ∷ digit (n % 16) ∷ []
 
--- of a number below 2^32
+-- a number below 2^32 as eight hexadecimal digits
 unfoldable pub eight_digits : ℕ → List ℕ
 eight_digits n = four_digits (n / 65536 % 65536) ++ four_digits (n % 65536)
 
+-- segment:offset, four hexadecimal digits each
 abbrev pub address_text : ℕ → ℕ → List ℕ
 address_text segment offset = four_digits segment ++ codes ":" ++ four_digits offset
 

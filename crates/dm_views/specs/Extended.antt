@@ -18,7 +18,7 @@ abbrev pub if_used : Memory → ℕ → Option Handle → List ℕ
 if_used m number None = []
 if_used m number (Some h) = block_line number (address m h.block) h.kib h.locks
 
--- the line of the handle behind so many, if it is in use: handles count from 1
+-- the line of the handle after so many, if it is in use: handles count from 1
 abbrev pub block_text : Tables → Memory → ℕ → List ℕ
 block_text xms m before = if_used m (before + 1) (slot xms (before + 1))
 

@@ -6,12 +6,14 @@ use Rattle.dm_views.specs.Registers.{IsRegistersText}
 use Rattle.dm_views.specs.Code.{IsCode}
 use Rattle.dm_views.specs.Arena.{IsArenaText}
 
--- the listings that are told as relations are one text of one state
+-- the listing of instructions is one text of one state
 abbrev pub CodeHasOneText : Type 0
 CodeHasOneText = (m : Memory) (segment offset n : ℕ) (a b : List ℕ) → IsCode m segment offset n a → IsCode m segment offset n b → a ≡ b
 
+-- the listing of the registers is one text of one state
 abbrev pub RegistersHaveOneText : Type 0
 RegistersHaveOneText = (c : Cpu) (m : Memory) (a b : List ℕ) → IsRegistersText c m a → IsRegistersText c m b → a ≡ b
 
+-- the listing of the arena is one text of one state
 abbrev pub ArenaHasOneText : Type 0
 ArenaHasOneText = (upper : Bool) (m : Memory) (a b : List ℕ) → IsArenaText upper m a → IsArenaText upper m b → a ≡ b

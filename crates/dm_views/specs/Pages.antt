@@ -31,6 +31,7 @@ abbrev pub shown_text : Option (ℕ × ℕ) → List ℕ
 shown_text None = codes "none" ++ 10 ∷ []
 shown_text (Some n) = four_digits n.0 ++ codes " " ++ four_digits n.1 ++ 10 ∷ []
 
+-- the line of a window: its number, and the handle and the page that it shows
 abbrev pub window_line : ℕ → Option (ℕ × ℕ) → List ℕ
 window_line number page = codes "window " ++ (digit number ∷ 32 ∷ []) ++ shown_text page
 
@@ -40,5 +41,6 @@ window_text ems m number = window_line number (page_shown ems m number)
 
 -- ---- all of it
 
+-- the listing of expanded memory: the handles in use, and the four windows
 abbrev pub pages_text : Tables → Memory → List ℕ
 pages_text ems m = in_turn (handle_text ems) 64 ++ in_turn (window_text ems m) 4

@@ -10,23 +10,26 @@ use Rattle.dm_views.specs.declared.registers.Field.{Field}
 use Rattle.dm_views.specs.Digits.{four_digits}
 use Rattle.dm_views.specs.Code.{IsLine}
 
+-- a register with its name and its value
 abbrev pub field : List ℕ → ℕ → Field
 field name value = record { name = name; value = value }
 
+-- a register as NAME=VALUE, its value in four digits
 abbrev pub field_text : Field → List ℕ
 field_text f = f.name ++ codes "=" ++ four_digits f.value
 
--- a line, with a space between any two
+-- a line of registers, with a space between any two
 abbrev pub fields_text : List Field → List ℕ
 fields_text [] = 10 ∷ []
 fields_text (f ∷ fs) = field_text f ++ flat_map (λ g. codes " " ++ field_text g) fs ++ 10 ∷ []
 
+-- the general registers, in the order of the first line
 abbrev pub general : Cpu → List Field
 general c =
     field (codes "AX") c.ax ∷ field (codes "BX") c.bx ∷ field (codes "CX") c.cx ∷ field (codes "DX") c.dx
     ∷ field (codes "SP") c.sp ∷ field (codes "BP") c.bp ∷ field (codes "SI") c.si ∷ field (codes "DI") c.di ∷ []
 
--- the flags are the word that PUSHF stores
+-- the segment registers, IP and the flags, in the order of the second line; the flags are the word that PUSHF stores
 abbrev pub special : Cpu → List Field
 special c =
     field (codes "DS") c.ds ∷ field (codes "ES") c.es ∷ field (codes "SS") c.ss ∷ field (codes "CS") c.cs

@@ -55,8 +55,8 @@ fn put_destroyed(out: &mut Vec<u8>, segment: u16) -> Result<(), AllocError>
     put_word_line(out, segment)
 }
 
-/// Puts the headers that a walk over a list has still to tell, a line each: segment, signature, owner and size; then
-/// `end`, or where the first stands that breaks the list. The walk behind the end of its list; None where the list is
+/// Puts the headers that a walk over a list has yet to return, a line each: segment, signature, owner and size; then
+/// `end`, or where the first stands that breaks the list. The walk at the end of its list; None where the list is
 /// broken.
 fn put_list<'a>(out: &mut Vec<u8>, headers: Headers<'a>) -> Result<Option<Headers<'a>>, AllocError>
     requires { headers.at ≡ Some (start_of headers.second) }
@@ -78,7 +78,7 @@ fn put_list<'a>(out: &mut Vec<u8>, headers: Headers<'a>) -> Result<Option<Header
     }
 }
 
-/// Puts `unlinked`, and the second list behind the first one, which a walk has told.
+/// Puts `unlinked`, and the second list after the first one, which a walk is through.
 fn put_unlinked(out: &mut Vec<u8>, first: Headers<'_>) -> Result<(), AllocError>
     requires first { first.second ≡ false }
     requires over { first.at ≡ None }
@@ -90,7 +90,7 @@ fn put_unlinked(out: &mut Vec<u8>, first: Headers<'_>) -> Result<(), AllocError>
 }
 
 /// Puts the headers of the arena, a line each: segment, signature, owner and size; then `end`, or where the first
-/// stands that breaks the list. Where upper memory belongs to the arena, which `upper` tells, and the list ends but
+/// stands that breaks the list. Where upper memory belongs to the arena, which `upper` says, and the list ends but
 /// isn't linked with that of upper memory, `unlinked` follows and the second list, from the link block on, in the same
 /// form; a header on a place of the first breaks it. There are at most FF00h headers in a list.
 ///

@@ -11,7 +11,7 @@ use std::alloc::AllocError;
 /// How many bytes a line has.
 const IN_LINE: u32 = 16;
 
-/// A byte as it is told: itself, or a point where it can't be printed.
+/// A byte as a character: itself, or a point where it is not printable.
 fn printed(byte: u8) -> u8
     ensures { result ≡ printable byte }
 {
@@ -22,7 +22,7 @@ fn printed(byte: u8) -> u8
     }
 }
 
-/// Puts the digits of a byte behind a space.
+/// Puts the digits of a byte after a space.
 fn put_byte(out: &mut Vec<u8>, byte: u8) -> Result<(), AllocError>
     ensures { OnOk result (out.new.items ≡ out.old.items ++ (codes " " ++ two_digits byte)) }
 {
@@ -30,7 +30,7 @@ fn put_byte(out: &mut Vec<u8>, byte: u8) -> Result<(), AllocError>
     out.extend_from_slice(&byte_digits(byte))
 }
 
-/// Puts so many bytes from an address on in digits, each behind a space.
+/// Puts so many bytes from an address on in digits, each after a space.
 fn put_digits(
     out: &mut Vec<u8>,
     space: &Space,
@@ -80,7 +80,7 @@ fn put_bytes_line(
     out.extend_from_slice(b"\n")
 }
 
-/// Puts so many bytes from an address on, 16 to a line: the address of the first, each in two digits behind a space,
+/// Puts so many bytes from an address on, 16 to a line: the address of the first, each in two digits after a space,
 /// two spaces, and each as a character, or a point where it is none from 20h to 7Eh. Offsets wrap in the segment.
 ///
 /// # Errors

@@ -88,7 +88,7 @@ fn put_unlisted(out: &mut Vec<u8>, segment: u16, offset: u16, byte: u8) -> Resul
     out.extend_from_slice(b" DB\n")
 }
 
-/// Puts the line of what stands at an address, and tells how many bytes it is.
+/// Puts the line of what stands at an address, and returns how many bytes it is.
 pub(crate) fn put_line(
     out: &mut Vec<u8>,
     space: &Space,

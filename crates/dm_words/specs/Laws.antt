@@ -24,7 +24,7 @@ WordsAreOne = (words : Words) (a b : Action) (x y : List ℕ) → AreWords words
 abbrev pub OwnWordsAreRead : Type 0
 OwnWordsAreRead = (a : Action) (next : ℕ) (x : List ℕ) → next < 2 ^ 16 → SpellsAction a x → AreWords (words_of_action a next) a
 
--- a word before memory as the text has it, with a space behind it
+-- a word before memory as the text has it, with a space after it
 abbrev pub word_pieces : Size → List Piece
 word_pieces Absent = []
 word_pieces Byte = name (codes "BYTE") ∷ space ∷ []
@@ -41,6 +41,6 @@ SizesAreShown = (a : Action) (v : Width) → size_pieces a v ≡ word_pieces (si
 abbrev pub StandInsAreRead : Type 0
 StandInsAreRead = (stand words : Words) (a : Action) (x : List ℕ) → StandsFor stand words → AreWords words a → SpellsAction a x → (b : Action) × (y : List ℕ) × AreWords stand b × SpellsAction b y
 
--- and both have as many bytes, as `encode` chooses them
+-- words and those that stand for them have as many bytes, as `encode` chooses them
 abbrev pub LengthsAreKnown : Type 0
 LengthsAreKnown = (stand words : Words) (i j : Ins) (x y : List ℕ) → StandsFor stand words → AreWords stand i.action → AreWords words j.action → i.prefixes ≡ j.prefixes → IsPreferred i x → IsPreferred j y → length x ≡ length y

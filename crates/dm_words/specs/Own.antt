@@ -33,5 +33,6 @@ written_of a next (operand.Target d) = w.Number (numeral_of next ((next + d) % 6
 written_of a next operand.One = w.Number (numeral_of next 1)
 written_of a next (operand.FarTarget n s) = w.Far s n
 
+-- the words that the text of an action shows, where the next instruction stands at an offset
 unfoldable pub words_of_action : Action → ℕ → Words
 words_of_action a next = record { mnemonic = a.mnemonic; first = written_of a next a.first; second = written_of a next a.second }

@@ -39,6 +39,7 @@ IsWritten (w.Far s n) o = o ≡ operand.FarTarget n s
 
 -- ---- the word before memory
 
+-- the size word of memory of this width: BYTE or WORD
 abbrev pub width_word : Width → Size
 width_word width.Byte = Byte
 width_word width.Word = Word
@@ -55,11 +56,12 @@ jump_word m s = s
 abbrev pub size_word : Action → Width → Size
 size_word a v = jump_word a.mnemonic (if gives_size a then Absent else width_word v)
 
--- the word that an operand has before it, and the one that is written
+-- the size word that an action has before an operand
 abbrev pub word_before : Action → Operand → Size
 word_before a (operand.Memory v m) = size_word a v
 word_before a _ = Absent
 
+-- the size word that is written before memory; other operands have none
 abbrev pub word_written : Written → Size
 word_written (w.Memory s m) = s
 word_written _ = Absent

@@ -8,5 +8,6 @@ use Rattle.dm_xms.specs.Tables.{Tables}
 unfoldable pub take_area : Tables → Result (Unit {0} × Tables) Status
 take_area xms = if xms.area then Err AreaTaken else Ok (tt, record xms { area = true })
 
+-- the high memory area is free again
 unfoldable pub release_area : Tables → Result (Unit {0} × Tables) Status
 release_area xms = if xms.area then Ok (tt, record xms { area = false }) else Err AreaNotTaken

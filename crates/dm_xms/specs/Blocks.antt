@@ -48,11 +48,11 @@ abbrev pub first_unit : Option Extent → ℕ
 first_unit None = 0
 first_unit (Some b) = b.base
 
--- the linear address of a block's first byte; the pool lies from 110000h on, behind all memory that has addresses
+-- the linear address of a block's first byte; the pool lies from 110000h on, above all memory that has addresses
 abbrev pub address : Memory → ℕ → ℕ
 address m block = 0x110000 + 0x400 * first_unit (get_or m.blocks.places block None)
 
--- one lock more, 255 at most; the answer is the block's linear address
+-- one lock more, 255 at most; the result is the block's linear address
 unfoldable pub lock : Extended → ℕ → Result (ℕ × Extended) Status
 lock x handle =
     need (slot x.xms handle) UnknownHandle (λ s.

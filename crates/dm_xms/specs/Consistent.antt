@@ -15,12 +15,15 @@ pub record IsExtended (m : Memory) (s : Handle) : Type 0 where
   pub size : length (page_bytes m s.block) ≡ 0x400 * s.kib
   pub hidden : shows m.windows s.block ≡ false
 
+-- the other handle, if it is in use, has another block
 abbrev pub HasOther : Handle → Option Handle → Type 0
 HasOther s t = IfSome t (λ other. other.block ≢ s.block)
 
+-- entry k of the table of handles: that of handle k + 1
 abbrev pub handle_at : List (Option Handle) → ℕ → Option Handle
 handle_at handles k = slice_index_or handles k None
 
+-- tables of extended memory, A20 and memory are consistent
 pub record IsConsistent (x : Extended) : Type 0 where
   pub places : length x.memory.blocks.places ≡ 576
   pub contents : length x.memory.blocks.contents ≡ 576

@@ -14,10 +14,11 @@ use Rattle.dm_xms.specs.Line.{enable_globally, disable_globally, enable_locally,
 use Rattle.dm_xms.specs.Moves.{move_memory}
 use Rattle.dm_xms.specs.Blocks.{allocate, deallocate, lock, unlock, reallocate}
 
--- with a pool of no block, A20 off
+-- the tables of a new machine and its memory are consistent: the pool has no block, and A20 is off
 abbrev pub StartIsConsistent : Type 0
 StartIsConsistent = (units : ℕ) (low : List ℕ) → IsConsistent (extended new_tables (of_ram low (no_blocks units)))
 
+-- each call leaves tables, A20 and memory consistent
 pub record CallsKeepConsistency : Type 0 where
   pub taking_area : (x : Extended) → IsConsistent x → IsConsistent (extended (left x.xms (take_area x.xms)) x.memory)
   pub releasing_area : (x : Extended) → IsConsistent x → IsConsistent (extended (left x.xms (release_area x.xms)) x.memory)
@@ -35,7 +36,7 @@ pub record CallsKeepConsistency : Type 0 where
   pub releasing : (x : Extended) (segment : ℕ) → IsConsistent x → IsConsistent (extended (left x.xms (release_upper x.xms segment)) x.memory)
   pub resizing : (x : Extended) (segment paragraphs : ℕ) → IsConsistent x → IsConsistent (extended (left x.xms (resize_upper x.xms segment paragraphs)) x.memory)
 
--- a memory of the same map, as a write leaves it
+-- tables stay consistent with a memory of the same map, as a write leaves it
 abbrev pub WritesKeepConsistency : Type 0
 WritesKeepConsistency = (x : Extended) (m : Memory) → IsShaped x.memory m → IsConsistent x → IsConsistent (extended x.xms m)
 

@@ -5,24 +5,27 @@ use Rattle.dm_xms.specs.declared.status.Status.{Status}
 use Rattle.dm_xms.specs.declared.status.Status.TheVariants.{LineError, LineStillOn}
 use Rattle.dm_xms.specs.Tables.{Extended}
 
+-- whether line A20 is on, by the global switch and the local count
 abbrev pub is_on : Bool → ℕ → Bool
 is_on global local = global || not (local == 0)
 
+-- the switches as given, and line A20 as they say
 abbrev pub switched : Extended → Bool → ℕ → Extended
 switched x global local = record { xms = record x.xms { global = global; local = local }; memory = with_a20 x.memory (is_on global local) }
 
+-- 03h: the global switch is on
 unfoldable pub enable_globally : Extended → Extended
 enable_globally x = switched x true x.xms.local
 
--- it acts also where the local count keeps the line on
+-- 04h: the global switch is off. Where the local count keeps the line on, the result says so
 unfoldable pub disable_globally : Extended → (Result (Unit {0}) Status × Extended)
 disable_globally x = (if x.xms.local == 0 then Ok tt else Err LineStillOn, switched x false x.xms.local)
 
--- the count is a word
+-- 05h: the local count is one more; it is a word
 unfoldable pub enable_locally : Extended → Result (Unit {0} × Extended) Status
 enable_locally x = if x.xms.local == 0xFFFF then Err LineError else Ok (tt, switched x x.xms.global (x.xms.local + 1))
 
--- at 0 it changes nothing; else it acts also where the line stays on
+-- 06h: the local count is one less; at 0 nothing changes. Where the line stays on, the result says so
 unfoldable pub disable_locally : Extended → (Result (Unit {0}) Status × Extended)
 disable_locally x =
     if x.xms.local == 0 then (Err LineError, x) else

@@ -12,7 +12,7 @@ use Rattle.dm_xms.specs.declared.moves.Side.{Side}
 use Rattle.dm_xms.specs.Tables.{Extended}
 use Rattle.dm_xms.specs.Calls.{need, slot}
 
--- what follows an answer; a refusal stays
+-- what follows a success; a refusal stays
 abbrev pub and_then : {A B E : Type 0} → Result A E → (A → Result B E) → Result B E
 and_then (Ok v) f = f v
 and_then (Err e) f = Err e
@@ -29,6 +29,7 @@ described m segment offset k = record { handle = word_after m segment offset k; 
 abbrev pub conventional : ℕ → Side
 conventional offset = record { region = span Linear (offset / 65536 * 16 + offset % 65536) []; end = 0x10FFF0 }
 
+-- the side of a handle's block, from a byte of the block on
 abbrev pub of_block : Handle → ℕ → Side
 of_block s offset = record { region = span Single offset (s.block ∷ []); end = 0x400 * s.kib }
 

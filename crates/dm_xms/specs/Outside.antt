@@ -15,7 +15,7 @@ pub record IsOutside (x : Extended) (block bytes : ℕ) : Type 0 where
   pub size : length (page_bytes x.memory block) ≡ bytes
   pub apart : IsNoHandles x block
 
--- such blocks stay, no other one is there that is no handle's, and the windows stay
+-- blocks that are no handle's stay, no other one is there, and the windows stay
 pub record LeavesOutside (x y : Extended) : Type 0 where
   pub blocks : (block bytes : ℕ) → IsOutside x block bytes → IsOutside y block bytes
   pub others : (block : ℕ) → IsLive y.memory.blocks block → IsNoHandles y block → IsLive x.memory.blocks block × IsNoHandles x block

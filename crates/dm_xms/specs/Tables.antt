@@ -22,7 +22,7 @@ pub record Extended : Type 0 where
   pub xms : Tables
   pub memory : Memory
 
--- the switches of A20
+-- extended memory of these tables and this memory
 abbrev pub extended : Tables → Memory → Extended
 extended xms memory = record { xms = xms; memory = memory }
 

@@ -8,10 +8,11 @@ use Rattle.dm_xms.specs.declared.uppers.UpperRefusal.TheVariants as refusal
 use Rattle.dm_xms.specs.Tables.{Tables}
 use Rattle.dm_xms.specs.Calls.{need}
 
--- the first segment, and how many paragraphs there are
+-- the first segment of upper memory
 abbrev pub first_segment : ℕ
 first_segment = 0xD000
 
+-- the paragraphs of upper memory, 64 KiB
 abbrev pub all_paragraphs : ℕ
 all_paragraphs = 0x1000
 
@@ -23,6 +24,7 @@ at_least_one n = max 1 n
 abbrev pub extent_of : Upper → Option Extent
 extent_of u = Some (record { base = u.segment - first_segment; units = u.paragraphs })
 
+-- where blocks lie among the paragraphs
 abbrev pub extents_of : List Upper → List (Option Extent)
 extents_of us = map extent_of us
 
@@ -34,6 +36,7 @@ largest_upper us = largest (gaps (extents_of us) all_paragraphs)
 abbrev pub lowest_upper : List Upper → ℕ → Option ℕ
 lowest_upper us n = lowest (extents_of us) all_paragraphs n
 
+-- the block begins below a segment
 abbrev pub is_below : ℕ → Upper → Bool
 is_below segment u = nat_lt u.segment segment
 
@@ -41,9 +44,11 @@ is_below segment u = nat_lt u.segment segment
 abbrev pub inserted : Upper → List Upper → List Upper
 inserted u us = insert us (count_by (is_below u.segment) us) u
 
+-- the tables with other upper memory blocks
 abbrev pub with_uppers : Tables → List Upper → Tables
 with_uppers xms us = record xms { uppers = us }
 
+-- a new block of n paragraphs in the gap that was found; else the refusal, with the largest gap
 abbrev pub new_upper : Tables → ℕ → Option ℕ → Result (Upper × Tables) UpperRefusal
 new_upper xms n None = Err (refusal.Smaller (largest_upper xms.uppers))
 new_upper xms n (Some p) =
@@ -57,6 +62,7 @@ request_upper xms n =
     if (length xms.uppers == 64) || (largest_upper xms.uppers == 0) then Err refusal.NoneFree else
     new_upper xms (at_least_one n) (lowest_upper xms.uppers (at_least_one n))
 
+-- the block begins at this segment
 abbrev pub begins_at : ℕ → Upper → Bool
 begins_at segment u = u.segment == segment
 
@@ -66,7 +72,7 @@ release_upper xms segment =
     need (position (begins_at segment) xms.uppers) refusal.Unknown (λ k.
     Ok (tt, with_uppers xms (remove xms.uppers k)))
 
--- where the block behind begins, or upper memory ends
+-- where the next block begins, or upper memory ends
 abbrev pub begin_or_end : Option Upper → ℕ
 begin_or_end None = first_segment + all_paragraphs
 begin_or_end (Some u) = u.segment

@@ -7,10 +7,10 @@ use Rattle.dm_xms_calls.specs.Caller.{Caller, after_tables}
 unfoldable pub tell_version : Cpu → Cpu
 tell_version cpu = record cpu { ax = 0x0300; bx = 1; dx = 1 }
 
--- 01h
+-- 01h: the program takes the high memory area
 unfoldable pub take_area : Caller → Caller
 take_area c = after_tables c (rows.take_area c.x.xms) (λ done. c.cpu)
 
--- 02h
+-- 02h: the program releases the high memory area
 unfoldable pub release_area : Caller → Caller
 release_area c = after_tables c (rows.release_area c.x.xms) (λ done. c.cpu)

@@ -11,12 +11,13 @@ use Rattle.dm_xms.specs.Blocks as rows
 use Rattle.dm_xms.specs.Moves as moves
 use Rattle.dm_xms_calls.specs.Caller.{Caller, on_cpu, settled, after_call, after_tables}
 
+-- AX, DX and BL after 08h: the largest gap and all that is free, in KiB; or zeros and the error code
 abbrev pub with_free : Cpu → Result FreeMemory Status → Cpu
 with_free cpu (Ok free) = with_byte (record cpu { ax = free.largest; dx = free.total }) Bl 0
 with_free cpu (Err e) = with_byte (record cpu { ax = 0; dx = 0 }) Bl (code_of e)
 
 -- 08h: AX is the largest gap, DX all that is free, in KiB, and BL is 0; where nothing is free AX and DX are 0, and BL
--- tells it
+-- is the error code
 unfoldable pub tell_free : Caller → Caller
 tell_free c = on_cpu c (with_free c.cpu (rows.free_memory c.x))
 
@@ -40,7 +41,7 @@ with_address cpu address = record cpu { dx = address / 65536 % 65536; bx = addre
 unfoldable pub lock : Caller → Caller
 lock c = after_call c (rows.lock c.x c.cpu.dx) (with_address c.cpu)
 
--- 0Dh
+-- 0Dh: the block of the handle in DX has one lock less
 unfoldable pub unlock : Caller → Caller
 unlock c = after_tables c (rows.unlock c.x.xms c.cpu.dx) (λ done. c.cpu)
 
@@ -48,7 +49,7 @@ unlock c = after_tables c (rows.unlock c.x.xms c.cpu.dx) (λ done. c.cpu)
 abbrev pub with_information : Cpu → HandleInformation → Cpu
 with_information cpu i = record cpu { bx = i.locks * 256 + i.free; dx = i.kib }
 
--- 0Eh: of the handle in DX
+-- 0Eh: BX and DX are the locks, the free handles and the KiB of the handle in DX
 unfoldable pub tell_information : Caller → Caller
 tell_information c = on_cpu c (settled c.cpu (rows.information c.x.xms c.cpu.dx) (with_information c.cpu))
 

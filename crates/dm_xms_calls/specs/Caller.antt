@@ -1,5 +1,5 @@
--- What a call of the driver acts on, and how it answers (XMS 3.0: AX is 1 for success; for a refusal AX is 0, and BL
--- tells why).
+-- What a call of the driver acts on, and how it returns (XMS 3.0: AX is 1 for success; for a refusal AX is 0, and BL
+-- is the error code).
 use Rattle.std.specs.Prelude.{ℕ, Result, Ok, Err}
 use Rattle.dm_space.specs.Memory.{Memory}
 use Rattle.dm_ins.specs.declared.operand.ByteRegister.TheVariants.{Bl}
@@ -15,6 +15,7 @@ pub record Caller : Type 0 where
   pub cpu : Cpu
   pub x : Extended
 
+-- a caller of these registers, tables and memory
 abbrev pub caller : Cpu → Tables → Memory → Caller
 caller cpu xms memory = record { cpu = cpu; x = extended xms memory }
 
@@ -30,7 +31,7 @@ succeeded cpu = record cpu { ax = 1 }
 abbrev pub refused : Cpu → ℕ → Cpu
 refused cpu code = with_byte (record cpu { ax = 0 }) Bl code
 
--- the registers after an answer: success changes them as `set` does, a refusal not at all but AX and BL
+-- the registers after a call: success changes them as `set` does, a refusal not at all but AX and BL
 abbrev pub settled : {A : Type 0} → Cpu → Result A Status → (A → Cpu) → Cpu
 settled cpu (Ok v) set = succeeded (set v)
 settled cpu (Err e) set = refused cpu (code_of e)

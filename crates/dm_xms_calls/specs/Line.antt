@@ -5,19 +5,19 @@ use Rattle.dm_space.specs.Memory.{Memory}
 use Rattle.dm_xms.specs.Line as rows
 use Rattle.dm_xms_calls.specs.Caller.{Caller, succeeded, refused, after_call, after_act}
 
--- 03h
+-- 03h: A20 is enabled globally
 unfoldable pub enable_globally : Caller → Caller
 enable_globally c = record { cpu = succeeded c.cpu; x = rows.enable_globally c.x }
 
--- 04h
+-- 04h: A20 is disabled globally
 unfoldable pub disable_globally : Caller → Caller
 disable_globally c = after_act c (rows.disable_globally c.x)
 
--- 05h
+-- 05h: A20 is enabled locally
 unfoldable pub enable_locally : Caller → Caller
 enable_locally c = after_call c (rows.enable_locally c.x) (λ done. c.cpu)
 
--- 06h
+-- 06h: A20 is disabled locally
 unfoldable pub disable_locally : Caller → Caller
 disable_locally c = after_act c (rows.disable_locally c.x)
 

@@ -11,16 +11,18 @@ use Rattle.dm_xms.specs.Uppers as rows
 use Rattle.dm_xms.specs.Uppers.{code_of}
 use Rattle.dm_xms_calls.specs.Caller.{Caller, succeeded, refused}
 
--- DX is the paragraphs that could be had, where that is why
+-- DX after a refusal: the paragraphs that could be had, where the size is why
 abbrev pub with_room : Cpu → UpperRefusal → Cpu
 with_room cpu (refusal.Smaller n) = record cpu { dx = n }
 with_room cpu refusal.NoneFree = record cpu { dx = 0 }
 with_room cpu refusal.Unknown = cpu
 
+-- the registers after a call: success as `set` has it, a refusal with its error code, and DX where it says a size
 abbrev pub settled : {A : Type 0} → Cpu → Result A UpperRefusal → (A → Cpu) → Cpu
 settled cpu (Ok v) set = succeeded (set v)
 settled cpu (Err e) set = refused (with_room cpu e) (code_of e)
 
+-- after a call on upper memory blocks, which may change the tables alone
 abbrev pub after_call : {A : Type 0} → Caller → Result (A × Tables) UpperRefusal → (A → Cpu) → Caller
 after_call c r set = record { cpu = settled c.cpu (answer r) set; x = extended (left c.x.xms r) c.x.memory }
 

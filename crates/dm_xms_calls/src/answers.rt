@@ -1,4 +1,4 @@
-//! What a call of the extended memory driver returns (XMS 3.0): AX is 1 for success; for a refusal AX is 0, and BL tells
+//! What a call of the extended memory driver returns (XMS 3.0): AX is 1 for success; for a refusal AX is 0, and BL says
 //! why.
 ghost use Rattle.std.specs.Prelude.{◌≡◌};
 ghost use Rattle.dm_xms.specs.Uppers.{code_of};
@@ -25,7 +25,7 @@ pub(crate) fn refuse(cpu: &mut Cpu, code: u8)
     cpu.set_byte(ByteRegister::Bl, code);
 }
 
-/// The answer of a call that returns nothing more.
+/// The result of a call that returns nothing more.
 pub(crate) fn settle(cpu: &mut Cpu, res: Result<(), Status>)
     ensures { cpu.new ≡ settled cpu.old res (λ done. cpu.old) }
 {
@@ -35,7 +35,7 @@ pub(crate) fn settle(cpu: &mut Cpu, res: Result<(), Status>)
     }
 }
 
-/// The answer of a call that returns what is free.
+/// The result of a call that returns what is free.
 pub(crate) fn settle_free(cpu: &mut Cpu, res: Result<FreeMemory, Status>)
     ensures { cpu.new ≡ with_free cpu.old res }
 {
@@ -52,7 +52,7 @@ pub(crate) fn settle_free(cpu: &mut Cpu, res: Result<FreeMemory, Status>)
     }
 }
 
-/// The answer of a call that returns a handle in DX.
+/// The result of a call that returns a handle in DX.
 pub(crate) fn settle_dx(cpu: &mut Cpu, res: Result<u16, Status>)
     ensures { cpu.new ≡ settled cpu.old res (λ handle. record cpu.old { dx = handle }) }
 {
@@ -65,7 +65,7 @@ pub(crate) fn settle_dx(cpu: &mut Cpu, res: Result<u16, Status>)
     }
 }
 
-/// The answer of a call that returns a linear address in DX:BX.
+/// The result of a call that returns a linear address in DX:BX.
 pub(crate) fn settle_address(cpu: &mut Cpu, res: Result<usize, Status>)
     ensures { cpu.new ≡ settled cpu.old res (with_address cpu.old) }
 {
@@ -79,7 +79,7 @@ pub(crate) fn settle_address(cpu: &mut Cpu, res: Result<usize, Status>)
     }
 }
 
-/// The answer of a call that returns information on a handle.
+/// The result of a call that returns information on a handle.
 pub(crate) fn settle_information(cpu: &mut Cpu, res: Result<HandleInformation, Status>)
     ensures { cpu.new ≡ settled cpu.old res (with_information cpu.old) }
 {
@@ -106,7 +106,7 @@ fn refuse_upper(cpu: &mut Cpu, refusal: UpperRefusal)
     refuse(cpu, refusal.code());
 }
 
-/// The answer of a call that returns an upper memory block: BX is its segment, DX its paragraphs.
+/// The result of a call that returns an upper memory block: BX is its segment, DX its paragraphs.
 pub(crate) fn settle_upper(cpu: &mut Cpu, res: Result<Upper, UpperRefusal>)
     ensures { cpu.new ≡ uppers.settled cpu.old res (λ u. record cpu.old { bx = u.segment; dx = u.paragraphs }) }
 {
@@ -120,7 +120,7 @@ pub(crate) fn settle_upper(cpu: &mut Cpu, res: Result<Upper, UpperRefusal>)
     }
 }
 
-/// The answer of a call on upper memory blocks that returns nothing more.
+/// The result of a call on upper memory blocks that returns nothing more.
 pub(crate) fn settle_uppers(cpu: &mut Cpu, res: Result<(), UpperRefusal>)
     ensures { cpu.new ≡ uppers.settled cpu.old res (λ done. cpu.old) }
 {

@@ -124,7 +124,7 @@ fn call(cpu: &mut Cpu, xms: &mut Xms, space: &mut Space, upper: bool, function: 
 }
 
 /// Does the function that AH names, on the registers of the program that calls, the tables of extended memory and the
-/// memory, which are consistent. AX is then 1, or 0 where the call was refused, and BL tells why; functions 00h and 08h
+/// memory, which are consistent. AX is then 1, or 0 where the call was refused, and BL says why; functions 00h and 08h
 /// answer otherwise. `upper` is whether DOS has upper memory in its arena: then the driver gives no upper memory
 /// blocks.
 pub fn extended_memory_call(cpu: &mut Cpu, xms: &mut Xms, space: &mut Space, upper: bool)

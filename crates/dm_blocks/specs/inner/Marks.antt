@@ -38,7 +38,7 @@ pub record AreMarked (S : Memory) (P : List Header) (marks : List Bool) : Type 0
   pub each : (segment block offset : ℕ) → HasHeader P segment → place S (16 * segment) ≡ Page block offset → slice_index_or marks (slot S block offset) false ≡ true
   pub only : (k : ℕ) → slice_index_or marks k false ≡ true → IsMarkOf S P k
 
--- a header at a segment may stand behind the headers P, and its place is marked; or it may not, and the marks stay
+-- a header at a segment may stand after the headers P, and its place is marked; or it may not, and the marks stay
 abbrev pub Admits : Memory → ℕ → List Bool → Bool → List Bool → Type 0
 Admits S segment old result new =
     (P : List Header) → AreMarked S P old → (HasHeader P segment → ⊥) →
@@ -46,8 +46,8 @@ Admits S segment old result new =
     (MayStand S P segment × ((b : Header) → b.segment ≡ segment → AreMarked S (P ++ b ∷ []) new))
     ((MayStand S P segment → ⊥) × (new ≡ old))
 
--- a walk at a segment, behind the headers F: the marks are those of the headers told and of F, and the cursor goes over
--- F. One that has told the whole first list has its marks
+-- a walk at a segment, after the headers F: the marks are those of the headers so far and of F; the cursor goes over
+-- F. One that is through the whole first list has its marks
 abbrev pub IsMarked : Memory → Bool → List Header → Option ℕ → Option ℕ → List Bool → Type 0
 IsMarked S second F (Some t) cursor marks = (P : List Header) × Leads S F (start_of second) P t × AreMarked S (F ++ P) marks × IsCursor S F cursor t
 IsMarked S false F None cursor marks = (L : List Header) × IsArena S first_header L × AreMarked S L marks

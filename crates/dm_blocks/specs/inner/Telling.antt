@@ -4,7 +4,7 @@ use Rattle.dm_blocks.specs.declared.header.Header.{Header}
 use Rattle.dm_blocks.specs.Chain.{IsArenaBehind, NoArenaBehind}
 use Rattle.dm_blocks.specs.Listing.{IsBehind, Walking, start_of}
 
--- the list that a walk has to tell is clear with those before it
+-- the list that a walk goes over is clear with those before it
 pub record IsToldAll (w : Walking) : Type 0 where
   pub front : List Header
   pub list : List Header
@@ -17,7 +17,7 @@ pub record IsBroken (w : Walking) : Type 0 where
   pub behind : IsBehind w.memory w.second front
   pub none : NoArenaBehind w.memory front (start_of w.second)
 
--- what becomes of a walk that goes to the end: it stands behind it, or the list is broken
+-- what becomes of a walk that goes to the end: it stands past it, or the list is broken
 abbrev pub HasToldAll : Walking → Option Walking → Type 0
 HasToldAll w None = IsBroken w
 HasToldAll w (Some v) = (v.memory ≡ w.memory) × (v.second ≡ w.second) × (v.at ≡ None) × IsToldAll w

@@ -35,7 +35,7 @@ found_by b step a f = record { step = step; segment = b.cpu.cs; offset = b.cpu.i
 abbrev pub ReportsMore : Reported → Reported → List Found → Type 0
 ReportsMore old new more = (fs : List Found) → old ≡ report_of fs → new ≡ report_of (fs ++ more)
 
--- what was found of the step stands behind what stood there
+-- what was found of the step stands after what stood there
 pub record Looks (s t : State) (old new : List Finding) : Type 0 where
   pub more : List Finding
   pub is : new ≡ old ++ more

@@ -1,4 +1,5 @@
--- What is kept of the headers that memory showed, and when memory shows them still. No definition of a finding mentions it.
+-- What is kept of the headers that memory showed, and when memory shows them still. No definition of a finding mentions
+-- it.
 use Rattle.std.specs.Prelude.{◌≡◌, ℕ, ◌+◌, ◌*◌, ◌<◌, Bool, true, false, All, List, [], ◌∷◌, ◌++◌, map, slice_index, slice_index_or, Option, Some, None, IfSome, Result, Ok, Err}
 use Rattle.dm_space.specs.Memory.{Memory, IsPage, place, peek}
 use Rattle.dm_space.specs.EightBytes.{little}
@@ -65,31 +66,31 @@ pub record IsSeen (upper : Bool) (m : Memory) (w : Watch) : Type 0 where
 
 -- ---- walks
 
--- behind the headers F a walk was cut short at a segment, or it went on to the end of its list
+-- after the headers F a walk was cut short at a segment, or it went on to the end of its list
 abbrev pub IsWalked : Walking → List Header → Result Walking ℕ → List Header → Type 0
 IsWalked w F (Err at) headers = IsCut w.memory F (start_of w.second) headers at
 IsWalked w F (Ok v) headers = (v.memory ≡ w.memory) × (v.second ≡ w.second) × (v.at ≡ None) × IsArenaBehind w.memory F (start_of w.second) headers
 
--- the headers of a walk's list stand behind what stood there
+-- the headers of a walk's list stand after what stood there
 pub record Collects (w : Walking) (rest : Result Walking ℕ) (old new : List Watched) : Type 0 where
   pub more : List Watched
   pub is : new ≡ old ++ more
   pub walked : (F : List Header) → IsBehind w.memory w.second F → IsWalked w F rest (map header_of more)
   pub watched : All (IsWatched w.memory) more
 
--- behind the headers F, the second list is shown, to its end or up to where it breaks
+-- after the headers F, the second list is shown, to its end or up to where it breaks
 abbrev pub IsSecond : Memory → List Header → Option Broken → List Header → Type 0
 IsSecond m F None headers = IsArenaBehind m F link_header headers
 IsSecond m F (Some b) headers = IsCut m F link_header headers b.segment × IsBits m b.segment b.bits
 
--- those of the second list stand behind what stood there
+-- those of the second list stand after what stood there
 pub record CollectsSecond (m : Memory) (broken : Option Broken) (old new : List Watched) : Type 0 where
   pub more : List Watched
   pub is : new ≡ old ++ more
   pub shown : (F : List Header) → IsBehind m true F → IsSecond m F broken (map header_of more)
   pub watched : All (IsWatched m) more
 
--- all that is shown of the arena stands behind what stood there
+-- all that is shown of the arena stands after what stood there
 pub record CollectsAll (upper : Bool) (m : Memory) (broken : Option Broken) (old new : List Watched) : Type 0 where
   pub more : List Watched
   pub is : new ≡ old ++ more

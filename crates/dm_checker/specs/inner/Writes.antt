@@ -55,6 +55,6 @@ pub record OnlyReads (m : Bytes) (c : Cpu) : Type 0 where
 abbrev pub BeginReading : ℕ → Type 0
 BeginReading eight = (m : Bytes) (c : Cpu) → c.cs < 0xF000 → IsEightBytes m c.cs c.ip eight → OnlyReads m c
 
--- what an entry tells is so
+-- what an entry says of its bytes is so
 pub record IsRight (e : Entry) : Type 0 where
   pub tells : IsTrue e.only_reads → BeginReading e.eight

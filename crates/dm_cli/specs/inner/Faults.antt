@@ -8,7 +8,7 @@ use Rattle.dm_machine.specs.declared.loading.LoadError.TheVariants as load
 use Rattle.dm_cli.specs.declared.fault.Fault.{Fault}
 use Rattle.dm_cli.specs.declared.fault.Fault.TheVariants as fault
 
--- the fault that tells a refusal of the store, of the machine's start, of loading and of the assembler
+-- the fault that a refusal of the store becomes
 abbrev pub add_fault : AddError → Fault
 add_fault add.Twice = fault.NameTwice
 add_fault add.Memory = fault.OutOfMemory

@@ -10,7 +10,7 @@ pub record Kept : Type 0 where
   pub bytes : List ℕ
   pub failures : ℕ
 
--- why a session did not answer
+-- why a session refused a line
 abbrev pub refusal_of : session.CommandRefusal → Refusal
 refusal_of why.Syntax = Syntax
 refusal_of why.Full = Full

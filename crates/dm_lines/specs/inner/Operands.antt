@@ -16,7 +16,7 @@ abbrev pub option_now : Option (Bor (List Token)) → Option (List Token)
 option_now None = None
 option_now (Some x) = Some x.now
 
--- the parts behind a comma, where one stands
+-- the parts after a comma, where one stands
 abbrev pub parts_behind : Option (Bor (List Token)) → List (List Token)
 parts_behind None = []
 parts_behind (Some ts) = parts ts.now

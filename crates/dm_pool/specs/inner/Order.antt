@@ -44,7 +44,7 @@ pub record IsCut (places : List (Option Extent)) (order : List ℕ) (rest end : 
   pub lower : (p : ℕ) (b : Extent) → p < rest → IsNth places order p b → b.base + b.units ≤ end
   pub upper : (p : ℕ) (b : Extent) → rest ≤ p → p < length order → IsNth places order p b → end ≤ b.base
 
--- the pool's bytes are as many as its units, and its free bytes tell its gaps
+-- the pool's bytes are as many as its units, and its free bytes spell its gaps
 pub record IsToldIn (l : Layout) (bytes : List ℕ) : Type 0 where
   pub whole : length bytes ≡ l.units * 1024
   pub tells : Tells l.places l.units 0 l.first bytes

@@ -5,7 +5,7 @@ use Rattle.dm_pool.specs.declared.part.Part.TheVariants.{Low, Scratch, Block}
 use Rattle.dm_pool.specs.declared.extent.Extent.{Extent}
 use Rattle.dm_pool.specs.inner.Order.{Layout}
 
--- the table tells where the part is (for private steps, as the next one)
+-- the table says where the part is (for private steps, as the next one)
 abbrev pub IsLaidOut : Layout → Part → Type 0
 IsLaidOut l Low = Unit {0}
 IsLaidOut l Scratch = Unit {0}
