@@ -1,4 +1,4 @@
-use Rattle.std.proofs.Common.{◌≡◌, ◌+◌, ◌*◌, List, ℕ, length, slice_set, ◌∙◌, ap, refl}
+use Rattle.std.proofs.Common.{◌≡◌, List, ℕ, length, slice_set, ◌∙◌, ap, sym}
 use Rattle.std.proofs.lemmas.List.{length-set}
 use Rattle.dm_pool.specs.Stored.{refit}
 use Rattle.dm_pool.proofs.Blocks.{refilled}
@@ -14,8 +14,8 @@ lent low now at a e =
 
 pub returns : goal.returns
 returns c =
-    let s = c.self.inside in let at = c.args.segment * 16 + c.args.offset in
+    let s = c.self.inside in let at = c.args.at in
     ap (λ (xs : List ℕ). held (record s.store { low = xs }) s.windows s.a20) (lent s.store.low c.low_mut.result.now at c.args.value c.low_mut.ensures.value)
     ∙ ap (λ (m : Memory). record { memory = m; scratch = s.store.scratch })
-    (byte_poked (held s.store s.windows s.a20).memory _ _ _ _ refl c.requires)
+    (byte_poked (held s.store s.windows s.a20).memory _ _ _ _ (sym c.requires.at) c.requires.low)
     ∙ ap (λ (h : Held). record h { memory = poke h.memory (linear h.memory.a20 c.args.segment c.args.offset) c.args.value }) c.self.view_is

@@ -1,4 +1,4 @@
-use Rattle.std.proofs.Common.{◌≡◌, ◌+◌, ◌*◌, ◌/◌, ◌%◌, List, ℕ, length, slice_set, ◌∙◌, ap, refl}
+use Rattle.std.proofs.Common.{◌≡◌, ◌+◌, ◌/◌, ◌%◌, List, ℕ, length, slice_set, ◌∙◌, ap, sym}
 use Rattle.std.proofs.lemmas.List.{length-set}
 use Rattle.dm_pool.specs.Stored.{refit}
 use Rattle.dm_pool.proofs.Blocks.{refilled}
@@ -15,8 +15,8 @@ lent low now at a b e =
 
 pub returns : goal.returns
 returns c =
-    let s = c.self.inside in let at = c.args.segment * 16 + c.args.offset in
+    let s = c.self.inside in let at = c.args.at in
     ap (λ (xs : List ℕ). held (record s.store { low = xs }) s.windows s.a20) (lent s.store.low c.low_mut-low.result.now at (c.args.value % 256) (c.args.value / 256) c.low_mut-low.ensures.value)
     ∙ ap (λ (m : Memory). record { memory = m; scratch = s.store.scratch })
-    (word_poked (held s.store s.windows s.a20).memory _ _ _ _ c.requires.together refl c.requires.low)
+    (word_poked (held s.store s.windows s.a20).memory _ _ _ _ c.requires.together (sym c.requires.at) c.requires.low)
     ∙ ap (λ (h : Held). record h { memory = poke16 h.memory c.args.segment c.args.offset c.args.value }) c.self.view_is

@@ -1,9 +1,0 @@
-use Rattle.std.proofs.Common.{◌≡◌, List, ℕ, ◌+◌, ◌*◌, ◌∙◌, ap, refl, arith, slice_index}
-use Rattle.dm_space.specs.Memory.{Held}
-use Rattle.dm_space.proofs.Reading.{byte_is}
-use Rattle.dm_space.proofs.space.Space.peek.Goals as goal
-
-pub returns : goal.returns
-returns c =
-    let low : c.low.result.now ≡ c.args.self.now.memory.low = c.low.ensures.value ∙ ap (λ (h : Held). h.memory.low) c.self.view_is in
-    byte_is _ _ _ _ _ refl (omega arith) (ap (λ (xs : List ℕ). slice_index xs (c.args.segment * 16 + c.args.offset)) low)
