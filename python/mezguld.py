@@ -1,4 +1,4 @@
-"""The proved MS-DOS machine of Mezguld, from Python.
+r"""The proved MS-DOS machine of Mezguld, from Python.
 
     from mezguld import Machine, assemble
 
