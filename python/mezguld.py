@@ -1,11 +1,11 @@
-"""The proved MS-DOS machine of Mezguld, from Python.
+r"""The proved MS-DOS machine of Mezguld, from Python.
 
     from mezguld import Machine, assemble
 
     with Machine() as machine:
-        machine.add("HI.COM", assemble("MOV AH,2\nMOV DL,'!'\n..."))
+        machine.add("HI.COM", assemble("MOV AH,2\nMOV DL,21h\nINT 21h\nMOV AX,4C00h\nINT 21h\n"))
         machine.load("HI.COM")
-        stop = machine.run(1000)
+        stopped = machine.run(1000)
         print(machine.output())
 
 The module stands over the C library libmezguld.so (include/mezguld.h), which `tools/library` builds. It looks for the file that the environment

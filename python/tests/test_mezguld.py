@@ -1,4 +1,4 @@
-"""Tests of the module `mezguld` over the built library. From the top: `python3 -m unittest discover -s python -t python`."""
+"""Tests of the module `mezguld` over the built library. From the top: `python3 -m unittest discover -s python/tests -t python`."""
 import os
 import sys
 import unittest
