@@ -10,8 +10,8 @@ use Rattle.std.proofs.lemmas.Option.{none-some, same_Some}
 use Rattle.std.proofs.lemmas.List.{get_or-set_same}
 use Rattle.std.proofs.lemmas.List.Sums.{sum_by-cons, sum_by-set}
 use Rattle.dm_pool.specs.declared.extent.Extent.{Extent}
-use Rattle.dm_pool.specs.Gaps.{Run, overlaps, is_clear, gaps, first_empty, next_index, lowest, count_fitting}
-use Rattle.dm_pool.specs.inner.Gaps.{IsCovered, AreGaps, first_fit}
+use Rattle.dm_pool.specs.Gaps.{Run, overlaps, is_clear, gaps, first_empty, first_fit, next_index, lowest, count_fitting}
+use Rattle.dm_pool.specs.inner.Gaps.{IsCovered, AreGaps}
 use Rattle.dm_pool.specs.Blocks.{Blocks, with_block, zeros, placed, taken, without, at_base, new_base, resized, resized_from, fitted}
 use Rattle.dm_pool.specs.FreeList.{AreBased}
 use Rattle.dm_pool.specs.Laws.{free_numbers, with_new, and_taken, taken_in_turn, BlocksCome}

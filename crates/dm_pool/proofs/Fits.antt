@@ -5,8 +5,8 @@ use Rattle.std.proofs.Math.Nat.{div-le_self}
 use Rattle.std.proofs.lemmas.Bool.{le-leb}
 use Rattle.std.proofs.lemmas.List.Sums.{sum_by-cons}
 use Rattle.dm_pool.specs.declared.extent.Extent.{Extent}
-use Rattle.dm_pool.specs.Gaps.{Run, gaps, free_units, count_fitting}
-use Rattle.dm_pool.specs.inner.Gaps.{AreGaps, first_fit}
+use Rattle.dm_pool.specs.Gaps.{Run, first_fit, gaps, free_units, count_fitting}
+use Rattle.dm_pool.specs.inner.Gaps.{AreGaps}
 use Rattle.dm_pool.specs.FreeList.{double_word, AreBased, Spells}
 use Rattle.dm_pool.specs.inner.FreeList.{Tells}
 use Rattle.dm_pool.proofs.Gaps.{past}

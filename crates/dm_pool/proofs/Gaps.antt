@@ -6,8 +6,8 @@ use Rattle.std.proofs.Math.Bool.{true≢false}
 use Rattle.std.proofs.lemmas.Bool.Decides.{leb_tells}
 use Rattle.std.specs.Cmp.Derive.{both_true}
 use Rattle.std.proofs.lemmas.Option.{none-some, same_Some}
-use Rattle.dm_pool.specs.Gaps.{overlaps, is_clear, is_free, first_passing, lowest, first_empty, next_index, Run}
-use Rattle.dm_pool.specs.inner.Gaps.{IsCovered, AreGaps, first_fit}
+use Rattle.dm_pool.specs.Gaps.{overlaps, is_clear, is_free, first_passing, lowest, first_empty, first_fit, next_index, Run}
+use Rattle.dm_pool.specs.inner.Gaps.{IsCovered, AreGaps}
 use Rattle.dm_pool.specs.declared.extent.Extent.{Extent}
 
 and_false : (b : Bool) → (b && false) ≡ false

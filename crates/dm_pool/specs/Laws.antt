@@ -1,8 +1,13 @@
--- Blocks that are promised come.
-use Rattle.std.specs.Prelude.{ℕ, zero, suc, ◌<◌, ◌≤◌, ◌↔◌, IsSome, is_none, count_by, Option, Some, None}
+-- The lowest gap is one of the gaps, and blocks that are promised come.
+use Rattle.std.specs.Prelude.{◌≡◌, ℕ, zero, suc, ◌<◌, ◌≤◌, ◌↔◌, IsSome, is_none, count_by, List, Option, Some, None}
+use Rattle.dm_pool.specs.declared.extent.Extent.{Extent}
 use Rattle.dm_pool.specs.Blocks.{Blocks, taken}
 use Rattle.dm_pool.specs.FreeList.{AreBased}
-use Rattle.dm_pool.specs.Gaps.{gaps, count_fitting}
+use Rattle.dm_pool.specs.Gaps.{gaps, lowest, first_fit, count_fitting}
+
+-- for a block of at least one unit, the lowest gap that holds it is the first of the gaps that does
+abbrev pub LowestIsFirstFit : Type 0
+LowestIsFirstFit = (bs : List (Option Extent)) (n u : ℕ) → AreBased bs → 0 < u → lowest bs n u ≡ first_fit (gaps bs n) u
 
 -- how many numbers have no block
 abbrev pub free_numbers : Blocks → ℕ

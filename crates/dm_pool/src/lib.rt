@@ -13,7 +13,7 @@ mod table;
 
 pub use block::Block;
 pub use extent::{Extent, UNIT};
-pub use laws::blocks_come;
+pub use laws::{blocks_come, lowest_gap_is_first_fit};
 pub use part::Part;
 pub use runs::RunList;
 pub use sizes::Sizes;

@@ -4,8 +4,8 @@ use Rattle.std.specs.Prelude.{if◌then◌else◌, slice_index_or}
 use Rattle.std.proofs.lemmas.Option.{none-some, same_Some}
 use Rattle.std.proofs.lemmas.Bool.{cases_lt, cases_eq, eq-eqb, ne_eqb}
 use Rattle.dm_pool.specs.declared.extent.Extent.{Extent}
-use Rattle.dm_pool.specs.Gaps.{Run, overlaps, is_clear, gaps, lowest}
-use Rattle.dm_pool.specs.inner.Gaps.{AreGaps, IsCovered, first_fit}
+use Rattle.dm_pool.specs.Gaps.{Run, overlaps, is_clear, first_fit, gaps, lowest}
+use Rattle.dm_pool.specs.inner.Gaps.{AreGaps, IsCovered}
 use Rattle.dm_pool.specs.FreeList.{AreBased}
 use Rattle.dm_pool.proofs.Gaps.{hits, before, after, covered, clear, fit_is_lowest}
 use Rattle.dm_pool.proofs.FreeRuns.{lowered}

@@ -1,8 +1,7 @@
 //! Upper memory blocks (XMS 3.0, functions 10h to 12h): paragraphs from segment D000h to DFFFh.
 
 ghost use Rattle.std.specs.Prelude.{◌≡◌, ◌≤◌, ◌<◌, ◌+◌, ◌-◌, length, count_by, position, slice_get, slice_set, IfSome};
-ghost use Rattle.dm_pool.specs.Gaps.{largest};
-ghost use Rattle.dm_pool.specs.inner.Gaps.{first_fit};
+ghost use Rattle.dm_pool.specs.Gaps.{first_fit, largest};
 ghost use Rattle.dm_xms.specs.inner.Tables.{Rise};
 ghost use Rattle.dm_xms.specs.Calls.{answer, left};
 ghost use Rattle.dm_xms.specs.Uppers.{at_least_one, is_below, begins_at, begin_or_end, request_upper, release_upper, resize_upper, largest_upper, lowest_upper, code_of};

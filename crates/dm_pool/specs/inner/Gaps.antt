@@ -1,5 +1,5 @@
 -- For private contracts and proofs alone: beside specs/Gaps.antt.
-use Rattle.std.specs.Prelude.{ℕ, ◌+◌, ◌<◌, ◌≤◌, true, false, nat_le, List, [], ◌∷◌, Option, Some, None, ◌≡◌, if◌then◌else◌}
+use Rattle.std.specs.Prelude.{ℕ, ◌+◌, ◌<◌, ◌≤◌, true, false, List, [], ◌∷◌, Option, ◌≡◌}
 use Rattle.dm_pool.specs.declared.extent.Extent.{Extent}
 use Rattle.dm_pool.specs.Gaps.{is_clear, Run}
 
@@ -11,8 +11,3 @@ IsCovered bs k = is_clear bs k 1 ≡ false
 abbrev pub AreGaps : List (Option Extent) → ℕ → ℕ → List Run → Type 0
 AreGaps bs n k [] = (j : ℕ) → k ≤ j → j < n → IsCovered bs j
 AreGaps bs n k (g ∷ gs) = (k ≤ g.low) × ((j : ℕ) → k ≤ j → j < g.low → IsCovered bs j) × (0 < g.size) × (is_clear bs g.low g.size ≡ true) × (g.low + g.size ≤ n) × (g.low + g.size < n → IsCovered bs (g.low + g.size)) × AreGaps bs n (g.low + g.size) gs
-
--- the low end of the first run that holds u units
-abbrev pub first_fit : List Run → ℕ → Option ℕ
-first_fit [] u = None
-first_fit (g ∷ gs) u = if nat_le u g.size then Some g.low else first_fit gs u

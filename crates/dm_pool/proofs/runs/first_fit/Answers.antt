@@ -1,6 +1,6 @@
 use Rattle.std.proofs.Common.{◌-◌, ◌<◌, Some, sym, subst, ap, ◌∙◌, arith}
 use Rattle.dm_pool.specs.inner.FreeList.{Tells}
-use Rattle.dm_pool.specs.inner.Gaps.{first_fit}
+use Rattle.dm_pool.specs.Gaps.{first_fit}
 use Rattle.dm_pool.proofs.Gaps.{fit_is_lowest}
 use Rattle.dm_pool.proofs.Fits.{sets_out, meets, none_left, run_within, run_falls, goes_on, fit_here, fit_behind}
 use Rattle.dm_pool.proofs.runs.first_fit.Goals as goal

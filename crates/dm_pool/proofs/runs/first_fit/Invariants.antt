@@ -1,6 +1,5 @@
 use Rattle.std.proofs.Common.{◌≡◌, ◌-◌}
-use Rattle.dm_pool.specs.Gaps.{lowest}
-use Rattle.dm_pool.specs.inner.Gaps.{first_fit}
+use Rattle.dm_pool.specs.Gaps.{first_fit, lowest}
 use Rattle.dm_pool.proofs.Fits.{Passing}
 use Rattle.dm_pool.proofs.runs.first_fit.Given as goal
 
