@@ -1,5 +1,5 @@
 -- The faults that keep a machine from its start.
-use Rattle.std.proofs.Common.{◌≡◌, ◌↔◌, inl, inr, ◌∷◌, [], ℕ, List, Option, Some, None, Ok, Err, IsSomeAnd, refl, map}
+use Rattle.std.proofs.Common.{◌≡◌, ◌↔◌, inl, inr, ◌∷◌, [], ℕ, List, Bool, Option, Some, None, Ok, Err, IsSomeAnd, refl, map}
 use Rattle.std.proofs.lemmas.Option.{none-some}
 use Rattle.std.specs.List.{slice_get}
 use Rattle.std.specs.Option.{ok_or}
@@ -7,7 +7,7 @@ use Rattle.dm_machine.specs.declared.machine.NewError.{NewError}
 use Rattle.dm_machine.specs.declared.machine.NewError.TheVariants as new
 use Rattle.dm_machine.specs.declared.loading.LoadError.{LoadError}
 use Rattle.dm_machine.specs.declared.loading.LoadError.TheVariants as load
-use Rattle.dm_machine.specs.Start.{IsBadProgram, HasNoRoom}
+use Rattle.dm_machine.specs.Start.{IsBadProgram, HasNoRoom, IsNew}
 use Rattle.dm_options.specs.declared.command_line.MachineOptions.{MachineOptions}
 use Rattle.dm_pool.specs.declared.sizes.Sizes.{Sizes}
 use Rattle.dm_pool.specs.Stored.{IsTooLarge}
@@ -18,8 +18,9 @@ use Rattle.dm_cli.specs.declared.fault.Fault.TheVariants as fault
 use Rattle.dm_cli.specs.inner.Faults.{new_fault, load_fault}
 use Rattle.dm_cli.specs.Names.{last_part}
 use Rattle.dm_cli.specs.inner.Names.{IsNameFault}
-use Rattle.dm_cli.specs.Stores.{IsInputFault, bytes_if_any}
-use Rattle.dm_cli.specs.Starting.{IsLoadFault, IsMachineFault, sizes_of, too_large, no_memory}
+use Rattle.dm_cli.specs.Stores.{IsBegun, IsInputFault, bytes_if_any}
+use Rattle.dm_cli.specs.Starting.{IsLoadFault, IsMachineFault, sizes_of, too_large, long_tail, no_file, not_loaded, no_memory}
+use Rattle.dm_cli.specs.inner.Starting.{IsFirstFault, IsFirstLoaded, tail_is_long, no_first, first_refused}
 
 -- a machine of these sizes was refused
 pub new_refused : (e : NewError) (store : List (List ℕ × List ℕ)) (input : List ℕ) (o : MachineOptions) → (e ≡ new.TooLarge → IsTooLarge (sizes_of o)) → IsMachineFault store input o (new_fault e)
@@ -74,3 +75,23 @@ input_of_session files (Some name) e h = h
 pub error_of_none : {A : Type 0} (o : Option A) (err e : Fault) → ok_or o err ≡ Err e → e ≡ err
 error_of_none None err e h = cc
 error_of_none (Some x) err e h = absurd (cc)
+
+-- a new machine with its first program, and the faults of that one
+pub begun_by : (store : List (List ℕ × List ℕ)) (input : List ℕ) (sizes : Sizes) (upper : Bool) (paths : List (List ℕ)) (tail : List ℕ) (fresh m : State) → ¬ IsTooLarge sizes
+    → IsNew sizes [] upper store input fresh → IsFirstLoaded fresh paths tail m → IsBegun store input sizes upper paths tail m
+begun_by store input sizes upper paths tail fresh m small new h = record {
+  small = small;
+  fresh = fresh;
+  new = new;
+  first = h.first;
+  others = h.others;
+  is_first = h.is_first;
+  short = h.short;
+  loaded = h.loaded;
+}
+
+pub fault_of_first : (store : List (List ℕ × List ℕ)) (input : List ℕ) (o : MachineOptions) (fresh : State) (e : Fault) → ¬ IsTooLarge (sizes_of o)
+    → IsNew (sizes_of o) [] o.upper store input fresh → IsFirstFault fresh o e → IsMachineFault store input o e
+fault_of_first store input o fresh _ small new (tail_is_long long) = long_tail fresh small new long
+fault_of_first store input o fresh _ small new (no_first short none) = no_file fresh small new short none
+fault_of_first store input o fresh _ small new (first_refused first others e short is why) = not_loaded fresh first others e small new short is why

@@ -11,11 +11,16 @@ use Rattle.dm_asm.specs.declared.refusal.AssemblyRefusal.{AssemblyRefusal}
 use Rattle.dm_asm.specs.declared.refusal.AssemblyRefusal.TheVariants as refusal
 use Rattle.dm_asm.specs.Programs.{Refuses}
 use Rattle.dm_debug.specs.Debugged.{Debugged}
+use Rattle.dm_debug.specs.Sessions.{new_session}
+use Rattle.dm_options.specs.declared.command_line.DebugOptions.{DebugOptions}
+use Rattle.dm_state.specs.State.{State}
 use Rattle.dm_cli.specs.declared.fault.Fault.{Fault}
 use Rattle.dm_cli.specs.Assembling.{IsAsmFault, text_refused, text_no_memory}
-use Rattle.dm_cli.specs.Debugging.{Converses, IsConversation, ended, quits, answers, too_long, unread, no_memory, cut_off, unwritten, not_handed_on}
+use Rattle.dm_cli.specs.Debugging.{Converses, Debugs, IsConversation, conversed, no_buffer, ended, quits, answers, too_long, unread, no_memory, cut_off, unwritten, not_handed_on}
 use Rattle.dm_cli.specs.Faults.{refusal_fault}
+use Rattle.dm_cli.specs.inner.Debugging.{ConversesWith, through_buffer, without_buffer}
 use Rattle.dm_cli.specs.inner.Statuses.{end_of}
+use Rattle.dm_cli.specs.Starting.{IsStartedBy, typed_in}
 use Rattle.dm_cli.specs.Stores.{IsRead}
 use Rattle.dm_cli.proofs.Lines.{first_cut, first_cut_short}
 
@@ -78,6 +83,12 @@ pub session_end : {A : Type 0} (r : Result A Fault) (n : ℕ) (known : Option (L
     → IfErr r (λ e. IsConversation n known s t a b opened failures (Some e)) → IsConversation n known s t a b opened failures (end_of r)
 session_end (Ok x) n known s t a b opened failures ok err = ok
 session_end (Err e) n known s t a b opened failures ok err = err
+
+-- a session with the machine of the options
+pub debugs_with : (files : List ℕ → Option (List ℕ)) (typed : Option (List ℕ)) (o : DebugOptions) (m : State) (t : Debugged) (a b : Option (List ℕ)) (opened failures : ℕ) (end : Option Fault)
+    → IsStartedBy files (typed_in files o) o.machine m → ConversesWith typed (new_session m) t a b opened failures end → Debugs files typed o a b opened failures end
+debugs_with files typed o m t a b opened failures _ started (through_buffer end h) = conversed m t end started h
+debugs_with files typed o m t a b opened failures _ started (without_buffer kept same) = no_buffer kept same
 
 -- ---- the reader of a session
 

@@ -6,4 +6,5 @@ pub mod Told
 pub mod Begins
 pub mod Ends
 pub mod Checked
+pub mod Ran
 pub mod Printed

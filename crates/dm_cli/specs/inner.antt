@@ -1,6 +1,9 @@
 -- Definitions that private contracts and proofs alone name.
+pub mod Checking
 pub mod Debugging
 pub mod Faults
 pub mod Names
+pub mod Program
 pub mod Saving
+pub mod Starting
 pub mod Statuses

@@ -3,6 +3,8 @@ ghost use Rattle.std.specs.Prelude.{◌≡◌, ◌++◌, OnErr, OnOk};
 ghost use Rattle.dm_reports.specs.Reports.{report_text};
 ghost use Rattle.dm_cli.specs.Checking.{Checks, checked_status};
 ghost use Rattle.dm_cli.specs.Messages.{stop_text};
+ghost use Rattle.dm_cli.specs.inner.Checking.{ChecksRun};
+ghost use Rattle.dm_state.specs.State.{HasProgram};
 
 use crate::commands::status_of_stop;
 use crate::fault::Fault;
@@ -11,7 +13,7 @@ use crate::loading::loaded;
 use crate::messages::{print, stop_line};
 use dm_checker::check as check_run;
 use dm_findings::Report;
-use dm_machine::{Out, Stop};
+use dm_machine::{Machine, Out, Stop};
 use dm_options::command_line::MachineOptions;
 use dm_out::write_all;
 use dm_reports::put_report;
@@ -39,6 +41,35 @@ fn checked_status(report: &Report, stop: Stop) -> u8
     status_of_stop(stop)
 }
 
+/// Runs a machine, writes its output, and prints the report and the line about the stop. Returns the status.
+fn check_machine<W: Out, E: Out>(
+    alloc: Global,
+    machine: &mut Machine,
+    steps: u64,
+    out: &mut W,
+    error: &mut E,
+) -> Result<u8, Fault<'static>>
+    requires { HasProgram machine.old }
+    ensures does { ChecksRun machine.old steps (W.taken out.old) (W.taken out.new) (W.failures out.old) (W.failures out.new)
+        (record { bytes = E.taken error.old; failures = E.failures error.old }) (record { bytes = E.taken error.new; failures = E.failures error.new }) result }
+    ensures silent { OnErr result (error.new ≡ error.old) }
+{
+    let Ok((stop, report)) = check_run(alloc, machine, steps) else {
+        return Err(Fault::OutOfMemory);
+    };
+    let mut text = Vec::new(alloc);
+    let Ok(()) = put_lines(&mut text, &report, stop) else {
+        return Err(Fault::OutOfMemory);
+    };
+    match write_all(out, machine.output()) {
+        Ok(()) => {
+            print(error, text.as_slice());
+            Ok(checked_status(&report, stop))
+        }
+        Err(_) => Err(Fault::CannotWrite("standard output")),
+    }
+}
+
 /// `dm check`: runs the first file, writes its output, and prints the report and the line about the stop. Returns the
 /// status.
 pub(crate) fn check<'a, F: Storage, I: Read + Drop, W: Out, E: Out>(
@@ -54,18 +85,5 @@ pub(crate) fn check<'a, F: Storage, I: Read + Drop, W: Out, E: Out>(
     ensures silent { OnErr result (error.new ≡ error.old) }
 {
     let mut machine = loaded(alloc, storage, options, input)?;
-    let Ok((stop, report)) = check_run(alloc, &mut machine, options.steps) else {
-        return Err(Fault::OutOfMemory);
-    };
-    let mut text = Vec::new(alloc);
-    let Ok(()) = put_lines(&mut text, &report, stop) else {
-        return Err(Fault::OutOfMemory);
-    };
-    match write_all(out, machine.output()) {
-        Ok(()) => {
-            print(error, text.as_slice());
-            Ok(checked_status(&report, stop))
-        }
-        Err(_) => Err(Fault::CannotWrite("standard output")),
-    }
+    check_machine(alloc, &mut machine, options.steps, out, error)
 }

@@ -5,7 +5,9 @@ ghost use Rattle.dm_cli.specs.Faults.{fault_line};
 ghost use Rattle.dm_cli.specs.Messages.{Prints, Reports, outcome_text};
 ghost use Rattle.dm_cli.specs.Program.{Does, Runs};
 ghost use Rattle.dm_cli.specs.Statuses.{status_after, status_of, stop_status};
+ghost use Rattle.dm_cli.specs.inner.Program.{RunsMachine};
 ghost use Rattle.dm_cli.specs.inner.Statuses.{end_of};
+ghost use Rattle.dm_state.specs.State.{HasProgram};
 
 use crate::assembling::{asm, disasm};
 use crate::checking::check;
@@ -15,7 +17,7 @@ use crate::files::Storage;
 use crate::loading::loaded;
 use crate::messages::{Messages, print, print_fault, stop_line};
 use crate::output::run_program;
-use dm_machine::{Out, Stop};
+use dm_machine::{Machine, Out, Stop};
 use dm_options::command_line::{MachineOptions, Options, OptionsError};
 use dm_options::{not_unicode, options};
 use std::alloc::Global;
@@ -31,6 +33,21 @@ const STOPPED: u8 = 125;
 /// The status of a wrong command line or a call for help.
 const USAGE: u8 = 2;
 
+/// Runs a machine, and writes its output at the end.
+fn run_machine<W: Out>(
+    machine: &mut Machine,
+    steps: u64,
+    out: &mut W,
+) -> Result<Stop, Fault<'static>>
+    requires { HasProgram machine.old }
+    ensures { RunsMachine machine.old steps (W.taken out.old) (W.taken out.new) (W.failures out.old) (W.failures out.new) result }
+{
+    match run_program(machine, steps, out) {
+        Ok(stop) => Ok(stop),
+        Err(_) => Err(Fault::CannotWrite("standard output")),
+    }
+}
+
 /// `dm run`: runs the first file, and writes its output at the end.
 fn run<'a, F: Storage, I: Read + Drop, W: Out>(
     alloc: Global,
@@ -42,10 +59,7 @@ fn run<'a, F: Storage, I: Read + Drop, W: Out>(
     ensures { Runs (F.contents storage.now) (I.remaining input) options.now (W.taken out.old) (W.taken out.new) (W.failures out.old) (W.failures out.new) result }
 {
     let mut machine = loaded(alloc, storage, options, input)?;
-    match run_program(&mut machine, options.steps, out) {
-        Ok(stop) => Ok(stop),
-        Err(_) => Err(Fault::CannotWrite("standard output")),
-    }
+    run_machine(&mut machine, options.steps, out)
 }
 
 /// The status of a run that ended with a stop: the program's exit code, or 125.

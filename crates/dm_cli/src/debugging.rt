@@ -5,7 +5,7 @@ ghost use Rattle.std.specs.Io.KnownBytes.{Appends};
 ghost use Rattle.dm_out.specs.Out.{AppendsPart, HasFailed};
 ghost use Rattle.dm_cli.specs.inner.Statuses.{end_of};
 ghost use Rattle.dm_cli.specs.Debugging.{Debugs, IsConversation, IsQuit};
-ghost use Rattle.dm_cli.specs.inner.Debugging.{IsAnsweredBy, IsUnanswered, Reads};
+ghost use Rattle.dm_cli.specs.inner.Debugging.{ConversesWith, IsAnsweredBy, IsUnanswered, Reads};
 ghost use Rattle.dm_cli.specs.Faults.{IsReadFault, IsWriteFault};
 
 use crate::fault::Fault;
@@ -154,6 +154,21 @@ fn converse<R: BufRead, W: Out>(
     Ok(())
 }
 
+/// Does the lines of a reader, through a buffer.
+fn converse_with<I: Read + Drop, W: Out>(
+    alloc: Global,
+    session: &mut Session,
+    commands: I,
+    out: &mut W,
+) -> Result<(), Fault<'static>>
+    ensures { ConversesWith (I.remaining commands) session.old session.new (W.taken out.old) (W.taken out.new) (W.failures out.old) (W.failures out.new) (end_of result) }
+{
+    let Ok(mut commands) = BufReader::new(alloc, commands.take(MOST_BYTES as u64 + 1)) else {
+        return Err(Fault::OutOfMemory);
+    };
+    converse(alloc, session, &mut commands, out)
+}
+
 /// `dm debug`: loads the first file, and does the commands as they are read.
 pub(crate) fn debug<'a, F: Storage, I: Read + Drop, W: Out>(
     alloc: Global,
@@ -166,8 +181,5 @@ pub(crate) fn debug<'a, F: Storage, I: Read + Drop, W: Out>(
 {
     let machine = loaded_for_debug(alloc, storage, options)?;
     let mut session = Session::new(machine);
-    let Ok(mut commands) = BufReader::new(alloc, commands.take(MOST_BYTES as u64 + 1)) else {
-        return Err(Fault::OutOfMemory);
-    };
-    converse(alloc, &mut session, &mut commands, out)
+    converse_with(alloc, &mut session, commands, out)
 }

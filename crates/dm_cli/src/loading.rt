@@ -1,5 +1,6 @@
 //! The machine that a command begins with.
-ghost use Rattle.std.specs.Prelude.{Some, IfErr, IfOk, IsSomeAnd, OnOk, codes, map, option_map};
+ghost use Rattle.std.specs.Prelude.{◌≡◌, Some, IfErr, IfOk, IsSomeAnd, OnOk, codes, map, option_map};
+ghost use Rattle.dm_cli.specs.inner.Starting.{IsFirstFault, IsFirstLoaded};
 ghost use Rattle.dm_cli.specs.Starting.{IsFileFault, IsMachineFault, IsStartFault, IsStartedBy, paths_of, sizes_of, typed_in};
 ghost use Rattle.dm_cli.specs.Stores.{AddsFile, IsBegun, IsFaultOf, IsInputFault, IsRead, Stores, bytes_if_any};
 ghost use Rattle.dm_state.specs.State.{HasProgram};
@@ -52,6 +53,22 @@ fn read_programs<'a, F: Storage>(
     Ok(programs)
 }
 
+/// Loads the first file, with the tail.
+fn load_first<'a>(machine: &mut Machine, options: &MachineOptions<'a>) -> Result<(), Fault<'a>>
+    requires fresh { machine.old.processes.present ≡ 0 }
+    ensures ok { OnOk result (IsFirstLoaded machine.old (paths_of options.now) options.now.tail.now machine.new) }
+    ensures fault { IfErr result (IsFirstFault machine.old options.now) }
+    ensures loaded { OnOk result (HasProgram machine.new) }
+{
+    let tail = options.tail.as_bytes();
+    if tail.len() > MOST_TAIL_BYTES {
+        return Err(Fault::TailTooLong);
+    }
+    let first = options.files.first().ok_or(Fault::NotFound)?;
+    machine.load(program_name(first)?, tail)?;
+    Ok(())
+}
+
 /// A machine over a store and an input, with the first file loaded.
 fn begun<'a>(
     alloc: Global,
@@ -72,12 +89,7 @@ fn begun<'a>(
         upper: options.upper,
     };
     let mut machine = Machine::new(alloc, config, programs, input)?;
-    let tail = options.tail.as_bytes();
-    if tail.len() > MOST_TAIL_BYTES {
-        return Err(Fault::TailTooLong);
-    }
-    let first = options.files.first().ok_or(Fault::NotFound)?;
-    machine.load(program_name(first)?, tail)?;
+    load_first(&mut machine, options)?;
     Ok(machine)
 }
 

@@ -1,5 +1,5 @@
 -- For private contracts and proofs alone: beside specs/Debugging.antt.
-use Rattle.std.specs.Prelude.{ℕ, ◌≡◌, false, List, Option, OnSome}
+use Rattle.std.specs.Prelude.{ℕ, ◌≡◌, false, List, Option, Some, OnSome}
 use Rattle.std.specs.Io.{StopsAt}
 use Rattle.std.specs.Io.BufRead.{ends_with_byte}
 use Rattle.std.specs.Io.KnownBytes.{Appends, Consumes, IsAtEnd, Keeps}
@@ -9,7 +9,7 @@ use Rattle.dm_out.specs.Out.{AppendsPart, HasFailed}
 use Rattle.dm_cli.specs.Faults.{IsWriteFault}
 use Rattle.dm_cli.specs.declared.fault.Fault.{Fault}
 use Rattle.dm_cli.specs.declared.fault.Fault.TheVariants.{OutOfMemory}
-use Rattle.dm_cli.specs.Debugging.{Tells}
+use Rattle.dm_cli.specs.Debugging.{IsConversation, Tells}
 
 -- a reader gave the next line: bytes of which none but the last is a line end, and that one is unless nothing is left,
 -- where that is known
@@ -30,3 +30,8 @@ pub data IsUnanswered (s : Debugged) (line : List ℕ) (t : Debugged) (before af
   cut_short : IsCutOff s line t → Keeps before after → failures ≡ opened → IsUnanswered s line t before after opened failures OutOfMemory
   partly : (text : List ℕ) (fault : Fault) → Tells s line t text → AppendsPart before after text → HasFailed opened failures → IsWriteFault fault → IsUnanswered s line t before after opened failures fault
   unflushed : (text : List ℕ) (fault : Fault) → Tells s line t text → Appends before after text → HasFailed opened failures → IsWriteFault fault → IsUnanswered s line t before after opened failures fault
+
+-- a reader's lines were read through a buffer, of at most 16 MiB in all; or memory for the buffer was refused
+pub data ConversesWith (typed : Option (List ℕ)) (s t : Debugged) (before after : Option (List ℕ)) (opened failures : ℕ) : Option Fault → Type 0 where
+  through_buffer : (end : Option Fault) → IsConversation 16777216 typed s t before after opened failures end → ConversesWith typed s t before after opened failures end
+  without_buffer : Keeps before after → failures ≡ opened → ConversesWith typed s t before after opened failures (Some OutOfMemory)

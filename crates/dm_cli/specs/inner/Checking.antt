@@ -1,0 +1,26 @@
+-- For private contracts and proofs alone: beside specs/Checking.antt.
+use Rattle.std.specs.Prelude.{ℕ, ◌≡◌, ◌++◌, List, Option, Result, Ok, Err}
+use Rattle.std.specs.Io.KnownBytes.{Appends, Keeps}
+use Rattle.dm_out.specs.Out.{AppendsPart, HasFailed}
+use Rattle.dm_state.specs.declared.stop.Stop.{Stop}
+use Rattle.dm_state.specs.State.{State}
+use Rattle.dm_machine.specs.Run.{IsRun}
+use Rattle.dm_findings.specs.Report.{Reported}
+use Rattle.dm_reports.specs.Reports.{report_text}
+use Rattle.dm_checker.specs.Checks.{IsReport}
+use Rattle.dm_cli.specs.declared.fault.Fault.{Fault}
+use Rattle.dm_cli.specs.declared.fault.Fault.TheVariants.{OutOfMemory}
+use Rattle.dm_cli.specs.Faults.{IsWriteFault}
+use Rattle.dm_cli.specs.Messages.{Stream, Prints, stop_text}
+use Rattle.dm_cli.specs.Checking.{checked_status}
+
+-- `dm check` from its machine on: the status of the run, after its output and its report were written; or a fault of
+-- the output or of memory
+pub data ChecksRun (m : State) (steps : ℕ) (before after : Option (List ℕ)) (failed_before failed_after : ℕ) (error_before error_after : Stream) : Result ℕ Fault → Type 0 where
+  run_checked : (t : State) (stop : Stop) (report : Reported) (status : ℕ) → IsRun m steps stop t → IsReport m steps stop t report
+      → Appends before after t.console.output → failed_after ≡ failed_before → Prints (report_text report ++ stop_text stop) error_before error_after → status ≡ checked_status report stop
+      → ChecksRun m steps before after failed_before failed_after error_before error_after (Ok status)
+  output_cut : (t : State) (stop : Stop) (report : Reported) (fault : Fault) → IsRun m steps stop t → IsReport m steps stop t report
+      → AppendsPart before after t.console.output → HasFailed failed_before failed_after → IsWriteFault fault
+      → ChecksRun m steps before after failed_before failed_after error_before error_after (Err fault)
+  no_report : Keeps before after → failed_after ≡ failed_before → ChecksRun m steps before after failed_before failed_after error_before error_after (Err OutOfMemory)
