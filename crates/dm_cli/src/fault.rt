@@ -5,7 +5,7 @@ use dm_asm::AssemblyRefusal;
 use dm_machine::{AddError, LoadError, NewError};
 
 /// A fault of a command. `report_fault` prints it, and the status is 126.
-#[derive(Clone, Copy, Debug, PartialEq, Eq)]
+#[derive(Clone, Copy)]
 pub(crate) enum Fault<'a> {
     CannotRead(&'a str),
     CannotWrite(&'a str),
