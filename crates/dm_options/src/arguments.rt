@@ -1,6 +1,6 @@
 //! The commands and arguments of `dm`, as `clap` is given them.
-ghost use Rattle.std.specs.Prelude.{◌≡◌, IfOk, false};
-ghost use Rattle.clap.specs.Words.{app_of, rule_of};
+ghost use Rattle.std.specs.Prelude.{◌≡◌, IfOk, IsOk, OnOk, false};
+ghost use Rattle.clap.specs.Words.{app_of, rule_of, with_subcommand};
 ghost use Rattle.dm_options.specs.Arguments.{asm_app, check_app, debug_app, disasm_app, dm_app, ems_rule, files_rule, input_rule, path_rule, run_app, steps_rule, tail_rule, upper_rule, with_machine_rules, xms_rule};
 ghost use Rattle.clap.specs.declared.Command.TheViews.{out-Command as fields_of};
 
@@ -181,20 +181,32 @@ fn disasm_command<'a>(alloc: Global) -> Result<Command<'a>, AllocError>
         .arg(path_arg(alloc, "in", "IN", "The COM file, at most 65278 bytes"))
 }
 
+/// Adds a subcommand, if it was made.
+fn with_made<'a>(
+    command: Command<'a>,
+    made: Result<Command<'a>, AllocError>,
+) -> Result<Command<'a>, AllocError>
+    ensures made { OnOk result (IsOk made.entry) }
+    ensures app { IfOk result (λ c. IfOk made.entry (λ s. (fields_of s).has_globals ≡ false
+        → app_of c ≡ with_subcommand (app_of command.entry) (app_of s).top)) }
+{
+    command.subcommand(made?)
+}
+
 /// The command `dm` with its subcommands, of which a line must name one.
 pub(crate) fn dm_command<'a>(alloc: Global) -> Result<Command<'a>, AllocError>
     ensures { IfOk result (λ c. app_of c ≡ dm_app) }
 {
-    Command::new(alloc, "dm")
+    let command = Command::new(alloc, "dm")
         .about(
             "Runs, debugs, checks, assembles and disassembles MS-DOS programs on an emulated Intel 8086 PC with EMS and XMS memory",
         )
         .version(VERSION)
         .after_help("Example: dm run HELLO.COM")
-        .subcommand_required(true)
-        .subcommand(run_command(alloc)?)?
-        .subcommand(debug_command(alloc)?)?
-        .subcommand(check_command(alloc)?)?
-        .subcommand(asm_command(alloc)?)?
-        .subcommand(disasm_command(alloc)?)
+        .subcommand_required(true);
+    let command = with_made(command, run_command(alloc))?;
+    let command = with_made(command, debug_command(alloc))?;
+    let command = with_made(command, check_command(alloc))?;
+    let command = with_made(command, asm_command(alloc))?;
+    with_made(command, disasm_command(alloc))
 }

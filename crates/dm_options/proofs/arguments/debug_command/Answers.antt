@@ -1,4 +1,4 @@
-use Rattle.std.proofs.Common.{Bool, false, ◌||◌, ap, ap₂, rules, ◌∙◌}
+use Rattle.std.proofs.Common.{Bool, ◌||◌, ap, ap₂, rules, ◌∙◌}
 use Rattle.std.proofs.lemmas.Result.{IfOk-weaker}
 use Rattle.std.specs.Prelude.{codes}
 use Rattle.clap.specs.Words.{new_app, with_rule}

@@ -1,17 +1,18 @@
-use Rattle.std.proofs.Common.{◌≡◌, ap, ap₂, rules, ◌∙◌}
+use Rattle.std.proofs.Common.{◌≡◌, ap, rules, ◌∙◌}
 use Rattle.std.proofs.lemmas.Result.{IfOk-weaker}
 use Rattle.clap.specs.Words.{App, app_of, with_subcommand}
-use Rattle.dm_options.specs.Arguments.{named_app, dm_app}
+use Rattle.dm_options.specs.Arguments.{asm_app, check_app, debug_app, disasm_app, dm_app, named_app, run_app}
+use Rattle.dm_options.proofs.Made.{app_with, app_with_last}
 use Rattle.dm_options.proofs.arguments.dm_command.Goals as goal
 
 pub returns : goal.returns
 unfolding dm_app
 returns c =
-    let named : app_of c.subcommand_required.result ≡ named_app = search rules in
-    let top = λ (a : App). a.top in
-    let run = c.in_ok-subcommand.ensures.shape c.in_ok-run_command.ensures.local ∙ ap₂ with_subcommand named (ap top c.in_ok-run_command.ensures.app) in
-    let debug = c.in_ok-subcommand-2.ensures.shape c.in_ok-debug_command.ensures.local ∙ ap₂ with_subcommand run (ap top c.in_ok-debug_command.ensures.app) in
-    let check = c.in_ok-subcommand-3.ensures.shape c.in_ok-check_command.ensures.local ∙ ap₂ with_subcommand debug (ap top c.in_ok-check_command.ensures.app) in
-    let asm = c.in_ok-subcommand-4.ensures.shape c.in_ok-asm_command.ensures.local ∙ ap₂ with_subcommand check (ap top c.in_ok-asm_command.ensures.app) in
-    IfOk-weaker c.subcommand-5.result _ _
-    (λ r h. h.shape c.in_ok-disasm_command.ensures.local ∙ ap₂ with_subcommand asm (ap top c.in_ok-disasm_command.ensures.app)) c.subcommand-5.ensures
+    let named : app_of c.subcommand_required-command.result ≡ named_app = search rules in
+    let on = λ (s a b : App) (e : a ≡ b). ap (λ t. with_subcommand t s.top) e in
+    let run = app_with _ _ run_app (app_of c.subcommand_required-command.result) c.in_ok-command.ensures.made c.run_command.ensures.app c.run_command.ensures.local c.in_ok-command.ensures.app ∙ on run_app _ _ named in
+    let debug = app_with _ _ debug_app (app_of c.in_ok-command.command) c.in_ok-command-2.ensures.made c.debug_command.ensures.app c.debug_command.ensures.local c.in_ok-command-2.ensures.app ∙ on debug_app _ _ run in
+    let check = app_with _ _ check_app (app_of c.in_ok-command-2.command) c.in_ok-command-3.ensures.made c.check_command.ensures.app c.check_command.ensures.local c.in_ok-command-3.ensures.app ∙ on check_app _ _ debug in
+    let asm = app_with _ _ asm_app (app_of c.in_ok-command-3.command) c.in_ok-command-4.ensures.made c.asm_command.ensures.app c.asm_command.ensures.local c.in_ok-command-4.ensures.app ∙ on asm_app _ _ check in
+    IfOk-weaker c.with_made-5.result _ _ (λ r h. h ∙ on disasm_app _ _ asm)
+    (app_with_last _ _ disasm_app (app_of c.in_ok-command-4.command) c.with_made-5.ensures.made c.disasm_command.ensures.app c.disasm_command.ensures.local c.with_made-5.ensures.app)

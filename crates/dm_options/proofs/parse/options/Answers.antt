@@ -1,6 +1,6 @@
 use Rattle.std.proofs.Common.{◌≡◌, ◌∙◌, [], Option, List, map, refl, ap, subst, true, inl, inr}
 use Rattle.std.specs.Prelude.{IsSomeAnd}
-use Rattle.clap.specs.Words.{App, Row, Text, fault_of, HasKind, is_simple, is_simple_and_free, subcommand_of, subcommand_rows_of}
+use Rattle.clap.specs.Words.{App, Row, Text, fault_of, HasKind, is_simple, is_simple_and_free, subcommand_of}
 use Rattle.clap.proofs.OnLiterals.{clap_on_literals}
 use Rattle.dm_options.specs.Arguments.{dm_app}
 use Rattle.dm_options.specs.Options.{HasOptions}
