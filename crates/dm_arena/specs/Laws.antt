@@ -51,7 +51,7 @@ abbrev pub IgnoresUnseen : Type 0
 IgnoresUnseen = (change : Memory → Memory) → IsUnseen change → CallsIgnoreUnseen change
 
 -- where upper memory doesn't belong to the arena: each block without an owner is free, each strategy looks at all
--- blocks, no block is the link block's, and no second list goes with the first
+-- blocks, no block is the link block's, and there is no second list beside the first
 pub record IsConventional : Type 0 where
   pub free : (b : Header) → is_free false b ≡ (b.owner == 0)
   pub whole : (L : List Header) (strategy : Strategy) (b : Header) → is_candidate false (in_effect false L strategy) b ≡ (b.owner == 0)

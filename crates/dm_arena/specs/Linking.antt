@@ -30,8 +30,8 @@ pub record IsSo (S : Memory) (on : Bool) (T : Memory) : Type 0 where
   pub is : is_linked list ≡ on
   pub same : T ≡ S
 
--- the first list, which ends at the link block's header, goes on with the second; the first followed by the second is
--- clear
+-- the first list, not linked, ends at the link block's header and goes on with the second; the first followed by the
+-- second is clear, and they share no header
 pub record BecomesLinked (S T : Memory) : Type 0 where
   pub first : List Header
   pub second : List Header

@@ -1,4 +1,4 @@
-//! The list with each run of free blocks made one.
+//! Lists of blocks with each run of free blocks joined: read header by header, or written back to memory.
 ghost use Rattle.std.specs.Prelude.{◌≡◌, ℕ, ◌+◌, ◌≤◌, List};
 ghost use Rattle.dm_blocks.specs.declared.header.Header.{Header};
 ghost use Rattle.dm_blocks.specs.Chain.{first_header, next, IsArena};
@@ -9,8 +9,8 @@ use crate::writing::write_header;
 use dm_blocks::{Entry, FIRST, entry_at};
 use dm_space::Space;
 
-/// The header at a segment from which a list is spelled, its block joined with the free blocks
-/// after it if it is free itself.
+/// The header at a segment from which a list is spelled. If its block is free, it takes in the free blocks right after
+/// it. Nothing is written. With `upper`, upper memory belongs to the arena, and the link block counts as taken.
 pub(crate) fn joined_at(space: &Space, segment: u16, upper: bool) -> Entry
     requires { (L : List Header) × IsSpelledFrom space.now.memory segment L }
     ensures there { result.header.segment ≡ segment }

@@ -16,7 +16,7 @@ abbrev pub find : Name'.Name → List Label → Option ℕ
 find name [] = None
 find name (l ∷ ls) = if bytes_eq l.name.bytes name.bytes then Some l.place else find name ls
 
--- where the label of a value stands; a number alone needs none
+-- where the label of that name stands, None where there is none; 0 without a name
 abbrev pub place_from : List Label → Option Name'.Name → Option ℕ
 place_from labels None = Some 0
 place_from labels (Some name) = find name labels

@@ -45,7 +45,7 @@ impl Labels {
         }
     }
 
-    /// Where the label of a value stands; a number alone needs none.
+    /// Where the label of a value stands, None where no line has it; 0 for a number alone.
     pub(crate) fn place_of(&self, value: &Value) -> Option<u128>
         ensures place { (labels : List Label) → AreKept self.now labels → result ≡ place_at labels value.now }
         ensures near { AreNear self.now → IfSome result (λ place. place < 2 ^ 16) }

@@ -34,7 +34,7 @@ is_link upper h = upper && (h == link_header)
 abbrev pub is_free : Bool → Header → Bool
 is_free upper b = not (is_link upper b.segment) && (b.owner == 0)
 
--- memory has the header b with this signature, in five bytes
+-- memory has the header b with this signature, in five bytes, and the segment after its block is FFFFh at most
 pub record IsHeader (S : Memory) (b : Header) (signature : ℕ) : Type 0 where
   pub fits : b.segment + 1 + b.size ≤ 0xFFFF
   pub bytes : (k : ℕ) → k < 5 → peek S (16 * b.segment + k) < 256
@@ -61,7 +61,7 @@ abbrev pub Spells : Memory → ℕ → List Header → Type 0
 Spells S h [] = Unit {0}
 Spells S h (b ∷ L) = (b.segment ≡ h) × IsHeader S b (signature L) × Spells S (next b) L
 
--- memory spells the list L from segment start on
+-- memory spells the list L from segment start on, and L has a header (`Spells` holds of no header, too)
 abbrev pub IsChain : Memory → ℕ → List Header → Type 0
 IsChain S start L = IsNonEmpty L × Spells S start L
 
@@ -75,7 +75,7 @@ abbrev pub is_linked : List Header → Bool
 is_linked [] = false
 is_linked (b ∷ L) = (b.segment == link_header) || is_linked L
 
--- the second list does not go with the first: upper memory belongs to the arena, and the first list isn't linked
+-- the second list is a list by itself: upper memory belongs to the arena, and the first list isn't linked
 abbrev pub is_parted : Bool → List Header → Bool
 is_parted upper L = upper && not (is_linked L)
 
@@ -89,7 +89,7 @@ pub record IsClear (S : Memory) (L : List Header) : Type 0 where
   pub writable : (h : ℕ) → HasHeader L h → IsWritable (place S (16 * h))
   pub apart : (h g : ℕ) → HasHeader L h → HasHeader L g → place S (16 * h) ≡ place S (16 * g) → h ≡ g
 
--- the arena from segment start on is the list L
+-- the arena from segment start on is the list L: memory spells it, and it is clear
 abbrev pub IsArena : Memory → ℕ → List Header → Type 0
 IsArena S start L = IsChain S start L × IsClear S L
 
@@ -101,7 +101,7 @@ NoArena S start = (L : List Header) → IsArena S start L → ⊥
 abbrev pub AreApart : List Header → List Header → Type 0
 AreApart L U = (h : ℕ) → HasHeader L h → HasHeader U h → ⊥
 
--- memory spells the list U from segment start on, and L followed by U is clear
+-- memory spells the list U from segment start on, L followed by U is clear, and no segment has a header of both
 abbrev pub IsArenaBehind : Memory → List Header → ℕ → List Header → Type 0
 IsArenaBehind S L start U = IsChain S start U × IsClear S (L ++ U) × AreApart L U
 

@@ -11,7 +11,7 @@ use crate::header::{Entry, header_at};
 use crate::listing::{Headers, Step, walk};
 use dm_space::Space;
 
-/// The segment of the list's first header.
+/// The segment of the first list's first header.
 pub const FIRST: u16 = 0x100;
 /// The segment of the link block's header, from which the second list is spelled.
 pub const LINK: u16 = 0x9FFF;

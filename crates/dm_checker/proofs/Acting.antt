@@ -9,11 +9,10 @@ use Rattle.dm_exec.specs.declared.effect.Next.TheVariants.{Go, Halt}
 use Rattle.dm_exec.specs.Effect.{effect, next_of}
 use Rattle.dm_state.specs.declared.stop.Stop.TheVariants.{Exited, Halted, Unlisted}
 use Rattle.dm_state.specs.State.{State, Answer}
-use Rattle.dm_services.specs.declared.services.Service.{Service}
-use Rattle.dm_services.specs.Services.{service_at}
-use Rattle.dm_drivers.specs.declared.drivers.Driver.{Driver}
-use Rattle.dm_drivers.specs.Drivers.{driver_at}
-use Rattle.dm_machine.specs.Step.{MakesStep, ActsUnlessEnded, Acts, Drives, Instructs, listed, unlisted, fetched, after}
+use Rattle.dm_space.specs.declared.entry_points.EntryPoint.{EntryPoint}
+use Rattle.dm_space.specs.declared.entry_points.EntryPoint.TheVariants as entry_point
+use Rattle.dm_space.specs.EntryPoints.{entry_point_at}
+use Rattle.dm_machine.specs.Step.{MakesStep, ActsUnlessEnded, Acts, Instructs, listed, unlisted, fetched, after}
 use Rattle.dm_ins.specs.Ins.{BeginsWith}
 use Rattle.dm_machine.specs.Run.{Answers}
 use Rattle.dm_findings.specs.declared.calls.Call.{Call}
@@ -49,14 +48,14 @@ nothing_acts b o none d e s h = record {
 -- ---- steps in which nothing acts
 
 -- an answer that comes where no call is served
-uncalled : (s : State) (x : Answer) (o : Option Service) (d : Option Driver) → driver_at s.cpu ≡ d → call_by s.cpu o d ≡ None → Acts s o x → Instructs s x
-uncalled s x (Some service) d e none h = absurd (some_none _ none)
-uncalled s x None (Some driver) e none h = absurd (some_none _ none)
-uncalled s x None None e none h = (let F : Option Driver → Type 0 = λ d. Drives s d x in subst F e h)
+uncalled : (s : State) (x : Answer) (o : Option EntryPoint) → call_by s.cpu o ≡ None → Acts s o x → Instructs s x
+uncalled s x (Some (entry_point.Service service)) none h = absurd (some_none _ none)
+uncalled s x (Some (entry_point.Driver driver)) none h = absurd (some_none _ none)
+uncalled s x None none h = h
 
-pub uncalled_acts : (s : State) (x : Answer) → call_of s.cpu ≡ None → Acts s (service_at s.cpu) x → Instructs s x
+pub uncalled_acts : (s : State) (x : Answer) → call_of s.cpu ≡ None → Acts s (entry_point_at s.cpu.cs s.cpu.ip) x → Instructs s x
 unfolding call_of
-uncalled_acts s x none h = uncalled s x (service_at s.cpu) (driver_at s.cpu) refl none h
+uncalled_acts s x none h = uncalled s x (entry_point_at s.cpu.cs s.cpu.ip) none h
 
 unlisted_acts : (s t : State) → ((i : Ins) (k : ℕ) → BeginsWith (fetched s.memory s.cpu) i k → ⊥) → Instructs s (record { stop = None; state = t }) → ⊥
 unlisted_acts s t none (listed i k b e) = none i k b

@@ -4,8 +4,8 @@ use Rattle.dm_ems_calls.proofs.Keeping as expanded_memory
 use Rattle.dm_xms_calls.proofs.Keeping as extended_memory
 use Rattle.dm_state.specs.State.{State, AreConsistent, go}
 use Rattle.dm_state.proofs.Consistent.{expanded_changed, extended_changed, returned_consistent, far_returned_consistent}
-use Rattle.dm_drivers.specs.declared.drivers.Driver.{Driver}
-use Rattle.dm_drivers.specs.declared.drivers.Driver.TheVariants.{ExpandedMemory, Multiplex, ExtendedMemory}
+use Rattle.dm_space.specs.declared.entry_points.Driver.{Driver}
+use Rattle.dm_space.specs.declared.entry_points.Driver.TheVariants.{ExpandedMemory, Multiplex, ExtendedMemory}
 use Rattle.dm_drivers.specs.Drivers.{expanded_caller, extended_caller, acted, given_back, driven}
 use Rattle.dm_drivers.specs.Laws.{LeavesTheRest, DriversKeep}
 

@@ -1,22 +1,13 @@
--- The drivers, and the addresses where they act, which are this machine's own. Interrupt vector 67h points to the
--- expanded memory driver, vector 2Fh to the multiplex handler, which returns the address of the extended memory driver.
-use Rattle.std.specs.Prelude.{◌==◌, if◌then◌else◌, Option, Some, None}
-use Rattle.dm_space.specs.EntryPoints.{entry_segment, expanded_memory_segment, multiplex_offset, expanded_memory_offset, extended_memory_offset}
-use Rattle.dm_cpu.specs.declared.cpu.Cpu.{Cpu}
+-- The drivers: what each does, and how it returns. Interrupt vector 67h points to the expanded memory driver (LIM EMS
+-- 4.0), vector 2Fh to the multiplex handler, which returns the address of the extended memory driver (XMS 3.0).
 use Rattle.dm_ems_calls.specs.Caller as expanded
 use Rattle.dm_ems_calls.specs.Functions as expanded_memory
 use Rattle.dm_xms_calls.specs.Caller as extended
 use Rattle.dm_xms_calls.specs.Functions as extended_memory
 use Rattle.dm_state.specs.State.{State, Answer, go, interrupt_returned, far_returned}
-use Rattle.dm_drivers.specs.declared.drivers.Driver.{Driver}
-use Rattle.dm_drivers.specs.declared.drivers.Driver.TheVariants.{ExpandedMemory, Multiplex, ExtendedMemory}
+use Rattle.dm_space.specs.declared.entry_points.Driver.{Driver}
+use Rattle.dm_space.specs.declared.entry_points.Driver.TheVariants.{ExpandedMemory, Multiplex, ExtendedMemory}
 use Rattle.dm_drivers.specs.Multiplex.{multiplex_reply}
-
--- the driver that acts at CS:IP; another segment and offset of the same address is no entry point
-unfoldable pub driver_at : Cpu → Option Driver
-driver_at c =
-    if c.cs == expanded_memory_segment then (if c.ip == expanded_memory_offset then Some ExpandedMemory else None) else
-    if c.cs == entry_segment then (if c.ip == multiplex_offset then Some Multiplex else if c.ip == extended_memory_offset then Some ExtendedMemory else None) else None
 
 -- what the expanded memory driver acts on: the caller's registers, the driver's tables, and memory
 abbrev pub expanded_caller : State → expanded.Caller

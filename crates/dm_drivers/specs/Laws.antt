@@ -7,7 +7,7 @@ use Rattle.dm_ems.specs.Coming.{HasPages}
 use Rattle.dm_ems_move.specs.declared.reallocation.Reallocated.{Reallocated}
 use Rattle.dm_ems_move.specs.Reallocation.{reallocate}
 use Rattle.dm_state.specs.State.{State, Answer, AreConsistent}
-use Rattle.dm_drivers.specs.declared.drivers.Driver.{Driver}
+use Rattle.dm_space.specs.declared.entry_points.Driver.{Driver}
 use Rattle.dm_drivers.specs.Drivers.{driven}
 
 -- no stop comes, and the console, the processes, the strategy, the programs, their variables and the sizes are as they

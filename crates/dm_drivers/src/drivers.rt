@@ -1,41 +1,13 @@
-//! The drivers, and where they act.
+//! What each driver does, and how it returns.
 ghost use Rattle.std.specs.Prelude.{◌≡◌};
 ghost use Rattle.dm_state.specs.State.{AreConsistent};
-ghost use Rattle.dm_drivers.specs.Drivers.{driver_at, driven, acted, given_back};
+ghost use Rattle.dm_drivers.specs.Drivers.{driven, acted, given_back};
 
 use crate::multiplex::multiplex_call;
-use dm_cpu::Cpu;
 use dm_ems_calls::expanded_memory_call;
-use dm_space::entry_points::{
-    ENTRY_SEGMENT, EXPANDED_MEMORY_OFFSET, EXPANDED_MEMORY_SEGMENT, EXTENDED_MEMORY_OFFSET,
-    MULTIPLEX_OFFSET,
-};
+use dm_space::entry_points::Driver;
 use dm_state::Parts;
 use dm_xms_calls::extended_memory_call;
-
-/// What acts in place of the code at a CS:IP pair.
-#[derive(Clone, Copy, Debug, PartialEq, Eq)]
-pub enum Driver {
-    /// INT 67h, expanded memory.
-    ExpandedMemory,
-    /// INT 2Fh, which returns the entry point of the extended memory driver.
-    Multiplex,
-    /// Extended memory, by a far call.
-    ExtendedMemory,
-}
-
-/// The driver at CS:IP, if there is one. Another spelling of its linear address is none.
-#[tactic(auto, unfolding(crate::specs::Drivers::driver_at))]
-pub fn driver_at(cpu: &Cpu) -> Option<Driver>
-    ensures { result ≡ driver_at cpu.now }
-{
-    match (cpu.cs, cpu.ip) {
-        (EXPANDED_MEMORY_SEGMENT, EXPANDED_MEMORY_OFFSET) => Some(Driver::ExpandedMemory),
-        (ENTRY_SEGMENT, MULTIPLEX_OFFSET) => Some(Driver::Multiplex),
-        (ENTRY_SEGMENT, EXTENDED_MEMORY_OFFSET) => Some(Driver::ExtendedMemory),
-        _ => None,
-    }
-}
 
 /// Does what the driver's call asks for.
 fn act(parts: &mut Parts, driver: Driver)

@@ -6,5 +6,5 @@ mod drivers;
 mod laws;
 mod multiplex;
 
-pub use drivers::{Driver, drive, driver_at};
+pub use drivers::drive;
 pub use laws::{drivers_keep, pages_come};

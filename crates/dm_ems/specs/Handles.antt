@@ -22,10 +22,10 @@ deallocate x handle =
     if is_some s.saved then Err ContextSaved else
     Ok (tt, with_slot (cut x handle 0) handle (if handle == 0 then Some blank else None)))
 
--- the handles in use
+-- the number of handles in use
 abbrev pub in_use : Expanded → ℕ
 in_use x = count_by is_some x.ems.handles
 
--- the pages of a handle
+-- the number of pages of a handle
 unfoldable pub count_pages : Expanded → ℕ → Result ℕ Status
 count_pages x handle = need (slot x handle) UnknownHandle (λ s. Ok (page_count x.ems handle))

@@ -104,8 +104,8 @@ impl Ems {
         entries
     }
 
-    /// Writes the number of each handle in use and of its pages, two words each, at segment:offset, and returns how
-    /// many handles there are.
+    /// Writes two words at segment:offset for each handle in use, the handle and its number of pages, and returns how
+    /// many handles are in use.
     #[tactic(auto, unfolding(crate::specs::Names::list_pages))]
     pub fn list_pages(&self, space: &mut Space, segment: u16, offset: u16) -> u16
         ensures answer { result ≡ (list_pages (expanded self.now space.old.memory) segment offset).0 }

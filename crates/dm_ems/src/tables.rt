@@ -158,6 +158,7 @@ impl Ems {
         &self.handles
     }
 
+    /// Gives a handle another entry; with None it is not in use.
     pub(crate) fn set_slot(&mut self, handle: u16, slot: Option<Handle>)
         requires { handle < 64 }
         ensures { self.new ≡ record self.old { handles = slice_set self.old.handles handle slot } }

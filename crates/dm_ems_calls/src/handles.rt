@@ -11,7 +11,7 @@ use dm_cpu::Cpu;
 use dm_ems::Ems;
 use dm_space::Space;
 
-/// 42h: BX becomes the pages that no handle has, DX all pages.
+/// 42h: BX becomes the number of pages that can still be allocated, DX that of all pages.
 #[tactic(auto, unfolding(crate::specs::Handles::tell_pages))]
 pub(crate) fn tell_pages(cpu: &mut Cpu, ems: &Ems, space: &Space)
     ensures { caller cpu.new ems.now space.now.memory ≡ tell_pages (caller cpu.old ems.now space.now.memory) }
@@ -40,7 +40,7 @@ pub(crate) fn deallocate(cpu: &mut Cpu, ems: &mut Ems, space: &mut Space)
     settle(cpu, res);
 }
 
-/// 4Bh: BX becomes the handles in use.
+/// 4Bh: BX becomes the number of handles in use, handle 0 among them.
 #[tactic(auto, unfolding(crate::specs::Handles::count_handles))]
 pub(crate) fn count_handles(cpu: &mut Cpu, ems: &Ems, space: &Space)
     ensures { caller cpu.new ems.now space.now.memory ≡ count_handles (caller cpu.old ems.now space.now.memory) }
@@ -49,7 +49,7 @@ pub(crate) fn count_handles(cpu: &mut Cpu, ems: &Ems, space: &Space)
     succeed(cpu);
 }
 
-/// 4Ch: BX becomes the pages of the handle in DX.
+/// 4Ch: BX becomes the number of pages of the handle in DX.
 #[tactic(auto, unfolding(crate::specs::Handles::count_pages))]
 pub(crate) fn count_pages(cpu: &mut Cpu, ems: &Ems, space: &Space)
     ensures { caller cpu.new ems.now space.now.memory ≡ count_pages (caller cpu.old ems.now space.now.memory) }
@@ -58,7 +58,8 @@ pub(crate) fn count_pages(cpu: &mut Cpu, ems: &Ems, space: &Space)
     settle_bx(cpu, res);
 }
 
-/// 4Dh: writes the handles in use and their pages at ES:DI; BX becomes their number.
+/// 4Dh: writes two words at ES:DI for each handle in use, in ascending order: the handle and its number of pages. BX
+/// becomes the number of handles in use.
 #[tactic(auto, unfolding(crate::specs::Handles::list_pages))]
 pub(crate) fn list_pages(cpu: &mut Cpu, ems: &Ems, space: &mut Space)
     ensures { caller cpu.new ems.now space.new.memory ≡ list_pages (caller cpu.old ems.now space.old.memory) }
@@ -67,7 +68,7 @@ pub(crate) fn list_pages(cpu: &mut Cpu, ems: &Ems, space: &mut Space)
     succeed(cpu);
 }
 
-/// 51h: the handle in DX has BX pages; BX becomes how many it has.
+/// 51h: changes the number of pages of the handle in DX to BX. BX becomes the number that it has then.
 #[tactic(auto, unfolding(crate::specs::Handles::reallocate))]
 pub(crate) fn reallocate(cpu: &mut Cpu, ems: &mut Ems, space: &mut Space)
     requires { IsConsistent (expanded ems.old space.old.memory) }

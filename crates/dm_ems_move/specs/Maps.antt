@@ -33,18 +33,19 @@ map_entries pages (window ∷ windows) = map_entry (numbers pages window) ++ map
 
 -- ---- from bytes to windows
 
--- what follows a value; where there is none, there is none
+-- f of the value, or None where there is none
 abbrev pub when : {A B : Type 0} → Option A → (A → Option B) → Option B
 when None f = None
 when (Some v) f = f v
 
--- what a window is to show, if there is such a page, or none is meant
+-- what a window is to show by a handle and a page: Some None where it is to show no page (FFFFh twice), None where the
+-- handle is not in use or has no such page
 abbrev pub meant : Tables → ℕ → ℕ → Option (Option ℕ)
 meant ems handle page =
     if (handle == 0xFFFF) && (page == 0xFFFF) then Some None else
     when (slice_index_or ems.handles handle None) (λ s. when (slice_get (blocks_of ems handle) page) (λ block. Some (Some block)))
 
--- what window k is to show by a map at segment:offset, if the map means a page or none
+-- what window k (0 to 3) is to show by a map at segment:offset, whose words wrap at the end of the segment
 abbrev pub meant_at : Tables → Memory → ℕ → ℕ → ℕ → Option (Option ℕ)
 meant_at ems m segment offset k = meant ems (word_after m segment offset (4 * k)) (word_after m segment offset (4 * k + 2))
 

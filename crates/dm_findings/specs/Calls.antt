@@ -3,12 +3,13 @@ use Rattle.std.specs.Prelude.{Option, Some, None}
 use Rattle.dm_ins.specs.declared.operand.ByteRegister.TheVariants.{Ah}
 use Rattle.dm_cpu.specs.declared.cpu.Cpu.{Cpu}
 use Rattle.dm_cpu.specs.Cpu.{byte_of}
-use Rattle.dm_services.specs.declared.services.Service.{Service}
-use Rattle.dm_services.specs.declared.services.Service.TheVariants as service
-use Rattle.dm_services.specs.Services.{service_at}
-use Rattle.dm_drivers.specs.declared.drivers.Driver.{Driver}
-use Rattle.dm_drivers.specs.declared.drivers.Driver.TheVariants as driver
-use Rattle.dm_drivers.specs.Drivers.{driver_at}
+use Rattle.dm_space.specs.declared.entry_points.Service.{Service}
+use Rattle.dm_space.specs.declared.entry_points.Service.TheVariants as service
+use Rattle.dm_space.specs.declared.entry_points.Driver.{Driver}
+use Rattle.dm_space.specs.declared.entry_points.Driver.TheVariants as driver
+use Rattle.dm_space.specs.declared.entry_points.EntryPoint.{EntryPoint}
+use Rattle.dm_space.specs.declared.entry_points.EntryPoint.TheVariants as entry_point
+use Rattle.dm_space.specs.EntryPoints.{entry_point_at}
 use Rattle.dm_findings.specs.declared.calls.Call.{Call}
 use Rattle.dm_findings.specs.declared.calls.Call.TheVariants as call
 
@@ -24,13 +25,13 @@ of_driver c driver.ExpandedMemory = call.ExpandedMemory (byte_of c Ah)
 of_driver c driver.Multiplex = call.Multiplex
 of_driver c driver.ExtendedMemory = call.ExtendedMemory (byte_of c Ah)
 
--- the call of the service, or else of the driver, if one of them acts
-abbrev pub call_by : Cpu → Option Service → Option Driver → Option Call
-call_by c (Some s) d = Some (of_service c s)
-call_by c None (Some d) = Some (of_driver c d)
-call_by c None None = None
+-- the call of the service or the driver, if one of them acts
+abbrev pub call_by : Cpu → Option EntryPoint → Option Call
+call_by c (Some (entry_point.Service s)) = Some (of_service c s)
+call_by c (Some (entry_point.Driver d)) = Some (of_driver c d)
+call_by c None = None
 
 -- the call that a step from these registers serves: that of the service or driver at CS:IP; none where an instruction
 -- acts
 unfoldable pub call_of : Cpu → Option Call
-call_of c = call_by c (service_at c) (driver_at c)
+call_of c = call_by c (entry_point_at c.cs c.ip)

@@ -5,9 +5,8 @@ ghost use Rattle.std.specs.Prelude.{◌≡◌};
 ghost use Rattle.dm_findings.specs.Calls.{of_service, of_driver, call_of};
 
 use dm_cpu::Cpu;
-use dm_drivers::{Driver, driver_at};
 use dm_ins::ByteRegister;
-use dm_services::{Service, service_at};
+use dm_space::entry_points::{Driver, EntryPoint, Service, entry_point_at};
 
 /// A call of a service or a driver. The number of a function is what the call has in AH.
 #[derive(Clone, Copy, Debug, PartialEq, Eq)]
@@ -51,11 +50,9 @@ fn of_driver(cpu: &Cpu, driver: Driver) -> Call
 pub fn call_of(cpu: &Cpu) -> Option<Call>
     ensures { result ≡ call_of cpu.now }
 {
-    if let Some(service) = service_at(cpu) {
-        return Some(of_service(cpu, service));
-    }
-    match driver_at(cpu) {
-        Some(driver) => Some(of_driver(cpu, driver)),
+    match entry_point_at(cpu.cs, cpu.ip) {
+        Some(EntryPoint::Service(service)) => Some(of_service(cpu, service)),
+        Some(EntryPoint::Driver(driver)) => Some(of_driver(cpu, driver)),
         None => None,
     }
 }

@@ -1,4 +1,4 @@
-//! Findings about the memory of programs, and their texts: what a step did to the headers of the arena, calls that were
+//! Findings about the memory of programs: what a step did to the headers of the arena, calls that were
 //! refused, and what a program left allocated.
 #![tactic(auto)]
 

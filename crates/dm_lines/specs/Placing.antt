@@ -19,7 +19,7 @@ use Rattle.dm_lines.specs.Operands.{amount_word}
 
 -- ---- values
 
--- a label's place and what is added to it: 0 to FFFFh
+-- a label's place and what is added to it; None outside 0 to FFFFh
 abbrev pub displaced : Amount → ℕ → Option ℕ
 displaced (Plus n) place = if nat_lt (place + n) 65536 then Some (place + n) else None
 displaced (Minus n) place = if nat_le n place then Some (place - n) else None

@@ -15,15 +15,15 @@ use Rattle.dm_exec.proofs.Unseen.{effect-unseen}
 use Rattle.dm_space.proofs.Unseen.{pages-unseen}
 use Rattle.dm_state.specs.declared.stop.Stop.{Stop}
 use Rattle.dm_state.specs.declared.stop.Stop.TheVariants.{Memory as NoMemory}
-use Rattle.dm_services.specs.declared.services.Service.{Service}
-use Rattle.dm_drivers.specs.declared.drivers.Driver.{Driver}
-use Rattle.dm_drivers.specs.declared.drivers.Driver.TheVariants.{ExpandedMemory, Multiplex, ExtendedMemory}
+use Rattle.dm_space.specs.declared.entry_points.EntryPoint.{EntryPoint}
+use Rattle.dm_space.specs.declared.entry_points.EntryPoint.TheVariants as entry_point
+use Rattle.dm_space.specs.EntryPoints.{entry_point_at}
+use Rattle.dm_space.specs.declared.entry_points.Driver.TheVariants.{ExpandedMemory, Multiplex, ExtendedMemory}
 use Rattle.dm_drivers.specs.Multiplex.{multiplex_reply}
-use Rattle.dm_drivers.specs.Drivers.{driver_at, driven}
+use Rattle.dm_drivers.specs.Drivers.{driven}
 use Rattle.dm_state.specs.State.{State, Answer, go, with_guest}
-use Rattle.dm_services.specs.Services.{service_at}
 use Rattle.dm_services.specs.Wanting.{MayWant}
-use Rattle.dm_machine.specs.Step.{MakesStep, ActsUnlessEnded, Acts, Drives, Instructs, listed, unlisted, fetched, after, instructed}
+use Rattle.dm_machine.specs.Step.{MakesStep, ActsUnlessEnded, Acts, Instructs, listed, unlisted, fetched, after, instructed}
 use Rattle.dm_ins.specs.Ins.{BeginsWith}
 use Rattle.dm_machine.specs.Run.{Answers, here, further, StopsWithin, over, whole, cut}
 use Rattle.dm_services.specs.Laws.{with_change, answer_with}
@@ -53,28 +53,25 @@ instructs-unseen f u s x (unlisted h e) =
 multiplex-unseen : (f : Memory → Memory) (u : IsUnseen f) (s : State) → driven (with_change f s) Multiplex ≡ answer_with f (driven s Multiplex)
 multiplex-unseen f u s = ap (λ (g : Guest). go (with_guest s g)) (interrupt_return-unseen f u (guest (multiplex_reply s.cpu) s.memory))
 
-drives-unseen : (f : Memory → Memory) (u : IsUnseen f) (s : State) (o : Option Driver) (x : Answer) → IsQuiet o → Drives s o x → Drives (with_change f s) o (answer_with f x)
-drives-unseen f u s (Some ExpandedMemory) x q e = absurd q
-drives-unseen f u s (Some ExtendedMemory) x q e = absurd q
-drives-unseen f u s (Some Multiplex) x q e = ap (answer_with f) e ∙ sym (multiplex-unseen f u s)
-drives-unseen f u s None x q h = instructs-unseen f u s x h
+acts-unseen : (f : Memory → Memory) (u : IsUnseen f) (s : State) (o : Option EntryPoint) (x : Answer) → IsQuiet o → Acts s o x → Acts (with_change f s) o (answer_with f x)
+acts-unseen f u s (Some (entry_point.Service service)) x q h = serves-unseen f u s service x h
+acts-unseen f u s (Some (entry_point.Driver ExpandedMemory)) x q e = absurd q
+acts-unseen f u s (Some (entry_point.Driver ExtendedMemory)) x q e = absurd q
+acts-unseen f u s (Some (entry_point.Driver Multiplex)) x q e = ap (answer_with f) e ∙ sym (multiplex-unseen f u s)
+acts-unseen f u s None x q h = instructs-unseen f u s x h
 
-acts-unseen : (f : Memory → Memory) (u : IsUnseen f) (s : State) (o : Option Service) (x : Answer) → IsQuiet (driver_at s.cpu) → Acts s o x → Acts (with_change f s) o (answer_with f x)
-acts-unseen f u s (Some service) x q h = serves-unseen f u s service x h
-acts-unseen f u s None x q h = drives-unseen f u s (driver_at s.cpu) x q h
-
-runs-unseen : (f : Memory → Memory) (u : IsUnseen f) (s : State) (o : Option ℕ) (x : Answer) → IsQuiet (driver_at s.cpu) → ActsUnlessEnded s o x → ActsUnlessEnded (with_change f s) o (answer_with f x)
+runs-unseen : (f : Memory → Memory) (u : IsUnseen f) (s : State) (o : Option ℕ) (x : Answer) → IsQuiet (entry_point_at s.cpu.cs s.cpu.ip) → ActsUnlessEnded s o x → ActsUnlessEnded (with_change f s) o (answer_with f x)
 runs-unseen f u s (Some code) x q e = ap (answer_with f) e
-runs-unseen f u s None x q h = acts-unseen f u s (service_at s.cpu) x q h
+runs-unseen f u s None x q h = acts-unseen f u s (entry_point_at s.cpu.cs s.cpu.ip) x q h
 
-pub steps-unseen : (f : Memory → Memory) (u : IsUnseen f) (s : State) (x : Answer) → IsQuiet (driver_at s.cpu) → MakesStep s x → MakesStep (with_change f s) (answer_with f x)
+pub steps-unseen : (f : Memory → Memory) (u : IsUnseen f) (s : State) (x : Answer) → IsQuiet (entry_point_at s.cpu.cs s.cpu.ip) → MakesStep s x → MakesStep (with_change f s) (answer_with f x)
 unfolding MakesStep
 steps-unseen f u s x q h = runs-unseen f u s s.exited x q h
 
-wants-unseen : (f : Memory → Memory) (u : IsUnseen f) (s : State) → IsQuiet (driver_at s.cpu) → MayWant s (MakesStep s) → MayWant (with_change f s) (MakesStep (with_change f s))
+wants-unseen : (f : Memory → Memory) (u : IsUnseen f) (s : State) → IsQuiet (entry_point_at s.cpu.cs s.cpu.ip) → MayWant s (MakesStep s) → MayWant (with_change f s) (MakesStep (with_change f s))
 wants-unseen f u s q w = record { answer = answer_with f w.answer; gives = steps-unseen f u s w.answer q w.gives; overflows = w.overflows }
 
-answers-unseen : (f : Memory → Memory) (u : IsUnseen f) (s : State) (stop : Option Stop) (t : State) → IsQuiet (driver_at s.cpu) → Answers s stop t → Answers (with_change f s) stop (with_change f t)
+answers-unseen : (f : Memory → Memory) (u : IsUnseen f) (s : State) (stop : Option Stop) (t : State) → IsQuiet (entry_point_at s.cpu.cs s.cpu.ip) → Answers s stop t → Answers (with_change f s) stop (with_change f t)
 answers-unseen f u s (Some NoMemory) t q h = (wants-unseen f u s q h.0, ap (with_change f) h.1)
 answers-unseen f u s (Some stop) t q h = steps-unseen f u s _ q h
 answers-unseen f u s None t q h = steps-unseen f u s _ q h

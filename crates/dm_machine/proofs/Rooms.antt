@@ -6,13 +6,12 @@ use Rattle.dm_cpu.specs.Guest.{Guest, guest}
 use Rattle.dm_exec.specs.Effect.{effect, next_of}
 use Rattle.dm_state.specs.declared.stop.Stop.{Stop}
 use Rattle.dm_state.specs.declared.stop.Stop.TheVariants.{Memory as NoMemory}
-use Rattle.dm_services.specs.declared.services.Service.{Service}
-use Rattle.dm_drivers.specs.declared.drivers.Driver.{Driver}
-use Rattle.dm_drivers.specs.declared.drivers.Driver.TheVariants.{ExpandedMemory, Multiplex, ExtendedMemory}
-use Rattle.dm_drivers.specs.Drivers.{driver_at}
+use Rattle.dm_space.specs.declared.entry_points.EntryPoint.{EntryPoint}
+use Rattle.dm_space.specs.declared.entry_points.EntryPoint.TheVariants as entry_point
+use Rattle.dm_space.specs.EntryPoints.{entry_point_at}
+use Rattle.dm_space.specs.declared.entry_points.Driver.TheVariants.{ExpandedMemory, Multiplex, ExtendedMemory}
 use Rattle.dm_state.specs.State.{State, Answer}
-use Rattle.dm_services.specs.Services.{service_at}
-use Rattle.dm_machine.specs.Step.{MakesStep, ActsUnlessEnded, Acts, Drives, Instructs, listed, unlisted, after}
+use Rattle.dm_machine.specs.Step.{MakesStep, ActsUnlessEnded, Acts, Instructs, listed, unlisted, after}
 use Rattle.dm_machine.specs.Run.{Answers, Goes, here, further, IsRun, over, whole, cut}
 use Rattle.dm_machine.specs.Laws.{IsHistory, none, step_on, run_on, changed, reserved, RoomIsEnoughForRuns, RoomIsEnoughForSteps}
 use Rattle.dm_machine.proofs.OneRun.{steps-one}
@@ -27,19 +26,16 @@ instructs-keep : (s : State) (x : Answer) → Instructs s x → Keeps s x
 instructs-keep s x (listed i k b e) = by s x _ e (after-keeps s (next_of i.action.mnemonic) (effect (guest s.cpu s.memory) i k))
 instructs-keep s x (unlisted h e) = by s x _ e (same _)
 
-drives-keep : (s : State) (o : Option Driver) (x : Answer) → Drives s o x → Keeps s x
-drives-keep s (Some ExpandedMemory) x e = by s x _ e (same _)
-drives-keep s (Some Multiplex) x e = by s x _ e (same _)
-drives-keep s (Some ExtendedMemory) x e = by s x _ e (same _)
-drives-keep s None x h = instructs-keep s x h
-
-acts-keep : (s : State) (o : Option Service) (x : Answer) → Acts s o x → Keeps s x
-acts-keep s (Some service) x h = serves-keep s service x h
-acts-keep s None x h = drives-keep s (driver_at s.cpu) x h
+acts-keep : (s : State) (o : Option EntryPoint) (x : Answer) → Acts s o x → Keeps s x
+acts-keep s (Some (entry_point.Service service)) x h = serves-keep s service x h
+acts-keep s (Some (entry_point.Driver ExpandedMemory)) x e = by s x _ e (same _)
+acts-keep s (Some (entry_point.Driver Multiplex)) x e = by s x _ e (same _)
+acts-keep s (Some (entry_point.Driver ExtendedMemory)) x e = by s x _ e (same _)
+acts-keep s None x h = instructs-keep s x h
 
 runs-keep : (s : State) (o : Option ℕ) (x : Answer) → ActsUnlessEnded s o x → Keeps s x
 runs-keep s (Some code) x e = by s x _ e (same _)
-runs-keep s None x h = acts-keep s (service_at s.cpu) x h
+runs-keep s None x h = acts-keep s (entry_point_at s.cpu.cs s.cpu.ip) x h
 
 steps-keep : (s : State) (x : Answer) → MakesStep s x → Keeps s x
 unfolding MakesStep

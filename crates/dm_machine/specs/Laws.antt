@@ -7,9 +7,10 @@ use Rattle.dm_state.specs.declared.stop.Stop.{Stop}
 use Rattle.dm_state.specs.declared.stop.Stop.TheVariants.{Memory as NoMemory}
 use Rattle.dm_state.specs.State.{State, Answer, AreConsistent}
 use Rattle.dm_services.specs.Laws.{with_change}
-use Rattle.dm_drivers.specs.declared.drivers.Driver.{Driver}
-use Rattle.dm_drivers.specs.declared.drivers.Driver.TheVariants.{ExpandedMemory, Multiplex, ExtendedMemory}
-use Rattle.dm_drivers.specs.Drivers.{driver_at}
+use Rattle.dm_space.specs.declared.entry_points.EntryPoint.{EntryPoint}
+use Rattle.dm_space.specs.declared.entry_points.EntryPoint.TheVariants as entry_point
+use Rattle.dm_space.specs.declared.entry_points.Driver.TheVariants.{ExpandedMemory, Multiplex, ExtendedMemory}
+use Rattle.dm_space.specs.EntryPoints.{entry_point_at}
 use Rattle.dm_machine.specs.Step.{MakesStep}
 use Rattle.dm_machine.specs.Run.{Answers, Goes, IsRun}
 
@@ -25,16 +26,17 @@ ThereIsOneRun = (s t u : State) (n : ℕ) → Goes s n t → Goes s n u → t �
 abbrev pub RunHasOneStop : Type 0
 RunHasOneStop = (s t u : State) (n : ℕ) (a b : Stop) → IsRun s n a t → IsRun s n b u → a ≢ NoMemory → b ≢ NoMemory → (a ≡ b) × (t ≡ u)
 
--- a driver that gives the program no other view of memory: INT 2Fh, or none
-abbrev pub IsQuiet : Option Driver → Type 0
+-- what gives the program no other view of memory: an instruction, a service, or INT 2Fh
+abbrev pub IsQuiet : Option EntryPoint → Type 0
 IsQuiet None = Unit {0}
-IsQuiet (Some Multiplex) = Unit {0}
-IsQuiet (Some ExpandedMemory) = ⊥
-IsQuiet (Some ExtendedMemory) = ⊥
+IsQuiet (Some (entry_point.Service service)) = Unit {0}
+IsQuiet (Some (entry_point.Driver Multiplex)) = Unit {0}
+IsQuiet (Some (entry_point.Driver ExpandedMemory)) = ⊥
+IsQuiet (Some (entry_point.Driver ExtendedMemory)) = ⊥
 
 -- in n steps from s neither INT 67h nor the extended memory driver acts
 abbrev pub StaysQuiet : State → ℕ → Type 0
-StaysQuiet s n = (k : ℕ) (r : State) → k < n → Goes s k r → IsQuiet (driver_at r.cpu)
+StaysQuiet s n = (k : ℕ) (r : State) → k < n → Goes s k r → IsQuiet (entry_point_at r.cpu.cs r.cpu.ip)
 
 -- n steps that end nothing, and in which neither acts, lead to the same state where memory is changed out of every
 -- program's sight, and the change stays

@@ -95,7 +95,7 @@ impl Span {
         self.blocks.as_slice()
     }
 
-    /// The place of its byte `k`.
+    /// The place of its byte `k`, by which overlaps are found.
     pub(crate) fn place(&self, space: &Space, k: usize) -> Place
         requires { IsInside space.now.memory self.now (k + 1) }
         ensures { result ≡ place_in space.now.memory self.now k }

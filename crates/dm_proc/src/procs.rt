@@ -55,7 +55,7 @@ impl Procs {
         std::mem::replace(&mut self.code, 0)
     }
 
-    /// Whether sixteen processes are alive.
+    /// Whether sixteen processes are alive, so that function 4Bh starts no other: fifteen wait for the present one.
     pub(crate) fn is_full(&self) -> bool
         ensures { MatchBool result (length self.now.parents ≡ 15) (length self.now.parents < 15) }
     {
@@ -84,7 +84,7 @@ impl Procs {
         self.present = segment;
     }
 
-    /// The present process has ended; its parent, if it has one, goes on.
+    /// The present process has ended, with the word that function 4Dh returns; its parent, if it has one, goes on.
     pub(crate) fn finish(&mut self, cpu: &mut Cpu, word: u16) -> Ending
         ensures { GoesOn self.old cpu.old word result self.new cpu.new }
     {

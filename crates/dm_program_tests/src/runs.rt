@@ -55,7 +55,7 @@ fn stays(
 }
 
 /// Definitions: dm_state State Answer go stop_at
-/// Definitions: dm_machine Step MakesStep ActsUnlessEnded Acts Drives Instructs fetched instructed after
+/// Definitions: dm_machine Step MakesStep ActsUnlessEnded Acts Instructs fetched instructed after
 /// Definitions: dm_ins Ins BeginsWith
 /// Definitions: dm_space EightBytes sixteen_after byte_after
 /// Definitions: dm_machine Run Answers IsRun Goes StopsWithin

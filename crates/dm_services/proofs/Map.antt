@@ -8,9 +8,9 @@ use Rattle.dm_arena.specs.declared.refusal.ArenaRefusal.{ArenaRefusal}
 use Rattle.dm_arena.specs.declared.fit.Strategy.{Strategy}
 use Rattle.dm_cpu.specs.declared.cpu.Cpu.{Cpu}
 use Rattle.dm_cpu.specs.Cpu.{byte_of}
-use Rattle.dm_services.specs.declared.services.Service.{Service}
-use Rattle.dm_services.specs.declared.services.Service.TheVariants as service
-use Rattle.dm_services.specs.declared.services.Service.TheVariants.{DivideError, Dos}
+use Rattle.dm_space.specs.declared.entry_points.Service.{Service}
+use Rattle.dm_space.specs.declared.entry_points.Service.TheVariants as service
+use Rattle.dm_space.specs.declared.entry_points.Service.TheVariants.{DivideError, Dos}
 use Rattle.dm_services.specs.declared.functions.Function.{Function}
 use Rattle.dm_services.specs.declared.functions.Function.TheVariants.{EchoCharacter, WriteCharacter, DirectCharacter, ReadCharacter, WriteText, ReadLine, CheckInput, FlushAndRead, SetVector, Version, Keep, GetVector, ReadHandle, WriteHandle, Allocate, Free, Resize, LoadProgram, Exit, ExitCode, Process, AllocationStrategy, Terminate, Unknown}
 use Rattle.dm_state.specs.State.{State, Answer, interrupt_returned}

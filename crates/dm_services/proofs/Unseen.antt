@@ -5,9 +5,9 @@ use Rattle.dm_space.specs.Unseen.{IsUnseen}
 use Rattle.dm_ins.specs.declared.operand.ByteRegister.TheVariants.{Al, Ah}
 use Rattle.dm_cpu.specs.declared.cpu.Cpu.{Cpu}
 use Rattle.dm_cpu.specs.Cpu.{byte_of}
-use Rattle.dm_services.specs.declared.services.Service.{Service}
-use Rattle.dm_services.specs.declared.services.Service.TheVariants as service
-use Rattle.dm_services.specs.declared.services.Service.TheVariants.{DivideError, Dos}
+use Rattle.dm_space.specs.declared.entry_points.Service.{Service}
+use Rattle.dm_space.specs.declared.entry_points.Service.TheVariants as service
+use Rattle.dm_space.specs.declared.entry_points.Service.TheVariants.{DivideError, Dos}
 use Rattle.dm_services.specs.declared.functions.Function.{Function}
 use Rattle.dm_services.specs.declared.functions.Function.TheVariants.{EchoCharacter, WriteCharacter, DirectCharacter, ReadCharacter, WriteText, ReadLine, CheckInput, FlushAndRead, SetVector, Version, Keep, GetVector, ReadHandle, WriteHandle, Allocate, Free, Resize, LoadProgram, Exit, ExitCode, Process, AllocationStrategy, Terminate, Unknown}
 use Rattle.dm_arena.specs.declared.fit.Strategy.{Strategy}

@@ -20,4 +20,4 @@ mod vectors;
 pub use laws::{
     services_have_one_answer, services_ignore_unseen, services_keep_room, services_keep_the_map,
 };
-pub use services::{Service, serve, service_at};
+pub use services::serve;

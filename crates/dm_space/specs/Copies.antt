@@ -1,4 +1,4 @@
--- Bytes copied between linear addresses and the scratch bytes, one by one upwards.
+-- Bytes copied one by one upwards, between the scratch bytes and linear addresses (A20 taken as on) or a block.
 use Rattle.std.specs.Prelude.{ℕ, zero, suc, List, [], ◌∷◌}
 use Rattle.dm_region.specs.Parts.{part, with_part}
 use Rattle.dm_pool.specs.Blocks.{with_content}

@@ -95,6 +95,7 @@ impl Xms {
         if at < HANDLES { self.handles[at] } else { None }
     }
 
+    /// Gives a handle another entry; with None it is not in use.
     pub(crate) fn set_handle(&mut self, handle: u16, slot: Option<Handle>)
         requires { (0 < handle) × (handle - 1 < 64) }
         ensures { self.new ≡ record self.old { handles = slice_set self.old.handles (handle - 1) slot } }
