@@ -8,8 +8,8 @@ use Rattle.dm_arena.specs.declared.refusal.ArenaRefusal.TheVariants.{Destroyed, 
 use Rattle.dm_blocks.specs.Chain.{Becomes, DiffersInHeaders, IsArena, IsArenaBehind, IsChain, IsClear, NoArena, NoArenaBehind, NoBlockAt, first_header, is_free, is_parted, link_header}
 use Rattle.dm_arena.specs.Blocks.{cut_low, merge}
 
--- the link block begins at the segment: no program frees or resizes it. There is one only where upper memory belongs to
--- the arena
+-- the link block begins at the segment: functions 49h and 4Ah refuse it. There is one only where upper memory belongs
+-- to the arena
 abbrev pub is_link_block : Bool → ℕ → Bool
 is_link_block upper segment = upper && (segment == 0xA000)
 
@@ -77,13 +77,14 @@ pub record BlockRunAt (upper : Bool) (S : Memory) (start : ℕ) (segment : ℕ) 
 abbrev pub resized : {upper : Bool} {S : Memory} {start : ℕ} {segment : ℕ} → BlockRunAt upper S start segment → ℕ → List Header
 resized {upper} {S} {start} {segment} r n = r.before ++ (cut_low n r.block.owner (absorb r.block r.run) ++ r.after)
 
--- destroyed, no such block, or short with the size of the block and its run; nothing changes
+-- why the block at a segment does not become n paragraphs long: there is no arena, or the resized list would not be
+-- clear; the block with the run of free blocks after it has `most`, fewer than n; or there is no such block to resize
 abbrev pub ResizeRefused : Bool → Memory → ℕ → ℕ → ℕ → ArenaRefusal → Type 0
 ResizeRefused upper S start segment n Destroyed = NoArena S start ⊎ ((r : BlockRunAt upper S start segment) × (n ≤ (absorb r.block r.run).size) × (IsClear S (resized r n) → ⊥))
 ResizeRefused upper S start segment n (Short most) = (r : BlockRunAt upper S start segment) × (most ≡ (absorb r.block r.run).size) × (most < n)
 ResizeRefused upper S start segment n NoBlock = (L : List Header) × IsArena S start L × IsNoBlock upper L segment
 
--- the resizing of the block at a segment to n paragraphs, from memory S to memory T
+-- the resizing of the block at a segment to n paragraphs, from memory S to memory T; a refusal changes nothing
 abbrev pub Resizes : Bool → Memory → ℕ → ℕ → Result (Unit {0}) ArenaRefusal → Memory → Type 0
 Resizes upper S segment n (Ok u) T = (r : BlockRunAt upper S first_header segment) × (n ≤ (absorb r.block r.run).size) × Becomes S first_header (resized r n) T
 Resizes upper S segment n (Err e) T = (T ≡ S) × ResizeRefused upper S first_header segment n e
@@ -115,7 +116,7 @@ pub record ReleasesBoth (upper : Bool) (S : Memory) (owner : ℕ) (T : Memory) :
   pub second_chain : IsChain T link_header (released owner second)
   pub differs : DiffersInHeaders S (released owner first ++ released owner second) T
 
--- no arena; or no second list with which it is clear
+-- there is no arena; or upper memory has a list by itself, and memory spells none there with which the first is clear
 abbrev pub ReleaseRefused : Bool → Memory → Type 0
 ReleaseRefused upper S = NoArena S first_header ⊎ ((L : List Header) × IsArena S first_header L × (is_parted upper L ≡ true) × NoArenaBehind S L link_header)
 

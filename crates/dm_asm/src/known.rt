@@ -1,4 +1,4 @@
-//! What the first pass keeps of the lines, so that the second one need not read them again.
+//! What the first pass keeps of the lines, so that the second one reads again only those whose bytes are not kept.
 
 ghost use Rattle.std.specs.Prelude.{◌≡◌, ◌≤◌, [], ◌∷◌, IfOk, MatchOption, OnOk, length};
 ghost use Rattle.dm_lines.specs.Statements.{Item as Stated, seen_item, bytes as data_bytes, instruction as encoded};

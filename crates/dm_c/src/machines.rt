@@ -1,4 +1,4 @@
-//! Calls on a machine.
+//! What the exports do with a machine: each function calls that of the same name of `Host`, and returns the status.
 ghost use Rattle.std.specs.Prelude.{◌≡◌};
 ghost use Rattle.dm_c.specs.Machines.{AddsTo, LoadsTo, RunsTo, RunsUntilTo, StepsTo, RegistersTo, ReadsTo, WritesTo, OutputTo, CommandsTo, ChecksTo};
 
@@ -100,7 +100,8 @@ pub(crate) fn read(host: &Host, segment: u16, offset: u16, buffer: &mut [u8]) ->
     }
 }
 
-/// Writes bytes to memory.
+/// Writes bytes to memory from segment:offset on, if a program is loaded; offsets wrap in their segment. Bytes of the
+/// ROM, and where there is no memory, stay. If none is loaded, the status is NOT_LOADED, and nothing changes.
 pub(crate) fn write(host: &mut Host, segment: u16, offset: u16, bytes: &[u8]) -> u32
     ensures { WritesTo host.old segment offset bytes.now result host.new }
 {
@@ -110,7 +111,7 @@ pub(crate) fn write(host: &mut Host, segment: u16, offset: u16, bytes: &[u8]) ->
     }
 }
 
-/// Copies all that the console wrote.
+/// Copies all that the console wrote, if the buffer has room for it, and says how many bytes that is.
 pub(crate) fn output(host: &Host, buffer: &mut [u8], wanted: &mut usize) -> u32
     ensures { OutputTo host.now buffer.old buffer.new wanted.old wanted.new result host.now }
 {

@@ -1,4 +1,4 @@
--- What a machine is made from, and why it is refused.
+-- What a machine is made from, and why making it, adding a program or loading one is refused.
 use Rattle.std.specs.Prelude.{◌≡◌, ℕ, ◌<◌, ◌≤◌, Bool, false, true, List, [], ◌∷◌, ◌++◌, Some, None, length}
 use Rattle.dm_pool.specs.declared.sizes.Sizes.{Sizes}
 use Rattle.dm_pool.specs.Stored.{IsTooLarge}
@@ -39,7 +39,7 @@ pub record IsLoadable (s : Prepared) (name : List ℕ) : Type 0 where
   pub found : program_of s.programs name ≡ Some file
   pub good : IsGood file
 
--- there is none, or it can't be loaded
+-- why no program of this name is loaded: the store has none of the name, or its file can't be loaded
 abbrev pub IsNoProgram : Prepared → List ℕ → Refusal → Type 0
 IsNoProgram s name NotFound = program_of s.programs name ≡ None
 IsNoProgram s name BadFormat = (file : List ℕ) × (program_of s.programs name ≡ Some file) × (IsGood file → ⊥)

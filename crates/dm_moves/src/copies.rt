@@ -1,4 +1,4 @@
-//! Bytes of spans, copied through the scratch bytes.
+//! Moves and exchanges of the bytes of spans, through the scratch bytes; `move_blocks` alone moves without them.
 
 ghost use Rattle.std.specs.Prelude.{◌≡◌, ◌+◌, ◌%◌, ◌<◌, ◌≤◌};
 ghost use Rattle.dm_moves.specs.inner.Copying.{read_in, written_out};

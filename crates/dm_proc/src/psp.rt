@@ -64,7 +64,8 @@ pub(crate) fn push_guest<const N: usize>(
     }
 }
 
-/// The program segment prefix of a new process.
+/// The 256 bytes of the program segment prefix of a new process; the caller writes them. Of memory only the vectors 22h
+/// to 24h are read, so it comes before the writes of the start.
 #[tactic(auto, unfolding(crate::specs::Start::prefix))]
 pub(crate) fn make_prefix(
     space: &Space,

@@ -42,7 +42,7 @@ segment_name Cs = codes "CS"
 segment_name Ss = codes "SS"
 segment_name Ds = codes "DS"
 
--- ---- the names of mnemonics; a transfer to another segment, and a short jump, have two words
+-- ---- the names of mnemonics; a far call, a far jump and a short jump have two words
 
 -- the name of a mnemonic, in ASCII
 unfoldable pub name_of : Mnemonic → List ℕ

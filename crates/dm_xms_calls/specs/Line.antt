@@ -1,4 +1,5 @@
--- Address line A20 (XMS 3.0, functions 03h to 07h).
+-- Address line A20 (XMS 3.0, functions 03h to 07h): the registers after each call. What it does to the line is in
+-- `dm_xms`.
 use Rattle.std.specs.Prelude.{if◌then◌else◌}
 use Rattle.dm_cpu.specs.declared.cpu.Cpu.{Cpu}
 use Rattle.dm_space.specs.Memory.{Memory}
@@ -13,7 +14,7 @@ enable_globally c = record { cpu = succeeded c.cpu; x = rows.enable_globally c.x
 unfoldable pub disable_globally : Caller → Caller
 disable_globally c = after_act c (rows.disable_globally c.x)
 
--- 05h: A20 is enabled locally
+-- 05h: A20 is enabled locally: the local count is one more, and A20 is on; at FFFFh the call is refused (82h)
 unfoldable pub enable_locally : Caller → Caller
 enable_locally c = after_call c (rows.enable_locally c.x) (λ done. c.cpu)
 
