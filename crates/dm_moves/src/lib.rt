@@ -1,6 +1,6 @@
 //! Spans of memory that are moved and exchanged, and whether they overlap (LIM EMS 4.0, function 24).
 //!
-//! A span is read whole into the scratch bytes of the space before a byte of another is written; only `move_blocks` does
+//! A span is read whole into the scratch bytes of the space before a byte of another is written; `move_blocks` does
 //! without them. Bytes are copied by runs, whose places lie side by side.
 #![tactic(auto)]
 
