@@ -1,9 +1,10 @@
-"""What tools/build and tools/static_library share: the kit's own module of crates, and the crates of this tree by it."""
+"""What tools/build and tools/static_library share: the kit's own module of crates."""
 import functools
 import importlib.machinery
 import importlib.util
 import os
 import shutil
+import signal
 import sys
 
 
@@ -15,18 +16,21 @@ def module():
     sys.dont_write_bytecode = True
     sys.modules["rtlib"] = made
     loader.exec_module(made)
-    # (a stamp, the sum of all that a crate is made from, is made of those below, which many ways lead to)
+    # (a stamp, a sum of all that a crate is made from, is made of those below, which many ways lead to)
     made.Crate.stamp = functools.lru_cache(maxsize=None)(made.Crate.stamp)
     # (its first call sets a signal's handler, which only the main thread may)
     made.guarded()
+    # With Python's own handler, Ctrl-C would wait for the provers that run.
+    signal.signal(signal.SIGINT, signal.SIG_DFL)
     return made
 
 
-def crate(made, root, name):
-    """A crate of the tree at `root`."""
-    return made.Crate(f"{root}/crates/{name}", root, {})
+def stamp(made, crate):
+    """The crate's stamp as its files are now."""
+    made.Crate.stamp.cache_clear()
+    return crate.stamp()
 
 
 def stamp_file(library):
-    """The file whose text, a sum of all that the library was made from, tells the kit that the library is up to date."""
+    """The file that holds the stamp of what the library was made from: the kit builds it anew where another stamp is due."""
     return f"{library.folder}/out/rlib/stamp"

@@ -11,7 +11,7 @@ use dm_space::entry_points::{Driver, EntryPoint, Service, entry_point_at};
 /// A call of a service or a driver. The number of a function is what the call has in AH.
 #[derive(Clone, Copy, Debug, PartialEq, Eq)]
 pub enum Call {
-    /// Interrupt 0, which DIV and IDIV take.
+    /// Interrupt 0, which DIV and IDIV take where there is no quotient.
     DivideError,
     /// INT 20h.
     Terminate,

@@ -1,7 +1,7 @@
 -- The entry points (the addresses are this machine's own): where a service or a driver acts in place of code, by CS and
--- IP. The interrupt vectors lead to five (Intel 8086 Family User's Manual, "Interrupt pointer table"), in the segment
--- F000h at 4 times the interrupt's number; the sixth, for extended memory, is returned by INT 2Fh (XMS 3.0, section
--- "Accessing the extended memory manager").
+-- IP. The interrupt vectors lead to five (Intel 8086 Family User's Manual, "Interrupt pointer table"): that of INT 67h
+-- to F100:0020, the others to the segment F000h at 4 times the interrupt's number. The sixth, for extended memory, is
+-- returned by INT 2Fh (XMS 3.0, section "Accessing the extended memory manager").
 use Rattle.std.specs.Prelude.{ℕ, ◌==◌, if◌then◌else◌, Option, Some, None}
 use Rattle.dm_space.specs.declared.entry_points.Service.TheVariants.{DivideError, Terminate, Dos}
 use Rattle.dm_space.specs.declared.entry_points.Driver.TheVariants.{ExpandedMemory, Multiplex, ExtendedMemory}
