@@ -4,7 +4,6 @@ import importlib.machinery
 import importlib.util
 import os
 import shutil
-import signal
 import sys
 
 
@@ -18,10 +17,6 @@ def module():
     loader.exec_module(made)
     # (a stamp, a sum of all that a crate is made from, is made of those below, which many ways lead to)
     made.Crate.stamp = functools.lru_cache(maxsize=None)(made.Crate.stamp)
-    # (its first call sets a signal's handler, which only the main thread may)
-    made.guarded()
-    # With Python's own handler, Ctrl-C would wait for the provers that run.
-    signal.signal(signal.SIGINT, signal.SIG_DFL)
     return made
 
 
