@@ -338,6 +338,3 @@ impl Store {
         runs::count_fitting(&self.table, self.region.part(POOL, len), units)
     }
 }
-
-#[cfg(test)]
-mod tests;

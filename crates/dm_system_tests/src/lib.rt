@@ -11,6 +11,8 @@ mod checks;
 #[cfg(test)]
 mod console;
 #[cfg(test)]
+mod free_list;
+#[cfg(test)]
 mod lines;
 #[cfg(test)]
 mod memory;

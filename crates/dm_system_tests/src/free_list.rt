@@ -1,22 +1,17 @@
-//! What the free bytes hold, which no call shows.
+//! The free list of a pool, which stands in its free bytes.
 
-use super::{POOL, Store};
-use crate::block::Block;
-use crate::extent::UNIT;
-use crate::sizes::Sizes;
-use std::process::Abort;
+use crate::checks::same;
+use dm_pool::{Block, Sizes, Store, UNIT};
 use std::test::Fail;
 
-/// The first eight bytes of a unit of the pool.
+/// The first eight bytes of a unit of the pool; there a free run has its length and the unit of the next one.
 fn beginning(store: &Store, unit: usize) -> [u8; 8] {
     let mut bytes = [0; 8];
     if unit < 4 {
-        let at = POOL + unit * UNIT;
-        if at + 8 <= store.region.len() {
-            let part = store.region.part(at, 8);
-            if part.len() == 8 {
-                bytes.copy_from_slice(part);
-            }
+        let at = unit * UNIT;
+        let pool = store.free_list().bytes;
+        if at + 8 <= pool.len() {
+            bytes.copy_from_slice(&pool[at..at + 8]);
         }
     }
     bytes
@@ -28,14 +23,6 @@ fn give(store: &mut Store, block: Option<Block>) {
             store.give(block);
         }
     }
-}
-
-fn same(rt: &impl Abort, what: &str, found: [u8; 8], wanted: [u8; 8]) {
-    assert_eq!(rt; found, wanted, "{what}");
-}
-
-fn holds(rt: &impl Abort, what: &str, fact: bool) {
-    assert!(rt; fact, "{what}");
 }
 
 fn base_of(store: &Store, block: Option<Block>) -> Option<usize> {
@@ -93,7 +80,7 @@ fn free_bytes_tell_the_gaps(rt: HostRuntime) -> Result<(), Fail> {
         [3, 0, 0, 0, 0xFF, 0xFF, 0xFF, 0xFF],
     );
     let two = store.take(2);
-    holds(&rt, "units 1 and 2", base_of(&store, two) == Some(1));
+    same(&rt, "units 1 and 2", base_of(&store, two), Some(1));
     same(&rt, "zeros", beginning(&store, 1), [0; 8]);
     same(
         &rt,
@@ -101,8 +88,8 @@ fn free_bytes_tell_the_gaps(rt: HostRuntime) -> Result<(), Fail> {
         beginning(&store, 3),
         [1, 0, 0, 0, 0xFF, 0xFF, 0xFF, 0xFF],
     );
-    holds(&rt, "no more two units", store.take(2).is_none());
+    same(&rt, "no more two units", store.take(2).is_none(), true);
     let one = store.take(1);
-    holds(&rt, "unit 3", base_of(&store, one) == Some(3));
+    same(&rt, "unit 3", base_of(&store, one), Some(3));
     Ok(())
 }
