@@ -7,7 +7,7 @@ import sys
 
 ROOT = os.path.dirname(os.path.dirname(os.path.abspath(__file__)))
 SECONDS = 60
-# How much of a difference is told.
+# How much of a difference is printed.
 FAULTS, COLUMNS = 20, 200
 STOPS = ("steps", "halted", "unlisted", "input ended", "destroyed")
 STOP = re.compile(rf"stopped: (?:{'|'.join(STOPS)})\n")
@@ -18,7 +18,7 @@ class Differs(Exception):
 
 
 class Played:
-    """What a call of a program left: its status, what it told on standard error, and what it wrote on standard output."""
+    """What a call of a program left: its status, what it printed on standard error, and what it wrote on standard output."""
 
     def __init__(self, words, folder, given=b"", environment=None, kept=()):
         try:

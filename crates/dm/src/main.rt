@@ -1,4 +1,4 @@
-//! The program `dm`: a DOS real-mode machine that runs programs.
+//! The program `dm`: it passes its command line, files and standard streams to `dm_cli`, and exits with the status.
 #![tactic(auto)]
 
 ghost use Rattle.std.specs.Prelude.{map};
@@ -11,7 +11,7 @@ use std::io::Lock;
 use std::process::ExitCode;
 use std::{env, io};
 
-/// Hands the words, the files and the standard streams to the library, and returns its status.
+/// Runs `dm_main` on the words, the files and the standard streams, and returns its exit status.
 ///
 /// What the operating system gives and takes is not known to a contract: that of `dm_main` says more, over files,
 /// readers and writers whose bytes are known.
@@ -28,11 +28,14 @@ fn call<S: AsStr>(rt: &HostRuntime, words: &[S]) -> ExitCode
     ))
 }
 
-/// The words of the command line, as text.
+/// The words of the command line, as text. The error is `OutOfMemory` if an allocation failed, and any other if a word
+/// is not UTF-8.
 fn words_of(rt: &HostRuntime) -> io::Result<Vec<String>> {
     Ok(env::args(rt)?.collect(rt.alloc())?)
 }
 
+/// The exit status of `dm`: that of `dm_main`; 2 if a word of the command line is not UTF-8; 126 if an allocation
+/// failed.
 fn main(rt: HostRuntime) -> ExitCode {
     match words_of(&rt) {
         Ok(words) => call(&rt, words.as_slice()),

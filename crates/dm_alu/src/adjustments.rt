@@ -112,7 +112,7 @@ fn decimal_change(low: u16, flags: Flags) -> u16
     units + tens
 }
 
-/// The flags with parity, zero and sign as AL of a new AX says.
+/// The flags with parity, zero and sign set by AL of `ax`; the others stay.
 fn after_accumulator(ax: u16, flags: Flags) -> Flags
     ensures { result ≡ after_accumulator ax flags }
 {

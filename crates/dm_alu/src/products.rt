@@ -74,7 +74,7 @@ fn signed_product(width: Width, a: u16, b: u16) -> i32
     width.signed(a) * width.signed(b)
 }
 
-/// The value of twice the width that stands for a signed number.
+/// The value of twice the width that stands for a signed number in two's complement.
 fn double_complement(width: Width, number: i32) -> u32
     requires { unsigned_abs number ≤ half width * half width }
     ensures value { result ≡ twos_complement (size width * size width) number }
@@ -90,7 +90,8 @@ fn double_complement(width: Width, number: i32) -> u32
     }
 }
 
-/// Whether the upper half of a product says more than the lower half does.
+/// Whether the upper half of a product says more than the lower half: for MUL it is not zero, for IMUL not each of its
+/// bits is the lower half's sign.
 fn upper_is_significant(sign: Sign, width: Width, product: u32) -> bool
     ensures { result ≡ upper_is_significant sign width product }
 {
@@ -131,7 +132,7 @@ pub fn div(sign: Sign, width: Width, dividend: u32, divisor: u16) -> Option<Divi
     }
 }
 
-/// DIV by a divisor that is not zero.
+/// DIV by a divisor that is not zero; None where the quotient is out of range.
 #[tactic(auto, unfolding(crate::specs::Products::quotient_of))]
 fn unsigned_div(width: Width, dividend: u32, divisor: u16) -> Option<Division>
     requires divisor { 0 < divisor }
@@ -152,7 +153,7 @@ fn unsigned_div(width: Width, dividend: u32, divisor: u16) -> Option<Division>
     }
 }
 
-/// IDIV by a divisor that is not zero.
+/// IDIV by a divisor that is not zero; None where the quotient is out of range.
 #[tactic(auto, unfolding(crate::specs::Products::quotient_of))]
 fn signed_div(width: Width, dividend: u32, divisor: u16) -> Option<Division>
     requires dividend { dividend < size width * size width }
@@ -169,7 +170,8 @@ fn signed_div(width: Width, dividend: u32, divisor: u16) -> Option<Division>
     signed_division(width, quotient, remainder)
 }
 
-/// A signed quotient and remainder as values of the width; none where the quotient is out of range.
+/// A signed quotient and remainder as values of the width; None where the quotient is outside -127 to 127 or -32,767 to
+/// 32,767.
 #[tactic(auto, unfolding(crate::specs::Products::signed_division))]
 fn signed_division(width: Width, quotient: i64, remainder: i64) -> Option<Division>
     requires { unsigned_abs remainder < half width }
@@ -187,7 +189,7 @@ fn signed_division(width: Width, quotient: i64, remainder: i64) -> Option<Divisi
     }
 }
 
-/// The quotient, cut towards zero. Thirty-two bits would not hold that of the least dividend by -1.
+/// The quotient, cut towards zero. (Thirty-two bits would not hold that of the least dividend by -1.)
 #[tactic(auto, using(crate::proofs::Quotients::quotient_smaller))]
 fn truncated_quotient(dividend: i64, divisor: i64) -> i64
     requires dividend { unsigned_abs dividend ≤ 2147483648 }
@@ -197,7 +199,7 @@ fn truncated_quotient(dividend: i64, divisor: i64) -> i64
     dividend / divisor
 }
 
-/// What the truncated quotient leaves, nearer to zero than the divisor.
+/// The remainder of a division cut towards zero: it has the dividend's sign, and is nearer to zero than the divisor.
 #[tactic(auto, using(crate::proofs::Quotients::remainder_smaller))]
 fn truncated_remainder(dividend: i64, divisor: i64) -> i64
     requires dividend { unsigned_abs dividend ≤ 2147483648 }
@@ -208,7 +210,7 @@ fn truncated_remainder(dividend: i64, divisor: i64) -> i64
     dividend % divisor
 }
 
-/// The signed number that a value of twice the width stands for.
+/// The signed number that a value of twice the width stands for in two's complement.
 #[tactic(auto, unfolding(crate::specs::Products::signed_double))]
 fn signed_double(width: Width, value: u32) -> i64
     requires { value < size width * size width }
@@ -222,7 +224,7 @@ fn signed_double(width: Width, value: u32) -> i64
     }
 }
 
-/// The value of the width that stands for a signed number.
+/// The value of the width that stands for a signed number in two's complement.
 fn single_complement(width: Width, number: i32) -> u16
     requires { unsigned_abs number ≤ half width }
     ensures value { result ≡ twos_complement (size width) number }

@@ -12,7 +12,7 @@ use Rattle.dm_blocks.specs.Chain.{is_free, is_parted}
 use Rattle.dm_arena.specs.Pair.{Placed, Pairs}
 use Rattle.dm_arena.specs.Linking.{Links, TellsLinked}
 
--- an allocation's result, and the memory that it leaves, are functions of the memory and the arguments
+-- an allocation (48h) has one result, and leaves one memory
 abbrev pub AllocationHasOneAnswer : Type 0
 AllocationHasOneAnswer = (upper : Bool) (S : Memory) (strategy : Strategy) (n owner : ℕ) (r q : Result ℕ ArenaRefusal) (T U : Memory) → Allocates upper S strategy n owner r T → Allocates upper S strategy n owner q U → (r ≡ q) × (T ≡ U)
 
@@ -24,19 +24,20 @@ FreeingHasOneAnswer = (upper : Bool) (S : Memory) (segment : ℕ) (r q : Result 
 abbrev pub ResizingHasOneAnswer : Type 0
 ResizingHasOneAnswer = (upper : Bool) (S : Memory) (segment n : ℕ) (r q : Result (Unit {0}) ArenaRefusal) (T U : Memory) → Resizes upper S segment n r T → Resizes upper S segment n q U → (r ≡ q) × (T ≡ U)
 
--- freeing all blocks of an owner has one result, and leaves one memory
+-- freeing all blocks of an owner, as at the end of a program, has one result, and leaves one memory
 abbrev pub ReleasingHasOneAnswer : Type 0
 ReleasingHasOneAnswer = (upper : Bool) (S : Memory) (owner : ℕ) (r q : Result (Unit {0}) ArenaRefusal) (T U : Memory) → Releases upper S owner r T → Releases upper S owner q U → (r ≡ q) × (T ≡ U)
 
--- allocating two blocks, a program's and its environment's, has one result, and leaves one memory
+-- allocating the two blocks of a program, the environment's and its own (4Bh), has one result, and leaves one memory
 abbrev pub PairingHasOneAnswer : Type 0
 PairingHasOneAnswer = (upper : Bool) (S : Memory) (strategy : Strategy) (environment least most : ℕ) (r q : Result Placed ArenaRefusal) (T U : Memory) → Pairs upper S strategy environment least most r T → Pairs upper S strategy environment least most q U → (r ≡ q) × (T ≡ U)
 
--- linking the arena with upper memory, or parting it (58h), has one result, and leaves one memory
+-- linking the arena with upper memory, or unlinking it (5803h), has one result, and leaves one memory
 abbrev pub LinkingHasOneAnswer : Type 0
 LinkingHasOneAnswer = (S : Memory) (on : Bool) (r q : Result (Unit {0}) ArenaRefusal) (T U : Memory) → Links S on r T → Links S on q U → (r ≡ q) × (T ≡ U)
 
--- no call depends on what no program sees, or changes it
+-- each call of the arena gives the same result on memory with this change as without it, and leaves the same memory
+-- but for the change
 pub record CallsIgnoreUnseen (change : Memory → Memory) : Type 0 where
   pub allocation : (upper : Bool) (S T : Memory) (strategy : Strategy) (n owner : ℕ) (r : Result ℕ ArenaRefusal) → Allocates upper S strategy n owner r T → Allocates upper (change S) strategy n owner r (change T)
   pub freeing : (upper : Bool) (S T : Memory) (segment : ℕ) (r : Result (Unit {0}) ArenaRefusal) → Frees upper S segment r T → Frees upper (change S) segment r (change T)
@@ -46,12 +47,13 @@ pub record CallsIgnoreUnseen (change : Memory → Memory) : Type 0 where
   pub telling : (S : Memory) (r : Result Bool ArenaRefusal) → TellsLinked S r → TellsLinked (change S) r
   pub linking : (S T : Memory) (on : Bool) (r : Result (Unit {0}) ArenaRefusal) → Links S on r T → Links (change S) on r (change T)
 
--- each change of memory that no program sees leaves each call what it is
+-- the calls of the arena neither depend on bytes that no program can see nor change them
 abbrev pub IgnoresUnseen : Type 0
 IgnoresUnseen = (change : Memory → Memory) → IsUnseen change → CallsIgnoreUnseen change
 
--- where upper memory doesn't belong to the arena: each block without an owner is free, each strategy looks at all
--- blocks, no block is the link block's, and there is no second list beside the first
+-- what the definitions say where upper memory doesn't belong to the arena: a block is free if its owner is 0, each
+-- strategy looks at all free blocks and chooses by its fit alone, no block is the link block, and there is no second
+-- list
 pub record IsConventional : Type 0 where
   pub free : (b : Header) → is_free false b ≡ (b.owner == 0)
   pub whole : (L : List Header) (strategy : Strategy) (b : Header) → is_candidate false (in_effect false L strategy) b ≡ (b.owner == 0)

@@ -1,4 +1,5 @@
--- Whether the list of conventional memory is linked with that of upper memory, and how that is changed.
+-- Function 58h with AL = 2 and 3: whether the list of conventional memory is linked with that of upper memory, and
+-- how it is linked and unlinked.
 -- MS-DOS Programmer's Reference, function 58h, AL = 2 and 3.
 use Rattle.std.specs.Prelude.{◌≡◌, ℕ, Bool, true, false, List, [], ◌∷◌, ◌++◌, ◌⊎◌, Result, Ok, Err}
 use Rattle.dm_space.specs.Memory.{Memory}
@@ -7,7 +8,7 @@ use Rattle.dm_arena.specs.declared.refusal.ArenaRefusal.{ArenaRefusal}
 use Rattle.dm_arena.specs.declared.refusal.ArenaRefusal.TheVariants.{Destroyed}
 use Rattle.dm_blocks.specs.Chain.{Becomes, IsArena, IsArenaBehind, NoArena, NoArenaBehind, first_header, is_linked, link_header, next}
 
--- whether the arena is linked
+-- function 5802h: whether the first list goes on in upper memory; `Destroyed` if S spells no clear list
 abbrev pub TellsLinked : Memory → Result Bool ArenaRefusal → Type 0
 TellsLinked S (Ok on) = (L : List Header) × IsArena S first_header L × (on ≡ is_linked L)
 TellsLinked S (Err e) = (e ≡ Destroyed) × NoArena S first_header
@@ -23,15 +24,15 @@ abbrev pub BeginsAt : List Header → ℕ → Type 0
 BeginsAt [] segment = ⊥
 BeginsAt (b ∷ L) segment = b.segment ≡ segment
 
--- the arena is linked already where it is to be, or parted where it is to be, and nothing changes
+-- the list already is linked, or unlinked, as `on` asks, and memory stays
 pub record IsSo (S : Memory) (on : Bool) (T : Memory) : Type 0 where
   pub list : List Header
   pub arena : IsArena S first_header list
   pub is : is_linked list ≡ on
   pub same : T ≡ S
 
--- the first list, not linked, ends at the link block's header and goes on with the second; the first followed by the
--- second is clear, and they share no header
+-- the first list, not linked, ends at the link block's header, where S spells a second list that is clear together
+-- with it; in T both are one list
 pub record BecomesLinked (S T : Memory) : Type 0 where
   pub first : List Header
   pub second : List Header
@@ -41,7 +42,7 @@ pub record BecomesLinked (S T : Memory) : Type 0 where
   pub behind : IsArenaBehind S first link_header second
   pub becomes : Becomes S first_header (first ++ second) T
 
--- the list ends before the link block's header
+-- the list, which is linked, ends in T before the link block's header: what follows is no longer part of it
 pub record BecomesUnlinked (S T : Memory) : Type 0 where
   pub before : List Header
   pub after : List Header
@@ -49,13 +50,14 @@ pub record BecomesUnlinked (S T : Memory) : Type 0 where
   pub begins : BeginsAt after link_header
   pub becomes : Becomes S first_header before T
 
--- to link: no arena; or one that doesn't end at the link block's header, or with which no second list is clear. To
--- part: no arena
+-- why linking (true) or unlinking (false) fails: S spells no clear list; or, to link, the list is not linked and
+-- doesn't end at the link block's header, or S spells no second list there that is clear together with it
 abbrev pub LinkRefused : Memory → Bool → Type 0
 LinkRefused S true = NoArena S first_header ⊎ ((L : List Header) × IsArena S first_header L × (is_linked L ≡ false) × (EndsAt L link_header → NoArenaBehind S L link_header))
 LinkRefused S false = NoArena S first_header
 
--- the linking of the arena with upper memory, or its parting, from memory S to memory T
+-- function 5803h: the first list is linked with upper memory (true) or unlinked (false), from memory S to memory T;
+-- an error leaves memory unchanged
 abbrev pub Links : Memory → Bool → Result (Unit {0}) ArenaRefusal → Memory → Type 0
 Links S true (Ok u) T = IsSo S true T ⊎ BecomesLinked S T
 Links S false (Ok u) T = IsSo S false T ⊎ BecomesUnlinked S T

@@ -26,11 +26,13 @@ pub record Pairing (upper : Bool) (S : Memory) (start : ℕ) (strategy : Strateg
   pub enough : least ≤ size
   pub owner_is : owner ≡ taken_segment strategy.fit size block + 1
 
--- the list with both blocks taken
+-- the list with both blocks of a `Pairing` taken, and the rests of the cut blocks free
 abbrev pub with_pair : {upper : Bool} {S : Memory} {start : ℕ} {strategy : Strategy} {environment least most owner size : ℕ} → Pairing upper S start strategy environment least most owner size → List Header
 with_pair {upper} {S} {start} {strategy} {environment} {least} {most} {owner} {size} p = p.before ++ (cut_block strategy.fit size owner p.block ++ p.after)
 
--- no arena, or a last list that is not clear; no room for both blocks
+-- why no pair is allocated: `Destroyed` if S spells no clear list, or the list with both blocks would not be clear;
+-- `Short` if there is no room for both, where `room` is the largest free block that the strategy looks at for the
+-- first one. `NoBlock` is never returned
 abbrev pub PairRefused : Bool → Memory → ℕ → Strategy → ℕ → ℕ → ℕ → ArenaRefusal → Type 0
 PairRefused upper S start strategy environment least most Destroyed =
     NoArena S start
@@ -40,8 +42,9 @@ PairRefused upper S start strategy environment least most (Short room) =
     × ((owner size : ℕ) → Pairing upper S start strategy environment least most owner size → ⊥)
 PairRefused upper S start strategy environment least most NoBlock = ⊥
 
--- a planned pair: the segments of both blocks, of which the program's owns both, and its size; and the headers that
--- stand in the place of those of the blocks that are cut
+-- a planned pair, as contracts see it: the segments of the environment and of the program's block, which owns both,
+-- and the size of the program's block in paragraphs; and the headers to be written, `first` for the environment's cut
+-- block and `second` for the program's
 pub record Planned : Type 0 where
   pub environment : ℕ
   pub program : ℕ
@@ -49,7 +52,7 @@ pub record Planned : Type 0 where
   pub first : List Header
   pub second : List Header
 
--- the pair is planned on the memory S
+-- `pair` is the plan of a `Pairing` on the memory S, and the list with both blocks is clear
 pub record IsPair (upper : Bool) (S : Memory) (start : ℕ) (strategy : Strategy) (environment least most : ℕ) (pair : Planned) : Type 0 where
   pub pairing : Pairing upper S start strategy environment least most pair.program pair.size
   pub environment_is : pair.environment ≡ taken_segment strategy.fit environment pairing.first.block + 1
@@ -57,7 +60,8 @@ pub record IsPair (upper : Bool) (S : Memory) (start : ℕ) (strategy : Strategy
   pub second_is : pair.second ≡ cut_block strategy.fit pair.size pair.program pairing.block
   pub clear : IsClear S (with_pair pairing)
 
--- where the blocks of a pair are: the segments of both, and the size of the program's in paragraphs
+-- where the blocks of a pair are: the segments of the environment and of the program's block, and the size of the
+-- latter in paragraphs
 pub record Placed : Type 0 where
   pub environment : ℕ
   pub program : ℕ
@@ -67,15 +71,15 @@ pub record Placed : Type 0 where
 abbrev pub placed_of : Planned → Placed
 placed_of pair = record { environment = pair.environment; program = pair.program; size = pair.size }
 
--- a pair planned and written, from memory S to memory T. `upper` is the setting: whether upper memory belongs to the
--- arena
+-- a pair planned and written, from memory S to memory T: the headers of the list with both blocks are all that
+-- changes; an error leaves memory unchanged. `upper` is the setting whether upper memory belongs to the arena
 abbrev pub Pairs : Bool → Memory → Strategy → ℕ → ℕ → ℕ → Result Placed ArenaRefusal → Memory → Type 0
 Pairs upper S strategy environment least most (Ok placed) T =
     (pair : Planned) × (p : IsPair upper S first_header strategy environment least most pair) × (placed ≡ placed_of pair)
     × Becomes S first_header (with_pair p.pairing) T
 Pairs upper S strategy environment least most (Err e) T = (T ≡ S) × PairRefused upper S first_header strategy environment least most e
 
--- the memory is as the pair was planned on
+-- the pair was planned on this memory and setting, for some strategy and sizes
 pub record IsPlannedOn (upper : Bool) (S : Memory) (pair : Planned) : Type 0 where
   pub strategy : Strategy
   pub environment : ℕ

@@ -13,14 +13,14 @@ use crate::standing::may_split;
 use dm_blocks::{FIRST, is_arena, is_last};
 use dm_space::Space;
 
-/// What an allocation will write and return.
+/// What an allocation writes and returns: the headers for the block that is cut, and the segment of the new block.
 #[derive(Clone, Copy)]
 struct Plan {
     cut: Cut,
     segment: u16,
 }
 
-/// Plans an allocation. Nothing is written.
+/// Plans an allocation (48h) without writing anything. Fails as `allocate` does.
 fn plan_allocation(
     space: &Space,
     strategy: Strategy,
@@ -52,7 +52,8 @@ fn plan_allocation(
     })
 }
 
-/// Writes the joined list, with the headers of a cut in the place of one of its blocks.
+/// Writes the list with runs of free blocks joined, and the headers of a cut in place of those of one of its blocks.
+/// Bytes 0 to 4 of the headers of the new list are all that changes.
 fn write_joined(space: &mut Space, cut: Cut, upper: bool)
     requires placing { Placing upper space.old.memory first_header (cut_list cut) }
     requires first { next cut.first ≤ 0xFFFF }

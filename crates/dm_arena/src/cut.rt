@@ -1,4 +1,4 @@
-//! A block cut in two.
+//! A block cut in two: the part that is taken, and the rest, which is free.
 ghost use Rattle.std.specs.Prelude.{◌≡◌, ℕ, ◌+◌, ◌<◌, ◌≤◌, List, MatchOption};
 ghost use Rattle.dm_blocks.specs.declared.header.Header.{Header};
 ghost use Rattle.dm_blocks.specs.Chain.{next};
@@ -11,14 +11,15 @@ use crate::writing::write_header;
 use dm_blocks::{Entry, Header};
 use dm_space::Space;
 
-/// The one or two headers that stand in the place of a block's.
+/// The one or two headers that replace the header of a block: the lower one first.
 #[derive(Clone, Copy)]
 pub(crate) struct Cut {
     pub(crate) first: Header,
     pub(crate) second: Option<Header>,
 }
 
-/// A block with n of its paragraphs taken by the owner, and the rest free.
+/// The headers of a block with n of its paragraphs given to the owner and the rest free: at the low
+/// end with first and best fit, at the high end with last fit. One header if n is the block's size.
 pub(crate) fn cut_of(fit: Fit, n: u16, owner: u16, block: Header) -> Cut
     requires within { n ≤ block.size }
     requires fits { next block ≤ 0xFFFF }
@@ -53,7 +54,7 @@ pub(crate) fn cut_of(fit: Fit, n: u16, owner: u16, block: Header) -> Cut
     }
 }
 
-/// The segment of the header whose block is the taken part.
+/// The segment of the header of the n paragraphs that are taken from a block.
 pub(crate) fn taken_of(fit: Fit, n: u16, block: Header) -> u16
     requires within { n ≤ block.size }
     requires fits { next block ≤ 0xFFFF }
@@ -66,7 +67,8 @@ pub(crate) fn taken_of(fit: Fit, n: u16, block: Header) -> u16
     }
 }
 
-/// Writes the headers of a cut, the upper one first.
+/// Writes the headers of a cut, the upper one first. `last` says that no header of the list follows
+/// the block. Nothing else changes.
 pub(crate) fn write_cut(space: &mut Space, cut: Cut, last: bool)
     requires first { next cut.first ≤ 0xFFFF }
     requires second { MatchOption cut.second (Unit {0}) (λ c. next c ≤ 0xFFFF) }

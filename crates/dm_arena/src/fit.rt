@@ -13,7 +13,7 @@ use crate::joined::joined_at;
 use dm_blocks::{FIRST, Header, LINK, is_linked};
 use dm_space::Space;
 
-/// Which of the free blocks that are large enough an allocation takes (function 58h).
+/// Which of the free blocks that are large enough an allocation takes (functions 5800h and 5801h).
 #[derive(Clone, Copy, Debug, PartialEq, Eq)]
 pub struct Strategy {
     /// Which block of an area.
@@ -23,7 +23,7 @@ pub struct Strategy {
 }
 
 impl Strategy {
-    /// The strategy that looks at all blocks alike.
+    /// The strategy with this fit that looks at all blocks alike.
     pub fn everywhere(fit: Fit) -> Strategy
         ensures { result ≡ record { fit = fit; area = All } }
     {
@@ -34,7 +34,7 @@ impl Strategy {
     }
 }
 
-/// The blocks that a strategy looks at in a list that continues in upper memory; in others, all.
+/// The blocks that a strategy looks at where the list goes on in upper memory. In other lists it looks at all blocks.
 #[derive(Clone, Copy, Debug, PartialEq, Eq)]
 pub enum Area {
     /// All blocks alike.
@@ -56,16 +56,17 @@ pub enum Fit {
     Last,
 }
 
-/// What a search of the joined list has found.
+/// What a search of the joined list has found so far.
 #[derive(Clone, Copy)]
 pub(crate) struct Choice {
-    /// The block that the strategy takes.
+    /// The block that the strategy takes; None if none fits.
     pub(crate) block: Option<Header>,
-    /// The size of the largest free block that the strategy looks at, 0 if there is none.
+    /// The size in paragraphs of the largest free block that the strategy looks at, 0 if there is none.
     pub(crate) largest: u16,
 }
 
-/// The strategy that is in effect: it looks at all blocks, unless the list continues in upper memory.
+/// The strategy that a call uses: its area counts only where upper memory belongs to the arena (`upper`) and the list
+/// goes on there; else it looks at all blocks.
 pub(crate) fn in_effect(space: &Space, strategy: Strategy, upper: bool) -> Strategy
     requires { (L : List Header) × IsSpelledFrom space.now.memory first_header L }
     ensures { (L : List Header) → IsSpelledFrom space.now.memory first_header L → result ≡ Blocks.in_effect upper L strategy }
@@ -76,7 +77,8 @@ pub(crate) fn in_effect(space: &Space, strategy: Strategy, upper: bool) -> Strat
     Strategy::everywhere(strategy.fit)
 }
 
-/// The strategy that is in effect once a new header stands in the list too.
+/// The strategy that a call uses once the header `new`, if there is one, stands in the list too: it may be the link
+/// block's.
 pub(crate) fn in_effect_beside(
     space: &Space,
     strategy: Strategy,
@@ -95,14 +97,14 @@ pub(crate) fn in_effect_beside(
     in_effect(space, strategy, upper)
 }
 
-/// Whether the block is one of upper memory.
+/// Whether the block is one of upper memory: its header is above the link block's.
 fn is_upper(header: Header) -> bool
     ensures { result ≡ Blocks.is_upper header }
 {
     LINK < header.segment
 }
 
-/// Whether the strategy looks at a block.
+/// Whether the strategy looks at a block: it is free, and in the strategy's area.
 fn is_candidate(strategy: Strategy, header: Header, upper: bool) -> bool
     ensures { result ≡ Blocks.is_candidate upper strategy header }
 {
@@ -115,7 +117,7 @@ fn is_candidate(strategy: Strategy, header: Header, upper: bool) -> bool
     }
 }
 
-/// Whether, of two blocks of one area, the first one is taken.
+/// Whether the fit takes `header` rather than `old`, two blocks of one area.
 fn prefers_by(fit: Fit, header: Header, old: Header) -> bool
     ensures { result ≡ Blocks.prefers_by fit header old }
 {
@@ -128,7 +130,7 @@ fn prefers_by(fit: Fit, header: Header, old: Header) -> bool
     }
 }
 
-/// Whether, of two blocks that fit, the first one is taken.
+/// Whether the strategy takes `header` rather than `old`, two blocks that are large enough.
 fn prefers(strategy: Strategy, header: Header, old: Header) -> bool
     ensures { result ≡ Blocks.prefers strategy header old }
 {
@@ -145,7 +147,8 @@ fn prefers(strategy: Strategy, header: Header, old: Header) -> bool
     }
 }
 
-/// What the search takes so far, once it has met one more block.
+/// The block that the search takes once it has met one more block: that block if it fits n paragraphs and is
+/// preferred to `best`, else `best`.
 fn better_of(
     strategy: Strategy,
     n: u16,
@@ -168,14 +171,16 @@ fn better_of(
     }
 }
 
-/// A block that is spoken for, by its header's segment, and the part of it that stays free.
+/// A block from which the first block of a pair is to be cut: the segment of its header, and its `rest`, which stays
+/// free, None if nothing is left.
 #[derive(Clone, Copy)]
 pub(crate) struct Spoken {
     pub(crate) segment: u16,
     pub(crate) rest: Option<Header>,
 }
 
-/// What there is to choose from, of a block of the list.
+/// The part of a block that is left to choose from: all of it; of the block of `spoken`, from which the first block
+/// of a pair is cut, only the rest.
 fn left_part(spoken: Option<Spoken>, header: Header) -> Option<Header>
     ensures { result ≡ Walks.left_part spoken header }
 {
@@ -191,7 +196,7 @@ fn left_part(spoken: Option<Spoken>, header: Header) -> Option<Header>
     }
 }
 
-/// What the search has found once it has met one more block.
+/// The choice once the search has met one more block, or None for nothing.
 fn meet(strategy: Strategy, n: u16, choice: Choice, header: Option<Header>, upper: bool) -> Choice
     ensures block { result.block ≡ pick upper strategy n choice.block (option_to_list header) }
     ensures largest { result.largest ≡ max choice.largest (largest upper strategy (option_to_list header)) }
@@ -210,8 +215,8 @@ fn meet(strategy: Strategy, n: u16, choice: Choice, header: Option<Header>, uppe
     }
 }
 
-/// The free block of the joined list that the strategy takes for n paragraphs, where one block may
-/// be spoken for.
+/// Searches the joined list for the free block that the strategy takes for n paragraphs, and for the size of the
+/// largest. Of the block of `spoken`, from which the first block of a pair is cut, only the rest counts.
 pub(crate) fn choose(
     space: &Space,
     strategy: Strategy,

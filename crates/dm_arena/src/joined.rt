@@ -9,8 +9,8 @@ use crate::writing::write_header;
 use dm_blocks::{Entry, FIRST, entry_at};
 use dm_space::Space;
 
-/// The header at a segment from which a list is spelled. If its block is free, it takes in the free blocks right after
-/// it. Nothing is written. With `upper`, upper memory belongs to the arena, and the link block counts as taken.
+/// Reads the header at a segment from which a list is spelled. If its block is free, it takes in the free blocks
+/// right after it. With `upper`, upper memory belongs to the arena, and the link block counts as taken.
 pub(crate) fn joined_at(space: &Space, segment: u16, upper: bool) -> Entry
     requires { (L : List Header) × IsSpelledFrom space.now.memory segment L }
     ensures there { result.header.segment ≡ segment }
@@ -31,7 +31,8 @@ pub(crate) fn joined_at(space: &Space, segment: u16, upper: bool) -> Entry
     }
 }
 
-/// Writes the joined list.
+/// Writes the first list with each run of free blocks joined into one. Bytes 0 to 4 of the headers of the joined list
+/// are all that changes; `upper` as for `joined_at`.
 pub(crate) fn join_all(space: &mut Space, upper: bool)
     requires { (L : List Header) × IsArena space.old.memory first_header L }
     ensures memory { (L : List Header) → IsArena space.old.memory first_header L → IsJoined upper space.old.memory first_header L space.new.memory }

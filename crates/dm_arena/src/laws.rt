@@ -1,4 +1,4 @@
-//! Laws of the arena's definitions, proved of no memory in particular.
+//! Laws of the arena's definitions: each is the contract of a function that does nothing.
 ghost use Rattle.dm_arena.specs.Laws.{AllocationHasOneAnswer, FreeingHasOneAnswer, ResizingHasOneAnswer, ReleasingHasOneAnswer, PairingHasOneAnswer, LinkingHasOneAnswer, IgnoresUnseen, IsConventional};
 
 /// Memory, setting, strategy, size and owner determine what an allocation returns and every byte that it
@@ -22,19 +22,19 @@ pub fn releasing_has_one_answer()
     ensures { ReleasingHasOneAnswer }
 {}
 
-/// Memory, setting, strategy and sizes determine where a pair of blocks lies, why none is planned, and every
-/// byte that it leaves.
+/// Memory, setting, strategy and sizes determine where a pair of blocks is placed, or the error, and every byte that
+/// it leaves.
 pub fn pairing_has_one_answer()
     ensures { PairingHasOneAnswer }
 {}
 
-/// Memory determines what linking or unlinking the lists returns and every byte that it leaves.
+/// Memory and the direction determine what linking or unlinking the lists returns and every byte that it leaves.
 pub fn linking_has_one_answer()
     ensures { LinkingHasOneAnswer }
 {}
 
-/// Where upper memory doesn't belong to the arena, each block without an owner is free, a strategy
-/// looks at all blocks by its fit, and there are no link block and no second list.
+/// Where upper memory doesn't belong to the arena, a block is free if its owner is 0, a strategy looks at all free
+/// blocks and chooses by its fit alone, and there are no link block and no second list.
 pub fn arena_is_conventional()
     ensures { IsConventional }
 {}

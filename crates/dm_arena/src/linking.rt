@@ -22,10 +22,10 @@ pub fn linked(space: &Space) -> Result<bool, ArenaRefusal>
     Ok(is_linked(space))
 }
 
-/// Links the list with that of upper memory, or parts them (MS-DOS Programmer's Reference, function
-/// 5803h). Where it is so already, nothing changes.
+/// Links the list with that of upper memory (`on`), or unlinks them (MS-DOS Programmer's Reference,
+/// function 5803h). Where it is so already, nothing changes.
 ///
-/// Byte 0 of the header before the link block's is all that changes: `M` linked, `Z` parted.
+/// Byte 0 of the header before the link block's is all that changes: `M` if linked, `Z` if not.
 ///
 /// # Errors
 ///

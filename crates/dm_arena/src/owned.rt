@@ -1,4 +1,4 @@
-//! Blocks that are owned already: freed and resized (functions 49h and 4Ah).
+//! Blocks that are owned already: freed (49h), resized (4Ah), and all of an owner freed at the end of a program.
 ghost use Rattle.std.specs.Prelude.{◌≡◌, ◌≤◌, List, MatchOption};
 ghost use Rattle.dm_blocks.specs.declared.header.Header.{Header};
 ghost use Rattle.dm_blocks.specs.Chain.{first_header, next, Becomes, IsArena};
@@ -13,7 +13,8 @@ use crate::standing::may_split_outside;
 use dm_blocks::{Entry, FIRST, Header, LINK, entry_at, find, has_second, is_arena, is_linked};
 use dm_space::Space;
 
-/// The header whose block begins at a segment, if the list has one and it isn't the link block's.
+/// The header whose block begins at a segment; None if the list has none, or if it is the link block (functions 49h
+/// and 4Ah refuse that).
 fn find_block(space: &Space, segment: u16, upper: bool) -> Option<Entry>
     requires { (L : List Header) × IsSpelledFrom space.now.memory first_header L }
     ensures found { FindsOther upper space.now.memory first_header segment result }
@@ -55,7 +56,7 @@ pub fn free(space: &mut Space, segment: u16, upper: bool) -> Result<(), ArenaRef
     Ok(())
 }
 
-/// A header whose block takes in the run of free blocks after it.
+/// The header with the run of free blocks after its block taken in, as function 4Ah does before it cuts the block.
 fn grow(space: &Space, entry: Entry, upper: bool) -> Entry
     requires fits { next entry.header ≤ 0xFFFF }
     requires growable { (K : List Header) × IsGrowable space.now.memory entry K }
@@ -78,15 +79,15 @@ fn grow(space: &Space, entry: Entry, upper: bool) -> Entry
 
 /// Gives the block at a segment n paragraphs (MS-DOS Programmer's Reference, function 4Ah).
 ///
-/// The block first takes in the run of free blocks after it, then it is cut to n as by first fit.
-/// Its owner stays. Bytes 0 to 4 of its header and of the one after its n paragraphs are all that
-/// changes. `upper` says whether upper memory belongs to the arena.
+/// The block first takes in the run of free blocks after it, then it is cut to n as by first fit. Its owner stays.
+/// Bytes 0 to 4 of its header and of the one after its n paragraphs are all that changes. `upper` says whether upper
+/// memory belongs to the arena.
 ///
 /// # Errors
 ///
-/// `Destroyed` where memory spells no clear list; else `NoBlock` where no block of the list begins
-/// at the segment, or the link block does; else `Short` where n is over the block's size with its run, which it
-/// returns; else `Destroyed` where the new list would not be clear. A call that fails changes no byte.
+/// `Destroyed` where memory spells no clear list; else `NoBlock` where no block of the list begins at the segment, or
+/// the link block does; else `Short` where n is over the size of the block with the free blocks after it, with that
+/// size; else `Destroyed` where the new list would not be clear. A call that fails changes no byte.
 pub fn resize(space: &mut Space, segment: u16, n: u16, upper: bool) -> Result<(), ArenaRefusal>
     ensures memory { Resizes upper space.old.memory segment n result space.new.memory }
     ensures scratch { space.new.scratch ≡ space.old.scratch }
@@ -112,7 +113,7 @@ pub fn resize(space: &mut Space, segment: u16, n: u16, upper: bool) -> Result<()
     Ok(())
 }
 
-/// A header, freed if it is the owner's.
+/// The header with owner 0 if its owner is the given one; else as it is.
 fn released_of(header: Header, owner: u16) -> Header
     ensures { result ≡ released_block owner header }
 {
@@ -126,7 +127,8 @@ fn released_of(header: Header, owner: u16) -> Header
     }
 }
 
-/// Writes the list from a segment on with each block of an owner freed.
+/// Frees each block of an owner in the list from a segment on. Bytes 0 to 4 of the list's headers are all that
+/// changes.
 fn release(space: &mut Space, first: u16, owner: u16)
     requires { (L : List Header) × IsArena space.old.memory first L }
     ensures memory { (L : List Header) → IsArena space.old.memory first L → Becomes space.old.memory first (released owner L) space.new.memory }

@@ -1,4 +1,4 @@
-//! Two blocks planned and written together: the environment of a program, and the program's own.
+//! Two blocks planned and written together for function 4Bh: the environment of a program, and the program's own.
 ghost use Rattle.std.specs.Prelude.{◌≡◌, ◌≤◌, ◌++◌, ◌⊎◌, min, List, MatchBool, MatchResult, option_to_list};
 ghost use Rattle.dm_blocks.specs.declared.header.Header.{Header};
 ghost use Rattle.dm_blocks.specs.Chain.{first_header, next, Becomes};
@@ -17,10 +17,9 @@ use dm_blocks::{FIRST, Header, is_arena, is_last};
 use dm_space::Space;
 use std::marker::Model;
 
-/// Two blocks that were planned together on a memory.
+/// Two blocks that were planned together on a memory; nothing is written yet.
 ///
-/// Contracts see the segments of both, the size of the second, and the headers that are to be
-/// written.
+/// Contracts see the segments of both, the size of the second, and the headers that are to be written.
 #[derive(Drop)]
 pub struct Pair {
     environment: u16,
@@ -71,7 +70,7 @@ impl Pair {
     }
 }
 
-/// A block of which n paragraphs are spoken for.
+/// The block from which the first block of a pair takes n paragraphs, and its rest, which the second may take.
 fn spoken_of(fit: Fit, n: u16, block: Header) -> Spoken
     requires within { n ≤ block.size }
     requires fits { next block ≤ 0xFFFF }
@@ -99,7 +98,7 @@ fn spoken_of(fit: Fit, n: u16, block: Header) -> Spoken
     }
 }
 
-/// The smaller of two sizes.
+/// The smaller of two sizes in paragraphs.
 fn smaller(most: u32, left: u16) -> u16
     ensures { result ≡ min most left }
 {
@@ -110,7 +109,8 @@ fn smaller(most: u32, left: u16) -> u16
     }
 }
 
-/// Whether the new headers of both cuts may stand beside the joined list and beside each other.
+/// Whether the new headers of both cuts, if they make any, may stand beside those of the joined list and beside each
+/// other: writes there are kept, and no two share a place.
 fn are_clear(space: &Space, first: Cut, second: Cut, upper: bool) -> bool
     requires { (L : List Header) × IsSpelledFrom space.now.memory first_header L }
     ensures { (L : List Header) → IsSpelledFrom space.now.memory first_header L → IsNew (join upper L) first.second → IsNew (option_to_list first.second ++ join upper L) second.second → MatchBool result (MaySplit space.now.memory (join upper L) first.second × MaySplit space.now.memory (option_to_list first.second ++ join upper L) second.second) ((MaySplit space.now.memory (join upper L) first.second → ⊥) ⊎ (MaySplit space.now.memory (option_to_list first.second ++ join upper L) second.second → ⊥)) }
@@ -121,19 +121,18 @@ fn are_clear(space: &Space, first: Cut, second: Cut, upper: bool) -> bool
     may_split(space, FIRST, first.second, second.second, upper)
 }
 
-/// Plans two blocks: the first with so many paragraphs, then, of what is left, the second with the
-/// smaller of `most` paragraphs and the largest free block. Nothing is written.
+/// Plans two blocks: the first with `environment_paragraphs`, then, of what is left, the second with the smaller of
+/// `most` paragraphs and the largest free block. Nothing is written.
 ///
-/// Both are chosen by the strategy, as by an allocation of each in turn, once runs of free blocks
-/// are joined. `upper` says whether upper memory belongs to the arena: then the strategy's area counts where
-/// the list is linked, for the second block also where the first one makes the link block's header.
+/// Both are chosen by the strategy, as by an allocation of each in turn, once runs of free blocks are joined. `upper`
+/// says whether upper memory belongs to the arena: then the strategy's area counts where the list is linked, for the
+/// second block also where the first one makes the link block's header.
 ///
 /// # Errors
 ///
-/// `Destroyed` where memory spells no clear list; else `Short` where the first block has no room,
-/// or the second would have less than `least` paragraphs, with the size of the largest free block
-/// that the strategy looks at for the first one once runs are joined; else `Destroyed` where the last list
-/// would not be clear.
+/// `Destroyed` where memory spells no clear list; else `Short` where the first block has no room, or the second would
+/// have less than `least` paragraphs, with the size of the largest free block that the strategy looks at for the
+/// first one once runs are joined; else `Destroyed` where the last list would not be clear.
 pub fn plan_pair(
     space: &Space,
     strategy: Strategy,

@@ -11,8 +11,8 @@ pub enum ArenaRefusal {
     /// No free block is large enough (DOS error 8, "Not enough memory").
     #[error("not enough memory")]
     Short {
-        /// In paragraphs, the largest size that would have succeeded; of two blocks together, the
-        /// largest free block that the strategy looks at.
+        /// In paragraphs: for an allocation the largest free block that the strategy looks at, 0 if there is none,
+        /// and the same for the first of two blocks together; for a resize the block with the free blocks after it.
         largest: u16,
     },
     /// No block of the list begins at the segment, or the link block does (DOS error 9, "Invalid memory

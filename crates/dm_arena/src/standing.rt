@@ -1,7 +1,9 @@
-//! Whether a new header may stand beside those of a list.
+//! Whether a new header may stand beside those of a list: a write there is kept, and no other
+//! header has the same place.
 //!
-//! RAM below the frame and upper memory RAM are their own place, so that only a new header in the
-//! frame has to be compared with the others.
+//! Each address of conventional and upper memory RAM has a place of its own. So only a new header
+//! in the EMS page frame has to be compared with the others. Pages are blocks of the pool, offsets
+//! are in bytes.
 ghost use Rattle.std.specs.Prelude.{◌≡◌, ◌≢◌, ◌≤◌, ◌*◌, ◌++◌, ◌⊎◌, List, MatchBool, option_to_list};
 ghost use Rattle.dm_space.specs.declared.place.Place.TheVariants.{Page};
 ghost use Rattle.dm_space.specs.Memory.{place};
@@ -16,7 +18,7 @@ use dm_blocks::{Header, entry_at};
 use dm_pool::Block;
 use dm_space::{Place, Space};
 
-/// Whether a segment's place is a given byte of a page.
+/// Whether the byte at segment:0 is the byte of a page at this offset.
 fn is_on(space: &Space, segment: u16, block: Block, offset: usize) -> bool
     ensures { MatchBool result (place space.now.memory (16 * segment) ≡ Page block offset) (place space.now.memory (16 * segment) ≢ Page block offset) }
 {
@@ -29,7 +31,7 @@ fn is_on(space: &Space, segment: u16, block: Block, offset: usize) -> bool
     at == offset
 }
 
-/// Whether a header, if there is one, has a given byte of a page as its place.
+/// Whether a header, if there is one, stands at the byte of a page at this offset.
 fn has_place(space: &Space, header: Option<Header>, block: Block, offset: usize) -> bool
     ensures { MatchBool result (Occupies space.now.memory (option_to_list header) (Page block offset)) (Occupies space.now.memory (option_to_list header) (Page block offset) → ⊥) }
 {
@@ -39,7 +41,8 @@ fn has_place(space: &Space, header: Option<Header>, block: Block, offset: usize)
     }
 }
 
-/// Whether a header of the joined list has a given byte of a page as its place.
+/// Whether a header of the joined list from segment `first` on stands at the byte of a page at this
+/// offset.
 fn stands_joined(space: &Space, first: u16, block: Block, offset: usize, upper: bool) -> bool
     requires { (L : List Header) × IsSpelledFrom space.now.memory first L }
     ensures { (L : List Header) → IsSpelledFrom space.now.memory first L → MatchBool result (Occupies space.now.memory (join upper L) (Page block offset)) (Occupies space.now.memory (join upper L) (Page block offset) → ⊥) }
@@ -57,8 +60,8 @@ fn stands_joined(space: &Space, first: u16, block: Block, offset: usize, upper: 
     }
 }
 
-/// Whether a header at a segment that isn't between two others has a given byte of a page as its
-/// place.
+/// Whether a segment that is at most `low` or at least `high` is at the byte of a page at this
+/// offset; false for a segment between them.
 fn is_on_outside(
     space: &Space,
     segment: u16,
@@ -78,7 +81,8 @@ fn is_on_outside(
     is_on(space, segment, block, offset)
 }
 
-/// Whether a header that isn't between two segments has a given byte of a page as its place.
+/// Whether a header of the list from segment `first` on, at a segment that is at most `low` or at
+/// least `high`, stands at the byte of a page at this offset.
 fn stands_outside(
     space: &Space,
     first: u16,
@@ -103,7 +107,8 @@ fn stands_outside(
     }
 }
 
-/// Whether a header of the joined list, or one beside it, has a given byte of a page as its place.
+/// Whether a header of the joined list, or the header `beside` if there is one, stands at the byte
+/// of a page at this offset.
 fn is_occupied(
     space: &Space,
     first: u16,
@@ -121,7 +126,8 @@ fn is_occupied(
     stands_joined(space, first, block, offset, upper)
 }
 
-/// Whether a new header, if there is one, may stand beside another and those of the joined list.
+/// Whether the header `new`, if there is one, may stand beside the header `beside`, if there is
+/// one, and those of the joined list from segment `first` on.
 pub(crate) fn may_split(
     space: &Space,
     first: u16,
@@ -142,8 +148,9 @@ pub(crate) fn may_split(
     }
 }
 
-/// Whether a new header, if there is one, may stand beside those of the list that aren't between two
-/// segments.
+/// Whether the header `new`, if there is one, may stand beside the headers of the list from segment
+/// `first` on whose segments are at most `low` or at least `high`; those between are to be
+/// overwritten.
 pub(crate) fn may_split_outside(
     space: &Space,
     first: u16,

@@ -9,14 +9,15 @@ ghost use Rattle.dm_arena.specs.inner.Walks.{IsHeaderWritten};
 use dm_blocks::Entry;
 use dm_space::Space;
 
-/// Gives proofs the size of memory: a byte that is written is read back where there is one.
+/// States that memory and the scratch part have their sizes, which proofs need. It changes nothing.
 fn knows_sizes(space: &Space)
     ensures held { IsHeld space.now }
 {
     let _a20 = space.a20();
 }
 
-/// Writes a byte of the paragraph at a segment.
+/// Writes a byte at an offset, below 16, of the paragraph at a segment. A write to ROM, or where
+/// there is no memory, is lost.
 fn set_byte(space: &mut Space, segment: u16, offset: u16, value: u8)
     requires { offset < 16 }
     ensures memory { IsPoked space.old.memory (16 * segment + offset) value space.new.memory }
@@ -26,7 +27,7 @@ fn set_byte(space: &mut Space, segment: u16, offset: u16, value: u8)
     space.poke(segment, offset, value);
 }
 
-/// Writes a header's five bytes.
+/// Writes a header's five bytes: signature, owner and size. Nothing else changes.
 pub(crate) fn write_header(space: &mut Space, entry: Entry)
     requires { next entry.header ≤ 0xFFFF }
     ensures memory { IsHeaderWritten space.old.memory entry.header (signature_byte entry.last) space.new.memory }

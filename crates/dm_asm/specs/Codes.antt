@@ -1,4 +1,5 @@
--- The bytes that a statement stands for.
+-- The bytes that a statement stands for, and how many they are before labels have values. The value of a label is its
+-- place: the offset of its statement in the program's segment.
 -- Source: Intel 8086 Family User's Manual, section 2.9 (ASM-86).
 use Rattle.std.specs.Prelude.{◌≡◌, ℕ, ◌+◌, ◌*◌, ◌/◌, ◌%◌, List, [], ◌∷◌, length, map, flat_map, Option, Some, IsSome}
 use Rattle.std.specs.List.{AllByRecursion}
@@ -18,20 +19,21 @@ use Rattle.dm_asm.specs.Labels.{Label, label_place, term_place}
 
 -- ---- with the places of labels
 
--- what is written where an operand stands, before an instruction at an offset
+-- what an operand of an instruction is written as, in the terms of `dm_words`; `next` is the offset of the next
+-- instruction. None if its label is unknown, or lies out of range
 abbrev pub written_for : List Label → Mnemonic → ℕ → Term → Option Written
 written_for labels m next term = do
   place ← term_place labels term
   written_of m term place next
 
--- what is written in an instruction, with the places of its labels
+-- what an instruction is written as, with the places of its labels; None if one is unknown or lies out of range
 abbrev pub placed_words : List Label → ℕ → Instruction → Option Words
 placed_words labels next i = do
   first ← written_for labels i.mnemonic next i.first
   second ← written_for labels i.mnemonic next i.second
   Some (record { mnemonic = i.mnemonic; first = first; second = second })
 
--- the word that a value is, with the place of its label
+-- the word of a value of a DW, with the place of its label; None if that is unknown or lies out of range
 abbrev pub value_word : List Label → Value → Option ℕ
 value_word labels v = do
   place ← label_place labels v
@@ -43,12 +45,13 @@ low_high w = w % 256 ∷ w / 256 ∷ []
 
 -- ---- before labels have places
 
--- what is written in an instruction, before its labels have places
+-- what an instruction is written as before its labels have places
 abbrev pub outlined : Instruction → Words
 outlined i = record { mnemonic = i.mnemonic; first = outline_of i.mnemonic i.first; second = outline_of i.mnemonic i.second }
 
--- the length of an instruction: as if each label stood at 0, each byte were in range and each target near. Where the
--- table has no such instruction, the line is wrong whatever its labels are
+-- an instruction has n bytes, as it has wherever it and its labels stand: it is counted as if each label were 0 and
+-- each target near. If the table has no such instruction, it has no length, and the line is wrong wherever its labels
+-- are
 pub record HasShape (i : Instruction) (n : ℕ) : Type 0 where
   pub ins : Ins
   pub prefixes : ins.prefixes ≡ i.prefixes
@@ -57,7 +60,7 @@ pub record HasShape (i : Instruction) (n : ℕ) : Type 0 where
   pub preferred : IsPreferred ins code
   pub long : n ≡ length code
 
--- how many bytes an item has
+-- an item has n bytes
 abbrev pub HasLength : Item → ℕ → Type 0
 HasLength nothing n = n ≡ 0
 HasLength (instruction i) n = HasShape i n
@@ -66,9 +69,8 @@ HasLength (words vs) n = n ≡ 2 * length vs
 
 -- ---- bytes
 
--- the bytes of an instruction that stands at an offset: an instruction of the table with the prefixes and the operands
--- that are written, in its preferred bytes. It has its length before labels have places, so that the offset of the next
--- one is known
+-- the bytes of an instruction at an offset: those that are preferred for the instruction of the table with its
+-- prefixes and operands. They are as many as were counted before labels had places
 pub record IsCoded (labels : List Label) (at : ℕ) (i : Instruction) (code : List ℕ) : Type 0 where
   pub shape : HasShape i (length code)
   pub written : Words
@@ -78,13 +80,13 @@ pub record IsCoded (labels : List Label) (at : ℕ) (i : Instruction) (code : Li
   pub words : AreWords written ins.action
   pub preferred : IsPreferred ins code
 
--- the bytes of words, each of a value
+-- the bytes of a DW with these values, two for each
 pub record AreWordsOf (labels : List Label) (vs : List Value) (code : List ℕ) : Type 0 where
   pub values : List ℕ
   pub are : map (value_word labels) vs ≡ map Some values
   pub bytes : code ≡ flat_map low_high values
 
--- the bytes of what stands at an offset
+-- the bytes of an item at an offset
 abbrev pub Codes : List Label → ℕ → Item → List ℕ → Type 0
 Codes labels at nothing code = code ≡ []
 Codes labels at (instruction i) code = IsCoded labels at i code
@@ -93,11 +95,11 @@ Codes labels at (words vs) code = AreWordsOf labels vs code
 
 -- ---- labels that are named
 
--- each label that an operand, a value or an item names is there
+-- the operand names no label, or one of these
 abbrev pub KnowsTerm : List Label → Term → Type 0
 KnowsTerm labels term = IsSome (term_place labels term)
 
--- each label that a statement names is there
+-- each label that an item names is one of these
 abbrev pub Knows : List Label → Item → Type 0
 Knows labels nothing = Unit {0}
 Knows labels (instruction i) = KnowsTerm labels i.first × KnowsTerm labels i.second

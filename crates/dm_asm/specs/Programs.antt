@@ -1,6 +1,6 @@
--- The program that a text is: a statement a line, each label at the offset of its statement, the bytes of each
--- statement after those of the ones before it, from offset 0100h on; and what is first wrong with a text that is none.
--- Nothing here goes over a text in passes.
+-- The program that a text assembles to: each line is a statement, each label is at the offset of its statement, and
+-- the bytes of each statement follow those of the ones before it, from offset 0100h on. And the error of a text that
+-- assembles to none. Nothing here goes over a text in passes.
 -- Source: Intel 8086 Family User's Manual, section 2.9 (ASM-86); the order of refusals is this machine's own
 -- (docs/DECISIONS.md).
 use Rattle.std.specs.Prelude.{◌≡◌, ℕ, ◌+◌, ◌<◌, ◌≤◌, List, [], ◌∷◌, ◌++◌, length, Option, Some, None, Result, Ok, Err}
@@ -14,72 +14,72 @@ use Rattle.dm_asm.specs.Codes.{Codes, HasLength, Knows}
 
 -- ---- statements and labels
 
--- a statement, and how many bytes it has
+-- a statement, and the number of its bytes
 pub record Sized : Type 0 where
   pub statement : Statement
   pub long : ℕ
 
--- a line reads as a statement that has a length
+-- the line is the statement of x, which has the length of x
 pub record Reads (line : List ℕ) (x : Sized) : Type 0 where
   pub is : line_of line ≡ Some x.statement
   pub long : HasLength x.statement.item x.long
 
--- each line reads as a statement
+-- the lines are the statements xs, one each
 abbrev pub AreRead : List (List ℕ) → List Sized → Type 0
 AreRead [] [] = Unit {0}
 AreRead [] (x ∷ xs) = ⊥
 AreRead (line ∷ lines) [] = ⊥
 AreRead (line ∷ lines) (x ∷ xs) = Reads line x × AreRead lines xs
 
--- how many bytes statements have together
+-- the number of bytes of all the statements
 abbrev pub total : List Sized → ℕ
 total [] = 0
 total (x ∷ xs) = x.long + total xs
 
--- the label of a statement at an offset, if it has one
+-- the label of a statement at this offset as a list, empty if it has none
 abbrev pub own_label : Option Name'.Name → ℕ → List Label
 own_label None at = []
 own_label (Some name) at = record { name = name; place = at } ∷ []
 
--- the labels of statements that begin at an offset: each stands where its statement begins
+-- the labels of statements from an offset on: each has the offset of its statement as its place
 abbrev pub labels_from : ℕ → List Sized → List Label
 labels_from at [] = []
 labels_from at (x ∷ xs) = own_label x.statement.label at ++ labels_from (at + x.long) xs
 
--- the labels of a program, which begins at offset 0100h
+-- the labels of a program's statements, which begin at offset 0100h
 abbrev pub labels_of : List Sized → List Label
 labels_of xs = labels_from 0x100 xs
 
--- no label is there twice
+-- no two labels have the same name
 abbrev pub AreOnce : List Label → Type 0
 AreOnce [] = Unit {0}
 AreOnce (l ∷ ls) = (find l.name ls ≡ None) × AreOnce ls
 
--- all lines read, with no label twice
+-- the lines are the statements xs, and no label is there twice
 pub record Laid (lines : List (List ℕ)) (xs : List Sized) : Type 0 where
   pub read : AreRead lines xs
   pub once : AreOnce (labels_of xs)
 
 -- ---- the program
 
--- a program has at most 65,278 bytes: the segment's 10000h without the 0100h before it and the two of the stack after
--- it
+-- the largest number of bytes of a program: a segment without the 100h bytes before it and the two of the stack's
+-- first word after it
 abbrev pub longest_program : ℕ
 longest_program = 65278
 
--- each statement has its piece of the bytes, at the offset after the pieces before it
+-- the pieces are the bytes of the statements, one each, from an offset on
 abbrev pub AreCoded : List Label → ℕ → List Sized → List (List ℕ) → Type 0
 AreCoded labels at [] [] = Unit {0}
 AreCoded labels at [] (p ∷ ps) = ⊥
 AreCoded labels at (x ∷ xs) [] = ⊥
 AreCoded labels at (x ∷ xs) (p ∷ ps) = Codes labels at x.statement.item p × AreCoded labels (at + length p) xs ps
 
--- the pieces, one after the other
+-- the pieces in one list
 abbrev pub joined : List (List ℕ) → List ℕ
 joined [] = []
 joined (p ∷ ps) = p ++ joined ps
 
--- the bytes that a text has
+-- the text is a program with these bytes
 pub record Assembles (text bytes : List ℕ) : Type 0 where
   pub statements : List Sized
   pub laid : Laid (lines_of text) statements
@@ -90,7 +90,7 @@ pub record Assembles (text bytes : List ℕ) : Type 0 where
 
 -- ---- refusals
 
--- line n, counted from 1, after lines that all read, with no label twice
+-- line n of the text, counted from 1; the lines before it are the statements xs, with no label twice
 pub record IsBehindGood (text : List ℕ) (n : ℕ) (line : List ℕ) (xs : List Sized) : Type 0 where
   pub before : List (List ℕ)
   pub after : List (List ℕ)
@@ -98,8 +98,8 @@ pub record IsBehindGood (text : List ℕ) (n : ℕ) (line : List ℕ) (xs : List
   pub number : n ≡ length before + 1
   pub laid : Laid before xs
 
--- statement n of a text whose lines all read, with no label twice, and have room together; all statements before it
--- have bytes
+-- statement n of a text, counted from 1, at the offset `at`; all lines are statements, no label is there twice, there
+-- are not too many bytes, and the statements before it have bytes
 pub record IsBehindCoded (text : List ℕ) (n : ℕ) (labels : List Label) (at : ℕ) (x : Sized) : Type 0 where
   pub before : List Sized
   pub after : List Sized
@@ -111,8 +111,8 @@ pub record IsBehindCoded (text : List ℕ) (n : ℕ) (labels : List Label) (at :
   pub pieces : List (List ℕ)
   pub coded : AreCoded labels 0x100 before pieces
 
--- what is first wrong: a line that doesn't read, or else has the label of one before it; else too many bytes; else a
--- line that names a label that no line has, or else has no bytes
+-- the error of a text: the first line that is no statement, or has the label of one before it; else too many bytes;
+-- else the first line that names an unknown label, or has no bytes as something is out of range
 pub data Refuses (text : List ℕ) : AssemblyRefusal → Type 0 where
   syntax : (n : ℕ) (line : List ℕ) (xs : List Sized) → IsBehindGood text n line xs → ((x : Sized) → Reads line x → ⊥) → Refuses text (refusal.Syntax n)
   twice : (n : ℕ) (line : List ℕ) (xs : List Sized) (x : Sized) → IsBehindGood text n line xs → Reads line x → (IsFree x.statement.label (labels_of xs) → ⊥) → Refuses text (refusal.Twice n)
@@ -120,7 +120,7 @@ pub data Refuses (text : List ℕ) : AssemblyRefusal → Type 0 where
   unknown : (n : ℕ) (labels : List Label) (at : ℕ) (x : Sized) → IsBehindCoded text n labels at x → (Knows labels x.statement.item → ⊥) → Refuses text (refusal.Unknown n)
   range : (n : ℕ) (labels : List Label) (at : ℕ) (x : Sized) → IsBehindCoded text n labels at x → Knows labels x.statement.item → ((code : List ℕ) → Codes labels at x.statement.item code → ⊥) → Refuses text (refusal.Range n)
 
--- the bytes of a text, or what is first wrong with it
+-- the result of assembling a text: its bytes, or its error
 abbrev pub IsAnswer : List ℕ → Result (List ℕ) AssemblyRefusal → Type 0
 IsAnswer text (Ok bytes) = Assembles text bytes
 IsAnswer text (Err e) = Refuses text e

@@ -1,4 +1,5 @@
-//! From a text to its bytes, in two passes over its lines (Intel 8086 Family User's Manual, section 2.9).
+//! From a text to the bytes of a program, in two passes over its lines (Intel 8086 Family User's Manual, section
+//! 2.9): the first finds the places of labels, the second makes the bytes.
 
 ghost use Rattle.std.specs.Prelude.{◌≡◌, ◌≤◌, ◌++◌, ◌⊎◌, List, IfSome, IfNone, IfOk, IfErr, OnOk, MatchResult};
 ghost use Rattle.dm_lines.specs.Statements.{seen_statement};
@@ -20,10 +21,11 @@ use std::alloc::Global;
 /// The offset of a program's first byte in its segment.
 const START: usize = 0x100;
 
-/// The most bytes of a program.
+/// The largest number of bytes of a program.
 const MOST: u128 = 65_278;
 
-/// The statement of a line, and how many bytes it has.
+/// The statement of a line, and the number of its bytes; None if the line is no statement, or the table does not have
+/// its instruction. The data of a DB or DW is put into `items`; `tokens` is overwritten.
 fn read(line: &[u8], tokens: &mut Tokens, items: &mut Items) -> Option<(Statement, usize)>
     ensures found { IfSome result (λ r. Reads line.now (record { statement = seen_statement items.new r.0; long = r.1 })) }
     ensures none { IfNone result ((x : Sized) → Reads line.now x → ⊥) }
@@ -34,7 +36,7 @@ fn read(line: &[u8], tokens: &mut Tokens, items: &mut Items) -> Option<(Statemen
     Some((statement, length))
 }
 
-/// Adds the label of a statement, if it has one and no line before it has.
+/// Adds the label of a statement, if it has one. `Twice` with the line's number if a line before it has that label.
 fn add_label(
     labels: &mut Labels,
     label: Option<Name>,
@@ -54,7 +56,8 @@ fn add_label(
     }
 }
 
-/// The labels of a text, and what is known of its lines, where all lines read and have room.
+/// The first pass: reads all lines, and returns their labels and what is known of their bytes. Errors are `Syntax`,
+/// `Twice`, `TooLong` and `Memory`.
 fn lay(alloc: Global, text: &[u8]) -> Result<(Labels, Known), AssemblyRefusal>
     ensures laid { IfOk result (λ r. AreLaid text.now r.0 r.1) }
     ensures refused { IfErr result (λ e. (e ≡ OutOfMemory) ⊎ Refuses text.now e) }
@@ -89,7 +92,7 @@ fn lay(alloc: Global, text: &[u8]) -> Result<(Labels, Known), AssemblyRefusal>
     Ok((labels, known))
 }
 
-/// Appends bytes to those so far.
+/// Appends bytes; `Memory` if the allocation fails.
 fn append(bytes: &mut Vec<u8>, code: &[u8]) -> Result<(), AssemblyRefusal>
     ensures added { OnOk result (bytes.new.items ≡ bytes.old.items ++ code.now) }
     ensures refused { IfErr result (λ e. e ≡ OutOfMemory) }
@@ -100,7 +103,8 @@ fn append(bytes: &mut Vec<u8>, code: &[u8]) -> Result<(), AssemblyRefusal>
     }
 }
 
-/// The bytes of a text whose labels have these places.
+/// The second pass: the bytes of a text, with the labels and the known bytes of the first. Errors are `Unknown`,
+/// `Range` and `Memory`.
 fn emit(
     alloc: Global,
     text: &[u8],
@@ -150,7 +154,7 @@ fn emit(
     Ok(bytes)
 }
 
-/// The bytes of a program for offset 0100h that a text is: instructions, data and labels, a statement a line.
+/// The bytes of a program for offset 0100h that a text is: instructions, data and labels, one statement on each line.
 ///
 /// # Errors
 ///
@@ -160,7 +164,7 @@ fn emit(
 pub fn assemble(alloc: Global, text: &[u8]) -> Result<Vec<u8>, AssemblyRefusal>
     // The text has these bytes.
     ensures assembled { IfOk result (λ v. Assembles text.now v.items) }
-    // This is first wrong with the text, unless memory was refused.
+    // This is the error of the text, unless an allocation failed.
     ensures refused { IfErr result (λ e. (e ≡ OutOfMemory) ⊎ Refuses text.now e) }
 {
     let (labels, known) = lay(alloc, text)?;

@@ -1,4 +1,5 @@
-//! The bytes of a statement, where all labels have their places.
+//! The bytes of a statement, once all labels have their places. A place is an offset in the
+//! program's segment.
 
 ghost use Rattle.std.specs.Prelude.{◌≡◌, ◌+◌, ◌<◌, ◌≤◌, ◌^◌, ◌↔◌, ℕ, List, Some, IfSome, IfNone, IfOk, IfErr, IsTrue, IsSome, length, map};
 ghost use Rattle.std.specs.List.{AllByRecursion};
@@ -20,10 +21,10 @@ use dm_words::{
     Words, Written, read_encoded, stand_ins_have_the_length, words_are_one_instruction,
 };
 
-/// The bytes of one line.
+/// The bytes of one line, at most 256.
 pub(crate) type Code = ArrayVec<u8, 256>;
 
-/// What is wrong with a line whose statement reads.
+/// Why a statement has no bytes.
 #[derive(Clone, Copy, Debug, PartialEq, Eq)]
 pub(crate) enum Problem {
     /// It names a label that no line has.
@@ -32,7 +33,8 @@ pub(crate) enum Problem {
     Range,
 }
 
-/// What is written where an operand stands.
+/// What an operand is written as, with the place of its label; `next` is the offset of the next
+/// instruction. None if the label is unknown, or lies out of range.
 fn written_for(
     labels: &Labels,
     instruction: &Instruction,
@@ -46,7 +48,8 @@ fn written_for(
     written(instruction.mnemonic, term, place as u16, next)
 }
 
-/// What is written in an instruction.
+/// What an instruction is written as, with the places of its labels; None if one is unknown or lies
+/// out of range.
 fn placed_words(labels: &Labels, instruction: &Instruction, next: u16) -> Option<Words>
     requires { AreNear labels.now }
     ensures { (list : List Label) → AreKept labels.now list → result ≡ words_of list next instruction.now }
@@ -60,17 +63,17 @@ fn placed_words(labels: &Labels, instruction: &Instruction, next: u16) -> Option
     })
 }
 
-/// The numbers in an operand fit their types. It does nothing when called.
+/// States that a number is below 65,536. It does nothing.
 fn amount_fits(amount: Amount)
     ensures { AmountFits amount }
 {}
 
-/// Both numbers of a far address fit their type. It does nothing when called.
+/// States that both numbers of a far pointer are below 65,536. It does nothing.
 fn address_fits(segment: u16, offset: u16)
     ensures { (segment < 2 ^ 16) × (offset < 2 ^ 16) }
 {}
 
-/// The numbers in an operand fit their types. It does nothing when called.
+/// States that the numbers of an operand are below 65,536. It does nothing.
 pub(crate) fn term_fits(term: &Term)
     ensures { TermFits term.now }
 {
@@ -83,6 +86,8 @@ pub(crate) fn term_fits(term: &Term)
     }
 }
 
+/// The bytes of an instruction of this length at an offset; None if a label is unknown, or a number
+/// or target is out of range.
 fn instruction_code(
     labels: &Labels,
     at: u16,
@@ -106,7 +111,7 @@ fn instruction_code(
     Some(encoded.1)
 }
 
-/// The bytes of a DB.
+/// The bytes of a DB; None if a number is not from -80h to FFh.
 pub(crate) fn bytes_code(amounts: &[Amount]) -> Option<Code>
     requires { length amounts.now ≤ 255 }
     ensures found { IfSome result (λ code. map amount_byte amounts.now ≡ map Some code.items) }
@@ -119,7 +124,7 @@ pub(crate) fn bytes_code(amounts: &[Amount]) -> Option<Code>
     Some(code)
 }
 
-/// The word that a value is.
+/// The word of a value of a DW; None if its label is unknown, or lies out of range.
 fn word_of(labels: &Labels, value: &Value) -> Option<u16>
     requires { AreNear labels.now }
     ensures { (list : List Label) → AreKept labels.now list → result ≡ value_of list value.now }
@@ -128,7 +133,7 @@ fn word_of(labels: &Labels, value: &Value) -> Option<u16>
     word_at(*value, place as u16)
 }
 
-/// The bytes of a DW.
+/// The bytes of a DW, low bytes first; None if a value has none.
 fn words_code(labels: &Labels, values: &[Value]) -> Option<Code>
     requires near { AreNear labels.now }
     requires few { length values.now ≤ 128 }
@@ -144,7 +149,7 @@ fn words_code(labels: &Labels, values: &[Value]) -> Option<Code>
     Some(code)
 }
 
-/// Whether each label of a DW is there.
+/// Whether each label that the values of a DW name is known.
 fn knows_all(labels: &Labels, values: &[Value]) -> bool
     ensures { (list : List Label) → AreKept labels.now list → IsTrue result ↔ AllByRecursion (λ v. IsSome (label_place list v)) values.now }
 {
@@ -157,7 +162,7 @@ fn knows_all(labels: &Labels, values: &[Value]) -> bool
     true
 }
 
-/// Whether each label that a statement names is there.
+/// Whether each label that a statement names is known.
 fn knows(labels: &Labels, item: Item, items: &Items) -> bool
     ensures { (list : List Label) → AreKept labels.now list → IsTrue result ↔ Knows list (seen_item items.now item) }
 {
@@ -171,7 +176,7 @@ fn knows(labels: &Labels, item: Item, items: &Items) -> bool
     }
 }
 
-/// Bytes in a line's.
+/// The bytes of an instruction as those of a line.
 fn widened(bytes: &[u8]) -> Code
     requires { length bytes.now ≤ 16 }
     ensures { result.items ≡ bytes.now }
@@ -182,7 +187,8 @@ fn widened(bytes: &[u8]) -> Code
     code
 }
 
-/// The bytes of a statement whose labels are there.
+/// The bytes of a statement of this length at an offset; None if a number, label or target is out
+/// of range, or a label is unknown.
 fn item_code(labels: &Labels, at: u16, length: usize, item: Item, items: &Items) -> Option<Code>
     requires near { AreNear labels.now }
     requires long { HasLength (seen_item items.now item) length }
@@ -201,7 +207,8 @@ fn item_code(labels: &Labels, at: u16, length: usize, item: Item, items: &Items)
     }
 }
 
-/// The bytes of a statement of this length, which stands at an offset.
+/// The bytes of a statement of this length at an offset. `Unknown` if it names a label that no line
+/// has, else `Range` if a number, label or target is out of range.
 pub(crate) fn code_of(
     labels: &Labels,
     at: u16,

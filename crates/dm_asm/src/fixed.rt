@@ -1,4 +1,4 @@
-//! The bytes of instructions that have the same ones wherever they stand.
+//! The bytes of instructions that are the same wherever these stand, as they have no label and no target.
 
 ghost use Rattle.std.specs.Prelude.{◌≡◌, ℕ, List, true, Some, IfSome};
 ghost use Rattle.dm_lines.specs.Placing.{written_of};
@@ -12,7 +12,7 @@ use dm_ins::{Mnemonic, Operand};
 use dm_lines::{Instruction, Term, outlines_stand, written};
 use dm_words::{Words, Written, read_encoded, stand_ins_have_the_length};
 
-/// Whether an operand names no label.
+/// Whether the operand names no label.
 fn is_free(term: &Term) -> bool
     ensures { result ≡ names_none term.now }
 {
@@ -23,7 +23,7 @@ fn is_free(term: &Term) -> bool
     }
 }
 
-/// What is written where an operand stands that names no label, where a target counts from 0.
+/// What an operand that names no label is written as, with a target counted from 0; None if it names one.
 fn fixed(mnemonic: Mnemonic, term: &Term) -> Option<Written>
     ensures { IfSome result (λ w. (names_none term.now ≡ true) × (written_of mnemonic term.now 0 0 ≡ Some w)) }
 {
@@ -34,7 +34,7 @@ fn fixed(mnemonic: Mnemonic, term: &Term) -> Option<Written>
     }
 }
 
-/// What is written in an instruction that names no label.
+/// What an instruction that names no label is written as, with targets counted from 0; None if it names one.
 fn fixed_words(instruction: &Instruction) -> Option<Words>
     ensures { IfSome result (λ words. AreFixed instruction.now words) }
 {
@@ -48,15 +48,15 @@ fn fixed_words(instruction: &Instruction) -> Option<Words>
     })
 }
 
-/// Whether an operand counts from the next instruction.
+/// Whether the operand is a target, which counts from the next instruction.
 fn is_target(operand: Operand) -> bool
     ensures { result ≡ targets operand }
 {
     matches!(operand, Operand::Target(_))
 }
 
-/// The bytes of an instruction that names no label and has no target, so that they are the same wherever it stands;
-/// None for any other one, and where the table has none.
+/// The bytes of an instruction that names no label and has no target: they are the same wherever it stands. None for
+/// any other instruction, and where the table does not have it.
 pub(crate) fn fixed_code(instruction: &Instruction) -> Option<ArrayVec<u8, 16>>
     ensures { IfSome result (λ code. (list : List Label) (at : ℕ) → IsCoded list at instruction.now code.items) }
 {

@@ -1,4 +1,5 @@
-//! What the first pass keeps of the lines, so that the second one reads again only those whose bytes are not kept.
+//! What the first pass keeps of the lines, so that the second one reads again only those whose bytes are not known
+//! yet. Where an allocation fails, what is kept is of no use.
 
 ghost use Rattle.std.specs.Prelude.{◌≡◌, ◌≤◌, [], ◌∷◌, IfOk, MatchOption, OnOk, length};
 ghost use Rattle.dm_lines.specs.Statements.{Item as Stated, seen_item, bytes as data_bytes, instruction as encoded};
@@ -10,16 +11,16 @@ use crate::shapes::instruction_length;
 use dm_lines::{Amount, Instruction, Item, Items};
 use std::alloc::{AllocError, Global};
 
-/// What is kept of one line.
+/// What the first pass keeps of one line.
 #[derive(Clone, Copy, Debug, PartialEq, Eq)]
 pub(crate) enum Line {
-    /// Its bytes are kept, so many of them.
+    /// Its bytes, this number of them, in `Known::bytes`.
     Known(u8),
-    /// Nothing: it is read again when labels have their places.
+    /// Nothing: it is read again once labels have their places.
     Open,
 }
 
-/// What is kept of the first of some lines, and what of those after it.
+/// What is kept of the first of these lines, and of those after it; None if there is none.
 pub(crate) fn first_line(lines: &[Line]) -> Option<(Line, &[Line])>
     ensures { MatchOption result (lines.now ≡ []) (λ r. lines.now ≡ r.0 ∷ r.1.now) }
 {
@@ -29,16 +30,16 @@ pub(crate) fn first_line(lines: &[Line]) -> Option<(Line, &[Line])>
     }
 }
 
-/// What is kept of the lines so far.
+/// What the first pass has kept of the lines so far.
 #[derive(Drop)]
 pub(crate) struct Known {
     pub(crate) lines: Vec<Line>,
-    /// The bytes of the lines that are known, one after the other.
+    /// The bytes of the lines that are `Line::Known`, one after the other.
     pub(crate) bytes: Vec<u8>,
 }
 
 impl Known {
-    /// No lines.
+    /// Nothing is kept; no line was read yet.
     pub(crate) fn new(alloc: Global) -> Known
         ensures { AreKnown [] result.lines.items result.bytes.items }
     {
@@ -48,7 +49,7 @@ impl Known {
         }
     }
 
-    /// One more line, whose bytes are these.
+    /// Adds a line with these bytes.
     fn put_bytes(&mut self, code: &[u8]) -> Result<(), AllocError>
         requires { length code.now ≤ 255 }
         ensures { OnOk result ((item : Stated) → IsFixed item code.now → Keeps self.old self.new item) }
@@ -58,7 +59,7 @@ impl Known {
         Ok(())
     }
 
-    /// One more line, which is read again.
+    /// Adds a line that is read again.
     fn put_open(&mut self) -> Result<(), AllocError>
         ensures { OnOk result ((item : Stated) → Keeps self.old self.new item) }
     {
@@ -66,7 +67,8 @@ impl Known {
         Ok(())
     }
 
-    /// One more line, an instruction; returns how many bytes it has, or None where the table has none such.
+    /// Adds a line with an instruction, with its bytes if they are the same wherever it stands. Returns the number of
+    /// its bytes; None where the table does not have it.
     fn put_instruction(&mut self, instruction: &Instruction) -> Result<Option<usize>, AllocError>
         ensures { IfOk result (λ n. KeepsOf self.old self.new (encoded instruction.now) n) }
     {
@@ -82,7 +84,7 @@ impl Known {
         }
     }
 
-    /// One more line, a DB; returns how many bytes it has.
+    /// Adds a line with a DB, with its bytes if they are in range. Returns the number of its bytes.
     fn put_data(&mut self, amounts: &[Amount]) -> Result<Option<usize>, AllocError>
         requires { length amounts.now ≤ 255 }
         ensures { IfOk result (λ n. KeepsOf self.old self.new (data_bytes amounts.now) n) }
@@ -94,8 +96,8 @@ impl Known {
         Ok(Some(amounts.len()))
     }
 
-    /// One more line with this item, whose data lies in `items`; returns how many bytes it has, or None where the table
-    /// has no such instruction.
+    /// Adds a line with this item, whose data is in `items`. Returns the number of its bytes; None where the table
+    /// does not have its instruction.
     pub(crate) fn put(&mut self, item: Item, items: &Items) -> Result<Option<usize>, AllocError>
         ensures { IfOk result (λ n. KeepsOf self.old self.new (seen_item items.now item) n) }
     {

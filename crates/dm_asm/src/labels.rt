@@ -1,4 +1,4 @@
-//! Labels and their places.
+//! Labels and their places. A place is an offset in the program's segment.
 
 ghost use Rattle.std.specs.Prelude.{◌≡◌, ◌++◌, ◌∷◌, [], None, IfSome, IfOk, true, false, ◌<◌, ◌^◌};
 ghost use Rattle.dm_asm.specs.Labels.{find as find_of, label_place as place_at, term_place as term_at};
@@ -10,7 +10,7 @@ use dm_lines::{Name, Term, Value};
 use std::alloc::{AllocError, Global};
 use std::collections::BTreeMap;
 
-/// The labels of a text by their names, and the offsets at which they stand.
+/// The labels of a text: their places by their names.
 #[derive(Drop)]
 pub(crate) struct Labels {
     places: BTreeMap<[u8; 31], u128>,
@@ -26,7 +26,7 @@ impl Labels {
         }
     }
 
-    /// Where a label stands; None where no line has it.
+    /// The place of a label; None where no line has it.
     pub(crate) fn find(&self, name: &Name) -> Option<u128>
         ensures place { (labels : List Label) → AreKept self.now labels → result ≡ find_of name.now labels }
         ensures near { AreNear self.now → IfSome result (λ place. place < 2 ^ 16) }
@@ -34,7 +34,8 @@ impl Labels {
         self.places.get(&name.bytes).copied()
     }
 
-    /// Adds a label, unless an earlier line has it; returns whether it was added.
+    /// Puts a label at a place. Returns true if it is new; false if a line before has it, and then
+    /// its place is overwritten: such a text is refused.
     pub(crate) fn add(&mut self, name: &Name, place: u128) -> Result<bool, AllocError>
         ensures added { IfOk result (λ added. added ≡ true → (labels : List Label) → AreKept self.old labels → (find_of name.now labels ≡ None) × AreKept self.new (labels ++ record { name = name.now; place = place } ∷ [])) }
         ensures had { IfOk result (λ added. added ≡ false → (labels : List Label) → AreKept self.old labels → find_of name.now labels ≡ None → ⊥) }
@@ -45,7 +46,7 @@ impl Labels {
         }
     }
 
-    /// Where the label of a value stands, None where no line has it; 0 for a number alone.
+    /// The place of the label of a value; None where no line has it, 0 for a number alone.
     pub(crate) fn place_of(&self, value: &Value) -> Option<u128>
         ensures place { (labels : List Label) → AreKept self.now labels → result ≡ place_at labels value.now }
         ensures near { AreNear self.now → IfSome result (λ place. place < 2 ^ 16) }
@@ -56,7 +57,8 @@ impl Labels {
         }
     }
 
-    /// Where the label of an operand stands.
+    /// The place of the label of an operand; None where no line has it, 0 if the operand names
+    /// none.
     pub(crate) fn term_place(&self, term: &Term) -> Option<u128>
         ensures place { (labels : List Label) → AreKept self.now labels → result ≡ term_at labels term.now }
         ensures near { AreNear self.now → IfSome result (λ place. place < 2 ^ 16) }

@@ -1,4 +1,5 @@
-//! What holds of all texts.
+//! Laws of assembly: each text has one result, a listing is assembled to the bytes that it lists, and the bytes of a
+//! program spell the instructions of its text.
 
 ghost use Rattle.dm_asm.specs.Laws.{TextsHaveOneAnswer, ListingsAssemble, ListingsAreAnswered, TextsAreSpelled};
 
@@ -7,17 +8,16 @@ use dm_lines::{
 };
 use dm_words::{own_words_are_read, stand_ins_have_the_length, words_are_one_instruction};
 
-/// The law that a text has one result: the same bytes always, or no bytes and the same error. So `assemble` finds bytes
-/// exactly where the text has some, where it finds memory. It does nothing when called.
+/// The law that a text has one result: always the same bytes, or always the same error. So `assemble` returns bytes
+/// exactly where the text has some, unless an allocation fails. It does nothing when called.
 pub fn texts_have_one_answer()
     ensures { TextsHaveOneAnswer }
 {
     words_are_one_instruction();
 }
 
-/// The laws that the lines of some bytes have these bytes, where there are at most 65,278 of them, and so assemble to
-/// these bytes and to no error: where both find memory, `assemble` makes of the lines that `disassemble` makes of some
-/// bytes these bytes again. It does nothing when called.
+/// The laws that the listing of at most 65,278 bytes assembles to these bytes, and to no error: unless an allocation
+/// fails, `assemble` makes the same bytes of what `disassemble` makes of them. It does nothing when called.
 pub fn listings_assemble()
     ensures bytes { ListingsAssemble }
     ensures answer { ListingsAreAnswered }
@@ -32,10 +32,9 @@ pub fn listings_assemble()
     data_is_read();
 }
 
-/// The law that the bytes of a text spell each of its instructions at the instruction's place, which comes after the
-/// bytes of all statements before it: `decode` finds there an instruction of the table with the prefixes and the
-/// operands that are written, as long as it counts in the text, and in the bytes that `encode` chooses. It does nothing
-/// when called.
+/// The law that the bytes of a program spell each instruction of its text, after the bytes of all statements before
+/// it: `decode` finds there an instruction of the table with the prefixes and the operands that are written, as long
+/// as it counts in the text, and in the bytes that `encode` chooses. It does nothing when called.
 pub fn texts_are_spelled()
     ensures { TextsAreSpelled }
 {

@@ -1,10 +1,10 @@
-//! The lines of a text.
+//! The lines of a text: bytes with 0Ah, or 0Dh and 0Ah, after each line.
 
 ghost use Rattle.std.specs.Prelude.{◌≡◌, ◌<◌, ◌∷◌, [], MatchOption, IfSome, length};
 ghost use Rattle.dm_asm.specs.Lines.{lines_of};
 ghost use Rattle.dm_asm.specs.inner.Lines.{trim};
 
-/// A line without the 0Dh at its end.
+/// A line without one 0Dh at its end.
 #[tactic(auto, using(crate::proofs::Ends::trimmed_end, crate::proofs::Ends::trimmed_other))]
 fn trimmed(line: &[u8]) -> &[u8]
     ensures { result.now ≡ trim line.now }
@@ -20,8 +20,8 @@ fn trimmed(line: &[u8]) -> &[u8]
     }
 }
 
-/// The first line of a text, without its end, and the text after it. A line ends with 0Ah, before which one 0Dh is
-/// dropped, or with the text.
+/// The first line of a text, without its end, and the text after it; None for an empty text. A line ends with 0Ah,
+/// before which one 0Dh is dropped, or with the text.
 pub(crate) fn next_line(text: &[u8]) -> Option<(&[u8], &[u8])>
     ensures line { MatchOption result (text.now ≡ []) (λ x. lines_of text.now ≡ x.0.now ∷ lines_of x.1.now) }
     ensures shorter { IfSome result (λ x. length x.1.now < length text.now) }

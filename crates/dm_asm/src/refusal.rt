@@ -1,11 +1,11 @@
-//! Why a text is no program.
+//! Why a text does not assemble to a program.
 
 use thiserror::Error;
 
-/// Why a text has no bytes. Lines are counted from 1.
+/// Why a text does not assemble to a program. Lines are counted from 1.
 #[derive(Clone, Copy, Debug, PartialEq, Eq, Error)]
 pub enum AssemblyRefusal {
-    /// A line is no statement, or its instruction is none of the table.
+    /// A line is no statement, or the instruction table does not have its instruction.
     #[error("line {0}: syntax")]
     Syntax(usize),
     /// A line names a label that no line has.

@@ -1,4 +1,4 @@
-//! How many bytes a statement has, before labels have places.
+//! The number of bytes of a statement, before labels have places.
 
 ghost use Rattle.std.specs.Prelude.{◌≡◌, ◌≤◌, ℕ, Some, IfSome, length};
 ghost use Rattle.dm_lines.specs.Statements.{seen_item};
@@ -7,7 +7,7 @@ ghost use Rattle.dm_asm.specs.Codes.{outlined, HasShape, HasLength};
 use dm_lines::{Instruction, Item, Items, outline};
 use dm_words::{Words, read_encoded, words_are_one_instruction};
 
-/// What is written in an instruction, before labels have places.
+/// What an instruction is written as before labels have places.
 fn outlines(instruction: &Instruction) -> Words
     ensures { result ≡ outlined instruction.now }
 {
@@ -19,7 +19,8 @@ fn outlines(instruction: &Instruction) -> Words
     }
 }
 
-/// How many bytes an instruction has; None where the table has none, whatever its labels are.
+/// The number of bytes of an instruction, wherever it and its labels stand; None where the table
+/// does not have it.
 pub(crate) fn instruction_length(instruction: &Instruction) -> Option<usize>
     ensures found { IfSome result (λ n. HasShape instruction.now n) }
     ensures only { (n : ℕ) → HasShape instruction.now n → result ≡ Some n }
@@ -31,7 +32,8 @@ pub(crate) fn instruction_length(instruction: &Instruction) -> Option<usize>
     Some(encoded.1.len())
 }
 
-/// How many bytes an item has, whose data lies in `items`.
+/// The number of bytes of an item, whose data is in `items`; None where the table does not have its
+/// instruction.
 pub(crate) fn length_of(item: Item, items: &Items) -> Option<usize>
     ensures found { IfSome result (λ n. HasLength (seen_item items.now item) n) }
     ensures only { (n : ℕ) → HasLength (seen_item items.now item) n → result ≡ Some n }

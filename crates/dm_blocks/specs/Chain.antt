@@ -18,19 +18,20 @@ first_header = 0x100
 abbrev pub link_header : ℕ
 link_header = 0x9FFF
 
--- the word at a linear address, low byte first
+-- the word at the linear address a, low byte first
 abbrev pub word : Memory → ℕ → ℕ
 word S a = peek S a + 256 * peek S (a + 1)
 
--- the segment after the block of a header
+-- the segment after the block of a header, where the next header of its list is
 abbrev pub next : Header → ℕ
 next b = b.segment + 1 + b.size
 
--- whether the header at a segment is the link block's. There is one only where upper memory belongs to the arena
+-- whether the header at segment h is the link block's: h is 9FFFh, and upper memory belongs to the arena (`upper`)
 abbrev pub is_link : Bool → ℕ → Bool
 is_link upper h = upper && (h == link_header)
 
--- the block is free: it has no owner. The link block counts as taken, whatever its owner
+-- the block is free: its owner is 0, and it is not the link block, which counts as taken whatever its owner. Only
+-- where upper memory belongs to the arena (`upper`) is there a link block
 abbrev pub is_free : Bool → Header → Bool
 is_free upper b = not (is_link upper b.segment) && (b.owner == 0)
 
@@ -46,12 +47,12 @@ pub record IsHeader (S : Memory) (b : Header) (signature : ℕ) : Type 0 where
 abbrev pub signature_byte : Bool → ℕ
 signature_byte last = cond last 0x5A 0x4D
 
--- the signature of a header before the headers L
+-- the signature of a header that the headers L follow: `Z` if there are none, else `M`
 abbrev pub signature : List Header → ℕ
 signature [] = signature_byte true
 signature (c ∷ L) = signature_byte false
 
--- the list has a header
+-- the list has at least one header
 abbrev pub IsNonEmpty : List Header → Type 0
 IsNonEmpty [] = ⊥
 IsNonEmpty (b ∷ L) = Unit {0}
@@ -75,7 +76,7 @@ abbrev pub is_linked : List Header → Bool
 is_linked [] = false
 is_linked (b ∷ L) = (b.segment == link_header) || is_linked L
 
--- the second list is a list by itself: upper memory belongs to the arena, and the first list isn't linked
+-- the second list is a list by itself: upper memory belongs to the arena (`upper`), and the first list L isn't linked
 abbrev pub is_parted : Bool → List Header → Bool
 is_parted upper L = upper && not (is_linked L)
 
@@ -93,7 +94,7 @@ pub record IsClear (S : Memory) (L : List Header) : Type 0 where
 abbrev pub IsArena : Memory → ℕ → List Header → Type 0
 IsArena S start L = IsChain S start L × IsClear S L
 
--- there is no arena: it is destroyed
+-- memory spells no clear list from segment start on: the arena there is destroyed
 abbrev pub NoArena : Memory → ℕ → Type 0
 NoArena S start = (L : List Header) → IsArena S start L → ⊥
 
@@ -105,7 +106,7 @@ AreApart L U = (h : ℕ) → HasHeader L h → HasHeader U h → ⊥
 abbrev pub IsArenaBehind : Memory → List Header → ℕ → List Header → Type 0
 IsArenaBehind S L start U = IsChain S start U × IsClear S (L ++ U) × AreApart L U
 
--- memory spells no list from segment start on with which L is clear
+-- memory spells no list from segment start on that shares no header with L and is clear together with it
 abbrev pub NoArenaBehind : Memory → List Header → ℕ → Type 0
 NoArenaBehind S L start = (U : List Header) → IsArenaBehind S L start U → ⊥
 
@@ -114,7 +115,7 @@ pub record DiffersInHeaders (S : Memory) (L : List Header) (T : Memory) : Type 0
   pub shape : IsShaped S T
   pub kept : (p : Place) → ((h k : ℕ) → HasHeader L h → k < 5 → p ≢ place S (16 * h + k)) → byte_at T p ≡ byte_at S p
 
--- the arena becomes L, and nothing but its headers changes
+-- the list from segment start on becomes L: T spells it, it is clear, and T is S but for bytes 0 to 4 of its headers
 pub record Becomes (S : Memory) (start : ℕ) (L : List Header) (T : Memory) : Type 0 where
   pub clear : IsClear S L
   pub chain : IsChain T start L

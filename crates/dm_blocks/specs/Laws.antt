@@ -13,8 +13,8 @@ ChainIsUnique = (S : Memory) (start : ℕ) (L M : List Header) → IsChain S sta
 abbrev pub ChainIsShort : Type 0
 ChainIsShort = (S : Memory) (L : List Header) → IsChain S first_header L → length L ≤ 0xFF00
 
--- a walk over the first list, or over the second one after the headers F of the first, meets no more, also where it
--- breaks off: fewer lead to the header where it stands
+-- a walk over the first list, or over the second one after the headers F of the first, passes fewer than 65,280
+-- headers before the one where it stands, also where the list is broken
 abbrev pub WalkIsShort : Type 0
 WalkIsShort =
     (S : Memory) (second : Bool) (F P : List Header) (t : ℕ) → Leads S F (start_of second) P t → length P < 0xFF00

@@ -1,5 +1,5 @@
--- A walk over the headers of a list, one by one, up to the end or the first that breaks the list. The second list
--- is walked over after the first one, and must be clear with it.
+-- A walk over the headers of a list, one by one, up to the end or to the first header that breaks the list: `Headers`
+-- of src/listing.rt. The second list is walked over after the first one, and must be clear together with it.
 use Rattle.std.specs.Prelude.{◌≡◌, ℕ, List, [], ◌∷◌, ◌++◌, Bool, Option, Some, None, false, true, if◌then◌else◌, IfSome}
 use Rattle.dm_space.specs.Memory.{Memory}
 use Rattle.dm_blocks.specs.declared.header.Header.{Header}
@@ -8,45 +8,49 @@ use Rattle.dm_blocks.specs.declared.listing.Step.{Step}
 use Rattle.dm_blocks.specs.declared.listing.Step.TheVariants.{Told, End, Destroyed}
 use Rattle.dm_blocks.specs.Chain.{first_header, link_header, next, signature_byte, AreApart, IsHeader, IsClear, IsArena, IsArenaBehind, NoArenaBehind}
 
--- the memory that is walked over; whether it is the second list, after the first one; and the segment where the next
--- header has to stand, none once the walk is at the end
+-- what contracts see of a walk: the memory; whether it goes over the second list, after the first one; and the
+-- segment where the next header has to be, None after the last header
 pub record Walking : Type 0 where
   pub memory : Memory
   pub second : Bool
   pub at : Option ℕ
 
--- the segment of a list's first header
+-- the segment of a list's first header: of the second list with true, of the first one with false
 abbrev pub start_of : Bool → ℕ
 start_of second = if second then link_header else first_header
 
--- the headers of the list after which a walk goes: for the second list those of the first, for the first one none
+-- F is the list that a walk has gone over before its own: the first list for a walk over the second one, else empty
 abbrev pub IsBehind : Memory → Bool → List Header → Type 0
 IsBehind S false F = F ≡ []
 IsBehind S true F = IsArena S first_header F
 
--- memory has the headers P from segment h on, none of them the last, and t is where the next one has to stand
+-- memory has the headers P from segment h on, end to end and each signed `M`, and t is the segment after the last
+-- block (h if P is empty)
 abbrev pub Path : Memory → ℕ → List Header → ℕ → Type 0
 Path S h [] t = h ≡ t
 Path S h (b ∷ P) t = (b.segment ≡ h) × IsHeader S b 0x4D × Path S (next b) P t
 
--- after the headers F the headers P, that may stand in a list, lead from its first segment to the segment t
+-- the headers P lead from segment start to segment t, share no segment with F, and are clear together with F
 pub record Leads (S : Memory) (F : List Header) (start : ℕ) (P : List Header) (t : ℕ) : Type 0 where
   pub path : Path S start P t
   pub clear : IsClear S (F ++ P)
   pub apart : AreApart F P
 
--- after the headers P comes that of e, which may stand there
+-- e is the header at segment t after the headers P; with it they still are clear together with F, and share no
+-- segment with F
 pub record Follows (S : Memory) (F P : List Header) (t : ℕ) (e : Entry) : Type 0 where
   pub at : e.header.segment ≡ t
   pub header : IsHeader S e.header (signature_byte e.last)
   pub clear : IsClear S (F ++ (P ++ e.header ∷ []))
   pub apart : AreApart F (P ++ e.header ∷ [])
 
--- the last header closes a list that is clear with F
+-- if e is the last header, P and e are a whole list that is clear together with F
 abbrev pub Closes : Memory → List Header → ℕ → List Header → Entry → Type 0
 Closes S F start P e = e.last ≡ true → IsArenaBehind S F start (P ++ e.header ∷ [])
 
--- a step from the segment t, after the headers P
+-- the result of a step at segment t, and where the walk stands after it: `Told` returns the header at t and moves to
+-- the next one, or to None after the last; `Destroyed` returns t and stays, as no header may stand there and memory
+-- spells no such list. `End` is no result here
 abbrev pub IsStepFrom : Memory → List Header → ℕ → ℕ → Step → Option ℕ → Type 0
 IsStepFrom S F start t (Told e) at =
     (at ≡ (if e.last then None else Some (next e.header))) × ((P : List Header) → Leads S F start P t → Follows S F P t e × Closes S F start P e)
@@ -54,18 +58,18 @@ IsStepFrom S F start t End at = ⊥
 IsStepFrom S F start t (Destroyed h) at =
     (h ≡ t) × (at ≡ Some t) × NoArenaBehind S F start × ((P : List Header) → Leads S F start P t → (e : Entry) → Follows S F P t e → ⊥)
 
--- the header at the present segment is returned, or it breaks the list; after the last one comes the end
+-- the result of a step, and where the walk stands after it; a walk past the last header returns `End` and stays
 abbrev pub IsStep : Memory → List Header → ℕ → Option ℕ → Step → Option ℕ → Type 0
 IsStep S F start (Some t) step at = IsStepFrom S F start t step at
 IsStep S F start None (Told e) at = ⊥
 IsStep S F start None End at = at ≡ None
 IsStep S F start None (Destroyed h) at = ⊥
 
--- the headers so far lead to where the walk stands
+-- the headers that a walk has passed lead from segment start to where it stands; past the last header nothing is said
 abbrev pub AreTold : Memory → List Header → ℕ → Option ℕ → Type 0
 AreTold S F start at = IfSome at (λ t. (P : List Header) × Leads S F start P t)
 
--- a step of a walk, after which it stands at another segment
+-- one step of the walk w (`Headers::advance`): its result, and where the next header has to be after it
 pub record Steps (w : Walking) (step : Step) (at : Option ℕ) : Type 0 where
   pub front : List Header
   pub behind : IsBehind w.memory w.second front

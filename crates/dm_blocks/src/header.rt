@@ -11,9 +11,9 @@ ghost use Rattle.dm_blocks.specs.Reading.{IsEntryAt};
 use crate::list::LINK;
 use dm_space::Space;
 
-/// The signature of a header that another one follows.
+/// The signature of a header that is not the last of its list.
 const MORE: u8 = b'M';
-/// The signature of the last header.
+/// The signature of the last header of a list.
 const LAST: u8 = b'Z';
 
 /// What an arena header says of its block.
@@ -27,7 +27,7 @@ pub struct Header {
     pub size: u16,
 }
 
-/// A header as it stands in the list.
+/// A header, and whether it is the last of its list.
 #[derive(Clone, Copy, Debug, PartialEq, Eq)]
 pub struct Entry {
     pub header: Header,
@@ -44,8 +44,8 @@ impl Header {
         self.segment + 1 + self.size
     }
 
-    /// Whether the block is free: it has no owner. Where upper memory belongs to the arena, which
-    /// `upper` says, the link block counts as taken, whatever its owner.
+    /// Whether the block is free: its owner is 0. `upper` says whether upper memory belongs to the
+    /// arena; if so, the link block counts as taken, whatever its owner.
     pub fn is_free(self, upper: bool) -> bool
         ensures { result ≡ Chain.is_free upper self }
     {
@@ -57,7 +57,7 @@ impl Header {
 }
 
 impl Entry {
-    /// The signature of the header.
+    /// The signature byte of the header: `Z` if it is the last one, else `M`.
     pub fn signature(self) -> u8
         ensures { result ≡ signature_byte self.last }
     {
@@ -65,7 +65,7 @@ impl Entry {
     }
 }
 
-/// A byte of the paragraph at a segment.
+/// The byte at an offset, below 16, of the paragraph at a segment.
 fn byte_of(space: &Space, segment: u16, offset: u16) -> u8
     requires { offset < 16 }
     ensures { result ≡ peek space.now.memory (16 * segment + offset) }
@@ -73,7 +73,7 @@ fn byte_of(space: &Space, segment: u16, offset: u16) -> u8
     space.peek(segment, offset)
 }
 
-/// A word of the paragraph at a segment, low byte first.
+/// The word at an offset, below 15, of the paragraph at a segment, low byte first.
 fn word_of(space: &Space, segment: u16, offset: u16) -> u16
     requires { offset < 15 }
     ensures word { result ≡ word space.now.memory (16 * segment + offset) }
@@ -85,15 +85,15 @@ fn word_of(space: &Space, segment: u16, offset: u16) -> u16
     u16::from_le_bytes([low, high])
 }
 
-/// Whether the signature at a segment is that of a last header.
+/// Whether the byte at segment:0 is the signature of a last header, `Z`.
 pub fn is_last(space: &Space, segment: u16) -> bool
     ensures { result ≡ (peek space.now.memory (16 * segment) == 0x5A) }
 {
     byte_of(space, segment, 0) == LAST
 }
 
-/// The header at a segment. None where it has no signature of a header, or where the header after
-/// its block would stand past FFFFh.
+/// Reads the header at a segment, whatever list it belongs to. None if its first byte is neither
+/// `M` nor `Z`, or if the segment after its block would be over FFFFh.
 pub fn header_at(space: &Space, segment: u16) -> Option<Entry>
     ensures { IsEntryAt space.now.memory segment result }
 {

@@ -1,4 +1,4 @@
-//! Walks over the lists of headers.
+//! Walks over the lists of headers: whether they are whole and clear, and searches for one header.
 ghost use Rattle.std.specs.Prelude.{◌≡◌, ℕ, ◌+◌, ◌≤◌, ◌<◌, List, MatchBool, MatchOption, IfSome, Some};
 ghost use Rattle.dm_blocks.specs.declared.header.Header.{Header};
 ghost use Rattle.dm_blocks.specs.Chain.{first_header, link_header, next, IsArena, IsArenaBehind, NoArena, NoArenaBehind};
@@ -16,7 +16,7 @@ pub const FIRST: u16 = 0x100;
 /// The segment of the link block's header, from which the second list is spelled.
 pub const LINK: u16 = 0x9FFF;
 
-/// The header at a segment from which a list is spelled.
+/// Reads the header at a segment from which memory spells a list.
 pub fn entry_at(space: &Space, segment: u16) -> Entry
     requires { (L : List Header) × IsSpelledFrom space.now.memory segment L }
     ensures there { result.header.segment ≡ segment }
@@ -29,7 +29,8 @@ pub fn entry_at(space: &Space, segment: u16) -> Entry
     entry
 }
 
-/// The walk at the end of its list; None where the list is broken.
+/// Goes on with a walk to its end: returns the walk past its last header; None if the list is
+/// broken.
 fn tell_all(headers: Headers<'_>) -> Option<Headers<'_>>
     requires { (t : ℕ) × (headers.at ≡ Some t) × (t ≤ 0xFFFF) }
     ensures { HasToldAll headers.entry result }
@@ -67,7 +68,8 @@ pub fn has_second(space: &Space) -> bool
     tell_all(first.walk_second()).is_some()
 }
 
-/// The header whose block begins at a segment, if the list has one.
+/// The header whose block begins at a segment, None if the first list has no such block. The
+/// segment is the block's own, not that of its header.
 pub fn find(space: &Space, segment: u16) -> Option<Entry>
     requires { (L : List Header) × IsSpelledFrom space.now.memory first_header L }
     ensures found { FindsBlock space.now.memory first_header segment result }
@@ -86,7 +88,7 @@ pub fn find(space: &Space, segment: u16) -> Option<Entry>
     }
 }
 
-/// Whether the list has the link block's header, and so is linked with that of upper memory.
+/// Whether the first list has the link block's header, and so goes on in upper memory.
 pub fn is_linked(space: &Space) -> bool
     requires { (L : List Header) × IsSpelledFrom space.now.memory first_header L }
     ensures { (L : List Header) → IsSpelledFrom space.now.memory first_header L → result ≡ Chain.is_linked L }
@@ -94,7 +96,8 @@ pub fn is_linked(space: &Space) -> bool
     find(space, LINK + 1).is_some()
 }
 
-/// The header whose block ends where the link block's header stands, if the list has one.
+/// The header of the first list whose block ends where the link block's header stands; None if it
+/// has none.
 pub fn before_link(space: &Space) -> Option<Entry>
     requires { (L : List Header) × IsSpelledFrom space.now.memory first_header L }
     ensures found { EndsBefore space.now.memory first_header link_header result }
@@ -113,7 +116,8 @@ pub fn before_link(space: &Space) -> Option<Entry>
     }
 }
 
-/// A cursor over the first list, moved to the first header that isn't below a segment.
+/// Moves a cursor over the first list to the first header at the segment or above, and returns it;
+/// None if there is none, or if the cursor was None.
 pub(crate) fn catch_up(space: &Space, cursor: Option<u16>, segment: u16) -> Option<u16>
     requires { (K : List Header) × AreLeft space.now.memory cursor K }
     ensures { (F : List Header) → IsCursor space.now.memory F cursor segment → IsCursor space.now.memory F result segment × HasCaughtUp result segment }

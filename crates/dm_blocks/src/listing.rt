@@ -16,23 +16,24 @@ pub enum Step {
     Told(Entry),
     /// The end: there is no other header.
     End,
-    /// No header can stand at the segment, where the list would have its next one: it is the first
-    /// that has no signature, or leads past FFFFh, or stands where a write would be lost, or on the
-    /// place of an earlier header. Earlier ones are those of the list and, for the second list, all
-    /// of the first.
+    /// The list is destroyed: no header can stand at the segment, where the next one has to be.
+    /// There is no signature, or the block ends past FFFFh, or a write there would be lost, or the
+    /// place is that of an earlier header of the list (for the second list, also of any header of
+    /// the first).
     Destroyed(u16),
 }
 
-/// A walk over the headers of a list, from the first one on. It takes no memory.
+/// A walk over the headers of a list, from the first one on. It allocates no memory.
 ///
 /// Contracts see the memory, whether the list is the second one, that of upper memory, which is
-/// walked over after the first, and where the next header has to stand.
+/// walked over after the first, and the segment where the next header has to be.
 #[derive(Drop)]
 pub struct Headers<'a> {
     space: &'a Space,
     second: bool,
     at: Option<u16>,
-    /// For the second list: the first header of the first list that wasn't passed.
+    /// For a walk over the second list: the segment of the first header of the first list that
+    /// isn't below the headers so far; None at its end, and for a walk over the first list.
     beside: Option<u16>,
     seen: Seen,
 }
@@ -48,7 +49,7 @@ impl<'a> Model for Headers<'a> {
     ghost invariant = { λ w. IsMarkedWalk (record { memory = w.space.now.memory; second = w.second; at = w.at }) w.beside w.seen.marks };
 }
 
-/// A walk over the first list that stands at its first header.
+/// Starts a walk over the first list, at its first header.
 pub fn walk(space: &Space) -> Headers<'_>
     ensures memory { result.memory ≡ space.now.memory }
     ensures second { result.second ≡ false }
@@ -63,7 +64,7 @@ pub fn walk(space: &Space) -> Headers<'_>
     }
 }
 
-/// Whether a cursor stands at a segment.
+/// Whether the cursor over the first list stands at a segment; false if it is None.
 fn stands_at(cursor: Option<u16>, segment: u16) -> bool
     ensures { MatchBool result (cursor ≡ Some segment) (cursor ≢ Some segment) }
 {
@@ -102,7 +103,8 @@ impl<'a> Headers<'a> {
         Step::Told(entry)
     }
 
-    /// The walk over the second list, after the first one, which is through all its headers.
+    /// Starts the walk over the second list, once a walk over the first one has passed its last
+    /// header. The marks of the first list are kept.
     pub fn walk_second(self) -> Headers<'a>
         requires first { self.second ≡ false }
         requires over { self.at ≡ None }

@@ -1,9 +1,9 @@
-//! Which places of the frame have a header.
+//! Which paragraphs of the EMS page frame have a header, as a walk meets them.
 //!
-//! Headers stand at paragraphs and windows at multiples of 16 KiB, so that two headers lie in the
-//! same bytes or in none together; and only in the frame, where several windows may show one block,
-//! have two segments one place. So a mark for each paragraph of each window is all that has to be
-//! kept, and a list is looked through once.
+//! Headers stand at paragraphs and windows at multiples of 16 KiB, so two headers share all of
+//! their bytes or none. Only in the frame, where several windows may show one block of the pool,
+//! have two segments one place. So one mark for each paragraph of each window is enough, and a walk
+//! reads a list once.
 ghost use Rattle.std.specs.Prelude.{◌≡◌, ◌<◌, ◌≤◌, [], false, length, slice_index_or, slice_set, true, MatchBool};
 ghost use Rattle.dm_space.specs.Memory.{Memory};
 ghost use Rattle.dm_blocks.specs.inner.Marks;
@@ -12,19 +12,19 @@ ghost use Rattle.dm_blocks.specs.inner.Marks.{Admits, AreMarked};
 use dm_pool::Block;
 use dm_space::{Place, Space};
 
-/// The paragraphs of a page.
+/// The number of paragraphs of a page.
 const PAGE: usize = 0x400;
-/// The paragraphs of the frame.
+/// The number of paragraphs of the frame: four pages.
 const FRAME: usize = 0x1000;
 
-/// The places of the frame at which a walk has met a header. Those of a block that several windows
-/// show are kept for the first of them.
+/// A mark for each paragraph of the frame: set if the walk has met a header there. Where several
+/// windows show one block, the marks of the first of them count for all.
 #[derive(Drop)]
 pub(crate) struct Seen {
     marks: [bool; FRAME],
 }
 
-/// Whether a window that shows this, or nothing, shows the block.
+/// Whether a window that shows `shown`, or nothing, shows the block.
 fn is_shown(shown: Option<Block>, block: Block) -> bool
     ensures { result ≡ Marks.is_shown shown block }
 {
@@ -34,7 +34,7 @@ fn is_shown(shown: Option<Block>, block: Block) -> bool
     }
 }
 
-/// The number of the first of some windows that shows the block; how many there are if none does.
+/// The index of the first window that shows the block; the number of windows if none does.
 fn first_showing(windows: &[Option<Block>], block: Block) -> usize
     ensures value { result ≡ Marks.first_showing windows.now block }
     ensures within { result ≤ length windows.now }
@@ -51,7 +51,8 @@ fn first_showing(windows: &[Option<Block>], block: Block) -> usize
     }
 }
 
-/// The mark of the paragraph at an offset of a block.
+/// The index of the mark for a byte of a block: its paragraph in the first window that shows the
+/// block. The offset is in bytes.
 fn slot_of(space: &Space, block: Block, offset: usize) -> usize
     ensures { result ≡ Marks.slot space.now.memory block offset }
 {
@@ -59,7 +60,7 @@ fn slot_of(space: &Space, block: Block, offset: usize) -> usize
 }
 
 impl Seen {
-    /// No place is marked.
+    /// No paragraph is marked.
     pub(crate) fn new() -> Seen
         ensures { (S : Memory) → AreMarked S [] result.marks }
     {
@@ -68,7 +69,7 @@ impl Seen {
         }
     }
 
-    /// Marks a place, unless it is marked already. Whether it was not.
+    /// Sets a mark. Returns true if it was not set before.
     fn mark(&mut self, slot: usize) -> bool
         requires { slot < 0x1000 }
         ensures { MatchBool result ((slice_index_or self.old.marks slot false ≡ false) × (self.new.marks ≡ slice_set self.old.marks slot true)) ((slice_index_or self.old.marks slot false ≡ true) × (self.new.marks ≡ self.old.marks)) }
@@ -80,8 +81,9 @@ impl Seen {
         true
     }
 
-    /// Whether a header may stand at a segment after those whose places are marked: what is written
-    /// there is kept, and none of them has its place. Then its own place is marked too.
+    /// Returns true if a header may stand at a segment: memory keeps what is written there, and no
+    /// header met before has the same place. Then its mark is set, if it is in the frame; with
+    /// false nothing changes.
     pub(crate) fn admit(&mut self, space: &Space, segment: u16) -> bool
         ensures { Admits space.now.memory segment self.old.marks result self.new.marks }
     {

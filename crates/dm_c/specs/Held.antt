@@ -11,15 +11,16 @@ use Rattle.std.specs.Box.Ownership.{box_owns}
 use Rattle.dm_host.specs.Hosts.{Hosted}
 use Rattle.dm_host.specs.contracts.host.Host.{the_row}
 
--- the allocator of C's memory, as `Global` of the exports stands for it
+-- the allocator of C's memory, which the exports have as `Global`
 abbrev pub heap : Global
 heap = record { memory = record { seal = tt } }
 
--- a box of that memory at p with the machine in it, or nothing
+-- ownership of what a handle's pointer p holds: a box of C's memory with the machine in it, or nothing
 abbrev pub held : Ptr → Option Hosted → Fml
 held p None = ftrue
 held p (Some h) = box_owns (ghosts.dealloc_token heap) the_row p h
 
+-- that a machine or none can be stored as the ghost value of a handle
 abbrev pub held_coded : Coded (Option Hosted)
 held_coded = coded_option (the_row).coded
 
@@ -27,6 +28,6 @@ held_coded = coded_option (the_row).coded
 abbrev pub mark_held : ℕ
 mark_held = 0x6D657A67756C6431
 
--- the mark says whether there is a machine
+-- the mark is `mark_held` exactly if there is a machine
 abbrev pub IsMarked : Option Hosted → ℕ → Type 0
 IsMarked value mark = is_some value ≡ (mark == mark_held)

@@ -1,4 +1,4 @@
--- What each export does with a machine: its status, what it writes, and the machine after it.
+-- What each export does with a machine: its status, what it sets, and the host h that becomes g.
 use Rattle.std.specs.Prelude.{◌≡◌, ◌⊎◌, ℕ, Bool, List, [], map, length, Option, Some, None}
 use Rattle.dm_pool.specs.declared.sizes.Sizes.{Sizes}
 use Rattle.dm_state.specs.declared.stop.Stop.{Stop}
@@ -20,68 +20,73 @@ use Rattle.dm_c.specs.declared.values.Point.{Point}
 use Rattle.dm_c.specs.Statuses.{status_of, stopped_of, registers_of, point_of}
 use Rattle.dm_c.specs.Calls.{IsDoneOrRefused, Gives}
 
--- a machine is made in a handle that holds none
+-- `mezguld_new`: a machine with no programs is made in a handle that holds none; a handle in use stays (status 2), and
+-- so does the handle at a refusal
 pub data Makes (old new : Option Hosted) (sizes : Sizes) (variables : List ℕ) (upper : Bool) (status : ℕ) : Type 0 where
   in_use : (h : Hosted) → old ≡ Some h → new ≡ Some h → status ≡ 2 → Makes old new sizes variables upper status
   made : old ≡ None → new ≡ Some (new_host (record { sizes = sizes; variables = variables; upper = upper; programs = [] })) → status ≡ 0
       → Makes old new sizes variables upper status
   refused : (why : Refusal) → old ≡ None → new ≡ None → status ≡ status_of why → IsNewFault sizes variables why → Makes old new sizes variables upper status
 
--- `mezguld_add`: the store has one more program, or the status says why not
+-- `mezguld_add`: a program is added; at a refusal nothing changes
 abbrev pub AddsTo : Hosted → List ℕ → List ℕ → ℕ → Hosted → Type 0
 AddsTo h name program status g = IsDoneOrRefused status (Adds h name program g) (λ why. IsUnadded h name why × (g ≡ h))
 
--- `mezguld_load`: the first program is loaded, or the status says why not
+-- `mezguld_load`: the program of the name is loaded, or the status says why not
 abbrev pub LoadsTo : Hosted → List ℕ → List ℕ → List ℕ → ℕ → Hosted → Type 0
 LoadsTo h name tail input status g = IsDoneOrRefused status (Loads h name tail input g) (λ why. IsUnloaded h name tail input why g)
 
--- `mezguld_run`: a run of at most n steps, and why it stopped; with no program loaded nothing changes
+-- `mezguld_run`: a run of at most n steps, and why it stopped; if no program is loaded, nothing changes
 abbrev pub RunsTo : Hosted → ℕ → Stopped → Stopped → ℕ → Hosted → Type 0
 RunsTo h n before after status g =
     IsDoneOrRefused status ((stop : Stop) × Works h (λ s t. IsRun s.machine n stop t.machine × (t.points ≡ s.points)) g × (after ≡ stopped_of (Some stop)))
     (λ why. IsNotLoaded h why × (g ≡ h) × (after ≡ before))
 
--- `mezguld_run_until`: a run of at most n steps, up to a breakpoint; where it is refused nothing changes
+-- `mezguld_run_until`: a run of at most n steps, up to a breakpoint, and why it stopped; if no program is loaded, or an
+-- allocation failed, nothing changes
 abbrev pub RunsUntilTo : Hosted → ℕ → List Point → Stopped → Stopped → ℕ → Hosted → Type 0
 RunsUntilTo h n points before after status g =
     IsDoneOrRefused status ((stop : Option Stop) × Works h (λ s t. RunsUntil s.machine n (map point_of points) stop t.machine × (t.points ≡ s.points)) g × (after ≡ stopped_of stop))
     (λ why. (IsNotLoaded h why ⊎ (why ≡ NoMemory)) × (g ≡ h) × (after ≡ before))
 
--- `mezguld_steps`: how many steps were made, where a program is loaded
+-- `mezguld_steps`: how many steps were made; if no program is loaded, nothing changes
 abbrev pub StepsTo : Hosted → ℕ → ℕ → ℕ → Hosted → Type 0
 StepsTo h before after status g = IsDoneOrRefused status (Shows h (λ s. after ≡ s.steps)) (λ why. IsNotLoaded h why × (after ≡ before)) × (g ≡ h)
 
--- `mezguld_registers`: the registers, where a program is loaded
+-- `mezguld_registers`: the registers; if no program is loaded, nothing changes
 abbrev pub RegistersTo : Hosted → Registers → Registers → ℕ → Hosted → Type 0
 RegistersTo h before after status g = IsDoneOrRefused status (Shows h (λ s. after ≡ registers_of s.cpu)) (λ why. IsNotLoaded h why × (after ≡ before)) × (g ≡ h)
 
--- `mezguld_read`: the bytes from segment:offset on fill the buffer, where a program is loaded
+-- `mezguld_read`: the bytes of memory from segment:offset on fill the buffer; if no program is loaded, nothing changes
 abbrev pub ReadsTo : Hosted → ℕ → ℕ → List ℕ → List ℕ → ℕ → Hosted → Type 0
 ReadsTo h segment offset before after status g =
     IsDoneOrRefused status (Shows h (λ s. after ≡ bytes_at s.memory segment offset (length before))) (λ why. IsNotLoaded h why × (after ≡ before)) × (g ≡ h)
 
--- `mezguld_write`: the bytes are written from segment:offset on, where a program is loaded
+-- `mezguld_write`: the bytes are written to memory from segment:offset on; if no program is loaded, nothing changes
 abbrev pub WritesTo : Hosted → ℕ → ℕ → List ℕ → ℕ → Hosted → Type 0
 WritesTo h segment offset bytes status g =
     IsDoneOrRefused status (Works h (λ s t. t ≡ with_machine s (record s.machine { memory = with_bytes s.machine.memory segment offset bytes })) g) (λ why. IsNotLoaded h why × (g ≡ h))
 
--- `mezguld_output`: what the console wrote, and how many bytes that is, where a program is loaded
+-- `mezguld_output`: the buffer gets all that the program has written to the console; if no program is loaded, nothing
+-- changes
 abbrev pub OutputTo : Hosted → List ℕ → List ℕ → ℕ → ℕ → ℕ → Hosted → Type 0
 OutputTo h before after wanted_before wanted status g =
     (Shows h (λ s. Gives s.console.output before after wanted status)
     ⊎ (IsNotLoaded h NotLoaded × (status ≡ status_of NotLoaded) × (after ≡ before) × (wanted ≡ wanted_before))) × (g ≡ h)
 
--- `mezguld_command`: a line of the debugger; `wanted` is how many bytes it prints
+-- `mezguld_command`: the debugger command of a line is executed; `wanted` becomes how many bytes its answer has, and
+-- stays at a refusal
 abbrev pub CommandsTo : Hosted → List ℕ → ℕ → ℕ → ℕ → Hosted → Type 0
 CommandsTo h line before wanted status g =
     IsDoneOrRefused status (IsCommanded h line g × (wanted ≡ length g.answer)) (λ why. IsUncommanded h line why g × (wanted ≡ before))
 
--- `mezguld_check`: a run of at most n steps with findings; `wanted` is how many bytes their lines are
+-- `mezguld_check`: a run of at most n steps under the memory checker, and why it stopped; `wanted` becomes how many
+-- bytes the report has. Both stay at a refusal
 abbrev pub ChecksTo : Hosted → ℕ → Stopped → Stopped → ℕ → ℕ → ℕ → Hosted → Type 0
 ChecksTo h n before after wanted_before wanted status g =
     IsDoneOrRefused status ((stop : Stop) × Checks h n stop g × (after ≡ stopped_of (Some stop)) × (wanted ≡ length g.answer))
     (λ why. IsUnchecked h n why g × (after ≡ before) × (wanted ≡ wanted_before))
 
--- `mezguld_answer`: what the last command or check printed, and how many bytes that is
+-- `mezguld_answer`: the buffer gets the answer of the last command or checked run; the host stays
 abbrev pub AnswersTo : Hosted → List ℕ → List ℕ → ℕ → ℕ → Hosted → Type 0
 AnswersTo h before after wanted status g = Gives h.answer before after wanted status × (g ≡ h)

@@ -1,4 +1,4 @@
--- What C sees of a refusal, of a stop and of the registers.
+-- Statuses, stops, registers and breakpoints as C sees them.
 use Rattle.std.specs.Prelude.{ℕ, Option, Some, None}
 use Rattle.dm_state.specs.declared.stop.Stop.{Stop}
 use Rattle.dm_state.specs.declared.stop.Stop.TheVariants as stop
@@ -13,7 +13,8 @@ use Rattle.dm_c.specs.declared.values.Stopped.{Stopped}
 use Rattle.dm_c.specs.declared.values.Registers.{Registers}
 use Rattle.dm_c.specs.declared.values.Point.{Point}
 
--- the status of a refusal. Of the other statuses 0 is success, 1 no machine, 2 a handle in use, 4 a buffer too small
+-- the status of a refusal of `dm_host`. Other statuses: 0 success, 1 no machine in the handle, 2 a handle in use, 4 a
+-- buffer too small
 abbrev pub status_of : Refusal → ℕ
 status_of why.Memory = 3
 status_of why.TooLarge = 5
@@ -29,7 +30,7 @@ status_of why.NotLoaded = 14
 status_of why.Syntax = 15
 status_of why.Full = 16
 
--- the status of a text that has no bytes
+-- the status for an assembly text that has an error
 abbrev pub text_status_of : asm.AssemblyRefusal → ℕ
 text_status_of (text.Syntax line) = 17
 text_status_of (text.Unknown line) = 18
@@ -38,7 +39,7 @@ text_status_of (text.Twice line) = 20
 text_status_of text.TooLong = 21
 text_status_of text.Memory = 3
 
--- the line that is wrong, or what stood there before
+-- the line of an error in an assembly text; `before` if the error has no line
 abbrev pub wrong_line : asm.AssemblyRefusal → ℕ → ℕ
 wrong_line (text.Syntax line) before = line
 wrong_line (text.Unknown line) before = line
@@ -47,7 +48,7 @@ wrong_line (text.Twice line) before = line
 wrong_line text.TooLong before = before
 wrong_line text.Memory before = before
 
--- why a run stopped; none: at a breakpoint
+-- a stop as C sees it: its number, and the exit code; None is a breakpoint
 abbrev pub stopped_of : Option Stop → Stopped
 stopped_of (Some stop.Steps) = record { why = 0; code = 0 }
 stopped_of (Some (stop.Exited code)) = record { why = 1; code = code }
@@ -77,6 +78,6 @@ registers_of cpu = record {
   flags = flags.flags_word cpu.flags;
 }
 
--- a breakpoint as C gives it
+-- the breakpoint that C gives as a pair of CS and IP
 abbrev pub point_of : Point → Breakpoint
 point_of p = record { segment = p.segment; offset = p.offset }

@@ -7,13 +7,15 @@ use Rattle.dm_disassembler.specs.Listing.{IsListing}
 use Rattle.dm_c.specs.Statuses.{text_status_of, wrong_line}
 use Rattle.dm_c.specs.Calls.{Gives}
 
--- the bytes of a text, or what is first wrong with it, or memory was refused
+-- `mezguld_assemble`: the buffer gets the bytes of the text's program; or the text has an error, or an allocation
+-- failed, and then only the status and `line` say so
 pub data AssemblesTo (text before after : List ℕ) (wanted_before wanted line_before line status : ℕ) : Type 0 where
   assembled : (bytes : List ℕ) → Assembles text bytes → Gives bytes before after wanted status → line ≡ line_before → AssemblesTo text before after wanted_before wanted line_before line status
   refused : (why : AssemblyRefusal) → (why ≡ Memory) ⊎ Refuses text why → status ≡ text_status_of why → line ≡ wrong_line why line_before → after ≡ before → wanted ≡ wanted_before
       → AssemblesTo text before after wanted_before wanted line_before line status
 
--- the lines of a program, or it is too long, or memory was refused
+-- `mezguld_disassemble`: the buffer gets the assembly text of the program; or the program is too long, or an allocation
+-- failed, and then only the status says so
 pub data DisassemblesTo (program before after : List ℕ) (wanted_before wanted status : ℕ) : Type 0 where
   listed : (text : List ℕ) → IsListing program text → Gives text before after wanted status → DisassemblesTo program before after wanted_before wanted status
   too_long : 65278 < length program → status ≡ 21 → after ≡ before → wanted ≡ wanted_before → DisassemblesTo program before after wanted_before wanted status

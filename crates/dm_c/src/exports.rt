@@ -1,4 +1,6 @@
-//! The exports on a handle. `include/mezguld.h` declares them for C.
+//! The exports on the handle of a machine, which `include/mezguld.h` declares for C. Each returns a status: 0 for
+//! success, otherwise why not. But for `mezguld_new` and `mezguld_free`, the status is 1 if the handle holds no
+//! machine, and nothing changes then.
 ghost use Rattle.std.specs.Prelude.{◌≡◌, ◌<◌, None, true, false, nat_lt};
 ghost use Rattle.dm_c.specs.Calls.{IsCall};
 ghost use Rattle.dm_c.specs.Machines.{Makes, AddsTo, LoadsTo, RunsTo, RunsUntilTo, StepsTo, RegistersTo, ReadsTo, WritesTo, OutputTo, CommandsTo, ChecksTo, AnswersTo};
@@ -12,7 +14,8 @@ use dm_host::Host;
 use dm_machine::Sizes;
 use std::alloc::Global;
 
-/// Makes a machine with no programs.
+/// Makes a machine with no programs in a handle that holds none. Any `upper` but 0 adds upper memory to the arena.
+/// Nothing changes unless the status is 0; it is 2 if the handle holds a machine.
 #[unsafe(no_mangle)]
 pub extern "C" fn mezguld_new(
     alloc: Global,
@@ -41,7 +44,7 @@ pub extern "C" fn mezguld_new(
     }
 }
 
-/// Frees the machine, if there is one.
+/// Frees the machine of a handle, if it holds one. The handle holds none then, and the status is 0.
 #[unsafe(no_mangle)]
 pub extern "C" fn mezguld_free(alloc: Global, machine: &mut Handle) -> u32
     ensures { (result ≡ 0) × (machine.new.inside.value ≡ None) }
@@ -50,7 +53,7 @@ pub extern "C" fn mezguld_free(alloc: Global, machine: &mut Handle) -> u32
     OK
 }
 
-/// Adds a program under a name.
+/// Adds a program under a name to the machine. Nothing changes unless the status is 0.
 #[unsafe(no_mangle)]
 pub extern "C" fn mezguld_add(
     alloc: Global,
@@ -68,7 +71,8 @@ pub extern "C" fn mezguld_add(
     status
 }
 
-/// Loads the program of a name, with a command tail and the console's input.
+/// Loads the program of a name, with a command tail and the console input. With status 13 (short) or 3 (out of memory)
+/// the machine can no longer be loaded; with any other but 0 nothing changes.
 #[unsafe(no_mangle)]
 pub extern "C" fn mezguld_load(
     alloc: Global,
@@ -87,7 +91,7 @@ pub extern "C" fn mezguld_load(
     status
 }
 
-/// Makes at most so many steps.
+/// Makes at most `steps` steps, and sets `stopped` to why the run stopped. Nothing changes unless the status is 0.
 #[unsafe(no_mangle)]
 pub extern "C" fn mezguld_run(
     alloc: Global,
@@ -105,7 +109,8 @@ pub extern "C" fn mezguld_run(
     status
 }
 
-/// Makes at most so many steps, but none after one that led to a breakpoint.
+/// Makes at most `steps` steps, up to the first one that leads to one of `points`, and sets `stopped` to why the run
+/// stopped. Nothing changes unless the status is 0.
 #[unsafe(no_mangle)]
 pub extern "C" fn mezguld_run_until(
     alloc: Global,
@@ -124,7 +129,7 @@ pub extern "C" fn mezguld_run_until(
     status
 }
 
-/// How many steps were made.
+/// Sets `steps` to how many steps were made so far. It stays unless the status is 0.
 #[unsafe(no_mangle)]
 pub extern "C" fn mezguld_steps(alloc: Global, machine: &mut Handle, steps: &mut u64) -> u32
     ensures { IsCall machine.old.inside.value machine.new.inside.value ((result ≡ 1) × (steps.new ≡ steps.old)) (λ h g. StepsTo h steps.old steps.new result g) }
@@ -137,7 +142,7 @@ pub extern "C" fn mezguld_steps(alloc: Global, machine: &mut Handle, steps: &mut
     status
 }
 
-/// The registers.
+/// Sets `registers` to the machine's registers. They stay unless the status is 0.
 #[unsafe(no_mangle)]
 pub extern "C" fn mezguld_registers(
     alloc: Global,
@@ -154,7 +159,8 @@ pub extern "C" fn mezguld_registers(
     status
 }
 
-/// Fills a buffer with the bytes of memory from segment:offset on.
+/// Fills the buffer with the bytes of memory from segment:offset on; offsets wrap. The buffer stays unless the status
+/// is 0.
 #[unsafe(no_mangle)]
 pub extern "C" fn mezguld_read(
     alloc: Global,
@@ -173,7 +179,7 @@ pub extern "C" fn mezguld_read(
     status
 }
 
-/// Writes bytes to memory from segment:offset on.
+/// Writes the bytes to memory from segment:offset on; offsets wrap. Nothing changes unless the status is 0.
 #[unsafe(no_mangle)]
 pub extern "C" fn mezguld_write(
     alloc: Global,
@@ -192,7 +198,8 @@ pub extern "C" fn mezguld_write(
     status
 }
 
-/// Copies all that the console wrote.
+/// Copies all bytes that the program has written to the console to the front of the buffer, and sets `wanted` to how
+/// many they are. If they do not fit, the status is 4, and only `wanted` changes.
 #[unsafe(no_mangle)]
 pub extern "C" fn mezguld_output(
     alloc: Global,
@@ -210,7 +217,9 @@ pub extern "C" fn mezguld_output(
     status
 }
 
-/// Does the command that a line of the debugger asks for, and keeps its answer.
+/// Executes the debugger command of a line, keeps what it prints as the answer, and sets `wanted` to how many bytes
+/// that is. `wanted` and the answer before stay unless the status is 0; with status 3 (out of memory) the command may
+/// be done, whole or in part.
 #[unsafe(no_mangle)]
 pub extern "C" fn mezguld_command(
     alloc: Global,
@@ -228,7 +237,9 @@ pub extern "C" fn mezguld_command(
     status
 }
 
-/// Makes at most so many steps under the memory checker, and keeps its report as the answer.
+/// Makes at most `steps` steps under the memory checker, keeps its report as the answer, and sets `stopped` to why the
+/// run stopped and `wanted` to how many bytes the report has. All three stay unless the status is 0; with status 3 (out
+/// of memory) a first part of the run was made.
 #[unsafe(no_mangle)]
 pub extern "C" fn mezguld_check(
     alloc: Global,
@@ -247,7 +258,8 @@ pub extern "C" fn mezguld_check(
     status
 }
 
-/// Copies the answer of the last command or checked run that had one.
+/// Copies the answer of the last command or checked run that had one to the front of the buffer, and sets `wanted` to
+/// how many bytes it has. If they do not fit, the status is 4, and only `wanted` changes.
 #[unsafe(no_mangle)]
 pub extern "C" fn mezguld_answer(
     alloc: Global,

@@ -1,4 +1,4 @@
-//! What C holds of a machine.
+//! The handle by which C holds a machine.
 ghost use Rattle.std.specs.Prelude.{◌≡◌, Some, None, is_some, option_map};
 ghost use Rattle.dm_c.specs.Held.{IsMarked};
 
@@ -7,10 +7,10 @@ use crate::loose::Loose;
 use dm_host::Host;
 use std::alloc::Global;
 
-/// The mark of a handle that holds a machine; any other mark is that of a handle that holds none.
+/// The mark of a handle that holds a machine; a handle with any other mark holds none.
 const HELD: u64 = 0x6D65_7A67_756C_6431;
 
-/// A machine, or none, as C holds it.
+/// A machine, or none, as C holds it. The mark says which.
 #[repr(C)]
 #[derive(Drop)]
 pub struct Handle {
@@ -20,7 +20,7 @@ pub struct Handle {
 }
 
 impl Handle {
-    /// A handle of no machine.
+    /// A handle that holds no machine.
     fn none() -> Handle
         ensures { result.inside.value ≡ None }
     {
@@ -30,7 +30,7 @@ impl Handle {
         }
     }
 
-    /// A handle of a boxed machine.
+    /// A handle that holds this machine.
     fn of(host: Box<Host>) -> Handle
         ensures { result.inside.value ≡ Some host.value }
     {
@@ -40,14 +40,14 @@ impl Handle {
         }
     }
 
-    /// Whether it holds a machine.
+    /// Whether the handle holds a machine.
     pub(crate) fn is_held(&self) -> bool
         ensures { result ≡ is_some self.now.inside.value }
     {
         self.mark == HELD
     }
 
-    /// Takes the machine out, if there is one.
+    /// Takes the machine out of the handle, which holds none then. None if there was none.
     pub(crate) fn take(&mut self, alloc: Global) -> Option<Box<Host>>
         ensures machine { option_map (λ b. b.value) result ≡ self.old.inside.value }
         ensures left { self.new.inside.value ≡ None }
@@ -59,7 +59,7 @@ impl Handle {
         Some(inside.into_loose(alloc).into_box())
     }
 
-    /// Puts a machine in, where there is none.
+    /// Puts a machine into a handle that holds none.
     pub(crate) fn put(&mut self, host: Box<Host>)
         requires { self.old.inside.value ≡ None }
         ensures { self.new.inside.value ≡ Some host.value }

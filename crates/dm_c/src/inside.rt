@@ -1,4 +1,4 @@
-//! A boxed machine that C holds by its pointer.
+//! The pointer by which a handle holds a boxed machine.
 ghost use Rattle.std.specs.Prelude.{◌≡◌, Option, Some, None, is_some, true};
 ghost use Rattle.dm_host.specs.Hosts.{Hosted};
 ghost use Rattle.dm_c.specs.Held.{held, held_coded};
@@ -24,7 +24,7 @@ impl Model for Inside {
 }
 
 impl Inside {
-    /// No machine.
+    /// A null pointer: no machine.
     pub(crate) fn none() -> Inside
         ensures { result.value ≡ None }
     {
@@ -33,7 +33,7 @@ impl Inside {
         }
     }
 
-    /// The machine of a box that was taken apart.
+    /// The pointer of a box that was taken apart.
     pub(crate) fn of(value: Loose<Host, Global>) -> Inside
         ensures { result.value ≡ Some value.value }
     {
@@ -41,7 +41,7 @@ impl Inside {
         Inside { at: at as *mut u8 }
     }
 
-    /// The parts of the box. There is a machine.
+    /// The parts of the box, its pointer and allocator. There must be a machine.
     pub(crate) fn into_loose(self, alloc: Global) -> Loose<Host, Global>
         requires { is_some self.value ≡ true }
         ensures { Some result.value ≡ self.value }

@@ -1,4 +1,6 @@
-//! What the exports do with a machine: each function calls that of the same name of `Host`, and returns the status.
+//! What the exports do once the handle's machine is taken out: each function calls that of the same name of `Host`, and
+//! returns its status, 0 or that of the refusal. What C passes by reference is set with status 0 alone, except by
+//! `output`.
 ghost use Rattle.std.specs.Prelude.{◌≡◌};
 ghost use Rattle.dm_c.specs.Machines.{AddsTo, LoadsTo, RunsTo, RunsUntilTo, StepsTo, RegistersTo, ReadsTo, WritesTo, OutputTo, CommandsTo, ChecksTo};
 
@@ -9,7 +11,7 @@ use crate::values::{
 use dm_host::Host;
 use std::alloc::Global;
 
-/// Adds a program.
+/// Adds a program under a name; nothing changes unless the status is 0.
 pub(crate) fn add(alloc: Global, host: &mut Host, name: &[u8], program: &[u8]) -> u32
     ensures { AddsTo host.old name.now program.now result host.new }
 {
@@ -19,7 +21,8 @@ pub(crate) fn add(alloc: Global, host: &mut Host, name: &[u8], program: &[u8]) -
     }
 }
 
-/// Loads a program.
+/// Loads the program of a name, with a command tail and the console input. With status 13 or 3 the host is spent; with
+/// any other but 0 nothing changes.
 pub(crate) fn load(alloc: Global, host: &mut Host, name: &[u8], tail: &[u8], input: &[u8]) -> u32
     ensures { LoadsTo host.old name.now tail.now input.now result host.new }
 {
@@ -29,7 +32,8 @@ pub(crate) fn load(alloc: Global, host: &mut Host, name: &[u8], tail: &[u8], inp
     }
 }
 
-/// Makes at most so many steps.
+/// Makes at most `steps` steps, and sets `stopped` to why the run stopped. Status 14, and no change, if no program is
+/// loaded.
 pub(crate) fn run(host: &mut Host, steps: u64, stopped: &mut Stopped) -> u32
     ensures { RunsTo host.old steps stopped.old stopped.new result host.new }
 {
@@ -42,7 +46,8 @@ pub(crate) fn run(host: &mut Host, steps: u64, stopped: &mut Stopped) -> u32
     }
 }
 
-/// Makes at most so many steps, up to a breakpoint.
+/// Makes at most `steps` steps, up to the first one that leads to one of `points`, and sets `stopped` to why the run
+/// stopped. Status 14 if no program is loaded, 3 if an allocation failed; then nothing changes.
 pub(crate) fn run_until(
     alloc: Global,
     host: &mut Host,
@@ -64,7 +69,7 @@ pub(crate) fn run_until(
     }
 }
 
-/// How many steps were made.
+/// Sets `steps` to how many steps were made so far. Status 14, and no change, if no program is loaded.
 pub(crate) fn steps(host: &Host, steps: &mut u64) -> u32
     ensures { StepsTo host.now steps.old steps.new result host.now }
 {
@@ -77,7 +82,7 @@ pub(crate) fn steps(host: &Host, steps: &mut u64) -> u32
     }
 }
 
-/// The registers.
+/// Sets `registers` to the machine's registers. Status 14, and no change, if no program is loaded.
 pub(crate) fn registers(host: &Host, registers: &mut Registers) -> u32
     ensures { RegistersTo host.now registers.old registers.new result host.now }
 {
@@ -90,7 +95,8 @@ pub(crate) fn registers(host: &Host, registers: &mut Registers) -> u32
     }
 }
 
-/// Fills a buffer with bytes of memory.
+/// Fills the buffer with the bytes of memory from segment:offset on; offsets wrap. Status 14, and no change, if no
+/// program is loaded.
 pub(crate) fn read(host: &Host, segment: u16, offset: u16, buffer: &mut [u8]) -> u32
     ensures { ReadsTo host.now segment offset buffer.old buffer.new result host.now }
 {
@@ -100,8 +106,8 @@ pub(crate) fn read(host: &Host, segment: u16, offset: u16, buffer: &mut [u8]) ->
     }
 }
 
-/// Writes bytes to memory from segment:offset on, if a program is loaded; offsets wrap in their segment. Bytes of the
-/// ROM, and where there is no memory, stay. If none is loaded, the status is NOT_LOADED, and nothing changes.
+/// Writes the bytes to memory from segment:offset on; offsets wrap. The ROM, and addresses without memory, do not
+/// change. Status 14, and no change, if no program is loaded.
 pub(crate) fn write(host: &mut Host, segment: u16, offset: u16, bytes: &[u8]) -> u32
     ensures { WritesTo host.old segment offset bytes.now result host.new }
 {
@@ -111,7 +117,8 @@ pub(crate) fn write(host: &mut Host, segment: u16, offset: u16, bytes: &[u8]) ->
     }
 }
 
-/// Copies all that the console wrote, if the buffer has room for it, and says how many bytes that is.
+/// Sets `wanted` to how many bytes the program has written to the console, and copies them to the front of the buffer
+/// if they fit; otherwise the status is 4. Status 14, and no change, if no program is loaded.
 pub(crate) fn output(host: &Host, buffer: &mut [u8], wanted: &mut usize) -> u32
     ensures { OutputTo host.now buffer.old buffer.new wanted.old wanted.new result host.now }
 {
@@ -121,7 +128,7 @@ pub(crate) fn output(host: &Host, buffer: &mut [u8], wanted: &mut usize) -> u32
     }
 }
 
-/// Does the command that a line asks for.
+/// Executes the debugger command of a line, and sets `wanted` to the length of its answer.
 pub(crate) fn command(alloc: Global, host: &mut Host, line: &[u8], wanted: &mut usize) -> u32
     ensures { CommandsTo host.old line.now wanted.old wanted.new result host.new }
 {
@@ -134,7 +141,8 @@ pub(crate) fn command(alloc: Global, host: &mut Host, line: &[u8], wanted: &mut 
     }
 }
 
-/// Makes at most so many steps under the memory checker.
+/// Makes at most `steps` steps under the memory checker, and sets `stopped` to why the run stopped and `wanted` to the
+/// length of the report, which is the answer.
 pub(crate) fn check(
     alloc: Global,
     host: &mut Host,

@@ -7,10 +7,10 @@ use crate::values::{OUT_OF_MEMORY, TOO_LONG, give};
 use dm_asm::{AssemblyRefusal, assemble, disassemble};
 use std::alloc::Global;
 
-/// The most bytes of a program that is disassembled.
+/// The most bytes of a COM program that is disassembled.
 const MOST_PROGRAM_BYTES: usize = 65_278;
 
-/// The status of a text that has no bytes.
+/// The status for an assembly text that has an error.
 fn text_status_of(refusal: AssemblyRefusal) -> u32
     ensures { result ≡ text_status_of refusal }
 {
@@ -24,7 +24,7 @@ fn text_status_of(refusal: AssemblyRefusal) -> u32
     }
 }
 
-/// The line that is wrong, or the number before.
+/// The line, from 1, of an error in an assembly text; `before` if the error has no line.
 fn wrong_line(refusal: AssemblyRefusal, before: usize) -> usize
     ensures { result ≡ wrong_line refusal before }
 {
@@ -37,7 +37,9 @@ fn wrong_line(refusal: AssemblyRefusal, before: usize) -> usize
     }
 }
 
-/// Assembles a text to the bytes of a COM program.
+/// Assembles a text, copies the bytes of the COM program to the front of the buffer, and sets `wanted` to how many they
+/// are. If they do not fit, the status is 4, and only `wanted` changes. At an error in the text (17 to 21), or if an
+/// allocation failed (3), the buffer and `wanted` stay; `line` is set to the line of the error, if it has one.
 #[unsafe(no_mangle)]
 pub extern "C" fn mezguld_assemble(
     alloc: Global,
@@ -57,7 +59,9 @@ pub extern "C" fn mezguld_assemble(
     }
 }
 
-/// Disassembles a COM program to lines.
+/// Disassembles a COM program, copies its assembly text to the front of the buffer, and sets `wanted` to how many bytes
+/// it has. If they do not fit, the status is 4, and only `wanted` changes. Status 21 for over 65,278 bytes of program,
+/// 3 if an allocation failed; then nothing changes.
 #[unsafe(no_mangle)]
 pub extern "C" fn mezguld_disassemble(
     alloc: Global,

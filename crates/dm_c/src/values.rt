@@ -1,4 +1,4 @@
-//! What passes between C and the library beside numbers and bytes: statuses, stops, registers, breakpoints.
+//! The values that pass between C and the library beside numbers and bytes: statuses, stops, registers, breakpoints.
 ghost use Rattle.std.specs.Prelude.{◌≡◌, ◌++◌, ◌∷◌, [], IfOk, map, OnOk};
 ghost use Rattle.dm_c.specs.Statuses.{status_of, stopped_of, registers_of, point_of};
 ghost use Rattle.dm_c.specs.Calls.{Gives};
@@ -7,25 +7,26 @@ use dm_host::{Refusal, copy_all};
 use dm_machine::{Breakpoint, Cpu, Stop};
 use std::alloc::{AllocError, Global};
 
-/// It was done.
+/// The status of a call that has succeeded.
 pub(crate) const OK: u32 = 0;
 
-/// The handle holds no machine.
+/// The status of a call on a handle that holds no machine.
 pub(crate) const NO_MACHINE: u32 = 1;
 
-/// The handle holds a machine already.
+/// The status of `mezguld_new` on a handle that holds a machine already.
 pub(crate) const IN_USE: u32 = 2;
 
-/// Memory was refused.
+/// The status where an allocation failed.
 pub(crate) const OUT_OF_MEMORY: u32 = 3;
 
-/// The buffer has too little room.
+/// The status where the buffer is too small.
 pub(crate) const TOO_SMALL: u32 = 4;
 
-/// The program is too long.
+/// The status where a program has over 65,278 bytes.
 pub(crate) const TOO_LONG: u32 = 21;
 
-/// How a run ended.
+/// Why a run stopped: `why` is 0 to 7 as `stopped_of` numbers the stops, and `code` is the exit code, 0 at any other
+/// stop.
 #[repr(C)]
 #[derive(Clone, Copy, Debug, PartialEq, Eq)]
 pub struct Stopped {
@@ -33,7 +34,7 @@ pub struct Stopped {
     pub code: u32,
 }
 
-/// The registers; `flags` is the word that PUSHF stores.
+/// The registers as C sees them; `flags` is the word that PUSHF stores.
 #[repr(C)]
 #[derive(Clone, Copy, Debug, PartialEq, Eq)]
 pub struct Registers {
@@ -53,7 +54,7 @@ pub struct Registers {
     pub flags: u16,
 }
 
-/// An exact pair of CS and IP.
+/// A breakpoint as C gives it: an exact pair of CS and IP.
 #[repr(C)]
 #[derive(Clone, Copy, Debug, PartialEq, Eq)]
 pub struct Point {
@@ -61,7 +62,7 @@ pub struct Point {
     pub offset: u16,
 }
 
-/// The status of a refusal.
+/// The status of a refusal of `dm_host`.
 pub(crate) fn status_of(refusal: Refusal) -> u32
     ensures { result ≡ status_of refusal }
 {
@@ -82,7 +83,7 @@ pub(crate) fn status_of(refusal: Refusal) -> u32
     }
 }
 
-/// Why a run stopped; None stands for a breakpoint.
+/// A stop as C sees it; None is a breakpoint.
 pub(crate) fn stopped_of(stop: Option<Stop>) -> Stopped
     ensures { result ≡ stopped_of stop }
 {
@@ -101,7 +102,7 @@ pub(crate) fn stopped_of(stop: Option<Stop>) -> Stopped
     }
 }
 
-/// The registers as C sees them.
+/// The registers and flags as C sees them.
 pub(crate) fn registers_of(cpu: Cpu) -> Registers
     ensures { result ≡ registers_of cpu }
 {
@@ -123,7 +124,7 @@ pub(crate) fn registers_of(cpu: Cpu) -> Registers
     }
 }
 
-/// The breakpoint at a pair of CS and IP.
+/// The breakpoint at an exact pair of CS and IP.
 fn point_of(point: Point) -> Breakpoint
     ensures { result ≡ point_of point }
 {
@@ -133,7 +134,7 @@ fn point_of(point: Point) -> Breakpoint
     }
 }
 
-/// The breakpoints at some pairs of CS and IP.
+/// The breakpoints at these pairs of CS and IP, in their order. An `Err` is a failed allocation.
 pub(crate) fn points_of(alloc: Global, points: &[Point]) -> Result<Vec<Breakpoint>, AllocError>
     ensures { IfOk result (λ v. v.items ≡ map point_of points.now) }
 {
@@ -144,7 +145,8 @@ pub(crate) fn points_of(alloc: Global, points: &[Point]) -> Result<Vec<Breakpoin
     Ok(breakpoints)
 }
 
-/// Copies bytes to the front of a buffer that has room for them, and says how many they are.
+/// Sets `wanted` to the number of bytes, copies them to the front of the buffer and returns 0, if they fit; otherwise
+/// returns 4, and the buffer stays.
 pub(crate) fn give(bytes: &[u8], buffer: &mut [u8], wanted: &mut usize) -> u32
     ensures { Gives bytes.now buffer.old buffer.new wanted.new result }
 {

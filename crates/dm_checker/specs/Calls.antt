@@ -1,4 +1,4 @@
--- What a step's call makes of the arena, and how calls are refused.
+-- Which calls may change the arena, and the findings about calls: blocks freed twice and calls that failed.
 -- Source: MS-DOS Programmer's Reference, "System Calls" (CF and AX); LIM EMS 4.0, section 3 (AH is the status); XMS 3.0
 -- (AX, and BL the error).
 use Rattle.std.specs.Prelude.{ℕ, ◌+◌, ◌==◌, ◌&&◌, ◌||◌, not, Bool, true, false, if◌then◌else◌, List, [], ◌∷◌, Option, Some, None}
@@ -13,19 +13,19 @@ use Rattle.dm_findings.specs.declared.finding.Finding.TheVariants.{FreedTwice, R
 
 -- ---- calls that write headers
 
--- the functions of the arena: 48h, 49h, 4Ah and 58h
+-- the functions of INT 21h that change or query the arena: 48h, 49h, 4Ah and 58h
 abbrev pub is_arena : ℕ → Bool
 is_arena number = (number == 0x48) || (number == 0x49) || (number == 0x4A) || (number == 0x58)
 
--- the functions that end a process: 00h, 31h and 4Ch
+-- the functions of INT 21h that end a process: 00h, 31h and 4Ch
 abbrev pub is_ending : ℕ → Bool
 is_ending number = (number == 0x00) || (number == 0x31) || (number == 0x4C)
 
--- 4Bh starts a process, but with AL = 3 it loads an overlay
+-- whether this function of INT 21h starts a process: 4Bh does, but with AL = 3 it loads an overlay
 abbrev pub is_starting : Cpu → ℕ → Bool
 is_starting c number = (number == 0x4B) && not (byte_of c Al == 3)
 
--- a call of the arena, or a start or an end of a process: it may write headers
+-- whether a call is one that may write headers: a call of the arena, or a start or an end of a process
 abbrev pub arranges : Cpu → Option Call → Bool
 arranges c None = false
 arranges c (Some DivideError) = true
@@ -35,8 +35,8 @@ arranges c (Some (ExpandedMemory number)) = false
 arranges c (Some Multiplex) = false
 arranges c (Some (ExtendedMemory number)) = false
 
--- an end of a process by which it keeps nothing: interrupt 0, INT 20h, and functions 00h and 4Ch of INT 21h. By 31h a
--- program stays resident
+-- whether a call ends a process that does not stay resident: interrupt 0, INT 20h, and functions 00h and 4Ch of INT
+-- 21h, but not 31h
 abbrev pub leaves : Option Call → Bool
 leaves None = false
 leaves (Some DivideError) = true
@@ -48,12 +48,13 @@ leaves (Some (ExtendedMemory number)) = false
 
 -- ---- a block that is freed twice
 
--- one of the headers is that of the block at the segment, and has no owner
+-- one of the headers is that of the block at the segment, and the block is free (owner 0)
 abbrev pub is_free_at : List Header → ℕ → Bool
 is_free_at [] segment = false
 is_free_at (b ∷ headers) segment = ((b.segment + 1 == segment) && (b.owner == 0)) || is_free_at headers segment
 
--- 49h of the block at segment ES succeeded, and it was free before
+-- the finding that a call of 49h freed the block at segment ES, and the block was free before; c and d are the
+-- registers before and after the call
 abbrev pub freed_twice : Cpu → Cpu → Option Call → List Header → List Finding
 freed_twice c d (Some (Dos number)) headers =
     if (number == 0x49) && not d.flags.carry && is_free_at headers c.es then FreedTwice c.es ∷ [] else []
@@ -61,22 +62,24 @@ freed_twice c d _ headers = []
 
 -- ---- refusals, by the registers before and after a call
 
--- a function of the arena or of processes is refused: CF is set, and AX is the code, below 256. Code 8 of 48h and of
--- 4Ah: BX paragraphs were asked for, and then BX is how many there are
+-- the finding that a call of INT 21h failed: CF is set, and AX is the error code, below 256. For code 8 of 48h and 4Ah,
+-- BX in c is how many paragraphs were asked for, and BX in d how many there are
 abbrev pub refused_by_dos : Cpu → Cpu → ℕ → List Finding
 refused_by_dos c d number =
     if not d.flags.carry then [] else
     if (byte_of d Al == 8) && ((number == 0x48) || (number == 0x4A)) then Short c.bx d.bx ∷ [] else Refused (byte_of d Al) ∷ []
 
--- a status other than 00h, and 92h, with which a move is done: its regions overlap
+-- the finding that a call of INT 67h failed with this status: not with 00h, and not with 92h, which says that a move
+-- was done and its regions overlap
 abbrev pub refused_by_status : ℕ → List Finding
 refused_by_status status = if (status == 0) || (status == 0x92) then [] else Refused status ∷ []
 
--- AX is 0, and BL is an error code: 07h has 0 in both where A20 is off
+-- the finding that a call of the extended memory driver failed: AX is 0, and BL is an error code. (Function 07h returns
+-- 0 in both if A20 is off)
 abbrev pub refused_by_error : Cpu → List Finding
 refused_by_error d = if (d.ax == 0) && not (byte_of d Bl == 0) then Refused (byte_of d Bl) ∷ [] else []
 
--- the refusal of a call, by the registers before and after it; none where it was not refused
+-- the finding that a call failed, by the registers before (c) and after it (d); none if it did not fail
 abbrev pub refusal_findings : Cpu → Cpu → Option Call → List Finding
 refusal_findings c d None = []
 refusal_findings c d (Some DivideError) = []

@@ -13,24 +13,25 @@ use Rattle.dm_checker.specs.Calls.{leaves}
 use Rattle.dm_checker.specs.Leaks.{leaks}
 use Rattle.dm_checker.specs.Findings.{Finds, IsFound}
 
--- what is found of a step that goes on
+-- `found` is what is found of a step from s to t after which the machine goes on
 pub record FindsAt (s t : State) (found : List Found) : Type 0 where
   pub findings : List Finding
   pub finds : Finds s t findings
   pub told : IsFound s t findings found
 
--- what the first program left allocated, if it ended by a call that keeps nothing: the tables and the map after its
--- last step, which no service changes
+-- what the first program left allocated, unless it stays resident: by the tables and the map after its last step, from
+-- s to t, which no service changes
 abbrev pub left_behind : State → State → List Finding
 left_behind s t = if leaves (call_of s.cpu) then leaks t else []
 
--- what is found of the step that ends the first program
+-- `found` is what is found of the step from s to t that ends the first program, and what the program left allocated
 pub record FindsAtEnd (s t : State) (found : List Found) : Type 0 where
   pub findings : List Finding
   pub finds : Finds s t findings
   pub told : IsFound s t (findings ++ left_behind s t) found
 
--- what is found where a run stops for a reason: only an exit is a step that was made
+-- `found` is what is found where a run stops for this reason: with `Exited` a last step was made, with any other stop
+-- there is nothing
 abbrev pub FindsAtStop : State → Stop → State → List Found → Type 0
 FindsAtStop s (Exited code) t found = FindsAtEnd s t found
 FindsAtStop s AllSteps t found = found ≡ []
@@ -40,25 +41,25 @@ FindsAtStop s InputEnded t found = found ≡ []
 FindsAtStop s Destroyed t found = found ≡ []
 FindsAtStop s NoMemory t found = found ≡ []
 
--- n steps lead from s to t, none of them ended the program, and this is found in them, in their order
+-- n steps lead from s to this state, none of them ended the program, and this is what is found in them, in their order
 pub data FindsIn (s : State) : ℕ → State → List Found → Type 0 where
   here : FindsIn s 0 s []
   further : (n : ℕ) (t u : State) (fs gs : List Found) → FindsIn s n t fs → MakesStep t (record { stop = None; state = u }) → FindsAt t u gs → FindsIn s (n + 1) u (fs ++ gs)
 
--- a run of at most n steps, and what is found in it: the program had ended before; or n steps were made; or a stop
--- comes earlier
+-- a run of at most n steps from s stops for this reason and leaves t, and `found` is what is found in it: the program
+-- had ended before (`over`), n steps were made (`whole`), or a stop came earlier (`cut`)
 pub data Checks (s : State) (n : ℕ) (stop : Stop) (t : State) (found : List Found) : Type 0 where
   over : (code : ℕ) → s.exited ≡ Some code → stop ≡ Exited code → t ≡ s → found ≡ [] → Checks s n stop t found
   whole : s.exited ≡ None → stop ≡ AllSteps → FindsIn s n t found → Checks s n stop t found
   cut : (made : ℕ) (before : State) (fs gs : List Found) → s.exited ≡ None → made < n → FindsIn s made before fs → Answers before (Some stop) t → FindsAtStop before stop t gs → found ≡ fs ++ gs → Checks s n stop t found
 
--- the report of a run: the report of what is found in it
+-- `report` is the report of a run of at most n steps from s, which stops for this reason and leaves t
 pub record IsReport (s : State) (n : ℕ) (stop : Stop) (t : State) (report : Reported) : Type 0 where
   pub found : List Found
   pub checks : Checks s n stop t found
   pub is : report ≡ report_of found
 
--- a run of the machine, of at most n steps
+-- t is what a run of at most n steps from s leaves
 pub record RunsPart (s : State) (n : ℕ) (t : State) : Type 0 where
   pub most : ℕ
   pub stop : Stop

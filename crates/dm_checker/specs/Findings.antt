@@ -20,18 +20,21 @@ use Rattle.dm_checker.specs.Shown.{Shown, IsShown}
 use Rattle.dm_checker.specs.Headers.{overwritten, mapped_away}
 use Rattle.dm_checker.specs.Calls.{arranges, freed_twice, refusal_findings}
 
--- the arena was whole and is destroyed, or was destroyed and is whole
+-- the finding that the arena was whole and is destroyed, or was destroyed and is whole, by where its list broke before
+-- and after a step
 abbrev pub turned : Option ℕ → Option ℕ → List Finding
 turned None (Some at) = Destroyed at ∷ []
 turned (Some at) None = Whole ∷ []
 turned _ _ = []
 
--- the headers that bytes were written over, in the order of the list; calls that may write headers are none of these
+-- the findings of headers that were overwritten, in the order of the list; none if the step's call is one that may
+-- write headers
 abbrev pub all_overwritten : Bool → Memory → Memory → List Header → List Finding
 all_overwritten may S T headers = if may then [] else flat_map (overwritten S T) headers
 
--- in this order: headers that bytes were written over, headers that are no longer shown, both in the order of the list;
--- the arena destroyed, or whole again; a block freed twice; a call refused
+-- what is found of the step from s to t, in this order: headers overwritten and headers mapped away, both in the order
+-- of the list; the arena destroyed, or whole again; a block freed twice; a call that failed. `old` and `new` are what
+-- memory shows of the arena before and after the step
 abbrev pub findings : State → State → Shown → Shown → List Finding
 findings s t old new =
     all_overwritten (arranges s.cpu (call_of s.cpu)) s.memory t.memory old.headers
@@ -40,7 +43,7 @@ findings s t old new =
     ++ freed_twice s.cpu t.cpu (call_of s.cpu) old.headers
     ++ refusal_findings s.cpu t.cpu (call_of s.cpu)
 
--- what is found of the step from s to t
+-- `found` is what is found of the step from s to t
 pub record Finds (s t : State) (found : List Finding) : Type 0 where
   pub old : Shown
   pub new : Shown
@@ -50,17 +53,17 @@ pub record Finds (s t : State) (found : List Finding) : Type 0 where
 
 -- ---- what acts in a step: the call of a service or a driver, else the instruction at CS:IP
 
--- what acts in the step from s: a call, or an instruction with the offset of the next one
+-- a is what the step from s performs: a call, or an instruction with the offset after it
 pub data IsAct (s : State) (a : Act) : Type 0 where
   called : (call : Call) → call_of s.cpu ≡ Some call → a ≡ act.Call call → IsAct s a
   instructed : (i : Ins) (length : ℕ) → call_of s.cpu ≡ None → BeginsWith (fetched s.memory s.cpu) i length → a ≡ act.Instruction i (up s.cpu.ip length) → IsAct s a
 
--- the findings of a step with its number, which is how many steps were made with it, CS and IP before it, and what
--- acted
+-- the findings with their step from s to t, which performs a: its number (how many steps were made, this one included),
+-- and CS:IP before it
 abbrev pub found_at : State → State → Act → List Finding → List Found
 found_at s t a = map (λ f. record { step = t.steps; segment = s.cpu.cs; offset = s.cpu.ip; act = a; finding = f })
 
--- nothing is found, or the findings are kept with the step
+-- `found` is the findings fs with their step from s to t; the empty list if there are none
 pub data IsFound (s t : State) (fs : List Finding) (found : List Found) : Type 0 where
   none : fs ≡ [] → found ≡ [] → IsFound s t fs found
   some : (a : Act) → IsAct s a → found ≡ found_at s t a fs → IsFound s t fs found

@@ -1,4 +1,5 @@
--- What a step did to the headers that were shown before it: bytes 0 to 4 of each, its signature, owner and size.
+-- The findings about the headers of the arena after a step: overwritten, or mapped away. Bytes 0 to 4 of a header are
+-- compared: its signature, owner and size. S is memory before the step, T memory after it.
 -- Source: MS-DOS Programmer's Reference, "Arena header"; LIM EMS 4.0, section 2 (pages and windows).
 use Rattle.std.specs.Prelude.{ℕ, ◌+◌, ◌*◌, ◌==◌, ◌&&◌, not, nat_lt, is_some, Bool, true, if◌then◌else◌, List, [], ◌∷◌, get_or, None}
 use Rattle.dm_pool.specs.Blocks.{Blocks}
@@ -10,11 +11,11 @@ use Rattle.dm_findings.specs.declared.finding.Contents.{Contents}
 use Rattle.dm_findings.specs.declared.finding.Finding.{Finding}
 use Rattle.dm_findings.specs.declared.finding.Finding.TheVariants.{Overwritten, MappedAway}
 
--- five bytes as the contents of a header, words low byte first
+-- the signature, owner and size of a header, from its bytes 0 to 4; words have the low byte first
 abbrev pub contents : (ℕ → ℕ) → Contents
 contents byte = record { signature = byte 0; owner = byte 1 + 256 * byte 2; size = byte 3 + 256 * byte 4 }
 
--- the header that memory shows at a segment. Headers stand below 100000h, so A20 doesn't matter
+-- the header that memory shows at a segment. Headers stand below 100000h, so A20 does not matter
 abbrev pub shown_at : Memory → ℕ → Contents
 shown_at m segment = contents (λ k. peek m (16 * segment + k))
 
@@ -26,26 +27,26 @@ kept_at S T segment = contents (λ k. byte_at T (place S (16 * segment + k)))
 abbrev pub same_contents : Contents → Contents → Bool
 same_contents a b = (a.signature == b.signature) && (a.owner == b.owner) && (a.size == b.size)
 
--- there is a block with this number
+-- the pool has a block with this number
 abbrev pub is_live : Blocks → ℕ → Bool
 is_live s block = nat_lt block 576 && is_some (get_or s.places block None)
 
--- the place is one of the memory's: no byte of a page that was freed
+-- the place still exists in memory: it is not in a page that was freed
 abbrev pub is_there : Memory → Place → Bool
 is_there m (Low a) = true
 is_there m (Page block k) = is_live m.blocks block
 is_there m (Rom k) = true
 is_there m Nothing = true
 
--- other bytes at the places of a header, whatever the step wrote them by. If its page was freed, nothing is said of its
--- bytes
+-- the finding that a header has other bytes at its places after the step, whatever wrote them; none if its page was
+-- freed
 abbrev pub overwritten : Memory → Memory → Header → List Finding
 overwritten S T b =
     if is_there T (place S (16 * b.segment)) && not (same_contents (kept_at S T b.segment) (shown_at S b.segment))
     then Overwritten b.segment (shown_at S b.segment) (kept_at S T b.segment) ∷ [] else []
 
--- a header that the segment no longer shows: its page was freed, or a change of windows lets other bytes be read there
--- than those at its places. The other page may hold the same five bytes: then nothing has changed
+-- the finding that a header can no longer be read at its segment: its page was freed, or a change of windows shows
+-- other bytes there than those at its places. If the other page holds the same five bytes, nothing is found
 abbrev pub mapped_away : Memory → Memory → Header → List Finding
 mapped_away S T b =
     if is_there T (place S (16 * b.segment)) && same_contents (kept_at S T b.segment) (shown_at T b.segment)

@@ -7,12 +7,12 @@ use Rattle.dm_machine.specs.Run.{IsRun}
 use Rattle.dm_findings.specs.declared.finding.Found.{Found}
 use Rattle.dm_checker.specs.Checks.{Checks}
 
--- a checked run is a run
+-- a checked run is a run: the same steps, stop and state
 abbrev pub ACheckedRunIsARun : Type 0
 ACheckedRunIsARun = (s t : State) (n : ℕ) (stop : Stop) (found : List Found) → Checks s n stop t found → IsRun s n stop t
 
--- from one state, runs of at most as many steps in which no allocation fails stop for one reason in one state, and one
--- list of findings is found
+-- checked runs of at most as many steps from one state, in which no allocation fails, stop for one reason in one state
+-- with one list of findings
 abbrev pub CheckHasOneReport : Type 0
 CheckHasOneReport =
     (s t u : State) (n : ℕ) (a b : Stop) (fs gs : List Found) → Checks s n a t fs → Checks s n b u gs →

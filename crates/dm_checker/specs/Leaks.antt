@@ -1,4 +1,4 @@
--- What a program that has ended left allocated, by the tables and the map of memory.
+-- The findings about what a program that has ended left allocated, by the tables and the map of memory.
 -- Source: LIM EMS 4.0, section 2 (handles, pages, saved maps, windows); XMS 3.0 (handles, locks, upper memory blocks,
 -- the high memory area, A20).
 use Rattle.std.specs.Prelude.{ℕ, zero, suc, ◌+◌, ◌==◌, ◌&&◌, nat_lt, is_some, Bool, if◌then◌else◌, List, [], ◌∷◌, ◌++◌, slice_index_or, slice_get, Option, Some, None}
@@ -13,61 +13,64 @@ use Rattle.dm_state.specs.State.{State}
 use Rattle.dm_findings.specs.declared.finding.Finding.{Finding}
 use Rattle.dm_findings.specs.declared.finding.Finding.TheVariants.{PagesKept, MapKept, WindowKept, BlockKept, UpperKept, AreaKept, LineKept}
 
--- what is found of the numbers below n, in their order
+-- the findings that f gives for the numbers 0 to n - 1, in their order
 unfoldable pub of_each : (ℕ → List Finding) → ℕ → List Finding
 of_each f zero = []
 of_each f (suc n) = of_each f n ++ f n
 
 -- ---- expanded memory
 
--- a handle in use, and its pages, of which it may have none. Handle 0 is always in use: it is found where it has pages
+-- the finding that a handle of expanded memory was not freed, with its pages, of which it may have none. Handle 0 is
+-- always in use: it is found only if it has pages
 abbrev pub pages_kept : ℕ → ℕ → List Finding
 pages_kept handle pages = if (handle == 0) && (pages == 0) then [] else PagesKept handle pages ∷ []
 
--- a handle whose map was saved and not restored
+-- the finding that a handle's page map was saved and not restored
 abbrev pub map_kept : ℕ → Handle → List Finding
 map_kept handle h = if is_some h.saved then MapKept handle ∷ [] else []
 
--- what is found of a handle of expanded memory, if it is in use
+-- what is found of a handle of expanded memory, by its entry: nothing if it is not in use (None)
 abbrev pub if_in_use : Tables → ℕ → Option Handle → List Finding
 if_in_use ems handle None = []
 if_in_use ems handle (Some h) = pages_kept handle (page_count ems handle) ++ map_kept handle h
 
--- what is found of a handle of expanded memory
+-- what is found of the handle of expanded memory with this number
 abbrev pub handle_kept : Tables → ℕ → List Finding
 handle_kept ems handle = if_in_use ems handle (slice_index_or ems.handles handle None)
 
--- a window that shows a page
+-- the finding that a window still shows a page
 abbrev pub window_kept : Memory → ℕ → List Finding
 window_kept m window = if is_some (slice_index_or m.windows window None) then WindowKept window ∷ [] else []
 
 -- ---- extended memory
 
--- a block of extended memory that was not freed: its KiB, and whether it is locked
+-- the finding that the block of a handle of extended memory was not freed, by the handle's entry: its KiB, and whether
+-- it is locked
 abbrev pub if_allocated : ℕ → Option Block → List Finding
 if_allocated handle None = []
 if_allocated handle (Some b) = BlockKept handle b.kib (nat_lt 0 b.locks) ∷ []
 
--- what is found of a handle of extended memory: the one after so many, as handles count from 1
+-- what is found of handle `before + 1` of extended memory; handles count from 1
 abbrev pub block_kept : xms.Tables → ℕ → List Finding
 block_kept tables before = if_allocated (before + 1) (slot tables (before + 1))
 
--- an upper memory block that was not freed
+-- the finding that an upper memory block was not freed, if there is one
 abbrev pub if_given : Option Upper → List Finding
 if_given None = []
 if_given (Some u) = UpperKept u.segment ∷ []
 
--- block k of upper memory, if there are so many
+-- what is found of upper memory block k, from 0, if there is one
 abbrev pub upper_kept : xms.Tables → ℕ → List Finding
 upper_kept tables k = if_given (slice_get tables.uppers k)
 
--- the high memory area that was not released, and line A20 that was left on
+-- the findings that the high memory area was not released and that A20 was left on
 abbrev pub switches_kept : Bool → Bool → List Finding
 switches_kept area on = (if area then AreaKept ∷ [] else []) ++ (if on then LineKept ∷ [] else [])
 
 -- ---- all of it: there are 64 handles of each, and at most 64 upper memory blocks
 
--- all that is found of a program that has ended, in the order of handles, windows, blocks and switches
+-- all that is found of a program that has ended: handles of expanded memory, windows, blocks of extended memory, upper
+-- memory blocks, the high memory area and A20
 unfoldable pub leaks : State → List Finding
 leaks s =
     of_each (handle_kept s.ems) 64 ++ of_each (window_kept s.memory) 4

@@ -1,4 +1,4 @@
-//! What acts in a step.
+//! What a step performs: a call of a service or driver, or an instruction.
 
 ghost use Rattle.std.specs.Prelude.{◌≡◌, ◌+◌, ◌∷◌, [], map, MatchOption};
 ghost use Rattle.dm_space.specs.EightBytes.{byte_after};
@@ -13,7 +13,8 @@ use dm_findings::{Act, Call, call_of};
 use dm_machine::Machine;
 use dm_space::Space;
 
-/// What a step starts from: the registers, the call that it serves, and the sixteen bytes from CS:IP on.
+/// What the checker keeps of the state before a step: the registers, the call that the step performs, if any, and the
+/// sixteen bytes from CS:IP on.
 #[derive(Clone, Copy)]
 pub(crate) struct Before {
     pub(crate) cpu: Cpu,
@@ -21,7 +22,7 @@ pub(crate) struct Before {
     pub(crate) bytes: [u8; 16],
 }
 
-/// Eight bytes from CS:IP on, after so many others, one by one.
+/// The eight bytes that stand `skipped` bytes after CS:IP, read one by one; offsets wrap.
 #[inline(never)]
 fn fetch_each(cpu: &Cpu, space: &Space, skipped: u16) -> [u8; 8]
     ensures { result ≡ map (λ k. byte_after space.now.memory cpu.now.cs cpu.now.ip (skipped + k)) (0 ∷ 1 ∷ 2 ∷ 3 ∷ 4 ∷ 5 ∷ 6 ∷ 7 ∷ []) }
@@ -30,7 +31,7 @@ fn fetch_each(cpu: &Cpu, space: &Space, skipped: u16) -> [u8; 8]
     [at(0), at(1), at(2), at(3), at(4), at(5), at(6), at(7)]
 }
 
-/// Eight bytes from CS:IP on, after so many others.
+/// The eight bytes that stand `skipped` bytes after CS:IP, read at once where memory allows it; offsets wrap.
 #[inline(always)]
 fn fetch_eight(cpu: &Cpu, space: &Space, skipped: u16) -> [u8; 8]
     ensures { result ≡ map (λ k. byte_after space.now.memory cpu.now.cs cpu.now.ip (skipped + k)) (0 ∷ 1 ∷ 2 ∷ 3 ∷ 4 ∷ 5 ∷ 6 ∷ 7 ∷ []) }
@@ -41,7 +42,7 @@ fn fetch_eight(cpu: &Cpu, space: &Space, skipped: u16) -> [u8; 8]
     }
 }
 
-/// The sixteen bytes from CS:IP on.
+/// The sixteen bytes from CS:IP on, as an instruction is decoded from them; offsets wrap.
 #[tactic(auto, unfolding(dm_space::specs::EightBytes::sixteen_after))]
 fn fetch(cpu: &Cpu, space: &Space) -> [u8; 16]
     ensures { result ≡ fetched space.now.memory cpu.now }
@@ -52,7 +53,7 @@ fn fetch(cpu: &Cpu, space: &Space) -> [u8; 16]
 }
 
 impl Before {
-    /// What the next step of a machine starts from.
+    /// What the checker keeps of a machine before its next step.
     pub(crate) fn of(machine: &Machine) -> Before
         ensures { IsBefore machine.now result }
     {
@@ -64,7 +65,7 @@ impl Before {
         }
     }
 
-    /// What acts in the step: the call that is served, or the instruction. None where the bytes begin no instruction.
+    /// What the step performs: the call, or the instruction at CS:IP. None if the bytes there are no instruction.
     pub(crate) fn act(&self) -> Option<Act>
         ensures { (s : State) → IsBefore s self.now → MatchOption result (IsUnlisted s) (IsAct s) }
     {

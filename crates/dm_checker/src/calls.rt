@@ -1,5 +1,6 @@
-//! What calls make of the arena, and how they are refused (MS-DOS Programmer's Reference, "System Calls"; LIM EMS 4.0,
-//! section 3; XMS 3.0).
+//! Which calls may change the arena, and the findings about calls: blocks freed twice and calls that failed (MS-DOS
+//! Programmer's Reference, "System Calls"; LIM EMS 4.0, section 3; XMS 3.0). Each call that puts findings appends them
+//! to `out`; an `Err` is a failed allocation.
 
 ghost use Rattle.std.specs.Prelude.{◌≡◌, ◌++◌, map, OnOk};
 ghost use Rattle.dm_checker.specs.Calls.{is_arena, is_ending, is_starting, arranges, leaves, is_free_at, freed_twice, refused_by_dos, refused_by_status, refused_by_error, refusal_findings};
@@ -12,28 +13,28 @@ use dm_findings::{Call, Finding};
 use dm_ins::ByteRegister;
 use std::alloc::AllocError;
 
-/// Whether this is the number of a function of the arena.
+/// Whether INT 21h has a function of the arena with this number: 48h, 49h, 4Ah or 58h.
 fn is_arena(number: u8) -> bool
     ensures { result ≡ is_arena number }
 {
     number == 0x48 || number == 0x49 || number == 0x4A || number == 0x58
 }
 
-/// Whether this is the number of a function that ends a process.
+/// Whether INT 21h has a function with this number that ends a process: 00h, 31h or 4Ch.
 fn is_ending(number: u8) -> bool
     ensures { result ≡ is_ending number }
 {
     number == 0x00 || number == 0x31 || number == 0x4C
 }
 
-/// Whether the function of this number starts a process.
+/// Whether the call of INT 21h with this number and these registers starts a process: 4Bh, but not with AL = 3.
 fn is_starting(cpu: &Cpu, number: u8) -> bool
     ensures { result ≡ is_starting cpu.now number }
 {
     number == 0x4B && cpu.byte(ByteRegister::Al) != 3
 }
 
-/// Whether a call may write headers by its own right: a call of the arena, or a start or an end of a process.
+/// Whether a call is one that may write headers: a call of the arena, or a start or an end of a process.
 pub(crate) fn arranges(cpu: &Cpu, call: Option<Call>) -> bool
     ensures { result ≡ arranges cpu.now call }
 {
@@ -46,7 +47,8 @@ pub(crate) fn arranges(cpu: &Cpu, call: Option<Call>) -> bool
     }
 }
 
-/// Whether a call ends a process that keeps nothing.
+/// Whether a call ends a process that does not stay resident: interrupt 0, INT 20h, and INT 21h functions 00h and 4Ch,
+/// but not 31h.
 pub(crate) fn leaves(call: Option<Call>) -> bool
     ensures { result ≡ leaves call }
 {
@@ -57,7 +59,7 @@ pub(crate) fn leaves(call: Option<Call>) -> bool
     }
 }
 
-/// Whether one of the headers is that of the block at a segment, and has no owner.
+/// Whether one of the headers is that of the block at `segment`, and the block is free.
 fn is_free_at(headers: &[Watched], segment: u16) -> bool
     ensures { result ≡ is_free_at (map header_of headers.now) segment }
 {
@@ -69,7 +71,8 @@ fn is_free_at(headers: &[Watched], segment: u16) -> bool
     false
 }
 
-/// Puts that a block was freed twice, if it was: by the registers before and after a call, and the headers before it.
+/// Appends that a block was freed twice, if the call was 49h, succeeded, and the block at ES was free before. `before`
+/// and `after` are the registers before and after the call, `headers` the arena before it.
 pub(crate) fn put_freed_twice(
     out: &mut Vec<Finding>,
     before: &Cpu,
@@ -88,7 +91,8 @@ pub(crate) fn put_freed_twice(
     Ok(())
 }
 
-/// Puts how a function of the arena or of processes was refused, if it was.
+/// Appends that a call of INT 21h failed, if CF is set after it: with its error code in AL, or, for code 8 of 48h and
+/// 4Ah, with the paragraphs asked for and available (BX before and after it).
 fn put_refused_by_dos(
     out: &mut Vec<Finding>,
     before: &Cpu,
@@ -107,7 +111,8 @@ fn put_refused_by_dos(
     put(out, Finding::Refused(code))
 }
 
-/// Puts how a function of expanded memory was refused, if it was.
+/// Appends that a call of INT 67h failed, if its status (AH) says so: 00h is success, and with 92h a move of
+/// overlapping regions was done.
 fn put_refused_by_status(out: &mut Vec<Finding>, status: u8) -> Result<(), AllocError>
     ensures { OnOk result (out.new.items ≡ out.old.items ++ refused_by_status status) }
 {
@@ -117,7 +122,7 @@ fn put_refused_by_status(out: &mut Vec<Finding>, status: u8) -> Result<(), Alloc
     put(out, Finding::Refused(status))
 }
 
-/// Puts how a function of extended memory was refused, if it was.
+/// Appends that a call of the extended memory driver failed, if AX is 0 after it and BL, the error code, is not.
 fn put_refused_by_error(out: &mut Vec<Finding>, after: &Cpu) -> Result<(), AllocError>
     ensures { OnOk result (out.new.items ≡ out.old.items ++ refused_by_error after.now) }
 {
@@ -128,7 +133,8 @@ fn put_refused_by_error(out: &mut Vec<Finding>, after: &Cpu) -> Result<(), Alloc
     Ok(())
 }
 
-/// Puts how a call was refused, if it was, by the registers before and after it.
+/// Appends that a call failed, if it did, by the registers before and after it. Of INT 21h, only functions 48h, 49h,
+/// 4Ah, 4Bh and 58h are looked at.
 pub(crate) fn put_refused(
     out: &mut Vec<Finding>,
     before: &Cpu,

@@ -1,4 +1,4 @@
-//! Checked runs.
+//! Checked runs: a run of a machine, and the report of what was found in it.
 
 ghost use Rattle.std.specs.Prelude.{IfOk, OnErr};
 ghost use Rattle.dm_state.specs.State.{HasProgram};
@@ -13,8 +13,8 @@ use dm_machine::{Machine, Stop};
 use std::alloc::{AllocError, Global};
 
 /// Makes at most `n` steps, as `Machine::run` does, and reports what they did to the headers of the arena, which calls
-/// were refused, and, where the first program ended by a call that keeps nothing, what it left allocated. It returns
-/// why the run stopped, and the report.
+/// failed, and, if the first program ended and does not stay resident, what it left allocated. Returns why the run
+/// stopped, and the report. A program must be loaded.
 ///
 /// An `Err` says that an allocation of the checker failed: the machine has made a first part of the run, and the report
 /// is lost.

@@ -1,4 +1,6 @@
-//! What a step did to headers.
+//! The findings about what a step did to the headers of the arena: overwritten, or mapped away. `headers` and `windows`
+//! are those before the step, `space` is memory after it. Each call that puts findings appends them to `out`; an `Err`
+//! is a failed allocation.
 
 ghost use Rattle.std.specs.Prelude.{◌≡◌, ◌++◌, ◌+◌, ◌*◌, ◌<◌, ℕ, All, map, slice_index, OnOk};
 ghost use Rattle.std.specs.List.{flat_map};
@@ -13,14 +15,16 @@ use dm_pool::Block;
 use dm_space::Space;
 use std::alloc::AllocError;
 
-/// The paragraphs of the frame, and those of a page.
+/// The first segment of the page frame.
 const FRAME: u16 = 0xE000;
 
+/// The last segment of the page frame.
 const FRAME_END: u16 = 0xEFFF;
 
+/// The size of a page, in paragraphs.
 const PAGE: usize = 0x400;
 
-/// The contents of a header by its five bytes.
+/// The signature, owner and size of a header, from its bytes 0 to 4 as a number with the first byte lowest.
 fn contents_of(bits: u64) -> Contents
     ensures { (m : Memory) (segment : ℕ) → IsBits m segment bits → result ≡ shown_at m segment }
 {
@@ -31,7 +35,7 @@ fn contents_of(bits: u64) -> Contents
     }
 }
 
-/// A byte of a block; 0 past its end.
+/// The byte at an index of a block; 0 past its end.
 fn byte_in(bytes: &[u8], at: usize) -> u8
     ensures { result ≡ slice_index bytes.now at }
 {
@@ -41,6 +45,7 @@ fn byte_in(bytes: &[u8], at: usize) -> u8
     }
 }
 
+/// The word at an index of a block, low byte first; bytes past its end count as 0.
 fn word_in(bytes: &[u8], at: usize) -> u16
     requires { at < 0x8000 }
     ensures { result ≡ slice_index bytes.now at + 256 * slice_index bytes.now (at + 1) }
@@ -48,7 +53,7 @@ fn word_in(bytes: &[u8], at: usize) -> u16
     byte_in(bytes, at) as u16 + 256 * byte_in(bytes, at + 1) as u16
 }
 
-/// The contents of a header at an offset of a block.
+/// The signature, owner and size of a header at an index of a block.
 fn contents_in(bytes: &[u8], at: usize) -> Contents
     requires { at < 0x4000 }
     ensures { result ≡ contents_by bytes.now at }
@@ -60,8 +65,8 @@ fn contents_in(bytes: &[u8], at: usize) -> Contents
     }
 }
 
-/// What memory has at the places that a header had when the windows showed these blocks; None where its page was freed.
-/// Outside of the frame, from E000h to EFFFh, windows don't matter.
+/// The contents that memory now has at the places where the header at `segment` stood while the windows showed these
+/// blocks; None if its page was freed. Outside the frame, E000h to EFFFh, the windows do not matter.
 fn kept_of(space: &Space, windows: &[Option<Block>; 4], segment: u16) -> Option<Contents>
     ensures { (S : Memory) → windows.now ≡ S.windows → IsKept S space.now.memory segment result }
 {
@@ -82,14 +87,14 @@ fn kept_of(space: &Space, windows: &[Option<Block>; 4], segment: u16) -> Option<
     Some(contents_in(space.bytes(block), at % PAGE * 16))
 }
 
-/// Whether two headers have the same contents.
+/// Whether two headers have the same signature, owner and size.
 fn is_same(first: Contents, second: Contents) -> bool
     ensures { result ≡ same_contents first second }
 {
     first.signature == second.signature && first.owner == second.owner && first.size == second.size
 }
 
-/// Puts that a header was overwritten, if it was.
+/// Appends that a header was overwritten, if the bytes at its places have changed and its page was not freed.
 fn put_overwritten(
     out: &mut Vec<Finding>,
     space: &Space,
@@ -108,7 +113,8 @@ fn put_overwritten(
     put(out, Finding::Overwritten(watched.header.segment, old, kept))
 }
 
-/// Puts that a header is no longer shown, if it is not.
+/// Appends that a header was mapped away, if its page was freed or its segment now shows other bytes than those at its
+/// places.
 fn put_mapped_away(
     out: &mut Vec<Finding>,
     space: &Space,
@@ -126,7 +132,7 @@ fn put_mapped_away(
     put(out, Finding::MappedAway(watched.header.segment))
 }
 
-/// Puts which headers were overwritten, in their order.
+/// Appends which headers were overwritten, in their order.
 pub(crate) fn put_all_overwritten(
     out: &mut Vec<Finding>,
     space: &Space,
@@ -141,7 +147,7 @@ pub(crate) fn put_all_overwritten(
     Ok(())
 }
 
-/// Puts which headers are no longer shown, in their order.
+/// Appends which headers were mapped away, in their order.
 pub(crate) fn put_all_mapped_away(
     out: &mut Vec<Finding>,
     space: &Space,

@@ -1,4 +1,5 @@
-//! What a program that has ended left allocated (LIM EMS 4.0, section 2; XMS 3.0).
+//! The findings about what a program that has ended left allocated (LIM EMS 4.0, section 2; XMS 3.0). Each call appends
+//! its findings to `out`; an `Err` is a failed allocation.
 
 ghost use Rattle.std.specs.Prelude.{◌≡◌, ◌++◌, ◌<◌, ◌+◌, None, OnOk, slice_index_or};
 ghost use Rattle.dm_checker.specs.Leaks.{pages_kept, map_kept, handle_kept, window_kept, block_kept, upper_kept, switches_kept, of_each, leaks};
@@ -11,11 +12,11 @@ use dm_space::Space;
 use dm_xms::Xms;
 use std::alloc::AllocError;
 
-/// How many handles of expanded memory there are, how many of extended memory, and how many upper memory blocks there
-/// can be.
+/// How many handles of expanded memory there are, how many of extended memory, and the most upper memory blocks.
 const MOST: u16 = 64;
 
-/// Puts that a handle of expanded memory is in use; handle 0 only where it has pages.
+/// Appends that a handle of expanded memory was not freed, with the number of its pages; for handle 0 only if it has
+/// pages.
 fn put_pages(out: &mut Vec<Finding>, handle: u16, pages: u16) -> Result<(), AllocError>
     ensures { OnOk result (out.new.items ≡ out.old.items ++ pages_kept handle pages) }
 {
@@ -25,7 +26,7 @@ fn put_pages(out: &mut Vec<Finding>, handle: u16, pages: u16) -> Result<(), Allo
     put(out, Finding::PagesKept(handle, pages))
 }
 
-/// Puts that a handle has a saved map, if it has.
+/// Appends that a handle's saved page map was not restored, if the handle has one.
 fn put_map(out: &mut Vec<Finding>, handle: u16, slot: &Handle) -> Result<(), AllocError>
     ensures { OnOk result (out.new.items ≡ out.old.items ++ map_kept handle slot.now) }
 {
@@ -35,7 +36,7 @@ fn put_map(out: &mut Vec<Finding>, handle: u16, slot: &Handle) -> Result<(), All
     Ok(())
 }
 
-/// Puts what a handle of expanded memory keeps, if it is in use.
+/// Appends what a handle of expanded memory keeps, its pages and its saved map, if it is in use.
 fn put_handle(out: &mut Vec<Finding>, ems: &Ems, handle: u16) -> Result<(), AllocError>
     ensures { OnOk result (out.new.items ≡ out.old.items ++ handle_kept ems.now handle) }
 {
@@ -48,7 +49,7 @@ fn put_handle(out: &mut Vec<Finding>, ems: &Ems, handle: u16) -> Result<(), Allo
     }
 }
 
-/// Puts that a window shows a page, if it does.
+/// Appends that a window of the frame still shows a page, if it does.
 fn put_window(out: &mut Vec<Finding>, space: &Space, window: u8) -> Result<(), AllocError>
     requires { window < 4 }
     ensures { OnOk result (out.new.items ≡ out.old.items ++ window_kept space.now.memory window) }
@@ -60,7 +61,7 @@ fn put_window(out: &mut Vec<Finding>, space: &Space, window: u8) -> Result<(), A
     Ok(())
 }
 
-/// Puts the block of a handle of extended memory, if it is in use; handle `before + 1`.
+/// Appends that the block of handle `before + 1` of extended memory was not freed, if the handle is in use.
 fn put_block(out: &mut Vec<Finding>, xms: &Xms, before: u16) -> Result<(), AllocError>
     requires { before < 64 }
     ensures { OnOk result (out.new.items ≡ out.old.items ++ block_kept xms.now before) }
@@ -72,7 +73,7 @@ fn put_block(out: &mut Vec<Finding>, xms: &Xms, before: u16) -> Result<(), Alloc
     }
 }
 
-/// Puts the upper memory block of a number, if there is one.
+/// Appends that upper memory block `number`, from 0, was not freed, if there is one.
 fn put_upper(out: &mut Vec<Finding>, xms: &Xms, number: u16) -> Result<(), AllocError>
     ensures { OnOk result (out.new.items ≡ out.old.items ++ upper_kept xms.now number) }
 {
@@ -82,7 +83,7 @@ fn put_upper(out: &mut Vec<Finding>, xms: &Xms, number: u16) -> Result<(), Alloc
     }
 }
 
-/// Puts that the high memory area is taken and that A20 is on, where they are.
+/// Appends that the high memory area was not released (`area`), and that A20 was left on (`on`).
 fn put_switches(out: &mut Vec<Finding>, area: bool, on: bool) -> Result<(), AllocError>
     ensures { OnOk result (out.new.items ≡ out.old.items ++ switches_kept area on) }
 {
@@ -95,7 +96,7 @@ fn put_switches(out: &mut Vec<Finding>, area: bool, on: bool) -> Result<(), Allo
     Ok(())
 }
 
-/// Puts what each handle of expanded memory keeps, rising.
+/// Appends what the handles of expanded memory keep, in rising order.
 fn put_handles(out: &mut Vec<Finding>, ems: &Ems) -> Result<(), AllocError>
     ensures { OnOk result (out.new.items ≡ out.old.items ++ of_each (handle_kept ems.now) 64) }
 {
@@ -105,7 +106,7 @@ fn put_handles(out: &mut Vec<Finding>, ems: &Ems) -> Result<(), AllocError>
     Ok(())
 }
 
-/// Puts which windows show a page, rising.
+/// Appends which windows of the frame still show a page, in rising order.
 fn put_windows(out: &mut Vec<Finding>, space: &Space) -> Result<(), AllocError>
     ensures { OnOk result (out.new.items ≡ out.old.items ++ of_each (window_kept space.now.memory) 4) }
 {
@@ -115,7 +116,7 @@ fn put_windows(out: &mut Vec<Finding>, space: &Space) -> Result<(), AllocError>
     Ok(())
 }
 
-/// Puts the blocks of extended memory, rising by their handles.
+/// Appends which handles of extended memory still have a block, in rising order.
 fn put_blocks(out: &mut Vec<Finding>, xms: &Xms) -> Result<(), AllocError>
     ensures { OnOk result (out.new.items ≡ out.old.items ++ of_each (block_kept xms.now) 64) }
 {
@@ -125,7 +126,7 @@ fn put_blocks(out: &mut Vec<Finding>, xms: &Xms) -> Result<(), AllocError>
     Ok(())
 }
 
-/// Puts the upper memory blocks, rising.
+/// Appends which upper memory blocks were not freed, in rising order.
 fn put_uppers(out: &mut Vec<Finding>, xms: &Xms) -> Result<(), AllocError>
     ensures { OnOk result (out.new.items ≡ out.old.items ++ of_each (upper_kept xms.now) 64) }
 {
@@ -135,7 +136,8 @@ fn put_uppers(out: &mut Vec<Finding>, xms: &Xms) -> Result<(), AllocError>
     Ok(())
 }
 
-/// Puts all that a machine's tables and map keep.
+/// Appends all that the machine's program left: expanded memory and windows, extended memory, upper memory blocks, the
+/// high memory area and A20.
 #[tactic(auto, unfolding(crate::specs::Leaks::leaks))]
 pub(crate) fn put_leaks(out: &mut Vec<Finding>, machine: &Machine) -> Result<(), AllocError>
     ensures { OnOk result (out.new.items ≡ out.old.items ++ leaks machine.now) }

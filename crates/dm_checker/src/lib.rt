@@ -1,5 +1,5 @@
-//! The memory checker: runs a machine, and reports what its program did to the headers of the arena, which calls were
-//! refused, and what it left allocated.
+//! The memory checker of `dm check`: runs a machine, and reports what its program did to the headers of the arena,
+//! which calls failed, and what the program left allocated.
 #![tactic(auto)]
 
 mod acts;

@@ -1,11 +1,11 @@
-//! Lists of findings that grow.
+//! Appending to a list of findings.
 
 ghost use Rattle.std.specs.Prelude.{◌≡◌, ◌++◌, ◌∷◌, [], OnOk};
 
 use dm_findings::Finding;
 use std::alloc::AllocError;
 
-/// Puts a finding after the others.
+/// Appends a finding to `out`. An `Err` is a failed allocation.
 pub(crate) fn put(out: &mut Vec<Finding>, finding: Finding) -> Result<(), AllocError>
     ensures { OnOk result (out.new.items ≡ out.old.items ++ finding ∷ []) }
 {

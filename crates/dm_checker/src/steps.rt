@@ -1,4 +1,4 @@
-//! What is found of one step.
+//! One checked step: it is made, and what is found of it goes into the report.
 
 ghost use Rattle.std.specs.Prelude.{◌≡◌, ◌++◌, map, IfOk, OnOk, OnErr, Option, None, Some, List};
 ghost use Rattle.dm_findings.specs.Calls.{call_of};
@@ -26,7 +26,7 @@ use dm_findings::{Act, Call, Finding, Found, Report};
 use dm_machine::{Machine, Stop, tables_and_memory_are_consistent};
 use std::alloc::{AllocError, Global};
 
-/// Puts that the arena is destroyed, or whole again, by where it broke before and after.
+/// Appends to `out` that the arena is destroyed, or whole again, by where its list broke before the step and after it.
 fn put_turned(
     out: &mut Vec<Finding>,
     before: &Option<Broken>,
@@ -41,7 +41,8 @@ fn put_turned(
     }
 }
 
-/// Puts what a step did, after which memory shows other headers, other windows, or a call may have written headers.
+/// Appends to `out` what is found of a step, by the arena read before it (`old`) and after it (`new`). `before` is what
+/// was kept of the state before the step, `machine` is in the state after it.
 fn look_anew(
     out: &mut Vec<Finding>,
     before: &Before,
@@ -64,7 +65,8 @@ fn look_anew(
     put_refused(out, &before.cpu, &after, before.call)
 }
 
-/// Puts what a step did, and keeps what memory shows after it.
+/// Appends to `out` what is found of a step, and brings `kept`, the arena as it was last read, up to date. Reads the
+/// arena anew only if the step may have changed it. An `Err` is a failed allocation.
 fn look(
     alloc: Global,
     out: &mut Vec<Finding>,
@@ -85,7 +87,8 @@ fn look(
     Ok(())
 }
 
-/// Reports the findings of a step in which something acts.
+/// Adds the findings of a step to the report, each with the step's number, CS:IP before it, and what it performed. An
+/// `Err` is a failed allocation.
 fn tell(
     report: &mut Report,
     before: &Before,
@@ -107,7 +110,7 @@ fn tell(
     Ok(())
 }
 
-/// Reports the findings of a step that was made, after which the machine goes on.
+/// Adds the findings of a step after which the machine goes on to the report. An `Err` is a failed allocation.
 fn tell_step(
     report: &mut Report,
     before: &Before,
@@ -127,7 +130,8 @@ fn tell_step(
     tell(report, before, machine.steps(), act, found)
 }
 
-/// Reports the findings of the step that ended the program, and what it left allocated.
+/// Adds what is found of the step that ended the first program to the report: its findings, and what the program left
+/// allocated, unless it stays resident. An `Err` is a failed allocation.
 fn check_end(
     alloc: Global,
     before: &Before,
@@ -148,8 +152,7 @@ fn check_end(
     tell(report, before, machine.steps(), Act::Call(call), &found)
 }
 
-/// Makes a step of an instruction. (A run repeats instructions that were decoded before; steps and a stop differ there
-/// only where a call is served.)
+/// Makes one step of an instruction by `Machine::run`, which uses the decode cache. Returns the stop, or None.
 fn run_once(machine: &mut Machine) -> Option<Stop>
     requires program { HasProgram machine.old }
     requires uncalled { call_of machine.old.cpu ≡ None }
@@ -162,7 +165,7 @@ fn run_once(machine: &mut Machine) -> Option<Stop>
     }
 }
 
-/// Makes a step in which a call is served, or an instruction acts.
+/// Makes one step, which performs `call` or, for None, an instruction. Returns the stop, or None.
 fn make_step(machine: &mut Machine, call: Option<Call>) -> Option<Stop>
     requires program { HasProgram machine.old }
     requires call { call ≡ call_of machine.old.cpu }
@@ -175,7 +178,7 @@ fn make_step(machine: &mut Machine, call: Option<Call>) -> Option<Stop>
     run_once(machine)
 }
 
-/// Makes a step that writes no memory, of which nothing is found.
+/// Makes one step of an instruction that writes no memory, of which nothing is found. Returns the stop, or None.
 fn pass(machine: &mut Machine) -> Option<Stop>
     requires program { HasProgram machine.old }
     requires reads { OnlyReads machine.old.memory machine.old.cpu }
@@ -187,7 +190,9 @@ fn pass(machine: &mut Machine) -> Option<Stop>
     run_once(machine)
 }
 
-/// Makes a step, and reports what is found of it.
+/// Makes one step and adds what is found of it to the report; returns the stop, or None. `known` is the cache of code
+/// that writes no memory; `kept` is the arena as it was last read, and is brought up to date if the machine goes on. An
+/// `Err` is a failed allocation of the checker, after the step was made.
 pub(crate) fn check_step(
     alloc: Global,
     machine: &mut Machine,

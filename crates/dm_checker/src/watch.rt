@@ -1,4 +1,4 @@
-//! The headers of the arena, kept with their bytes, and whether memory still shows them.
+//! The headers of the arena as they were last read, and whether memory still shows them.
 
 ghost use Rattle.std.specs.Prelude.{◌≡◌, ◌≢◌, All, false, IfOk, MatchBool, None, Some};
 ghost use Rattle.dm_blocks.specs.Listing.{start_of};
@@ -10,24 +10,25 @@ use dm_pool::Block;
 use dm_space::Space;
 use std::alloc::{AllocError, Global};
 
-/// 2^40: five bytes are below it.
+/// 2^40: a number below it has five bytes.
 const FIVE: u64 = 0x100_0000_0000;
 
-/// A header as it was read, and bytes 0 to 4 as a number, the first byte lowest.
+/// A header as it was read, and its bytes 0 to 4 as a number, the first byte lowest.
 #[derive(Clone, Copy)]
 pub(crate) struct Watched {
     pub(crate) header: Header,
     pub(crate) bits: u64,
 }
 
-/// The segment where a list breaks, and the five bytes there.
+/// The segment where a list breaks, and the five bytes there as a number, the first byte lowest.
 #[derive(Clone, Copy)]
 pub(crate) struct Broken {
     pub(crate) segment: u16,
     pub(crate) bits: u64,
 }
 
-/// What a memory shows of the arena, and by which windows.
+/// What memory shows of the arena: the headers of its lists, where a list breaks (None: nowhere), whether upper memory
+/// belongs to the arena, and what the windows show.
 #[derive(Drop)]
 pub(crate) struct Watch {
     pub(crate) headers: Vec<Watched>,
@@ -36,7 +37,7 @@ pub(crate) struct Watch {
     pub(crate) windows: [Option<Block>; 4],
 }
 
-/// The five bytes from a segment on as one number, read one by one.
+/// The five bytes at segment:0 as one number, the first byte lowest, read one by one.
 #[inline(never)]
 fn bits_of_each(space: &Space, segment: u16) -> u64
     ensures { IsBits space.now.memory segment result }
@@ -49,7 +50,7 @@ fn bits_of_each(space: &Space, segment: u16) -> u64
     first + 256 * (second + 256 * (third + 256 * (fourth + 256 * fifth)))
 }
 
-/// The five bytes from a segment on as one number, the first byte lowest.
+/// The five bytes at segment:0 as one number, the first byte lowest.
 #[inline(always)]
 pub(crate) fn bits_at(space: &Space, segment: u16) -> u64
     ensures { IsBits space.now.memory segment result }
@@ -60,6 +61,7 @@ pub(crate) fn bits_at(space: &Space, segment: u16) -> u64
     }
 }
 
+/// A header together with the five bytes that memory has at its segment.
 fn watched_of(space: &Space, header: Header) -> Watched
     ensures watched { IsWatched space.now.memory result }
     ensures header { result.header ≡ header }
@@ -70,6 +72,7 @@ fn watched_of(space: &Space, header: Header) -> Watched
     }
 }
 
+/// The segment where a list breaks, with the five bytes that memory has there.
 fn broken_of(space: &Space, segment: u16) -> Broken
     ensures segment { result.segment ≡ segment }
     ensures bits { IsBits space.now.memory segment result.bits }
@@ -80,8 +83,8 @@ fn broken_of(space: &Space, segment: u16) -> Broken
     }
 }
 
-/// Puts the headers that a walk over a list has yet to return. The walk at the end of its list, or the segment
-/// where the list breaks.
+/// Appends the headers of the list that a walk is at the start of. Returns the walk at the end of its list, or as an
+/// inner `Err` the segment where the list breaks. The outer `Err` is a failed allocation.
 fn collect<'a>(
     out: &mut Vec<Watched>,
     space: &Space,
@@ -101,7 +104,8 @@ fn collect<'a>(
     }
 }
 
-/// Puts the headers of the second list after those of the first, which a walk is through. Where the second list breaks.
+/// Appends the headers of the second list, that of upper memory; `first` is the walk at the end of the first list.
+/// Returns where the second list breaks, or None. An `Err` is a failed allocation.
 fn collect_second(
     out: &mut Vec<Watched>,
     space: &Space,
@@ -118,8 +122,9 @@ fn collect_second(
     }
 }
 
-/// Puts the headers that memory shows of the arena: those of the first list, and of the second one where there is one.
-/// Where the arena is destroyed.
+/// Appends the headers that memory shows of the arena: those of the first list, and, with upper memory in the arena
+/// (`upper`) and the lists not linked, those of the second. Returns where a list breaks, or None. An `Err` is a failed
+/// allocation.
 fn collect_all(
     out: &mut Vec<Watched>,
     space: &Space,
@@ -137,7 +142,7 @@ fn collect_all(
     Ok(None)
 }
 
-/// What a machine's memory shows of the arena.
+/// What a machine's memory shows of the arena. An `Err` is a failed allocation.
 pub(crate) fn read_arena(alloc: Global, machine: &Machine) -> Result<Watch, AllocError>
     ensures { IfOk result (λ w. IsWatch machine.now.upper machine.now.memory w) }
 {
@@ -154,7 +159,7 @@ pub(crate) fn read_arena(alloc: Global, machine: &Machine) -> Result<Watch, Allo
     })
 }
 
-/// Whether memory shows the five bytes of each header as they were read.
+/// Whether memory still has the five bytes of each header as they were read.
 fn are_seen(space: &Space, headers: &[Watched]) -> bool
     ensures { MatchBool result (All (IsWatched space.now.memory) headers.now) (All (IsWatched space.now.memory) headers.now → ⊥) }
 {
@@ -166,7 +171,7 @@ fn are_seen(space: &Space, headers: &[Watched]) -> bool
     true
 }
 
-/// Whether memory shows the five bytes where the list breaks as they were read.
+/// Whether memory still has the five bytes where the list breaks as they were read; true if it does not break.
 fn is_broken_in(space: &Space, broken: &Option<Broken>) -> bool
     ensures { MatchBool result (IsBrokenIn space.now.memory broken.now) (IsBrokenIn space.now.memory broken.now → ⊥) }
 {
@@ -176,7 +181,7 @@ fn is_broken_in(space: &Space, broken: &Option<Broken>) -> bool
     }
 }
 
-/// Whether two windows show the same.
+/// Whether two windows show the same block, or both none.
 fn is_same_window(first: Option<Block>, second: Option<Block>) -> bool
     ensures { MatchBool result (first ≡ second) (first ≢ second) }
 {
@@ -187,7 +192,7 @@ fn is_same_window(first: Option<Block>, second: Option<Block>) -> bool
     }
 }
 
-/// Whether four windows show the same as four others.
+/// Whether four windows show the same as four others, one by one.
 fn are_same_windows(first: &[Option<Block>; 4], second: &[Option<Block>; 4]) -> bool
     ensures { MatchBool result (first.now ≡ second.now) (first.now ≢ second.now) }
 {
@@ -198,8 +203,8 @@ fn are_same_windows(first: &[Option<Block>; 4], second: &[Option<Block>; 4]) -> 
 }
 
 impl Watch {
-    /// Whether the windows of a machine and all that was read are as they were. Then its memory shows the same of the
-    /// arena.
+    /// Whether the machine's windows and all bytes that were read are still the same. Then its memory shows the same of
+    /// the arena.
     pub(crate) fn is_seen(&self, machine: &Machine) -> bool
         ensures { MatchBool result (IsSeen machine.now.upper machine.now.memory self.now) (IsSeen machine.now.upper machine.now.memory self.now → ⊥) }
     {

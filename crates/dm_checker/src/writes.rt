@@ -1,4 +1,4 @@
-//! Steps that write no memory, by the form of their instructions: nothing can be found of these.
+//! Instructions that write no memory, recognized by their code: after such a step the checker need not look at memory.
 
 ghost use Rattle.std.specs.Prelude.{◌≡◌, IsTrue, All, length};
 ghost use Rattle.dm_checker.specs.inner.Writes.{is_memory, may_write, LeavesMemory, OnlyReads, BeginReading, IsRight};
@@ -10,17 +10,18 @@ use dm_space::Space;
 use std::alloc::{AllocError, Global};
 use std::marker::Model;
 
-/// How many entries there are; the low bits of an offset name one.
+/// How many entries a `Known` has; the low 12 bits of IP select one.
 const ENTRIES: usize = 0x1000;
 
-/// Eight bytes of code, and whether they are known to begin with an instruction that writes no memory.
+/// Eight bytes of code, and whether it is known that they begin with an instruction that writes no memory.
 #[derive(Clone, Copy)]
 pub(crate) struct Entry {
     pub(crate) eight: u64,
     pub(crate) only_reads: bool,
 }
 
-/// What is known of code that was met. Contracts see how many entries there are.
+/// A cache of what is known of the code that has been met, one entry for each value of the low 12 bits of IP. Contracts
+/// see the number of entries.
 #[derive(Drop)]
 pub(crate) struct Known {
     entries: Vec<Entry>,
@@ -37,14 +38,15 @@ impl Model for Known {
     ghost invariant = { λ k. (vec_len k.entries ≡ 4096) × All IsRight k.entries.items };
 }
 
+/// Whether the operand is in memory.
 fn is_memory(operand: &Operand) -> bool
     ensures { result ≡ is_memory operand.now }
 {
     matches!(operand, Operand::Memory(_, _))
 }
 
-/// Whether an instruction may write memory, by its form. What writes elsewhere than to its operands stands in the first
-/// arm; DIV and IDIV may take interrupt 0.
+/// Whether an instruction may write memory, by its mnemonic and operands. The first arm has those that write elsewhere
+/// than to an operand: to the stack or to ES:DI. DIV and IDIV are there because they may take interrupt 0.
 fn may_write(ins: &Ins) -> bool
     ensures { result ≡ may_write ins.now.action.mnemonic ins.now.action.first ins.now.action.second }
 {
@@ -69,7 +71,8 @@ fn may_write(ins: &Ins) -> bool
     }
 }
 
-/// Whether eight bytes begin with an instruction that writes no memory, whatever stands after them.
+/// Whether eight bytes, given as a number with the first byte lowest, begin with an instruction that writes no memory,
+/// whatever bytes follow them. False is no statement.
 #[inline(never)]
 fn begin_reading(eight: u64) -> bool
     ensures { IsTrue result → BeginReading eight }
@@ -82,7 +85,7 @@ fn begin_reading(eight: u64) -> bool
 }
 
 impl Known {
-    /// Nothing is known.
+    /// A cache in which nothing is known. An `Err` is a failed allocation.
     pub(crate) fn new(alloc: Global) -> Result<Known, AllocError> {
         let nothing = Entry {
             eight: 0,
@@ -95,8 +98,8 @@ impl Known {
         Ok(Known { entries })
     }
 
-    /// Whether the step from these registers writes no memory, because of the instruction at CS:IP. Where it is false,
-    /// nothing is said.
+    /// Whether it is known that the instruction at CS:IP writes no memory; false is no statement. Enters what it finds
+    /// out into the cache.
     #[inline(always)]
     pub(crate) fn only_reads(&mut self, cpu: &Cpu, space: &Space) -> bool
         ensures { IsTrue result → OnlyReads space.now.memory cpu.now }

@@ -1,4 +1,4 @@
--- What `dm check` does: a run whose findings are reported on standard error.
+-- What `dm check` does: a run with a report of its findings on standard error.
 use Rattle.std.specs.Prelude.{ℕ, ◌≡◌, ◌++◌, nat_lt, if◌then◌else◌, List, Option, Some, Result, Ok, Err, codes}
 use Rattle.std.specs.Io.KnownBytes.{Appends, Keeps}
 use Rattle.dm_options.specs.declared.command_line.MachineOptions.{MachineOptions}
@@ -16,7 +16,7 @@ use Rattle.dm_cli.specs.Messages.{Stream, Prints, stop_text}
 use Rattle.dm_cli.specs.Starting.{IsStartedBy, IsStartFault}
 use Rattle.dm_cli.specs.Statuses.{stop_status}
 
--- the status of a checked run: 124 if there is an error, whatever the stop
+-- the exit status of a checked run: 124 if there is an error, whatever the stop; otherwise that of the stop
 abbrev pub checked_status : Reported → Stop → ℕ
 checked_status report stop = if nat_lt 0 report.errors then 124 else stop_status stop
 
@@ -34,7 +34,7 @@ pub data Checks (files : List ℕ → Option (List ℕ)) (typed : Option (List �
   not_started : (fault : Fault) → IsStartFault files typed (Some (codes "standard input")) o fault → Keeps before after → failed_after ≡ failed_before
       → Checks files typed o before after failed_before failed_after error_before error_after (Err fault)
 
--- the status of the command, or 126 at a fault
+-- the exit status of `dm check`: that of the checked run, or 126 at a fault
 abbrev pub check_status : Result ℕ Fault → ℕ
 check_status (Ok status) = status
 check_status (Err fault) = 126

@@ -1,4 +1,4 @@
--- What `dm debug` does with the lines of its standard input.
+-- What `dm debug` does with the lines of its standard input, and what it writes.
 use Rattle.std.specs.Prelude.{Bool, ℕ, ◌≡◌, ◌≢◌, ◌-◌, ◌<◌, ◌≤◌, ◌++◌, ◌⊎◌, true, false, List, [], ◌∷◌, Option, Some, None, IfSome, option_map, codes, length, take}
 use Rattle.std.specs.Io.BufRead.{take_through, drop_through, first_piece}
 use Rattle.std.specs.Io.KnownBytes.{Appends, Keeps}
@@ -16,12 +16,12 @@ use Rattle.dm_cli.specs.declared.fault.Fault.TheVariants.{InputTooLong, OutOfMem
 
 -- ---- one line
 
--- the line that ends a session
+-- the line ends the session: it is `Q` or `q`
 abbrev pub IsQuit : List ℕ → Type 0
 IsQuit line = (line ≡ 81 ∷ []) ⊎ (line ≡ 113 ∷ [])
 
--- what is written for a line, and the session after it: the command's answer, or why the line is refused, and then
--- nothing has changed
+-- what is written for a line, and the session after it: what the command prints; or why the line is refused, and then
+-- the session stays
 pub data Tells (s : Debugged) (line : List ℕ) : Debugged → List ℕ → Type 0 where
   answered : (command : Command) (t : Debugged) (text : List ℕ) → command_of line ≡ Some command → is_syntax s (Some command) ≡ false → is_full s (Some command) ≡ false → Does s command text t → Tells s line t text
   no_command : is_syntax s (command_of line) ≡ true → Tells s line s (codes "? syntax" ++ 10 ∷ [])
@@ -29,10 +29,10 @@ pub data Tells (s : Debugged) (line : List ℕ) : Debugged → List ℕ → Type
 
 -- ---- the lines of a text
 
--- The lines of a text are handled one after the other, up to its end or a line that ends the session: what is written,
--- the session after that, the fault that ends them before, if one does, and whether each answer that is begun is
--- written whole and flushed. A line ends with 0Ah, or with the text; the lines may have n bytes in all, their ends
--- among them.
+-- The lines of a text are executed one after the other, up to its end or a line that ends the session. A line ends with
+-- 0Ah, or with the text; the lines may have n bytes in all, their 0Ah included. After session and text come: what is
+-- written; the session after that; the fault that ended it early, if any; and whether all answers were written whole
+-- and flushed.
 pub data Converses : ℕ → Debugged → List ℕ → List ℕ → Debugged → Option Fault → Bool → Type 0 where
   ended : (n : ℕ) (s : Debugged) → Converses n s [] [] s None true
   quits : (n : ℕ) (s : Debugged) (text : List ℕ) → length (take_through 10 text) ≤ n → IsQuit (first_piece 10 text) → Converses n s text [] s None true
@@ -50,8 +50,9 @@ pub data Converses : ℕ → Debugged → List ℕ → List ℕ → Debugged →
   not_handed_on : (n : ℕ) (s t : Debugged) (text told : List ℕ) (fault : Fault) → text ≢ [] → length (take_through 10 text) ≤ n
       → ¬ IsQuit (first_piece 10 text) → Tells s (first_piece 10 text) t told → IsWriteFault fault → Converses n s text told t (Some fault) false
 
--- the lines of a reader, whose bytes are known or not, what was appended to a writer, and the count of its failures
--- before and after: an answer is cut or not flushed exactly where a write or a flush failed in between
+-- the session s executes the lines of a reader and becomes t. `known` is what the reader has, where that is known; what
+-- was written is appended to a writer; `opened` and `failures` count the writer's failures before and after. The count
+-- rises exactly if an answer was not written whole or not flushed
 pub record IsConversation (n : ℕ) (known : Option (List ℕ)) (s t : Debugged) (before after : Option (List ℕ)) (opened failures : ℕ) (end : Option Fault) : Type 0 where
   pub text : List ℕ
   pub told : List ℕ
@@ -65,7 +66,7 @@ pub record IsConversation (n : ℕ) (known : Option (List ℕ)) (s t : Debugged)
 -- ---- the command
 
 -- `dm debug`: the answers to the lines of standard input, which may have 16 MiB in all, up to a fault if there is one;
--- or nothing
+-- or a fault before the first line, and nothing is written
 pub data Debugs (files : List ℕ → Option (List ℕ)) (typed : Option (List ℕ)) (o : DebugOptions) (before after : Option (List ℕ)) (opened failures : ℕ) : Option Fault → Type 0 where
   conversed : (m : State) (t : Debugged) (end : Option Fault) → IsStartedBy files (typed_in files o) o.machine m
       → IsConversation 16777216 typed (new_session m) t before after opened failures end → Debugs files typed o before after opened failures end

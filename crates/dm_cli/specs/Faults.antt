@@ -1,12 +1,11 @@
--- The faults of commands: those that a refusal of the machine or of the assembler becomes, and those of files and
--- streams by their names.
+-- The faults of the commands of `dm`: their texts, and which of them speak of a file or stream by its name.
 use Rattle.std.specs.Prelude.{ℕ, ◌≡◌, ◌++◌, List, [], ◌∷◌, codes, decimal}
 use Rattle.dm_asm.specs.declared.refusal.AssemblyRefusal.{AssemblyRefusal}
 use Rattle.dm_asm.specs.declared.refusal.AssemblyRefusal.TheVariants as refusal
 use Rattle.dm_cli.specs.declared.fault.Fault.{Fault}
 use Rattle.dm_cli.specs.declared.fault.Fault.TheVariants as fault
 
--- the fault that the refusal of an assembly text becomes
+-- the fault for an assembly text that has an error
 abbrev pub refusal_fault : AssemblyRefusal → Fault
 refusal_fault (refusal.Syntax line) = fault.Syntax line
 refusal_fault (refusal.Unknown line) = fault.Unknown line
@@ -15,7 +14,7 @@ refusal_fault (refusal.Twice line) = fault.Twice line
 refusal_fault refusal.TooLong = fault.TooLong
 refusal_fault refusal.Memory = fault.OutOfMemory
 
--- the text of a fault
+-- the text of a fault, without `dm: `
 abbrev pub fault_text : Fault → List ℕ
 fault_text (fault.CannotRead name) = codes "cannot read " ++ name.now
 fault_text (fault.CannotWrite name) = codes "cannot write " ++ name.now
@@ -38,20 +37,20 @@ fault_text fault.OutOfMemory = codes "out of memory"
 abbrev pub fault_line : Fault → List ℕ
 fault_line f = codes "dm: " ++ fault_text f ++ 10 ∷ []
 
--- the file or stream of this name can't be read
+-- the fault says that the file or stream of this name can't be read
 abbrev pub IsUnread : List ℕ → Fault → Type 0
 IsUnread name (fault.CannotRead read) = read.now ≡ name
 IsUnread name _ = ⊥
 
--- the file or stream of this name can't be written
+-- the fault says that the file or stream of this name can't be written
 abbrev pub IsUnwritten : List ℕ → Fault → Type 0
 IsUnwritten name (fault.CannotWrite written) = written.now ≡ name
 IsUnwritten name _ = ⊥
 
--- standard input can't be read
+-- the fault says that standard input can't be read
 abbrev pub IsReadFault : Fault → Type 0
 IsReadFault = IsUnread (codes "standard input")
 
--- standard output can't be written
+-- the fault says that standard output can't be written
 abbrev pub IsWriteFault : Fault → Type 0
 IsWriteFault = IsUnwritten (codes "standard output")

@@ -7,7 +7,7 @@ use Rattle.dm_cli.specs.Faults.{fault_line}
 use Rattle.dm_state.specs.declared.stop.Stop.{Stop}
 use Rattle.dm_state.specs.declared.stop.Stop.TheVariants.{Steps, Exited, Halted, Unlisted, InputEnded, Destroyed, Memory}
 
--- the line about a stop; an exit has none
+-- the line about a stop, as `dm run` and `dm check` print it; no text for an exit
 abbrev pub stop_text : Stop → List ℕ
 stop_text Steps = codes "stopped: steps" ++ 10 ∷ []
 stop_text (Exited code) = []
@@ -17,7 +17,7 @@ stop_text InputEnded = codes "stopped: input ended" ++ 10 ∷ []
 stop_text Destroyed = codes "stopped: destroyed" ++ 10 ∷ []
 stop_text Memory = codes "stopped: memory" ++ 10 ∷ []
 
--- a stream: its bytes, where they are known, and how many of its writes and flushes have failed
+-- standard error: its bytes, where they are known, and how many of its writes and flushes have failed
 pub record Stream : Type 0 where
   pub bytes : Option (List ℕ)
   pub failures : ℕ
@@ -32,7 +32,7 @@ pub data Reports (before after : Stream) : Option Fault → Type 0 where
   silent : after ≡ before → Reports before after None
   faulty : (fault : Fault) → Prints (fault_line fault) before after → Reports before after (Some fault)
 
--- what is printed of a run: the line about its stop, or about its fault
+-- what `dm run` prints on standard error: the line about its stop, or about its fault
 abbrev pub outcome_text : Result Stop Fault → List ℕ
 outcome_text (Ok stop) = stop_text stop
 outcome_text (Err fault) = fault_line fault

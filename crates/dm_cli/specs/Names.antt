@@ -1,4 +1,4 @@
--- The names of files and of programs in the store.
+-- The names of files, which are those of programs in the store.
 use Rattle.std.specs.Prelude.{ℕ, ◌<◌, ◌==◌, List, Contains, length}
 use Rattle.std.specs.List.{after_last}
 

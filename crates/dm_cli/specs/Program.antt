@@ -26,8 +26,8 @@ use Rattle.dm_cli.specs.Statuses.{status_of, status_after}
 
 -- ---- the commands
 
--- `dm run`: the whole output of the run, after what was written before; or a first part of it, where a write failed;
--- or nothing
+-- `dm run`: the whole output of the run is appended to standard output; or a first part of it, if a write failed; or
+-- nothing, at a fault before the run
 pub data Runs (files : List ℕ → Option (List ℕ)) (typed : Option (List ℕ)) (o : MachineOptions) (before after : Option (List ℕ)) (failed_before failed_after : ℕ) : Result Stop Fault → Type 0 where
   ran : (m t : State) (stop : Stop) → IsStartedBy files typed o m → IsRun m o.steps stop t → Appends before after t.console.output → failed_after ≡ failed_before
       → Runs files typed o before after failed_before failed_after (Ok stop)
@@ -38,9 +38,9 @@ pub data Runs (files : List ℕ → Option (List ℕ)) (typed : Option (List ℕ
 
 -- ---- the program
 
--- the bytes of files by their paths and of standard input, what stands on standard output before, and which files were
--- written before, each where it is known; and how many writes and flushes of standard output and how many saves of
--- files have failed before
+-- what `dm` finds: the bytes of files by their paths and of standard input, what stands on standard output, and which
+-- files were written, each where it is known; how many writes and flushes of standard output and how many saves of
+-- files have failed; and standard error
 pub record Given : Type 0 where
   pub files : List ℕ → Option (List ℕ)
   pub typed : Option (List ℕ)
@@ -51,8 +51,8 @@ pub record Given : Type 0 where
   -- standard error
   pub messages : Stream
 
--- what is there afterwards, how many writes and flushes of standard output and how many saves of files have failed, and
--- the exit status
+-- what `dm` leaves: what stands on standard output, which files were written, each where it is known; how many writes
+-- and flushes of standard output and how many saves of files have failed; standard error; and the exit status
 pub record Left : Type 0 where
   pub output : Option (List ℕ)
   pub failures : ℕ
@@ -61,22 +61,22 @@ pub record Left : Type 0 where
   pub messages : Stream
   pub status : ℕ
 
--- the words are a right command line, and these are its options
+-- the words are a right command line, with these options
 pub record IsParsed (words : List Text) (o : Options) : Type 0 where
   pub right : fault_of dm_app words ≡ []
   pub says : IsSomeAnd (subcommand_of dm_app words) (λ given. HasOptions given o)
 
--- nothing was written to standard output, and no write or flush of it failed
+-- nothing is written to standard output, and no write or flush of it fails
 abbrev pub IsSilent : Given → Left → Type 0
 IsSilent g l = Keeps g.output l.output × (l.failures ≡ g.failures)
 
--- no file was saved, and no save failed
+-- no file is saved, and no save fails
 abbrev pub SavesNothing : Given → Left → Type 0
 SavesNothing g l = (l.saved ≡ g.saved) × (l.failed_saves ≡ g.failed_saves)
 
--- a wrong line, or a call for help, does nothing; a right one does what its command does; an allocation may fail while
--- the words are read. Of a wrong line or a call for help standard error has `clap`'s text, of which nothing is said
--- here
+-- `dm` with these words leads from g to l: a wrong line, or a call for help, does nothing, with status 2; a right one
+-- does what its command does; an allocation may fail while the words are read. For a wrong line or a call for help
+-- standard error gets `clap`'s text, of which nothing is said here
 pub data Does (g : Given) (words : List Text) (l : Left) : Type 0 where
   usage : fault_of dm_app words ≢ [] → IsSilent g l → SavesNothing g l → l.status ≡ 2 → Does g words l
   no_memory : Prints (fault_line OutOfMemory) g.messages l.messages → IsSilent g l → SavesNothing g l → l.status ≡ 126 → Does g words l
@@ -91,7 +91,7 @@ pub data Does (g : Given) (words : List Text) (l : Left) : Type 0 where
   disassembles : (path : Bor (List ℕ)) (end : Option Fault) → IsParsed words (command.Disasm path) → Disassembles g.files path.now g.output l.output g.failures l.failures end
       → Reports g.messages l.messages end → SavesNothing g l → l.status ≡ status_after end → Does g words l
 
--- the exit status of the program over files and streams of which nothing is known
+-- the exit status is one that `dm` can have with these words, over files and streams of which nothing is known
 pub record EndsWith (words : List Text) (status : ℕ) : Type 0 where
   pub given : Given
   pub left : Left

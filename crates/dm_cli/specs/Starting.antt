@@ -1,4 +1,4 @@
--- The machine that a command begins with, and the first fault that keeps it from its start.
+-- The machine that `dm run`, `dm check` and `dm debug` begin with, and the first fault that keeps them from it.
 use Rattle.std.specs.Prelude.{ℕ, ◌≡◌, ◌<◌, ◌≤◌, ◌++◌, List, [], ◌∷◌, Option, None, IsSomeAnd, map, option_map, length}
 use Rattle.dm_options.specs.declared.command_line.DebugOptions.{DebugOptions}
 use Rattle.dm_options.specs.declared.command_line.MachineOptions.{MachineOptions}
@@ -12,34 +12,34 @@ use Rattle.dm_cli.specs.declared.fault.Fault.TheVariants.{OutOfMemory, TooLarge,
 use Rattle.dm_cli.specs.Names.{last_part}
 use Rattle.dm_cli.specs.Stores.{IsFaultOf, IsInputFault, IsRead, IsStarted, Stores, bytes_if_any}
 
--- the sizes of expanded and extended memory that the options ask for
+-- the sizes of expanded memory (pages) and extended memory (KiB) that the options ask for
 abbrev pub sizes_of : MachineOptions → Sizes
 sizes_of o = record { ems_pages = o.ems_pages; xms_kib = o.xms_kib }
 
--- the paths of FILES, in order
+-- the paths of the argument FILES, in their order
 abbrev pub paths_of : MachineOptions → List (List ℕ)
 paths_of o = map (λ path. path.now) o.files.items
 
--- the machine that the options ask for, over the files and the console's input where they are known
+-- m is the machine that the options ask for, over the files, with this console input; both are known or not
 abbrev pub IsStartedBy : (List ℕ → Option (List ℕ)) → Option (List ℕ) → MachineOptions → State → Type 0
 IsStartedBy files typed o m = IsStarted files typed (sizes_of o) o.upper (paths_of o) o.tail.now m
 
--- the console's input in a session: the file of `--input`, or nothing
+-- the console input of `dm debug`, where it is known: the file of `--input`, or nothing
 abbrev pub typed_in : (List ℕ → Option (List ℕ)) → DebugOptions → Option (List ℕ)
 typed_in files o = bytes_if_any files (option_map (λ path. path.now) o.input)
 
 -- ---- faults
 
--- the fault of a first program: it isn't there, it is no program, or memory has no room for it. (Others are of names
--- that no file of a store has.)
+-- the fault of a load of the first program: the store has none of its name, it is no COM or MZ program, or memory has
+-- no room for it. (The last case is for names that no program of a store can have.)
 abbrev pub IsLoadFault : State → List ℕ → Fault → Type 0
 IsLoadFault fresh name NotFound = program_of fresh.programs name ≡ None
 IsLoadFault fresh name BadFormat = IsBadProgram fresh name
 IsLoadFault fresh name Short = HasNoRoom fresh name
 IsLoadFault fresh name _ = ¬ IsName name
 
--- the faults of a machine over a store and an input, in their order: its sizes are too large, its tail is too long,
--- there is no first program, or it can't be loaded
+-- the first fault of a machine over a store and an input, in this order: its sizes are too large, its tail is too long,
+-- there is no first program, or it can't be loaded; or an allocation failed
 pub data IsMachineFault (store : List (List ℕ × List ℕ)) (input : List ℕ) (o : MachineOptions) : Fault → Type 0 where
   too_large : IsTooLarge (sizes_of o) → IsMachineFault store input o TooLarge
   long_tail : (fresh : State) → ¬ IsTooLarge (sizes_of o) → IsNew (sizes_of o) [] o.upper store input fresh → 126 < length o.tail.now → IsMachineFault store input o TailTooLong
@@ -49,7 +49,7 @@ pub data IsMachineFault (store : List (List ℕ × List ℕ)) (input : List ℕ)
       → length o.tail.now ≤ 126 → paths_of o ≡ first ∷ others → IsLoadFault fresh (last_part first) fault → IsMachineFault store input o fault
   no_memory : IsMachineFault store input o OutOfMemory
 
--- the first fault of some files, in their order
+-- the first fault of the files at these paths, in their order
 pub record IsFileFault (files : List ℕ → Option (List ℕ)) (paths : List (List ℕ)) (fault : Fault) : Type 0 where
   pub before : List (List ℕ)
   pub path : List ℕ
@@ -59,8 +59,8 @@ pub record IsFileFault (files : List ℕ → Option (List ℕ)) (paths : List (L
   pub stores : Stores files before store
   pub faulty : IsFaultOf (files path) store path fault
 
--- the first fault that keeps a machine from its start: of the files in turn, of the console's input (which has that
--- name, if it is read), of the machine
+-- the first fault that keeps a command from its machine: of the files in their order; of the console input, which has
+-- this name if it is read; of the machine
 pub data IsStartFault (files : List ℕ → Option (List ℕ)) (typed : Option (List ℕ)) (name : Option (List ℕ)) (o : MachineOptions) : Fault → Type 0 where
   of_file : (fault : Fault) → IsFileFault files (paths_of o) fault → IsStartFault files typed name o fault
   of_input : (store : List (List ℕ × List ℕ)) (fault : Fault) → Stores files (paths_of o) store → IsSomeAnd name (λ input. IsInputFault typed input fault)

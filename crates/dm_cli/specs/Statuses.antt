@@ -3,17 +3,17 @@ use Rattle.std.specs.Prelude.{ℕ, Result, Ok, Err, Option, Some, None}
 use Rattle.dm_state.specs.declared.stop.Stop.{Stop}
 use Rattle.dm_state.specs.declared.stop.Stop.TheVariants.{Exited}
 
--- the program's exit code, or 125 at another stop
+-- the exit status of a run that ended with a stop: the program's exit code, or 125
 abbrev pub stop_status : Stop → ℕ
 stop_status (Exited code) = code
 stop_status _ = 125
 
--- the exit status of a run: that of its stop, or 126 at a fault
+-- the exit status of `dm run`: that of its stop, or 126 at a fault
 abbrev pub status_of : {E : Type 0} → Result Stop E → ℕ
 status_of (Ok stop) = stop_status stop
 status_of (Err _) = 126
 
--- the exit status of other commands: 0, or 126 at a fault
+-- the exit status of `dm debug`, `dm asm` and `dm disasm`: 0, or 126 at a fault
 abbrev pub status_after : {E : Type 0} → Option E → ℕ
 status_after None = 0
 status_after (Some _) = 126

@@ -10,12 +10,13 @@ use Rattle.dm_pool.specs.declared.sizes.Sizes.{Sizes}
 use Rattle.dm_pool.specs.Stored.{IsTooLarge}
 use Rattle.dm_state.specs.State.{State}
 
--- all bytes of a file or of standard input, at most 16 MiB, where it is known which it has
+-- these are all bytes of a file or of standard input, at most 16 MiB; `known` is what it holds, where that is known
 pub record IsRead (known : Option (List ℕ)) (bytes : List ℕ) : Type 0 where
   pub all : IfSome known (λ xs. bytes ≡ xs)
   pub short : length bytes ≤ 16777216
 
--- a file is added to a store, under the last part of its path: a name that no file of the store has, ASCII case ignored
+-- the file at the path, with its bytes, is added at the end of the store, which becomes t. Its name is the last part of
+-- the path, which no program of the store has, ASCII case ignored; `known` is what the file holds, where that is known
 pub record AddsFile (known : Option (List ℕ)) (store : List (List ℕ × List ℕ)) (path : List ℕ) (t : List (List ℕ × List ℕ)) : Type 0 where
   pub bytes : List ℕ
   pub read : IsRead known bytes
@@ -23,18 +24,18 @@ pub record AddsFile (known : Option (List ℕ)) (store : List (List ℕ × List 
   pub once : has_name store (last_part path) ≡ false
   pub added : t ≡ store ++ (last_part path, bytes) ∷ []
 
--- a store of the files at these paths, in their order
+-- this is the store of the files at these paths, in their order; `known` is what files hold, where that is known
 pub data Stores (known : List ℕ → Option (List ℕ)) : List (List ℕ) → List (List ℕ × List ℕ) → Type 0 where
   none : Stores known [] []
   more : (paths : List (List ℕ)) (path : List ℕ) (s t : List (List ℕ × List ℕ)) → Stores known paths s → AddsFile (known path) s path t → Stores known (paths ++ path ∷ []) t
 
--- the faults of an input with this name: it can't be read, memory was refused, or it is too long
+-- a fault of the input with this name: it can't be read, an allocation failed, or it has more than 16 MiB
 abbrev pub IsInputFault : Option (List ℕ) → List ℕ → Fault → Type 0
 IsInputFault known name fault = IsUnread name fault ⊎ (fault ≡ OutOfMemory) ⊎ ((fault ≡ InputTooLong) × IfSome known (λ xs. 16777216 < length xs))
 
--- the faults that one file may have: its path names no file; it can't be read, or it is too long; its name is too long;
--- its name stands in the store already; or an allocation failed. The file is opened only if its path names one, and the
--- faults of its name come only once it was read
+-- a fault of the file at the path, which is to be added to the store: its path names no file; it can't be read, or it
+-- is too long; its name is too long; the store has its name already; or an allocation failed. The file is opened only
+-- if its path names one, and the faults of its name come only once it was read
 pub data IsFaultOf (known : Option (List ℕ)) (store : List (List ℕ × List ℕ)) (path : List ℕ) : Fault → Type 0 where
   nameless : (fault : Fault) → ¬ IsFileName (last_part path) → IsUnread path fault → IsFaultOf known store path fault
   not_read : (fault : Fault) → IsFileName (last_part path) → IsInputFault known path fault → IsFaultOf known store path fault
@@ -42,8 +43,8 @@ pub data IsFaultOf (known : Option (List ℕ)) (store : List (List ℕ × List �
   twice : (bytes : List ℕ) → IsRead known bytes → IsName (last_part path) → has_name store (last_part path) ≡ true → IsFaultOf known store path NameTwice
   no_memory : IsFaultOf known store path OutOfMemory
 
--- a new machine of these sizes, which are not too large, with upper memory in its arena or not, with no variables, over
--- a store and an input, and its first program loaded with a tail of at most 126 bytes
+-- m is a new machine of these sizes, which are not too large, with upper memory in its arena if `upper`, no variables,
+-- and this store and input, in which the first program is loaded with a tail of at most 126 bytes
 pub record IsBegun (store : List (List ℕ × List ℕ)) (input : List ℕ) (sizes : Sizes) (upper : Bool) (paths : List (List ℕ)) (tail : List ℕ) (m : State) : Type 0 where
   pub small : ¬ IsTooLarge sizes
   pub fresh : State
@@ -54,7 +55,8 @@ pub record IsBegun (store : List (List ℕ × List ℕ)) (input : List ℕ) (siz
   pub short : length tail ≤ 126
   pub loaded : IsLoaded fresh (last_part first) tail m
 
--- the machine that a run begins with: over the files at the paths, and what was typed
+-- m is the machine that a command begins with: over the files at the paths, with what was typed as its console input,
+-- and the first program loaded
 pub record IsStarted (known : List ℕ → Option (List ℕ)) (typed : Option (List ℕ)) (sizes : Sizes) (upper : Bool) (paths : List (List ℕ)) (tail : List ℕ) (m : State) : Type 0 where
   pub store : List (List ℕ × List ℕ)
   pub stores : Stores known paths store
@@ -62,7 +64,7 @@ pub record IsStarted (known : List ℕ → Option (List ℕ)) (typed : Option (L
   pub read : IsRead typed input
   pub begun : IsBegun store input sizes upper paths tail m
 
--- the bytes of a file that may be left out, where they are known: without it there are none
+-- the bytes of the file at a path, where they are known; no bytes if there is no path
 abbrev pub bytes_if_any : (List ℕ → Option (List ℕ)) → Option (List ℕ) → Option (List ℕ)
 bytes_if_any known None = Some []
 bytes_if_any known (Some path) = known path

@@ -1,4 +1,4 @@
-//! `dm asm` and `dm disasm`: a file's text to bytes, and a file's bytes to text.
+//! `dm asm` and `dm disasm`: from a file's text to bytes, and from a file's bytes to text.
 ghost use Rattle.std.specs.Prelude.{◌≡◌, IfErr, IfOk};
 ghost use Rattle.dm_cli.specs.Assembling.{Assembles, Disassembles, IsAsmFault, IsAssembled, IsDisasmFault, IsDisassembled};
 ghost use Rattle.dm_cli.specs.inner.Statuses.{end_of};
@@ -11,10 +11,10 @@ use dm_options::command_line::AsmOptions;
 use dm_out::write_all;
 use std::alloc::Global;
 
-/// The most bytes of a program that is disassembled.
+/// The most bytes of a COM program that `dm disasm` reads.
 const MOST_PROGRAM_BYTES: usize = 65_278;
 
-/// The bytes of the program whose text the file at `path` is.
+/// The bytes of the program whose assembly text is in the file at `path`; or a fault of the file or of the text.
 fn assembled<'a, F: Storage>(
     alloc: Global,
     storage: &F,
@@ -28,7 +28,7 @@ fn assembled<'a, F: Storage>(
     Ok(bytes)
 }
 
-/// The lines of the program that the file at `path` is.
+/// The assembly text of the program in the file at `path`; or a fault of the file, or `TooLong` over 65,278 bytes.
 fn disassembled<'a, F: Storage>(
     alloc: Global,
     storage: &F,
@@ -47,7 +47,8 @@ fn disassembled<'a, F: Storage>(
     }
 }
 
-/// `dm asm`: assembles one file to another, which is written only where the whole text was assembled.
+/// `dm asm`: assembles the file `IN` and writes the bytes to the file `OUT`, which stays as it was if the text has a
+/// fault.
 pub(crate) fn asm<'a, F: Storage>(
     alloc: Global,
     storage: &mut F,
@@ -62,7 +63,7 @@ pub(crate) fn asm<'a, F: Storage>(
     }
 }
 
-/// `dm disasm`: writes the lines of a file.
+/// `dm disasm`: writes the assembly text of the program in the file at `path`. `CannotWrite` if a write failed.
 pub(crate) fn disasm<'a, F: Storage, W: Out>(
     alloc: Global,
     storage: &F,

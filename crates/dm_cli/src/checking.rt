@@ -1,4 +1,4 @@
-//! `dm check`: a run whose findings are reported on standard error.
+//! `dm check`: a run with a report of its findings on standard error.
 ghost use Rattle.std.specs.Prelude.{◌≡◌, ◌++◌, OnErr, OnOk};
 ghost use Rattle.dm_reports.specs.Reports.{report_text};
 ghost use Rattle.dm_cli.specs.Checking.{Checks, checked_status};
@@ -20,10 +20,10 @@ use dm_reports::put_report;
 use std::alloc::{AllocError, Global};
 use std::io::Read;
 
-/// The status of a run in which errors were found.
+/// The exit status of a checked run in which errors were found.
 const ERRORS: u8 = 124;
 
-/// Puts a report, and the line about the stop.
+/// Appends a report, and the line about the stop, to `text`. An `Err` is a failed allocation.
 fn put_lines(text: &mut Vec<u8>, report: &Report, stop: Stop) -> Result<(), AllocError>
     ensures { OnOk result (text.new.items ≡ text.old.items ++ report_text report.now ++ stop_text stop) }
 {
@@ -31,7 +31,7 @@ fn put_lines(text: &mut Vec<u8>, report: &Report, stop: Stop) -> Result<(), Allo
     text.extend_from_slice(stop_line(stop))
 }
 
-/// The status of a checked run.
+/// The exit status of a checked run: 124 if the report has an error, otherwise that of the stop.
 fn checked_status(report: &Report, stop: Stop) -> u8
     ensures { result ≡ checked_status report.now stop }
 {
@@ -41,7 +41,9 @@ fn checked_status(report: &Report, stop: Stop) -> u8
     status_of_stop(stop)
 }
 
-/// Runs a machine, writes its output, and prints the report and the line about the stop. Returns the status.
+/// Runs a machine under the checker, writes its output, and prints the report and the line about the stop on `error`.
+/// Returns the exit status. `OutOfMemory` before anything is written, `CannotWrite` if a write of the output failed;
+/// then nothing is printed on `error`.
 fn check_machine<W: Out, E: Out>(
     alloc: Global,
     machine: &mut Machine,
@@ -70,8 +72,8 @@ fn check_machine<W: Out, E: Out>(
     }
 }
 
-/// `dm check`: runs the first file, writes its output, and prints the report and the line about the stop. Returns the
-/// status.
+/// `dm check`: runs the first file under the checker, writes its output, and prints the report and the line about the
+/// stop on `error`. Returns the exit status, or the fault, which is not printed yet.
 pub(crate) fn check<'a, F: Storage, I: Read + Drop, W: Out, E: Out>(
     alloc: Global,
     storage: &F,

@@ -1,4 +1,4 @@
-//! The commands of `dm`, with their fault texts and statuses.
+//! The program `dm`: its commands, with the printing of faults and the exit statuses.
 ghost use Rattle.std.specs.Prelude.{◌≡◌, ◌⊎◌, IfErr, OnOk, map};
 ghost use Rattle.dm_cli.specs.Checking.{check_status};
 ghost use Rattle.dm_cli.specs.Faults.{fault_line};
@@ -24,16 +24,16 @@ use std::alloc::Global;
 use std::convert::AsStr;
 use std::io::{Read, Write};
 
-/// The status of a fault.
+/// The exit status at a fault.
 const FAULT: u8 = 126;
 
-/// The status of a stop that is no exit.
+/// The exit status of a run that stopped before the program ended.
 const STOPPED: u8 = 125;
 
-/// The status of a wrong command line or a call for help.
+/// The exit status for a wrong command line or a call for help.
 const USAGE: u8 = 2;
 
-/// Runs a machine, and writes its output at the end.
+/// Runs a machine for at most `steps` steps, and writes its output at the end. `CannotWrite` if a write failed.
 fn run_machine<W: Out>(
     machine: &mut Machine,
     steps: u64,
@@ -48,7 +48,8 @@ fn run_machine<W: Out>(
     }
 }
 
-/// `dm run`: runs the first file, and writes its output at the end.
+/// `dm run`: runs the first file, and writes its output at the end. Returns the stop, or the fault, which is not
+/// printed yet.
 fn run<'a, F: Storage, I: Read + Drop, W: Out>(
     alloc: Global,
     storage: &F,
@@ -62,7 +63,7 @@ fn run<'a, F: Storage, I: Read + Drop, W: Out>(
     run_machine(&mut machine, options.steps, out)
 }
 
-/// The status of a run that ended with a stop: the program's exit code, or 125.
+/// The exit status of a run that ended with this stop: the program's exit code, or 125.
 pub(crate) fn status_of_stop(stop: Stop) -> u8
     ensures { result ≡ stop_status stop }
 {
@@ -72,7 +73,7 @@ pub(crate) fn status_of_stop(stop: Stop) -> u8
     }
 }
 
-/// Reports a fault, and returns its status. If the report cannot be written, the status is the same.
+/// Prints a fault on `error`, and returns its exit status, 126, also if it cannot be printed.
 fn report_fault<E: Out>(fault: &Fault<'_>, error: &mut E) -> u8
     ensures status { result ≡ 126 }
     ensures line { Prints (fault_line fault.now) (record { bytes = E.taken error.old; failures = E.failures error.old })
@@ -82,8 +83,8 @@ fn report_fault<E: Out>(fault: &Fault<'_>, error: &mut E) -> u8
     FAULT
 }
 
-/// Reports how a run ended, unless its program exited, and returns the status. If the report cannot be written, the
-/// status is the same.
+/// Prints how a `dm run` ended, its stop (nothing for an exit) or its fault, and returns the exit status, also if that
+/// cannot be printed.
 fn report<E: Out>(outcome: Result<Stop, Fault<'_>>, error: &mut E) -> u8
     ensures status { result ≡ status_of outcome.entry }
     ensures line { Prints (outcome_text outcome.entry) (record { bytes = E.taken error.old; failures = E.failures error.old })
@@ -98,8 +99,7 @@ fn report<E: Out>(outcome: Result<Stop, Fault<'_>>, error: &mut E) -> u8
     }
 }
 
-/// Reports the fault of a checked run, if there is one, and returns the status. If the fault cannot be written, the
-/// status is the same.
+/// Prints the fault of a `dm check`, if there is one, and returns the exit status, also if it cannot be printed.
 fn concluded<E: Out>(outcome: Result<u8, Fault<'_>>, error: &mut E) -> u8
     ensures status { result ≡ check_status outcome.entry }
     ensures ok { OnOk outcome.entry (error.new ≡ error.old) }
@@ -112,8 +112,8 @@ fn concluded<E: Out>(outcome: Result<u8, Fault<'_>>, error: &mut E) -> u8
     }
 }
 
-/// Reports the fault of a command, if there is one, and returns the status. If the report cannot be written, the status
-/// is the same.
+/// Prints the fault of a `dm debug`, `dm asm` or `dm disasm`, if there is one, and returns the exit status: 0, or 126
+/// at a fault, also if it cannot be printed.
 fn told<E: Out>(outcome: Result<(), Fault<'_>>, error: &mut E) -> u8
     ensures status { result ≡ status_after (end_of outcome.entry) }
     ensures line { Reports (record { bytes = E.taken error.old; failures = E.failures error.old })

@@ -1,4 +1,4 @@
-//! `dm debug`: commands that are read from standard input, a line at a time, and their answers.
+//! `dm debug`: commands are read from standard input, a line at a time, and their answers written to standard output.
 ghost use Rattle.std.specs.Prelude.{◌≡◌, ◌<◌, ◌≤◌, ◌⊎◌, ◌↔◌, Some, None, IfErr, IfOk, IsTrue, OnOk, length};
 ghost use Rattle.std.specs.Io.BufRead.{ends_with_byte, strip_last};
 ghost use Rattle.std.specs.Io.KnownBytes.{Appends};
@@ -18,19 +18,19 @@ use dm_out::write_all;
 use std::alloc::Global;
 use std::io::{BufRead, BufReader, Read};
 
-/// What is written for a line that is no command.
+/// The answer to a line that is no command, or clears a breakpoint that is not set.
 const SYNTAX: &[u8] = b"? syntax\n";
 
-/// What is written for a seventeenth breakpoint.
+/// The answer to a line that sets a seventeenth breakpoint.
 const FULL: &[u8] = b"? full\n";
 
-/// The name of what commands are read from.
+/// The name of the stream that commands are read from, as faults have it.
 const INPUT: &str = "standard input";
 
-/// The name of the stream that answers are written to.
+/// The name of the stream that answers are written to, as faults have it.
 const OUTPUT: &str = "standard output";
 
-/// Whether a line ends the session.
+/// Whether a line ends the session: `Q` or `q` alone.
 fn is_quit(line: &[u8]) -> bool
     ensures { IsTrue result ↔ IsQuit line.now }
 {
@@ -41,7 +41,7 @@ fn is_quit(line: &[u8]) -> bool
     }
 }
 
-/// Drops the end of a line, and returns whether it had one.
+/// Removes the line feed (0Ah) at the end of a line, and returns whether there was one.
 fn drop_end(line: &mut Vec<u8>) -> bool
     ensures had { result ≡ ends_with_byte 10 line.old.items }
     ensures dropped { line.new.items ≡ strip_last 10 line.old.items }
@@ -57,9 +57,10 @@ fn drop_end(line: &mut Vec<u8>) -> bool
     true
 }
 
-/// Reads a line with its end, of at most `left` bytes. Returns how many it has: 0 where no byte is left.
+/// Reads the next line, with its line feed, into `line`, in place of what it held. Returns how many bytes it has, at
+/// most `left`: 0 if no byte is left.
 ///
-/// `CannotRead` where a read failed, `InputTooLong` where the line has more than `left` bytes, `OutOfMemory`.
+/// `CannotRead` if a read failed, `InputTooLong` if the line has more than `left` bytes, `OutOfMemory`.
 fn next_line<R: BufRead>(
     commands: &mut R,
     line: &mut Vec<u8>,
@@ -77,7 +78,7 @@ fn next_line<R: BufRead>(
     }
 }
 
-/// Writes that a line has an error.
+/// Writes the answer to a line that has an error. `CannotWrite` if a write failed; a first part may have been written.
 fn refuse<W: Out>(out: &mut W, told: &[u8]) -> Result<(), Fault<'static>>
     ensures ok { OnOk result (Appends (W.taken out.old) (W.taken out.new) told.now) }
     ensures no_failure { OnOk result (W.failures out.new ≡ W.failures out.old) }
@@ -89,7 +90,8 @@ fn refuse<W: Out>(out: &mut W, told: &[u8]) -> Result<(), Fault<'static>>
     }
 }
 
-/// Writes what a line's command prints, or which error the line has.
+/// Executes a line's command and writes what it prints, or writes which error the line has. `OutOfMemory` if an
+/// allocation failed, `CannotWrite` if a write did.
 fn answer<W: Out>(
     alloc: Global,
     session: &mut Session,
@@ -109,7 +111,8 @@ fn answer<W: Out>(
     }
 }
 
-/// Does a line's command, and flushes its answer before anything else is read.
+/// Executes a line's command as `answer` does, and flushes the output. `OutOfMemory` if an allocation failed,
+/// `CannotWrite` if a write or the flush did.
 fn answer_at_once<W: Out>(
     alloc: Global,
     session: &mut Session,
@@ -127,8 +130,8 @@ fn answer_at_once<W: Out>(
     }
 }
 
-/// Does the lines of the commands as they are read, up to their end or a line that ends the session. They may have
-/// 16 MiB in all.
+/// Executes the commands of the lines, one after the other, up to the end of the input or a line `Q`. The lines may
+/// have 16 MiB in all; more is `InputTooLong` after the answers so far. Any other fault ends the session too.
 fn converse<R: BufRead, W: Out>(
     alloc: Global,
     session: &mut Session,
@@ -154,7 +157,8 @@ fn converse<R: BufRead, W: Out>(
     Ok(())
 }
 
-/// Does the lines of a reader, through a buffer.
+/// Executes the commands that a reader gives, as `converse` does, through a buffer. `OutOfMemory` if there is no memory
+/// for the buffer.
 fn converse_with<I: Read + Drop, W: Out>(
     alloc: Global,
     session: &mut Session,
@@ -169,7 +173,8 @@ fn converse_with<I: Read + Drop, W: Out>(
     converse(alloc, session, &mut commands, out)
 }
 
-/// `dm debug`: loads the first file, and does the commands as they are read.
+/// `dm debug`: loads the first file, and executes the commands as they are read. The fault is the first one of the
+/// start, or the one that ended the session.
 pub(crate) fn debug<'a, F: Storage, I: Read + Drop, W: Out>(
     alloc: Global,
     storage: &F,

@@ -1,27 +1,43 @@
-//! What can go wrong, as it is reported on standard error.
+//! The faults of the commands of `dm`, as they are printed on standard error.
 ghost use Rattle.std.specs.Prelude.{◌≡◌};
 
 use dm_asm::AssemblyRefusal;
 use dm_machine::{AddError, LoadError, NewError};
 
-/// A fault of a command. `report_fault` prints it, and the status is 126.
+/// A fault of a command of `dm`. It is printed on standard error, and the exit status is 126.
 #[derive(Clone, Copy)]
 pub(crate) enum Fault<'a> {
+    /// A file, or standard input, of this name cannot be opened or read.
     CannotRead(&'a str),
+    /// A file, or standard output, of this name cannot be written.
     CannotWrite(&'a str),
+    /// The store has no program of the first file's name.
     NotFound,
+    /// The first file is neither a COM file of at most 65,278 bytes nor a good MZ file.
     BadFormat,
+    /// Conventional memory has no room for the first program.
     Short,
+    /// `--ems` is over 512, or `--xms` is over 15360.
     TooLarge,
+    /// The command tail has more than 126 bytes.
     TailTooLong,
+    /// A file's name has more than 64 bytes.
     NameTooLong,
+    /// Two files have the same name, ASCII case ignored.
     NameTwice,
+    /// A file, or standard input, has more than 16 MiB.
     InputTooLong,
+    /// The program that is assembled or disassembled has more than 65,278 bytes.
     TooLong,
+    /// This line of an assembly text is no statement.
     Syntax(usize),
+    /// This line of an assembly text names a label that no line has.
     Unknown(usize),
+    /// A number, a label or a target on this line of an assembly text is out of range.
     Range(usize),
+    /// This line of an assembly text has the label of a line before it.
     Twice(usize),
+    /// An allocation failed.
     OutOfMemory,
 }
 

@@ -84,7 +84,8 @@ impl<R: Files> Storage for System<'_, R> {
     }
 }
 
-/// The fault of an input that was not opened or not read.
+/// The fault for an input of this name that could not be opened or read: `OutOfMemory`, or `CannotRead` for any other
+/// error.
 pub(crate) fn read_fault<'a>(error: &io::Error, name: &'a str) -> Fault<'a>
     ensures { IsUnread name.now result ⊎ (result ≡ Fault.OutOfMemory) }
 {
@@ -94,7 +95,7 @@ pub(crate) fn read_fault<'a>(error: &io::Error, name: &'a str) -> Fault<'a>
     }
 }
 
-/// The fault of what was not written.
+/// The fault for a file of this name that could not be written: `OutOfMemory`, or `CannotWrite` for any other error.
 pub(crate) fn write_fault<'a>(error: &io::Error, name: &'a str) -> Fault<'a>
     ensures { IsUnwritten name.now result ⊎ (result ≡ Fault.OutOfMemory) }
 {
@@ -104,9 +105,9 @@ pub(crate) fn write_fault<'a>(error: &io::Error, name: &'a str) -> Fault<'a>
     }
 }
 
-/// All bytes up to the reader's end, of which there may be 16 MiB. It reads no more than one byte past those.
+/// All bytes of a reader up to its end, at most 16 MiB. It reads no more than one byte past those.
 ///
-/// `CannotRead` with the input's name where a read failed, `InputTooLong` where there are more bytes, `OutOfMemory`.
+/// `CannotRead` with the input's name if a read failed, `InputTooLong` if there are more bytes, `OutOfMemory`.
 pub(crate) fn read_whole<'a, R: Read + Drop>(
     alloc: Global,
     reader: R,
@@ -124,7 +125,9 @@ pub(crate) fn read_whole<'a, R: Read + Drop>(
     }
 }
 
-/// All bytes of the file at `path`, of which there may be 16 MiB.
+/// All bytes of the file at `path`, at most 16 MiB.
+///
+/// `CannotRead` if it could not be opened or read, `InputTooLong` if there are more bytes, `OutOfMemory`.
 pub(crate) fn read_file<'a, F: Storage>(
     alloc: Global,
     storage: &F,

@@ -1,4 +1,4 @@
-//! The machine that a command begins with.
+//! The machine that `dm run`, `dm check` and `dm debug` begin with, with the first file loaded.
 ghost use Rattle.std.specs.Prelude.{◌≡◌, Some, IfErr, IfOk, IsSomeAnd, OnOk, codes, map, option_map};
 ghost use Rattle.dm_cli.specs.inner.Starting.{IsFirstFault, IsFirstLoaded};
 ghost use Rattle.dm_cli.specs.Starting.{IsFileFault, IsMachineFault, IsStartFault, IsStartedBy, paths_of, sizes_of, typed_in};
@@ -16,7 +16,7 @@ use std::io::Read;
 /// The most bytes of a command tail.
 const MOST_TAIL_BYTES: usize = 126;
 
-/// Adds the file at `path` to the store, under the last part of its path.
+/// Reads the file at `path` and adds it to the store, under the last part of its path. On a fault, nothing is added.
 fn add_file<'a, F: Storage>(
     alloc: Global,
     storage: &F,
@@ -37,7 +37,7 @@ fn add_file<'a, F: Storage>(
     }
 }
 
-/// The store of the files at `paths`, each under the last part of its path.
+/// A store of the files at `paths`, each under the last part of its path; or the first fault of a file, in their order.
 fn read_programs<'a, F: Storage>(
     alloc: Global,
     storage: &F,
@@ -53,7 +53,8 @@ fn read_programs<'a, F: Storage>(
     Ok(programs)
 }
 
-/// Loads the first file, with the tail.
+/// Loads the first file into a new machine, with the command tail. `TailTooLong`, or a fault of the load; then the
+/// machine stays.
 fn load_first<'a>(machine: &mut Machine, options: &MachineOptions<'a>) -> Result<(), Fault<'a>>
     requires fresh { machine.old.processes.present ≡ 0 }
     ensures ok { OnOk result (IsFirstLoaded machine.old (paths_of options.now) options.now.tail.now machine.new) }
@@ -69,7 +70,8 @@ fn load_first<'a>(machine: &mut Machine, options: &MachineOptions<'a>) -> Result
     Ok(())
 }
 
-/// A machine over a store and an input, with the first file loaded.
+/// A new machine over a store of programs and a console input, with the first file loaded; or the first fault of the
+/// options or of the load.
 fn begun<'a>(
     alloc: Global,
     options: &MachineOptions<'a>,
@@ -93,7 +95,8 @@ fn begun<'a>(
     Ok(machine)
 }
 
-/// A machine with the first file loaded, whose console reads what is typed.
+/// The machine of `dm run` and `dm check`, with the first file loaded; its console input is all of `input`. Or the
+/// first fault: of the files, of the input, of the machine.
 pub(crate) fn loaded<'a, F: Storage, I: Read + Drop>(
     alloc: Global,
     storage: &F,
@@ -109,7 +112,7 @@ pub(crate) fn loaded<'a, F: Storage, I: Read + Drop>(
     begun(alloc, options, programs, input)
 }
 
-/// The bytes of a file that may be left out.
+/// The bytes of the file at `path`; none for None.
 fn read_if_any<'a, F: Storage>(
     alloc: Global,
     storage: &F,
@@ -125,7 +128,8 @@ fn read_if_any<'a, F: Storage>(
     }
 }
 
-/// A machine with the first file loaded, whose console reads the file of its input, if there is one.
+/// The machine of `dm debug`, with the first file loaded; its console input is the file of `--input`, if there is one.
+/// Or the first fault: of the files, of the input, of the machine.
 pub(crate) fn loaded_for_debug<'a, F: Storage>(
     alloc: Global,
     storage: &F,

@@ -10,13 +10,14 @@ use itoa::Buffer;
 use std::io;
 use std::io::{ErrorKind, Write};
 
-/// A writer of messages, for `write!`.
+/// A standard writer over an `Out`, so that `write!` can print `clap`'s text.
 #[derive(Drop)]
 pub(crate) struct Messages<'a, E: Out> {
     out: &'a mut E,
 }
 
 impl<'a, E: Out> Messages<'a, E> {
+    /// A writer over `out`.
     pub(crate) fn new(out: &'a mut E) -> Messages<'a, E> {
         Messages { out }
     }
@@ -38,7 +39,7 @@ impl<E: Out> Write for Messages<'_, E> {
     }
 }
 
-/// The line about a stop; an exit has none.
+/// The line about a stop, as `dm run` and `dm check` print it; empty for an exit.
 pub(crate) fn stop_line(stop: Stop) -> &'static [u8]
     ensures { result.now ≡ stop_text stop }
 {
@@ -53,7 +54,7 @@ pub(crate) fn stop_line(stop: Stop) -> &'static [u8]
     }
 }
 
-/// Prints three texts, one after the other. If a write fails, the rest of them is lost.
+/// Prints three texts on `error`, one after the other. If a write fails, the rest of them is lost.
 fn print_each<E: Out>(error: &mut E, first: &[u8], second: &[u8], third: &[u8])
     ensures { Prints (first.now ++ second.now ++ third.now) (record { bytes = E.taken error.old; failures = E.failures error.old })
         (record { bytes = E.taken error.new; failures = E.failures error.new }) }
@@ -67,7 +68,8 @@ fn print_each<E: Out>(error: &mut E, first: &[u8], second: &[u8], third: &[u8])
     print(error, third);
 }
 
-/// Prints a fault of a line of a text.
+/// Prints a fault of a line of an assembly text on `error`; `fault` is the rest of its line. If a write fails, the rest
+/// is lost.
 fn print_line_fault<E: Out>(error: &mut E, line: usize, fault: &[u8])
     ensures { Prints (codes "dm: line " ++ decimal line ++ fault.now) (record { bytes = E.taken error.old; failures = E.failures error.old })
         (record { bytes = E.taken error.new; failures = E.failures error.new }) }
@@ -76,7 +78,7 @@ fn print_line_fault<E: Out>(error: &mut E, line: usize, fault: &[u8])
     print_each(error, b"dm: line ", digits.format(line).as_bytes(), fault);
 }
 
-/// Prints a fault, after `dm: `. If a write fails, the rest of the line is lost.
+/// Prints the line of a fault on `error`, which begins with `dm: `. If a write fails, the rest of the line is lost.
 pub(crate) fn print_fault<E: Out>(fault: &Fault<'_>, error: &mut E)
     ensures { Prints (fault_line fault.now) (record { bytes = E.taken error.old; failures = E.failures error.old })
         (record { bytes = E.taken error.new; failures = E.failures error.new }) }
@@ -101,7 +103,7 @@ pub(crate) fn print_fault<E: Out>(fault: &Fault<'_>, error: &mut E)
     }
 }
 
-/// Prints a text. If a write fails, the rest of the text is lost.
+/// Prints a text on `error`. If a write fails, the rest of the text is lost.
 pub(crate) fn print<E: Out>(error: &mut E, text: &[u8])
     ensures { Prints text.now (record { bytes = E.taken error.old; failures = E.failures error.old })
         (record { bytes = E.taken error.new; failures = E.failures error.new }) }

@@ -1,4 +1,4 @@
-//! The names of programs in the store.
+//! The names that files have as programs in the store.
 ghost use Rattle.std.specs.Prelude.{◌≡◌, ◌↔◌, IsOk, IfErr, IfOk, IsTrue};
 ghost use Rattle.dm_proc.specs.Programs.{IsName};
 ghost use Rattle.dm_cli.specs.Names.{IsFileName, last_part};
@@ -31,9 +31,9 @@ pub(crate) fn names_file(path: &str) -> bool
     !name.is_empty() && !name.contains(&0)
 }
 
-/// The name in the store of the file at `path`: the last part of the path.
+/// The name that the file at `path` has in the store: the last part of the path.
 ///
-/// `CannotRead` where that is no file's name, `NameTooLong` where it has more than 64 bytes.
+/// `CannotRead` if that part can name no file, `NameTooLong` if it has more than 64 bytes.
 pub(crate) fn program_name<'a>(path: &'a str) -> Result<&'a [u8], Fault<'a>>
     ensures name { IfOk result (λ name. (name.now ≡ last_part path.now) × IsName name.now) }
     ensures good { IsName (last_part path.now) → IsOk result }

@@ -1,4 +1,4 @@
-//! Running a program and writing what it put out.
+//! Running a program and writing its output.
 ghost use Rattle.std.specs.Prelude.{◌≡◌, IfOk, OnErr, OnOk};
 ghost use Rattle.std.specs.Io.KnownBytes.{Appends};
 ghost use Rattle.dm_out.specs.Out.{AppendsPart, HasFailed};
@@ -10,18 +10,17 @@ use dm_machine::{Machine, Out, Stop};
 use dm_out::write_all;
 use thiserror::Error;
 
-/// The output was not written whole, for a write failed or took nothing.
+/// The output was not written whole, because a write failed or took no byte.
 #[derive(Clone, Copy, Debug, PartialEq, Eq, Error)]
 #[error("a write failed")]
 pub struct WriteFault;
 
-/// Makes up to `steps` steps, and then writes the machine's whole output as it then stands, also at a stop that is no
-/// exit. Returns the stop. A program is loaded.
+/// Makes at most `steps` steps, and then writes the machine's whole output so far, whatever the stop. Returns the stop.
+/// A program must be loaded.
 ///
 /// # Errors
 ///
-/// `WriteFault` where a write failed or took nothing. The run's steps stand, and a first part of the output was
-/// written.
+/// `WriteFault` if a write failed or took no byte. The run's steps stand, and a first part of the output was written.
 pub fn run_program<W: Out>(
     machine: &mut Machine,
     steps: u64,

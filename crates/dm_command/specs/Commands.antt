@@ -1,6 +1,6 @@
--- The command of a line.
--- Source: MS-DOS User's Reference, "DEBUG" (D, E, G, R, T, U); the others, the bounds and what is taken for numbers
--- that are left out are this machine's own.
+-- The debugger command that a typed line asks for.
+-- Source: MS-DOS User's Reference, "DEBUG" (D, E, G, R, T, U); the other commands, the bounds, and the defaults for
+-- numbers that are left out are this machine's own.
 use Rattle.std.specs.Prelude.{ℕ, List, [], ◌∷◌, Option, Some, None}
 use Rattle.dm_command.specs.declared.command.LogicalAddress.{LogicalAddress}
 use Rattle.dm_command.specs.declared.command.Command.{Command}
@@ -11,7 +11,7 @@ use Rattle.dm_command.specs.Words.{words_of}
 use Rattle.dm_command.specs.Numbers.{◌>>=◌, number_of, up_to, logical_address, bytes_from_digits}
 use Rattle.dm_command.specs.Names.{name_of}
 
--- a name alone
+-- the command of a line with a name and nothing after it, with defaults for the numbers of G and T
 abbrev pub alone : CommandName → Option Command
 alone name.Registers = Some command.Registers
 alone name.Arena = Some command.Arena
@@ -23,7 +23,7 @@ alone name.Breakpoints = Some command.Breakpoints
 alone name.Output = Some command.Output
 alone _ = None
 
--- a name and one word
+-- the command of a line with a name and one word after it, with defaults for the counts of U and D
 abbrev pub with_one : CommandName → List ℕ → Option Command
 with_one name.Unassemble w = do
   a ← logical_address w
@@ -45,7 +45,7 @@ with_one name.Clear w = do
   Some (command.Clear a)
 with_one _ w = None
 
--- a name, an address and one more word
+-- the command of a line with a name (U, D or E), an address and one more word
 abbrev pub at_address : CommandName → LogicalAddress → List ℕ → Option Command
 at_address name.Unassemble a w = do
   n ← up_to 0x1000 (number_of w)
@@ -58,26 +58,26 @@ at_address name.Enter a w = do
   Some (command.Enter a bytes)
 at_address _ a w = None
 
--- a name and two words, the first an address
+-- the command of a line with a name and two words after it, of which the first is an address
 abbrev pub with_two : CommandName → List ℕ → List ℕ → Option Command
 with_two n v w = do
   a ← logical_address v
   at_address n a w
 
--- the command of a name and the words after it, if there is one
+-- the command of a line with this name and these words after it; None if there is none
 abbrev pub command_named : CommandName → List (List ℕ) → Option Command
 command_named n [] = alone n
 command_named n (v ∷ []) = with_one n v
 command_named n (v ∷ w ∷ []) = with_two n v w
 command_named n _ = None
 
--- the command of a line's words, the first its name
+-- the command of a line with these words, of which the first is the name; None if there is none
 abbrev pub of_words : List (List ℕ) → Option Command
 of_words [] = None
 of_words (w ∷ ws) = do
   n ← name_of w
   command_named n ws
 
--- the command that a line asks for, if it asks for one
+-- the command that a typed line asks for; None if it is no command
 abbrev pub command_of : List ℕ → Option Command
 command_of line = of_words (words_of line)

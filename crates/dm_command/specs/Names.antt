@@ -4,11 +4,11 @@ use Rattle.std.specs.Prelude.{ℕ, ◌-◌, ◌&&◌, ◌==◌, nat_le, if◌the
 use Rattle.dm_command.specs.declared.names.CommandName.{CommandName}
 use Rattle.dm_command.specs.declared.names.CommandName.TheVariants.{Registers, Unassemble, Dump, Arena, Pages, Extended, Go, Trace, Break, Clear, Breakpoints, Enter, Output}
 
--- a small letter as a capital one; any other byte as it is
+-- an ASCII letter a to z in upper case; any other byte as it is
 abbrev pub uppercase : ℕ → ℕ
 uppercase b = if nat_le 97 b && nat_le b 122 then b - 32 else b
 
--- the commands of one letter, in ASCII: B, D, E, G, M, O, P, R, T, U and X
+-- the command with this letter, in upper case, as its name: B, D, E, G, M, O, P, R, T, U or X
 abbrev pub letter_name : ℕ → Option CommandName
 letter_name b =
     if b == 66 then Some Break
@@ -24,12 +24,12 @@ letter_name b =
     else if b == 88 then Some Extended
     else None
 
--- BC and BL
+-- the command with these two letters, in upper case, as its name: BC or BL
 abbrev pub pair_name : ℕ → ℕ → Option CommandName
 pair_name a b =
     if a == 66 then (if b == 67 then Some Clear else if b == 76 then Some Breakpoints else None) else None
 
--- the command that a word names, in either case
+-- the command that a word names, in either case; None if it names none
 abbrev pub name_of : List ℕ → Option CommandName
 name_of (a ∷ []) = letter_name (uppercase a)
 name_of (a ∷ b ∷ []) = pair_name (uppercase a) (uppercase b)

@@ -1,12 +1,12 @@
--- The words of a line: what stands between spaces. Spaces may be many, and stand at the ends too.
+-- The words of a typed line: what stands between spaces. There may be several spaces, at the ends too.
 use Rattle.std.specs.Prelude.{ℕ, ◌==◌, if◌then◌else◌, List, [], ◌∷◌, ◌++◌}
 
--- the word that ends here, if one was begun
+-- the list of the one word whose letters came so far; no word if there are none
 abbrev pub ended : List ℕ → List (List ℕ)
 ended [] = []
 ended (b ∷ w) = (b ∷ w) ∷ []
 
--- the words of what is left of a line, after the first letters of a word
+-- the words of the rest of a line, where the letters w of a word came just before it
 abbrev pub words_behind : List ℕ → List ℕ → List (List ℕ)
 words_behind w [] = ended w
 words_behind w (b ∷ bs) = if b == 32 then ended w ++ words_behind [] bs else words_behind (w ++ b ∷ []) bs

@@ -1,18 +1,18 @@
-//! What a debugger can be asked for.
+//! The commands of a debugger, with what follows their names.
 
 ghost use Rattle.std.specs.Prelude.{◌≡◌, ◌≤◌, length};
 
 use arrayvec::ArrayVec;
 use std::marker::Model;
 
-/// A segment and an offset in it.
+/// A segment and an offset.
 #[derive(Clone, Copy, Debug, PartialEq, Eq)]
 pub struct LogicalAddress {
     pub segment: u16,
     pub offset: u16,
 }
 
-/// At most 64 bytes, as they are typed. Contracts see the list of them.
+/// The bytes that E writes: at most 64. Contracts see the list of them.
 #[derive(Drop)]
 pub struct Bytes {
     bytes: ArrayVec<u8, 64>,
@@ -27,7 +27,7 @@ impl Model for Bytes {
 }
 
 impl Bytes {
-    /// Bytes that are at most 64.
+    /// Takes a copy of `bytes`, which are at most 64.
     pub(crate) fn new(bytes: &[u8]) -> Bytes
         requires { length bytes.now ≤ 64 }
         ensures { result ≡ bytes.now }
@@ -47,33 +47,33 @@ impl Bytes {
     }
 }
 
-/// A command.
+/// A command of the debugger.
 #[derive(Drop)]
 pub enum Command {
-    /// R: the registers, and the instruction at CS:IP.
+    /// R: lists the registers, and the instruction at CS:IP.
     Registers,
-    /// U: so many instructions from an address on, at most 1000h.
+    /// U: lists so many instructions from an address on, at most 1000h.
     Unassemble(LogicalAddress, u16),
-    /// D: so many bytes from an address on, at most 10000h.
+    /// D: lists so many bytes from an address on, at most 10000h.
     Dump(LogicalAddress, u32),
-    /// M: the headers of the arena.
+    /// M: lists the headers of the arena.
     Arena,
-    /// P: the handles of expanded memory, and the windows.
+    /// P: lists the handles of expanded memory, and what the windows show.
     Pages,
-    /// X: the blocks of extended memory, the upper memory blocks, A20 and the high memory area.
+    /// X: lists the blocks of extended memory, the upper memory blocks, A20 and the high memory area.
     Extended,
-    /// G: at most so many steps, up to a breakpoint or a stop.
+    /// G: makes at most so many steps, up to a breakpoint or a stop.
     Go(u32),
-    /// T: so many steps, at most 1000h, and the registers after each.
+    /// T: makes so many steps, at most 1000h, and lists the registers after each.
     Trace(u16),
-    /// B: a breakpoint is set.
+    /// B: sets a breakpoint.
     Break(LogicalAddress),
-    /// BC: a breakpoint is cleared.
+    /// BC: clears a breakpoint.
     Clear(LogicalAddress),
-    /// BL: the breakpoints.
+    /// BL: lists the breakpoints.
     Breakpoints,
-    /// E: bytes are written from an address on, 1 to 64 of them.
+    /// E: writes 1 to 64 bytes from an address on.
     Enter(LogicalAddress, Bytes),
-    /// O: what the console wrote.
+    /// O: shows all that the console has written.
     Output,
 }

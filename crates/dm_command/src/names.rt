@@ -1,9 +1,9 @@
-//! The names of commands: one letter or two.
+//! The names of debugger commands: one letter or two, in either case.
 
 ghost use Rattle.std.specs.Prelude.{◌≡◌};
 ghost use Rattle.dm_command.specs.Names.{uppercase, letter_name, pair_name, name_of};
 
-/// The name of a command.
+/// A debugger command, known by its name alone: what follows the name is in `Command`.
 #[derive(Clone, Copy, Debug, PartialEq, Eq)]
 pub(crate) enum CommandName {
     Registers,
@@ -21,7 +21,7 @@ pub(crate) enum CommandName {
     Output,
 }
 
-/// A letter in upper case; any other byte as it is.
+/// A letter a to z in upper case; any other byte as it is.
 fn upper_byte(byte: u8) -> u8
     ensures { result ≡ uppercase byte }
 {
@@ -32,7 +32,7 @@ fn upper_byte(byte: u8) -> u8
     }
 }
 
-/// The name of one letter.
+/// The command with a name of one letter, in upper case; None if there is none.
 fn of_letter(letter: u8) -> Option<CommandName>
     ensures { result ≡ letter_name letter }
 {
@@ -52,7 +52,7 @@ fn of_letter(letter: u8) -> Option<CommandName>
     }
 }
 
-/// The name of two letters.
+/// The command with a name of two letters, in upper case: BC or BL. None for any other.
 fn of_letters(first: u8, second: u8) -> Option<CommandName>
     ensures { result ≡ pair_name first second }
 {
@@ -66,7 +66,7 @@ fn of_letters(first: u8, second: u8) -> Option<CommandName>
     }
 }
 
-/// The name that a word is, if it is one.
+/// The command that a word names, in either case; None if it names none.
 pub(crate) fn read_name(word: &[u8]) -> Option<CommandName>
     ensures { result ≡ name_of word.now }
 {

@@ -1,4 +1,4 @@
-//! Numbers, addresses and bytes as they are typed: all digits are hexadecimal.
+//! Reading numbers, addresses and bytes as they are typed: all digits are hexadecimal.
 
 ghost use Rattle.std.specs.Prelude.{◌≡◌, ◌<◌, ◌≤◌, [], IfSome, option_map};
 ghost use Rattle.hex.specs.Hex.{hex_digit_value};
@@ -9,10 +9,10 @@ use crate::command::{Bytes, LogicalAddress};
 /// The most digits of a number.
 const DIGITS: usize = 8;
 
-/// The most bytes that are typed in a row.
+/// The most bytes that one E writes.
 const BYTES: usize = 64;
 
-/// What a digit stands for, in either case.
+/// The value of a hexadecimal digit, in either case; None for any other byte.
 fn digit(byte: u8) -> Option<u8>
     ensures value { result ≡ hex_digit_value byte }
     ensures small { IfSome result (λ d. d < 16) }
@@ -25,7 +25,7 @@ fn digit(byte: u8) -> Option<u8>
     }
 }
 
-/// A number of one to eight digits.
+/// The number that a word of one to eight hexadecimal digits spells; None for any other word.
 #[tactic(auto, unfolding(crate::specs::Numbers::number_of))]
 pub(crate) fn read_number(word: &[u8]) -> Option<u32>
     ensures { result ≡ number_of word.now }
@@ -40,7 +40,7 @@ pub(crate) fn read_number(word: &[u8]) -> Option<u32>
     Some(n)
 }
 
-/// A number of at most so many.
+/// The number that a word spells, if it is at most `most`; otherwise None.
 pub(crate) fn read_up_to(word: &[u8], most: u32) -> Option<u32>
     ensures value { result ≡ up_to most (number_of word.now) }
     ensures few { IfSome result (λ n. n ≤ most) }
@@ -49,7 +49,7 @@ pub(crate) fn read_up_to(word: &[u8], most: u32) -> Option<u32>
     if n <= most { Some(n) } else { None }
 }
 
-/// A number of at most FFFFh.
+/// The number that a word spells, if it is at most FFFFh; otherwise None.
 fn read_word(word: &[u8]) -> Option<u16>
     ensures { result ≡ word_from_digits word.now }
 {
@@ -57,7 +57,7 @@ fn read_word(word: &[u8]) -> Option<u16>
     Some(n as u16)
 }
 
-/// What stands before the first colon, and what stands after it.
+/// The bytes of a word before its first colon, and those after it; None if it has no colon.
 fn parts(word: &[u8]) -> Option<(&[u8], &[u8])>
     ensures { option_map (λ x. (x.0.now, x.1.now)) result ≡ parts_of [] word.now }
 {
@@ -70,7 +70,8 @@ fn parts(word: &[u8]) -> Option<(&[u8], &[u8])>
     None
 }
 
-/// A segment and an offset, with a colon between them.
+/// The address that a word spells: a segment and an offset, each at most FFFFh, with a colon between them. None for any
+/// other word.
 pub(crate) fn read_address(word: &[u8]) -> Option<LogicalAddress>
     ensures { result ≡ logical_address word.now }
 {
@@ -80,7 +81,7 @@ pub(crate) fn read_address(word: &[u8]) -> Option<LogicalAddress>
     Some(LogicalAddress { segment, offset })
 }
 
-/// One to 64 bytes, each two digits, with nothing between them.
+/// The 1 to 64 bytes that a word spells, each as two digits, with nothing between them; None for any other word.
 #[tactic(auto, unfolding(crate::specs::Numbers::bytes_from_digits))]
 pub(crate) fn read_bytes(word: &[u8]) -> Option<Bytes>
     ensures { result ≡ bytes_from_digits word.now }

@@ -1,4 +1,4 @@
-//! From a line to its command.
+//! Reading a typed line as a debugger command.
 
 ghost use Rattle.std.specs.Prelude.{◌≡◌};
 ghost use Rattle.dm_command.specs.Commands.{alone, with_one, with_two, command_of};
@@ -8,13 +8,14 @@ use crate::names::{CommandName, read_name};
 use crate::numbers::{read_address, read_bytes, read_number, read_up_to};
 use crate::words::next_word;
 
-/// The most instructions that are listed, and the most steps that are traced.
+/// The most instructions that one U lists, and the most steps that one T makes.
 const MOST_LINES: u32 = 0x1000;
 
-/// The most bytes that are listed.
+/// The most bytes that one D lists.
 const MOST_BYTES: u32 = 0x1_0000;
 
-/// A command with nothing after its name.
+/// The command of a line with a name and nothing after it, with defaults for the numbers of G and T; None if the name
+/// needs more.
 fn alone(name: CommandName) -> Option<Command>
     ensures { result ≡ alone name }
 {
@@ -31,7 +32,8 @@ fn alone(name: CommandName) -> Option<Command>
     }
 }
 
-/// A command with one word after its name.
+/// The command of a line with a name and one word after it, with a default for the count of U and D; None if there is
+/// no such command.
 fn with_one(name: CommandName, word: &[u8]) -> Option<Command>
     ensures { result ≡ with_one name word.now }
 {
@@ -46,7 +48,7 @@ fn with_one(name: CommandName, word: &[u8]) -> Option<Command>
     }
 }
 
-/// A command with two words after its name.
+/// The command of a line with a name (U, D or E), an address and one more word; None if there is no such command.
 fn with_two(name: CommandName, first: &[u8], second: &[u8]) -> Option<Command>
     ensures { result ≡ with_two name first.now second.now }
 {
@@ -68,12 +70,12 @@ fn with_two(name: CommandName, first: &[u8], second: &[u8]) -> Option<Command>
     }
 }
 
-/// The command that a line asks for, without its line end; None where it asks for none.
+/// The command that a line asks for (the line comes without its line end); None if it is no command.
 ///
-/// Words are parted by spaces, which may be many and stand at the ends too. Letters are in either case, and numbers are
-/// hexadecimal with one to eight digits. Segments and offsets are at most FFFFh, instructions and traced steps at most
-/// 1000h, listed bytes at most 10000h. The bytes of E are one word of 1 to 64 pairs of digits. Where a number may be
-/// left out, it is 8 for U, 80h for D, FFFFFFh for G and 1 for T.
+/// Words are separated by spaces, of which there may be several, at the ends too. Letters are in either case, and
+/// numbers are hexadecimal with one to eight digits. Segments and offsets are at most FFFFh, listed instructions and
+/// traced steps at most 1000h, listed bytes at most 10000h. The bytes of E are one word of 1 to 64 pairs of digits. A
+/// number that is left out is 8 for U, 80h for D, FFFFFFh for G and 1 for T.
 pub fn read_command(line: &[u8]) -> Option<Command>
     ensures { result ≡ command_of line.now }
 {

@@ -1,12 +1,12 @@
-//! Input that is read byte by byte, and output.
+//! The console: input that is read byte by byte, and output that is kept in memory.
 ghost use Rattle.std.specs.Prelude.{◌≡◌, ◌+◌, ◌-◌, ◌≤◌, ◌<◌, ◌++◌, [], ◌∷◌, IsOk, OnOk, OnErr, drop, length, max, slice_get, vec_len, vec_capacity};
 ghost use Rattle.dm_console.specs.Streams.{Streams};
 
 use std::alloc::{AllocError, Global};
 use std::marker::Model;
 
-/// The input that is left and the output so far. The *room* is how many more bytes go out without
-/// memory.
+/// The input that is left, and all output so far. The *room* is how many more bytes can be written
+/// without an allocation.
 #[derive(Drop)]
 pub struct Console {
     input: Vec<u8>,
@@ -24,7 +24,7 @@ impl Model for Console {
 }
 
 impl Console {
-    /// A console with this input, no output and no room. It takes no memory.
+    /// A console with this input, no output and no room. It allocates no memory.
     pub fn new(alloc: Global, input: Vec<u8>) -> Console
         ensures { result ≡ record { input = input.items; output = []; room = 0 } }
     {
@@ -36,10 +36,10 @@ impl Console {
         }
     }
 
-    /// Makes the room the larger of the room and `bytes`. It takes no memory where the room is
+    /// Makes the room at least `bytes`; larger room stays. It allocates nothing where the room is
     /// large enough already.
     ///
-    /// An `Err` says that memory was refused, and that nothing has changed.
+    /// An `Err` says that the allocation failed, and that nothing has changed.
     pub fn reserve(&mut self, bytes: usize) -> Result<(), AllocError>
         ensures ok { OnOk result (self.new ≡ record self.old { room = max self.old.room bytes }) }
         ensures err { OnErr result (self.new ≡ self.old) }
@@ -52,14 +52,14 @@ impl Console {
         Ok(())
     }
 
-    /// How many more bytes go out without memory.
+    /// How many more bytes can be written without an allocation.
     pub fn room(&self) -> usize
         ensures { result ≡ self.now.room }
     {
         self.room
     }
 
-    /// Writes a byte. It takes one byte of the room, and no memory.
+    /// Appends a byte to the output. It uses one byte of the room, and allocates nothing.
     pub fn put(&mut self, byte: u8)
         requires { 0 < self.old.room }
         ensures { self.new ≡ record self.old { output = self.old.output ++ byte ∷ []; room = self.old.room - 1 } }
@@ -68,7 +68,7 @@ impl Console {
         self.room -= 1;
     }
 
-    /// Takes the next byte of the input, if any is left.
+    /// Reads the next byte of the input; None at its end. The output stays.
     pub fn next(&mut self) -> Option<u8>
         ensures byte { result ≡ slice_get self.old.input 0 }
         ensures after { self.new ≡ record self.old { input = drop 1 self.old.input } }
@@ -85,7 +85,8 @@ impl Console {
         &self.input.as_slice()[self.taken..]
     }
 
-    /// Takes the next `count` bytes of the input. As many are left.
+    /// Skips the next `count` bytes of the input, which has at least that many left. The output
+    /// stays.
     pub fn consume(&mut self, count: usize)
         requires { count ≤ length self.old.input }
         ensures { self.new ≡ record self.old { input = drop count self.old.input } }
@@ -100,7 +101,7 @@ impl Console {
         self.input.len() - self.taken
     }
 
-    /// All that was written.
+    /// All output so far.
     pub fn output(&self) -> &[u8]
         ensures { result.now ≡ self.now.output }
     {

@@ -1,4 +1,5 @@
-//! The console of a machine: redirected byte streams, and room for output that is made beforehand.
+//! The console of a machine: redirected byte streams, and room for output that is reserved in
+//! advance.
 #![tactic(auto)]
 
 mod console;

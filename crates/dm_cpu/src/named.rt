@@ -6,7 +6,7 @@ use crate::registers::Registers;
 use dm_ins::WordRegister;
 
 impl Registers {
-    /// AX.
+    /// The value of AX.
     #[inline(always)]
     #[tactic(auto, unfolding(crate::specs::Cpu::word_of))]
     pub fn ax(&self) -> u16
@@ -15,7 +15,7 @@ impl Registers {
         self.word(WordRegister::Ax)
     }
 
-    /// Another AX.
+    /// Sets AX.
     #[inline(always)]
     #[tactic(auto, unfolding(crate::specs::Cpu::with_word))]
     pub fn set_ax(&mut self, value: u16)
@@ -24,7 +24,7 @@ impl Registers {
         self.set_word(WordRegister::Ax, value);
     }
 
-    /// CX.
+    /// The value of CX.
     #[inline(always)]
     #[tactic(auto, unfolding(crate::specs::Cpu::word_of))]
     pub fn cx(&self) -> u16
@@ -33,7 +33,7 @@ impl Registers {
         self.word(WordRegister::Cx)
     }
 
-    /// Another CX.
+    /// Sets CX.
     #[inline(always)]
     #[tactic(auto, unfolding(crate::specs::Cpu::with_word))]
     pub fn set_cx(&mut self, value: u16)
@@ -42,7 +42,7 @@ impl Registers {
         self.set_word(WordRegister::Cx, value);
     }
 
-    /// DX.
+    /// The value of DX.
     #[inline(always)]
     #[tactic(auto, unfolding(crate::specs::Cpu::word_of))]
     pub fn dx(&self) -> u16
@@ -51,7 +51,7 @@ impl Registers {
         self.word(WordRegister::Dx)
     }
 
-    /// Another DX.
+    /// Sets DX.
     #[inline(always)]
     #[tactic(auto, unfolding(crate::specs::Cpu::with_word))]
     pub fn set_dx(&mut self, value: u16)
@@ -60,7 +60,7 @@ impl Registers {
         self.set_word(WordRegister::Dx, value);
     }
 
-    /// SP.
+    /// The value of SP.
     #[inline(always)]
     #[tactic(auto, unfolding(crate::specs::Cpu::word_of))]
     pub fn sp(&self) -> u16
@@ -69,7 +69,7 @@ impl Registers {
         self.word(WordRegister::Sp)
     }
 
-    /// Another SP.
+    /// Sets SP.
     #[inline(always)]
     #[tactic(auto, unfolding(crate::specs::Cpu::with_word))]
     pub fn set_sp(&mut self, value: u16)
@@ -78,7 +78,7 @@ impl Registers {
         self.set_word(WordRegister::Sp, value);
     }
 
-    /// SI.
+    /// The value of SI.
     #[inline(always)]
     #[tactic(auto, unfolding(crate::specs::Cpu::word_of))]
     pub fn si(&self) -> u16
@@ -87,7 +87,7 @@ impl Registers {
         self.word(WordRegister::Si)
     }
 
-    /// Another SI.
+    /// Sets SI.
     #[inline(always)]
     #[tactic(auto, unfolding(crate::specs::Cpu::with_word))]
     pub fn set_si(&mut self, value: u16)
@@ -96,7 +96,7 @@ impl Registers {
         self.set_word(WordRegister::Si, value);
     }
 
-    /// DI.
+    /// The value of DI.
     #[inline(always)]
     #[tactic(auto, unfolding(crate::specs::Cpu::word_of))]
     pub fn di(&self) -> u16
@@ -105,7 +105,7 @@ impl Registers {
         self.word(WordRegister::Di)
     }
 
-    /// Another DI.
+    /// Sets DI.
     #[inline(always)]
     #[tactic(auto, unfolding(crate::specs::Cpu::with_word))]
     pub fn set_di(&mut self, value: u16)
@@ -114,7 +114,7 @@ impl Registers {
         self.set_word(WordRegister::Di, value);
     }
 
-    /// ES.
+    /// The value of ES.
     #[inline(always)]
     pub fn es(&self) -> u16
         ensures { result ≡ self.now.es }
@@ -122,7 +122,7 @@ impl Registers {
         self.segments[0]
     }
 
-    /// CS.
+    /// The value of CS.
     #[inline(always)]
     pub fn cs(&self) -> u16
         ensures { result ≡ self.now.cs }
@@ -130,7 +130,7 @@ impl Registers {
         self.segments[1]
     }
 
-    /// SS.
+    /// The value of SS.
     #[inline(always)]
     pub fn ss(&self) -> u16
         ensures { result ≡ self.now.ss }
@@ -138,7 +138,7 @@ impl Registers {
         self.segments[2]
     }
 
-    /// DS.
+    /// The value of DS.
     #[inline(always)]
     pub fn ds(&self) -> u16
         ensures { result ≡ self.now.ds }

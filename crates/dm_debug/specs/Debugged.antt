@@ -1,9 +1,9 @@
--- A machine that is debugged, and its breakpoints.
+-- A debugging session as contracts see it.
 use Rattle.std.specs.Prelude.{List}
 use Rattle.dm_state.specs.State.{State}
 use Rattle.dm_machine.specs.declared.until.Breakpoint.{Breakpoint}
 
--- a machine's state and the breakpoints, in the order of setting
+-- a debugging session: the state of its machine, and its breakpoints
 pub record Debugged : Type 0 where
   pub machine : State
   -- in the order of setting

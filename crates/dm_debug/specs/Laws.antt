@@ -1,4 +1,5 @@
--- Laws of runs in a session: what G and T print and leave are functions of the state, unless an allocation failed.
+-- Laws of G and T in a debugging session: what they print and leave is determined by the state, unless an allocation
+-- failed.
 use Rattle.std.specs.Prelude.{◌≡◌, ◌≢◌, ℕ, List, Option, Some, None}
 use Rattle.dm_state.specs.declared.stop.Stop.{Stop}
 use Rattle.dm_state.specs.declared.stop.Stop.TheVariants.{Memory as NoMemory}
@@ -6,18 +7,19 @@ use Rattle.dm_state.specs.State.{State}
 use Rattle.dm_machine.specs.declared.until.Breakpoint.{Breakpoint}
 use Rattle.dm_debug.specs.Runs.{GoesTo, IsTrace, whole, cut}
 
--- two runs of at most as many steps up to the same breakpoints print one text and leave one state
+-- G from one state, with as many steps and the same breakpoints, prints one text and leaves one state, if no allocation
+-- failed
 abbrev pub GoHasOneAnswer : Type 0
 GoHasOneAnswer =
     (s t u : State) (n : ℕ) (points : List Breakpoint) (a b : List ℕ) (x : GoesTo s n points a t) (y : GoesTo s n points b u) →
     x.why ≢ Some NoMemory → y.why ≢ Some NoMemory → (a ≡ b) × (t ≡ u)
 
--- the stop that cuts a trace short
+-- the stop that cut a trace short; None if all steps were made
 abbrev pub cut_by : (s : State) (n : ℕ) (text : List ℕ) (t : State) → IsTrace s n text t → Option Stop
 cut_by s n text t (whole traces) = None
 cut_by s n text t (cut made before told why fewer traces answers is) = Some why
 
--- two traces of as many steps print one text and leave one state
+-- T from one state, with as many steps, prints one text and leaves one state, if no allocation failed
 abbrev pub TraceHasOneAnswer : Type 0
 TraceHasOneAnswer =
     (s t u : State) (n : ℕ) (a b : List ℕ) (x : IsTrace s n a t) (y : IsTrace s n b u) →

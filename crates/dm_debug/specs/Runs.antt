@@ -1,4 +1,4 @@
--- What the commands that run the machine do, and what they print: runs and single steps.
+-- What the debugger's commands G and T do, and what they print.
 -- Source: MS-DOS User's Reference, "DEBUG" (Go, Trace). The words are this machine's own.
 use Rattle.std.specs.Prelude.{◌≡◌, ℕ, ◌+◌, ◌<◌, ◌≤◌, List, [], ◌∷◌, ◌++◌, codes, Option, Some, None}
 use Rattle.dm_state.specs.declared.stop.Stop.{Stop}
@@ -10,7 +10,7 @@ use Rattle.dm_machine.specs.Until.{RunsUntil}
 use Rattle.dm_views.specs.Digits.{two_digits}
 use Rattle.dm_views.specs.Registers.{IsRegistersText}
 
--- the word of a stop; none is a breakpoint
+-- the word that G and T print for the end of a run; None is a breakpoint
 abbrev pub stop_text : Option Stop → List ℕ
 stop_text None = codes "break"
 stop_text (Some stop.Steps) = codes "steps"
@@ -21,16 +21,17 @@ stop_text (Some stop.InputEnded) = codes "input ended"
 stop_text (Some stop.Destroyed) = codes "destroyed"
 stop_text (Some stop.Memory) = codes "memory"
 
--- the exit code of a program that has ended, in two digits
+-- the exit code, in two hexadecimal digits; no text if the run ended otherwise
 abbrev pub code_text : Option Stop → List ℕ
 code_text (Some (stop.Exited code)) = two_digits code
 code_text _ = []
 
--- the line of why a run stopped
+-- the line that says why a run ended; None is a breakpoint
 abbrev pub stop_line : Option Stop → List ℕ
 stop_line why = stop_text why ++ code_text why ++ 10 ∷ []
 
--- a run of at most n steps up to a breakpoint: why it ended, and the registers
+-- G: a run of at most n steps up to a breakpoint or a stop leads from s to t, and prints why it ended, and the
+-- registers
 pub record GoesTo (s : State) (n : ℕ) (points : List Breakpoint) (text : List ℕ) (t : State) : Type 0 where
   pub why : Option Stop
   pub registers : List ℕ
@@ -38,17 +39,18 @@ pub record GoesTo (s : State) (n : ℕ) (points : List Breakpoint) (text : List 
   pub shown : IsRegistersText t.cpu t.memory registers
   pub is : text ≡ stop_line why ++ registers
 
--- n steps that end nothing, and the registers after each
+-- n steps lead from s to this state, none of them ended the program, and this text is the registers after each
 pub data Traces (s : State) : ℕ → List ℕ → State → Type 0 where
   none : Traces s 0 [] s
   more : (n : ℕ) (t u : State) (text registers : List ℕ) → Traces s n text t → Answers t None u → IsRegistersText u.cpu u.memory registers → Traces s (n + 1) (text ++ registers) u
 
--- n steps; or fewer, and the line of the stop that comes then
+-- T: n steps lead from s to t, and the registers after each are printed; or fewer, and the line of the stop that comes
+-- then
 pub data IsTrace (s : State) (n : ℕ) (text : List ℕ) (t : State) : Type 0 where
   whole : Traces s n text t → IsTrace s n text t
   cut : (made : ℕ) (before : State) (told : List ℕ) (why : Stop) → made < n → Traces s made told before → Answers before (Some why) t → text ≡ told ++ stop_line (Some why) → IsTrace s n text t
 
--- some first steps of a trace
+-- t is what a first part of a trace of n steps from s leaves
 pub data TracesPart (s : State) (n : ℕ) (t : State) : Type 0 where
   some : (made : ℕ) (told : List ℕ) → made ≤ n → Traces s made told t → TracesPart s n t
   next : (made : ℕ) (before : State) (told : List ℕ) → made < n → Traces s made told before → Answers before None t → TracesPart s n t

@@ -1,4 +1,4 @@
--- Sessions: what a command changes and prints, and which lines are refused.
+-- Debugging sessions: what each command changes and prints, and which lines are refused.
 -- Source: MS-DOS User's Reference, "DEBUG". The forms, breakpoints and listings beyond it are this machine's own.
 use Rattle.std.specs.Prelude.{◌≡◌, ℕ, Bool, true, false, not, nat_le, if◌then◌else◌, List, [], ◌∷◌, ◌++◌, length, codes, Option, Some, None}
 use Rattle.std.specs.Io.KnownBytes.{Appends}
@@ -22,13 +22,13 @@ use Rattle.dm_debug.specs.Debugged.{Debugged}
 use Rattle.dm_debug.specs.Points.{is_set, with_point, without_point, points_text}
 use Rattle.dm_debug.specs.Runs.{GoesTo, IsTrace, TracesPart}
 
--- a session over a machine, with no breakpoints
+-- the session over a machine with no breakpoints
 abbrev pub new_session : State → Debugged
 new_session m = record { machine = m; points = [] }
 
 -- ---- what commands change and print
 
--- the line `ok`, which a command prints that prints nothing else
+-- the line `ok`, which B, BC and E print
 abbrev pub done : List ℕ
 done = codes "ok" ++ 10 ∷ []
 
@@ -40,11 +40,11 @@ with_machine s t = record s { machine = t }
 abbrev pub with_points : Debugged → List Breakpoint → Debugged
 with_points s points = record s { points = points }
 
--- the session with bytes written to memory from an address on, as E does
+-- the session with bytes written to memory from an address upwards, as E does; offsets wrap
 abbrev pub with_entered : Debugged → LogicalAddress → List ℕ → Debugged
 with_entered s a bytes = with_machine s (record s.machine { memory = with_bytes s.machine.memory a.segment a.offset bytes })
 
--- a command that changes nothing: a listing of one state, or what the console wrote
+-- the text that a command prints which changes nothing: a listing, or what the program has written to the console
 pub data Displays (s : Debugged) : Command → List ℕ → Type 0 where
   registers : (text : List ℕ) → IsRegistersText s.machine.cpu s.machine.memory text → Displays s c.Registers text
   code : (a : LogicalAddress) (n : ℕ) (text : List ℕ) → IsCode s.machine.memory a.segment a.offset n text → Displays s (c.Unassemble a n) text
@@ -55,7 +55,7 @@ pub data Displays (s : Debugged) : Command → List ℕ → Type 0 where
   points : Displays s c.Breakpoints (points_text s.points)
   output : Displays s c.Output s.machine.console.output
 
--- a command: what it prints, and the session after it
+-- what a command prints, and the session after it
 pub data Does (s : Debugged) : Command → List ℕ → Debugged → Type 0 where
   shows : (command : Command) (text : List ℕ) → Displays s command text → Does s command text s
   goes : (n : ℕ) (text : List ℕ) (t : State) → GoesTo s.machine n s.points text t → Does s (c.Go n) text (with_machine s t)
@@ -64,7 +64,7 @@ pub data Does (s : Debugged) : Command → List ℕ → Debugged → Type 0 wher
   clears : (a : LogicalAddress) → Does s (c.Clear a) done (with_points s (without_point s.points a))
   enters : (a : LogicalAddress) (typed : List ℕ) → Does s (c.Enter a typed) done (with_entered s a typed)
 
--- a command cut off: some first part of what it changes has changed
+-- the session after a command that a failed allocation cut off: a first part of what the command changes has changed
 pub data DoesPart (s : Debugged) : Command → Debugged → Type 0 where
   nothing : (command : Command) → DoesPart s command s
   ran : (n : ℕ) (why : Option Stop) (t : State) → RunsUntil s.machine n s.points why t → DoesPart s (c.Go n) (with_machine s t)
@@ -72,17 +72,17 @@ pub data DoesPart (s : Debugged) : Command → Debugged → Type 0 where
 
 -- ---- lines
 
--- the command clears a breakpoint that is not set
+-- the command is BC for a breakpoint that is not set
 abbrev pub clears_none : Debugged → Command → Bool
 clears_none s (c.Clear a) = not (is_set s.points a)
 clears_none s _ = false
 
--- the command sets a breakpoint where sixteen others are set
+-- the command is B for a breakpoint that is not set, where sixteen others are
 abbrev pub is_over : Debugged → Command → Bool
 is_over s (c.Break a) = if is_set s.points a then false else nat_le 16 (length s.points)
 is_over s _ = false
 
--- the line is no command, or clears a breakpoint that is not set
+-- the line is no command (None), or clears a breakpoint that is not set
 abbrev pub is_syntax : Debugged → Option Command → Bool
 is_syntax s None = true
 is_syntax s (Some command) = clears_none s command
@@ -92,7 +92,7 @@ abbrev pub is_full : Debugged → Option Command → Bool
 is_full s None = false
 is_full s (Some command) = is_over s command
 
--- a line's command was done, and what it prints was written
+-- the line's command was executed, which led from session s to t, and all that it prints was written
 pub record IsAnswered (s : Debugged) (line : List ℕ) (t : Debugged) (before after : Option (List ℕ)) : Type 0 where
   pub command : Command
   pub text : List ℕ
@@ -100,13 +100,13 @@ pub record IsAnswered (s : Debugged) (line : List ℕ) (t : Debugged) (before af
   pub does : Does s command text t
   pub written : Appends before after text
 
--- a line's command was done in some first part
+-- an allocation failed for the line's command, of which a first part led from session s to t
 pub record IsCutOff (s : Debugged) (line : List ℕ) (t : Debugged) : Type 0 where
   pub command : Command
   pub read : command_of line ≡ Some command
   pub part : DoesPart s command t
 
--- a line's command was done, and a first part of what it prints was written
+-- the line's command was executed, which led from session s to t, but only a first part of what it prints was written
 pub record IsPartlyWritten (s : Debugged) (line : List ℕ) (t : Debugged) (before after : Option (List ℕ)) : Type 0 where
   pub command : Command
   pub text : List ℕ

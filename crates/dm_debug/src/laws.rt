@@ -2,8 +2,8 @@
 
 ghost use Rattle.dm_debug.specs.Laws.{GoHasOneAnswer, TraceHasOneAnswer};
 
-/// The law that G and T have one result: what they print, and the state that they leave, are functions of the state,
-/// the number of steps and the breakpoints, unless an allocation failed. It does nothing when called.
+/// The law that G and T have one result: the state before the command, the number of steps and the breakpoints
+/// determine what it prints and the state after it, unless an allocation failed. Does nothing when called.
 pub fn runs_have_one_answer()
     ensures go { GoHasOneAnswer }
     ensures trace { TraceHasOneAnswer }

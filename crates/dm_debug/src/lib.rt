@@ -1,4 +1,4 @@
-//! A debugger over a machine: a session executes the commands that lines spell.
+//! The debugger of `dm debug`: a session executes the commands that lines of text give.
 #![tactic(auto)]
 
 mod laws;

@@ -1,4 +1,5 @@
-//! The listings of a machine.
+//! The commands of a debugger that list a part of the machine and change nothing. Each call appends its text to `out`;
+//! an `Err` is a failed allocation.
 
 ghost use Rattle.std.specs.Prelude.{◌≡◌, ◌++◌, List, ℕ, OnOk};
 ghost use Rattle.dm_views.specs.Arena.{IsArenaText};
@@ -13,14 +14,14 @@ use dm_machine::Machine;
 use dm_views::{put_arena, put_bytes, put_code, put_extended, put_pages, put_registers};
 use std::alloc::AllocError;
 
-/// Puts the registers of a machine.
+/// R: appends the registers, and the line of the instruction at CS:IP. (G and T print this too.)
 pub(crate) fn put_machine(out: &mut Vec<u8>, machine: &Machine) -> Result<(), AllocError>
     ensures { OnOk result ((text : List ℕ) × (out.new.items ≡ out.old.items ++ text) × IsRegistersText machine.now.cpu machine.now.memory text) }
 {
     put_registers(out, &machine.cpu(), machine.space())
 }
 
-/// Puts so many instructions from an address on.
+/// U: appends the lines of `count` instructions from an address on.
 pub(crate) fn unassemble(
     out: &mut Vec<u8>,
     machine: &Machine,
@@ -32,7 +33,7 @@ pub(crate) fn unassemble(
     put_code(out, machine.space(), at.segment, at.offset, count)
 }
 
-/// Puts so many bytes from an address on.
+/// D: appends the lines of `count` bytes from an address on.
 pub(crate) fn dump(
     out: &mut Vec<u8>,
     machine: &Machine,
@@ -44,28 +45,28 @@ pub(crate) fn dump(
     put_bytes(out, machine.space(), at.segment, at.offset, count)
 }
 
-/// Puts the headers of the arena, and those of upper memory where they aren't linked with it.
+/// M: appends the headers of the arena, and those of upper memory if it belongs to the arena and is not linked.
 pub(crate) fn arena(out: &mut Vec<u8>, machine: &Machine) -> Result<(), AllocError>
     ensures { OnOk result ((text : List ℕ) × (out.new.items ≡ out.old.items ++ text) × IsArenaText machine.now.upper machine.now.memory text) }
 {
     put_arena(out, machine.space(), machine.upper())
 }
 
-/// Puts the handles and windows of expanded memory.
+/// P: appends the handles of expanded memory, and what the windows show.
 pub(crate) fn pages(out: &mut Vec<u8>, machine: &Machine) -> Result<(), AllocError>
     ensures { OnOk result (out.new.items ≡ out.old.items ++ pages_text machine.now.ems machine.now.memory) }
 {
     put_pages(out, machine.ems(), machine.space())
 }
 
-/// Puts the blocks of extended memory, the upper memory blocks, A20 and the high memory area.
+/// X: appends the blocks of extended memory, the upper memory blocks, A20 and the high memory area.
 pub(crate) fn extended(out: &mut Vec<u8>, machine: &Machine) -> Result<(), AllocError>
     ensures { OnOk result (out.new.items ≡ out.old.items ++ extended_text machine.now.xms machine.now.memory) }
 {
     put_extended(out, machine.xms(), machine.space())
 }
 
-/// Puts what the console wrote.
+/// O: appends all bytes that the program has written to the console.
 pub(crate) fn output(out: &mut Vec<u8>, machine: &Machine) -> Result<(), AllocError>
     ensures { OnOk result (out.new.items ≡ out.old.items ++ machine.now.console.output) }
 {

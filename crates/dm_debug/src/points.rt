@@ -1,4 +1,4 @@
-//! The breakpoints of a session, in the order of setting.
+//! The breakpoints of a debugging session, in the order of setting.
 
 ghost use Rattle.std.specs.Prelude.{◌≡◌, ◌<◌, ◌++◌, ◌∷◌, IfSome, OnOk, length, position};
 ghost use Rattle.arrayvec.specs.ArrayVec.{array_vec_len};
@@ -10,13 +10,13 @@ use dm_machine::Breakpoint;
 use dm_views::put_address;
 use std::alloc::AllocError;
 
-/// How many breakpoints there can be.
+/// The most breakpoints of a session.
 pub(crate) const MOST: usize = 16;
 
-/// The breakpoints of a session.
+/// The breakpoints of a session, at most 16, in the order of setting.
 pub type Points = ArrayVec<Breakpoint, 16>;
 
-/// The breakpoint at an address.
+/// The breakpoint that stops where CS:IP is exactly this address.
 pub(crate) fn point_at(address: LogicalAddress) -> Breakpoint
     ensures { result ≡ point_at address }
 {
@@ -26,14 +26,14 @@ pub(crate) fn point_at(address: LogicalAddress) -> Breakpoint
     }
 }
 
-/// Whether a breakpoint is at an address.
+/// Whether the breakpoint is the one for exactly this segment and offset.
 fn is_point(address: LogicalAddress, point: Breakpoint) -> bool
     ensures { result ≡ is_point address point }
 {
     point.offset == address.offset && point.segment == address.segment
 }
 
-/// Where the breakpoint at an address stands among the others.
+/// The index of the breakpoint at an address in the list; None if it is not set.
 pub(crate) fn place_of(points: &[Breakpoint], address: LogicalAddress) -> Option<usize>
     ensures first { result ≡ position (is_point address) points.now }
     ensures there { IfSome result (λ k. k < length points.now) }
@@ -41,7 +41,7 @@ pub(crate) fn place_of(points: &[Breakpoint], address: LogicalAddress) -> Option
     points.iter().position(|point| is_point(address, *point))
 }
 
-/// Puts the breakpoints, a line each.
+/// BL: appends the breakpoints, a line `segment:offset` each. An `Err` is a failed allocation.
 pub(crate) fn put_points(out: &mut Vec<u8>, points: &[Breakpoint]) -> Result<(), AllocError>
     ensures { OnOk result (out.new.items ≡ out.old.items ++ points_text points.now) }
 {

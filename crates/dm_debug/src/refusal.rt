@@ -1,8 +1,8 @@
-//! Why a line failed.
+//! Why a line of a debugging session fails.
 
 use thiserror::Error;
 
-/// Why a line failed. The errors are tried in this order.
+/// Why a line of a debugging session fails. The errors are tried in this order.
 #[derive(Clone, Copy, Debug, PartialEq, Eq, Error)]
 pub enum CommandRefusal {
     /// The line is no command, or clears a breakpoint that is not set. Nothing has changed, and nothing was written.
@@ -15,7 +15,7 @@ pub enum CommandRefusal {
     /// changed.
     #[error("out of memory")]
     Memory,
-    /// A write failed or took nothing. All that the command changes has changed, and a first part of the answer was
+    /// A write failed or took no byte. All that the command changes has changed, and a first part of the answer was
     /// written.
     #[error("a write failed")]
     Write,

@@ -1,4 +1,4 @@
-//! What the commands do that change the machine: runs, single steps, and bytes that are written.
+//! The commands of a debugger that change the machine: G, T and E.
 
 ghost use Rattle.std.specs.Prelude.{◌≡◌, ◌≤◌, ◌++◌, List, ℕ, Option, OnOk, OnErr};
 ghost use Rattle.dm_space.specs.Buffers.{with_bytes};
@@ -12,7 +12,8 @@ use dm_machine::{Breakpoint, Machine, Stop};
 use dm_views::byte_digits;
 use std::alloc::AllocError;
 
-/// The word of a stop, and of none: a breakpoint.
+/// The word that G and T print for the end of a run: for None, a breakpoint, `break`; for an exit `exited ` without the
+/// code.
 fn word_of(stop: Option<Stop>) -> &'static [u8]
     ensures { result.now ≡ stop_text stop }
 {
@@ -28,7 +29,8 @@ fn word_of(stop: Option<Stop>) -> &'static [u8]
     }
 }
 
-/// Puts the line of a stop, or of a breakpoint.
+/// Appends the line that says why a run ended, with the exit code in hexadecimal. None is a breakpoint. An `Err` is a
+/// failed allocation.
 fn put_stop(out: &mut Vec<u8>, stop: Option<Stop>) -> Result<(), AllocError>
     ensures { OnOk result (out.new.items ≡ out.old.items ++ stop_line stop) }
 {
@@ -39,7 +41,8 @@ fn put_stop(out: &mut Vec<u8>, stop: Option<Stop>) -> Result<(), AllocError>
     out.extend_from_slice(b"\n")
 }
 
-/// Makes at most `n` steps, up to a breakpoint or a stop, and puts why it ended and the registers.
+/// G: makes at most `n` steps, up to a breakpoint or a stop, and appends why the run ended and the registers. An `Err`
+/// is a failed allocation after the run.
 pub(crate) fn go(
     machine: &mut Machine,
     n: u32,
@@ -56,7 +59,8 @@ pub(crate) fn go(
     put_machine(out, machine)
 }
 
-/// Makes at most `n` steps and puts the registers after each, or the line of the stop that comes instead.
+/// T: makes at most `n` steps and appends the registers after each. Where the run stops, appends the line of the stop
+/// instead and ends. Breakpoints do not count. An `Err` is a failed allocation; the steps so far stand.
 pub(crate) fn trace(machine: &mut Machine, n: u16, out: &mut Vec<u8>) -> Result<(), AllocError>
     requires { HasProgram machine.old }
     ensures ok { OnOk result ((text : List ℕ) × (out.new.items ≡ out.old.items ++ text) × IsTrace machine.old n text machine.new) }
@@ -72,7 +76,8 @@ pub(crate) fn trace(machine: &mut Machine, n: u16, out: &mut Vec<u8>) -> Result<
     Ok(())
 }
 
-/// Writes bytes upwards from an address on; offsets wrap.
+/// E: writes the bytes to memory from segment:offset upwards; offsets wrap. The ROM, and addresses without memory, do
+/// not change.
 pub(crate) fn enter(machine: &mut Machine, segment: u16, offset: u16, bytes: &[u8])
     requires { HasProgram machine.old }
     ensures { machine.new ≡ record machine.old { memory = with_bytes machine.old.memory segment offset bytes.now } }

@@ -1,4 +1,4 @@
-//! A session: a machine, its breakpoints, and the commands that are asked of them.
+//! A debugging session: a machine, its breakpoints, and the commands that lines of text give.
 
 ghost use Rattle.std.specs.Prelude.{◌≡◌, ◌++◌, ◌↔◌, ◌⊎◌, [], true, false, OnOk, OnErr, IsErrOf};
 ghost use Rattle.dm_space.specs.Buffers.{with_bytes};
@@ -22,7 +22,7 @@ use dm_out::write_all;
 use std::alloc::{AllocError, Global};
 use std::marker::Model;
 
-/// The answer of a command that prints nothing else.
+/// The line that B, BC and E print.
 const DONE: &[u8] = b"ok\n";
 
 /// A machine that is debugged, and its breakpoints: at most sixteen exact pairs of CS and IP.
@@ -105,14 +105,14 @@ impl Session {
         enter(&mut self.machine, segment, offset, bytes);
     }
 
-    /// Whether a breakpoint is set at an address.
+    /// Whether a breakpoint is set at the address: this segment and this offset exactly.
     fn is_set(&self, address: LogicalAddress) -> bool
         ensures { result ≡ Rattle.dm_debug.specs.Points.is_set self.now.points address }
     {
         place_of(self.points.as_slice(), address).is_some()
     }
 
-    /// Whether the command clears a breakpoint that is not set.
+    /// Whether the command is BC for a breakpoint that is not set.
     fn clears_none(&self, command: &Command) -> bool
         ensures { result ≡ clears_none self.now command.now }
     {
@@ -122,7 +122,7 @@ impl Session {
         }
     }
 
-    /// Whether the command sets one more breakpoint than there can be.
+    /// Whether the command is B for a seventeenth breakpoint.
     fn is_over(&self, command: &Command) -> bool
         ensures { result ≡ is_over self.now command.now }
     {
@@ -132,7 +132,7 @@ impl Session {
         }
     }
 
-    /// Sets a breakpoint, if it is not set.
+    /// Adds a breakpoint at the end of the list, unless it is set already. There must be room for it.
     fn set(&mut self, address: LogicalAddress)
         requires { is_over self.old (Break address) ≡ false }
         ensures { self.new ≡ with_points self.old (with_point self.old.points address) }
@@ -142,7 +142,7 @@ impl Session {
         }
     }
 
-    /// Clears a breakpoint, if it is set.
+    /// Removes a breakpoint from the list, if it is set.
     fn clear(&mut self, address: LogicalAddress)
         ensures { self.new ≡ with_points self.old (without_point self.old.points address) }
     {
@@ -151,7 +151,8 @@ impl Session {
         }
     }
 
-    /// Sets a breakpoint, if it is not set.
+    /// B: sets a breakpoint, unless it is set already, and appends `ok` to `text`. An `Err` is a failed allocation, and
+    /// the session stays as it was.
     fn set_point(&mut self, address: LogicalAddress, text: &mut Vec<u8>) -> Result<(), AllocError>
         requires over { is_over self.old (Break address) ≡ false }
         ensures ok { OnOk result (self.new ≡ with_points self.old (with_point self.old.points address)) }
@@ -163,7 +164,8 @@ impl Session {
         Ok(())
     }
 
-    /// Clears a breakpoint, if it is set.
+    /// BC: clears a breakpoint, if it is set, and appends `ok` to `text`. An `Err` is a failed allocation, and the
+    /// session stays as it was.
     fn clear_point(&mut self, address: LogicalAddress, text: &mut Vec<u8>) -> Result<(), AllocError>
         ensures ok { OnOk result (self.new ≡ with_points self.old (without_point self.old.points address)) }
         ensures told { OnOk result (text.new.items ≡ text.old.items ++ done) }
@@ -174,7 +176,8 @@ impl Session {
         Ok(())
     }
 
-    /// Writes bytes from an address on.
+    /// E: writes the bytes to memory from an address on, and appends `ok` to `text`. Offsets wrap. An `Err` is a failed
+    /// allocation, and the session stays as it was.
     fn enter_bytes(
         &mut self,
         address: LogicalAddress,
@@ -195,7 +198,8 @@ impl Session {
         Ok(())
     }
 
-    /// Executes a command, and appends what it prints.
+    /// Executes a command, and appends what it prints to `text`. G, T and E change the machine, B and BC the
+    /// breakpoints. An `Err` is a failed allocation: a run, or a first part of a trace, may then have been made.
     fn perform(&mut self, command: &Command, text: &mut Vec<u8>) -> Result<(), AllocError>
         requires over { is_over self.old command.now ≡ false }
         requires empty { text.old.items ≡ [] }
@@ -219,16 +223,16 @@ impl Session {
         }
     }
 
-    /// Executes the command that a line spells, and writes what it prints, each line with a line end (0Ah). The line
-    /// has no line end.
+    /// Executes the command that a line gives, and writes what it prints to `out`, each line with a line feed (0Ah).
+    /// The line comes without its line end.
     ///
     /// # Errors
     ///
     /// In this order: `Syntax` exactly where the line is no command, or clears a breakpoint that is not set; `Full`
     /// exactly where it sets a seventeenth breakpoint: then nothing has changed, and nothing was written. `Memory` if
     /// an allocation for the answer failed: then nothing was written, and some first part of what the command changes
-    /// may have changed. `Write` where a write failed or took nothing: then all that the command changes has changed,
-    /// and a first part of the answer was written.
+    /// may have changed. `Write` if a write failed or took no byte: then all that the command changes has changed, and
+    /// a first part of the answer was written.
     pub fn command<O: Out>(
         &mut self,
         alloc: Global,

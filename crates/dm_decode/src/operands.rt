@@ -11,6 +11,7 @@ use dm_ins::operand::extend;
 use dm_ins::table::OperandKind;
 use dm_ins::{Address, Base, ByteRegister, Operand, Width, WordRegister};
 
+/// The register with a number, 0 to 7, of the width.
 fn named(width: Width, number: u8) -> Operand
     requires { number < 8 }
     ensures { result ≡ register width number }
@@ -21,6 +22,7 @@ fn named(width: Width, number: u8) -> Operand
     }
 }
 
+/// The address at the base registers of an r/m field, 0 to 7, plus a displacement.
 fn on_base(rm: u8, displacement: u16) -> Address
     requires { rm < 8 }
     ensures { result ≡ based rm displacement }
@@ -31,6 +33,7 @@ fn on_base(rm: u8, displacement: u16) -> Address
     }
 }
 
+/// The address at a displacement alone: a direct address.
 fn on_nothing(displacement: u16) -> Address
     ensures { result ≡ direct displacement }
 {
@@ -40,8 +43,8 @@ fn on_nothing(displacement: u16) -> Address
     }
 }
 
-/// The memory operand that the mod and r/m fields name, if they name one, and the bytes after its
-/// displacement.
+/// The memory operand that the mod and r/m fields name, if they name one, and the bytes after its displacement. None
+/// where bytes of the displacement are missing.
 #[tactic(auto, unfolding(crate::specs::inner::Reading::memory_at))]
 fn memory_of(mode: u8, rm: u8, bytes: &[u8]) -> Option<(Option<Address>, &[u8])>
     requires { rm < 8 }
@@ -65,7 +68,7 @@ fn memory_of(mode: u8, rm: u8, bytes: &[u8]) -> Option<(Option<Address>, &[u8])>
     }
 }
 
-/// The fields of the mod r/m byte with the displacement, and the bytes after them.
+/// The fields of the mod r/m byte with the displacement, and the bytes after them. None where bytes are missing.
 #[tactic(auto, unfolding(crate::specs::inner::Reading::fields_at))]
 pub fn fields_of(bytes: &[u8]) -> Option<(Fields, &[u8])>
     ensures reads { seen result ≡ fields_at bytes.now }
@@ -83,6 +86,7 @@ pub fn fields_of(bytes: &[u8]) -> Option<(Fields, &[u8])>
     ))
 }
 
+/// What the mod and r/m fields name: the memory operand, if there is one, else the register.
 fn place(width: Width, fields: Fields) -> Operand
     requires { fields.rm < 8 }
     ensures { result ≡ at_place width fields.rm fields.memory }
@@ -93,7 +97,8 @@ fn place(width: Width, fields: Fields) -> Operand
     }
 }
 
-/// The operand of the kind, where the mod r/m byte has these fields, and the bytes after it.
+/// The operand of the kind, where the mod r/m byte has these fields, and the bytes after it. None where bytes are
+/// missing, or where the kind is memory and the fields name a register.
 #[tactic(auto, unfolding(crate::specs::inner::Reading::operand_at))]
 pub fn operand_of(kind: OperandKind, fields: Fields, bytes: &[u8]) -> Option<(Operand, &[u8])>
     requires register { fields.register < 8 }

@@ -9,7 +9,7 @@ use crate::rows::action_of;
 use dm_ins::prefix::Prefix;
 use dm_ins::{Action, Prefixes, Repeat, SegmentRegister};
 
-/// The prefix that the byte is, if it is one.
+/// The prefix that the byte is, None if it is none.
 #[tactic(auto, unfolding(crate::specs::inner::Reading::prefix_of))]
 fn as_prefix(byte: u8) -> Option<Prefix>
     ensures { result ≡ prefix_of byte }
@@ -26,7 +26,7 @@ fn as_prefix(byte: u8) -> Option<Prefix>
     }
 }
 
-/// With one more prefix, which takes the place of an earlier one of its kind.
+/// The prefixes with one more, which takes the place of an earlier one of its kind.
 fn add_prefix(mut prefixes: Prefixes, prefix: Prefix) -> Prefixes
     ensures { result ≡ with_prefix prefixes prefix }
 {
@@ -38,7 +38,8 @@ fn add_prefix(mut prefixes: Prefixes, prefix: Prefix) -> Prefixes
     prefixes
 }
 
-/// Takes one prefix from the front, if there is one.
+/// Takes one prefix from the front of the bytes, if there is one: returns the prefixes with it, and the bytes that are
+/// left.
 #[tactic(auto, unfolding(crate::specs::inner::Reading::stripped))]
 fn strip(prefixes: Prefixes, bytes: &[u8]) -> (Prefixes, &[u8])
     ensures { (result.0, result.1.now) ≡ stripped prefixes bytes.now }
@@ -52,7 +53,7 @@ fn strip(prefixes: Prefixes, bytes: &[u8]) -> (Prefixes, &[u8])
     }
 }
 
-/// At most four prefixes and the action after them, and the bytes after that.
+/// At most four prefixes and the action after them, and the bytes after that. None where the bytes spell no action.
 #[tactic(auto, unfolding(crate::specs::inner::Reading::prefixed_at))]
 pub fn prefixed_of(bytes: &[u8]) -> Option<((Prefixes, Action), &[u8])>
     ensures { seen result ≡ prefixed_at bytes.now }

@@ -11,6 +11,7 @@ use dm_ins::Action;
 use dm_ins::fields::Fields;
 use dm_ins::table::{OpcodeEntry, OperandKind, Row, entry_at, member};
 
+/// Whether an operand of the kind is named by the mod r/m byte.
 fn needs_fields(kind: OperandKind) -> bool
     ensures { result ≡ uses_fields kind }
 {
@@ -23,8 +24,8 @@ fn needs_fields(kind: OperandKind) -> bool
     )
 }
 
-/// The row under the first byte's entry with the fields of its mod r/m byte, if it has one, and the
-/// bytes after them.
+/// The row of a first byte's entry, the fields of its mod r/m byte if it has one, and the bytes after them; `bytes`
+/// begins after the first byte. None where the entry has no row for these bytes, or where bytes are missing.
 #[tactic(auto, unfolding(crate::specs::inner::Reading::row_at))]
 fn row_of(entry: OpcodeEntry, bytes: &[u8]) -> Option<((Row, Fields), &[u8])>
     requires { IfGroup entry (λ g. g < 17) }
@@ -62,7 +63,7 @@ fn row_of(entry: OpcodeEntry, bytes: &[u8]) -> Option<((Row, Fields), &[u8])>
     }
 }
 
-/// The action that the bytes begin with, and the bytes after it.
+/// The action that the bytes spell, without prefixes, and the bytes after it; None where they spell none.
 #[tactic(auto, unfolding(crate::specs::inner::Reading::action_at))]
 pub fn action_of(bytes: &[u8]) -> Option<(Action, &[u8])>
     ensures { seen result ≡ action_at bytes.now }

@@ -1,7 +1,7 @@
--- What holds of all listings.
+-- A law of disassembly.
 use Rattle.std.specs.Prelude.{◌≡◌, ℕ, List}
 use Rattle.dm_disassembler.specs.Listing.{IsListing}
 
--- some bytes have one listing
+-- the bytes of a program have one listing
 abbrev pub BytesHaveOneListing : Type 0
 BytesHaveOneListing = (bytes a b : List ℕ) → IsListing bytes a → IsListing bytes b → a ≡ b

@@ -1,9 +1,9 @@
-//! What holds of all listings.
+//! A law of disassembly.
 
 ghost use Rattle.dm_disassembler.specs.Laws.{BytesHaveOneListing};
 
-/// The law that some bytes have one listing: so the lines that `disassemble` makes are the only ones that they have. It
-/// does nothing when called.
+/// The law that the bytes of a program have one listing, so that `disassemble` makes the only one. It does nothing
+/// when called.
 #[tactic(auto, using(crate::proofs::Once::listing_once))]
 pub fn bytes_have_one_listing()
     ensures { BytesHaveOneListing }

@@ -1,4 +1,4 @@
-//! The lines of a program's bytes, as an assembler reads them.
+//! The disassembler: the listing of a program's bytes, which an assembler can read.
 #![tactic(auto)]
 
 mod laws;

@@ -1,4 +1,5 @@
-//! Disassembly: the lines of some bytes (Intel 8086 Family User's Manual, section 2.9).
+//! Disassembly: the listing of a program's bytes (Intel 8086 Family User's Manual, section 2.9). Places count from
+//! the program's first byte. Where an allocation fails, an unfinished part may stand in `out`.
 
 ghost use Rattle.std.specs.Prelude.{◌≡◌, ◌↔◌, IsTrue, ◌+◌, ◌<◌, ◌≤◌, ◌++◌, ◌∷◌, ℕ, List, length, take, OnOk, IfOk, IfSome, IfNone};
 ghost use Rattle.dm_ins.specs.declared.ins.Ins.{Ins};
@@ -13,7 +14,7 @@ use std::alloc::{AllocError, Global};
 /// The offset of a program's first byte in its segment.
 const START: usize = 0x100;
 
-/// The sixteen bytes from a place on, with zeros after the last byte.
+/// The sixteen bytes from a place on, with zeros after the program's last byte.
 fn window(bytes: &[u8], at: usize) -> [u8; 16]
     requires { at ≤ length bytes.now }
     ensures { (k : ℕ) → k ≤ 16 → at + k ≤ length bytes.now → take k result ≡ bytes_at bytes.now at k }
@@ -25,7 +26,7 @@ fn window(bytes: &[u8], at: usize) -> [u8; 16]
     window
 }
 
-/// The instruction that stands at a place, and how many bytes it has there.
+/// The instruction at a place, and its length in bytes; None if there is none, or if the program ends before it does.
 fn standing(bytes: &[u8], at: usize) -> Option<(Ins, usize)>
     requires { at ≤ length bytes.now }
     ensures stands { IfSome result (λ x. StandsInFile bytes.now at x.0 x.1) }
@@ -40,7 +41,7 @@ fn standing(bytes: &[u8], at: usize) -> Option<(Ins, usize)>
     }
 }
 
-/// Puts bytes as data.
+/// Appends the word DB and these bytes as numbers.
 fn put_data(out: &mut Vec<u8>, bytes: &[u8]) -> Result<(), AllocError>
     ensures { OnOk result (out.new.items ≡ out.old.items ++ data_text bytes.now) }
 {
@@ -55,7 +56,7 @@ fn put_data(out: &mut Vec<u8>, bytes: &[u8]) -> Result<(), AllocError>
     Ok(())
 }
 
-/// Puts the text of an instruction, where the next one stands at an offset.
+/// Appends the text of an instruction. `next` is the offset of the next one, from which jump targets count.
 fn put_instruction(out: &mut Vec<u8>, ins: &Ins, next: u16) -> Result<(), AllocError>
     ensures { OnOk result (out.new.items ≡ out.old.items ++ text_of ins.now next) }
 {
@@ -64,13 +65,15 @@ fn put_instruction(out: &mut Vec<u8>, ins: &Ins, next: u16) -> Result<(), AllocE
     out.extend_from_slice(line.bytes())
 }
 
+/// Whether two runs of bytes are the same.
 fn same(a: &[u8], b: &[u8]) -> bool
     ensures { IsTrue result ↔ (a.now ≡ b.now) }
 {
     a == b
 }
 
-/// Puts the line of an instruction that stands at a place.
+/// Appends the line, without its line end, of the instruction of `len` bytes at a place: its text, or data with the
+/// text in a comment where its bytes are not those that `encode` chooses.
 fn put_standing(
     out: &mut Vec<u8>,
     bytes: &[u8],
@@ -94,7 +97,8 @@ fn put_standing(
     Ok(())
 }
 
-/// Appends the line of what stands at a place, and returns how many bytes it covers.
+/// Appends the line, without its line end, of what stands at a place, and returns how many bytes it covers: those of
+/// an instruction, or 1.
 fn put_line(out: &mut Vec<u8>, bytes: &[u8], at: usize) -> Result<usize, AllocError>
     requires within { at < length bytes.now }
     requires few { length bytes.now ≤ 65278 }
@@ -108,9 +112,10 @@ fn put_line(out: &mut Vec<u8>, bytes: &[u8], at: usize) -> Result<usize, AllocEr
     Ok(len)
 }
 
-/// The lines of a program's bytes, which stands at offset 0100h, each with a line end (0Ah): an assembler makes the
-/// same bytes of them. An instruction is listed as its text where it stands in its preferred bytes; else as `DB` of its
-/// bytes, with the text in a comment. What begins no instruction within the file is `DB` of one byte.
+/// The listing of a program's bytes, which stand from offset 0100h on. Each line ends with 0Ah, and an assembler
+/// makes the same bytes of the lines. An instruction is listed as its text where its bytes are its preferred ones;
+/// else as `DB` with its bytes, and the text in a comment. A byte that begins no instruction within the program is a
+/// `DB` of its own.
 ///
 /// # Errors
 ///

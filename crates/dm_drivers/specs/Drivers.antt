@@ -25,18 +25,21 @@ after_expanded s c = record s { cpu = c.cpu; memory = c.x.memory; ems = c.x.ems 
 abbrev pub after_extended : State → extended.Caller → State
 after_extended s c = record s { cpu = c.cpu; memory = c.x.memory; xms = c.x.xms }
 
--- the state after the driver's act, before the return to the program
+-- the state after the driver's call, before the return to the program: for INT 67h (LIM EMS) and the extended memory
+-- driver (XMS), registers, memory and the driver's tables differ; for INT 2Fh, registers alone
 abbrev pub acted : State → Driver → State
 acted s ExpandedMemory = after_expanded s (expanded_memory.dispatched (expanded_caller s))
 acted s Multiplex = record s { cpu = multiplex_reply s.cpu }
 acted s ExtendedMemory = after_extended s (extended_memory.dispatched s.upper (extended_caller s))
 
--- back where the program called, by an interrupt or by a far call
+-- the state after the driver's return: IP, CS and FLAGS are popped after INT 67h and INT 2Fh, IP and CS after the far
+-- call of the extended memory driver
 abbrev pub given_back : State → Driver → State
 given_back s ExpandedMemory = interrupt_returned s
 given_back s Multiplex = interrupt_returned s
 given_back s ExtendedMemory = far_returned s
 
--- the driver acts, and what the call pushed is popped from memory as it is then
+-- the step that a driver makes: it performs the call and returns to the program through the stack as it is then; the
+-- machine goes on
 abbrev pub driven : State → Driver → Answer
 driven s driver = go (given_back (acted s driver) driver)

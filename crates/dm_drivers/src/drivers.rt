@@ -9,7 +9,8 @@ use dm_space::entry_points::Driver;
 use dm_state::Parts;
 use dm_xms_calls::extended_memory_call;
 
-/// Does what the driver's call asks for.
+/// Performs the call of the driver on the registers, the driver's tables and memory, before the return to the program.
+/// INT 2Fh changes registers alone.
 fn act(parts: &mut Parts, driver: Driver)
     requires { AreConsistent parts.old }
     ensures { parts.new ≡ acted parts.old driver }
@@ -30,7 +31,8 @@ fn act(parts: &mut Parts, driver: Driver)
     }
 }
 
-/// Goes back to where the program called.
+/// Returns from the driver: from INT 67h and INT 2Fh by popping IP, CS and FLAGS, from the extended memory driver by
+/// popping IP and CS. Memory stays.
 fn give_back(parts: &mut Parts, driver: Driver)
     ensures { parts.new ≡ given_back parts.old driver }
 {
@@ -41,8 +43,9 @@ fn give_back(parts: &mut Parts, driver: Driver)
     }
 }
 
-/// Acts as the driver, goes back to where the program called, by the stack as it is then, and counts the step. No stop
-/// ever comes of it. The tables of expanded and of extended memory and the memory are consistent, before and after.
+/// Performs a driver's call, returns to the program through the stack as the driver has left it, and counts the step. A
+/// driver never stops the machine. The tables of expanded and extended memory must be consistent with memory, and stay
+/// so.
 pub fn drive(parts: &mut Parts, driver: Driver)
     requires { AreConsistent parts.old }
     ensures answer { parts.new ≡ (driven parts.old driver).state }

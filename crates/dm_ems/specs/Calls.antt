@@ -1,31 +1,32 @@
--- What calls return and leave. A call's row is one value: a refusal, or a result with what the call leaves; so a
--- refusal changes nothing.
+-- What calls of the expanded memory driver return, and the tables and memory that they leave. A call is one value: an
+-- error, or a result together with the state after it; so a call that fails changes nothing.
 use Rattle.std.specs.Prelude.{ℕ, slice_index_or, slice_set, Option, Some, None, Result, Ok, Err}
 use Rattle.dm_space.specs.Memory.{Memory}
 use Rattle.dm_ems.specs.declared.status.Status.{Status}
 use Rattle.dm_ems.specs.declared.tables.Handle.{Handle}
 use Rattle.dm_ems.specs.Tables.{Expanded}
 
--- what a call returns: its result, without what it leaves
+-- the result of a call, without the state after it
 abbrev pub answer : {A : Type 0} → Result (A × Expanded) Status → Result A Status
 answer (Ok w) = Ok w.0
 answer (Err e) = Err e
 
--- what a call leaves: tables and memory as they were, if it is refused
+-- the state after a call from x; x itself if the call fails
 abbrev pub left : {A : Type 0} → Expanded → Result (A × Expanded) Status → Expanded
 left x (Ok w) = w.1
 left x (Err e) = x
 
--- what is there, or else a refusal
+-- f of the value, or the error e where there is none
 abbrev pub need : {A B : Type 0} → Option A → Status → (A → Result B Status) → Result B Status
 need None e f = Err e
 need (Some v) e f = f v
 
--- a handle in use
+-- the entry of a handle in the table: its name and saved windows; None if the handle is not in use, or there is no
+-- such handle
 abbrev pub slot : Expanded → ℕ → Option Handle
 slot x handle = slice_index_or x.ems.handles handle None
 
--- the tables with another handle under this number, or with none
+-- the tables with another entry for this handle, None for one that is not in use; memory stays
 abbrev pub with_slot : Expanded → ℕ → Option Handle → Expanded
 with_slot x handle s = record x { ems = record x.ems { handles = slice_set x.ems.handles handle s } }
 

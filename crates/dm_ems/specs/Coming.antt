@@ -1,18 +1,18 @@
--- That pages which are promised come.
+-- That a call which succeeds gives a handle all the pages it asks for (law `PagesCome`).
 use Rattle.std.specs.Prelude.{ℕ, ◌≡◌, List, ◌++◌, take, All}
 use Rattle.dm_pool.specs.Blocks.{IsLive, zeros}
 use Rattle.dm_space.specs.Memory.{page_bytes}
 use Rattle.dm_ems.specs.Tables.{Expanded, blocks_of, page_count}
 use Rattle.dm_ems.specs.Consistent.{IsConsistent}
 
--- a block that was not there before is there, a page of zeros
+-- the block is not in the pool of x; in that of y it is a page of zeros
 pub record IsNewPage (x y : Expanded) (block : ℕ) : Type 0 where
   pub before : IsLive x.memory.blocks block → ⊥
   pub live : IsLive y.memory.blocks block
   pub bytes : page_bytes y.memory block ≡ zeros 16
 
--- the handle has n pages: the first ones that it had, and after them new ones of zeros. Each page is still a block of
--- its own
+-- after a call from x to y the handle has n pages: the first of those that it had, and after them new ones of zeros.
+-- Tables and memory are consistent
 pub record HasPages (x y : Expanded) (handle n : ℕ) : Type 0 where
   pub count : page_count y.ems handle ≡ n
   pub new : List ℕ

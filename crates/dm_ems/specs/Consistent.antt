@@ -1,5 +1,6 @@
--- That the tables of expanded memory and the memory are consistent: each page is a block of its own and has a handle in
--- use, and windows, saved ones too, show pages alone.
+-- That the tables of expanded memory and the memory are consistent: each page is a block of its own and belongs to a
+-- handle in use, and windows, saved ones too, show pages alone. Blocks are named by their numbers in the pool, whose
+-- table has 576 entries.
 use Rattle.std.specs.Prelude.{ℕ, ◌+◌, ◌<◌, ◌≤◌, ◌≡◌, ◌≢◌, List, length, slice_index_or, AllPairs, count_by, is_some, Option, Some, None, IfSome, IsSome}
 use Rattle.dm_pool.specs.FreeList.{AreBased}
 use Rattle.dm_space.specs.Memory.{IsPage}
@@ -7,19 +8,19 @@ use Rattle.dm_ems.specs.declared.tables.Handle.{Handle}
 use Rattle.dm_ems.specs.declared.tables.Page.{Page}
 use Rattle.dm_ems.specs.Tables.{Expanded}
 
--- the block of page k of the list
+-- the block of page k of the list; 0 past its end
 abbrev pub block_at : List Page → ℕ → ℕ
 block_at pages k = (slice_index_or pages k (record { handle = 0; block = 0 })).block
 
--- the handle of page k of the list
+-- the handle of page k of the list; 0 past its end
 abbrev pub handle_at : List Page → ℕ → ℕ
 handle_at pages k = (slice_index_or pages k (record { handle = 0; block = 0 })).handle
 
--- the handle is in use
+-- the handle is in use by its entry in the table
 abbrev pub IsUsed : List (Option Handle) → ℕ → Type 0
 IsUsed handles handle = IsSome (slice_index_or handles handle None)
 
--- the block is that of a page
+-- the block is that of a page of the list
 abbrev pub IsOwned : List Page → ℕ → Type 0
 IsOwned pages block = (k : ℕ) × (k < length pages) × (block_at pages k ≡ block)
 
@@ -36,7 +37,8 @@ abbrev pub SavesPages : List Page → Option Handle → Type 0
 SavesPages pages None = Unit {0}
 SavesPages pages (Some handle) = IfSome handle.saved (ShowsPages pages)
 
--- tables of expanded memory and memory are consistent
+-- the tables of expanded memory and the memory are consistent: the pool's table has its size, each page belongs to a
+-- handle in use and has a block of 16 KiB of its own, and windows and saved windows show pages alone
 pub record IsConsistent (x : Expanded) : Type 0 where
   pub places : length x.memory.blocks.places ≡ 576
   pub contents : length x.memory.blocks.contents ≡ 576
@@ -48,6 +50,6 @@ pub record IsConsistent (x : Expanded) : Type 0 where
   pub shown : ShowsPages x.ems.pages x.memory.windows
   pub saved : (handle : ℕ) → SavesPages x.ems.pages (slice_index_or x.ems.handles handle None)
 
--- at most 64 of the 576 blocks that can be are no pages, so there is a number for each page that may come
+-- at most 64 blocks of the pool are not pages: so of its 576 numbers 512 are left for pages
 abbrev pub HasNumbers : Expanded → Type 0
 HasNumbers x = count_by is_some x.memory.blocks.places ≤ length x.ems.pages + 64

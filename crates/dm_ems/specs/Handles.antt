@@ -1,12 +1,12 @@
--- Handles and their pages (LIM EMS 4.0, functions 3, 4, 6, 12 and 13): each row's refusals in the order in which they
--- are tried.
+-- Handles and their pages (LIM EMS 4.0, functions 3, 4, 6, 12 and 13; INT 67h functions 42h, 43h, 45h, 4Bh and 4Ch).
+-- Errors are tried in the order in which they are written.
 use Rattle.std.specs.Prelude.{ℕ, nat_lt, ◌==◌, is_some, count_by, if◌then◌else◌, Some, None, Result, Ok, Err}
 use Rattle.dm_ems.specs.declared.status.Status.{Status}
 use Rattle.dm_ems.specs.declared.status.Status.TheVariants.{NoPages, NoHandleLeft, OverTotal, OverFree, UnknownHandle, ContextSaved}
 use Rattle.dm_ems.specs.Tables.{Expanded, free_handle, unallocated, appended, blank, cut, page_count}
 use Rattle.dm_ems.specs.Calls.{need, slot, with_slot}
 
--- a new handle, the lowest that is not in use, with n pages of zeros
+-- 43h: a new handle, the lowest that is not in use, gets n pages of zeros; its number is the result
 unfoldable pub allocate : Expanded → ℕ → Result (ℕ × Expanded) Status
 allocate x n =
     if n == 0 then Err NoPages else
@@ -15,17 +15,18 @@ allocate x n =
     if nat_lt (unallocated x) n then Err OverFree else
     Ok (handle, appended (with_slot x handle (Some blank)) handle n))
 
--- a handle and its pages are freed; handle 0 stays in use, with no page and no name
+-- 45h: a handle and its pages are freed, which leave all windows and saved windows; handle 0 stays in use, with no
+-- page and no name
 unfoldable pub deallocate : Expanded → ℕ → Result (Unit {0} × Expanded) Status
 deallocate x handle =
     need (slot x handle) UnknownHandle (λ s.
     if is_some s.saved then Err ContextSaved else
     Ok (tt, with_slot (cut x handle 0) handle (if handle == 0 then Some blank else None)))
 
--- the number of handles in use
+-- 4Bh: the number of handles in use, handle 0 among them
 abbrev pub in_use : Expanded → ℕ
 in_use x = count_by is_some x.ems.handles
 
--- the number of pages of a handle
+-- 4Ch: the number of pages of a handle
 unfoldable pub count_pages : Expanded → ℕ → Result ℕ Status
 count_pages x handle = need (slot x handle) UnknownHandle (λ s. Ok (page_count x.ems handle))

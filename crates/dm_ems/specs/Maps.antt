@@ -1,5 +1,5 @@
--- The windows of the frame (LIM EMS 4.0, functions 5, 8 and 9): each row's refusals in the order in which they are
--- tried.
+-- The windows of the frame (LIM EMS 4.0, functions 5, 8 and 9; INT 67h functions 44h, 47h and 48h). Errors are tried
+-- in the order in which they are written.
 use Rattle.std.specs.Prelude.{ℕ, nat_le, ◌==◌, is_some, if◌then◌else◌, slice_get, Option, Some, None, Result, Ok, Err}
 use Rattle.dm_space.specs.Memory.{with_window}
 use Rattle.dm_ems.specs.declared.status.Status.{Status}
@@ -7,11 +7,11 @@ use Rattle.dm_ems.specs.declared.status.Status.TheVariants.{UnknownHandle, NoSuc
 use Rattle.dm_ems.specs.Tables.{Expanded, blocks_of, with_windows}
 use Rattle.dm_ems.specs.Calls.{need, slot, with_slot, with_memory}
 
--- a window shows a block from now on, or none
+-- the window, 0 to 3, shows a block of the pool, or nothing; the tables stay
 abbrev pub showing : Expanded → ℕ → Option ℕ → Expanded
 showing x window block = with_memory x (with_window x.memory window block)
 
--- a window shows a logical page of a handle from now on, or with FFFFh none
+-- 44h: a window shows a logical page of a handle, or nothing with page FFFFh; the tables stay
 unfoldable pub map_page : Expanded → ℕ → ℕ → ℕ → Result (Unit {0} × Expanded) Status
 map_page x window page handle =
     need (slot x handle) UnknownHandle (λ s.
@@ -20,14 +20,14 @@ map_page x window page handle =
     need (slice_get (blocks_of x.ems handle) page) NoSuchPage (λ block.
     Ok (tt, showing x window (Some block))))
 
--- a handle keeps what the four windows show
+-- 47h: what the four windows show is saved under a handle; memory stays
 unfoldable pub save_map : Expanded → ℕ → Result (Unit {0} × Expanded) Status
 save_map x handle =
     need (slot x handle) UnknownHandle (λ s.
     if is_some s.saved then Err SavedAlready else
     Ok (tt, with_slot x handle (Some (record s { saved = Some x.memory.windows }))))
 
--- the windows show again what a handle kept, which it forgets
+-- 48h: the four windows show what was saved under a handle, which then has nothing saved
 unfoldable pub restore_map : Expanded → ℕ → Result (Unit {0} × Expanded) Status
 restore_map x handle =
     need (slot x handle) UnknownHandle (λ s.

@@ -1,9 +1,9 @@
--- The status bytes of refusals (LIM EMS 4.0, appendix A).
+-- The status bytes that failing calls of INT 67h return in AH (LIM EMS 4.0, appendix A).
 use Rattle.std.specs.Prelude.{ℕ}
 use Rattle.dm_ems.specs.declared.status.Status.{Status}
 use Rattle.dm_ems.specs.declared.status.Status.TheVariants as status
 
--- the status byte of a refusal
+-- the status byte of an error
 unfoldable pub code_of : Status → ℕ
 code_of status.UnknownHandle = 0x83
 code_of status.NoHandleLeft = 0x85

@@ -1,4 +1,4 @@
-//! Handles and their pages (LIM EMS 4.0, functions 3, 4, 6, 12 and 13; INT 67h, 42h, 43h, 45h, 4Bh and 4Ch).
+//! Handles and their pages (LIM EMS 4.0, functions 3, 4, 6, 12 and 13; INT 67h functions 42h, 43h, 45h, 4Bh and 4Ch).
 
 ghost use Rattle.std.specs.Prelude.{◌≡◌};
 ghost use Rattle.dm_ems.specs.Tables.{expanded};
@@ -10,19 +10,19 @@ use crate::status::Status;
 use crate::tables::{Ems, Handle, NO_NAME};
 use dm_space::Space;
 
-/// A handle with no name, that keeps no saved windows.
+/// The entry of a handle with no name and no saved windows.
 const BLANK: Handle = Handle {
     name: NO_NAME,
     saved: None,
 };
 
 impl Ems {
-    /// Gives a new handle, the lowest that is not in use, `pages` pages of zeros, and returns its number. It gets fewer
-    /// only if the pool's table is full; in a machine it never is (`pages_come`).
+    /// 43h: allocates a new handle, the lowest that is not in use, with `pages` pages of zeros, and returns its
+    /// number. It gets fewer only if the pool's table is full; in a machine it never is (`pages_come`).
     ///
     /// # Errors
     ///
-    /// In this order: `NoPages` for none, `NoHandleLeft`, `OverTotal`, `OverFree`. Then nothing has changed.
+    /// In this order: `NoPages` for 0 pages, `NoHandleLeft`, `OverTotal`, `OverFree`. Then nothing has changed.
     #[tactic(auto, unfolding(crate::specs::Handles::allocate))]
     pub fn allocate(&mut self, space: &mut Space, pages: u16) -> Result<u16, Status>
         ensures answer { result ≡ answer (allocate (expanded self.old space.old.memory) pages) }
@@ -48,12 +48,12 @@ impl Ems {
         Ok(handle)
     }
 
-    /// Frees a handle and its pages, which leave all windows and all saved windows. Handle 0 stays in use, with no page
-    /// and no name.
+    /// 45h: frees a handle and its pages, which leave all windows and all saved windows. Handle 0 stays in use, with
+    /// no page and no name.
     ///
     /// # Errors
     ///
-    /// In this order: `UnknownHandle`; `ContextSaved` where the handle keeps saved windows. Then nothing has changed.
+    /// In this order: `UnknownHandle`; `ContextSaved` where the handle has saved windows. Then nothing has changed.
     #[tactic(auto, unfolding(crate::specs::Handles::deallocate))]
     pub fn deallocate(&mut self, space: &mut Space, handle: u16) -> Result<(), Status>
         requires { IsConsistent (expanded self.old space.old.memory) }
@@ -73,7 +73,7 @@ impl Ems {
         Ok(())
     }
 
-    /// How many pages a handle has.
+    /// 4Ch: the number of pages of a handle.
     ///
     /// # Errors
     ///

@@ -1,4 +1,4 @@
-//! The windows of the frame (LIM EMS 4.0, functions 5, 8 and 9; INT 67h, 44h, 47h and 48h).
+//! The windows of the frame (LIM EMS 4.0, functions 5, 8 and 9; INT 67h functions 44h, 47h and 48h).
 
 ghost use Rattle.std.specs.Prelude.{◌≡◌, ◌<◌, Option, IfSome};
 ghost use Rattle.dm_space.specs.Memory.{IsPage, with_window};
@@ -12,14 +12,14 @@ use crate::status::Status;
 use crate::tables::{Ems, Handle};
 use dm_space::Space;
 
-/// How many windows the frame has.
+/// The number of windows of the frame.
 const WINDOWS: u8 = 4;
 
 /// The logical page number that unmaps a window.
 const NO_PAGE: u16 = 0xFFFF;
 
 impl Ems {
-    /// Makes a window show a logical page of a handle, or none with page FFFFh.
+    /// 44h: makes a window, 0 to 3, show a logical page of a handle, or nothing with page FFFFh.
     ///
     /// # Errors
     ///
@@ -56,11 +56,11 @@ impl Ems {
         }
     }
 
-    /// Keeps what the four windows show under a handle.
+    /// 47h: saves what the four windows show under a handle.
     ///
     /// # Errors
     ///
-    /// In this order: `UnknownHandle`; `SavedAlready` where the handle keeps windows. Then nothing has changed.
+    /// In this order: `UnknownHandle`; `SavedAlready` where the handle has saved windows. Then nothing has changed.
     #[tactic(auto, unfolding(crate::specs::Maps::save_map))]
     pub fn save_map(&mut self, space: &Space, handle: u16) -> Result<(), Status>
         ensures answer { result ≡ answer (save_map (expanded self.old space.now.memory) handle) }
@@ -84,11 +84,11 @@ impl Ems {
         Ok(())
     }
 
-    /// Makes the four windows show what a handle kept, and forgets it.
+    /// 48h: makes the four windows show what was saved under a handle, which then has nothing saved.
     ///
     /// # Errors
     ///
-    /// In this order: `UnknownHandle`; `NoneSaved` where the handle keeps nothing. Then nothing has changed.
+    /// In this order: `UnknownHandle`; `NoneSaved` where the handle has nothing saved. Then nothing has changed.
     #[tactic(auto, unfolding(crate::specs::Maps::restore_map))]
     pub fn restore_map(&mut self, space: &mut Space, handle: u16) -> Result<(), Status>
         requires { IsConsistent (expanded self.old space.old.memory) }

@@ -1,4 +1,4 @@
-//! Lists of handles, and their names (LIM EMS 4.0, functions 14, 20 and 21; INT 67h, 4Dh, 53h and 54h).
+//! Lists of handles, and their names (LIM EMS 4.0, functions 14, 20 and 21; INT 67h functions 4Dh, 53h and 54h).
 
 ghost use Rattle.std.specs.Prelude.{◌≡◌, ◌+◌, ◌≤◌, ◌<◌, ◌++◌, position, length, slice_set, slice_index_or, IfSome, None};
 ghost use Rattle.std.specs.List.{list_any};
@@ -13,9 +13,10 @@ use crate::tables::{Ems, HANDLES, Handle, NO_NAME};
 use arrayvec::ArrayVec;
 use dm_space::Space;
 
-/// What is written for all handles, at most ten bytes for each.
+/// The entries of all 64 handles in a list of handles, as bytes: at most ten for each.
 type Entries = ArrayVec<u8, 640>;
 
+/// Appends a word, low byte first.
 fn put_word(entries: &mut Entries, value: u16)
     requires { array_vec_len entries.old + 2 ≤ 640 }
     ensures items { entries.new.items ≡ entries.old.items ++ word_bytes value }
@@ -26,6 +27,7 @@ fn put_word(entries: &mut Entries, value: u16)
     entries.push(high);
 }
 
+/// Appends the eight bytes of a name.
 fn put_name(entries: &mut Entries, name: &[u8; 8])
     requires { array_vec_len entries.old + 8 ≤ 640 }
     ensures items { entries.new.items ≡ entries.old.items ++ name.now }
@@ -35,7 +37,7 @@ fn put_name(entries: &mut Entries, name: &[u8; 8])
     let _ = entries.try_extend_from_slice(name);
 }
 
-/// The eight bytes from segment:offset on; offsets wrap.
+/// The eight bytes at segment:offset; offsets wrap.
 fn name_at(space: &Space, segment: u16, offset: u16) -> [u8; 8]
     ensures { result ≡ eight_after space.now.memory segment offset }
 {
@@ -43,12 +45,14 @@ fn name_at(space: &Space, segment: u16, offset: u16) -> [u8; 8]
     [at(0), at(1), at(2), at(3), at(4), at(5), at(6), at(7)]
 }
 
+/// Whether the name is eight zeros, which stand for no name.
 fn is_no_name(name: &[u8; 8]) -> bool
     ensures { result ≡ is_no_name name.now }
 {
     *name == NO_NAME
 }
 
+/// Whether the entry is one of a handle in use with this name.
 fn has_name(slot: &Option<Handle>, name: &[u8; 8]) -> bool
     ensures { result ≡ has_name name.now slot.now }
 {
@@ -58,12 +62,14 @@ fn has_name(slot: &Option<Handle>, name: &[u8; 8]) -> bool
     }
 }
 
+/// Whether one of the handles is in use and has this name.
 fn any_has_name(slots: &[Option<Handle>], name: &[u8; 8]) -> bool
     ensures { result ≡ list_any (has_name name.now) slots.now }
 {
     slots.iter().any(|slot| has_name(slot, name))
 }
 
+/// Whether a handle in use other than `handle` has this name.
 #[tactic(auto, using(crate::proofs::Others::any_other))]
 fn any_other_has_name(slots: &[Option<Handle>], handle: usize, name: &[u8; 8]) -> bool
     requires { handle < length slots.now }
@@ -74,6 +80,7 @@ fn any_other_has_name(slots: &[Option<Handle>], handle: usize, name: &[u8; 8]) -
     below || above
 }
 
+/// The index of the first handle in use with this name; None if there is none.
 fn first_with_name(slots: &[Option<Handle>], name: &[u8; 8]) -> Option<usize>
     ensures first { result ≡ position (has_name name.now) slots.now }
     ensures there { IfSome result (λ k. k < length slots.now) }
@@ -82,6 +89,8 @@ fn first_with_name(slots: &[Option<Handle>], name: &[u8; 8]) -> Option<usize>
 }
 
 impl Ems {
+    /// Appends the entry of a handle in the list of 4Dh: its number and its number of pages, two words. A handle that
+    /// is not in use has none.
     fn put_pages(&self, entries: &mut Entries, handle: u16)
         requires { array_vec_len entries.old + 4 ≤ 640 }
         ensures items { entries.new.items ≡ entries.old.items ++ page_entry self.now handle (slice_index_or self.now.handles handle None) }
@@ -93,6 +102,7 @@ impl Ems {
         }
     }
 
+    /// The entries of all handles in use for the list of 4Dh, in ascending order.
     #[tactic(auto, using(crate::proofs::Turns::in_turn_more))]
     fn page_entries(&self) -> Entries
         ensures items { result.items ≡ in_turn (λ handle. page_entry self.now handle (slice_index_or self.now.handles handle None)) 64 }
@@ -104,8 +114,8 @@ impl Ems {
         entries
     }
 
-    /// Writes two words at segment:offset for each handle in use, the handle and its number of pages, and returns how
-    /// many handles are in use.
+    /// 4Dh: writes two words at segment:offset for each handle in use, in ascending order: the handle and its number
+    /// of pages. Returns the number of handles in use.
     #[tactic(auto, unfolding(crate::specs::Names::list_pages))]
     pub fn list_pages(&self, space: &mut Space, segment: u16, offset: u16) -> u16
         ensures answer { result ≡ (list_pages (expanded self.now space.old.memory) segment offset).0 }
@@ -116,6 +126,8 @@ impl Ems {
         self.in_use()
     }
 
+    /// Appends the entry of a handle in the list of 54h: its number, a word, and its name, eight bytes. A handle that
+    /// is not in use has none.
     fn put_handle(&self, entries: &mut Entries, handle: u16)
         requires { array_vec_len entries.old + 10 ≤ 640 }
         ensures items { entries.new.items ≡ entries.old.items ++ name_entry handle (slice_index_or self.now.handles handle None) }
@@ -127,6 +139,7 @@ impl Ems {
         }
     }
 
+    /// The entries of all handles in use for the list of 54h, in ascending order.
     #[tactic(auto, using(crate::proofs::Turns::in_turn_more))]
     fn name_entries(&self) -> Entries
         ensures items { result.items ≡ in_turn (λ handle. name_entry handle (slice_index_or self.now.handles handle None)) 64 }
@@ -138,8 +151,8 @@ impl Ems {
         entries
     }
 
-    /// Writes the number and the name of each handle in use, a word and eight bytes each, at segment:offset, and
-    /// returns how many handles there are.
+    /// 54h, AL = 0: writes the number and the name of each handle in use, a word and eight bytes each, in ascending
+    /// order at segment:offset. Returns the number of handles in use.
     #[tactic(auto, unfolding(crate::specs::Names::list_names))]
     pub fn list_names(&self, space: &mut Space, segment: u16, offset: u16) -> u16
         ensures answer { result ≡ (list_names (expanded self.now space.old.memory) segment offset).0 }
@@ -151,7 +164,7 @@ impl Ems {
         self.in_use()
     }
 
-    /// Whether another handle has the name; eight zeros are no name.
+    /// Whether a handle in use other than this one has the name; false for eight zeros.
     #[tactic(auto, unfolding(crate::specs::Names::is_name_of_other))]
     fn is_name_of_other(&self, handle: u16, name: &[u8; 8]) -> bool
         requires { handle < 64 }
@@ -163,7 +176,7 @@ impl Ems {
         any_other_has_name(self.slots(), handle as usize, name)
     }
 
-    /// Writes the name of a handle at segment:offset.
+    /// 53h, AL = 0: writes the eight bytes of a handle's name at segment:offset.
     ///
     /// # Errors
     ///
@@ -187,7 +200,7 @@ impl Ems {
         Ok(())
     }
 
-    /// Gives a handle the name that stands at segment:offset; eight zeros take its name away.
+    /// 53h, AL = 1: gives a handle the name that stands at segment:offset; eight zeros remove its name.
     ///
     /// # Errors
     ///
@@ -215,7 +228,7 @@ impl Ems {
         Ok(())
     }
 
-    /// The handle with the name that stands at segment:offset.
+    /// 54h, AL = 1: the lowest handle with the name that stands at segment:offset.
     ///
     /// # Errors
     ///
@@ -234,7 +247,7 @@ impl Ems {
         }
     }
 
-    /// The lowest handle with a name.
+    /// The lowest handle with a name; None if no handle has it.
     fn named(&self, name: &[u8; 8]) -> Option<u16>
         ensures { result ≡ position (has_name name.now) self.now.handles }
     {

@@ -1,4 +1,4 @@
-//! How pages come and go (LIM EMS 4.0, sections 2 and 3).
+//! How pages are added to a handle and removed (LIM EMS 4.0, sections 2 and 3). None of it changes the scratch part.
 
 ghost use Rattle.std.specs.Prelude.{◌≡◌, ◌<◌, ◌+◌, length, map, drop, slice_index_or, IfSome, None, ℕ};
 ghost use Rattle.dm_space.specs.Memory.{IsPage};
@@ -9,10 +9,10 @@ use crate::tables::{Ems, Page, unmapped_windows};
 use dm_pool::Block;
 use dm_space::Space;
 
-/// How many units of 1 KiB a page has.
+/// The number of units of 1 KiB of the pool that a page has.
 const PAGE_UNITS: usize = 16;
 
-/// Makes the four windows show these blocks, each the size of a page.
+/// Makes the four windows show these blocks of 16 KiB, or nothing. Nothing else changes.
 pub fn set_windows(space: &mut Space, windows: [Option<Block>; 4])
     requires { (k : ℕ) → IfSome (slice_index_or windows k None) (IsPage space.old.memory) }
     ensures { space.new ≡ record space.old { memory = with_windows space.old.memory windows } }
@@ -23,7 +23,7 @@ pub fn set_windows(space: &mut Space, windows: [Option<Block>; 4])
     }
 }
 
-/// Makes no window show a block.
+/// Makes each window that shows this block show nothing.
 fn unmap(space: &mut Space, block: Block)
     ensures { space.new ≡ record space.old { memory = with_windows space.old.memory (map (unmapped block) space.old.memory.windows) } }
 {
@@ -31,7 +31,7 @@ fn unmap(space: &mut Space, block: Block)
     set_windows(space, windows);
 }
 
-/// The blocks after the first `count` ones.
+/// The blocks after the first `count`; none if there are not more.
 fn behind(blocks: &[Block], count: usize) -> &[Block]
     ensures { result.now ≡ drop count blocks.now }
 {
@@ -43,7 +43,8 @@ fn behind(blocks: &[Block], count: usize) -> &[Block]
 }
 
 impl Ems {
-    /// How many pages no handle has: as many as fit the gaps of the pool, and as are left of the total.
+    /// 42h: the number of pages that can still be allocated: those that fit the gaps of the pool, but not more than
+    /// are left of the total.
     pub fn unallocated(&self, space: &Space) -> u16
         ensures { result ≡ unallocated (expanded self.now space.now.memory) }
     {
@@ -56,8 +57,8 @@ impl Ems {
         }
     }
 
-    /// Adds a page of zeros after those of a handle, where a gap of the pool holds one and its table has a free number;
-    /// otherwise nothing changes. The handle is not tried: whoever calls knows that it is in use.
+    /// Adds a page of zeros after those of a handle, where a gap of the pool holds one and the pool's table has a
+    /// free number; otherwise nothing changes. The handle is not checked: the caller knows that it is in use.
     #[tactic(auto, unfolding(crate::specs::Tables::appended_page))]
     pub fn append(&mut self, space: &mut Space, handle: u16)
         requires { length self.old.pages < self.old.total }
@@ -69,7 +70,8 @@ impl Ems {
         }
     }
 
-    /// Takes a page from its handle, all windows and all saved windows, and gives its block back.
+    /// Removes the page with this block from its handle, all windows and all saved windows, and gives the block back
+    /// to the pool. If no page has the block, nothing changes.
     #[tactic(auto, unfolding(crate::specs::Tables::forgotten))]
     pub(crate) fn forget(&mut self, space: &mut Space, block: Block)
         requires { IsConsistent (expanded self.old space.old.memory) }
@@ -84,7 +86,8 @@ impl Ems {
         }
     }
 
-    /// Takes its pages from a handle but the first `count` ones.
+    /// Removes the pages of a handle after its first `count`: from all windows and all saved windows too, and their
+    /// blocks from the pool.
     #[tactic(auto, unfolding(crate::specs::Tables::cut))]
     pub fn cut(&mut self, space: &mut Space, handle: u16, count: usize)
         requires { IsConsistent (expanded self.old space.old.memory) }

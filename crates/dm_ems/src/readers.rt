@@ -1,4 +1,5 @@
-//! What a listing reads of the tables (LIM EMS 4.0, section 2: handles, logical pages, the page frame).
+//! What the listings of the expanded memory driver's tables read (LIM EMS 4.0, section 2: handles, logical pages, the
+//! page frame).
 
 ghost use Rattle.std.specs.Prelude.{◌≡◌, ◌<◌, ◌≤◌, length, count_by};
 ghost use Rattle.dm_ems.specs.Tables.{is_of};
@@ -7,16 +8,16 @@ ghost use Rattle.dm_ems.specs.Readers.{holding, page_shown};
 use crate::tables::{Ems, Page};
 use dm_space::Space;
 
-/// What a handle in use holds.
+/// The number of pages and the name of a handle in use.
 #[derive(Clone, Copy, Debug, PartialEq, Eq)]
 pub struct Holding {
-    /// How many pages it has.
+    /// The number of its pages.
     pub pages: u16,
-    /// Its name; eight zeros are none.
+    /// Its name; eight zeros if it has none.
     pub name: [u8; 8],
 }
 
-/// How many of these pages a handle has.
+/// How many of these pages belong to a handle.
 fn count_of(pages: &[Page], handle: u16) -> usize
     ensures count { result ≡ count_by (is_of handle) pages.now }
     ensures few { result ≤ length pages.now }
@@ -25,7 +26,7 @@ fn count_of(pages: &[Page], handle: u16) -> usize
 }
 
 impl Ems {
-    /// How many pages a handle has, and its name; None where it is not in use.
+    /// The number of pages and the name of a handle; None where it is not in use.
     pub fn handle(&self, handle: u16) -> Option<Holding>
         ensures { result ≡ holding self.now handle }
     {
@@ -39,7 +40,7 @@ impl Ems {
         }
     }
 
-    /// The handle and its logical page that one of the windows 0 to 3 shows; None where it shows no page.
+    /// The handle and the logical number of the page that a window, 0 to 3, shows; None where it shows nothing.
     pub fn window(&self, space: &Space, window: usize) -> Option<(u16, u16)>
         requires { window < 4 }
         ensures { result ≡ page_shown self.now space.now.memory window }

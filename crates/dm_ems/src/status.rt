@@ -1,32 +1,32 @@
-//! The errors of the expanded memory driver's calls (LIM EMS 4.0, appendix A).
+//! The errors of the calls of INT 67h (LIM EMS 4.0, appendix A).
 
 ghost use Rattle.std.specs.Prelude.{◌≡◌};
 ghost use Rattle.dm_ems.specs.Status.{code_of};
 
-/// Why a call failed.
+/// Why a call of INT 67h failed.
 #[derive(Clone, Copy, Debug, PartialEq, Eq)]
 pub enum Status {
     /// The handle is not in use.
     UnknownHandle,
     /// All 64 handles are in use.
     NoHandleLeft,
-    /// The handle keeps saved windows.
+    /// The handle has saved windows, so it cannot be freed.
     ContextSaved,
-    /// More pages were asked for than there are in all.
+    /// The call asks for more pages than the machine has.
     OverTotal,
-    /// More pages were asked for than are free.
+    /// The call asks for more pages than are free.
     OverFree,
-    /// No page was asked for.
+    /// The call asks for no page.
     NoPages,
     /// The handle has no such page.
     NoSuchPage,
     /// The frame has no such window.
     NoSuchWindow,
-    /// The handle keeps saved windows already.
+    /// The handle has saved windows already.
     SavedAlready,
-    /// The handle keeps no saved windows.
+    /// The handle has no saved windows.
     NoneSaved,
-    /// The function has no such part.
+    /// The function has no such subfunction (AL).
     NoSubfunction,
     /// A region ends after the last page of its handle.
     PastPages,
@@ -34,24 +34,24 @@ pub enum Status {
     KindsOverlap,
     /// The offset is not within a page.
     OffsetPastPage,
-    /// More than 1 MiB was to be moved or exchanged.
+    /// More than 1 MiB is to be moved or exchanged.
     TooLong,
-    /// The regions that were to be exchanged overlap.
+    /// The regions to be exchanged overlap.
     ExchangeOverlaps,
-    /// Memory has no such type.
+    /// There is no such type of memory.
     UnknownKind,
     /// No handle has the name.
     NameNotFound,
-    /// Another handle has the name, or it is no name.
+    /// Another handle has the name, or it is eight zeros, which are no name.
     NameTaken,
     /// A region of conventional memory ends after address FFFFFh.
     PastMemory,
-    /// The map names a page that is not there.
+    /// The map names a handle that is not in use, or a page that its handle does not have.
     BadMap,
 }
 
 impl Status {
-    /// The status byte that a program finds in AH.
+    /// The status byte that the call returns in AH.
     #[tactic(auto, unfolding(crate::specs::Status::code_of))]
     pub fn code(self) -> u8
         ensures { result ≡ code_of self }

@@ -1,4 +1,5 @@
-//! The tables of expanded memory: handles in use, and pages (LIM EMS 4.0, section 2).
+//! The tables of expanded memory: handles in use, and their pages (LIM EMS 4.0, section 2). A page is a block of the
+//! pool.
 
 ghost use Rattle.std.specs.Prelude.{◌≡◌, ◌<◌, ◌≤◌, ◌+◌, ◌^◌, map, slice_index_or, slice_set, slice_get, is_some, count_by, position, is_none, remove, length, IfSome, None, ◌++◌, ◌∷◌, []};
 ghost use Rattle.dm_ems.specs.Tables.{new_tables, blocks_of, page_count, free_handle, unmapped_slot, unmapped, unmapped_saved, is_block};
@@ -7,31 +8,32 @@ use arrayvec::ArrayVec;
 use dm_pool::Block;
 use std::marker::Model;
 
-/// How many handles there are, handle 0 among them.
+/// The number of handles, handle 0 among them.
 pub(crate) const HANDLES: usize = 64;
 
-/// The name of a handle that has none.
+/// The name of a handle that has none: eight zeros.
 pub(crate) const NO_NAME: [u8; 8] = [0; 8];
 
-/// A handle in use.
+/// The entry of a handle in use.
 #[derive(Clone, Copy, Debug)]
 pub struct Handle {
-    /// Its name; eight zeros are none.
+    /// Its name; eight zeros if it has none.
     pub name: [u8; 8],
-    /// The blocks that the four windows showed when they were saved under the handle.
+    /// What the four windows showed when they were saved under the handle (47h); None if nothing is saved.
     pub saved: Option<[Option<Block>; 4]>,
 }
 
-/// A page.
+/// A page of a handle.
 #[derive(Clone, Copy, Debug, Default)]
 pub struct Page {
-    /// The handle that has it.
+    /// The handle that it belongs to.
     pub handle: u16,
-    /// The block of 16 KiB with its bytes.
+    /// The block of the pool, 16 KiB, with its bytes.
     pub block: Block,
 }
 
-/// The handles, and the pages of all of them; the pages of one handle stand in their order.
+/// The tables of the expanded memory driver: the handles, and the pages of all of them; those of one handle are in
+/// the order of their logical numbers. Contracts see them and the total number of pages.
 #[derive(Drop)]
 pub struct Ems {
     total: u16,
@@ -50,7 +52,7 @@ impl Model for Ems {
     ghost invariant = { λ e. IsTables (record { total = e.total; handles = e.handles; pages = e.pages.items }) };
 }
 
-/// What a window shows once a block is gone.
+/// What a window shows once a block is removed: nothing, if it showed that block.
 fn unmapped(shown: Option<Block>, block: Block) -> Option<Block>
     ensures { result ≡ unmapped block shown }
 {
@@ -60,13 +62,14 @@ fn unmapped(shown: Option<Block>, block: Block) -> Option<Block>
     }
 }
 
-/// What four windows show once a block is gone.
+/// What the four windows show once a block is removed.
 pub(crate) fn unmapped_windows(shown: [Option<Block>; 4], block: Block) -> [Option<Block>; 4]
     ensures { result ≡ map (unmapped block) shown }
 {
     shown.map(|page| unmapped(page, block))
 }
 
+/// What saved windows show once a block is removed.
 fn unmapped_saved(saved: Option<[Option<Block>; 4]>, block: Block) -> Option<[Option<Block>; 4]>
     ensures { result ≡ unmapped_saved block saved }
 {
@@ -76,6 +79,7 @@ fn unmapped_saved(saved: Option<[Option<Block>; 4]>, block: Block) -> Option<[Op
     }
 }
 
+/// The entry of a handle once a block is removed: its saved windows no longer show it. The name stays.
 fn unmapped_slot(slot: Option<Handle>, block: Block) -> Option<Handle>
     ensures { result ≡ unmapped_slot block slot }
 {
@@ -89,6 +93,7 @@ fn unmapped_slot(slot: Option<Handle>, block: Block) -> Option<Handle>
     }
 }
 
+/// Makes the saved windows of all handles no longer show a block.
 fn unmap_slots(slots: &mut [Option<Handle>], block: Block)
     ensures { slots.new ≡ map (unmapped_slot block) slots.old }
 {
@@ -97,6 +102,7 @@ fn unmap_slots(slots: &mut [Option<Handle>], block: Block)
     }
 }
 
+/// The index of the first handle that is not in use; None if all are.
 fn first_free(slots: &[Option<Handle>]) -> Option<usize>
     ensures first { result ≡ position is_none slots.now }
     ensures there { IfSome result (λ k. k < length slots.now) }
@@ -104,6 +110,7 @@ fn first_free(slots: &[Option<Handle>]) -> Option<usize>
     slots.iter().position(|slot| slot.is_none())
 }
 
+/// The index of the page with this block; None if there is none.
 fn first_of(pages: &[Page], block: Block) -> Option<usize>
     ensures first { result ≡ position (is_block block) pages.now }
     ensures there { IfSome result (λ k. k < length pages.now) }
@@ -130,7 +137,7 @@ impl Ems {
         }
     }
 
-    /// How many pages there are in all, at most 512.
+    /// The number of pages of the machine, free ones included; at most 512.
     pub fn total(&self) -> u16
         ensures total { result ≡ self.now.total }
         ensures few { result ≤ 512 }
@@ -151,14 +158,14 @@ impl Ems {
         }
     }
 
-    /// All handles.
+    /// The entries of all 64 handles, by number; None for one that is not in use.
     pub(crate) fn slots(&self) -> &[Option<Handle>; 64]
         ensures { result.now ≡ self.now.handles }
     {
         &self.handles
     }
 
-    /// Gives a handle another entry; with None it is not in use.
+    /// Sets the entry of a handle, below 64; with None it is no longer in use. Its pages stay.
     pub(crate) fn set_slot(&mut self, handle: u16, slot: Option<Handle>)
         requires { handle < 64 }
         ensures { self.new ≡ record self.old { handles = slice_set self.old.handles handle slot } }
@@ -166,7 +173,7 @@ impl Ems {
         self.handles[handle as usize] = slot;
     }
 
-    /// How many handles are in use, with handle 0.
+    /// The number of handles in use, handle 0 among them.
     pub fn in_use(&self) -> u16
         ensures count { result ≡ count_by is_some self.now.handles }
         ensures few { result ≤ 64 }
@@ -174,7 +181,7 @@ impl Ems {
         self.handles.iter().filter(|slot| slot.is_some()).count() as u16
     }
 
-    /// The lowest handle that is not in use.
+    /// The lowest handle that is not in use; None if all 64 are.
     pub(crate) fn free_handle(&self) -> Option<u16>
         ensures first { result ≡ free_handle self.now }
         ensures low { IfSome result (λ handle. handle < 64) }
@@ -185,7 +192,7 @@ impl Ems {
         }
     }
 
-    /// The blocks of a handle's pages, in the order of its logical pages.
+    /// The blocks of a handle's pages, in the order of their logical numbers.
     pub fn blocks(&self, handle: u16) -> ArrayVec<Block, 512>
         ensures { result.items ≡ blocks_of self.now handle }
     {
@@ -206,7 +213,7 @@ impl Ems {
         blocks.as_slice().get(page as usize).copied()
     }
 
-    /// How many pages a handle has.
+    /// The number of pages of a handle.
     pub fn page_count(&self, handle: u16) -> u16
         ensures count { result ≡ page_count self.now handle }
         ensures few { result ≤ 512 }
@@ -217,14 +224,14 @@ impl Ems {
             .count() as u16
     }
 
-    /// How many pages all handles have together.
+    /// The number of pages of all handles together.
     pub fn pages_in_use(&self) -> u16
         ensures { result ≡ length self.now.pages }
     {
         self.pages.len() as u16
     }
 
-    /// The pages of all handles; those of one handle stand in the order of their logical numbers.
+    /// The pages of all handles; those of one handle are in the order of their logical numbers.
     pub fn pages(&self) -> &[Page]
         ensures pages { result.now ≡ self.now.pages }
         ensures few { length result.now ≤ 512 }
@@ -232,6 +239,7 @@ impl Ems {
         self.pages.as_slice()
     }
 
+    /// Adds a page after all others. No block is allocated.
     pub(crate) fn push(&mut self, page: Page)
         requires { length self.old.pages < self.old.total }
         ensures { self.new ≡ record self.old { pages = self.old.pages ++ page ∷ [] } }
@@ -239,7 +247,7 @@ impl Ems {
         self.pages.push(page);
     }
 
-    /// Where the page with a block stands among all pages.
+    /// The index of the page with this block among all pages; None if there is none.
     pub(crate) fn place(&self, block: Block) -> Option<usize>
         ensures first { result ≡ position (is_block block) self.now.pages }
         ensures there { IfSome result (λ k. k < length self.now.pages) }
@@ -247,6 +255,7 @@ impl Ems {
         first_of(self.pages.as_slice(), block)
     }
 
+    /// Removes the page at an index from the list. Windows, and the block, stay.
     pub(crate) fn remove(&mut self, at: usize)
         requires { at < length self.old.pages }
         ensures { self.new ≡ record self.old { pages = remove self.old.pages at } }
@@ -254,7 +263,7 @@ impl Ems {
         self.pages.remove(at);
     }
 
-    /// Makes no saved window show a block.
+    /// Makes the saved windows of all handles no longer show a block.
     pub(crate) fn unmap_saved(&mut self, block: Block)
         ensures { self.new ≡ record self.old { handles = map (unmapped_slot block) self.old.handles } }
     {

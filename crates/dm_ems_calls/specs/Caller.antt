@@ -1,4 +1,5 @@
--- What a call of a driver acts on, and how it returns (LIM EMS 4.0, section 3: AH is the status, 0 for success).
+-- What a call of INT 67h reads and changes, and the registers that it returns (LIM EMS 4.0, section 3: AH is the
+-- status, 0 for success).
 use Rattle.std.specs.Prelude.{ℕ, Result, Ok, Err}
 use Rattle.dm_space.specs.Memory.{Memory}
 use Rattle.dm_ins.specs.declared.operand.ByteRegister.TheVariants.{Ah}
@@ -9,41 +10,43 @@ use Rattle.dm_ems.specs.Status.{code_of}
 use Rattle.dm_ems.specs.Tables.{Tables, Expanded, expanded}
 use Rattle.dm_ems.specs.Calls.{answer, left}
 
--- the registers of the program that calls, and expanded memory
+-- the registers of the program that calls, and the tables and memory of the driver
 pub record Caller : Type 0 where
   pub cpu : Cpu
   pub x : Expanded
 
--- the state of a call, from its parts
+-- registers, tables and memory as one state
 abbrev pub caller : Cpu → Tables → Memory → Caller
 caller cpu ems memory = record { cpu = cpu; x = expanded ems memory }
 
--- AH is the status
+-- the registers with this status in AH
 abbrev pub with_status : Cpu → ℕ → Cpu
 with_status c status = with_byte c Ah status
 
--- a call changes registers alone
+-- the state with other registers; tables and memory stay
 abbrev pub on_cpu : Caller → Cpu → Caller
 on_cpu c cpu = record c { cpu = cpu }
 
--- success: AH is 0
+-- the registers after success: AH is 0, the others stay
 abbrev pub succeeded : Cpu → Cpu
 succeeded cpu = with_status cpu 0
 
--- a refusal: AH is the status
+-- the registers after an error: AH is its status, the others stay
 abbrev pub refused : Cpu → Status → Cpu
 refused cpu e = with_status cpu (code_of e)
 
--- the registers after a call: success changes them as `set` does, a refusal AH alone
+-- the registers after a call: if it succeeds, `set` of the result, and AH is 0; else AH alone changes, to the status
+-- of the error
 abbrev pub settled : {A : Type 0} → Cpu → Result A Status → (A → Cpu) → Cpu
 settled cpu (Ok v) set = succeeded (set v)
 settled cpu (Err e) set = refused cpu e
 
--- the registers after a call whose success sets AH too
+-- the registers after a call: if it succeeds, `set` of the result, which gives AH too; else AH alone changes, to the
+-- status of the error
 abbrev pub settled_with_status : {A : Type 0} → Cpu → Result A Status → (A → Cpu) → Cpu
 settled_with_status cpu (Ok v) set = set v
 settled_with_status cpu (Err e) set = refused cpu e
 
--- after a call that may change the tables or memory
+-- the state after a call: registers as in `settled`, and the tables and memory that the call leaves
 abbrev pub after_call : {A : Type 0} → Caller → Result (A × Expanded) Status → (A → Cpu) → Caller
 after_call c r set = record { cpu = settled c.cpu (answer r) set; x = left c.x r }

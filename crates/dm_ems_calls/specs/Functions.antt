@@ -12,7 +12,7 @@ use Rattle.dm_ems_calls.specs.Names.{handle_name, directory}
 use Rattle.dm_ems_calls.specs.Regions.{regions}
 use Rattle.dm_ems_calls.specs.Frame.{tell_frame, tell_version, mappable}
 
--- the function with a number, which calls have in AH
+-- the function that AH selects
 abbrev pub function_of : ℕ → Function
 function_of number =
     if number == 0x40 then Status else
@@ -35,11 +35,11 @@ function_of number =
     if number == 0x57 then Regions else
     if number == 0x58 then Mappable else Unknown
 
--- there is no such function: status 84h
+-- a function that the driver does not have: AH is status 84h
 unfoldable pub no_function : Cpu → Cpu
 no_function cpu = with_status cpu 0x84
 
--- what a call leaves; 40h returns success alone
+-- the state after a call of a function; 40h (Get Status) only sets AH to 0
 abbrev pub call : Caller → Function → Caller
 call c Status = on_cpu c (succeeded c.cpu)
 call c Frame = on_cpu c (tell_frame c.cpu)
@@ -62,6 +62,6 @@ call c Regions = regions c
 call c Mappable = mappable c
 call c Unknown = on_cpu c (no_function c.cpu)
 
--- INT 67h does what AH names
+-- the state after INT 67h: the function that AH selects is called
 abbrev pub dispatched : Caller → Caller
 dispatched c = call c (function_of (byte_of c.cpu Ah))

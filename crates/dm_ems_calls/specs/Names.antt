@@ -1,5 +1,5 @@
--- The names of handles (LIM EMS 4.0, functions 20 and 21; INT 67h, 53h and 54h): AL says which part of a function is
--- asked for.
+-- The names of handles (LIM EMS 4.0, functions 20 and 21; INT 67h functions 53h and 54h). AL selects the subfunction;
+-- another value returns status 8Fh. AH is the status; other registers than those named stay.
 use Rattle.std.specs.Prelude.{◌==◌, if◌then◌else◌}
 use Rattle.dm_ins.specs.declared.operand.ByteRegister.TheVariants.{Al}
 use Rattle.dm_cpu.specs.declared.cpu.Cpu.{Cpu}
@@ -8,35 +8,36 @@ use Rattle.dm_ems.specs.declared.status.Status.TheVariants.{NoSubfunction}
 use Rattle.dm_ems.specs.Names as rows
 use Rattle.dm_ems_calls.specs.Caller.{Caller, on_cpu, succeeded, refused, settled, after_call}
 
--- 53h, 0: the name of the handle in DX is written at ES:DI
+-- 53h, AL = 0: the eight bytes of the name of the handle in DX are written at ES:DI
 unfoldable pub get_name : Caller → Caller
 get_name c = after_call c (rows.get_name c.x c.cpu.dx c.cpu.es c.cpu.di) (λ done. c.cpu)
 
--- 53h, 1: the handle in DX gets the name at DS:SI
+-- 53h, AL = 1: the handle in DX gets the name at DS:SI, eight bytes
 unfoldable pub set_name : Caller → Caller
 set_name c = after_call c (rows.set_name c.x c.cpu.dx c.cpu.ds c.cpu.si) (λ done. c.cpu)
 
--- 53h: AL says whether a name is read or set
+-- 53h: AL selects whether a name is read (0) or set (1)
 unfoldable pub handle_name : Caller → Caller
 handle_name c =
     if byte_of c.cpu Al == 0 then get_name c else
     if byte_of c.cpu Al == 1 then set_name c else on_cpu c (refused c.cpu NoSubfunction)
 
--- 54h, 0: the handles in use and their names are written at ES:DI, AL is their number
+-- 54h, AL = 0: the handles in use and their names are written at ES:DI, a word and eight bytes each; AL is the number
+-- of handles in use
 unfoldable pub list_names : Caller → Caller
 list_names c =
     let told = rows.list_names c.x c.cpu.es c.cpu.di in
     record { cpu = succeeded (with_byte c.cpu Al told.0); x = told.1 }
 
--- 54h, 1: DX is the handle with the name at DS:SI
+-- 54h, AL = 1: DX is the lowest handle with the name at DS:SI
 unfoldable pub find_name : Caller → Caller
 find_name c = on_cpu c (settled c.cpu (rows.find_name c.x c.cpu.ds c.cpu.si) (λ handle. record c.cpu { dx = handle }))
 
--- 54h, 2: BX is how many handles there are in all
+-- 54h, AL = 2: BX is the number of all handles, 64
 unfoldable pub tell_handles : Cpu → Cpu
 tell_handles cpu = succeeded (record cpu { bx = 64 })
 
--- 54h: AL says whether all names are listed, one is searched, or handles are counted
+-- 54h: AL selects whether names are listed (0), one is searched for (1), or all handles are counted (2)
 unfoldable pub directory : Caller → Caller
 directory c =
     if byte_of c.cpu Al == 0 then list_names c else

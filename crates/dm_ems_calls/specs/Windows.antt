@@ -1,4 +1,5 @@
--- The windows of the frame (LIM EMS 4.0, functions 5, 8, 9, 15 and 17; INT 67h, 44h, 47h, 48h, 4Eh and 50h).
+-- The windows of the frame (LIM EMS 4.0, functions 5, 8, 9, 15 and 17; INT 67h functions 44h, 47h, 48h, 4Eh and 50h).
+-- AH is the status; other registers than those named stay.
 use Rattle.std.specs.Prelude.{ℕ, Option, Some, None}
 use Rattle.dm_ins.specs.declared.operand.ByteRegister.TheVariants.{Al}
 use Rattle.dm_cpu.specs.declared.cpu.Cpu.{Cpu}
@@ -8,27 +9,29 @@ use Rattle.dm_ems_move.specs.Maps as maps
 use Rattle.dm_ems_move.specs.Many as many
 use Rattle.dm_ems_calls.specs.Caller.{Caller, after_call}
 
--- 44h: window AL shows logical page BX of the handle in DX
+-- 44h: window AL shows logical page BX of the handle in DX, or nothing for page FFFFh
 unfoldable pub map_page : Caller → Caller
 map_page c = after_call c (rows.map_page c.x (byte_of c.cpu Al) c.cpu.bx c.cpu.dx) (λ done. c.cpu)
 
--- 47h: what the windows show is kept under the handle in DX
+-- 47h: what the four windows show is saved under the handle in DX
 unfoldable pub save_map : Caller → Caller
 save_map c = after_call c (rows.save_map c.x c.cpu.dx) (λ done. c.cpu)
 
--- 48h: the windows show again what was kept under the handle in DX
+-- 48h: the four windows show what was saved under the handle in DX, which then has nothing saved
 unfoldable pub restore_map : Caller → Caller
 restore_map c = after_call c (rows.restore_map c.x c.cpu.dx) (λ done. c.cpu)
 
--- AL is a number, where there is one
+-- the registers with a number in AL, if there is one
 abbrev pub numbered : Cpu → Option ℕ → Cpu
 numbered cpu None = cpu
 numbered cpu (Some n) = with_byte cpu Al n
 
--- 4Eh: the map of the windows is written at ES:DI, set from DS:SI, or both, or AL is its size, as AL says
+-- 4Eh: with AL = 0 the map of the windows is written at ES:DI, with 1 they are set from the map at DS:SI, with 2
+-- both, and with 3 AL is the size of a map in bytes
 unfoldable pub whole_map : Caller → Caller
 whole_map c = after_call c (maps.whole_map c.x (byte_of c.cpu Al) c.cpu.es c.cpu.di c.cpu.ds c.cpu.si) (numbered c.cpu)
 
--- 50h: pages of the handle in DX come into windows, by CX pairs at DS:SI; AL says how a pair names its window
+-- 50h: windows show pages of the handle in DX, as CX pairs at DS:SI say, which name windows by number (AL = 0) or by
+-- segment (AL = 1)
 unfoldable pub map_many : Caller → Caller
 map_many c = after_call c (many.map_many c.x (byte_of c.cpu Al) c.cpu.dx c.cpu.cx c.cpu.ds c.cpu.si) (λ done. c.cpu)

@@ -1,4 +1,5 @@
-//! How a call of the expanded memory driver returns (LIM EMS 4.0, section 3): AH is the status.
+//! The registers that a call of INT 67h returns (LIM EMS 4.0, section 3): AH is the status. Each
+//! function here changes `cpu` alone, and of it only the registers that it names.
 ghost use Rattle.std.specs.Prelude.{◌≡◌};
 ghost use Rattle.dm_ems_move.specs.RegionMoves.{moved_code};
 ghost use Rattle.dm_ems_calls.specs.Caller.{with_status, succeeded, refused, settled, settled_with_status};
@@ -10,21 +11,21 @@ use dm_ems::Status;
 use dm_ems_move::{Moved, Reallocated};
 use dm_ins::ByteRegister;
 
-/// Success: AH is 0.
+/// Sets AH to 0: success.
 pub(crate) fn succeed(cpu: &mut Cpu)
     ensures { cpu.new ≡ succeeded cpu.old }
 {
     cpu.set_byte(ByteRegister::Ah, 0);
 }
 
-/// A refusal: AH is the status.
+/// Sets AH to the status of an error.
 pub(crate) fn refuse(cpu: &mut Cpu, status: Status)
     ensures { cpu.new ≡ refused cpu.old status }
 {
     cpu.set_byte(ByteRegister::Ah, status.code());
 }
 
-/// The status of a call that sets no other register.
+/// Sets AH after a call without another result: 0, or the status of its error.
 pub(crate) fn settle(cpu: &mut Cpu, res: Result<(), Status>)
     ensures { cpu.new ≡ settled cpu.old res (λ done. cpu.old) }
 {
@@ -34,7 +35,7 @@ pub(crate) fn settle(cpu: &mut Cpu, res: Result<(), Status>)
     }
 }
 
-/// The status of a call that returns a number in BX.
+/// Sets AH after a call that returns a number, and BX to that number if it succeeded.
 pub(crate) fn settle_bx(cpu: &mut Cpu, res: Result<u16, Status>)
     ensures { cpu.new ≡ settled cpu.old res (λ number. record cpu.old { bx = number }) }
 {
@@ -47,7 +48,7 @@ pub(crate) fn settle_bx(cpu: &mut Cpu, res: Result<u16, Status>)
     }
 }
 
-/// The status of a call that returns a handle in DX.
+/// Sets AH after a call that returns a handle, and DX to that handle if it succeeded.
 pub(crate) fn settle_dx(cpu: &mut Cpu, res: Result<u16, Status>)
     ensures { cpu.new ≡ settled cpu.old res (λ handle. record cpu.old { dx = handle }) }
 {
@@ -60,7 +61,7 @@ pub(crate) fn settle_dx(cpu: &mut Cpu, res: Result<u16, Status>)
     }
 }
 
-/// The status of a call that may return a number in AL.
+/// Sets AH after a call that may return a number, and AL to that number if there is one.
 pub(crate) fn settle_al(cpu: &mut Cpu, res: Result<Option<u8>, Status>)
     ensures { cpu.new ≡ settled cpu.old res (numbered cpu.old) }
 {
@@ -75,7 +76,8 @@ pub(crate) fn settle_al(cpu: &mut Cpu, res: Result<Option<u8>, Status>)
     }
 }
 
-/// The status of a call that was to give a handle another number of pages; BX is how many it has.
+/// Sets AH after a reallocation (51h), and BX to the handle's number of pages, also where it could
+/// not be changed. With an unknown handle BX stays.
 pub(crate) fn settle_pages(cpu: &mut Cpu, res: Result<Reallocated, Status>)
     ensures { cpu.new ≡ settled_with_status cpu.old res (recounted cpu.old) }
 {
@@ -91,7 +93,8 @@ pub(crate) fn settle_pages(cpu: &mut Cpu, res: Result<Reallocated, Status>)
     }
 }
 
-/// The status of a move: 92h where the regions overlapped.
+/// Sets AH after a move (57h, AL = 0): 0, 92h where the regions overlap, or the status of its
+/// error.
 pub(crate) fn settle_move(cpu: &mut Cpu, res: Result<Moved, Status>)
     ensures { cpu.new ≡ settled_with_status cpu.old res (λ how. with_status cpu.old (moved_code how)) }
 {

@@ -1,4 +1,5 @@
-//! The driver and its frame (LIM EMS 4.0, functions 2, 7 and 25; INT 67h, 41h, 46h and 58h).
+//! The driver's version and the page frame (LIM EMS 4.0, functions 2, 7 and 25; INT 67h functions
+//! 41h, 46h and 58h).
 ghost use Rattle.std.specs.Prelude.{◌≡◌};
 ghost use Rattle.dm_ems_calls.specs.Caller.{caller};
 ghost use Rattle.dm_ems_calls.specs.Frame.{tell_frame, tell_version, list_frame, count_windows, mappable};
@@ -12,13 +13,13 @@ use dm_space::Space;
 /// The segment of the frame.
 const FRAME: u16 = 0xE000;
 
-/// How many windows the frame has.
+/// The number of windows of the frame.
 const WINDOWS: u16 = 4;
 
-/// The version, its digits in two halves of a byte.
+/// The version 4.0, a digit in each half of the byte.
 const VERSION: u8 = 0x40;
 
-/// 41h: BX becomes the frame's segment.
+/// 41h: sets BX to the frame's segment, and AH to 0.
 #[tactic(auto, unfolding(crate::specs::Frame::tell_frame))]
 pub(crate) fn tell_frame(cpu: &mut Cpu)
     ensures { cpu.new ≡ tell_frame cpu.old }
@@ -27,7 +28,7 @@ pub(crate) fn tell_frame(cpu: &mut Cpu)
     succeed(cpu);
 }
 
-/// 46h: AL becomes the version, 4.0.
+/// 46h: sets AL to the version, 4.0, and AH to 0.
 #[tactic(auto, unfolding(crate::specs::Frame::tell_version))]
 pub(crate) fn tell_version(cpu: &mut Cpu)
     ensures { cpu.new ≡ tell_version cpu.old }
@@ -36,7 +37,8 @@ pub(crate) fn tell_version(cpu: &mut Cpu)
     succeed(cpu);
 }
 
-/// 58h, 0: writes the windows' segments and numbers at ES:DI; CX becomes their number.
+/// 58h, AL = 0: writes the segments and numbers of the windows at ES:DI; sets CX to the number of
+/// windows, and AH to 0.
 #[tactic(auto, unfolding(crate::specs::Frame::list_frame))]
 fn list_frame(cpu: &mut Cpu, ems: &Ems, space: &mut Space)
     ensures { caller cpu.new ems.now space.new.memory ≡ list_frame (caller cpu.old ems.now space.old.memory) }
@@ -46,7 +48,7 @@ fn list_frame(cpu: &mut Cpu, ems: &Ems, space: &mut Space)
     succeed(cpu);
 }
 
-/// 58h, 1: CX becomes the number of windows.
+/// 58h, AL = 1: sets CX to the number of windows, and AH to 0.
 #[tactic(auto, unfolding(crate::specs::Frame::count_windows))]
 fn count_windows(cpu: &mut Cpu)
     ensures { cpu.new ≡ count_windows cpu.old }
@@ -55,7 +57,7 @@ fn count_windows(cpu: &mut Cpu)
     succeed(cpu);
 }
 
-/// 58h: AL says whether the windows are listed or counted.
+/// 58h: AL selects whether the windows are listed (0) or counted (1); status 8Fh for another value.
 #[tactic(auto, unfolding(crate::specs::Frame::mappable))]
 pub(crate) fn mappable(cpu: &mut Cpu, ems: &Ems, space: &mut Space)
     ensures { caller cpu.new ems.now space.new.memory ≡ mappable (caller cpu.old ems.now space.old.memory) }

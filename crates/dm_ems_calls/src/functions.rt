@@ -18,37 +18,37 @@ use dm_ems::Ems;
 use dm_ins::ByteRegister;
 use dm_space::Space;
 
-/// The status of a function that is not there.
+/// The status of a function that the driver does not have.
 const NO_FUNCTION: u8 = 0x84;
 
-/// What a call of INT 67h asks for.
+/// A function of INT 67h, by its number in AH.
 #[derive(Clone, Copy, Debug, PartialEq, Eq)]
 pub(crate) enum Function {
-    /// 40h: whether the driver is there.
+    /// 40h: returns success, as the driver is there.
     Status,
     /// 41h: returns the frame's segment in BX.
     Frame,
-    /// 42h: returns in BX the pages that no handle has, in DX all pages.
+    /// 42h: returns in BX the number of pages that can still be allocated, in DX that of all pages.
     Pages,
     /// 43h: gives a new handle BX pages, and returns it in DX.
     Allocate,
     /// 44h: makes window AL show logical page BX of handle DX.
     MapPage,
-    /// 45h: gives up handle DX and its pages.
+    /// 45h: frees handle DX and its pages.
     Deallocate,
     /// 46h: returns the version in AL.
     Version,
-    /// 47h: keeps under handle DX what the windows show.
+    /// 47h: saves what the windows show under handle DX.
     SaveMap,
-    /// 48h: the windows show again what was kept under handle DX.
+    /// 48h: makes the windows show what was saved under handle DX.
     RestoreMap,
-    /// 4Bh: returns in BX how many handles are in use.
+    /// 4Bh: returns in BX the number of handles in use.
     HandleCount,
-    /// 4Ch: returns in BX how many pages handle DX has.
+    /// 4Ch: returns in BX the number of pages of handle DX.
     PageCount,
-    /// 4Dh: writes the handles and their pages at ES:DI.
+    /// 4Dh: writes the handles in use and their numbers of pages at ES:DI.
     PageList,
-    /// 4Eh: gets or sets what all windows show.
+    /// 4Eh: gets or sets the map of all windows.
     WholeMap,
     /// 50h: makes windows show pages of handle DX.
     MapMany,
@@ -56,17 +56,17 @@ pub(crate) enum Function {
     Reallocate,
     /// 53h: gets or sets the name of handle DX.
     HandleName,
-    /// 54h: gets all names, searches for one, or returns how many handles there are.
+    /// 54h: gets all names, searches for one, or returns the number of all handles.
     Directory,
     /// 57h: moves or exchanges regions of memory.
     Regions,
-    /// 58h: returns the windows' segments and numbers.
+    /// 58h: returns the segments and numbers of the windows, or how many there are.
     Mappable,
     /// Any other number.
     Unknown,
 }
 
-/// The function with this number, which calls have in AH.
+/// The function that a value of AH selects.
 fn function_of(number: u8) -> Function
     ensures { result ≡ Rattle.dm_ems_calls.specs.Functions.function_of number }
 {
@@ -94,7 +94,7 @@ fn function_of(number: u8) -> Function
     }
 }
 
-/// Does what a call asks for.
+/// Does one function of INT 67h, on the registers, the tables and the memory.
 #[tactic(auto, unfolding(crate::specs::Functions::no_function))]
 fn call(cpu: &mut Cpu, ems: &mut Ems, space: &mut Space, function: Function)
     requires { IsConsistent (expanded ems.old space.old.memory) }
@@ -124,7 +124,7 @@ fn call(cpu: &mut Cpu, ems: &mut Ems, space: &mut Space, function: Function)
     }
 }
 
-/// Does the function of INT 67h that AH names, on the registers of the program that calls, the tables of expanded
+/// Does the function of INT 67h that AH selects, on the registers of the program that calls, the tables of expanded
 /// memory and the memory, which are consistent. AH is then the status: 0 for success, 92h for a move of regions that
 /// overlap, 84h where there is no such function, otherwise the error; DX, BX, AL, CX and the program's buffers hold
 /// what each function returns (LIM EMS 4.0, section 3).

@@ -1,5 +1,5 @@
-//! Handles and their pages (LIM EMS 4.0, functions 3, 4, 6, 12, 13, 14 and 18; INT 67h, 42h, 43h, 45h, 4Bh to 4Dh and
-//! 51h).
+//! Handles and their pages (LIM EMS 4.0, functions 3, 4, 6, 12, 13, 14 and 18; INT 67h functions 42h, 43h, 45h, 4Bh
+//! to 4Dh and 51h). Each function sets AH to the status.
 ghost use Rattle.std.specs.Prelude.{◌≡◌};
 ghost use Rattle.dm_ems.specs.Tables.{expanded};
 ghost use Rattle.dm_ems.specs.Consistent.{IsConsistent};
@@ -11,7 +11,7 @@ use dm_cpu::Cpu;
 use dm_ems::Ems;
 use dm_space::Space;
 
-/// 42h: BX becomes the number of pages that can still be allocated, DX that of all pages.
+/// 42h: sets BX to the number of pages that can still be allocated, DX to that of all pages.
 #[tactic(auto, unfolding(crate::specs::Handles::tell_pages))]
 pub(crate) fn tell_pages(cpu: &mut Cpu, ems: &Ems, space: &Space)
     ensures { caller cpu.new ems.now space.now.memory ≡ tell_pages (caller cpu.old ems.now space.now.memory) }
@@ -21,7 +21,7 @@ pub(crate) fn tell_pages(cpu: &mut Cpu, ems: &Ems, space: &Space)
     succeed(cpu);
 }
 
-/// 43h: DX becomes a new handle with BX pages.
+/// 43h: allocates a new handle with BX pages, and sets DX to it.
 #[tactic(auto, unfolding(crate::specs::Handles::allocate))]
 pub(crate) fn allocate(cpu: &mut Cpu, ems: &mut Ems, space: &mut Space)
     ensures { caller cpu.new ems.new space.new.memory ≡ allocate (caller cpu.old ems.old space.old.memory) }
@@ -30,7 +30,7 @@ pub(crate) fn allocate(cpu: &mut Cpu, ems: &mut Ems, space: &mut Space)
     settle_dx(cpu, res);
 }
 
-/// 45h: the handle in DX is given up.
+/// 45h: frees the handle in DX and its pages.
 #[tactic(auto, unfolding(crate::specs::Handles::deallocate))]
 pub(crate) fn deallocate(cpu: &mut Cpu, ems: &mut Ems, space: &mut Space)
     requires { IsConsistent (expanded ems.old space.old.memory) }
@@ -40,7 +40,7 @@ pub(crate) fn deallocate(cpu: &mut Cpu, ems: &mut Ems, space: &mut Space)
     settle(cpu, res);
 }
 
-/// 4Bh: BX becomes the number of handles in use, handle 0 among them.
+/// 4Bh: sets BX to the number of handles in use, handle 0 among them.
 #[tactic(auto, unfolding(crate::specs::Handles::count_handles))]
 pub(crate) fn count_handles(cpu: &mut Cpu, ems: &Ems, space: &Space)
     ensures { caller cpu.new ems.now space.now.memory ≡ count_handles (caller cpu.old ems.now space.now.memory) }
@@ -49,7 +49,7 @@ pub(crate) fn count_handles(cpu: &mut Cpu, ems: &Ems, space: &Space)
     succeed(cpu);
 }
 
-/// 4Ch: BX becomes the number of pages of the handle in DX.
+/// 4Ch: sets BX to the number of pages of the handle in DX.
 #[tactic(auto, unfolding(crate::specs::Handles::count_pages))]
 pub(crate) fn count_pages(cpu: &mut Cpu, ems: &Ems, space: &Space)
     ensures { caller cpu.new ems.now space.now.memory ≡ count_pages (caller cpu.old ems.now space.now.memory) }
@@ -58,8 +58,8 @@ pub(crate) fn count_pages(cpu: &mut Cpu, ems: &Ems, space: &Space)
     settle_bx(cpu, res);
 }
 
-/// 4Dh: writes two words at ES:DI for each handle in use, in ascending order: the handle and its number of pages. BX
-/// becomes the number of handles in use.
+/// 4Dh: writes two words at ES:DI for each handle in use, in ascending order: the handle and its number of pages.
+/// Sets BX to the number of handles in use.
 #[tactic(auto, unfolding(crate::specs::Handles::list_pages))]
 pub(crate) fn list_pages(cpu: &mut Cpu, ems: &Ems, space: &mut Space)
     ensures { caller cpu.new ems.now space.new.memory ≡ list_pages (caller cpu.old ems.now space.old.memory) }
@@ -68,7 +68,7 @@ pub(crate) fn list_pages(cpu: &mut Cpu, ems: &Ems, space: &mut Space)
     succeed(cpu);
 }
 
-/// 51h: changes the number of pages of the handle in DX to BX. BX becomes the number that it has then.
+/// 51h: changes the number of pages of the handle in DX to BX. Sets BX to the number that it has then.
 #[tactic(auto, unfolding(crate::specs::Handles::reallocate))]
 pub(crate) fn reallocate(cpu: &mut Cpu, ems: &mut Ems, space: &mut Space)
     requires { IsConsistent (expanded ems.old space.old.memory) }

@@ -1,4 +1,5 @@
-//! The names of handles (LIM EMS 4.0, functions 20 and 21; INT 67h, 53h and 54h).
+//! The names of handles (LIM EMS 4.0, functions 20 and 21; INT 67h functions 53h and 54h). AL
+//! selects the subfunction; each sets AH to the status.
 ghost use Rattle.std.specs.Prelude.{◌≡◌};
 ghost use Rattle.dm_ems_calls.specs.Caller.{caller};
 ghost use Rattle.dm_ems_calls.specs.Names.{get_name, set_name, handle_name, list_names, find_name, tell_handles, directory};
@@ -9,10 +10,10 @@ use dm_ems::{Ems, Status};
 use dm_ins::ByteRegister;
 use dm_space::Space;
 
-/// How many handles there are, handle 0 among them.
+/// The number of handles, handle 0 among them.
 const HANDLES: u16 = 64;
 
-/// 53h, 0: writes the name of the handle in DX at ES:DI.
+/// 53h, AL = 0: writes the eight bytes of the name of the handle in DX at ES:DI.
 #[tactic(auto, unfolding(crate::specs::Names::get_name))]
 fn get_name(cpu: &mut Cpu, ems: &Ems, space: &mut Space)
     ensures { caller cpu.new ems.now space.new.memory ≡ get_name (caller cpu.old ems.now space.old.memory) }
@@ -21,7 +22,7 @@ fn get_name(cpu: &mut Cpu, ems: &Ems, space: &mut Space)
     settle(cpu, res);
 }
 
-/// 53h, 1: the handle in DX gets the name at DS:SI.
+/// 53h, AL = 1: gives the handle in DX the name at DS:SI, eight bytes.
 #[tactic(auto, unfolding(crate::specs::Names::set_name))]
 fn set_name(cpu: &mut Cpu, ems: &mut Ems, space: &Space)
     ensures { caller cpu.new ems.new space.now.memory ≡ set_name (caller cpu.old ems.old space.now.memory) }
@@ -30,7 +31,7 @@ fn set_name(cpu: &mut Cpu, ems: &mut Ems, space: &Space)
     settle(cpu, res);
 }
 
-/// 53h: AL says whether a name is read or set.
+/// 53h: AL selects whether a name is read (0) or set (1); status 8Fh for another value.
 #[tactic(auto, unfolding(crate::specs::Names::handle_name))]
 pub(crate) fn handle_name(cpu: &mut Cpu, ems: &mut Ems, space: &mut Space)
     ensures { caller cpu.new ems.new space.new.memory ≡ handle_name (caller cpu.old ems.old space.old.memory) }
@@ -42,7 +43,8 @@ pub(crate) fn handle_name(cpu: &mut Cpu, ems: &mut Ems, space: &mut Space)
     }
 }
 
-/// 54h, 0: writes the handles in use and their names at ES:DI; AL becomes their number.
+/// 54h, AL = 0: writes the handles in use and their names at ES:DI, a word and eight bytes each;
+/// sets AL to the number of handles in use.
 #[tactic(auto, unfolding(crate::specs::Names::list_names))]
 fn list_names(cpu: &mut Cpu, ems: &Ems, space: &mut Space)
     ensures { caller cpu.new ems.now space.new.memory ≡ list_names (caller cpu.old ems.now space.old.memory) }
@@ -52,7 +54,7 @@ fn list_names(cpu: &mut Cpu, ems: &Ems, space: &mut Space)
     succeed(cpu);
 }
 
-/// 54h, 1: DX becomes the handle with the name at DS:SI.
+/// 54h, AL = 1: sets DX to the lowest handle with the name at DS:SI.
 #[tactic(auto, unfolding(crate::specs::Names::find_name))]
 fn find_name(cpu: &mut Cpu, ems: &Ems, space: &Space)
     ensures { caller cpu.new ems.now space.now.memory ≡ find_name (caller cpu.old ems.now space.now.memory) }
@@ -61,7 +63,7 @@ fn find_name(cpu: &mut Cpu, ems: &Ems, space: &Space)
     settle_dx(cpu, res);
 }
 
-/// 54h, 2: BX becomes how many handles there are in all.
+/// 54h, AL = 2: sets BX to the number of all handles.
 #[tactic(auto, unfolding(crate::specs::Names::tell_handles))]
 fn tell_handles(cpu: &mut Cpu)
     ensures { cpu.new ≡ tell_handles cpu.old }
@@ -70,7 +72,8 @@ fn tell_handles(cpu: &mut Cpu)
     succeed(cpu);
 }
 
-/// 54h: AL says whether all names are listed, one is searched, or handles are counted.
+/// 54h: AL selects whether names are listed (0), one is searched for (1), or all handles are
+/// counted (2); status 8Fh for another value.
 #[tactic(auto, unfolding(crate::specs::Names::directory))]
 pub(crate) fn directory(cpu: &mut Cpu, ems: &Ems, space: &mut Space)
     ensures { caller cpu.new ems.now space.new.memory ≡ directory (caller cpu.old ems.now space.old.memory) }

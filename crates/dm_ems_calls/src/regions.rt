@@ -1,4 +1,5 @@
-//! Regions of memory that are moved or exchanged (LIM EMS 4.0, function 24; INT 67h, 57h).
+//! Regions of memory that are moved or exchanged (LIM EMS 4.0, function 24; INT 67h function 57h).
+//! The scratch part of the space may be overwritten.
 ghost use Rattle.std.specs.Prelude.{◌≡◌};
 ghost use Rattle.dm_ems.specs.Tables.{expanded};
 ghost use Rattle.dm_ems.specs.Consistent.{IsConsistent};
@@ -11,7 +12,8 @@ use dm_ems::{Ems, Status};
 use dm_ins::ByteRegister;
 use dm_space::Space;
 
-/// 57h, 0: moves the region that the structure at DS:SI describes.
+/// 57h, AL = 0: moves the region that the structure at DS:SI describes; AH is the status, 92h where
+/// source and destination overlap.
 #[tactic(auto, unfolding(crate::specs::Regions::move_region))]
 fn move_region(cpu: &mut Cpu, ems: &Ems, space: &mut Space)
     requires { IsConsistent (expanded ems.now space.old.memory) }
@@ -21,7 +23,7 @@ fn move_region(cpu: &mut Cpu, ems: &Ems, space: &mut Space)
     settle_move(cpu, res);
 }
 
-/// 57h, 1: exchanges the two regions that the structure at DS:SI describes.
+/// 57h, AL = 1: exchanges the two regions that the structure at DS:SI describes; AH is the status.
 #[tactic(auto, unfolding(crate::specs::Regions::exchange_region))]
 fn exchange_region(cpu: &mut Cpu, ems: &Ems, space: &mut Space)
     requires { IsConsistent (expanded ems.now space.old.memory) }
@@ -31,7 +33,7 @@ fn exchange_region(cpu: &mut Cpu, ems: &Ems, space: &mut Space)
     settle(cpu, res);
 }
 
-/// 57h: AL says whether regions are moved or exchanged.
+/// 57h: AL selects a move (0) or an exchange (1); status 8Fh for another value.
 #[tactic(auto, unfolding(crate::specs::Regions::regions))]
 pub(crate) fn move_or_exchange(cpu: &mut Cpu, ems: &Ems, space: &mut Space)
     requires { IsConsistent (expanded ems.now space.old.memory) }

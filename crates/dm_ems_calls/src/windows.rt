@@ -1,4 +1,5 @@
-//! The windows of the frame (LIM EMS 4.0, functions 5, 8, 9, 15 and 17; INT 67h, 44h, 47h, 48h, 4Eh and 50h).
+//! The windows of the frame (LIM EMS 4.0, functions 5, 8, 9, 15 and 17; INT 67h functions 44h, 47h, 48h, 4Eh and
+//! 50h). Each function sets AH to the status.
 ghost use Rattle.std.specs.Prelude.{◌≡◌};
 ghost use Rattle.dm_ems.specs.Tables.{expanded};
 ghost use Rattle.dm_ems.specs.Consistent.{IsConsistent};
@@ -11,7 +12,7 @@ use dm_ems::Ems;
 use dm_ins::ByteRegister;
 use dm_space::Space;
 
-/// 44h: window AL shows logical page BX of the handle in DX.
+/// 44h: makes window AL show logical page BX of the handle in DX, or nothing for page FFFFh.
 #[tactic(auto, unfolding(crate::specs::Windows::map_page))]
 pub(crate) fn map_page(cpu: &mut Cpu, ems: &Ems, space: &mut Space)
     requires { IsConsistent (expanded ems.now space.old.memory) }
@@ -21,7 +22,7 @@ pub(crate) fn map_page(cpu: &mut Cpu, ems: &Ems, space: &mut Space)
     settle(cpu, res);
 }
 
-/// 47h: keeps what the windows show under the handle in DX.
+/// 47h: saves what the four windows show under the handle in DX.
 #[tactic(auto, unfolding(crate::specs::Windows::save_map))]
 pub(crate) fn save_map(cpu: &mut Cpu, ems: &mut Ems, space: &Space)
     ensures { caller cpu.new ems.new space.now.memory ≡ save_map (caller cpu.old ems.old space.now.memory) }
@@ -30,7 +31,7 @@ pub(crate) fn save_map(cpu: &mut Cpu, ems: &mut Ems, space: &Space)
     settle(cpu, res);
 }
 
-/// 48h: the windows show again what was kept under the handle in DX.
+/// 48h: makes the four windows show what was saved under the handle in DX, which then has nothing saved.
 #[tactic(auto, unfolding(crate::specs::Windows::restore_map))]
 pub(crate) fn restore_map(cpu: &mut Cpu, ems: &mut Ems, space: &mut Space)
     requires { IsConsistent (expanded ems.old space.old.memory) }
@@ -40,8 +41,8 @@ pub(crate) fn restore_map(cpu: &mut Cpu, ems: &mut Ems, space: &mut Space)
     settle(cpu, res);
 }
 
-/// 4Eh: writes the map of the windows at ES:DI, sets it from DS:SI, does both, or returns its size in AL; AL selects
-/// which.
+/// 4Eh: with AL = 0 writes the map of the windows at ES:DI, with 1 sets them from the map at DS:SI, with 2 does both,
+/// and with 3 sets AL to the size of a map in bytes.
 #[tactic(auto, unfolding(crate::specs::Windows::whole_map))]
 pub(crate) fn whole_map(cpu: &mut Cpu, ems: &Ems, space: &mut Space)
     requires { IsConsistent (expanded ems.now space.old.memory) }
@@ -52,7 +53,8 @@ pub(crate) fn whole_map(cpu: &mut Cpu, ems: &Ems, space: &mut Space)
     settle_al(cpu, res);
 }
 
-/// 50h: pages of the handle in DX come into windows, by CX pairs at DS:SI; AL says how a pair names its window.
+/// 50h: makes windows show pages of the handle in DX, as CX pairs at DS:SI say, which name windows by number (AL = 0)
+/// or by segment (AL = 1).
 #[tactic(auto, unfolding(crate::specs::Windows::map_many))]
 pub(crate) fn map_many(cpu: &mut Cpu, ems: &Ems, space: &mut Space)
     requires { IsConsistent (expanded ems.now space.old.memory) }

@@ -1,5 +1,5 @@
--- That tables and memory stay consistent through each call, that what is outside stays, and that pages which are
--- promised come.
+-- Laws of these calls: tables and memory stay consistent, what is outside of expanded memory is kept, and a handle
+-- gets all the pages that it asks for.
 use Rattle.std.specs.Prelude.{ℕ, ◌≡◌, None, Ok}
 use Rattle.dm_ems.specs.Tables.{Expanded}
 use Rattle.dm_ems.specs.Consistent.{IsConsistent, HasNumbers}
@@ -20,7 +20,7 @@ pub record MovesKeepConsistency : Type 0 where
   pub moving : (x : Expanded) (segment offset : ℕ) → IsConsistent x → IsConsistent (left x (move_region x segment offset))
   pub exchanging : (x : Expanded) (segment offset : ℕ) → IsConsistent x → IsConsistent (left x (exchange_region x segment offset))
 
--- each of these calls leaves what is outside of expanded memory
+-- each of these calls keeps the blocks that are not pages, their sizes, and A20
 pub record MovesLeaveOutside : Type 0 where
   pub reallocating : (x : Expanded) (handle n : ℕ) → LeavesOutside x (left x (reallocate x handle n))
   pub mapping : (x : Expanded) (mode handle count segment offset : ℕ) → LeavesOutside x (left x (map_many x mode handle count segment offset))
@@ -28,7 +28,8 @@ pub record MovesLeaveOutside : Type 0 where
   pub moving : (x : Expanded) (segment offset : ℕ) → LeavesOutside x (left x (move_region x segment offset))
   pub exchanging : (x : Expanded) (segment offset : ℕ) → LeavesOutside x (left x (exchange_region x segment offset))
 
--- a handle has as many pages as were asked for, if that was not refused: its first ones, then new ones of zeros; and
--- tables and memory stay consistent
+-- if tables and memory are consistent, at most 64 blocks are not pages, and a reallocation (51h) is not refused, the
+-- handle has as many pages as were asked for: its first ones, then new ones of zeros; and tables and memory stay
+-- consistent
 abbrev pub PagesCome : Type 0
 PagesCome = (x y : Expanded) (handle n : ℕ) (r : Reallocated) → IsConsistent x → HasNumbers x → reallocate x handle n ≡ Ok (r, y) → r.refused ≡ None → HasPages x y handle n

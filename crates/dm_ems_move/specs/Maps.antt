@@ -1,5 +1,5 @@
--- The map of the frame as bytes (LIM EMS 4.0, function 15): of each window the handle and the logical page that it
--- shows, two words, or FFFFh twice where it shows none. (The standard leaves the form open.)
+-- The map of the frame as bytes (LIM EMS 4.0, function 15; INT 67h function 4Eh): for each window the handle and the
+-- logical page that it shows, two words, or FFFFh twice where it shows nothing. (The standard leaves the form open.)
 use Rattle.std.specs.Prelude.{ℕ, ◌+◌, ◌*◌, ◌==◌, ◌&&◌, if◌then◌else◌, List, [], ◌∷◌, ◌++◌, slice_get, slice_index_or, Option, Some, None, Result, Ok, Err}
 use Rattle.dm_space.specs.Memory.{Memory}
 use Rattle.dm_ems.specs.declared.status.Status.{Status}
@@ -13,43 +13,43 @@ use Rattle.dm_moves.specs.Buffers.{word_after}
 
 -- ---- from windows to bytes
 
--- a page's handle and logical number; FFFFh twice where there is none
+-- a page's handle and logical number; FFFFh twice without a page
 abbrev pub or_none : Option (ℕ × ℕ) → ℕ × ℕ
 or_none None = (0xFFFF, 0xFFFF)
 or_none (Some n) = n
 
--- the handle and the logical page that a window shows; FFFFh twice where it shows none
+-- the handle and the logical page that a window shows; FFFFh twice where it shows nothing
 abbrev pub numbers : List Page → Option ℕ → ℕ × ℕ
 numbers pages window = or_none (numbers_of pages window)
 
--- a handle and a logical page as four bytes, two words
+-- a handle and a logical page as four bytes, two words with the low byte first
 abbrev pub map_entry : ℕ × ℕ → List ℕ
 map_entry n = word_bytes n.0 ++ word_bytes n.1
 
--- the bytes of windows, four for each
+-- the bytes of the map of these windows, four for each
 abbrev pub map_entries : List Page → List (Option ℕ) → List ℕ
 map_entries pages [] = []
 map_entries pages (window ∷ windows) = map_entry (numbers pages window) ++ map_entries pages windows
 
 -- ---- from bytes to windows
 
--- f of the value, or None where there is none
+-- f of the value; None where there is none
 abbrev pub when : {A B : Type 0} → Option A → (A → Option B) → Option B
 when None f = None
 when (Some v) f = f v
 
--- what a window is to show by a handle and a page: Some None where it is to show no page (FFFFh twice), None where the
--- handle is not in use or has no such page
+-- what a window is to show by the handle and page of a map: Some None for nothing (FFFFh twice); None if the handle
+-- is not in use or has no such page
 abbrev pub meant : Tables → ℕ → ℕ → Option (Option ℕ)
 meant ems handle page =
     if (handle == 0xFFFF) && (page == 0xFFFF) then Some None else
     when (slice_index_or ems.handles handle None) (λ s. when (slice_get (blocks_of ems handle) page) (λ block. Some (Some block)))
 
--- what window k (0 to 3) is to show by a map at segment:offset, whose words wrap at the end of the segment
+-- what window k (0 to 3) is to show by the map at segment:offset, whose offsets wrap
 abbrev pub meant_at : Tables → Memory → ℕ → ℕ → ℕ → Option (Option ℕ)
 meant_at ems m segment offset k = meant ems (word_after m segment offset (4 * k)) (word_after m segment offset (4 * k + 2))
 
--- the four windows of a map
+-- what the four windows are to show by the map at segment:offset; None if an entry is bad
 unfoldable pub map_at : Tables → Memory → ℕ → ℕ → Option (List (Option ℕ))
 map_at ems m segment offset =
     when (meant_at ems m segment offset 0) (λ first.
@@ -60,16 +60,16 @@ map_at ems m segment offset =
 
 -- ---- the call
 
--- the four windows of the frame show these blocks, or none
+-- the four windows show these blocks, or nothing; the tables stay
 abbrev pub showing_all : Expanded → List (Option ℕ) → Expanded
 showing_all x windows = with_memory x (with_windows x.memory windows)
 
--- the bytes of the map are written
+-- the map of what the windows show is written at segment:offset, 16 bytes
 abbrev pub with_map : Expanded → ℕ → ℕ → Expanded
 with_map x segment offset = writing x segment offset (map_entries x.ems.pages x.memory.windows)
 
--- mode 0 writes the map, 1 sets it, 2 writes it and then sets another, which was read before, and 3 asks how many bytes
--- a map has
+-- 4Eh: mode 0 writes the map, 1 sets the windows from a map, 2 writes it and then sets the windows from another,
+-- which is read first, and 3 returns the size of a map in bytes. The tables stay
 unfoldable pub whole_map : Expanded → ℕ → ℕ → ℕ → ℕ → ℕ → Result (Option ℕ × Expanded) Status
 whole_map x mode to_segment to_offset from_segment from_offset =
     if mode == 0 then Ok (None, with_map x to_segment to_offset) else

@@ -1,4 +1,5 @@
--- A handle gets another number of pages (LIM EMS 4.0, function 18): refusals in the order in which they are tried.
+-- The number of pages of a handle is changed (LIM EMS 4.0, function 18; INT 67h function 51h). Errors are tried in
+-- the order in which they are written.
 use Rattle.std.specs.Prelude.{ℕ, ◌-◌, nat_lt, if◌then◌else◌, Option, Some, None, Result, Ok}
 use Rattle.dm_ems.specs.declared.status.Status.{Status}
 use Rattle.dm_ems.specs.declared.status.Status.TheVariants.{UnknownHandle, OverTotal, OverFree}
@@ -6,16 +7,17 @@ use Rattle.dm_ems.specs.Tables.{Expanded, page_count, unallocated, appended, cut
 use Rattle.dm_ems.specs.Calls.{need, slot}
 use Rattle.dm_ems_move.specs.declared.reallocation.Reallocated.{Reallocated}
 
--- what a reallocation returns: how many pages the handle has, and why it has no more
+-- the result of a reallocation: how many pages the handle has now, and the error if it was not changed
 abbrev pub reallocated : ℕ → Option Status → Reallocated
 reallocated pages refused = record { pages = pages; refused = refused }
 
--- a handle keeps its first n pages, or gets as many more, of zeros, as it lacks
+-- a handle gets n pages: the ones after the first n are removed, or pages of zeros are added
 abbrev pub with_count : Expanded → ℕ → ℕ → Expanded
 with_count x handle n =
     if nat_lt n (page_count x.ems handle) then cut x handle n else appended x handle (n - page_count x.ems handle)
 
--- a handle gets n pages in all; where it can't, it has as many as before
+-- 51h: a handle gets n pages in all. If there are not enough, nothing changes, and the result has its number of pages
+-- and the error
 unfoldable pub reallocate : Expanded → ℕ → ℕ → Result (Reallocated × Expanded) Status
 reallocate x handle n =
     need (slot x handle) UnknownHandle (λ s.

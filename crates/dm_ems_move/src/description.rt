@@ -1,4 +1,6 @@
-//! The structure that describes a move or an exchange of regions (LIM EMS 4.0, function 24).
+//! The structure of 18 bytes that describes a move or an exchange of regions (LIM EMS 4.0, function
+//! 24; INT 67h function 57h): the length, a double word, and the descriptions of source and
+//! destination.
 
 ghost use Rattle.std.specs.Prelude.{◌≡◌, ◌<◌, ◌^◌};
 ghost use Rattle.dm_ems_move.specs.RegionMoves.{length_at, described};
@@ -6,26 +8,26 @@ ghost use Rattle.dm_ems_move.specs.RegionMoves.{length_at, described};
 use dm_moves::{byte_after, word_after};
 use dm_space::Space;
 
-/// Where the source stands in the structure.
+/// The offset of the source's description in the structure.
 pub(crate) const SOURCE: usize = 4;
 
-/// Where the destination stands.
+/// The offset of the destination's description in the structure.
 pub(crate) const DESTINATION: usize = 11;
 
-/// A region as it is described.
+/// The description of one region in the structure.
 #[derive(Clone, Copy, Debug)]
 pub struct Description {
-    /// 0 for conventional memory, 1 for pages.
+    /// Its type: 0 for conventional memory, 1 for pages of a handle.
     pub kind: u8,
-    /// The handle of pages.
+    /// The handle, for pages.
     pub handle: u16,
-    /// An offset in the segment, or in the first page.
+    /// The offset in bytes, in the segment or in the first page.
     pub offset: u16,
     /// The segment, or the first logical page.
     pub page: u16,
 }
 
-/// How many bytes are to be moved or exchanged.
+/// The number of bytes to be moved or exchanged: the double word at segment:offset.
 pub(crate) fn length_at(space: &Space, segment: u16, offset: u16) -> usize
     ensures { result ≡ length_at space.now.memory segment offset }
 {
@@ -34,7 +36,7 @@ pub(crate) fn length_at(space: &Space, segment: u16, offset: u16) -> usize
     low as usize + 0x1_0000 * high as usize
 }
 
-/// The region that is described `k` places after segment:offset.
+/// The description of a region that stands `k` bytes after segment:offset; offsets wrap.
 pub(crate) fn described(space: &Space, segment: u16, offset: u16, k: usize) -> Description
     requires { k < 0x1000 }
     ensures { result ≡ described space.now.memory segment offset k }

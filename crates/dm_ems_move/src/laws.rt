@@ -1,23 +1,23 @@
-//! That tables and memory stay consistent, that what is outside stays, and that pages come: laws, the contracts of
-//! functions that do nothing.
+//! Laws, the contracts of functions that do nothing: tables and memory stay consistent, what is outside of expanded
+//! memory stays, and a handle gets all the pages that it asks for.
 
 ghost use Rattle.dm_ems_move.specs.Laws.{MovesKeepConsistency, MovesLeaveOutside, PagesCome};
 
-/// The law that the tables of expanded memory and the memory are consistent after each call, if they did before: each
-/// page is a block of its own and has a handle in use, and windows, saved ones too, show pages alone.
+/// The law that the tables of expanded memory and the memory are consistent after each call, if they were before:
+/// each page is a block of its own and has a handle in use, and windows, saved ones too, show pages alone. It does
+/// nothing when called.
 pub fn moves_keep_consistency()
     ensures { MovesKeepConsistency }
 {}
 
-/// The law that each call leaves the blocks of the pool that are no pages: each is still there, with as many bytes, and
-/// still no page, and no block is there beside them and the pages; and that none touches A20. It does nothing when
-/// called.
+/// The law that each call keeps the blocks of the pool that are not pages: each is still there, as large, and still
+/// not a page, and there is no other such block; and that none changes A20. It does nothing when called.
 pub fn moves_leave_outside()
     ensures { MovesLeaveOutside }
 {}
 
-/// The law that pages which are promised come: where tables and memory are consistent, and at most 64 blocks are no
-/// pages, a handle that gets another number of pages has as many as were asked for. Its first ones are those that it
+/// The law that a handle gets the pages that it asks for: where tables and memory are consistent, and at most 64
+/// blocks are not pages, a handle that is given another number of pages has as many. Its first ones are those that it
 /// had; each new one is a block of its own that was not there before, all zeros. It does nothing when called.
 pub fn pages_come()
     ensures { PagesCome }

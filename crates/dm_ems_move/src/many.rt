@@ -1,4 +1,4 @@
-//! Many pages mapped at once (LIM EMS 4.0, function 17; INT 67h, 50h).
+//! Many pages mapped by one call (LIM EMS 4.0, function 17; INT 67h function 50h).
 
 ghost use Rattle.std.specs.Prelude.{◌≡◌, ◌<◌, ◌==◌, IfOk, IfSome, ℕ, None, slice_index_or};
 ghost use Rattle.dm_space.specs.Memory.{IsPage};
@@ -15,7 +15,7 @@ use dm_space::Space;
 /// The logical page number that unmaps a window.
 const NO_PAGE: u16 = 0xFFFF;
 
-/// The window that a number, or a segment, names.
+/// The window, 0 to 3, that a value names, by its segment or by its number; None if there is no such window.
 fn window_of(by_segment: bool, value: u16) -> Option<usize>
     ensures window { result ≡ window_of by_segment value }
     ensures below { IfSome result (λ window. window < 4) }
@@ -33,7 +33,8 @@ fn window_of(by_segment: bool, value: u16) -> Option<usize>
     }
 }
 
-/// What the windows show after a pair of a logical page and a window.
+/// What the four windows show after one pair: the window that `value` names shows a logical page of the handle with
+/// these blocks, or nothing for FFFFh. `NoSuchWindow` or else `NoSuchPage` for a bad pair.
 #[tactic(auto, unfolding(crate::specs::Many::paired))]
 fn paired(
     blocks: &[Block],
@@ -59,7 +60,8 @@ fn paired(
     Ok(after)
 }
 
-/// What the windows show after all pairs at segment:offset.
+/// What the four windows show after `count` pairs at segment:offset, two words each, a logical page and a window; or
+/// the error of the first bad pair. Nothing is changed.
 #[tactic(auto, using(crate::proofs::Pairs::after_more))]
 fn after_pairs(
     space: &Space,
@@ -83,9 +85,9 @@ fn after_pairs(
     Ok(windows)
 }
 
-/// Makes windows show logical pages of a handle: `count` pairs of two words stand at segment:offset, a logical page
-/// (FFFFh for none) and a window, which mode 0 names by its number and mode 1 by its segment. Where pairs name one
-/// window, the last of them counts.
+/// 50h: makes windows show logical pages of a handle: `count` pairs of two words stand at segment:offset, a logical
+/// page (FFFFh for none) and a window, which mode 0 names by its number and mode 1 by its segment. Where pairs name
+/// one window, the last of them counts.
 ///
 /// # Errors
 ///

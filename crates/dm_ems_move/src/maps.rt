@@ -1,4 +1,5 @@
-//! The map of the frame as bytes (LIM EMS 4.0, function 15; INT 67h, 4Eh).
+//! The map of the frame as bytes (LIM EMS 4.0, function 15; INT 67h function 4Eh): for each window a handle and a
+//! logical page, two words.
 
 ghost use Rattle.std.specs.Prelude.{◌≡◌, ◌<◌, ◌≤◌, ◌+◌, ◌++◌, IfSome, length, count_by, position};
 ghost use Rattle.arrayvec.specs.ArrayVec.{array_vec_len};
@@ -14,16 +15,16 @@ use dm_moves::word_after;
 use dm_pool::Block;
 use dm_space::Space;
 
-/// How many bytes a map has.
+/// The size of a map in bytes.
 const SIZE: u8 = 16;
 
-/// The handle and the logical page of a window that shows none.
+/// The handle and the logical page in a map of a window that shows nothing.
 const NONE: (u16, u16) = (0xFFFF, 0xFFFF);
 
 /// The bytes of a map.
 type Bytes = ArrayVec<u8, 16>;
 
-/// Where the page with a block stands among all pages.
+/// The index of the page with this block; None if there is none.
 fn place_of(pages: &[Page], block: Block) -> Option<usize>
     ensures first { result ≡ position (is_block block) pages.now }
     ensures there { IfSome result (λ k. k < length pages.now) }
@@ -31,7 +32,7 @@ fn place_of(pages: &[Page], block: Block) -> Option<usize>
     pages.iter().position(|page| page.block == block)
 }
 
-/// How many pages of a handle there are among these.
+/// How many of these pages belong to a handle.
 fn count_of(pages: &[Page], handle: u16) -> usize
     ensures count { result ≡ count_by (is_of handle) pages.now }
     ensures few { result ≤ length pages.now }
@@ -39,7 +40,8 @@ fn count_of(pages: &[Page], handle: u16) -> usize
     pages.iter().filter(|page| page.handle == handle).count()
 }
 
-/// The handle and the logical number of the page that a window shows.
+/// The handle and the logical number of the page that a window shows; FFFFh twice if it shows nothing. `pages` are
+/// those of all handles.
 fn numbers(pages: &[Page], window: Option<Block>) -> (u16, u16)
     requires { length pages.now ≤ 512 }
     ensures { result ≡ numbers pages.now window }
@@ -56,7 +58,7 @@ fn numbers(pages: &[Page], window: Option<Block>) -> (u16, u16)
     }
 }
 
-/// Adds the four bytes of a window.
+/// Appends the four bytes of a window: its handle and its logical page, low bytes first.
 fn put_entry(bytes: &mut Bytes, numbers: (u16, u16))
     requires { array_vec_len bytes.old + 4 ≤ 16 }
     ensures items { bytes.new.items ≡ bytes.old.items ++ map_entry numbers }
@@ -70,7 +72,7 @@ fn put_entry(bytes: &mut Bytes, numbers: (u16, u16))
     bytes.push(high);
 }
 
-/// The bytes of the map of what four windows show.
+/// The 16 bytes of the map of these four windows.
 fn map_entries(pages: &[Page], windows: [Option<Block>; 4]) -> Bytes
     requires { length pages.now ≤ 512 }
     ensures { result.items ≡ map_entries pages.now windows }
@@ -84,7 +86,8 @@ fn map_entries(pages: &[Page], windows: [Option<Block>; 4]) -> Bytes
     bytes
 }
 
-/// What a window is to show by a handle and a logical page; None where there is no such page.
+/// What a window is to show by the handle and the logical page of a map: Some(None) for nothing; None if the handle
+/// is not in use or has no such page.
 fn meant(ems: &Ems, handle: u16, page: u16) -> Option<Option<Block>>
     ensures { result ≡ meant ems.now handle page }
 {
@@ -100,7 +103,7 @@ fn meant(ems: &Ems, handle: u16, page: u16) -> Option<Option<Block>>
     }
 }
 
-/// What window `k` is to show by a map at segment:offset.
+/// What window `k`, 0 to 3, is to show by the map at segment:offset.
 fn meant_at(ems: &Ems, space: &Space, segment: u16, offset: u16, k: usize) -> Option<Option<Block>>
     requires { k < 4 }
     ensures { result ≡ meant_at ems.now space.now.memory segment offset k }
@@ -110,7 +113,7 @@ fn meant_at(ems: &Ems, space: &Space, segment: u16, offset: u16, k: usize) -> Op
     meant(ems, handle, page)
 }
 
-/// What the four windows are to show by a map at segment:offset; None where one is bad.
+/// What the four windows are to show by the map at segment:offset; None if an entry is bad.
 #[tactic(auto, unfolding(crate::specs::Maps::map_at))]
 fn map_at(ems: &Ems, space: &Space, segment: u16, offset: u16) -> Option<[Option<Block>; 4]>
     ensures { result ≡ map_at ems.now space.now.memory segment offset }
@@ -122,7 +125,7 @@ fn map_at(ems: &Ems, space: &Space, segment: u16, offset: u16) -> Option<[Option
     Some([first, second, third, fourth])
 }
 
-/// Writes the map of what the windows show at segment:offset.
+/// Writes the map of what the windows show, 16 bytes, at segment:offset. The windows and the scratch part stay.
 fn write_map(ems: &Ems, space: &mut Space, segment: u16, offset: u16)
     ensures { space.new ≡ record space.old { memory = with_bytes space.old.memory segment offset (map_entries ems.now.pages space.old.memory.windows) } }
 {
@@ -130,15 +133,15 @@ fn write_map(ems: &Ems, space: &mut Space, segment: u16, offset: u16)
     space.write_bytes(segment, offset, bytes.as_slice());
 }
 
-/// The map of the frame, sixteen bytes: of each window the handle and the logical page that it shows, two words, or
-/// FFFFh twice where it shows none. Mode 0 writes it at the first address, mode 1 makes the windows show what a map at
-/// the second address says, mode 2 does both, the second map read before the first is written, and mode 3 asks for its
-/// size alone, which it returns.
+/// 4Eh: the map of the frame, sixteen bytes: for each window the handle and the logical page that it shows, two
+/// words, or FFFFh twice where it shows nothing. Mode 0 writes it at the first address, mode 1 makes the windows show
+/// what the map at the second address says, mode 2 does both, and reads the second map before it writes the first,
+/// and mode 3 only returns the size of a map in bytes.
 ///
 /// # Errors
 ///
 /// `NoSubfunction` for another mode. `BadMap` where the map that is read names a handle that is not in use or a page
-/// that the handle has not. Then nothing has changed.
+/// that the handle does not have. Then nothing has changed.
 #[tactic(auto, unfolding(crate::specs::Maps::whole_map))]
 pub fn whole_map(
     ems: &Ems,

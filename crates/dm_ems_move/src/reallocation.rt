@@ -1,4 +1,4 @@
-//! Another number of pages for a handle (LIM EMS 4.0, function 18; INT 67h, 51h).
+//! The number of pages of a handle is changed (LIM EMS 4.0, function 18; INT 67h function 51h).
 
 ghost use Rattle.std.specs.Prelude.{◌≡◌, ◌+◌, ◌≤◌, length, Some};
 ghost use Rattle.dm_ems.specs.Tables.{expanded, appended};
@@ -9,15 +9,16 @@ ghost use Rattle.dm_ems_move.specs.Reallocation.{reallocate, reallocated};
 use dm_ems::{Ems, Status};
 use dm_space::Space;
 
-/// How many pages a handle has after a call that was to give it another number of them.
+/// The result of a reallocation of a handle that is in use.
 #[derive(Clone, Copy, Debug, PartialEq, Eq)]
 pub struct Reallocated {
-    /// Its pages.
+    /// The number of pages that the handle has now.
     pub pages: u16,
-    /// Why it has as many as before.
+    /// The error, if the number of pages has not changed as asked: `OverTotal` or `OverFree`.
     pub refused: Option<Status>,
 }
 
+/// The result of a reallocation that fails: the handle keeps its pages.
 fn refused(pages: u16, status: Status) -> Reallocated
     ensures { result ≡ reallocated pages (Some status) }
 {
@@ -27,7 +28,7 @@ fn refused(pages: u16, status: Status) -> Reallocated
     }
 }
 
-/// Adds pages of zeros after those of a handle.
+/// Adds `count` pages of zeros after those of a handle.
 fn append_pages(ems: &mut Ems, space: &mut Space, handle: u16, count: u16)
     requires { length ems.old.pages + count ≤ ems.old.total }
     ensures left { expanded ems.new space.new.memory ≡ appended (expanded ems.old space.old.memory) handle count }
@@ -38,7 +39,7 @@ fn append_pages(ems: &mut Ems, space: &mut Space, handle: u16, count: u16)
     }
 }
 
-/// Gives a handle `count` pages in all. Its first ones stay; those after `count` leave all windows and all saved
+/// 51h: gives a handle `count` pages in all. Its first ones stay; those after `count` leave all windows and all saved
 /// windows; new ones, after the others, are zeros. Where there are not enough (`OverTotal`, `OverFree`, in this
 /// order), nothing has changed, and the result has the number of pages as it is.
 ///

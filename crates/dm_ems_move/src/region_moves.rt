@@ -1,4 +1,4 @@
-//! Regions of memory that are moved or exchanged (LIM EMS 4.0, function 24; INT 67h, 57h).
+//! Regions of memory that are moved or exchanged (LIM EMS 4.0, function 24; INT 67h function 57h).
 
 ghost use Rattle.std.specs.Prelude.{◌≡◌, ◌≤◌, ◌+◌, IfOk, OnErr};
 ghost use Rattle.dm_ems.specs.Tables.{expanded};
@@ -12,16 +12,16 @@ use dm_ems::{Ems, Status};
 use dm_moves::{Span, SpanKind, exchange_bytes, move_bytes, overlap};
 use dm_space::Space;
 
-/// The most bytes that a call moves or exchanges: 1 MiB.
+/// The largest number of bytes that a call moves or exchanges: 1 MiB.
 const MOST: usize = 0x10_0000;
 
-/// Where conventional memory ends.
+/// The linear address at which conventional memory ends: 1 MiB.
 const END: usize = 0x10_0000;
 
-/// How many bytes a page has.
+/// The number of bytes of a page.
 const PAGE: usize = 0x4000;
 
-/// How a move went.
+/// The result of a move that succeeds.
 #[derive(Clone, Copy, Debug, PartialEq, Eq)]
 pub enum Moved {
     /// The two regions share no byte.
@@ -31,7 +31,7 @@ pub enum Moved {
 }
 
 impl Moved {
-    /// The status byte that a program finds in AH.
+    /// The status byte that the call returns in AH: 0, or 92h for an overlap.
     pub fn code(self) -> u8
         ensures { result ≡ moved_code self }
     {
@@ -42,7 +42,7 @@ impl Moved {
     }
 }
 
-/// The region of conventional memory that is described.
+/// The region of `len` bytes of conventional memory that is described; `PastMemory` if it ends after FFFFFh.
 fn conventional(described: Description, len: usize) -> Result<Span, Status>
     requires { len ≤ 0x100000 }
     ensures { result ≡ conventional described len }
@@ -54,7 +54,8 @@ fn conventional(described: Description, len: usize) -> Result<Span, Status>
     Ok(Span::linear(start))
 }
 
-/// The region of pages that is described.
+/// The region of `len` bytes of a handle's pages that is described; `UnknownHandle`, `OffsetPastPage`, `NoSuchPage`
+/// or `PastPages`, in this order, if there is none.
 fn expanded_region(ems: &Ems, described: Description, len: usize) -> Result<Span, Status>
     requires { len ≤ 0x100000 }
     ensures { result ≡ expanded_region ems.now described len }
@@ -76,7 +77,8 @@ fn expanded_region(ems: &Ems, described: Description, len: usize) -> Result<Span
     Ok(Span::pages(ems.blocks(described.handle), start))
 }
 
-/// The region that is described.
+/// The region of `len` bytes that is described: type 0 is conventional memory, type 1 pages of a handle.
+/// `UnknownKind` for another type.
 #[tactic(auto, unfolding(crate::specs::RegionMoves::region_of))]
 fn region_of(ems: &Ems, described: Description, len: usize) -> Result<Span, Status>
     requires { len ≤ 0x100000 }
@@ -92,7 +94,8 @@ fn region_of(ems: &Ems, described: Description, len: usize) -> Result<Span, Stat
     }
 }
 
-/// The source and the destination.
+/// The source and the destination, of `len` bytes each, that the structure at segment:offset describes; the source's
+/// errors come first.
 #[tactic(auto, unfolding(crate::specs::RegionMoves::regions_of))]
 fn regions_of(
     ems: &Ems,
@@ -115,6 +118,7 @@ fn regions_of(
     }
 }
 
+/// Whether a region is one of conventional memory.
 fn is_linear(region: &Span) -> bool
     ensures { result ≡ is_linear region.now.kind }
 {
@@ -136,6 +140,9 @@ fn are_mixed(from: &Span, to: &Span) -> bool
     }
 }
 
+/// Copies `len` bytes from one region to the other; the source is read whole before anything is written. Returns
+/// whether they overlap; `KindsOverlap` where two of different types do. The scratch part is overwritten, unless the
+/// call fails.
 #[tactic(auto, unfolding(crate::specs::RegionMoves::move_between))]
 fn move_between(
     ems: &Ems,
@@ -162,6 +169,8 @@ fn move_between(
     Ok(Moved::Overlapping)
 }
 
+/// Exchanges the `len` bytes of two regions. Where they overlap, `KindsOverlap` if they are of different types, else
+/// `ExchangeOverlaps`. The scratch part is overwritten, unless the call fails.
 #[tactic(auto, unfolding(crate::specs::RegionMoves::exchange_between))]
 fn exchange_between(
     ems: &Ems,
@@ -188,20 +197,20 @@ fn exchange_between(
     }
 }
 
-/// Moves bytes between regions of conventional memory and of pages of handles. The structure at segment:offset has
-/// eighteen bytes: how many bytes (a double word), and for the source and then the destination a type (0 conventional
-/// memory, 1 pages), a handle, an offset (in the segment or in the page), and a segment or a logical page (words). The
-/// source is read whole before anything is written; `Overlapping` says that both regions share a byte. The scratch
-/// bytes of the space are overwritten.
+/// 57h, AL = 0: moves bytes between regions of conventional memory and of pages of handles. The structure at
+/// segment:offset has eighteen bytes: the length in bytes (a double word), and for the source and then the
+/// destination a type (0 conventional memory, 1 pages), a handle, an offset (in the segment or in the page), and a
+/// segment or a logical page (words). The source is read whole before anything is written; `Overlapping` says that
+/// both regions share a byte. The scratch bytes of the space are overwritten.
 ///
-/// No bytes to move is `Apart`, whatever else the structure says, and the scratch bytes stay.
+/// A length of 0 is `Apart`, whatever else the structure says, and the scratch bytes stay.
 ///
 /// # Errors
 ///
 /// In this order: `TooLong` over 1 MiB; for the source and then the destination `UnknownKind` for another type,
-/// `PastMemory` where conventional memory is left, `UnknownHandle`, `OffsetPastPage`, `NoSuchPage`, `PastPages` where
-/// the handle's pages are left; `KindsOverlap` where a region of conventional memory shares a byte with one of pages.
-/// Then neither memory nor the scratch bytes have changed.
+/// `PastMemory` where a region ends after FFFFFh, `UnknownHandle`, `OffsetPastPage`, `NoSuchPage`, `PastPages` where
+/// a region ends after the handle's pages; `KindsOverlap` where a region of conventional memory shares a byte with
+/// one of pages. Then neither memory nor the scratch bytes have changed.
 #[tactic(auto, unfolding(crate::specs::RegionMoves::move_region))]
 pub fn move_region(ems: &Ems, space: &mut Space, segment: u16, offset: u16) -> Result<Moved, Status>
     requires { IsConsistent (expanded ems.now space.old.memory) }
@@ -218,7 +227,7 @@ pub fn move_region(ems: &Ems, space: &mut Space, segment: u16, offset: u16) -> R
     if len > MOST {
         return Err(Status::TooLong);
     }
-    // What the call promises of their number is wanted for the proof alone.
+    // The proof needs that there are at most 512 pages, which the contract of `pages` states.
     let _pages = ems.pages();
     match regions_of(ems, space, segment, offset, len) {
         Ok((from, to)) => move_between(ems, space, len, &from, &to),
@@ -226,13 +235,13 @@ pub fn move_region(ems: &Ems, space: &mut Space, segment: u16, offset: u16) -> R
     }
 }
 
-/// Exchanges the bytes of two regions, which are described as for [`move_region`]. Both are read whole before anything
-/// is written. The scratch bytes of the space are overwritten, unless there are no bytes to exchange.
+/// 57h, AL = 1: exchanges the bytes of two regions, which are described as for [`move_region`]. Both are read whole
+/// before anything is written. The scratch bytes of the space are overwritten, unless the length is 0.
 ///
 /// # Errors
 ///
-/// Those of [`move_region`] in their order; then `ExchangeOverlaps` where the regions share a byte. Then neither memory
-/// nor the scratch bytes have changed.
+/// Those of [`move_region`] in their order; then `ExchangeOverlaps` where the regions share a byte. Then neither
+/// memory nor the scratch bytes have changed.
 #[tactic(auto, unfolding(crate::specs::RegionMoves::exchange_region))]
 pub fn exchange_region(
     ems: &Ems,
@@ -253,7 +262,7 @@ pub fn exchange_region(
     if len > MOST {
         return Err(Status::TooLong);
     }
-    // What the call promises of their number is wanted for the proof alone.
+    // The proof needs that there are at most 512 pages, which the contract of `pages` states.
     let _pages = ems.pages();
     match regions_of(ems, space, segment, offset, len) {
         Ok((from, to)) => exchange_between(ems, space, len, &from, &to),

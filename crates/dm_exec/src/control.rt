@@ -6,7 +6,7 @@ use crate::operation::FlagOperation;
 use dm_alu::Flags;
 use dm_cpu::Cpu;
 
-/// The flags after an instruction that changes one of them.
+/// The flags after an instruction that changes one of them; the other eight stay.
 #[tactic(auto, unfolding(crate::specs::Control::flags_changed))]
 fn changed(operation: FlagOperation, flags: Flags) -> Flags
     ensures { result ≡ flags_changed operation flags }
@@ -43,7 +43,7 @@ fn changed(operation: FlagOperation, flags: Flags) -> Flags
     }
 }
 
-/// Changes one flag.
+/// Does CLC, STC, CMC, CLD, STD, CLI or STI: changes one flag.
 #[inline(never)]
 pub(crate) fn act(cpu: &mut Cpu, operation: FlagOperation)
     ensures { cpu.new ≡ record cpu.old { flags = flags_changed operation cpu.old.flags } }

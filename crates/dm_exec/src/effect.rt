@@ -1,4 +1,4 @@
-//! One instruction.
+//! The effect of one instruction on registers, flags and memory.
 ghost use Rattle.std.specs.Prelude.{◌≡◌};
 ghost use Rattle.dm_cpu.specs.Guest.{guest};
 ghost use Rattle.dm_exec.specs.Effect.{act, effect, next_of};

@@ -1,9 +1,9 @@
-//! Laws of the effects.
+//! Laws of the effects of instructions: the contracts of functions that do nothing.
 ghost use Rattle.dm_exec.specs.Effect.{HaltKeeps};
 ghost use Rattle.dm_exec.specs.Map.{KeepsTheMap};
 ghost use Rattle.dm_exec.specs.Unseen.{IgnoresUnseen};
 
-/// Where the processor stops, nothing changes.
+/// HLT, where the processor stops, changes neither registers nor memory.
 pub fn halt_changes_nothing()
     ensures { HaltKeeps }
 {}

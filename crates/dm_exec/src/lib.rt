@@ -1,4 +1,4 @@
-//! What each instruction does to registers and memory.
+//! What each instruction does to registers, flags and memory.
 #![tactic(auto)]
 
 mod adjustments;

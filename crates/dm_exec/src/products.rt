@@ -10,7 +10,7 @@ use dm_cpu::{Cpu, values};
 use dm_ins::Ins;
 use dm_space::Space;
 
-/// AX, or DX above AX.
+/// The dividend of DIV and IDIV, of twice the width: AX, or DX above AX.
 #[tactic(auto, unfolding(crate::specs::Products::double_of))]
 fn double(width: Width, cpu: &Cpu) -> u32
     ensures value { result ≡ double_of width cpu.now }
@@ -23,7 +23,7 @@ fn double(width: Width, cpu: &Cpu) -> u32
     }
 }
 
-/// Gives AX, or DX and AX, a value.
+/// Sets AX to a value of two bytes, or DX and AX to one of four, the upper half in DX.
 #[tactic(auto, unfolding(crate::specs::Products::with_double))]
 fn set_double(width: Width, cpu: &mut Cpu, value: u32)
     requires { value < size width * size width }
@@ -38,7 +38,7 @@ fn set_double(width: Width, cpu: &mut Cpu, value: u32)
     }
 }
 
-/// Multiplies AL or AX by an operand.
+/// Does MUL or IMUL: multiplies AL by an operand into AX, or AX into DX and AX, and sets CF and OF.
 #[inline(never)]
 #[tactic(auto, unfolding(crate::specs::Products::multiplied))]
 pub(crate) fn multiply(cpu: &mut Cpu, space: &Space, ins: &Ins, sign: Sign)
@@ -54,7 +54,7 @@ pub(crate) fn multiply(cpu: &mut Cpu, space: &Space, ins: &Ins, sign: Sign)
     cpu.flags = flags;
 }
 
-/// Gives AL and AH, or AX and DX, a quotient and a remainder.
+/// Sets AL and AH, or AX and DX, to a quotient and its remainder.
 #[tactic(auto, unfolding(crate::specs::Products::with_division))]
 fn set_division(width: Width, cpu: &mut Cpu, division: Division)
     requires quotient { division.quotient < size width }
@@ -70,7 +70,8 @@ fn set_division(width: Width, cpu: &mut Cpu, division: Division)
     }
 }
 
-/// Divides AX, or DX and AX, by an operand; interrupt 0 where there is no quotient.
+/// Does DIV or IDIV: divides AX, or DX and AX, by an operand. Where there is no quotient, takes interrupt 0. The flags
+/// stay, but for those that the interrupt clears.
 #[inline(never)]
 #[tactic(auto, unfolding(crate::specs::Products::divided, crate::specs::Products::after_division))]
 pub(crate) fn divide(cpu: &mut Cpu, space: &mut Space, ins: &Ins, sign: Sign)

@@ -13,25 +13,26 @@ use Rattle.dm_space.specs.EntryPoints.{entry_point_at}
 use Rattle.dm_findings.specs.declared.calls.Call.{Call}
 use Rattle.dm_findings.specs.declared.calls.Call.TheVariants as call
 
--- the call of a service; one of INT 21h has the number in AH
+-- the call of a service, by the registers: for INT 21h, the function in AH
 abbrev pub of_service : Cpu → Service → Call
 of_service c service.DivideError = call.DivideError
 of_service c service.Terminate = call.Terminate
 of_service c service.Dos = call.Dos (byte_of c Ah)
 
--- the call of a driver, with the function number in AH; INT 2Fh has none here
+-- the call of a driver, by the registers: for INT 67h and the extended memory driver, the function in AH; for INT 2Fh,
+-- no number
 abbrev pub of_driver : Cpu → Driver → Call
 of_driver c driver.ExpandedMemory = call.ExpandedMemory (byte_of c Ah)
 of_driver c driver.Multiplex = call.Multiplex
 of_driver c driver.ExtendedMemory = call.ExtendedMemory (byte_of c Ah)
 
--- the call of the service or the driver, if one of them acts
+-- the call at an entry point; None where there is no entry point
 abbrev pub call_by : Cpu → Option EntryPoint → Option Call
 call_by c (Some (entry_point.Service s)) = Some (of_service c s)
 call_by c (Some (entry_point.Driver d)) = Some (of_driver c d)
 call_by c None = None
 
--- the call that a step from these registers serves: that of the service or driver at CS:IP; none where an instruction
--- acts
+-- the call that a step with these registers performs: that of the service or driver whose entry point is CS:IP; None
+-- where an instruction comes next
 unfoldable pub call_of : Cpu → Option Call
 call_of c = call_by c (entry_point_at c.cs c.ip)

@@ -21,10 +21,11 @@ pub enum Call {
     ExpandedMemory(u8),
     /// INT 2Fh.
     Multiplex,
-    /// Extended memory, the function of this number.
+    /// A far call of the extended memory driver, the function of this number.
     ExtendedMemory(u8),
 }
 
+/// The call of a service, by these registers: for INT 21h, the function in AH.
 fn of_service(cpu: &Cpu, service: Service) -> Call
     ensures { result ≡ of_service cpu.now service }
 {
@@ -35,6 +36,7 @@ fn of_service(cpu: &Cpu, service: Service) -> Call
     }
 }
 
+/// The call of a driver, by these registers: for INT 67h and the extended memory driver, the function in AH.
 fn of_driver(cpu: &Cpu, driver: Driver) -> Call
     ensures { result ≡ of_driver cpu.now driver }
 {
@@ -45,7 +47,8 @@ fn of_driver(cpu: &Cpu, driver: Driver) -> Call
     }
 }
 
-/// The call that the next step serves: that of the service or driver at CS:IP. None where an instruction comes next.
+/// The call that the next step performs: that of the service or driver whose entry point is CS:IP. None if an
+/// instruction comes next.
 #[tactic(auto, unfolding(crate::specs::Calls::call_of))]
 pub fn call_of(cpu: &Cpu) -> Option<Call>
     ensures { result ≡ call_of cpu.now }

@@ -1,4 +1,4 @@
-//! What is found, and at which step.
+//! What `dm check` can find, and at which step.
 
 ghost use Rattle.std.specs.Prelude.{◌≡◌};
 ghost use Rattle.dm_findings.specs.Findings.{is_error};
@@ -15,42 +15,42 @@ pub struct Contents {
     pub size: u16,
 }
 
-/// What a step did, or what a program left allocated.
+/// A finding: what a step did, or what a program left allocated.
 #[derive(Clone, Copy, Debug)]
 pub enum Finding {
-    /// The header at this segment had the first contents, and has the second ones.
+    /// The header at this segment was overwritten: it had the first contents, and has the second.
     Overwritten(u16, Contents, Contents),
-    /// The header at this segment is no longer shown.
+    /// The header that stood at this segment can no longer be read there: its page was freed, or its window shows other
+    /// bytes.
     MappedAway(u16),
-    /// The arena is destroyed; the first header that breaks its list stands at this segment.
+    /// The block list became invalid; the first header that breaks it stands at this segment.
     Destroyed(u16),
-    /// The arena, which was destroyed, is whole.
+    /// The block list, which was invalid, is valid again.
     Whole,
-    /// The block at this segment was free, and was freed.
+    /// The block at this segment was freed while it was free.
     FreedTwice(u16),
-    /// The call was refused with this code.
+    /// The call failed with this error code.
     Refused(u8),
-    /// The call was refused, as there was not enough memory: the paragraphs that it asked for, and the largest number
-    /// of them that there is.
+    /// The call failed for lack of memory: how many paragraphs it asked for, and the largest number possible.
     Short(u16, u16),
-    /// A handle of expanded memory, with so many pages.
+    /// Left allocated: a handle of expanded memory, and how many pages it has.
     PagesKept(u16, u16),
-    /// A handle of expanded memory has a saved map.
+    /// Left: the saved map of this handle of expanded memory.
     MapKept(u16),
-    /// This window of the frame shows a page.
+    /// Left: a page in this window of the frame.
     WindowKept(u8),
-    /// A handle of extended memory, the KiB of its block, and whether that is locked.
+    /// Left allocated: a handle of extended memory, the KiB of its block, and whether that is locked.
     BlockKept(u16, u16, bool),
-    /// The upper memory block at this segment.
+    /// Left allocated: the upper memory block at this segment.
     UpperKept(u16),
-    /// The high memory area is taken.
+    /// Left allocated: the high memory area.
     AreaKept,
-    /// Address line A20 is on.
+    /// Left on: address line A20.
     LineKept,
 }
 
 impl Finding {
-    /// Whether it is an error. A refused call, and that the arena is whole again, are notes.
+    /// Whether the finding is an error. A failed call, and a block list that is valid again, are notes.
     pub fn is_error(&self) -> bool
         ensures { result ≡ is_error self.now }
     {
@@ -61,19 +61,19 @@ impl Finding {
     }
 }
 
-/// What acts in a step.
+/// What was performed in a step.
 #[derive(Clone, Copy, Debug)]
 pub enum Act {
-    /// A service or a driver serves a call.
+    /// A call of a service or a driver.
     Call(Call),
     /// An instruction, and the offset after it.
     Instruction(Ins, u16),
 }
 
-/// A finding, and the step that it is about.
+/// A finding, the step that it is about, and what was performed in it.
 #[derive(Clone, Copy, Debug)]
 pub struct Found {
-    /// The number of the step; the first is number 1.
+    /// The number of the step; the first step of the run is number 1.
     pub step: u64,
     /// CS and IP before the step.
     pub segment: u16,

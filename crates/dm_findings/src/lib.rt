@@ -1,5 +1,5 @@
-//! Findings about the memory of programs: what a step did to the headers of the arena, calls that were
-//! refused, and what a program left allocated.
+//! Findings about the memory of programs: what a step did to the headers of the arena, calls that failed, and what a
+//! program left allocated; and the report that collects them.
 #![tactic(auto)]
 
 mod calls;

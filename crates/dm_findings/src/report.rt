@@ -1,4 +1,4 @@
-//! A report: what was found, in the order in which it happened.
+//! The report of `dm check`: findings in the order in which they happened.
 
 ghost use Rattle.std.specs.Prelude.{◌≡◌, ◌++◌, ◌∷◌, [], false, List, OnOk, OnErr, true};
 ghost use Rattle.dm_findings.specs.declared.finding.Found.{Found};
@@ -9,11 +9,11 @@ use crate::finding::Found;
 use std::alloc::{AllocError, Global};
 use std::marker::Model;
 
-/// How many findings of a kind a report keeps.
+/// How many errors, and how many notes, a report keeps.
 const MOST: u64 = 100;
 
 /// The first 100 errors and the first 100 notes that were found, in the order in which they happened, and how many of
-/// each there are.
+/// each were found in all.
 ///
 /// Contracts see the findings that are kept and the two numbers.
 #[derive(Drop)]
@@ -32,7 +32,7 @@ impl Model for Report {
 }
 
 impl Report {
-    /// A report of nothing.
+    /// A report with no finding. It allocates nothing.
     pub fn new(alloc: Global) -> Report
         ensures { result ≡ report_of [] }
     {
@@ -43,7 +43,8 @@ impl Report {
         }
     }
 
-    /// Reports one more error.
+    /// Adds an error to the report: keeps it if fewer than 100 errors came before it, and counts it. An `Err` is a
+    /// failed allocation, and nothing has changed.
     fn add_error(&mut self, found: Found) -> Result<(), AllocError>
         requires { is_an_error found ≡ true }
         ensures ok { OnOk result ((fs : List Found) → self.old ≡ report_of fs → self.new ≡ report_of (fs ++ found ∷ [])) }
@@ -56,7 +57,8 @@ impl Report {
         Ok(())
     }
 
-    /// Reports one more note.
+    /// Adds a note to the report: keeps it if fewer than 100 notes came before it, and counts it. An `Err` is a failed
+    /// allocation, and nothing has changed.
     fn add_note(&mut self, found: Found) -> Result<(), AllocError>
         requires { is_an_error found ≡ false }
         ensures ok { OnOk result ((fs : List Found) → self.old ≡ report_of fs → self.new ≡ report_of (fs ++ found ∷ [])) }
@@ -69,8 +71,8 @@ impl Report {
         Ok(())
     }
 
-    /// Reports one more finding: it is kept if fewer than 100 of its kind stand before it, and counted. The numbers
-    /// stay at 2^64 - 1.
+    /// Adds a finding to the report: keeps it if fewer than 100 of its kind (errors or notes) came before it, and
+    /// counts it. The numbers stay at 2^64 - 1.
     ///
     /// An `Err` says that an allocation failed, and that nothing has changed.
     pub fn add(&mut self, found: Found) -> Result<(), AllocError>

@@ -1,4 +1,4 @@
--- Runs under the memory checker, and their reports.
+-- Runs of a host's machine under the memory checker, and their reports.
 use Rattle.std.specs.Prelude.{◌≡◌, ℕ, List, None}
 use Rattle.dm_state.specs.declared.stop.Stop.{Stop}
 use Rattle.dm_machine.specs.Run.{IsRun}
@@ -11,7 +11,8 @@ use Rattle.dm_host.specs.declared.refusal.Refusal.TheVariants.{NotLoaded, Memory
 use Rattle.dm_host.specs.declared.host.Stage.TheVariants.{Loaded}
 use Rattle.dm_host.specs.Hosts.{Hosted, with_stage, machine_of}
 
--- a run of at most n steps, and the text of its report; the breakpoints stay
+-- a checked run of at most n steps leads from session s to t, with this stop and this text of its report; the
+-- breakpoints stay
 pub record IsChecked (s : Debugged) (n : ℕ) (stop : Stop) (text : List ℕ) (t : Debugged) : Type 0 where
   pub report : Reported
   pub run : IsRun s.machine n stop t.machine
@@ -19,12 +20,12 @@ pub record IsChecked (s : Debugged) (n : ℕ) (stop : Stop) (text : List ℕ) (t
   pub told : text ≡ report_text report
   pub points : t.points ≡ s.points
 
--- a first part of the run; the breakpoints stay
+-- a first part of a run of at most n steps leads from session s to t; the breakpoints stay
 pub record IsPartlyChecked (s : Debugged) (n : ℕ) (t : Debugged) : Type 0 where
   pub part : RunsPart s.machine n t.machine
   pub points : t.points ≡ s.points
 
--- a checked run, whose report is the answer
+-- a checked run of at most n steps leads from host h to g, whose answer is the text of the report
 pub record Checks (h : Hosted) (n : ℕ) (stop : Stop) (g : Hosted) : Type 0 where
   pub before : Debugged
   pub after : Debugged
@@ -33,8 +34,8 @@ pub record Checks (h : Hosted) (n : ℕ) (stop : Stop) (g : Hosted) : Type 0 whe
   pub checked : IsChecked before n stop text after
   pub is : g ≡ record { stage = Loaded after; answer = text }
 
--- why there is no report, and what is left: no program is loaded, and nothing has changed; or memory was refused, and a
--- first part of the run was made
+-- why a checked run has no report, and the host g after it: no program is loaded, and nothing has changed; or an
+-- allocation failed, and a first part of the run was made. The answer before stays
 pub data IsUnchecked (h : Hosted) (n : ℕ) (why : Refusal) (g : Hosted) : Type 0 where
   not_loaded : machine_of h.stage ≡ None → why ≡ NotLoaded → g ≡ h → IsUnchecked h n why g
   no_memory : (s t : Debugged) → h.stage ≡ Loaded s → IsPartlyChecked s n t → why ≡ Memory → g ≡ with_stage h (Loaded t) → IsUnchecked h n why g

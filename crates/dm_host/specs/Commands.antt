@@ -1,4 +1,4 @@
--- Commands of the debugger, and their answers.
+-- Debugger commands on a host's machine, and their answers.
 use Rattle.std.specs.Prelude.{◌≡◌, ◌⊎◌, ℕ, true, List, Some, None}
 use Rattle.dm_command.specs.declared.command.Command.{Command}
 use Rattle.dm_command.specs.Commands.{command_of}
@@ -9,7 +9,7 @@ use Rattle.dm_host.specs.declared.refusal.Refusal.TheVariants.{NotLoaded, Syntax
 use Rattle.dm_host.specs.declared.host.Stage.TheVariants.{Loaded}
 use Rattle.dm_host.specs.Hosts.{Hosted, with_stage, machine_of}
 
--- the command that a line asks for is done, and its answer kept
+-- the line's command is executed on the host h, which becomes g, and what it prints is kept as the answer
 pub record IsCommanded (h : Hosted) (line : List ℕ) (g : Hosted) : Type 0 where
   pub before : Debugged
   pub after : Debugged
@@ -20,12 +20,13 @@ pub record IsCommanded (h : Hosted) (line : List ℕ) (g : Hosted) : Type 0 wher
   pub does : Does before command text after
   pub is : g ≡ record { stage = Loaded after; answer = text }
 
--- a command is done, whole or in some first part
+-- the line's command led from session s to t, in some first part or whole
 abbrev pub IsDoneOrPart : Debugged → List ℕ → Debugged → Type 0
 IsDoneOrPart s line t = IsCutOff s line t ⊎ ((command : Command) × (text : List ℕ) × (command_of line ≡ Some command) × Does s command text t)
 
--- why a line has no answer, and what is left: no program is loaded, or the session refuses the line; then nothing has
--- changed. Or memory was refused: the command may then be done, whole or in some first part
+-- why the host h does not execute a line, and the host g after it: no program is loaded, or the line is no command or
+-- sets a seventeenth breakpoint, and nothing has changed; or an allocation failed, and the command may be done, whole
+-- or in some first part. The answer before stays
 pub data IsUncommanded (h : Hosted) (line : List ℕ) (why : Refusal) (g : Hosted) : Type 0 where
   not_loaded : machine_of h.stage ≡ None → why ≡ NotLoaded → g ≡ h → IsUncommanded h line why g
   syntax : (s : Debugged) → h.stage ≡ Loaded s → is_syntax s (command_of line) ≡ true → why ≡ Syntax → g ≡ h → IsUncommanded h line why g

@@ -1,4 +1,4 @@
--- Adding programs and loading the first one.
+-- Adding programs to a host, and loading the first one.
 use Rattle.std.specs.Prelude.{◌≡◌, ℕ, ◌<◌, ◌≤◌, List, length}
 use Rattle.dm_state.specs.State.{State}
 use Rattle.dm_machine.specs.Start.{IsNew, IsLoaded, HasNoRoom}
@@ -10,26 +10,28 @@ use Rattle.dm_host.specs.declared.host.Stage.TheVariants.{Fresh, Loaded, Spent}
 use Rattle.dm_host.specs.Setups.{Prepared, added, IsAddFault, IsLoadable, IsNoProgram}
 use Rattle.dm_host.specs.Hosts.{Hosted, with_stage}
 
--- programs can be added
+-- programs can still be added to the host
 abbrev pub IsFresh : Hosted → Type 0
 IsFresh h = (s : Prepared) × (h.stage ≡ Fresh s)
 
--- a program is added
+-- a program is added to the host h, which becomes g
 pub record Adds (h : Hosted) (name bytes : List ℕ) (g : Hosted) : Type 0 where
   pub before : Prepared
   pub fresh : h.stage ≡ Fresh before
   pub is : g ≡ with_stage h (Fresh (added before name bytes))
 
--- why none is added: it is too late, or why the setup refuses it
+-- why no program of this name is added to the host: a program was loaded before, or its loading failed; or why the
+-- setup refuses it
 pub data IsUnadded (h : Hosted) (name : List ℕ) (why : Refusal) : Type 0 where
   late : (IsFresh h → ⊥) → why ≡ Started → IsUnadded h name why
   refused : (s : Prepared) → h.stage ≡ Fresh s → IsAddFault s name why → IsUnadded h name why
 
--- a new machine of the setup
+-- m is a new machine of the setup with this console input
 abbrev pub IsMachine : Prepared → List ℕ → State → Type 0
 IsMachine s input m = IsNew s.sizes s.variables s.upper s.programs input m
 
--- the program of this name is loaded on a new machine, with a tail and the console's input
+-- the program of this name is loaded in the host h, on a new machine, with this tail and console input; the host
+-- becomes g
 pub record Loads (h : Hosted) (name tail input : List ℕ) (g : Hosted) : Type 0 where
   pub before : Prepared
   pub start : State
@@ -39,9 +41,9 @@ pub record Loads (h : Hosted) (name tail input : List ℕ) (g : Hosted) : Type 0
   pub loaded : IsLoaded start name tail machine
   pub is : g ≡ with_stage h (Loaded (new_session machine))
 
--- why nothing is loaded, and what is left: it is too late; the name or the tail is none; there is no such program, or
--- it can't be loaded. Then nothing has changed. Or memory has no room for it, or the host's memory was refused: then
--- the setup is lost.
+-- why no program is loaded in the host h, and the host g after it, in this order: one was loaded before, or its loading
+-- failed; a bad name; a tail over 126 bytes; no such program, or no good one; and in all these cases nothing has
+-- changed. Or conventional memory has no room for it, or an allocation of the host failed: then the host is spent
 pub data IsUnloaded (h : Hosted) (name tail input : List ℕ) (why : Refusal) (g : Hosted) : Type 0 where
   late : (IsFresh h → ⊥) → why ≡ Started → g ≡ h → IsUnloaded h name tail input why g
   bad_name : IsFresh h → (IsName name → ⊥) → why ≡ BadName → g ≡ h → IsUnloaded h name tail input why g

@@ -1,13 +1,13 @@
-//! An answer that is kept in memory.
+//! A writer into memory, which takes the answer of a debugger command.
 ghost use Rattle.std.specs.Prelude.{◌≡◌, []};
 
 use dm_machine::{Failed, Out};
 use std::alloc::Global;
 use std::marker::Model;
 
-/// A writer that keeps what it takes.
+/// A writer that keeps the bytes that it takes.
 ///
-/// A contract sees the bytes, and how many writes failed because memory was refused.
+/// A contract sees the bytes, and how many writes failed because an allocation did.
 #[derive(Drop)]
 pub(crate) struct Answer {
     bytes: Vec<u8>,
@@ -23,7 +23,7 @@ impl Model for Answer {
 }
 
 impl Answer {
-    /// One with no bytes.
+    /// A writer that has taken no bytes.
     pub(crate) fn new(alloc: Global) -> Answer
         ensures { result ≡ record { bytes = []; failures = 0 } }
     {
@@ -33,7 +33,7 @@ impl Answer {
         }
     }
 
-    /// The bytes.
+    /// The bytes that it has taken.
     pub(crate) fn into_bytes(self) -> Vec<u8>
         ensures { result.items ≡ self.bytes }
     {

@@ -1,4 +1,4 @@
-//! Runs under the memory checker.
+//! Runs of a host's machine under the memory checker.
 ghost use Rattle.std.specs.Prelude.{◌≡◌, ◌++◌, [], IfOk, IfErr, OnOk, option_map};
 ghost use Rattle.dm_reports.specs.Reports.{report_text};
 ghost use Rattle.dm_host.specs.Checking.{Checks, IsUnchecked};
@@ -13,7 +13,7 @@ use dm_machine::Stop;
 use dm_reports::put_report;
 use std::alloc::{AllocError, Global};
 
-/// The text of a report.
+/// The text of a report, as `dm check` prints it. An `Err` is a failed allocation.
 fn text_of(alloc: Global, report: &Report) -> Result<Vec<u8>, AllocError>
     ensures { IfOk result (λ text. text.items ≡ report_text report.now) }
 {
@@ -22,8 +22,8 @@ fn text_of(alloc: Global, report: &Report) -> Result<Vec<u8>, AllocError>
     Ok(text)
 }
 
-/// Runs a session under the checker, and returns it with the stop and the text of the report, if memory was not
-/// refused.
+/// Makes at most `n` steps of the session's machine under the checker, and returns the session with the stop and the
+/// text of the report; None if an allocation failed, after a first part of the run. The breakpoints stay.
 fn checked(alloc: Global, session: Session, n: u64) -> (Session, Option<(Stop, Vec<u8>)>)
     ensures { ChecksTo session n (option_map (λ r. (r.0, r.1.items)) result.1) result.0 }
 {
@@ -40,11 +40,12 @@ fn checked(alloc: Global, session: Session, n: u64) -> (Session, Option<(Stop, V
 }
 
 impl Host {
-    /// Makes at most `n` steps, as `run`, under the memory checker, and keeps the text of its report as the answer.
+    /// Makes at most `n` steps under the memory checker, as `run` does without it, and keeps the text of the report as
+    /// the answer. Returns the stop.
     ///
     /// # Errors
     ///
-    /// `NotLoaded` exactly where no program is loaded. Nothing has changed then. `Memory` where memory was refused: a
+    /// `NotLoaded` exactly where no program is loaded; then nothing has changed. `Memory` if an allocation failed: a
     /// first part of the run was made, and the answer before stays.
     pub fn check(&mut self, alloc: Global, n: u64) -> Result<Stop, Refusal>
         ensures ok { IfOk result (λ stop. Checks self.old n stop self.new) }

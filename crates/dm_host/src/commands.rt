@@ -1,4 +1,4 @@
-//! Commands of the debugger.
+//! Debugger commands on a host's machine.
 ghost use Rattle.std.specs.Prelude.{◌≡◌, OnOk, IfErr};
 ghost use Rattle.dm_host.specs.Commands.{IsCommanded, IsUncommanded};
 ghost use Rattle.dm_host.specs.inner.Answers;
@@ -8,7 +8,8 @@ use crate::host::{Host, Stage};
 use crate::refusal::Refusal;
 use std::alloc::Global;
 
-/// Why a session refused a line. Where a write failed, memory for the answer was refused.
+/// Why a session refused a line, as a host returns it. A failed write is a failed allocation, since the answer is
+/// written to memory.
 fn refusal_of(refusal: dm_debug::CommandRefusal) -> Refusal
     ensures { result ≡ Answers.refusal_of refusal }
 {
@@ -21,13 +22,14 @@ fn refusal_of(refusal: dm_debug::CommandRefusal) -> Refusal
 }
 
 impl Host {
-    /// Does the command that a line of the debugger asks for, and keeps the answer. The line has no line end.
+    /// Executes the debugger command that a line gives, and keeps what it prints as the answer. The line comes without
+    /// its line end.
     ///
     /// # Errors
     ///
     /// In this order: `NotLoaded` where no program is loaded; `Syntax` where the line is no command, or clears a
     /// breakpoint that is not set; `Full` where it sets a seventeenth breakpoint. Nothing has changed then, and the
-    /// answer before stays. `Memory` where memory was refused: the command may then be done, whole or in some first
+    /// answer before stays. `Memory` if an allocation failed: the command may then be done, whole or in some first
     /// part, and the answer before stays.
     pub fn command(&mut self, alloc: Global, line: &[u8]) -> Result<(), Refusal>
         ensures ok { OnOk result (IsCommanded self.old line.now self.new) }

@@ -1,4 +1,4 @@
-//! A machine and how far it is.
+//! A host: a machine, the stage that it is at, and the answer of the last command.
 ghost use Rattle.std.specs.Prelude.{◌≡◌, ◌≤◌, [], IfOk, IfErr, OnOk, length, option_map};
 ghost use Rattle.dm_pool.specs.Stored.{IsTooLarge};
 ghost use Rattle.dm_host.specs.Setups.{IsNewFault};
@@ -11,18 +11,18 @@ use dm_machine::{Cpu, Machine, Sizes};
 use std::alloc::Global;
 use std::marker::Model;
 
-/// How far a machine is.
+/// The stage that a machine is at.
 #[derive(Drop)]
 pub enum Stage {
-    /// Programs can be added.
+    /// Not made yet: programs can be added, and one loaded.
     Fresh(Setup),
-    /// A program is loaded.
+    /// A program is loaded. The machine is in a debugging session.
     Loaded(Session),
-    /// The loading failed for good.
+    /// The loading failed for good, and the setup is lost.
     Spent,
 }
 
-/// A machine from its making to its end, and the answer of the last command.
+/// A machine at its stage, and the answer of the last command or checked run that had one.
 #[derive(Drop)]
 pub struct Host {
     pub(crate) stage: Stage,
@@ -38,13 +38,13 @@ impl Model for Host {
 }
 
 impl Host {
-    /// A machine with no programs. The variables of the first program's environment are each closed by a zero byte;
-    /// with `upper` the arena goes on in upper memory, from 9FFFh on.
+    /// A host with no programs. `variables` are those of the first program's environment, each closed by a zero byte;
+    /// with `upper`, upper memory, from segment 9FFFh on, belongs to the arena.
     ///
     /// # Errors
     ///
     /// `TooLarge` exactly where the sizes are over 512 pages or 15,360 KiB; else `VariablesTooLong` exactly where the
-    /// variables have over 32,767 bytes; else `Memory` where memory was refused.
+    /// variables have over 32,767 bytes; else `Memory` if an allocation failed.
     pub fn new(alloc: Global, sizes: Sizes, variables: &[u8], upper: bool) -> Result<Host, Refusal>
         ensures ok { IfOk result (λ h. h ≡ new_host (record { sizes = sizes; variables = variables.now; upper = upper; programs = [] })) }
         ensures fits { OnOk result ((IsTooLarge sizes → ⊥) × (length variables.now ≤ 0x7FFF)) }
@@ -57,7 +57,7 @@ impl Host {
         })
     }
 
-    /// The machine, if a program is loaded.
+    /// The machine, if a program is loaded; otherwise None.
     pub fn machine(&self) -> Option<&Machine>
         ensures { option_map (λ m. m.now) result ≡ machine_of self.now.stage }
     {
@@ -67,7 +67,7 @@ impl Host {
         }
     }
 
-    /// How many steps were made; at 2^64 - 1 the count stays.
+    /// How many steps were made so far; at 2^64 - 1 the count stays.
     ///
     /// # Errors
     ///
@@ -97,7 +97,7 @@ impl Host {
         }
     }
 
-    /// All that the console wrote.
+    /// All bytes that the program has written to the console.
     ///
     /// # Errors
     ///
@@ -112,7 +112,7 @@ impl Host {
         }
     }
 
-    /// The answer of the last command that had one.
+    /// The answer of the last command or checked run that had one; no bytes before the first.
     pub fn answer(&self) -> &[u8]
         ensures { result.now ≡ self.now.answer }
     {

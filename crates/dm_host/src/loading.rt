@@ -1,4 +1,4 @@
-//! Adding programs and loading the first one.
+//! Adding programs to a host, and loading the first one.
 ghost use Rattle.std.specs.Prelude.{◌≡◌, ◌≤◌, ◌⊎◌, OnOk, OnErr, IfOk, IfErr, length};
 ghost use Rattle.dm_proc.specs.Programs.{IsName};
 ghost use Rattle.dm_host.specs.Setups.{IsLoadable};
@@ -15,7 +15,9 @@ use std::alloc::Global;
 /// The most bytes of a command tail.
 const MOST_TAIL: usize = 126;
 
-/// A session over a new machine with the program of this name loaded.
+/// A session, without breakpoints, over a new machine of the setup in which the program of this name is loaded. The
+/// program must be one that can be loaded. `Short` if conventional memory has no room for it, `Memory` if an allocation
+/// failed; in both cases the setup is lost.
 fn begun(
     alloc: Global,
     setup: Setup,
@@ -43,7 +45,8 @@ fn begun(
 }
 
 impl Setup {
-    /// Whether a program can be loaded by this name and with this tail.
+    /// Returns Ok if a program can be loaded by this name and with this tail; else `BadName`, `TailTooLong`, `NotFound`
+    /// or `BadFormat`, in this order.
     fn test(&self, name: &[u8], tail: &[u8]) -> Result<(), Refusal>
         ensures { IsTestedWith self.now name.now tail.now result }
     {
@@ -58,13 +61,13 @@ impl Setup {
 }
 
 impl Host {
-    /// Adds a program, which can be loaded, or started by another one, under its name.
+    /// Adds a program under its name. It can then be loaded, or started by another program.
     ///
     /// # Errors
     ///
     /// `Started` where a program was loaded or its loading failed for good; else `BadName` where the name is empty, has
-    /// over 64 bytes or has a zero byte; else `NameTwice` where a program has it, ASCII case ignored; else `Memory`
-    /// where memory was refused. Nothing has changed then.
+    /// over 64 bytes or has a zero byte; else `NameTwice` where a program has it, ASCII case ignored; else `Memory` if
+    /// an allocation failed. Nothing has changed then.
     pub fn add(&mut self, alloc: Global, name: &[u8], bytes: &[u8]) -> Result<(), Refusal>
         ensures ok { OnOk result (Adds self.old name.now bytes.now self.new) }
         ensures err { IfErr result (IsUnadded self.old name.now) }
@@ -76,14 +79,14 @@ impl Host {
         setup.add(alloc, name, bytes)
     }
 
-    /// Loads the program of this name, with a command tail and the console's input.
+    /// Makes the machine, and loads the program of this name with a command tail and the console input.
     ///
     /// # Errors
     ///
     /// In this order: `Started` where a program was loaded or its loading failed for good; `BadName` where the name is
     /// empty, has over 64 bytes or has a zero byte; `TailTooLong` over 126 bytes; `NotFound` where no program has the
     /// name; `BadFormat` where it is neither a COM nor an MZ program. Nothing has changed then. `Short` where
-    /// conventional memory has no room for it, and `Memory` where memory was refused: then the machine is spent.
+    /// conventional memory has no room for it, and `Memory` if an allocation failed: then the host is spent.
     pub fn load(
         &mut self,
         alloc: Global,

@@ -1,4 +1,4 @@
-//! Bytes of guest memory, and bytes that are copied out.
+//! Reading and writing a host's guest memory, and copying bytes to a buffer.
 ghost use Rattle.std.specs.Prelude.{◌≡◌, ◌≤◌, ◌<◌, ◌++◌, OnOk, IfErr, MatchBool, Some, None, length, drop};
 ghost use Rattle.dm_state.specs.State.{State};
 ghost use Rattle.dm_host.specs.declared.refusal.Refusal.TheVariants.{NotLoaded};
@@ -11,7 +11,7 @@ use crate::host::{Host, Stage};
 use crate::refusal::Refusal;
 use dm_machine::Machine;
 
-/// Fills a buffer with the bytes from segment:offset on.
+/// Fills the buffer with the bytes of memory from segment:offset on; offsets wrap in the segment.
 fn read_each(machine: &Machine, segment: u16, offset: u16, buffer: &mut [u8])
     ensures { buffer.new ≡ bytes_at machine.now.memory segment offset (length buffer.old) }
 {
@@ -22,8 +22,8 @@ fn read_each(machine: &Machine, segment: u16, offset: u16, buffer: &mut [u8])
     }
 }
 
-/// Copies all bytes to the front of a buffer, if it has room for them, and returns whether it has; without room the
-/// buffer stays.
+/// Copies `bytes` to the front of the buffer and returns true, if they fit; otherwise returns false, and the buffer
+/// stays.
 pub fn copy_all(bytes: &[u8], buffer: &mut [u8]) -> bool
     ensures { Copies bytes.now buffer.old buffer.new result }
 {
@@ -35,8 +35,8 @@ pub fn copy_all(bytes: &[u8], buffer: &mut [u8]) -> bool
 }
 
 impl Host {
-    /// Fills a buffer with the bytes of memory from segment:offset on; offsets wrap in their segment. FFh stands where
-    /// there is no memory.
+    /// Fills the buffer with the bytes of memory from segment:offset on; offsets wrap in the segment. Where there is no
+    /// memory, bytes are FFh.
     ///
     /// # Errors
     ///
@@ -52,12 +52,12 @@ impl Host {
         Ok(())
     }
 
-    /// Writes bytes to memory from segment:offset on; offsets wrap in their segment. Bytes of the ROM, and where there
-    /// is no memory, stay.
+    /// Writes the bytes to memory from segment:offset on; offsets wrap in the segment. The ROM, and addresses without
+    /// memory, do not change.
     ///
     /// # Errors
     ///
-    /// `NotLoaded` exactly where no program is loaded.
+    /// `NotLoaded` exactly where no program is loaded. Nothing has changed then.
     pub fn write(&mut self, segment: u16, offset: u16, bytes: &[u8]) -> Result<(), Refusal>
         ensures ok { OnOk result (Works self.old (λ s t. t ≡ with_machine s (record s.machine { memory = with_bytes s.machine.memory segment offset bytes.now })) self.new) }
         ensures err { IfErr result (λ e. IsNotLoaded self.old e × (self.new ≡ self.old)) }

@@ -1,11 +1,11 @@
-//! Why a call was refused.
+//! Why a call of a host fails.
 
 use thiserror::Error;
 
-/// Why a call was refused. Nothing has changed then, unless the call says otherwise.
+/// Why a call of a host fails. Nothing has changed then, unless the call says otherwise.
 #[derive(Clone, Copy, Debug, PartialEq, Eq, Error)]
 pub enum Refusal {
-    /// Memory was refused.
+    /// An allocation of the host failed.
     #[error("out of memory")]
     Memory,
     /// Over 512 pages of expanded memory, or over 15,360 KiB of extended memory.
@@ -20,7 +20,7 @@ pub enum Refusal {
     /// A program has this name already, ASCII case ignored.
     #[error("name twice")]
     NameTwice,
-    /// A program was loaded, or its loading failed for good.
+    /// Programs can no longer be added or loaded: one was loaded, or its loading failed for good.
     #[error("started")]
     Started,
     /// The tail has over 126 bytes.

@@ -1,4 +1,4 @@
-//! Runs.
+//! Runs of a host's machine. The breakpoints of its debugging session do not count, and stay.
 ghost use Rattle.std.specs.Prelude.{◌≡◌, IfOk, IfErr, None};
 ghost use Rattle.dm_machine.specs.Run.{IsRun};
 ghost use Rattle.dm_machine.specs.Until.{RunsUntil};
@@ -13,7 +13,7 @@ impl Host {
     ///
     /// # Errors
     ///
-    /// `NotLoaded` exactly where no program is loaded. Nothing has changed then.
+    /// `NotLoaded` exactly where no program is loaded; then nothing has changed.
     pub fn run(&mut self, n: u64) -> Result<Stop, Refusal>
         ensures ok { IfOk result (λ stop. Works self.old (λ s t. IsRun s.machine n stop t.machine × (t.points ≡ s.points)) self.new) }
         ensures err { IfErr result (λ e. IsNotLoaded self.old e × (self.new ≡ self.old)) }
@@ -24,12 +24,12 @@ impl Host {
         Ok(session.run(n))
     }
 
-    /// Makes at most `n` steps, but none after a step that led to one of these breakpoints, as `Machine::run_until`: it
-    /// returns None where the last step led to one.
+    /// Makes at most `n` steps, and stops after the first one that leads to one of these breakpoints, as
+    /// `Machine::run_until`. Returns the stop; None if the last step led to a breakpoint.
     ///
     /// # Errors
     ///
-    /// `NotLoaded` exactly where no program is loaded. Nothing has changed then.
+    /// `NotLoaded` exactly where no program is loaded; then nothing has changed.
     pub fn run_until(&mut self, n: u64, breakpoints: &[Breakpoint]) -> Result<Option<Stop>, Refusal>
         ensures ok { IfOk result (λ stop. Works self.old (λ s t. RunsUntil s.machine n breakpoints.now stop t.machine × (t.points ≡ s.points)) self.new) }
         ensures err { IfErr result (λ e. IsNotLoaded self.old e × (self.new ≡ self.old)) }

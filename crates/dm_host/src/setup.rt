@@ -1,4 +1,4 @@
-//! What a machine is made from.
+//! What a host's machine is made from.
 ghost use Rattle.std.specs.Prelude.{◌≡◌, ◌++◌, ◌∷◌, [], ◌↔◌, ◌<◌, ◌≤◌, OnOk, OnErr, IsErrOf, IfOk, IfErr, IsTrue, length, None};
 ghost use Rattle.dm_pool.specs.Stored.{IsTooLarge};
 ghost use Rattle.dm_proc.specs.Programs.{IsName, has_name, program_of};
@@ -18,14 +18,14 @@ const MOST_PAGES: u32 = 512;
 /// The most KiB of extended memory.
 const MOST_KIB: u32 = 15_360;
 
-/// The most bytes of the variables with their zeros.
+/// The most bytes of the environment variables with their zeros.
 const MOST_VARIABLES: usize = 0x7FFF;
 
 /// The most bytes of a program's name.
 const MOST_NAME: usize = 64;
 
-/// What a machine is made from: how much memory it has, the variables of the first program's environment, whether the
-/// arena goes on in upper memory, and the programs that it can start.
+/// What a machine is made from: how much memory it has, the variables of the first program's environment, whether upper
+/// memory belongs to the arena, and the programs that can be loaded or started.
 #[derive(Drop)]
 pub struct Setup {
     pub(crate) config: Config,
@@ -43,7 +43,7 @@ impl Model for Setup {
     ghost invariant = { λ s. IsPrepared (record { sizes = s.config.sizes; variables = s.config.variables.items; upper = s.config.upper; programs = s.programs }) };
 }
 
-/// Whether a name can be a program's: it has 1 to 64 bytes, none of them zero.
+/// Whether a program can have this name: it has 1 to 64 bytes, none of them zero.
 pub(crate) fn is_name(name: &[u8]) -> bool
     ensures { IsTrue result ↔ IsName name.now }
 {
@@ -51,12 +51,13 @@ pub(crate) fn is_name(name: &[u8]) -> bool
 }
 
 impl Setup {
-    /// A setup with no programs. The variables are each closed by a zero byte.
+    /// A setup with no programs. The variables of the first program's environment are each closed by a zero byte;
+    /// `upper` is whether upper memory belongs to the arena.
     ///
     /// # Errors
     ///
     /// `TooLarge` exactly where the sizes are over 512 pages or 15,360 KiB; else `VariablesTooLong` exactly where the
-    /// variables have over 32,767 bytes; else `Memory` where memory was refused.
+    /// variables have over 32,767 bytes; else `Memory` if an allocation failed.
     pub fn new(alloc: Global, sizes: Sizes, variables: &[u8], upper: bool) -> Result<Setup, Refusal>
         ensures ok { IfOk result (λ s. s ≡ record { sizes = sizes; variables = variables.now; upper = upper; programs = [] }) }
         ensures fits { OnOk result ((IsTooLarge sizes → ⊥) × (length variables.now ≤ 0x7FFF)) }
@@ -87,7 +88,7 @@ impl Setup {
     /// # Errors
     ///
     /// `BadName` exactly where the name is empty, has over 64 bytes or has a zero byte; else `NameTwice` exactly where
-    /// a program has it, ASCII case ignored; else `Memory` where memory was refused. Nothing has changed then.
+    /// a program has it, ASCII case ignored; else `Memory` if an allocation failed. Nothing has changed then.
     pub fn add(&mut self, alloc: Global, name: &[u8], bytes: &[u8]) -> Result<(), Refusal>
         ensures ok { OnOk result (self.new ≡ added self.old name.now bytes.now) }
         ensures err { IfErr result (IsAddFault self.old name.now) }
@@ -109,7 +110,8 @@ impl Setup {
         }
     }
 
-    /// Whether the program of this name can be loaded.
+    /// Returns Ok if the store has a program of this name that can be loaded; `NotFound` if it has none of the name,
+    /// `BadFormat` if that is neither a COM nor an MZ program.
     pub(crate) fn test_program(&self, name: &[u8]) -> Result<(), Refusal>
         ensures { IsTested self.now name.now result }
     {

@@ -57,17 +57,17 @@ prefix_byte (prefix.Segment s) = segment_byte s
 prefix_byte prefix.Lock = 0xF0
 prefix_byte (prefix.Repeat r) = repeat_byte r
 
--- an instruction without prefixes
+-- the prefixes of an instruction that has none
 abbrev pub no_prefix : Prefixes
 no_prefix = record { segment = None; lock = false; repeat = None }
 
--- one more prefix takes the place of an earlier one of its kind
+-- the prefixes with one more, which takes the place of an earlier one of its kind
 abbrev pub with_prefix : Prefixes → Prefix → Prefixes
 with_prefix p (prefix.Segment s) = record p { segment = Some s }
 with_prefix p prefix.Lock = record p { lock = true }
 with_prefix p (prefix.Repeat r) = record p { repeat = Some r }
 
--- the prefixes that a list leaves, beginning with what is kept already
+-- the prefixes that p and then a list leave: of each kind the last one
 abbrev pub kept : Prefixes → List Prefix → Prefixes
 kept p [] = p
 kept p (x ∷ xs) = kept (with_prefix p x) xs
@@ -151,7 +151,7 @@ has_fields r = if uses_fields r.first then true else uses_fields r.second
 abbrev pub no_fields : Fields
 no_fields = record { register = 0; rm = 0; memory = None }
 
--- the mod r/m byte of a row that has one
+-- the mod r/m byte of a row that has one, and its displacement; no bytes for a row that has none
 abbrev pub MaySpellFields : Bool → Fields → List ℕ → Type 0
 MaySpellFields true m d = SpellsFields m d
 MaySpellFields false m d = (m ≡ no_fields) × (d ≡ [])
@@ -164,7 +164,7 @@ HasRow (Plain p) m d r = (r ≡ p) × MaySpellFields (has_fields p) m d
 HasRow (Group g) m d r = (member_of g m.register ≡ Some r) × SpellsFields m d
 HasRow (Second c p) m d r = (r ≡ p) × (m ≡ no_fields) × (d ≡ c ∷ [])
 
--- the first byte of a row, its mod r/m byte or second byte, and then what its operands need
+-- the bytes spell the action: the first byte of a row, its mod r/m byte or second byte, and then what its operands need
 pub record SpellsAction (a : Action) (bytes : List ℕ) : Type 0 where
   pub first_byte : ℕ
   pub fields : Fields
@@ -180,7 +180,8 @@ pub record SpellsAction (a : Action) (bytes : List ℕ) : Type 0 where
 
 -- ---- prefixed actions
 
--- at most four prefixes in any order, which leave the last of each kind, and then the action
+-- the bytes are at most four prefixes in any order, of which `left` are the last of each kind, and then spell the
+-- action
 pub record SpellsPrefixed (left : Prefixes) (a : Action) (bytes : List ℕ) : Type 0 where
   pub prefixes : List Prefix
   pub rest : List ℕ

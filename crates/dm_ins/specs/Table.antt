@@ -121,35 +121,38 @@ bare m = one m is.Nothing
 abbrev pub arithmetics : List Mnemonic
 arithmetics = op.Add ∷ op.Or ∷ op.Adc ∷ op.Sbb ∷ op.And ∷ op.Sub ∷ op.Xor ∷ op.Cmp ∷ []
 
--- family: the conditional jumps 70h to 7Fh; 16 rows
+-- the mnemonics of the conditional jumps, in the order of their first bytes 70h to 7Fh; 16 rows
 abbrev pub conditions : List Mnemonic
 conditions = op.Jo ∷ op.Jno ∷ op.Jb ∷ op.Jae ∷ op.Jz ∷ op.Jnz ∷ op.Jbe ∷ op.Ja ∷ op.Js ∷ op.Jns ∷ op.Jp ∷ op.Jnp ∷ op.Jl ∷ op.Jge ∷ op.Jle ∷ op.Jg ∷ []
 
--- the six forms of an arithmetic mnemonic
+-- the entries of an arithmetic mnemonic with six first bytes in a row: E and G, G and E, accumulator and immediate
 abbrev pub six : Mnemonic → List OpcodeEntry
 six m = two m Eb Gb ∷ two m Ew Gw ∷ two m Gb Eb ∷ two m Gw Ew ∷ two m AL Ib ∷ two m AX Iw ∷ []
 
--- an entry for each word register
+-- an entry for each word register, in the order of their numbers
 abbrev pub each_word : (WordRegister → OpcodeEntry) → List OpcodeEntry
 each_word f = map f word_registers
 
--- family: arithmetic with an immediate, 80h to 83h; 4 groups, 32 rows
+-- a group of arithmetic with an immediate, 80h to 83h: a row for each reg field, with operands of the kinds a and b; 4
+-- groups, 32 rows
 abbrev pub immediate : OperandKind → OperandKind → List (Option Row)
 immediate a b = (map (λ m. Some (row m a b)) arithmetics)
 
--- family: shifts and rotates by 1 and by CL, D0h to D3h; 4 groups, 28 rows (/6 is not listed)
+-- a group of shifts and rotates by 1 or by CL, D0h to D3h, with operands of the kinds a and b; 4 groups, 28 rows (/6 is
+-- not listed)
 abbrev pub shifts : OperandKind → OperandKind → List (Option Row)
 shifts a b = (map (λ m. Some (row m a b)) (op.Rol ∷ op.Ror ∷ op.Rcl ∷ op.Rcr ∷ op.Shl ∷ op.Shr ∷ []) ++ None ∷ Some (row op.Sar a b) ∷ [])
 
--- family: TEST, NOT, NEG, MUL, IMUL, DIV, IDIV, F6h and F7h; 2 groups, 14 rows (/1 is not listed)
+-- a group of TEST, NOT, NEG, MUL, IMUL, DIV and IDIV, F6h and F7h, with an operand of the kind e, and an immediate i
+-- for TEST; 2 groups, 14 rows (/1 is not listed)
 abbrev pub unary : OperandKind → OperandKind → List (Option Row)
 unary e i = (Some (row op.Test e i) ∷ None ∷ map (λ m. Some (row m e is.Nothing)) (op.Not ∷ op.Neg ∷ op.Mul ∷ op.Imul ∷ op.Div ∷ op.Idiv ∷ []))
 
--- a group with /0 alone
+-- a group with a row for the reg field 0 alone
 abbrev pub zeroth : Row → List (Option Row)
 zeroth r = (Some r ∷ None ∷ None ∷ None ∷ None ∷ None ∷ None ∷ None ∷ [])
 
--- a string instruction by bytes and by words
+-- the two entries of a string instruction, by bytes and by words
 abbrev pub pair : Mnemonic → Mnemonic → List OpcodeEntry
 pair m n = bare m ∷ bare n ∷ []
 
@@ -216,7 +219,7 @@ entries =
     ++ Group 15 ∷ []
     ++ Group 16 ∷ []
 
--- what a first byte begins
+-- the entry of a first byte; `Unlisted` if it begins no instruction
 unfoldable pub entry_of : ℕ → OpcodeEntry
 entry_of b = slice_index_or entries b Unlisted
 
@@ -234,11 +237,11 @@ groups =
     ∷ (Some (row op.Inc Ew is.Nothing) ∷ Some (row op.Dec Ew is.Nothing) ∷ Some (row op.Call Ew is.Nothing) ∷ Some (row op.CallFar M is.Nothing) ∷ Some (row op.Jmp Ew is.Nothing) ∷ Some (row op.JmpFar M is.Nothing) ∷ Some (row op.Push Ew is.Nothing) ∷ None ∷ [])
     ∷ []
 
--- the row that the reg field chooses in a group
+-- the row of the group g that the reg field r chooses, None if it has none there
 unfoldable pub member_of : ℕ → ℕ → Option Row
 member_of g r = slice_index_or (slice_index_or groups g []) r None
 
--- a fact of the number of an entry's group, if the entry is one
+-- if the entry is a group, P holds of the group's number
 abbrev pub IfGroup : OpcodeEntry → (ℕ → Type 0) → Type 0
 IfGroup (Group g) P = P g
 IfGroup _ P = Unit {0}

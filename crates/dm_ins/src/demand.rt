@@ -36,6 +36,7 @@ pub struct Demand {
 }
 
 impl Demand {
+    /// The demand for these bytes after the mod r/m byte, and for no field.
     fn for_data(tail: Data) -> Self
         ensures { result ≡ asks_data tail }
     {
@@ -46,6 +47,7 @@ impl Demand {
         }
     }
 
+    /// The demand for this number, 0 to 7, in the reg field.
     fn for_register(number: u8) -> Self
         ensures { result ≡ asks_register number }
     {
@@ -56,6 +58,7 @@ impl Demand {
         }
     }
 
+    /// The demand that the mod and r/m fields name this register or memory operand.
     fn for_place(place: RegisterOrMemory) -> Self
         ensures { result ≡ asks_place place }
     {
@@ -67,7 +70,7 @@ impl Demand {
     }
 }
 
-/// The number of the register that the operand is, if it is one of the width.
+/// The number of the register that the operand is, None if it is no register of the width.
 fn number(width: Width, operand: Operand) -> Option<u8>
     ensures value { result ≡ numbered width operand }
     ensures fits { IfSome result (λ n. n < 8) }
@@ -94,14 +97,14 @@ fn is_as_wide(a: Width, b: Width) -> bool
     }
 }
 
-/// Whether the displacement alone is the offset.
+/// Whether an address has no base register, so that its displacement alone is the offset.
 pub fn has_no_base(base: Base) -> bool
     ensures { result ≡ is_direct base }
 {
     matches!(base, Base::Direct)
 }
 
-/// The byte that extends by sign to the word, if there is one.
+/// The demand for the byte that extends by sign to the word, None if there is no such byte.
 fn signed(n: u16) -> Option<Demand>
     ensures { result ≡ as_signed n }
 {
@@ -124,7 +127,8 @@ fn is_register(width: Width, operand: Operand) -> bool
     }
 }
 
-/// Whether an operand can be of the kind. It is asked of each row of a mnemonic, and most rows have other kinds.
+/// Whether an operand may be of the kind: where it is false, `demand_for` returns None. It is the quick test of each
+/// row of a mnemonic, most of which have other kinds.
 #[inline(always)]
 #[tactic(auto, unfolding(crate::specs::inner::Search::demand_of))]
 pub fn may_be(kind: OperandKind, operand: Operand) -> bool
@@ -164,7 +168,7 @@ pub fn may_be(kind: OperandKind, operand: Operand) -> bool
     }
 }
 
-/// What the operand asks of the bytes where a row has this kind, if it is of the kind.
+/// What an operand asks of the bytes where a row has this kind, None if it is not of the kind.
 #[tactic(auto, unfolding(crate::specs::inner::Search::demand_of))]
 pub fn demand_for(kind: OperandKind, operand: Operand) -> Option<Demand>
     ensures value { result ≡ demand_of kind operand }

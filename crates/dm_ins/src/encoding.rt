@@ -14,7 +14,7 @@ use crate::prefix::{Prefixes, Repeat};
 use crate::search::least;
 use arrayvec::ArrayVec;
 
-/// Puts the kept prefixes in the order of their bytes.
+/// Appends the bytes of the prefixes, at most three, in rising order.
 fn put_prefixes(out: &mut ArrayVec<u8, 16>, prefixes: Prefixes)
     requires { array_vec_len out.old + 3 ≤ 16 }
     ensures items { out.new.items ≡ out.old.items ++ map prefix_byte (prefix_list prefixes) }
@@ -37,7 +37,7 @@ fn put_prefixes(out: &mut ArrayVec<u8, 16>, prefixes: Prefixes)
     }
 }
 
-/// Puts the bytes of the action.
+/// Appends the bytes of the action.
 fn append(out: &mut ArrayVec<u8, 16>, bytes: &RowBytes)
     requires { array_vec_len out.old + 12 ≤ 16 }
     ensures { out.new.items ≡ out.old.items ++ bytes.now.items }
@@ -46,7 +46,7 @@ fn append(out: &mut ArrayVec<u8, 16>, bytes: &RowBytes)
     let _ = out.try_extend_from_slice(bytes.as_slice());
 }
 
-/// The kept prefixes, and after them the bytes of the action.
+/// The bytes of the prefixes, in rising order, and after them those of the action.
 fn whole(prefixes: Prefixes, bytes: &RowBytes) -> ArrayVec<u8, 16>
     ensures { result.items ≡ map prefix_byte (prefix_list prefixes) ++ bytes.now.items }
 {

@@ -14,14 +14,14 @@ use arrayvec::ArrayVec;
 /// and at most four for each operand.
 pub type RowBytes = ArrayVec<u8, 12>;
 
-/// One row under its first byte.
+/// One row of the table under its first byte.
 #[derive(Clone, Copy)]
 pub struct Choice {
     pub opcode: u8,
     pub row: Row,
     /// The reg field that chooses the row in its group.
     pub register: Option<u8>,
-    /// The second byte that the row wants.
+    /// The second byte of a row that fixes it (AAM, AAD).
     pub second: Option<u8>,
 }
 
@@ -43,7 +43,7 @@ fn rm_field(base: Base) -> u8
     }
 }
 
-/// Puts a word, its low byte first.
+/// Appends a word, its low byte first.
 fn put_word(out: &mut RowBytes, n: u16)
     requires { array_vec_len out.old + 2 ≤ 12 }
     ensures items { out.new.items ≡ out.old.items ++ word_bytes n }
@@ -53,6 +53,7 @@ fn put_word(out: &mut RowBytes, n: u16)
     out.push((n / 256) as u8);
 }
 
+/// Appends the bytes of an operand after the mod r/m byte.
 fn put_data(out: &mut RowBytes, tail: Data)
     requires { array_vec_len out.old + 4 ≤ 12 }
     ensures items { out.new.items ≡ out.old.items ++ data_bytes tail }
@@ -69,7 +70,8 @@ fn put_data(out: &mut RowBytes, tail: Data)
     }
 }
 
-/// Puts the mod r/m byte with a displacement of one byte, where that does, else of a word.
+/// Appends the mod r/m byte of the two fields and the displacement `n`: one byte if that extends to it by sign, else a
+/// word.
 fn put_displaced(out: &mut RowBytes, register: u8, rm: u8, n: u16)
     requires room { array_vec_len out.old + 3 ≤ 12 }
     requires register { register < 8 }
@@ -87,6 +89,7 @@ fn put_displaced(out: &mut RowBytes, register: u8, rm: u8, n: u16)
     }
 }
 
+/// Appends the mod r/m byte of a memory operand, with `register` as reg field, and its shortest displacement.
 fn put_memory(out: &mut RowBytes, register: u8, address: Address)
     requires room { array_vec_len out.old + 3 ≤ 12 }
     requires register { register < 8 }
@@ -107,6 +110,8 @@ fn put_memory(out: &mut RowBytes, register: u8, address: Address)
     }
 }
 
+/// Appends the mod r/m byte of a register or memory operand, with `register` as reg field, and its displacement if it
+/// has one.
 #[tactic(auto, unfolding(crate::specs::inner::Search::fields_bytes))]
 fn put_fields(out: &mut RowBytes, register: u8, place: RegisterOrMemory)
     requires room { array_vec_len out.old + 3 ≤ 12 }
@@ -121,6 +126,7 @@ fn put_fields(out: &mut RowBytes, register: u8, place: RegisterOrMemory)
     }
 }
 
+/// The first number if there is one, else the second.
 fn first_number(a: Option<u8>, b: Option<u8>) -> Option<u8>
     ensures value { result ≡ either a b }
     ensures fits { IfSome a (λ n. n < 8) → IfSome b (λ n. n < 8) → IfSome result (λ n. n < 8) }
@@ -131,6 +137,7 @@ fn first_number(a: Option<u8>, b: Option<u8>) -> Option<u8>
     }
 }
 
+/// The first register or memory operand if there is one, else the second.
 fn first_place(a: Option<RegisterOrMemory>, b: Option<RegisterOrMemory>) -> Option<RegisterOrMemory>
     ensures value { result ≡ either a b }
     ensures fits { IfSome a PlaceFits → IfSome b PlaceFits → IfSome result PlaceFits }
@@ -141,8 +148,8 @@ fn first_place(a: Option<RegisterOrMemory>, b: Option<RegisterOrMemory>) -> Opti
     }
 }
 
-/// Puts what stands after the first byte: a mod r/m byte with its displacement, or the second
-/// byte that the row wants.
+/// Appends what comes after the first byte: a mod r/m byte with its displacement if there are a reg field and a place,
+/// else the second byte of a row that fixes it.
 fn put_behind(
     out: &mut RowBytes,
     register: Option<u8>,
@@ -166,7 +173,8 @@ fn put_behind(
     }
 }
 
-/// Whether the operands can be of the row's kinds: asked before any bytes are made.
+/// Whether the operands may be of the row's kinds: where it is false, `fill` returns None. It is the quick test before
+/// any bytes are made.
 #[inline(always)]
 pub fn may_fill(choice: &Choice, first: Operand, second: Operand) -> bool
     ensures { IsFalse result → bytes_of choice.now first second ≡ None }
@@ -174,7 +182,7 @@ pub fn may_fill(choice: &Choice, first: Operand, second: Operand) -> bool
     may_be(choice.row.first, first) && may_be(choice.row.second, second)
 }
 
-/// The bytes of the row with these operands, if they are of its kinds.
+/// The bytes of the row with these operands, None if they are not of its kinds.
 #[inline(never)]
 #[tactic(auto, unfolding(crate::specs::inner::Search::bytes_of))]
 pub fn fill(choice: Choice, first: Operand, second: Operand) -> Option<RowBytes>

@@ -21,7 +21,7 @@ macro_rules! keys {
     };
 }
 
-/// The keys of the rows that have the mnemonic, in the order of their bytes.
+/// The keys of the rows that have the mnemonic, in the order of their first bytes and reg fields.
 #[tactic(auto, unfolding(crate::specs::inner::Keys::keyed))]
 pub fn keys_of(mnemonic: Mnemonic) -> &'static [Key]
     ensures keys { result.now ≡ keyed mnemonic }

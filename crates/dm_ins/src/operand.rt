@@ -45,6 +45,7 @@ impl WordRegister {
     }
 }
 
+/// The 16-bit registers by number.
 static WORDS: [WordRegister; 8] = [
     WordRegister::Ax,
     WordRegister::Cx,
@@ -87,6 +88,7 @@ impl ByteRegister {
     }
 }
 
+/// The 8-bit registers by number.
 static BYTES: [ByteRegister; 8] = [
     ByteRegister::Al,
     ByteRegister::Cl,
@@ -143,6 +145,7 @@ impl Base {
     }
 }
 
+/// The base registers by the number in the r/m field.
 static BASES: [Base; 8] = [
     Base::BxSi,
     Base::BxDi,

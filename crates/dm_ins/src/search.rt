@@ -10,7 +10,7 @@ use crate::fill::{Choice, RowBytes, fill, may_fill};
 use crate::keys::{Key, keys_of};
 use crate::table::{OpcodeEntry, entry_at, member};
 
-/// The row under the first byte and, in a group, the reg field. A row outside the groups stands
+/// The row under the first byte and, in a group, the reg field; None if there is none. A row outside the groups stands
 /// under the reg field 0 alone, so that each is met once.
 fn choice(opcode: u8, register: u8) -> Option<Choice>
     requires { register < 8 }
@@ -55,7 +55,7 @@ fn choice(opcode: u8, register: u8) -> Option<Choice>
     }
 }
 
-/// Whether the first bytes are shorter, or as long and less byte by byte.
+/// Whether the bytes `a` are shorter than `b`, or as many and less at the first byte that differs.
 fn is_before(a: &RowBytes, b: &RowBytes) -> bool
     ensures { result ≡ before a.now.items b.now.items }
 {
@@ -68,13 +68,14 @@ fn is_before(a: &RowBytes, b: &RowBytes) -> bool
     }
 }
 
+/// Whether the mnemonics are the same.
 fn is_same(a: Mnemonic, b: Mnemonic) -> bool
     ensures { IsTrue result ↔ (a ≡ b) }
 {
     a == b
 }
 
-/// The bytes of the row under the key, if it has the action.
+/// The bytes of the row under the key for the action, None if the row does not have the action.
 #[inline(always)]
 fn candidate(key: Key, action: &Action) -> Option<RowBytes>
     requires { key.register < 8 }
@@ -91,7 +92,7 @@ fn candidate(key: Key, action: &Action) -> Option<RowBytes>
     }
 }
 
-/// The bytes that come first of the two, the best so far where they are the same.
+/// Of two spellings the one that comes first, `best` where they are the same; a missing one is passed over.
 #[inline(always)]
 fn better(best: Option<RowBytes>, new: Option<RowBytes>) -> Option<RowBytes>
     ensures { seen_bytes result ≡ better_of (seen_bytes best) (seen_bytes new) }
@@ -109,7 +110,7 @@ fn better(best: Option<RowBytes>, new: Option<RowBytes>) -> Option<RowBytes>
     }
 }
 
-/// The least of the rows' bytes for the action, or None where no row has it. Only the rows of its mnemonic are tried.
+/// The least of the rows' bytes for the action, None where no row has it. Only the rows of its mnemonic are tried.
 pub fn least(action: &Action) -> Option<RowBytes>
     ensures { IsLeast action.now (seen_bytes result) }
 {

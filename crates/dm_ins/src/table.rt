@@ -584,7 +584,7 @@ pub static GROUPS: [[Option<Row>; 8]; 17] = [
     ],
 ];
 
-/// What the first byte begins.
+/// The entry of a first byte.
 pub fn entry_at(opcode: u8) -> OpcodeEntry
     ensures entry { result ≡ entry_of opcode }
     ensures group { IfGroup result (λ g. g < 17) }
@@ -592,7 +592,7 @@ pub fn entry_at(opcode: u8) -> OpcodeEntry
     ENTRIES[opcode as usize]
 }
 
-/// The row that the reg field chooses in the group, if it has one there.
+/// The row that the reg field chooses in the group, None if it has none there.
 pub fn member(group: u8, register: u8) -> Option<Row>
     requires group { group < 17 }
     requires register { register < 8 }

@@ -1,4 +1,4 @@
--- The operands of an instruction, by their tokens.
+-- The operands of an instruction, by their tokens. None says that the tokens are no operand.
 -- Source: Intel 8086 Family User's Manual, section 2.8 (addressing modes) and section 2.9 (how ASM-86 writes them);
 -- that parts of an address stand in one order, and which signs are left out, is this machine's own.
 use Rattle.std.specs.Prelude.{ℕ, ◌-◌, ◌%◌, Bool, true, false, List, [], ◌∷◌, Option, Some, None, nat_le, if◌then◌else◌}
@@ -18,43 +18,44 @@ use Rattle.dm_lines.specs.declared.term.Term.TheVariants as term
 
 -- ---- numbers and labels
 
--- a number below zero, 8000h at most
+-- the number -n; None below -8000h
 abbrev pub minus : ℕ → Option Amount
 minus n = if nat_le n 0x8000 then Some (Minus n) else None
 
--- a number, with a - before it or none
+-- the number that the tokens are, with a - before it or none
 abbrev pub amount_of : List Token → Option Amount
 amount_of (t.Number n ∷ []) = Some (Plus n)
 amount_of (t.Minus ∷ t.Number n ∷ []) = minus n
 amount_of _ = None
 
--- what is added to a label or to registers: a number after + or -, or nothing; - stands for +-
+-- the number that is added to a label or to registers: after + a number with its sign, after - a number; 0 without
+-- tokens
 abbrev pub added_of : List Token → Option Amount
 added_of [] = Some (Plus 0)
 added_of (t.Plus ∷ ts) = amount_of ts
 added_of (t.Minus ∷ t.Number n ∷ []) = minus n
 added_of _ = None
 
--- a number as a value with no label, if there is one
+-- a number as a value without a label
 abbrev pub plain : Option Amount → Option Value
 plain None = None
 plain (Some n) = Some (record { label = None; amount = n })
 
--- a number, or a label and what is added to it
+-- the value that the tokens are: a number, or a label and a number that is added to it
 abbrev pub parsed_value : List Token → Option Value
 parsed_value (t.Name l ∷ ts) = do
   n ← added_of ts
   Some (record { label = Some l; amount = n })
 parsed_value ts = plain (amount_of ts)
 
--- a number as a word, modulo 10000h
+-- the word of a number, modulo 10000h
 abbrev pub amount_word : Amount → ℕ
 amount_word (Plus n) = n
 amount_word (Minus n) = (65536 - n) % 65536
 
 -- ---- memory
 
--- the registers of an address: a base or an index, or both in this order
+-- the registers at the front of an address, a base or an index or both in this order, and the tokens after them
 unfoldable pub base_at : List Token → Option (Base × List Token)
 base_at (t.Word Bx ∷ t.Plus ∷ t.Word Si ∷ ts) = Some (BxSi, ts)
 base_at (t.Word Bx ∷ t.Plus ∷ t.Word Di ∷ ts) = Some (BxDi, ts)
@@ -66,7 +67,8 @@ base_at (t.Word Bp ∷ ts) = Some (OnBp, ts)
 base_at (t.Word Bx ∷ ts) = Some (OnBx, ts)
 base_at _ = None
 
--- registers and what is added to them, or a number or label
+-- the memory operand with these registers, if there are any, and the number added to them; else with a number or
+-- label
 abbrev pub based : Size → Option (Base × List Token) → List Token → Option Term
 based s (Some b) ts = do
   n ← added_of b.1
@@ -75,27 +77,27 @@ based s None ts = do
   v ← parsed_value ts
   Some (term.Address s v)
 
--- an address inside brackets, with the size word before them
+-- the memory operand with these tokens between its brackets and this size word before them
 abbrev pub memory_operand : Size → List Token → Option Term
 memory_operand s ts = based s (base_at ts) ts
 
--- a token in front of others, if there are such
+-- a token in front of the list
 abbrev pub onto : Token → Option (List Token) → Option (List Token)
 onto t None = None
 onto t (Some ts) = Some (t ∷ ts)
 
--- the token is the bracket that ends an address
+-- the token is ], which ends an address
 abbrev pub is_close : Token → Bool
 is_close t.Close = true
 is_close _ = false
 
--- what stands before the bracket at the end
+-- the tokens before the last one, which has to be ]
 abbrev pub inside : List Token → Option (List Token)
 inside [] = None
 inside (t ∷ []) = if is_close t then Some [] else None
 inside (t ∷ u ∷ ts) = onto t (inside (u ∷ ts))
 
--- a memory operand after its opening bracket: the last token closes it
+-- the memory operand with these tokens after its opening bracket; the last token closes it
 abbrev pub memory_of : Size → List Token → Option Term
 memory_of s ts = do
   inner ← inside ts
@@ -103,13 +105,14 @@ memory_of s ts = do
 
 -- ---- operands
 
--- a far pointer of this segment, with its offset in these tokens
+-- the far pointer of this segment, with its offset in these tokens
 abbrev pub far_pointer : Amount → List Token → Option Term
 far_pointer segment ts = do
   offset ← amount_of ts
   Some (term.Far (amount_word segment) (amount_word offset))
 
--- a segment and an offset, which are numbers, or a value
+-- the operand that starts with a number or a label: a far pointer, a number and a number with a colon between them,
+-- or a value
 abbrev pub from_number : List Token → Option Term
 from_number (t.Number n ∷ t.Colon ∷ ts) = far_pointer (Plus n) ts
 from_number (t.Minus ∷ t.Number n ∷ t.Colon ∷ ts) = do
@@ -119,7 +122,7 @@ from_number ts = do
   v ← parsed_value ts
   Some (term.Number v)
 
--- the operand that the tokens are, if they are one
+-- the operand that the tokens are: a register, memory, a far pointer, a number or a label
 unfoldable pub term_of : List Token → Option Term
 term_of (t.Byte r ∷ []) = Some (term.ByteRegister r)
 term_of (t.Word r ∷ []) = Some (term.WordRegister r)
@@ -130,22 +133,22 @@ term_of ts = from_number ts
 
 -- ---- commas part operands, and the items of data
 
--- a token put in front of the first part
+-- a token in front of the first part
 abbrev pub begin : Token → List (List Token) → List (List Token)
 begin t [] = (t ∷ []) ∷ []
 begin t (p ∷ ps) = (t ∷ p) ∷ ps
 
--- the token is a comma
+-- the token is a comma, which parts operands and items of data
 abbrev pub is_comma : Token → Bool
 is_comma t.Comma = true
 is_comma _ = false
 
--- tokens parted at their commas
+-- the tokens between the commas; without a comma one part
 abbrev pub parts : List Token → List (List Token)
 parts [] = [] ∷ []
 parts (t ∷ ts) = if is_comma t then [] ∷ parts ts else begin t (parts ts)
 
--- at most two operands
+-- the operands of one or two parts; the second is `Nothing` for one part
 abbrev pub term_pair : List (List Token) → Option (Term × Term)
 term_pair (p ∷ []) = do
   x ← term_of p
@@ -156,7 +159,7 @@ term_pair (p ∷ q ∷ []) = do
   Some (x, y)
 term_pair _ = None
 
--- the operands of an instruction: two, one, or none where no token is left
+-- the operands of an instruction, by the tokens after its mnemonic; `Nothing` twice if there are none
 abbrev pub terms_of : List Token → Option (Term × Term)
 terms_of [] = Some (term.Nothing, term.Nothing)
 terms_of ts = term_pair (parts ts)

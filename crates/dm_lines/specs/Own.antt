@@ -1,4 +1,4 @@
--- The statement of an instruction's text, where the next instruction stands at an offset.
+-- The statement that the text of an instruction is read as. `next` is the offset of the next instruction.
 -- Source: the text of an instruction, whose numbers are this machine's own; a target is written as the offset that it
 -- leads to.
 use Rattle.std.specs.Prelude.{ℕ, ◌+◌, ◌%◌, None}
@@ -17,16 +17,16 @@ use Rattle.dm_lines.specs.declared.term.Term.TheVariants as term
 use Rattle.dm_lines.specs.declared.statement.Instruction.{Instruction}
 use Rattle.dm_lines.specs.Statements.{Statement, instruction}
 
--- a number with no sign and no label
+-- the value that is a number without a sign, with no label
 abbrev pub number : ℕ → Value
 number n = record { label = None; amount = Plus n }
 
--- a memory operand: a direct address is a number, any other one has registers
+-- a memory operand: a direct address is a number, any other one registers and a number
 abbrev pub memory_term : Size → Base → ℕ → Term
 memory_term s Direct n = term.Address s (number n)
 memory_term s b n = term.Memory s b (Plus n)
 
--- an operand of an action
+-- an operand of an action as its text is read
 abbrev pub own_term : Action → ℕ → Operand → Term
 own_term a next operand.Nothing = term.Nothing
 own_term a next (operand.ByteRegister r) = term.ByteRegister r
@@ -39,7 +39,7 @@ own_term a next operand.One = term.Number (number 1)
 own_term a next (operand.Target d) = term.Number (number ((next + d) % 65536))
 own_term a next (operand.FarTarget n s) = term.Far s n
 
--- the instruction that its own text shows, where the next one stands at an offset
+-- an instruction as its own text is read
 abbrev pub own_instruction : Ins → ℕ → Instruction
 own_instruction i next = record {
   prefixes = i.prefixes;
@@ -48,6 +48,6 @@ own_instruction i next = record {
   second = own_term i.action next i.action.second;
 }
 
--- the statement of an instruction's own text, which has no label
+-- the statement that the text of an instruction is read as, which has no label
 abbrev pub own_statement : Ins → ℕ → Statement
 own_statement i next = record { label = None; item = instruction (own_instruction i next) }

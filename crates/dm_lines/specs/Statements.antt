@@ -1,4 +1,4 @@
--- The statement of a line: a label, and an instruction or data.
+-- The statement of a line: a label, and an instruction or data. None says that the tokens, or the line, are none.
 -- Source: Intel 8086 Family User's Manual, section 2.9 (statements of ASM-86); which of its forms there are is this
 -- machine's own (docs/DECISIONS.md).
 use Rattle.std.specs.Prelude.{ℕ, Bool, true, false, List, [], ◌∷◌, ◌++◌, length, Option, Some, None, is_some, nat_lt, if◌then◌else◌}
@@ -24,81 +24,81 @@ use Rattle.dm_lines.specs.declared.statement.Statement as Statement'
 use Rattle.dm_lines.specs.Tokens.{tokens_of}
 use Rattle.dm_lines.specs.Operands.{amount_of, parsed_value, parts, terms_of}
 
--- what stands on a line after its label
+-- what stands on a line after its label: nothing, an instruction, the bytes of a DB, or the words of a DW
 pub data Item : Type 0 where
   nothing : Item
   instruction : Instruction → Item
   bytes : List Amount → Item
   words : List Value → Item
 
--- what a line says: its label, if it has one, and an instruction, data or nothing
+-- what a line stands for: its label, if it has one, and its item
 pub record Statement : Type 0 where
   pub label : Option Name'.Name
   pub item : Item
 
--- the item of a line, with its data, as contracts see it
+-- the `Item` of the code, with the data in `Items`, as contracts see it
 abbrev pub seen_item : Items → Item'.Item → Item
 seen_item d code.Nothing = nothing
 seen_item d (code.Instruction i) = instruction i
 seen_item d code.Bytes = bytes d.bytes.items
 seen_item d code.Words = words d.words.items
 
--- a parsed statement, with its items of data, as contracts see it
+-- the `Statement` of the code, with the data in `Items`, as contracts see it
 abbrev pub seen_statement : Items → Statement'.Statement → Statement
 seen_statement d s = record { label = s.label; item = seen_item d s.item }
 
 -- ---- data
 
--- the elements in front of a list, if there is a list
+-- the elements xs in front of the list; None without a list
 abbrev pub joined_to : {A : Type 0} → List A → Option (List A) → Option (List A)
 joined_to xs None = None
 joined_to xs (Some ys) = Some (xs ++ ys)
 
--- two lists, one after the other, if there are both
+-- two lists joined; None if one is missing
 abbrev pub then_list : {A : Type 0} → Option (List A) → Option (List A) → Option (List A)
 then_list None r = None
 then_list (Some xs) r = joined_to xs r
 
--- a list of one element, if there is the element
+-- the list of this element; None without it
 abbrev pub list_of_one : {A : Type 0} → Option A → Option (List A)
 list_of_one None = None
 list_of_one (Some x) = Some (x ∷ [])
 
--- the bytes of a text, up to the quote that ends it
+-- the bytes of a quoted text, by the tokens after its first quote, up to the quote that ends it
 abbrev pub letters : List Token → Option (List Amount)
 letters (t.Quote ∷ []) = Some []
 letters (t.Letter b ∷ ts) = joined_to (Plus b ∷ []) (letters ts)
 letters _ = None
 
--- an item of a DB is a text between quotes or a number
+-- the bytes of one item of a DB: a number, or a text between quotes
 abbrev pub bytes_item : List Token → Option (List Amount)
 bytes_item (t.Quote ∷ ts) = letters ts
 bytes_item ts = list_of_one (amount_of ts)
 
--- the bytes of a DB's items, one after the other, if each is an item
+-- the bytes of all items of a DB, one after the other
 abbrev pub byte_items : List (List Token) → Option (List Amount)
 byte_items [] = Some []
 byte_items (p ∷ ps) = then_list (bytes_item p) (byte_items ps)
 
--- an item of a DW is a number, or a label and what is added to it
+-- the words of all items of a DW, each a number, or a label and a number that is added to it
 abbrev pub word_items : List (List Token) → Option (List Value)
 word_items [] = Some []
 word_items (p ∷ ps) = then_list (list_of_one (parsed_value p)) (word_items ps)
 
 -- ---- instructions
 
--- the mnemonic with SHORT after it: JMP alone has one
+-- the mnemonic that SHORT after this one makes: JMP SHORT
 abbrev pub short_of : Mnemonic → Option Mnemonic
 short_of op.Jmp = Some op.JmpShort
 short_of _ = None
 
--- the mnemonic with FAR after it: JMP and CALL have one
+-- the mnemonic that FAR after this one makes: JMP FAR or CALL FAR
 abbrev pub far_mnemonic : Mnemonic → Option Mnemonic
 far_mnemonic op.Jmp = Some op.JmpFar
 far_mnemonic op.Call = Some op.CallFar
 far_mnemonic _ = None
 
--- a mnemonic of one or two words, and what follows it
+-- the mnemonic of one or two words at the front, and the tokens after it
 abbrev pub mnemonic_at : List Token → Option (Mnemonic × List Token)
 mnemonic_at (t.Mnemonic m ∷ t.Short ∷ ts) = do
   j ← short_of m
@@ -109,7 +109,8 @@ mnemonic_at (t.Mnemonic m ∷ t.Far ∷ ts) = do
 mnemonic_at (t.Mnemonic m ∷ ts) = Some (m, ts)
 mnemonic_at _ = None
 
--- prefix words in any order, at most one of each kind, and what follows them
+-- the prefixes p with those of the words at the front, in any order and at most one of each kind, and the tokens
+-- after them
 abbrev pub prefixed : Prefixes → List Token → Option (Prefixes × List Token)
 prefixed p (t.Segment r ∷ ts) = if is_some p.segment then None else prefixed (record p { segment = Some r }) ts
 prefixed p (t.Lock ∷ ts) = if p.lock then None else prefixed (record p { lock = true }) ts
@@ -122,32 +123,32 @@ is_memory (term.Memory s b n) = true
 is_memory (term.Address s v) = true
 is_memory _ = false
 
--- the mnemonic is XCHG or TEST, whose operands may stand in either order
+-- the mnemonic is XCHG or TEST, whose operands may be written in either order
 abbrev pub exchanges : Mnemonic → Bool
 exchanges op.Xchg = true
 exchanges op.Test = true
 exchanges _ = false
 
--- XCHG and TEST take memory on either side: it comes first
+-- the instruction with these operands; of XCHG and TEST a memory operand is put first
 abbrev pub with_terms : Prefixes → Mnemonic → Term → Term → Instruction
 with_terms p m x y =
     if (if exchanges m then is_memory y else false)
     then record { prefixes = p; mnemonic = m; first = y; second = x }
     else record { prefixes = p; mnemonic = m; first = x; second = y }
 
--- an instruction of a mnemonic and its operands, after its prefix words
+-- the instruction that the tokens after its prefix words are, a mnemonic and its operands
 abbrev pub operated : Prefixes → List Token → Option Instruction
 operated p ts = do
   m ← mnemonic_at ts
   xs ← terms_of m.1
   Some (with_terms p m.0 xs.0 xs.1)
 
--- an instruction after its prefix words; NOP is XCHG AX,AX
+-- the instruction that the tokens after its prefix words are; NOP is XCHG AX,AX
 abbrev pub after_prefixes : Prefixes → List Token → Option Instruction
 after_prefixes p (t.Nop ∷ []) = Some (record { prefixes = p; mnemonic = op.Xchg; first = term.WordRegister Ax; second = term.WordRegister Ax })
 after_prefixes p ts = operated p ts
 
--- the instruction that the tokens are, if they are one
+-- the instruction that the tokens are: prefix words, a mnemonic and its operands
 abbrev pub instruction_of : List Token → Option Instruction
 instruction_of ts = do
   p ← prefixed no_prefix ts
@@ -155,7 +156,7 @@ instruction_of ts = do
 
 -- ---- lines
 
--- what stands after a label: nothing, the data of DB or DW, or an instruction
+-- what the tokens after a label are: nothing, the data of DB or DW, or an instruction
 abbrev pub item_of : List Token → Option Item
 item_of [] = Some nothing
 item_of (t.DataBytes ∷ ts) = do
@@ -168,16 +169,16 @@ item_of ts = do
   i ← instruction_of ts
   Some (instruction i)
 
--- a statement with this label or none, if it has an item
+-- the statement of this label, if there is one, and this item
 abbrev pub labelled : Option Name'.Name → Option Item → Option Statement
 labelled l None = None
 labelled l (Some i) = Some (record { label = l; item = i })
 
--- the statement that a line's tokens are, if they are one
+-- the statement that the tokens of a line are
 abbrev pub statement_of : List Token → Option Statement
 statement_of (t.Name l ∷ t.Colon ∷ ts) = labelled (Some l) (item_of ts)
 statement_of ts = labelled None (item_of ts)
 
--- the statement of a line of at most 255 bytes, if it is one
+-- the statement that a line of at most 255 bytes stands for; None for a longer one, too
 unfoldable pub line_of : List ℕ → Option Statement
 line_of line = if nat_lt 255 (length line) then None else tokens_of line >>= statement_of

@@ -1,6 +1,6 @@
--- The tokens of a line: words, numbers, signs and quoted text.
--- Source: Intel 8086 Family User's Manual, section 2.9 (statements, names and constants of ASM-86); the bounds of names
--- and numbers are this machine's own.
+-- The tokens of a line: words, numbers, signs and quoted text. None says that the bytes are no tokens.
+-- Source: Intel 8086 Family User's Manual, section 2.9 (statements, names and constants of ASM-86); the bounds of
+-- names and numbers are this machine's own.
 use Rattle.std.specs.Prelude.{ℕ, ◌+◌, ◌-◌, ◌*◌, Bool, true, false, not, ◌&&◌, ◌||◌, ◌==◌, List, [], ◌∷◌, ◌++◌, length, Option, Some, None, nat_le, if◌then◌else◌, replicate, take, drop, slice_index}
 use Rattle.dm_ins.specs.Walks.{◌>>=◌}
 use Rattle.dm_lines.specs.Words.{reserved}
@@ -10,42 +10,43 @@ use Rattle.dm_lines.specs.declared.token.Token.TheVariants.{Name, Number, Comma,
 
 -- ---- bytes
 
--- a small letter as a capital one; any other byte as it is
+-- the capital letter of a small one; any other byte as it is
 abbrev pub uppercase : ℕ → ℕ
 uppercase b = if nat_le 97 b && nat_le b 122 then b - 32 else b
 
--- letters, digits and _
+-- the byte is one of a word: a letter, a digit or _
 abbrev pub is_word_byte : ℕ → Bool
 is_word_byte b = (nat_le 65 b && nat_le b 90) || (nat_le 97 b && nat_le b 122) || (nat_le 48 b && nat_le b 57) || b == 95
 
--- what a digit from 0 to F stands for
+-- the value of a hexadecimal digit, 0 to 9 or A to F
 abbrev pub digit_of : ℕ → Option ℕ
 digit_of b = if nat_le 48 b && nat_le b 57 then Some (b - 48) else if nat_le 65 b && nat_le b 70 then Some (b - 55) else None
 
 -- ---- words, in upper case
 
--- the number that the digits go on to spell, below 65536
+-- the number that the digits spell in this base, where the digits before them spell n; None for 65,536 and over, or
+-- for another byte
 abbrev pub magnitude_of : ℕ → ℕ → List ℕ → Option ℕ
 magnitude_of base n [] = Some n
 magnitude_of base n (b ∷ bs) = do
   d ← digit_of b
   if nat_le base d then None else if nat_le 65536 (n * base + d) then None else magnitude_of base (n * base + d) bs
 
--- the number that a word spells: hexadecimal with an H at the end, else decimal
+-- the number that a word spells: hexadecimal with an H at the end, else decimal; None if it spells none
 abbrev pub number_of : List ℕ → Option ℕ
 number_of w = if slice_index w (length w - 1) == 72 then magnitude_of 16 0 (take (length w - 1) w) else magnitude_of 10 0 w
 
--- the bytes of a name: a word, and zeros up to 31 bytes
+-- a word of at most 31 bytes as a name of a label: zeros follow it up to 31 bytes
 abbrev pub padded_of : List ℕ → Name'.Name
 padded_of w = record { bytes = w ++ drop (length w) (replicate 31 0) }
 
--- a reserved word as its token, any other word as the name of a label, of at most 31 bytes
+-- the token of a reserved word, else the name of a label, of at most 31 bytes
 abbrev pub or_name : List ℕ → Option Token → Option Token
 or_name w (Some t) = Some t
 or_name w None = if nat_le (length w) 31 then Some (Name (padded_of w)) else None
 
--- a word that begins with a digit is a number, a reserved word is itself, any other one is a label of at most 31
--- letters
+-- the token of a word in upper case: a number if it begins with a digit, else a reserved word, else the name of a
+-- label
 unfoldable pub word_token : List ℕ → Option Token
 word_token w =
     if nat_le 48 (slice_index w 0) && nat_le (slice_index w 0) 57 then (do
@@ -55,24 +56,24 @@ word_token w =
 
 -- ---- lines
 
--- the token of the word that ends here, if one was begun
+-- the token of the word w, which has ended, as a list; no token for an empty w, and None if w is no word
 abbrev pub closed : List ℕ → Option (List Token)
 closed [] = Some []
 closed (b ∷ w) = do
   t ← word_token (b ∷ w)
   Some (t ∷ [])
 
--- tokens in front of others, if there are others
+-- the tokens xs in front of the others
 abbrev pub with_front : List Token → Option (List Token) → Option (List Token)
 with_front xs None = None
 with_front xs (Some ys) = Some (xs ++ ys)
 
--- two runs of tokens, one after the other, if there are both
+-- two runs of tokens joined; None if one is missing
 abbrev pub then_tokens : Option (List Token) → Option (List Token) → Option (List Token)
 then_tokens None r = None
 then_tokens (Some xs) r = with_front xs r
 
--- a byte between words: a tab, a space, or a sign
+-- the token of a byte between words: none for a tab or a space, else that of a sign; None for another byte
 abbrev pub marked : ℕ → Option (List Token)
 marked b =
     if b == 9 || b == 32 then Some []
@@ -85,12 +86,12 @@ marked b =
     else if b == 93 then Some (Close ∷ [])
     else None
 
--- a byte of quoted text: the quote that ends it, or a letter
+-- the token of a byte of quoted text: the quote that ends it, or a letter
 abbrev pub inside_quotes : ℕ → Token
 inside_quotes b = if b == 39 then Quote else Letter b
 
--- the tokens of what is left of a line, inside quotes (true) or after the first bytes of a word: a quoted text ends
--- with a quote, and a semicolon outside ends the line
+-- the tokens of the bytes that are left of a line, inside quotes (true) or outside, with w the word so far. A quoted
+-- text has to end, and a semicolon outside ends the line
 abbrev pub lexed : Bool → List ℕ → List ℕ → Option (List Token)
 lexed true w [] = None
 lexed true w (b ∷ bs) = with_front (inside_quotes b ∷ []) (lexed (not (b == 39)) w bs)
@@ -100,6 +101,6 @@ lexed false w (b ∷ bs) =
     else if b == 59 then closed w
     else then_tokens (closed w) (then_tokens (marked b) (lexed (b == 39) [] bs))
 
--- the tokens of a line, if all of it is tokens, and each quoted text ends
+-- the tokens of a line up to its comment; None if a byte belongs to no token or a quoted text does not end
 unfoldable pub tokens_of : List ℕ → Option (List Token)
 tokens_of line = lexed false [] line

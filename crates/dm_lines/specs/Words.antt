@@ -1,4 +1,4 @@
--- The words that no label may be, and the tokens that they are.
+-- The reserved words, which no label may be, and their tokens.
 -- Source: Intel 8086 Family User's Manual, section 2.7 (mnemonics, prefixes, and in table 2-15 the other names of the
 -- conditional jumps) and section 2.9 (NEAR, FAR, SHORT, BYTE, WORD, DB and DW of ASM-86). How NEAR, BYTE and WORD are
 -- used is this machine's own.
@@ -20,7 +20,7 @@ use Rattle.dm_lines.specs.declared.token.Token.TheVariants as t
 
 -- ---- how they are written
 
--- how another name of a mnemonic is written, in ASCII
+-- the spelling of another name of a mnemonic, in ASCII
 abbrev pub alias_name : Alias → List ℕ
 alias_name alias.Jc = codes "JC"
 alias_name alias.Jnae = codes "JNAE"
@@ -40,7 +40,7 @@ alias_name alias.Loopz = codes "LOOPZ"
 alias_name alias.Loopnz = codes "LOOPNZ"
 alias_name alias.Sal = codes "SAL"
 
--- how a keyword is written, in ASCII
+-- the spelling of a keyword, in ASCII
 abbrev pub keyword_name : Keyword → List ℕ
 keyword_name keyword.Nop = codes "NOP"
 keyword_name keyword.Lock = codes "LOCK"
@@ -57,7 +57,7 @@ keyword_name keyword.Near = codes "NEAR"
 keyword_name keyword.Db = codes "DB"
 keyword_name keyword.Dw = codes "DW"
 
--- how a reserved word is written, in ASCII
+-- the spelling of a reserved word, in ASCII
 abbrev pub spelling_of : Reserved → List ℕ
 spelling_of (word.Byte r) = byte_name r
 spelling_of (word.Word r) = word_name r
@@ -68,7 +68,7 @@ spelling_of (word.Keyword k) = keyword_name k
 
 -- ---- what they are
 
--- the mnemonic that has this other name
+-- the mnemonic of which this is another name
 abbrev pub alias_mnemonic : Alias → Mnemonic
 alias_mnemonic alias.Jc = op.Jb
 alias_mnemonic alias.Jnae = op.Jb
@@ -88,7 +88,7 @@ alias_mnemonic alias.Loopz = op.Loope
 alias_mnemonic alias.Loopnz = op.Loopne
 alias_mnemonic alias.Sal = op.Shl
 
--- the token that a keyword is: REP, REPE and REPZ are one, and so are REPNE and REPNZ
+-- the token of a keyword: REP, REPE and REPZ have one, and so have REPNE and REPNZ
 abbrev pub keyword_token : Keyword → Token
 keyword_token keyword.Nop = t.Nop
 keyword_token keyword.Lock = t.Lock
@@ -105,7 +105,7 @@ keyword_token keyword.Near = t.Size size.Near
 keyword_token keyword.Db = t.DataBytes
 keyword_token keyword.Dw = t.DataWords
 
--- the token that a reserved word is; another name of a mnemonic is that mnemonic
+-- the token of a reserved word; another name of a mnemonic has the token of that mnemonic
 abbrev pub meaning_of : Reserved → Token
 meaning_of (word.Byte r) = t.Byte r
 meaning_of (word.Word r) = t.Word r
@@ -116,12 +116,12 @@ meaning_of (word.Keyword k) = keyword_token k
 
 -- ---- which there are
 
--- the element in front of the list, if it is wanted
+-- x in front of the list if the first argument is true, else the list
 abbrev pub onto : {A : Type 0} → Bool → A → List A → List A
 onto true x xs = x ∷ xs
 onto false x xs = xs
 
--- the elements at which a test is true
+-- the elements for which p is true
 abbrev pub those : {A : Type 0} → (A → Bool) → List A → List A
 those p [] = []
 those p (x ∷ xs) = onto (p x) x (those p xs)
@@ -134,19 +134,19 @@ aliases = alias.Jc ∷ alias.Jnae ∷ alias.Jnc ∷ alias.Jnb ∷ alias.Je ∷ a
 abbrev pub keywords : List Keyword
 keywords = keyword.Nop ∷ keyword.Lock ∷ keyword.Rep ∷ keyword.Repe ∷ keyword.Repz ∷ keyword.Repne ∷ keyword.Repnz ∷ keyword.Far ∷ keyword.Short ∷ keyword.Byte ∷ keyword.Word ∷ keyword.Near ∷ keyword.Db ∷ keyword.Dw ∷ []
 
--- whether the name of a mnemonic is one word
+-- the mnemonic's name is one word
 abbrev pub is_one_word : Mnemonic → Bool
 is_one_word op.CallFar = false
 is_one_word op.JmpFar = false
 is_one_word op.JmpShort = false
 is_one_word _ = true
 
--- the names of registers, the mnemonics of one word, their other names, and the words that are neither
+-- all reserved words: the names of registers, the mnemonics of one word, their other names, and the keywords
 abbrev pub all_words : List Reserved
 all_words =
     map word.Byte byte_registers ++ map word.Word word_registers ++ map word.Segment segment_registers
     ++ map word.Mnemonic (those is_one_word mnemonics) ++ map word.Alias aliases ++ map word.Keyword keywords
 
--- the token of a word in upper case, where it is reserved
+-- the token of a word in upper case; None if it is not reserved
 unfoldable pub reserved : List ℕ → Option Token
 reserved w = option_map meaning_of (named spelling_of all_words w)

@@ -1,30 +1,31 @@
-//! What holds of the text of every instruction.
+//! Laws of lines: the text of every instruction, and of data, is read as that instruction or data, and the numbers of
+//! a line fit words.
 
 ghost use Rattle.dm_lines.specs.Laws.{PiecesAreRead, OwnTermsAreWritten, OutlinesStand, TextsAreRead, TextsArePlain, DataIsRead, NumbersFit};
 
-/// The law that a text whose pieces stand apart is read piece by piece, before a comment too: a name is a word, a
-/// number that number. It does nothing when called.
+/// The law that a text whose names and numbers stand apart has the tokens of its pieces, with a comment after it too:
+/// a name is a word, a number that number. It does nothing when called.
 #[tactic(auto, using(crate::proofs::Printed::pieces_are_read))]
 pub fn pieces_are_read()
     ensures { PiecesAreRead }
 {}
 
-/// The law that what an instruction's operand is read as is what its text shows: `dm_words` reads these words as that
-/// instruction. It does nothing when called.
+/// The law that reading an operand of an instruction's text gives what that text shows, which `dm_words` reads as
+/// that instruction. It does nothing when called.
 #[tactic(auto, using(crate::proofs::OwnTerms::own_terms_are_written))]
 pub fn own_terms_are_written()
     ensures { OwnTermsAreWritten }
 {}
 
-/// The law that an outline stands for what is written once its label has a place: an instruction whose operands are
-/// outlines has as many bytes. It does nothing when called.
+/// The law that the outline of an operand can stand for what the operand is once its label has a value: an
+/// instruction whose operands are outlines has as many bytes. It does nothing when called.
 #[tactic(auto, using(crate::proofs::OwnTerms::outlines_stand))]
 pub fn outlines_stand()
     ensures { OutlinesStand }
 {}
 
-/// The law that the text of each instruction of the table is read as that instruction, wherever it stands. It does
-/// nothing when called.
+/// The law that the text of each instruction of the table is a line whose statement is that instruction, wherever it
+/// stands. It does nothing when called.
 pub fn texts_are_read()
     ensures { TextsAreRead }
 {}
@@ -34,13 +35,14 @@ pub fn texts_are_plain()
     ensures { TextsArePlain }
 {}
 
-/// The law that DB and some bytes are read as these bytes, with a comment after them too. It does nothing when called.
+/// The law that a DB line of some bytes is read as these bytes, with a comment after it too. It does nothing when
+/// called.
 #[tactic(auto, using(crate::proofs::Data::data_is_read))]
 pub fn data_is_read()
     ensures { DataIsRead }
 {}
 
-/// The law that the numbers in the statement of a line of bytes fit their types, as `outlines_stand` asks for. It does
+/// The law that the numbers in the statement of a line are below 65,536, as `outlines_stand` asks for. It does
 /// nothing when called.
 pub fn numbers_fit()
     ensures { NumbersFit }

@@ -1,5 +1,5 @@
 //! From the bytes of a line to its tokens (Intel 8086 Family User's Manual, section 2.9, statements, names and
-//! constants of ASM-86).
+//! constants of ASM-86). None says that the bytes are no tokens.
 
 ghost use Rattle.std.specs.Prelude.{◌≡◌, ◌<◌, ◌≤◌, ◌+◌, length, option_map, IfSome, drop, replicate, ◌++◌, []};
 ghost use Rattle.arrayvec.specs.ArrayVec.{array_vec_len};
@@ -12,10 +12,10 @@ use arrayvec::ArrayVec;
 /// The tokens of a line: at most one for each byte.
 pub type Tokens = ArrayVec<Token, 255>;
 
-/// The bytes of a word.
+/// The bytes of a word so far, in upper case.
 type Letters = ArrayVec<u8, 255>;
 
-/// A letter in upper case; any other byte as it is.
+/// The capital letter of a small one; any other byte as it is.
 fn upper_byte(byte: u8) -> u8
     ensures { result ≡ uppercase byte }
 {
@@ -26,7 +26,7 @@ fn upper_byte(byte: u8) -> u8
     }
 }
 
-/// Whether words are made of this byte: letters, digits and underscores.
+/// Whether the byte is one of a word: a letter, a digit or an underscore.
 fn is_in_word(byte: u8) -> bool
     ensures { result ≡ is_word_byte byte }
 {
@@ -36,7 +36,7 @@ fn is_in_word(byte: u8) -> bool
         || byte == b'_'
 }
 
-/// What a digit from 0 to F stands for.
+/// The value of a hexadecimal digit, 0 to 9 or A to F; None for another byte.
 fn digit(byte: u8) -> Option<u8>
     ensures { result ≡ digit_of byte }
 {
@@ -49,7 +49,7 @@ fn digit(byte: u8) -> Option<u8>
     }
 }
 
-/// The number that digits spell, where it is below 65,536.
+/// The number that digits spell in a base; None if one is no digit of it, or for 65,536 and over.
 fn magnitude(base: u8, digits: &[u8]) -> Option<u16>
     requires { base ≤ 16 }
     ensures { result ≡ magnitude_of base 0 digits.now }
@@ -69,7 +69,7 @@ fn magnitude(base: u8, digits: &[u8]) -> Option<u16>
     Some(n)
 }
 
-/// The number that a word spells: hexadecimal with an H after it, else decimal.
+/// The number that a word spells: hexadecimal with an H at the end, else decimal; None if it spells none.
 fn number(word: &[u8]) -> Option<u16>
     requires { 0 < length word.now }
     ensures { result ≡ number_of word.now }
@@ -82,7 +82,7 @@ fn number(word: &[u8]) -> Option<u16>
     }
 }
 
-/// A word as a label.
+/// A word of at most 31 bytes as the name of a label: zeros follow it.
 fn padded(word: &[u8]) -> Name
     requires { length word.now ≤ 31 }
     ensures { result.bytes ≡ word.now ++ drop (length word.now) (replicate 31 0) }
@@ -92,7 +92,8 @@ fn padded(word: &[u8]) -> Name
     Name { bytes }
 }
 
-/// The token of a word in upper case.
+/// The token of a word in upper case: a number if it begins with a digit, else a reserved word, else the name of a
+/// label. None for a bad number, or a name of over 31 bytes.
 #[tactic(auto, unfolding(crate::specs::Tokens::word_token))]
 fn token_of(word: &[u8]) -> Option<Token>
     requires { 0 < length word.now }
@@ -109,7 +110,8 @@ fn token_of(word: &[u8]) -> Option<Token>
     }
 }
 
-/// Ends the word, if one is begun.
+/// Appends the token of the word so far, if there is one, and empties the word. None if it has no token; then the
+/// word stays.
 fn close(tokens: &mut Tokens, word: &mut Letters) -> Option<()>
     requires { array_vec_len tokens.old + array_vec_len word.old ≤ 255 }
     ensures items { option_map (λ _. tokens.new.items) result ≡ with_front tokens.old.items (closed word.old.items) }
@@ -123,7 +125,7 @@ fn close(tokens: &mut Tokens, word: &mut Letters) -> Option<()>
     Some(())
 }
 
-/// Puts the token of a byte between words.
+/// Appends the token of a byte between words; nothing for a tab or a space. None for a byte that is no sign.
 fn mark(tokens: &mut Tokens, byte: u8) -> Option<()>
     requires { array_vec_len tokens.old < 255 }
     ensures items { option_map (λ _. tokens.new.items) result ≡ with_front tokens.old.items (marked byte) }
@@ -143,7 +145,7 @@ fn mark(tokens: &mut Tokens, byte: u8) -> Option<()>
     Some(())
 }
 
-/// The token of a byte inside quotes.
+/// The token of a byte inside quotes: the quote that ends them, or a letter.
 fn quoted_token(byte: u8) -> Token
     ensures { result ≡ inside_quotes byte }
 {
@@ -154,7 +156,8 @@ fn quoted_token(byte: u8) -> Token
     }
 }
 
-/// Puts the tokens of a line in the place of what was there.
+/// Sets `tokens` to the tokens of a line. None if a byte belongs to no token or a quoted text does not end; what is
+/// left in `tokens` then means nothing.
 #[tactic(auto, unfolding(crate::specs::Tokens::tokens_of))]
 pub(crate) fn put_tokens(tokens: &mut Tokens, line: &[u8]) -> Option<()>
     requires { length line.now ≤ 255 }

@@ -1,4 +1,5 @@
-//! From a line of assembly to a statement.
+//! From a line of assembly to a statement: a label, and an instruction or data. Whether the
+//! instruction table has the instruction is not looked up here.
 #![tactic(auto)]
 
 mod laws;

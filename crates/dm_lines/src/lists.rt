@@ -1,4 +1,5 @@
-//! The items of data: DB and DW.
+//! The data of DB and DW. None says that the tokens are no such data; what the list then holds
+//! means nothing.
 
 ghost use Rattle.std.specs.Prelude.{◌≡◌, ◌<◌, ◌≤◌, ◌+◌, length, option_map, IfSome};
 ghost use Rattle.arrayvec.specs.ArrayVec.{array_vec_len};
@@ -10,7 +11,8 @@ use crate::statement::{Bytes, Words};
 use crate::term::Amount;
 use crate::token::Token;
 
-/// Puts the bytes of a text, up to the quote that ends it.
+/// Appends the bytes of a quoted text, by the tokens after its first quote; the last token has to
+/// be the quote that ends it.
 fn put_text(bytes: &mut Bytes, tokens: &[Token]) -> Option<()>
     requires { array_vec_len bytes.old + length tokens.now ≤ 255 }
     ensures items { option_map (λ _. bytes.new.items) result ≡ joined_to bytes.old.items (letters tokens.now) }
@@ -29,7 +31,7 @@ fn put_text(bytes: &mut Bytes, tokens: &[Token]) -> Option<()>
     }
 }
 
-/// Puts a number.
+/// Appends one number.
 fn put_number(bytes: &mut Bytes, tokens: &[Token]) -> Option<()>
     requires { array_vec_len bytes.old + length tokens.now ≤ 255 }
     ensures items { option_map (λ _. bytes.new.items) result ≡ joined_to bytes.old.items (list_of_one (amount_of tokens.now)) }
@@ -40,7 +42,7 @@ fn put_number(bytes: &mut Bytes, tokens: &[Token]) -> Option<()>
     Some(())
 }
 
-/// Puts an item of a DB: a number, or a text between quotes.
+/// Appends the bytes of one item of a DB: a number, or a text between quotes.
 fn put_item(bytes: &mut Bytes, tokens: &[Token]) -> Option<()>
     requires { array_vec_len bytes.old + length tokens.now ≤ 255 }
     ensures items { option_map (λ _. bytes.new.items) result ≡ joined_to bytes.old.items (bytes_item tokens.now) }
@@ -52,7 +54,7 @@ fn put_item(bytes: &mut Bytes, tokens: &[Token]) -> Option<()>
     }
 }
 
-/// Puts the numbers of a DB in the place of what was there.
+/// Sets the list to the bytes of a DB, by the tokens after that word.
 pub(crate) fn put_bytes(found: &mut Bytes, tokens: &[Token]) -> Option<()>
     requires { length tokens.now ≤ 255 }
     ensures { option_map (λ _. found.new.items) result ≡ byte_items (parts tokens.now) }
@@ -69,7 +71,7 @@ pub(crate) fn put_bytes(found: &mut Bytes, tokens: &[Token]) -> Option<()>
     }
 }
 
-/// Puts the values of a DW in the place of what was there.
+/// Sets the list to the words of a DW, by the tokens after that word.
 pub(crate) fn put_words(found: &mut Words, tokens: &[Token]) -> Option<()>
     requires { length tokens.now ≤ 255 }
     ensures { option_map (λ _. found.new.items) result ≡ word_items (parts tokens.now) }

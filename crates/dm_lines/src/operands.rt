@@ -1,5 +1,5 @@
 //! From tokens to operands (Intel 8086 Family User's Manual, section 2.8, addressing modes, as ASM-86 writes them in
-//! section 2.9).
+//! section 2.9). None says that the tokens are no operand, number or value.
 
 ghost use Rattle.std.specs.Prelude.{◌≡◌, ◌<◌, ◌≤◌, ◌+◌, ◌∷◌, length, IfSome};
 ghost use Rattle.dm_lines.specs.Operands.{is_close, is_comma, minus, amount_of, added_of, parsed_value, plain, amount_word, inside, base_at, based, memory_operand, memory_of, far_pointer, from_number, term_of, parts, term_pair, terms_of};
@@ -10,7 +10,7 @@ use crate::token::Token;
 use dm_ins::{Base, WordRegister};
 use dm_words::Size;
 
-/// A number below zero, where it is not too far.
+/// The number -n; None if it is below -8000h.
 fn negative(n: u16) -> Option<Amount>
     ensures { result ≡ minus n }
 {
@@ -21,7 +21,7 @@ fn negative(n: u16) -> Option<Amount>
     }
 }
 
-/// A number with the sign before it, if there is one.
+/// The number that the tokens are, with `-` before it or none.
 pub(crate) fn amount(tokens: &[Token]) -> Option<Amount>
     ensures value { result ≡ amount_of tokens.now }
     ensures some { IfSome result (λ _. 0 < length tokens.now) }
@@ -33,7 +33,8 @@ pub(crate) fn amount(tokens: &[Token]) -> Option<Amount>
     }
 }
 
-/// What is added to a label or to registers: nothing, or a number after `+` or `-`.
+/// The number that is added to a label or to registers: after `+` a number with its sign, after `-` a number; 0
+/// without tokens.
 fn added(tokens: &[Token]) -> Option<Amount>
     ensures { result ≡ added_of tokens.now }
 {
@@ -45,7 +46,7 @@ fn added(tokens: &[Token]) -> Option<Amount>
     }
 }
 
-/// A number alone, as a value.
+/// The number that the tokens are, as a value without a label.
 fn number(tokens: &[Token]) -> Option<Value>
     ensures value { result ≡ plain (amount_of tokens.now) }
     ensures some { IfSome result (λ _. 0 < length tokens.now) }
@@ -57,7 +58,7 @@ fn number(tokens: &[Token]) -> Option<Value>
     })
 }
 
-/// A number, or a label and what is added to it.
+/// The value that the tokens are: a number, or a label and a number that is added to it.
 pub(crate) fn value(tokens: &[Token]) -> Option<Value>
     ensures value { result ≡ parsed_value tokens.now }
     ensures some { IfSome result (λ _. 0 < length tokens.now) }
@@ -74,7 +75,7 @@ pub(crate) fn value(tokens: &[Token]) -> Option<Value>
     }
 }
 
-/// The word that a number is, modulo 65,536.
+/// The word of a number, modulo 65,536.
 pub(crate) fn word(amount: Amount) -> u16
     ensures { result ≡ amount_word amount }
 {
@@ -84,7 +85,7 @@ pub(crate) fn word(amount: Amount) -> u16
     }
 }
 
-/// The registers in front of an address: a base, then an index, at least one of them.
+/// The registers at the front of an address, a base or an index or both in this order, and the tokens after them.
 #[tactic(auto, unfolding(crate::specs::Operands::base_at))]
 fn base(tokens: &[Token]) -> Option<(Base, &[Token])>
     ensures { seen result ≡ base_at tokens.now }
@@ -122,14 +123,14 @@ fn base(tokens: &[Token]) -> Option<(Base, &[Token])>
     }
 }
 
-/// Whether this is the bracket after an address.
+/// Whether the token is `]`, which ends an address.
 fn closes(token: Token) -> bool
     ensures { result ≡ is_close token }
 {
     matches!(token, Token::Close)
 }
 
-/// The tokens before the bracket that closes at the end.
+/// The tokens before the last one, which has to be `]`.
 fn before_bracket(tokens: &[Token]) -> Option<&[Token]>
     ensures { option_now result ≡ inside tokens.now }
 {
@@ -144,7 +145,8 @@ fn before_bracket(tokens: &[Token]) -> Option<&[Token]>
     }
 }
 
-/// The memory operand between whose brackets these tokens stand: registers and what is added to them, or a value.
+/// The memory operand with these tokens between its brackets and this size word before them: registers and a number,
+/// or a value.
 fn place(size: Size, tokens: &[Token]) -> Option<Term>
     ensures { result ≡ memory_operand size tokens.now }
 {
@@ -157,7 +159,7 @@ fn place(size: Size, tokens: &[Token]) -> Option<Term>
     }
 }
 
-/// The memory operand whose bracket was opened before these tokens.
+/// The memory operand with these tokens after its opening bracket; the last token closes it.
 fn memory(size: Size, tokens: &[Token]) -> Option<Term>
     ensures { result ≡ memory_of size tokens.now }
 {
@@ -165,7 +167,7 @@ fn memory(size: Size, tokens: &[Token]) -> Option<Term>
     place(size, inner)
 }
 
-/// A target in the segment of a number that stood before a colon.
+/// The far pointer of this segment, with its offset in the tokens after the colon.
 fn far(segment: Amount, tokens: &[Token]) -> Option<Term>
     ensures { result ≡ far_pointer segment tokens.now }
 {
@@ -173,7 +175,7 @@ fn far(segment: Amount, tokens: &[Token]) -> Option<Term>
     Some(Term::Far(word(segment), word(offset)))
 }
 
-/// A number or a target.
+/// The operand that starts with a number or a label: a far pointer or a value.
 fn numeral(tokens: &[Token]) -> Option<Term>
     ensures { result ≡ from_number tokens.now }
 {
@@ -187,7 +189,7 @@ fn numeral(tokens: &[Token]) -> Option<Term>
     }
 }
 
-/// An operand.
+/// The operand that the tokens are: a register, memory, a far pointer, a number or a label.
 #[tactic(auto, unfolding(crate::specs::Operands::term_of))]
 fn term(tokens: &[Token]) -> Option<Term>
     ensures { result ≡ term_of tokens.now }
@@ -202,14 +204,14 @@ fn term(tokens: &[Token]) -> Option<Term>
     }
 }
 
-/// Whether this token stands between operands.
+/// Whether the token is a comma, which parts operands and items of data.
 fn is_between(token: Token) -> bool
     ensures { result ≡ is_comma token }
 {
     matches!(token, Token::Comma)
 }
 
-/// The tokens before the first comma, and those after it, where there is one.
+/// The tokens before the first comma, and those after it; None for the latter without a comma.
 pub(crate) fn front(tokens: &[Token]) -> (&[Token], Option<&[Token]>)
     ensures parts { parts tokens.now ≡ result.0.now ∷ parts_behind result.1 }
     ensures shorter { IfSome result.1 (λ rest. length result.0.now + length rest.now < length tokens.now) }
@@ -223,7 +225,7 @@ pub(crate) fn front(tokens: &[Token]) -> (&[Token], Option<&[Token]>)
     (tokens, None)
 }
 
-/// The two operands of an instruction, where a mnemonic stood before these tokens.
+/// The operands of an instruction, by the tokens after its mnemonic: at most two, `Nothing` for one that is missing.
 pub(crate) fn terms(tokens: &[Token]) -> Option<(Term, Term)>
     ensures { result ≡ terms_of tokens.now }
 {

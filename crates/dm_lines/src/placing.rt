@@ -1,5 +1,5 @@
-//! From an operand to what is written there, as the table of instructions is asked for it: with its label's place, and
-//! before any label has a place.
+//! From an operand to what it is written as in the terms of `dm_words`: with the value of its label, and, as an
+//! outline, before labels have values. `place` is the value of the label, `next` the offset of the next instruction.
 
 ghost use Rattle.std.specs.Prelude.{◌≡◌};
 ghost use Rattle.dm_words.specs.StandIns.{is_move};
@@ -10,7 +10,7 @@ use crate::term::{Amount, Term, Value};
 use dm_ins::{Address, Base, Mnemonic};
 use dm_words::{Numeral, Written};
 
-/// A label's place and what is added to it; None outside 0 to FFFFh.
+/// The value of a label with a number added to it; None outside 0 to FFFFh.
 fn moved_by(amount: Amount, place: u16) -> Option<u16>
     ensures { result ≡ displaced amount place }
 {
@@ -23,8 +23,8 @@ fn moved_by(amount: Amount, place: u16) -> Option<u16>
     }
 }
 
-/// The word that a value is, where its label, if it has one, stands at `place`. A number alone is one, modulo 65,536; a
-/// label and what is added to it is none outside 0 to FFFFh.
+/// The word of a value whose label, if it has one, has the value `place`. A number alone counts modulo 65,536; for a
+/// label and what is added to it, None outside 0 to FFFFh.
 pub fn word_at(value: Value, place: u16) -> Option<u16>
     ensures { result ≡ standing value place }
 {
@@ -34,14 +34,14 @@ pub fn word_at(value: Value, place: u16) -> Option<u16>
     }
 }
 
-/// A number as a byte, where it is below 100h.
+/// The number as a byte; None if it is over FFh.
 fn low_byte(n: u16) -> Option<u8>
     ensures { result ≡ low_byte_of n }
 {
     if n < 256 { Some(n as u8) } else { None }
 }
 
-/// The byte that a number is, from -80h to FFh.
+/// The byte of a number from -80h to FFh; None for another.
 pub fn byte(amount: Amount) -> Option<u8>
     ensures { result ≡ amount_byte amount }
 {
@@ -64,7 +64,7 @@ fn distance(target: u16, next: u16) -> u16
     ((target as u32 + 65536 - next as u32) % 65536) as u16
 }
 
-/// Whether a number is 1.
+/// Whether a number is 1, so that it can be the count of a shift.
 fn is_one(amount: Amount) -> bool
     ensures { result ≡ is_one_of amount }
 {
@@ -74,14 +74,14 @@ fn is_one(amount: Amount) -> bool
     }
 }
 
-/// Whether this mnemonic takes labels as immediate values.
+/// Whether this mnemonic takes labels as immediate values: MOV alone does.
 fn takes(mnemonic: Mnemonic) -> bool
     ensures { result ≡ is_move mnemonic }
 {
     matches!(mnemonic, Mnemonic::Mov)
 }
 
-/// A number as each kind of operand.
+/// A number as a byte, if it is from -80h to FFh, as a word, a target and a shift count.
 fn number(amount: Amount, next: u16) -> Numeral
     ensures { result ≡ number_at amount next }
 {
@@ -94,7 +94,7 @@ fn number(amount: Amount, next: u16) -> Numeral
     }
 }
 
-/// A label's value as each kind of operand: a target, and an immediate value of MOV.
+/// The value of a label as a target; under MOV also as a word, and as a byte if it is below 100h.
 fn label(mnemonic: Mnemonic, target: u16, next: u16) -> Numeral
     ensures { result ≡ label_at mnemonic target next }
 {
@@ -116,7 +116,8 @@ fn label(mnemonic: Mnemonic, target: u16, next: u16) -> Numeral
     }
 }
 
-/// A value as each kind of operand.
+/// A value as a byte, a word, a target and a shift count; None where a label and what is added to it lie outside 0 to
+/// FFFFh.
 fn numeral(mnemonic: Mnemonic, value: Value, place: u16, next: u16) -> Option<Numeral>
     ensures { result ≡ numeral_at mnemonic value place next }
 {
@@ -129,15 +130,15 @@ fn numeral(mnemonic: Mnemonic, value: Value, place: u16, next: u16) -> Option<Nu
     }
 }
 
-/// The address at these registers and a displacement.
+/// The address with these registers and this displacement.
 fn at(base: Base, displacement: u16) -> Address
     ensures { result ≡ record { base = base; displacement = displacement } }
 {
     Address { base, displacement }
 }
 
-/// What is written where an operand stands whose label, if it has one, stands at `place`, in an instruction before
-/// `next`; None where a label and what is added to it lie outside 0 to FFFFh.
+/// What an operand is written as, where its label, if it has one, has the value `place` and the next instruction is
+/// at `next`; None where a label and what is added to it lie outside 0 to FFFFh.
 pub fn written(mnemonic: Mnemonic, term: &Term, place: u16, next: u16) -> Option<Written>
     ensures { result ≡ written_of mnemonic term.now place next }
 {
@@ -161,8 +162,9 @@ pub fn written(mnemonic: Mnemonic, term: &Term, place: u16, next: u16) -> Option
     }
 }
 
-/// A number, where bytes and targets count only that they are some. A byte counts modulo 64, so that it is in range and
-/// the number of ESC, which decides the first byte, stays as it is.
+/// A number as a byte, a word, a target and a shift count in an outline. As a byte it counts modulo 64: so it is in
+/// range, and the number of ESC, below 64, which decides the first byte, is right. As a target it is the next
+/// instruction.
 fn number_alone(amount: Amount) -> Numeral
     ensures { result ≡ number_outline amount }
 {
@@ -175,7 +177,7 @@ fn number_alone(amount: Amount) -> Numeral
     }
 }
 
-/// A label, where its place counts only that it is some.
+/// A label in an outline: as a target it is the next instruction, and under MOV it is 0 as a byte and a word.
 fn label_alone(mnemonic: Mnemonic) -> Numeral
     ensures { result ≡ label_outline mnemonic }
 {
@@ -196,7 +198,7 @@ fn label_alone(mnemonic: Mnemonic) -> Numeral
     }
 }
 
-/// A value before any label has a place.
+/// A value as a byte, a word, a target and a shift count in an outline.
 fn numeral_alone(mnemonic: Mnemonic, value: Value) -> Numeral
     ensures { result ≡ numeral_outline mnemonic value }
 {
@@ -206,7 +208,7 @@ fn numeral_alone(mnemonic: Mnemonic, value: Value) -> Numeral
     }
 }
 
-/// The word of a value before any label has a place.
+/// The word of a value in an outline: 0 if it has a label.
 fn word_alone(value: Value) -> u16
     ensures { result ≡ word_outline value }
 {
@@ -216,8 +218,9 @@ fn word_alone(value: Value) -> u16
     }
 }
 
-/// What is written where an operand stands, before any label has a place: labels are 0, targets are the next
-/// instruction, and a number that stands for a byte is taken modulo 64, so that each byte is in range.
+/// What an operand is written as before labels have values: labels are 0, targets are the next instruction, and a
+/// number as a byte counts modulo 64, so that it is in range. The instruction has as many bytes as with any values of
+/// the labels.
 pub fn outline(mnemonic: Mnemonic, term: &Term) -> Written
     ensures { result ≡ outline_of mnemonic term.now }
 {

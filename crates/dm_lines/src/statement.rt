@@ -1,4 +1,4 @@
-//! Statements: what a line stands for.
+//! Statements: what a line of assembly stands for.
 
 ghost use Rattle.std.specs.Prelude.{◌≡◌, []};
 
@@ -7,7 +7,7 @@ use crate::token::Name;
 use arrayvec::ArrayVec;
 use dm_ins::{Mnemonic, Prefixes};
 
-/// An instruction as it is written. Whether the table of instructions has it is not known yet.
+/// An instruction as it is written. It may be none of the instruction table.
 #[derive(Clone, Copy, Debug, PartialEq, Eq)]
 pub struct Instruction {
     pub prefixes: Prefixes,
@@ -22,8 +22,8 @@ pub type Bytes = ArrayVec<Amount, 255>;
 /// The values of a DW: each stands for one word.
 pub type Words = ArrayVec<Value, 128>;
 
-/// The items of a line's data. They lie beside its statement, so that a statement is small, and are used again for each
-/// line.
+/// The items of a line's data. They are kept apart from its statement, so that a statement is small, and are used
+/// again for each line.
 #[derive(Drop)]
 pub struct Items {
     pub bytes: Bytes,
@@ -43,16 +43,19 @@ impl Items {
     }
 }
 
-/// What stands on a line after its label. The items of a DB and of a DW are in its `Items`.
+/// What stands on a line after its label. The data of a DB or a DW is in its `Items`.
 #[derive(Clone, Copy, Debug, PartialEq, Eq)]
 pub enum Item {
+    /// No item: the line is empty, or has a label alone.
     Nothing,
     Instruction(Instruction),
+    /// A DB; its bytes are in `Items`.
     Bytes,
+    /// A DW; its words are in `Items`.
     Words,
 }
 
-/// What a line stands for.
+/// What a line stands for: its label, if it has one, and its item.
 #[derive(Clone, Copy, Debug, PartialEq, Eq)]
 pub struct Statement {
     pub label: Option<Name>,

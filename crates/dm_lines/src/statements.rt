@@ -1,4 +1,5 @@
-//! From a line to its statement (Intel 8086 Family User's Manual, section 2.9, statements of ASM-86).
+//! From the tokens of a line to its statement (Intel 8086 Family User's Manual, section 2.9, statements of ASM-86).
+//! None says that the tokens are no such part of a statement.
 
 ghost use Rattle.std.specs.Prelude.{◌≡◌, ◌<◌, ◌≤◌, length, option_map, IfSome};
 ghost use Rattle.dm_ins.specs.Spelling.{no_prefix};
@@ -13,7 +14,7 @@ use crate::term::Term;
 use crate::token::Token;
 use dm_ins::{Mnemonic, Prefixes, WordRegister};
 
-/// The mnemonic with SHORT after it: a jump's alone.
+/// The mnemonic that SHORT after this one makes: JMP SHORT.
 fn short(mnemonic: Mnemonic) -> Option<Mnemonic>
     ensures { result ≡ short_of mnemonic }
 {
@@ -23,7 +24,7 @@ fn short(mnemonic: Mnemonic) -> Option<Mnemonic>
     }
 }
 
-/// The mnemonic with FAR after it: a jump's or a call's.
+/// The mnemonic that FAR after this one makes: JMP FAR or CALL FAR.
 fn far(mnemonic: Mnemonic) -> Option<Mnemonic>
     ensures { result ≡ far_mnemonic mnemonic }
 {
@@ -34,7 +35,7 @@ fn far(mnemonic: Mnemonic) -> Option<Mnemonic>
     }
 }
 
-/// The mnemonic of one or two words in front, and what follows it.
+/// The mnemonic of one or two words at the front, and the tokens after it.
 fn two_words(tokens: &[Token]) -> Option<(Mnemonic, &[Token])>
     ensures { seen result ≡ mnemonic_at tokens.now }
 {
@@ -52,7 +53,7 @@ fn two_words(tokens: &[Token]) -> Option<(Mnemonic, &[Token])>
     }
 }
 
-/// The prefixes in front, and what follows them.
+/// The prefixes of the words at the front, in any order and at most one of each kind, and the tokens after them.
 fn read_prefixes(tokens: &[Token]) -> Option<(Prefixes, &[Token])>
     ensures { seen result ≡ prefixed no_prefix tokens.now }
 {
@@ -86,21 +87,21 @@ fn read_prefixes(tokens: &[Token]) -> Option<(Prefixes, &[Token])>
     }
 }
 
-/// Whether this is an operand in memory.
+/// Whether the operand is memory.
 fn lies_in_memory(term: &Term) -> bool
     ensures { result ≡ is_memory term.now }
 {
     matches!(term, Term::Memory(..) | Term::Address(..))
 }
 
-/// Whether the operands of this mnemonic can be exchanged, and memory stands first then.
+/// Whether the mnemonic is XCHG or TEST, whose operands may be written in either order.
 fn may_exchange(mnemonic: Mnemonic) -> bool
     ensures { result ≡ exchanges mnemonic }
 {
     matches!(mnemonic, Mnemonic::Xchg | Mnemonic::Test)
 }
 
-/// An instruction with these operands as they are written.
+/// The instruction with these operands; of XCHG and TEST a memory operand is put first.
 fn with_operands(prefixes: Prefixes, mnemonic: Mnemonic, first: Term, second: Term) -> Instruction
     ensures { result ≡ with_terms prefixes mnemonic first second }
 {
@@ -121,7 +122,7 @@ fn with_operands(prefixes: Prefixes, mnemonic: Mnemonic, first: Term, second: Te
     }
 }
 
-/// An instruction whose mnemonic is not NOP.
+/// The instruction that the tokens after its prefix words are, a mnemonic other than NOP and its operands.
 fn operated_by(prefixes: Prefixes, tokens: &[Token]) -> Option<Instruction>
     ensures { result ≡ operated prefixes tokens.now }
 {
@@ -130,7 +131,7 @@ fn operated_by(prefixes: Prefixes, tokens: &[Token]) -> Option<Instruction>
     Some(with_operands(prefixes, mnemonic, first, second))
 }
 
-/// An instruction after its prefixes.
+/// The instruction that the tokens after its prefix words are; NOP is XCHG AX,AX.
 fn action(prefixes: Prefixes, tokens: &[Token]) -> Option<Instruction>
     ensures { result ≡ after_prefixes prefixes tokens.now }
 {
@@ -145,7 +146,7 @@ fn action(prefixes: Prefixes, tokens: &[Token]) -> Option<Instruction>
     }
 }
 
-/// An instruction with its prefixes.
+/// The instruction that the tokens are: prefix words, a mnemonic and its operands.
 fn read_instruction(tokens: &[Token]) -> Option<Instruction>
     ensures { result ≡ instruction_of tokens.now }
 {
@@ -153,7 +154,7 @@ fn read_instruction(tokens: &[Token]) -> Option<Instruction>
     action(found, rest)
 }
 
-/// What stands after a label.
+/// What the tokens after a label are: nothing, an instruction, or data, which is put into `items`.
 fn read_item(tokens: &[Token], items: &mut Items) -> Option<Item>
     requires { length tokens.now ≤ 255 }
     ensures { option_map (seen_item items.new) result ≡ item_of tokens.now }
@@ -172,7 +173,7 @@ fn read_item(tokens: &[Token], items: &mut Items) -> Option<Item>
     }
 }
 
-/// The statement of a line's tokens.
+/// The statement that the tokens of a line are; its data is put into `items`.
 fn read_statement(tokens: &[Token], items: &mut Items) -> Option<Statement>
     requires { length tokens.now ≤ 255 }
     ensures { option_map (seen_statement items.new) result ≡ statement_of tokens.now }
@@ -192,8 +193,9 @@ fn read_statement(tokens: &[Token], items: &mut Items) -> Option<Statement>
     }
 }
 
-/// The statement that a line stands for, without its line end; None where it stands for none. What `tokens` and `items`
-/// hold before does not matter: they are there so that not each line has to make them anew.
+/// The statement that a line, without its line end, stands for; None where it stands for none, as where it has over
+/// 255 bytes. `tokens` and `items` are overwritten, and what they hold before does not matter: they are there so that
+/// they are not made anew for each line.
 #[tactic(auto, unfolding(crate::specs::Statements::line_of))]
 pub fn read_line(line: &[u8], tokens: &mut Tokens, items: &mut Items) -> Option<Statement>
     ensures { option_map (seen_statement items.new) result ≡ line_of line.now }

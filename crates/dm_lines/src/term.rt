@@ -1,4 +1,4 @@
-//! Operands as they are written, where labels have no place yet.
+//! Operands as they are written, before labels have values.
 
 ghost use Rattle.std.specs.Prelude.{◌≡◌};
 ghost use Rattle.dm_lines.specs.declared.term.Amount.TheVariants.{Plus};
@@ -10,6 +10,7 @@ use dm_words::Size;
 /// A number as it is written, with its sign: from -8000h to FFFFh.
 #[derive(Clone, Copy, Debug, PartialEq, Eq)]
 pub enum Amount {
+    /// Without `-` before it.
     Plus(u16),
     /// With `-` before it: at most 8000h.
     Minus(u16),
@@ -24,27 +25,28 @@ impl Default for Amount {
     }
 }
 
-/// A number, or a label and what is added to it.
+/// A number, or a label and a number that is added to it.
 #[derive(Clone, Copy, Debug, Default, PartialEq, Eq)]
 pub struct Value {
     pub label: Option<Name>,
     pub amount: Amount,
 }
 
-/// An operand as it is written, where labels have no place yet.
+/// An operand as it is written, before labels have values.
 #[derive(Clone, Copy, Debug, PartialEq, Eq)]
 pub enum Term {
-    /// None stands there.
+    /// No operand stands there.
     Nothing,
     ByteRegister(ByteRegister),
     WordRegister(WordRegister),
     SegmentRegister(SegmentRegister),
-    /// A memory operand at registers and what is added to them, with the word before it.
+    /// A memory operand with registers and a number that is added to them, and the size word before
+    /// it.
     Memory(Size, Base, Amount),
-    /// A memory operand at a number or a label, with the word before it.
+    /// A memory operand at a number or a label, and the size word before it.
     Address(Size, Value),
-    /// A number, or a target.
+    /// A number or a label: an immediate value, a target, or the count 1 of a shift.
     Number(Value),
-    /// A segment and an offset.
+    /// A far pointer: a segment and an offset.
     Far(u16, u16),
 }

@@ -3,8 +3,8 @@
 use dm_ins::{ByteRegister, Mnemonic, Repeat, SegmentRegister, WordRegister};
 use dm_words::Size;
 
-/// A label: a letter or an underscore, then letters, digits and underscores, at most 31 in all. Letters are in upper
-/// case, and zeros follow.
+/// The name of a label: a letter or an underscore, then letters, digits and underscores, at most 31 in all. Letters
+/// are in upper case, and zeros follow.
 #[derive(Clone, Copy, Debug, PartialEq, Eq)]
 pub struct Name {
     pub bytes: [u8; 31],
@@ -44,7 +44,7 @@ pub enum Token {
     Open,
     /// `]`
     Close,
-    /// The sign at both ends of a quoted text.
+    /// The quote at the beginning or the end of a quoted text.
     Quote,
     /// A byte between quotes.
     Letter(u8),

@@ -1,6 +1,6 @@
-//! The words that no label may be: the names of registers and mnemonics, other names of mnemonics, prefixes, and the
-//! words of the assembler (Intel 8086 Family User's Manual, section 2.7, with the other names of the conditional jumps
-//! in table 2-15, and section 2.9).
+//! The reserved words, which no label may be: the names of registers and mnemonics, other names of mnemonics,
+//! prefixes, and the words of the assembler (Intel 8086 Family User's Manual, section 2.7, with the other names of
+//! the conditional jumps in table 2-15, and section 2.9).
 
 ghost use Rattle.std.specs.Prelude.{◌≡◌, ◌<◌, length};
 ghost use Rattle.dm_text.specs.Names.{named};
@@ -12,7 +12,7 @@ use dm_ins::{ByteRegister, Mnemonic, Repeat, SegmentRegister, WordRegister};
 use dm_text::{byte_register_name, mnemonic_name, segment_register_name, word_register_name};
 use dm_words::Size;
 
-/// Another name of a mnemonic.
+/// Another name of a mnemonic, as JC for JB.
 #[derive(Clone, Copy, Debug, PartialEq, Eq)]
 pub enum Alias {
     Jc,
@@ -34,7 +34,8 @@ pub enum Alias {
     Sal,
 }
 
-/// A word that names neither a register nor a mnemonic of the table: NOP, prefixes, sizes, and the words before data.
+/// A reserved word that names neither a register nor a mnemonic of the instruction table: NOP, prefixes, sizes, and
+/// the words before data.
 #[derive(Clone, Copy, Debug, PartialEq, Eq)]
 pub enum Keyword {
     Nop,
@@ -53,7 +54,7 @@ pub enum Keyword {
     Dw,
 }
 
-/// A word that no label may be.
+/// A reserved word, which no label may be.
 #[derive(Clone, Copy, Debug, PartialEq, Eq)]
 pub enum Reserved {
     Byte(ByteRegister),
@@ -64,7 +65,7 @@ pub enum Reserved {
     Keyword(Keyword),
 }
 
-/// How another name of a mnemonic is written.
+/// The spelling of another name of a mnemonic, in upper case.
 fn alias_spelling(alias: Alias) -> &'static [u8]
     ensures { result.now ≡ alias_name alias }
 {
@@ -89,7 +90,7 @@ fn alias_spelling(alias: Alias) -> &'static [u8]
     }
 }
 
-/// How a word is written that names neither a register nor a mnemonic.
+/// The spelling of a keyword, in upper case.
 fn keyword_spelling(keyword: Keyword) -> &'static [u8]
     ensures { result.now ≡ keyword_name keyword }
 {
@@ -111,7 +112,7 @@ fn keyword_spelling(keyword: Keyword) -> &'static [u8]
     }
 }
 
-/// How a reserved word is written, in upper case.
+/// The spelling of a reserved word, in upper case.
 fn spelling(reserved: Reserved) -> &'static [u8]
     ensures { result.now ≡ spelling_of reserved }
 {
@@ -125,7 +126,7 @@ fn spelling(reserved: Reserved) -> &'static [u8]
     }
 }
 
-/// The mnemonic that this is another name of.
+/// The mnemonic of which this is another name.
 fn mnemonic_of(alias: Alias) -> Mnemonic
     ensures { result ≡ alias_mnemonic alias }
 {
@@ -150,7 +151,7 @@ fn mnemonic_of(alias: Alias) -> Mnemonic
     }
 }
 
-/// The token that a word is which names neither a register nor a mnemonic.
+/// The token of a keyword.
 fn token_of(keyword: Keyword) -> Token
     ensures { result ≡ keyword_token keyword }
 {
@@ -172,7 +173,7 @@ fn token_of(keyword: Keyword) -> Token
     }
 }
 
-/// The token that a reserved word is.
+/// The token of a reserved word; another name of a mnemonic has the token of that mnemonic.
 fn meaning(reserved: Reserved) -> Token
     ensures { result ≡ meaning_of reserved }
 {
@@ -186,8 +187,8 @@ fn meaning(reserved: Reserved) -> Token
     }
 }
 
-/// The reserved words that begin with a byte. CALL FAR, JMP FAR and JMP SHORT are two words each, which stand here
-/// apart.
+/// The reserved words that begin with a byte, in the order of `all_words`. CALL FAR, JMP FAR and JMP SHORT are not
+/// among them: they are two words each.
 fn beginning(first: u8) -> &'static [Reserved]
     ensures { result.now ≡ those (begins first) all_words }
 {
@@ -373,7 +374,7 @@ fn beginning(first: u8) -> &'static [Reserved]
     }
 }
 
-/// The first of some reserved words that is written so.
+/// The first of these reserved words with this spelling; None if there is none.
 fn find(word: &[u8], words: &[Reserved]) -> Option<Reserved>
     ensures { result ≡ named spelling_of words.now word.now }
 {
@@ -385,7 +386,7 @@ fn find(word: &[u8], words: &[Reserved]) -> Option<Reserved>
     None
 }
 
-/// The token of a word in upper case, where it is reserved.
+/// The token of a word in upper case; None if it is not reserved.
 #[tactic(auto, unfolding(crate::specs::Words::reserved))]
 pub(crate) fn reserved_token(word: &[u8]) -> Option<Token>
     requires { 0 < length word.now }

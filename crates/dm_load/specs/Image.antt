@@ -1,44 +1,44 @@
 -- Program files: COM files, and MZ files with the words of their header (MS-DOS Programmer's Reference, "EXE File
--- Header"). The list of bad files is this machine's own.
+-- Header"). Which files cannot be loaded is this machine's own choice.
 use Rattle.std.specs.Prelude.{ℕ, zero, suc, ◌+◌, ◌-◌, ◌*◌, ◌/◌, ◌%◌, ◌<◌, ◌≤◌, Bool, ◌==◌, ◌&&◌, ◌||◌, if◌then◌else◌, List, length, slice_index, slice_range, slice_set}
 use Rattle.dm_load.specs.declared.format.Kind.{Kind}
 use Rattle.dm_load.specs.declared.format.Kind.TheVariants.{Com, Mz}
 use Rattle.dm_load.specs.declared.format.FarPointer.{FarPointer}
 
--- the little-endian word at place k
+-- the little-endian word at offset k
 abbrev pub word : List ℕ → ℕ → ℕ
 word bytes k = slice_index bytes k + 256 * slice_index bytes (k + 1)
 
--- the bytes with another little-endian word at place k
+-- the bytes with the little-endian word at offset k set to v
 abbrev pub with_word : List ℕ → ℕ → ℕ → List ℕ
 with_word bytes k v = slice_set (slice_set bytes k (v % 256)) (k + 1) (v / 256)
 
--- a file that begins with `MZ` or `ZM` is an MZ file, any other one a COM file
+-- whether the file begins with `MZ` or `ZM`; any other one is a COM file
 unfoldable pub is_mz : List ℕ → Bool
 is_mz file =
     (slice_index file 0 == 0x4D && slice_index file 1 == 0x5A) || (slice_index file 0 == 0x5A && slice_index file 1 == 0x4D)
 
--- whether a file is an MZ file or a COM file
+-- the kind of a program file: `Mz` or `Com`
 abbrev pub kind_of : List ℕ → Kind
 kind_of file = if is_mz file then Mz else Com
 
--- word 02h modulo 512: how many bytes the last page has, 0 where it is full
+-- word 02h modulo 512: the number of bytes in the last page of 512; 0 where it is full
 abbrev pub last_page : List ℕ → ℕ
 last_page file = word file 0x02 % 512
 
--- word 04h: how many pages of 512 bytes header and image have, the last one counted whole
+-- word 04h: the number of pages of 512 bytes that header and image have, the last one counted whole
 abbrev pub pages : List ℕ → ℕ
 pages file = word file 0x04
 
--- word 08h: the length of the header, in paragraphs there and in bytes here
+-- word 08h, the length of the header: in paragraphs in the file, here in bytes
 abbrev pub header_length : List ℕ → ℕ
 header_length file = word file 0x08 * 16
 
--- word 0Ah: the paragraphs that a program needs after its image
+-- word 0Ah: the number of paragraphs that a program needs after its image
 abbrev pub minimum : List ℕ → ℕ
 minimum file = word file 0x0A
 
--- word 0Ch: the paragraphs that a program asks for after its image
+-- word 0Ch: the number of paragraphs that a program asks for after its image
 abbrev pub maximum : List ℕ → ℕ
 maximum file = word file 0x0C
 
@@ -50,27 +50,30 @@ code file = record { segment = word file 0x16; offset = word file 0x14 }
 abbrev pub stack : List ℕ → FarPointer
 stack file = record { segment = word file 0x0E; offset = word file 0x10 }
 
--- the bytes of header and image, by the pages: the last one is full where its length is 0
+-- the number of bytes of header and image together, by the page counts of an MZ header
 unfoldable pub size : List ℕ → ℕ
 size file = if last_page file == 0 then pages file * 512 else (pages file - 1) * 512 + last_page file
 
--- word 06h: how many relocations an MZ file has; a COM file has none
+-- word 06h: the number of relocations of an MZ file; a COM file has none
 unfoldable pub relocations : List ℕ → ℕ
 relocations file = if is_mz file then word file 0x06 else 0
 
--- where entry k of the relocation table stands in the file; word 18h is where the table begins
+-- the offset in the file of entry k of the relocation table: the table begins at the offset in word 18h, and an entry
+-- has 4 bytes
 abbrev pub entry : List ℕ → ℕ → ℕ
 entry file k = word file 0x18 + 4 * k
 
--- where the word of relocation k stands in the image, in bytes
+-- the offset in the image of the word that relocation k changes
 abbrev pub target : List ℕ → ℕ → ℕ
 target file k = word file (entry file k + 2) * 16 + word file (entry file k)
 
--- the image: the bytes from the header's end up to the size; a COM file is its own image
+-- the image before relocation: an MZ file's bytes from the end of the header up to `size`; a COM file is its own
+-- image
 unfoldable pub image : List ℕ → List ℕ
 image file = if is_mz file then slice_range file (header_length file) (size file) else file
 
--- an MZ file that can be loaded: header, table and image lie in the file, and each relocation in the image
+-- an MZ file that can be loaded: it has at least 28 bytes and one page; header, relocation table and image lie in the
+-- file, and the word of each relocation in the image
 pub record IsGoodMz (file : List ℕ) : Type 0 where
   pub header : 28 ≤ length file
   pub some_pages : 0 < pages file
@@ -79,7 +82,7 @@ pub record IsGoodMz (file : List ℕ) : Type 0 where
   pub header_fits : header_length file ≤ size file
   pub inside : (k : ℕ) → k < word file 0x06 → target file k + 2 ≤ size file - header_length file
 
--- a file of this kind that can be loaded; a COM file has at most 65,278 bytes
+-- a file of this kind can be loaded: a COM file has at most 65,278 bytes
 abbrev pub IsGoodAs : Kind → List ℕ → Type 0
 IsGoodAs Com file = length file ≤ 65278
 IsGoodAs Mz file = IsGoodMz file
@@ -88,13 +91,14 @@ IsGoodAs Mz file = IsGoodMz file
 abbrev pub IsGood : List ℕ → Type 0
 IsGood file = IsGoodAs (kind_of file) file
 
--- the first k relocations, in the table's order, have added the start to their words
+-- the image after the first k relocations, in the order of the table: each adds the segment `start` to its word,
+-- modulo 65,536
 abbrev pub relocated_by : ℕ → List ℕ → ℕ → List ℕ
 relocated_by zero file start = image file
 relocated_by (suc k) file start =
     let before = relocated_by k file start in
     with_word before (target file k) ((word before (target file k) + start) % 65536)
 
--- the image with all its relocations made for a start segment
+-- the image with all relocations made for the start segment
 abbrev pub relocated : List ℕ → ℕ → List ℕ
 relocated file start = relocated_by (relocations file) file start

@@ -1,4 +1,4 @@
-//! What a program file can be.
+//! The kinds of program file.
 
 use thiserror::Error;
 
@@ -11,12 +11,12 @@ pub enum Kind {
     Mz,
 }
 
-/// The file can't be loaded.
+/// The file can't be loaded (DOS error 11, "Invalid format").
 #[derive(Clone, Copy, Debug, PartialEq, Eq, Error)]
 #[error("bad format")]
 pub struct BadFormat;
 
-/// An offset in a segment.
+/// A segment, and an offset in it.
 #[derive(Clone, Copy, Debug, PartialEq, Eq)]
 pub struct FarPointer {
     pub segment: u16,

@@ -5,14 +5,16 @@ ghost use Rattle.dm_load.specs.Image.{word, with_word, is_mz, kind_of, IsGood, I
 use crate::format::{BadFormat, Kind};
 use byteorder::{ByteOrder, LittleEndian};
 
-/// The largest COM file: a segment without its first 100h bytes and the two of a stack's word.
+/// The size in bytes of the largest COM file: a segment without the prefix of 100h bytes and the
+/// first word of the stack.
 const LARGEST_COM: usize = 65_278;
-/// The bytes of an MZ header that are always there.
+/// The size in bytes of the part of an MZ header that each file has.
 const HEADER: usize = 28;
 
+/// The size in bytes of a page, in which an MZ header counts.
 const PAGE: usize = 512;
 
-/// The little-endian word at a place of a file.
+/// The little-endian word at an offset of a file or an image.
 pub(crate) fn word(bytes: &[u8], at: usize) -> u16
     requires { at + 2 ≤ length bytes.now }
     ensures { result ≡ Rattle.dm_load.specs.Image.word bytes.now at }
@@ -20,7 +22,7 @@ pub(crate) fn word(bytes: &[u8], at: usize) -> u16
     LittleEndian::read_u16(&bytes[at..])
 }
 
-/// Adds to a word, modulo 65,536.
+/// Adds to the little-endian word at an offset, modulo 65,536.
 pub(crate) fn add_to_word(bytes: &mut [u8], at: usize, by: u16)
     requires { at + 2 ≤ length bytes.old }
     ensures { bytes.new ≡ with_word bytes.old at ((Rattle.dm_load.specs.Image.word bytes.old at + by) % 65536) }
@@ -39,7 +41,7 @@ fn is_mz(file: &[u8]) -> bool
     file.starts_with(b"MZ") || file.starts_with(b"ZM")
 }
 
-/// The bytes of the file that count: those of its pages.
+/// The number of bytes of header and image of an MZ file, by the header's page counts.
 #[tactic(auto, unfolding(crate::specs::Image::size))]
 pub(crate) fn size(file: &[u8]) -> usize
     requires header { 28 ≤ length file.now }
@@ -56,7 +58,7 @@ pub(crate) fn size(file: &[u8]) -> usize
     }
 }
 
-/// Where the word of a relocation stands in the image.
+/// The offset in the image of the word that a relocation of an MZ file changes, in bytes.
 pub(crate) fn target(file: &[u8], index: usize) -> usize
     requires header { 28 ≤ length file.now }
     requires there { entry file.now (index + 1) ≤ length file.now }
@@ -67,12 +69,14 @@ pub(crate) fn target(file: &[u8], index: usize) -> usize
     word(file, entry + 2) as usize * 16 + word(file, entry) as usize
 }
 
-/// No relocation has a word past the first 110000h bytes.
+/// States that the word of each relocation lies in the first 110000h bytes of the image. It does
+/// nothing.
 pub(crate) fn targets_reach(file: &[u8])
     ensures { (k : ℕ) → Rattle.dm_load.specs.Image.target file.now k + 2 ≤ 0x110000 }
 {}
 
-/// Whether the words of the first relocations lie wholly in an image of `room` bytes.
+/// Whether the words of the first `count` relocations of an MZ file lie wholly in an image of
+/// `room` bytes.
 fn targets_fit(file: &[u8], count: usize, room: usize) -> bool
     requires header { 28 ≤ length file.now }
     requires table { 0 < count → entry file.now count ≤ length file.now }
@@ -86,7 +90,8 @@ fn targets_fit(file: &[u8], count: usize, room: usize) -> bool
     true
 }
 
-/// Whether an MZ file can be loaded.
+/// Whether an MZ file can be loaded: header, relocation table and image lie in the file, and the
+/// word of each relocation in the image.
 fn is_good_mz(file: &[u8]) -> bool
     ensures { IsTrue result ↔ IsGoodMz file.now }
 {

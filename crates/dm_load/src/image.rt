@@ -1,4 +1,4 @@
-//! A program's bytes and how it starts.
+//! A program file that can be loaded: its image, its relocations, and the words of its header.
 ghost use Rattle.std.specs.Prelude.{◌≡◌, ℕ, ◌+◌, ◌*◌, ◌<◌, ◌≤◌, length, take, drop, min, true, MatchResult};
 ghost use Rattle.dm_load.specs.Image.{word, is_mz, kind_of, IsGood, entry, target, image, relocations, relocated, minimum, maximum, code, stack};
 
@@ -25,7 +25,7 @@ impl<'a> Model for Image<'a> {
 }
 
 impl<'a> Image<'a> {
-    /// The image of a file.
+    /// The image of a program file. Nothing is copied.
     ///
     /// # Errors
     ///
@@ -60,7 +60,7 @@ impl<'a> Image<'a> {
         }
     }
 
-    /// How many relocations there are.
+    /// The number of relocations: word 06h of an MZ file, 0 for a COM file.
     #[tactic(auto, unfolding(crate::specs::Image::relocations))]
     fn relocations(&self) -> usize
         ensures { result ≡ relocations self.now }
@@ -71,7 +71,7 @@ impl<'a> Image<'a> {
         }
     }
 
-    /// Where an MZ program's code starts, its segment counted from the image's.
+    /// Where an MZ program starts (CS:IP), the segment counted from that of the image.
     pub fn code(&self) -> FarPointer
         requires { is_mz self.now ≡ true }
         ensures { result ≡ code self.now }
@@ -82,7 +82,7 @@ impl<'a> Image<'a> {
         }
     }
 
-    /// Where an MZ program's stack starts, its segment counted from the image's.
+    /// Where an MZ program's stack starts (SS:SP), the segment counted from that of the image.
     pub fn stack(&self) -> FarPointer
         requires { is_mz self.now ≡ true }
         ensures { result ≡ stack self.now }
@@ -93,7 +93,7 @@ impl<'a> Image<'a> {
         }
     }
 
-    /// How many paragraphs an MZ program needs after its image.
+    /// The number of paragraphs that an MZ program needs after its image.
     pub fn minimum(&self) -> u16
         requires { is_mz self.now ≡ true }
         ensures { result ≡ minimum self.now }
@@ -101,7 +101,7 @@ impl<'a> Image<'a> {
         word(self.file, 0x0A)
     }
 
-    /// How many paragraphs an MZ program asks for after its image.
+    /// The number of paragraphs that an MZ program asks for after its image.
     pub fn maximum(&self) -> u16
         requires { is_mz self.now ≡ true }
         ensures { result ≡ maximum self.now }
@@ -110,8 +110,8 @@ impl<'a> Image<'a> {
     }
 
     /// Fills `bytes` with the image, relocated to a start segment: each relocation, in the order of
-    /// the table, adds the segment to a word, modulo 65,536. The slice has the image's length or,
-    /// if that is larger, 110000h bytes: no word of a relocation stands past these.
+    /// the table, adds the segment to a word, modulo 65,536. The slice has the length of the image,
+    /// or 110000h bytes if the image is longer: no relocation changes a word after these.
     pub fn relocated(&self, start: u16, bytes: &mut [u8])
         requires { length bytes.old ≡ min (length (image self.now)) 0x110000 }
         ensures { bytes.new ≡ take 0x110000 (relocated self.now start) }
@@ -122,8 +122,7 @@ impl<'a> Image<'a> {
         }
     }
 
-    /// The bytes of the image after the first 110000h: no relocation has a word there, so they are
-    /// those of the relocated image too.
+    /// The bytes of the image after the first 110000h. No relocation changes them.
     pub fn rest(&self) -> &[u8]
         ensures bytes { (start : ℕ) → result.now ≡ drop 0x110000 (relocated self.now start) }
         ensures few { length result.now ≤ 0x1FF_FE00 }

@@ -26,7 +26,8 @@ ThereIsOneRun = (s t u : State) (n : ℕ) → Goes s n t → Goes s n u → t �
 abbrev pub RunHasOneStop : Type 0
 RunHasOneStop = (s t u : State) (n : ℕ) (a b : Stop) → IsRun s n a t → IsRun s n b u → a ≢ NoMemory → b ≢ NoMemory → (a ≡ b) × (t ≡ u)
 
--- what gives the program no other view of memory: an instruction, a service, or INT 2Fh
+-- at this entry point (or none) no call can change which memory the program sees: an instruction, a service of DOS, or
+-- INT 2Fh; not INT 67h and not the extended memory driver
 abbrev pub IsQuiet : Option EntryPoint → Type 0
 IsQuiet None = Unit {0}
 IsQuiet (Some (entry_point.Service service)) = Unit {0}
@@ -34,51 +35,53 @@ IsQuiet (Some (entry_point.Driver Multiplex)) = Unit {0}
 IsQuiet (Some (entry_point.Driver ExpandedMemory)) = ⊥
 IsQuiet (Some (entry_point.Driver ExtendedMemory)) = ⊥
 
--- in n steps from s neither INT 67h nor the extended memory driver acts
+-- in n steps from s neither INT 67h nor the extended memory driver is called
 abbrev pub StaysQuiet : State → ℕ → Type 0
 StaysQuiet s n = (k : ℕ) (r : State) → k < n → Goes s k r → IsQuiet (entry_point_at r.cpu.cs r.cpu.ip)
 
--- n steps that end nothing, and in which neither acts, lead to the same state where memory is changed out of every
--- program's sight, and the change stays
+-- n steps in which neither driver is called lead to the same state if memory is changed where no program sees it, and
+-- the change stays
 abbrev pub UnseenBytesChangeNoStep : Type 0
 UnseenBytesChangeNoStep =
     (change : Memory → Memory) → IsUnseen change → (s t : State) (n : ℕ) → StaysQuiet s n →
     Goes s n t → Goes (with_change change s) n (with_change change t)
 
--- a run in which neither acts stops for the same reason, in the same state, where memory is changed out of every
--- program's sight, and the change stays
+-- a run in which neither driver is called stops for the same reason in the same state if memory is changed where no
+-- program sees it, and the change stays
 abbrev pub UnseenBytesChangeNoRun : Type 0
 UnseenBytesChangeNoRun =
     (change : Memory → Memory) → IsUnseen change → (s t : State) (n : ℕ) (stop : Stop) → StaysQuiet s n →
     IsRun s n stop t → IsRun (with_change change s) n stop (with_change change t)
 
--- the state with other bytes in the blocks that no window shows: pages of expanded memory, and extended memory
+-- the state with other bytes in the blocks of memory that no window shows: pages of expanded memory, and extended
+-- memory
 abbrev pub with_unseen_blocks : (ℕ → List ℕ) → State → State
 with_unseen_blocks other s = record s { memory = unseen_as s.memory other }
 
--- in particular, a run doesn't depend on such blocks, and leaves them
+-- a run in which neither driver is called does not depend on the bytes of the blocks that no window shows, and keeps
+-- them
 abbrev pub UnseenBlocksChangeNoRun : Type 0
 UnseenBlocksChangeNoRun =
     (other : ℕ → List ℕ) (s t : State) (n : ℕ) (stop : Stop) → StaysQuiet s n →
     IsRun s n stop t → IsRun (with_unseen_blocks other s) n stop (with_unseen_blocks other t)
 
--- what a run leaves: the windows, where each block lies, and the bytes of each block that no window shows
+-- memory n has the windows of m, its blocks at the same places, and the same bytes in each block that no window shows
 pub record LeavesUnseen (m n : Memory) : Type 0 where
   pub windows : n.windows ≡ m.windows
   pub places : n.blocks.places ≡ m.blocks.places
   pub bytes : (block : ℕ) → shows m.windows block ≡ false → page_bytes n block ≡ page_bytes m block
 
--- a run in which neither acts leaves the windows, and all bytes that no window shows
+-- a run in which neither driver is called keeps the windows, and all bytes of blocks that no window shows
 abbrev pub RunLeavesUnseen : Type 0
 RunLeavesUnseen = (s t : State) (n : ℕ) (stop : Stop) → StaysQuiet s n → IsRun s n stop t → LeavesUnseen s.memory t.memory
 
--- the block is that of a handle of extended memory
+-- the block with this number belongs to one of the handles of extended memory
 abbrev pub is_extended : List (Option Handle) → ℕ → Bool
 is_extended [] block = false
 is_extended (None ∷ handles) block = is_extended handles block
 is_extended (Some handle ∷ handles) block = (handle.block == block) || is_extended handles block
 
--- the memory with other bytes in those blocks
+-- the memory with other bytes in the blocks that belong to the handles of extended memory
 abbrev pub extended_as : List (Option Handle) → (ℕ → List ℕ) → Memory → Memory
 extended_as handles other m = with_blocks m (record m.blocks { contents = mixed (λ block. not (is_extended handles block)) other 0 m.blocks.contents })
 
@@ -86,24 +89,26 @@ extended_as handles other m = with_blocks m (record m.blocks { contents = mixed 
 abbrev pub with_extended_blocks : (ℕ → List ℕ) → State → State
 with_extended_blocks other s = record s { memory = extended_as s.xms.handles other s.memory }
 
--- where tables and memory are consistent, as they are in each machine, a run doesn't depend on the bytes of any block
--- of extended memory
+-- if tables and memory are consistent, as in every machine, a run in which neither driver is called does not depend on
+-- the bytes of any block of extended memory
 abbrev pub ExtendedBlocksChangeNoRun : Type 0
 ExtendedBlocksChangeNoRun =
     (other : ℕ → List ℕ) (s t : State) (n : ℕ) (stop : Stop) → AreConsistent s → StaysQuiet s n →
     IsRun s n stop t → IsRun (with_extended_blocks other s) n stop (with_extended_blocks other t)
 
--- what a run leaves: the tables of expanded and of extended memory, and the bytes of each block of extended memory
+-- t has the tables of expanded and extended memory of s, and the same bytes in each block of extended memory
 pub record LeavesExtended (s t : State) : Type 0 where
   pub expanded : t.ems ≡ s.ems
   pub extended : t.xms ≡ s.xms
   pub bytes : (block : ℕ) → is_extended s.xms.handles block ≡ true → page_bytes t.memory block ≡ page_bytes s.memory block
 
--- a run in which neither acts leaves extended memory, and the tables of both drivers
+-- if tables and memory are consistent, a run in which neither driver is called keeps the tables of both drivers and the
+-- bytes of each block of extended memory
 abbrev pub RunLeavesExtended : Type 0
 RunLeavesExtended = (s t : State) (n : ℕ) (stop : Stop) → AreConsistent s → StaysQuiet s n → IsRun s n stop t → LeavesExtended s t
 
--- steps and runs one after another, and between them changes of memory from outside, and more room
+-- from s, steps and runs one after another lead to this state; between them memory may be changed from outside, and
+-- more room be reserved
 pub data IsHistory (s : State) : State → Type 0 where
   none : IsHistory s s
   step_on : (t u : State) (stop : Option Stop) → IsHistory s t → Answers t stop u → IsHistory s u
@@ -111,18 +116,18 @@ pub data IsHistory (s : State) : State → Type 0 where
   changed : (t : State) (memory : Memory) → IsHistory s t → IsHistory s (record t { memory = memory })
   reserved : (t : State) (bytes : ℕ) → IsHistory s t → IsHistory s (record t { console = record t.console { room = max t.console.room bytes } })
 
--- each result of a step from t leaves more output than so many bytes
+-- every result of a step from t leaves more than `bytes` bytes of output
 abbrev pub WantsBeyond : ℕ → State → Type 0
 WantsBeyond bytes t = (x : Answer) → MakesStep t x → bytes < length x.state.console.output
 
--- where there is room for so many bytes, no allocation fails in steps and runs that write no more of them: one in which
--- one fails stands before a step with which more would have gone out
+-- if `bytes` bytes of room are reserved, no allocation fails in runs that together write no more than that: where one
+-- fails, the next step would leave more output
 abbrev pub RoomIsEnoughForRuns : Type 0
 RoomIsEnoughForRuns =
     (bytes : ℕ) (s t u : State) (n : ℕ) → bytes ≤ s.console.room → IsHistory s t → IsRun t n NoMemory u →
     WantsBeyond (length s.console.output + bytes) u
 
--- where there is room for so many bytes, no allocation fails in a step that writes no more of them
+-- if `bytes` bytes of room are reserved, no allocation fails in steps that together write no more than that
 abbrev pub RoomIsEnoughForSteps : Type 0
 RoomIsEnoughForSteps =
     (bytes : ℕ) (s t u : State) → bytes ≤ s.console.room → IsHistory s t → Answers t (Some NoMemory) u →

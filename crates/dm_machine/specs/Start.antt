@@ -28,8 +28,8 @@ clear_flags = record { carry = false; parity = false; adjust = false; zero = fal
 abbrev pub clear_registers : Cpu
 clear_registers = record { ax = 0; cx = 0; dx = 0; bx = 0; sp = 0; bp = 0; si = 0; di = 0; es = 0; cs = 0; ss = 0; ds = 0; ip = 0; flags = clear_flags }
 
--- the headers of an arena that goes on in upper memory: at 0100h `Z`, owner 0, size 9EFEh; at 9FFFh `M`, owner 0008h,
--- size 3000h, which links what is above; at D000h `Z`, owner 0, size 0FFFh
+-- the memory with the three headers of an arena that goes on in upper memory: at 0100h `Z`, owner 0, size 9EFEh; at
+-- 9FFFh the link block, `M`, owner 0008h, size 3000h; at D000h `Z`, owner 0, size 0FFFh
 unfoldable pub with_upper_headers : Memory → Memory
 with_upper_headers m =
     with_bytes (with_bytes (with_bytes m
@@ -37,17 +37,18 @@ with_upper_headers m =
     0x9FFF 0 (0x4D ∷ 0x08 ∷ 0 ∷ 0x00 ∷ 0x30 ∷ []))
     0xD000 0 (0x5A ∷ 0 ∷ 0 ∷ 0xFF ∷ 0x0F ∷ [])
 
--- the memory with the headers of an arena that goes on in upper memory, if it does
+-- the memory with the headers of an arena that goes on in upper memory if `upper` is true; otherwise the memory itself
 abbrev pub with_headers : Bool → Memory → Memory
 with_headers upper m = if upper then with_upper_headers m else m
 
--- memory as it starts, over a pool with no block
+-- m is the memory of a machine as it starts, with no block in its pool, and with the headers of upper memory if `upper`
 pub record IsStartWith (upper : Bool) (sizes : Sizes) (m : Memory) : Type 0 where
   pub plain : Memory
   pub start : IsStart (no_blocks (units_of sizes)) plain
   pub headers : m ≡ with_headers upper plain
 
--- memory as it starts, no handle but handle 0 of expanded memory, no output, no process
+-- s is a machine as it starts: memory as above, registers 0, no handle but handle 0 of expanded memory, no output, no
+-- process, the strategy first fit in all of the arena
 pub record IsNew (sizes : Sizes) (variables : List ℕ) (upper : Bool) (programs : List (List ℕ × List ℕ)) (input : List ℕ) (s : State) : Type 0 where
   pub memory : IsStartWith upper sizes s.memory
   pub others : s ≡ record {
@@ -66,11 +67,12 @@ pub record IsNew (sizes : Sizes) (variables : List ℕ) (upper : Bool) (programs
     upper = upper;
   }
 
--- the first program is passed a tail, and no file control blocks
+-- what the first program is passed: the command tail, and two file control blocks of zeros
 abbrev pub passed_first : List ℕ → Passed
 passed_first tail = record { tail = tail; first = replicate 16 0; second = replicate 16 0 }
 
--- the first program is loaded
+-- loading the first program, of this name and with this tail, leads from s to t: memory, registers and processes are
+-- those of its start, and all else stays
 pub record IsLoaded (s : State) (name tail : List ℕ) (t : State) : Type 0 where
   pub file : List ℕ
   pub found : program_of s.programs name ≡ Some file
@@ -78,13 +80,13 @@ pub record IsLoaded (s : State) (name tail : List ℕ) (t : State) : Type 0 wher
   pub begins : Begins s.upper s.memory s.strategy file s.variables name (passed_first tail) t.processes t.cpu t.memory
   pub others : t ≡ record s { cpu = t.cpu; memory = t.memory; processes = t.processes }
 
--- the store has the program, and it can't be loaded
+-- the store has the program of this name, and its file is neither a COM nor a good MZ program
 pub record IsBadProgram (s : State) (name : List ℕ) : Type 0 where
   pub file : List ℕ
   pub found : program_of s.programs name ≡ Some file
   pub bad : IsGood file → ⊥
 
--- memory has no room for its two blocks, or its arena is destroyed
+-- the program's file is good, but memory has no room for its two blocks, or holds no valid block list
 pub record HasNoRoom (s : State) (name : List ℕ) : Type 0 where
   pub file : List ℕ
   pub found : program_of s.programs name ≡ Some file

@@ -20,12 +20,12 @@ pub enum LoadError {
     /// The program is neither a COM file of at most 65,278 bytes nor a good MZ file.
     #[error("bad format")]
     BadFormat,
-    /// Conventional memory has no room for the environment and the program, or its arena is destroyed.
+    /// Conventional memory has no room for the environment and the program, or memory holds no valid block list.
     #[error("short")]
     Short,
 }
 
-/// What the first program is started with: a tail, and no file control blocks.
+/// What the first program is passed: the command tail, of at most 126 bytes, and two file control blocks of zeros.
 fn arguments(tail: &[u8]) -> Arguments
     requires { length tail.now ≤ 126 }
     ensures { passed_of result ≡ passed_first tail.now }
@@ -42,14 +42,14 @@ fn arguments(tail: &[u8]) -> Arguments
 }
 
 impl Machine {
-    /// Loads the program of this name, and the registers that it starts with. No program is loaded
-    /// yet; the name is one that the store could have; the tail has at most 126 bytes.
+    /// Loads the program of this name, with its environment, into memory, and sets the registers with which it starts.
+    /// No program may be loaded yet; the name must be one that the store could have; the tail has at most 126 bytes.
     ///
     /// # Errors
     ///
-    /// `NotFound` exactly where the store has no such program (ASCII case ignored), `BadFormat`
-    /// exactly where it has one that is bad, `Short` exactly where there is no room for its two
-    /// blocks or memory's arena is destroyed. A call that fails changes nothing.
+    /// `NotFound` exactly where the store has no such program (ASCII case ignored), `BadFormat` exactly where it has
+    /// one that is bad, `Short` exactly where there is no room for its two blocks or memory holds no valid block list.
+    /// A call that fails changes nothing.
     pub fn load(&mut self, name: &[u8], tail: &[u8]) -> Result<(), LoadError>
         requires fresh { self.old.processes.present ≡ 0 }
         requires name { IsName name.now }

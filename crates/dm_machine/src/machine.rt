@@ -51,7 +51,7 @@ impl Model for Machine {
     ghost invariant = { λ m. AreConsistent m.parts };
 }
 
-/// Registers before a program is loaded.
+/// The registers before a program is loaded: all 0, and all flags clear.
 #[tactic(auto, unfolding(dm_alu::specs::Flags::flags_of))]
 fn clear_registers() -> Cpu
     ensures { result ≡ Rattle.dm_machine.specs.Start.clear_registers }
@@ -74,8 +74,8 @@ fn clear_registers() -> Cpu
     }
 }
 
-/// Writes the headers of an arena that continues in upper memory, if it does: what is below 9FFFh is one free block, as
-/// is what is from D000h to DFFFh.
+/// If `upper`, writes the three headers of an arena that goes on in upper memory: below 9FFFh one free block, at 9FFFh
+/// the link block, and from D000h to DFFFh one free block. Otherwise memory stays, with its one header at 0100h.
 #[tactic(auto, unfolding(crate::specs::Start::with_upper_headers))]
 fn write_headers(space: &mut Space, upper: bool)
     ensures { space.new.memory ≡ with_headers upper space.old.memory }
@@ -87,7 +87,8 @@ fn write_headers(space: &mut Space, upper: bool)
     }
 }
 
-/// The memory of a machine of those sizes as it starts, with upper memory in its arena or not.
+/// The memory of a machine of those sizes as it starts; `upper` is whether upper memory belongs to the arena.
+/// `TooLarge` exactly where the sizes are over 512 pages or 15,360 KiB, otherwise `Memory` if an allocation failed.
 fn start_space(alloc: Global, sizes: Sizes, upper: bool) -> Result<Space, NewError>
     ensures start { IfOk result (λ space. IsStartWith upper sizes space.memory) }
     ensures few { IfOk result (λ space. sizes.ems_pages ≤ 512) }
@@ -110,7 +111,7 @@ impl Machine {
     /// sizes with no block, no handle of expanded memory but handle 0, none of extended memory, no output, no program
     /// loaded.
     ///
-    /// The variables of the configuration have at most 32,767 bytes with their zeros.
+    /// The variables of the configuration must have at most 32,767 bytes with their zeros.
     ///
     /// # Errors
     ///
@@ -166,14 +167,14 @@ impl Machine {
         self.parts.procs.psp() > 0
     }
 
-    /// Whether the arena continues in upper memory: what the configuration said.
+    /// Whether upper memory, from segment 9FFFh on, belongs to the arena, as the configuration said.
     pub fn upper(&self) -> bool
         ensures { result ≡ self.now.upper }
     {
         self.parts.upper
     }
 
-    /// How many steps were made; at 2^64 - 1 the count stays.
+    /// How many steps were made so far; at 2^64 - 1 the count stays.
     pub fn steps(&self) -> u64
         ensures { result ≡ self.now.steps }
     {
@@ -215,8 +216,8 @@ impl Machine {
         self.parts.space.peek(segment, offset)
     }
 
-    /// Writes the byte at segment:offset. A write to ROM, or where there is no memory, is lost. A
-    /// program is loaded.
+    /// Writes the byte at segment:offset. A write to ROM, or where there is no memory, is lost. A program must be
+    /// loaded.
     pub fn poke(&mut self, segment: u16, offset: u16, value: u8)
         requires { HasProgram self.old }
         ensures { self.new ≡ record self.old { memory = poke self.old.memory (linear self.old.memory.a20 segment offset) value } }
@@ -224,8 +225,8 @@ impl Machine {
         self.parts.space.poke(segment, offset, value);
     }
 
-    /// Makes the room, how many more bytes of output go out without memory, the larger of the room
-    /// and `bytes`. It takes no memory where the room is large enough already.
+    /// Makes the room, how many more bytes of output can be written without an allocation, at least `bytes`. It
+    /// allocates nothing if the room is large enough already.
     ///
     /// An `Err` says that the allocation failed, and that nothing has changed.
     pub fn reserve_output(&mut self, bytes: usize) -> Result<(), AllocError>
@@ -236,14 +237,14 @@ impl Machine {
         self.parts.console.reserve(bytes)
     }
 
-    /// How many more bytes of output go out without memory; 0 at the start.
+    /// How many more bytes of output can be written without an allocation; 0 at the start.
     pub fn room(&self) -> usize
         ensures { result ≡ self.now.console.room }
     {
         self.parts.console.room()
     }
 
-    /// All that the console wrote.
+    /// All bytes that the program has written to the console.
     pub fn output(&self) -> &[u8]
         ensures { result.now ≡ self.now.console.output }
     {

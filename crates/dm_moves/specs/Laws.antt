@@ -1,4 +1,4 @@
--- That moves and exchanges keep the map of memory.
+-- The law that moves and exchanges of spans keep the map of memory.
 use Rattle.std.specs.Prelude.{ℕ}
 use Rattle.dm_space.specs.Memory.{Memory}
 use Rattle.dm_space.specs.Places.{IsShaped}

@@ -5,7 +5,7 @@ use Rattle.dm_space.specs.declared.place.Place.TheVariants.{Low, Page, Rom, Noth
 use Rattle.dm_space.specs.Memory.{Memory}
 use Rattle.dm_moves.specs.Spans.{Span, place_in}
 
--- both are one place, and not nothing
+-- both are the same place, and it is RAM, a block or ROM
 abbrev pub is_shared : Place → Place → Bool
 is_shared (Low a) (Low b) = a == b
 is_shared (Low a) (Page q l) = false
@@ -21,15 +21,15 @@ is_shared (Rom a) (Rom b) = a == b
 is_shared (Rom a) Nothing = false
 is_shared Nothing q = false
 
--- some number below n passes
+-- f holds for some number below n
 abbrev pub any_below : ℕ → (ℕ → Bool) → Bool
 any_below zero f = false
 any_below (suc n) f = any_below n f || f n
 
--- some number below n passes with one below l
+-- f holds for some number below n with some number below l
 abbrev pub any_two : ℕ → ℕ → (ℕ → ℕ → Bool) → Bool
 any_two n l f = any_below n (λ i. any_below l (f i))
 
--- a byte of the one and a byte of the other, of n bytes each, have one place
+-- the first n bytes of one span and the first n of the other have a place in common
 unfoldable pub overlap : Memory → Span → Span → ℕ → Bool
 overlap m from to n = any_two n n (λ i j. is_shared (place_in m from i) (place_in m to j))

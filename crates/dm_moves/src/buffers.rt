@@ -1,4 +1,4 @@
-//! What stands in a program's buffer; offsets wrap in their segment.
+//! Bytes and words in a program's buffer; offsets wrap in their segment.
 
 ghost use Rattle.std.specs.Prelude.{◌≡◌, ◌<◌, ◌+◌, ◌%◌};
 ghost use Rattle.dm_space.specs.EightBytes.{byte_after};
@@ -6,7 +6,7 @@ ghost use Rattle.dm_moves.specs.Buffers.{word_after};
 
 use dm_space::Space;
 
-/// The offset so many places after another.
+/// The offset `places` bytes after another, modulo 65,536.
 fn onward(offset: u16, places: usize) -> u16
     requires { places < 0x100000 }
     ensures { result ≡ (offset + places) % 65536 }
@@ -14,7 +14,7 @@ fn onward(offset: u16, places: usize) -> u16
     ((offset as usize + places) % 0x1_0000) as u16
 }
 
-/// The byte so many places after segment:offset.
+/// The byte `places` bytes after segment:offset.
 pub fn byte_after(space: &Space, segment: u16, offset: u16, places: usize) -> u8
     requires { places < 0x100000 }
     ensures { result ≡ byte_after space.now.memory segment offset places }
@@ -22,7 +22,7 @@ pub fn byte_after(space: &Space, segment: u16, offset: u16, places: usize) -> u8
     space.peek(segment, onward(offset, places))
 }
 
-/// The word so many places after segment:offset.
+/// The word `places` bytes after segment:offset.
 pub fn word_after(space: &Space, segment: u16, offset: u16, places: usize) -> u16
     requires { places < 0x100000 }
     ensures { result ≡ word_after space.now.memory segment offset places }

@@ -7,7 +7,8 @@ ghost use Rattle.dm_moves.specs.Spans.{span_moved, spans_exchanged, IsInside};
 use crate::spans::{PAGE, Span, SpanKind};
 use dm_space::Space;
 
-/// How many of the next `left` bytes have places side by side for sure, from a byte on.
+/// How many of the `left` bytes from the byte `at` on come before the next multiple of 4000h: their places lie side by
+/// side.
 pub(crate) fn run_len(at: usize, left: usize) -> usize
     requires { 0 < left }
     ensures some { 0 < result }
@@ -17,7 +18,8 @@ pub(crate) fn run_len(at: usize, left: usize) -> usize
     (PAGE - at % PAGE).min(left)
 }
 
-/// Reads `len` bytes of a span from its byte `k` on, a run of them, into the scratch bytes from `at` on.
+/// Copies `len` bytes of a span, from its byte `k` on, into the scratch bytes from `at` on. The bytes lie between two
+/// multiples of 4000h.
 fn read_run(space: &mut Space, span: &Span, k: usize, at: usize, len: usize)
     requires inside { IsInside space.old.memory span.now (k + len) }
     requires some { 0 < len }
@@ -34,7 +36,8 @@ fn read_run(space: &mut Space, span: &Span, k: usize, at: usize, len: usize)
     }
 }
 
-/// Writes `len` scratch bytes from `at` on to a run of a span, from its byte `k` on.
+/// Writes `len` scratch bytes from `at` on to a span, from its byte `k` on, upwards. The bytes written lie between two
+/// multiples of 4000h.
 fn write_run(space: &mut Space, span: &Span, k: usize, at: usize, len: usize)
     requires inside { IsInside space.old.memory span.now (k + len) }
     requires some { 0 < len }
@@ -51,7 +54,7 @@ fn write_run(space: &mut Space, span: &Span, k: usize, at: usize, len: usize)
     }
 }
 
-/// Reads the first `len` bytes of a span into the scratch bytes from `at` on.
+/// Copies the first `len` bytes of a span into the scratch bytes from `at` on. The memory stays.
 fn read(space: &mut Space, span: &Span, at: usize, len: usize)
     requires inside { IsInside space.old.memory span.now len }
     requires scratch { at + len ≤ 0x200000 }
@@ -66,7 +69,7 @@ fn read(space: &mut Space, span: &Span, at: usize, len: usize)
     }
 }
 
-/// Writes `len` scratch bytes from `at` on to the first bytes of a span, upwards.
+/// Writes `len` scratch bytes from `at` on to the first bytes of a span, upwards. The scratch bytes stay.
 fn write(space: &mut Space, at: usize, span: &Span, len: usize)
     requires inside { IsInside space.old.memory span.now len }
     requires scratch { at + len ≤ 0x200000 }
@@ -95,7 +98,7 @@ pub fn move_bytes(space: &mut Space, from: &Span, to: &Span, len: usize)
 }
 
 /// Moves `len` bytes of one block to another, or within one: the source is read whole, and then written upwards. The
-/// scratch bytes stay as they are, so `len` may be more than they are.
+/// scratch bytes are not used and stay as they are, so that `len` may be more than they are.
 pub fn move_blocks(space: &mut Space, from: &Span, to: &Span, len: usize)
     requires blocks { (from.now.kind ≡ SpanKind.Single) × (to.now.kind ≡ SpanKind.Single) }
     requires from { IsInside space.old.memory from.now len }

@@ -1,4 +1,4 @@
-//! That the map of memory stays: a law, the contract of a function that does nothing.
+//! The law that moves and exchanges of spans keep the map of memory: the contract of a function that does nothing.
 
 ghost use Rattle.dm_moves.specs.Laws.{MovesKeepTheMap};
 

@@ -1,4 +1,4 @@
-//! Whether spans overlap: whether they share a place.
+//! Whether spans overlap: whether they share a place that is memory or ROM.
 
 ghost use Rattle.std.specs.Prelude.{◌≡◌, ◌==◌, ◌+◌, ◌<◌};
 ghost use Rattle.dm_space.specs.inner.Runs.{shift};
@@ -18,7 +18,8 @@ fn meet(a: usize, n: usize, b: usize, l: usize) -> bool
     if a <= b { b - a < n } else { a - b < l }
 }
 
-/// Whether the `n` places from one on and the `l` places from another on share one.
+/// Whether the `n` places side by side from `p` on and the `l` places from `q` on have one in common that is memory or
+/// ROM.
 fn runs_meet(p: Place, n: usize, q: Place, l: usize) -> bool
     requires n { 0 < n }
     requires l { 0 < l }
@@ -59,7 +60,8 @@ fn runs_meet(p: Place, n: usize, q: Place, l: usize) -> bool
     }
 }
 
-/// Whether the `n` places from one on and the first `len` bytes of a span share a place.
+/// Whether the `n` places side by side from `p` on and the first `len` bytes of a span share a place that is memory or
+/// ROM.
 fn run_meets(space: &Space, p: &Place, n: usize, span: &Span, len: usize) -> bool
     requires n { 0 < n }
     requires inside { IsInside space.now.memory span.now len }

@@ -1,4 +1,4 @@
-//! Spans of memory.
+//! Spans: runs of bytes at linear addresses, in pages of expanded memory, or in one block.
 
 ghost use Rattle.std.specs.Prelude.{◌≡◌, ◌+◌, ◌^◌, ◌<◌, ◌∷◌, []};
 ghost use Rattle.dm_moves.specs.Spans.{span, place_in, IsInside};
@@ -16,13 +16,14 @@ pub(crate) const PAGE: usize = 0x4000;
 pub enum SpanKind {
     /// Linear addresses, with A20 on.
     Linear,
-    /// Pages, one after the other.
+    /// Pages of 4000h bytes, one after the other.
     Pages,
-    /// A block of the pool.
+    /// One block of the pool.
     Single,
 }
 
-/// Where a span begins. Its bytes are counted from there; how many there are is said where it is used.
+/// What a span lies in, and where it begins. Its bytes are counted from there; it has no length, which each function is
+/// given for itself.
 #[derive(Drop)]
 pub struct Span {
     kind: SpanKind,
@@ -50,7 +51,7 @@ impl Span {
         }
     }
 
-    /// The span from a byte of pages on, which are counted through.
+    /// The span from byte `start` of a list of pages on, whose bytes are counted through, 4000h for each page.
     pub fn pages(blocks: ArrayVec<Block, 512>, start: usize) -> Span
         ensures { result ≡ span SpanKind.Pages start blocks.items }
     {
@@ -61,7 +62,7 @@ impl Span {
         }
     }
 
-    /// The span from a byte of a block on.
+    /// The span from byte `start` of a block on.
     pub fn block(block: Block, start: usize) -> Span
         ensures { result ≡ span SpanKind.Single start (block ∷ []) }
     {
@@ -74,14 +75,15 @@ impl Span {
         }
     }
 
-    /// What it lies in.
+    /// What the span lies in.
     pub fn kind(&self) -> SpanKind
         ensures { result ≡ self.now.kind }
     {
         self.kind
     }
 
-    /// Where its byte `k` stands, counted from linear address 0, or from the first byte of the pages or of the block.
+    /// Where byte `k` of the span stands, counted from linear address 0, or from the first byte of the pages or of the
+    /// block.
     pub fn at(&self, k: usize) -> usize
         requires { self.now.start + k < 2 ^ 64 }
         ensures { result ≡ self.now.start + k }
@@ -89,13 +91,14 @@ impl Span {
         self.start + k
     }
 
+    /// The blocks of its pages, or its one block; none for linear addresses.
     pub(crate) fn blocks(&self) -> &[Block]
         ensures { result.now ≡ self.now.blocks }
     {
         self.blocks.as_slice()
     }
 
-    /// The place of its byte `k`, by which overlaps are found.
+    /// The place of byte `k` of the span.
     pub(crate) fn place(&self, space: &Space, k: usize) -> Place
         requires { IsInside space.now.memory self.now (k + 1) }
         ensures { result ≡ place_in space.now.memory self.now k }

@@ -13,15 +13,15 @@ option_rule name default = record (new_rule name) {
   defaults = default ∷ [];
 }
 
--- `--steps N`
+-- `--steps N`: a number below 2^64, 100000000 by default
 abbrev pub steps_rule : Rule
 steps_rule = record (option_rule (codes "steps") (codes "100000000")) { parser = Some (parser.Unsigned 0 18446744073709551615) }
 
--- `--ems PAGES`
+-- `--ems PAGES`: a number below 2^32, 64 by default
 abbrev pub ems_rule : Rule
 ems_rule = record (option_rule (codes "ems") (codes "64")) { parser = Some (parser.Unsigned 0 4294967295) }
 
--- `--xms KIB`
+-- `--xms KIB`: a number below 2^32, 1024 by default
 abbrev pub xms_rule : Rule
 xms_rule = record (option_rule (codes "xms") (codes "1024")) { parser = Some (parser.Unsigned 0 4294967295) }
 
@@ -29,11 +29,11 @@ xms_rule = record (option_rule (codes "xms") (codes "1024")) { parser = Some (pa
 abbrev pub upper_rule : Rule
 upper_rule = record (new_rule (codes "upper")) { long = Some (codes "upper"); action = Some action.SetTrue }
 
--- `--tail TEXT`
+-- `--tail TEXT`: the empty text by default
 abbrev pub tail_rule : Rule
 tail_rule = option_rule (codes "tail") []
 
--- one file or more
+-- `FILES`: at least one path
 abbrev pub files_rule : Rule
 files_rule = record (new_rule (codes "files")) {
   value_names = 1;
@@ -41,12 +41,12 @@ files_rule = record (new_rule (codes "files")) {
   required = true;
 }
 
--- a command with the options and files of a machine
+-- a command with the options and files added that `run`, `debug` and `check` share
 abbrev pub with_machine_rules : App → App
 with_machine_rules a =
     with_rule (with_rule (with_rule (with_rule (with_rule (with_rule a steps_rule) ems_rule) xms_rule) upper_rule) tail_rule) files_rule
 
--- `dm run`, with the options and files of a machine
+-- `dm run`
 abbrev pub run_app : App
 run_app = with_machine_rules (new_app (codes "run"))
 
@@ -54,27 +54,27 @@ run_app = with_machine_rules (new_app (codes "run"))
 abbrev pub input_rule : Rule
 input_rule = record (new_rule (codes "input")) { long = Some (codes "input"); value_names = 1 }
 
--- `dm debug`, with the options and files of a machine, and `--input`
+-- `dm debug`: as `dm run`, and `--input`
 abbrev pub debug_app : App
 debug_app = with_rule (with_machine_rules (new_app (codes "debug"))) input_rule
 
--- one file
+-- a required argument of this name that is the path of one file
 abbrev pub path_rule : Text → Rule
 path_rule name = record (new_rule name) { value_names = 1; required = true }
 
--- `dm check`, with the options and files of a machine
+-- `dm check`: as `dm run`
 abbrev pub check_app : App
 check_app = with_machine_rules (new_app (codes "check"))
 
--- `dm asm`, with the files that it reads and writes
+-- `dm asm`, with the paths of the text and of the file that is written
 abbrev pub asm_app : App
 asm_app = with_rule (with_rule (new_app (codes "asm")) (path_rule (codes "in"))) (path_rule (codes "out"))
 
--- `dm disasm`, with the file that it reads
+-- `dm disasm`, with the path of the file that is read
 abbrev pub disasm_app : App
 disasm_app = with_rule (new_app (codes "disasm")) (path_rule (codes "in"))
 
--- `dm` with no subcommand, which must have one, and with `--version`
+-- `dm` before its subcommands are added; it must have one, and has `--version`
 abbrev pub named_app : App
 named_app = let empty = new_app (codes "dm") in record empty { top = record empty.top { has_version = true; subcommand_required = true } }
 

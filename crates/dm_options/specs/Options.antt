@@ -1,4 +1,5 @@
--- What the options say, of the rows that `clap` states for the words of a command line.
+-- What the options of a command line are, by the rows that `clap` gives for its words: a row has an argument's name and
+-- its texts.
 use Rattle.std.specs.Prelude.{◌≡◌, ℕ, ◌<◌, ◌^◌, Bool, true, false, List, Option, Some, None, ⊤, MatchOption, codes, map, option_map}
 use Rattle.std.specs.Str.Parse.{IsNumeral, digits_value, without_leading_plus}
 use Rattle.clap.specs.Words.{IsAmong, Kinds, Row, Text, all_of, first_of, kind_of, one_of}
@@ -10,23 +11,23 @@ use Rattle.dm_options.specs.declared.command_line.Options.TheVariants as command
 use Rattle.dm_options.specs.declared.command_line.OptionsError.{OptionsError}
 use Rattle.dm_options.specs.declared.command_line.OptionsError.TheVariants as refusal
 
--- the text is the decimal numeral n, a `+` before it allowed, of at most k bits
+-- the text is the decimal number n, below 2^k; it may begin with `+`
 abbrev pub IsNumeralWithin : ℕ → Text → ℕ → Type 0
 IsNumeralWithin k text n = IsNumeral 10 (without_leading_plus text)
     × (digits_value 10 (without_leading_plus text) < 2 ^ k)
     × (n ≡ digits_value 10 (without_leading_plus text))
 
--- the text is there, and is the numeral n
+-- there is a text, and it is the decimal number n, below 2^k
 abbrev pub HasNumber : ℕ → Option Text → ℕ → Type 0
 HasNumber k text n = MatchOption text ⊥ (λ t. IsNumeralWithin k t n)
 
--- the option is given or not
+-- b is whether an option that has no value is given, by the text that `clap` gives for it: `true` or `false`
 pub record IsGiven (text : Option Text) (b : Bool) : Type 0 where
   pub given : text ≡ Some (codes "true") → b ≡ true
   pub not_given : text ≡ Some (codes "false") → b ≡ false
   pub unknown : text ≡ None → b ≡ false
 
--- the rows of the arguments, and the options of a machine
+-- o has the values that the rows give for the options and files of `dm run`
 pub record HasMachineOptions (rows : List Row) (o : MachineOptions) : Type 0 where
   pub steps : HasNumber 64 (one_of (codes "steps") rows) o.steps
   pub ems_pages : HasNumber 32 (one_of (codes "ems") rows) o.ems_pages
@@ -35,17 +36,17 @@ pub record HasMachineOptions (rows : List Row) (o : MachineOptions) : Type 0 whe
   pub tail : first_of (codes "tail") rows ≡ Some o.tail.now
   pub files : all_of (codes "files") rows ≡ Some (map (λ s. s.now) o.files.items)
 
--- the rows of the arguments, and the options of a debugger
+-- o has the values that the rows give for the options and files of `dm debug`
 pub record HasDebugOptions (rows : List Row) (o : DebugOptions) : Type 0 where
   pub machine : HasMachineOptions rows o.machine
   pub input : first_of (codes "input") rows ≡ option_map (λ s. s.now) o.input
 
--- the rows of the arguments, and the two paths
+-- o has the two paths that the rows give for `dm asm`
 pub record HasAsmOptions (rows : List Row) (o : AsmOptions) : Type 0 where
   pub input : first_of (codes "in") rows ≡ Some o.input.now
   pub output : first_of (codes "out") rows ≡ Some o.output.now
 
--- the subcommand with its rows, and the options
+-- these are the options of the subcommand with its name and rows
 abbrev pub HasOptions : Text × List Row → Options → Type 0
 HasOptions given (command.Run o) = (given.0 ≡ codes "run") × HasMachineOptions given.1 o
 HasOptions given (command.Debug o) = (given.0 ≡ codes "debug") × HasDebugOptions given.1 o
@@ -53,7 +54,8 @@ HasOptions given (command.Check o) = (given.0 ≡ codes "check") × HasMachineOp
 HasOptions given (command.Asm o) = (given.0 ≡ codes "asm") × HasAsmOptions given.1 o
 HasOptions given (command.Disasm path) = (given.0 ≡ codes "disasm") × (first_of (codes "in") given.1 ≡ Some path.now)
 
--- a usage error has one of the kinds that the first fault of the words may have; an allocation may fail at any words
+-- the error is right for words whose first fault may have these kinds: `Usage` has one of the kinds; `Memory` is right
+-- for any words
 abbrev pub Explains : Kinds → OptionsError → Type 0
 Explains kinds (refusal.Usage e) = IsAmong (kind_of e) kinds
 Explains kinds refusal.Memory = ⊤

@@ -1,4 +1,4 @@
-//! The commands and arguments of `dm`, as `clap` is given them.
+//! The commands and arguments of `dm`, as the command-line library `clap` is given them.
 ghost use Rattle.std.specs.Prelude.{◌≡◌, IfOk, IsOk, OnOk, false};
 ghost use Rattle.clap.specs.Words.{app_of, rule_of, with_subcommand};
 ghost use Rattle.dm_options.specs.Arguments.{asm_app, check_app, debug_app, disasm_app, dm_app, ems_rule, files_rule, input_rule, path_rule, run_app, steps_rule, tail_rule, upper_rule, with_machine_rules, xms_rule};
@@ -8,9 +8,10 @@ use clap::builder::ValueParser;
 use clap::{Arg, ArgAction, Command, value_parser};
 use std::alloc::{AllocError, Global};
 
-/// The version of the program.
+/// The version of the program, which `dm --version` prints.
 const VERSION: &str = "1.0.0";
 
+/// `--steps N`: a number below 2^64, 100000000 by default.
 fn steps_arg<'a>(alloc: Global) -> Arg<'a>
     ensures rule { rule_of result ≡ steps_rule }
     ensures local { result.global ≡ false }
@@ -25,6 +26,7 @@ fn steps_arg<'a>(alloc: Global) -> Arg<'a>
         )
 }
 
+/// `--ems PAGES`: a number below 2^32, 64 by default.
 fn ems_arg<'a>(alloc: Global) -> Arg<'a>
     ensures rule { rule_of result ≡ ems_rule }
     ensures local { result.global ≡ false }
@@ -37,6 +39,7 @@ fn ems_arg<'a>(alloc: Global) -> Arg<'a>
         .help("Pages of expanded memory, 16 KiB each; at most 512")
 }
 
+/// `--xms KIB`: a number below 2^32, 1024 by default.
 fn xms_arg<'a>(alloc: Global) -> Arg<'a>
     ensures rule { rule_of result ≡ xms_rule }
     ensures local { result.global ≡ false }
@@ -49,6 +52,7 @@ fn xms_arg<'a>(alloc: Global) -> Arg<'a>
         .help("KiB of extended memory; at most 15360")
 }
 
+/// `--upper`, which has no value.
 fn upper_arg<'a>(alloc: Global) -> Arg<'a>
     ensures rule { rule_of result ≡ upper_rule }
     ensures local { result.global ≡ false }
@@ -59,6 +63,7 @@ fn upper_arg<'a>(alloc: Global) -> Arg<'a>
         .help("Add an upper memory block, D000h to DFFFh, to the DOS arena")
 }
 
+/// `--tail TEXT`, the empty text by default.
 fn tail_arg<'a>(alloc: Global) -> Arg<'a>
     ensures rule { rule_of result ≡ tail_rule }
     ensures local { result.global ≡ false }
@@ -70,6 +75,7 @@ fn tail_arg<'a>(alloc: Global) -> Arg<'a>
         .help("The command tail, with the space that DOS puts before it; at most 126 bytes")
 }
 
+/// `FILES`: at least one path.
 fn files_arg<'a>(alloc: Global) -> Arg<'a>
     ensures rule { rule_of result ≡ files_rule }
     ensures local { result.global ≡ false }
@@ -81,7 +87,7 @@ fn files_arg<'a>(alloc: Global) -> Arg<'a>
         .help("The program, COM or EXE, then files that it can start; at most 16 MiB each")
 }
 
-/// Adds the options and files of a command that makes a machine.
+/// Adds the options and files that `run`, `debug` and `check` share to a command. An `Err` is a failed allocation.
 fn with_machine_args<'a>(alloc: Global, command: Command<'a>) -> Result<Command<'a>, AllocError>
     ensures app { IfOk result (λ c. app_of c ≡ with_machine_rules (app_of command.entry)) }
     ensures local { (fields_of command.entry).has_globals ≡ false → IfOk result (λ c. (fields_of c).has_globals ≡ false) }
@@ -95,6 +101,7 @@ fn with_machine_args<'a>(alloc: Global, command: Command<'a>) -> Result<Command<
         .arg(files_arg(alloc))
 }
 
+/// The command `dm run`. An `Err` is a failed allocation.
 fn run_command<'a>(alloc: Global) -> Result<Command<'a>, AllocError>
     ensures app { IfOk result (λ c. app_of c ≡ run_app) }
     ensures local { IfOk result (λ c. (fields_of c).has_globals ≡ false) }
@@ -107,6 +114,7 @@ fn run_command<'a>(alloc: Global) -> Result<Command<'a>, AllocError>
     with_machine_args(alloc, command)
 }
 
+/// `--input FILE`, which has no default.
 fn input_arg<'a>(alloc: Global) -> Arg<'a>
     ensures rule { rule_of result ≡ input_rule }
     ensures local { result.global ≡ false }
@@ -117,6 +125,7 @@ fn input_arg<'a>(alloc: Global) -> Arg<'a>
         .help("The file that the program reads as its console input; none without it")
 }
 
+/// The command `dm debug`. An `Err` is a failed allocation.
 fn debug_command<'a>(alloc: Global) -> Result<Command<'a>, AllocError>
     ensures app { IfOk result (λ c. app_of c ≡ debug_app) }
     ensures local { IfOk result (λ c. (fields_of c).has_globals ≡ false) }
@@ -127,6 +136,7 @@ fn debug_command<'a>(alloc: Global) -> Result<Command<'a>, AllocError>
     with_machine_args(alloc, command)?.arg(input_arg(alloc))
 }
 
+/// The command `dm check`. An `Err` is a failed allocation.
 fn check_command<'a>(alloc: Global) -> Result<Command<'a>, AllocError>
     ensures app { IfOk result (λ c. app_of c ≡ check_app) }
     ensures local { IfOk result (λ c. (fields_of c).has_globals ≡ false) }
@@ -139,7 +149,8 @@ fn check_command<'a>(alloc: Global) -> Result<Command<'a>, AllocError>
     with_machine_args(alloc, command)
 }
 
-/// An argument that is the path of one file.
+/// A required argument that is the path of one file: the name by which it is read back, and its name and text in the
+/// help.
 fn path_arg<'a>(
     alloc: Global,
     id: &'static str,
@@ -155,6 +166,7 @@ fn path_arg<'a>(
         .help(help)
 }
 
+/// The command `dm asm`, with its arguments `IN` and `OUT`. An `Err` is a failed allocation.
 fn asm_command<'a>(alloc: Global) -> Result<Command<'a>, AllocError>
     ensures app { IfOk result (λ c. app_of c ≡ asm_app) }
     ensures local { IfOk result (λ c. (fields_of c).has_globals ≡ false) }
@@ -171,6 +183,7 @@ fn asm_command<'a>(alloc: Global) -> Result<Command<'a>, AllocError>
         ))
 }
 
+/// The command `dm disasm`, with its argument `IN`. An `Err` is a failed allocation.
 fn disasm_command<'a>(alloc: Global) -> Result<Command<'a>, AllocError>
     ensures app { IfOk result (λ c. app_of c ≡ disasm_app) }
     ensures local { IfOk result (λ c. (fields_of c).has_globals ≡ false) }
@@ -181,7 +194,7 @@ fn disasm_command<'a>(alloc: Global) -> Result<Command<'a>, AllocError>
         .arg(path_arg(alloc, "in", "IN", "The COM file, at most 65278 bytes"))
 }
 
-/// Adds a subcommand, if it was made.
+/// Adds a subcommand to a command, if it was made. An `Err` is a failed allocation, of `made` or of this call.
 fn with_made<'a>(
     command: Command<'a>,
     made: Result<Command<'a>, AllocError>,
@@ -193,7 +206,7 @@ fn with_made<'a>(
     command.subcommand(made?)
 }
 
-/// The command `dm` with its subcommands, of which a line must name one.
+/// The command `dm` with its subcommands, of which a line must name one. An `Err` is a failed allocation.
 pub(crate) fn dm_command<'a>(alloc: Global) -> Result<Command<'a>, AllocError>
     ensures { IfOk result (λ c. app_of c ≡ dm_app) }
 {

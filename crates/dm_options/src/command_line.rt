@@ -1,8 +1,8 @@
-//! What a command line of `dm` asks for.
+//! What a command line of `dm` asks for: its command, options and files.
 
 use thiserror::Error;
 
-/// How a machine is made and what it runs.
+/// The options and files of `dm run`, `dm check` and `dm debug`: how the machine is made, and what it runs.
 #[derive(Debug, Drop)]
 pub struct MachineOptions<'a> {
     /// The most steps that the machine makes, from `--steps`.
@@ -19,21 +19,21 @@ pub struct MachineOptions<'a> {
     pub files: Vec<&'a str>,
 }
 
-/// How a machine is made that is debugged.
+/// The options and files of `dm debug`.
 #[derive(Debug, Drop)]
 pub struct DebugOptions<'a> {
-    /// How it is made, and what it runs; its number of steps does nothing.
+    /// How the machine is made, and what it runs; its number of steps has no effect.
     pub machine: MachineOptions<'a>,
-    /// The path of the file of its console's input, from `--input`; with none there is no input.
+    /// The path of the file that is the program's console input, from `--input`; None for no input.
     pub input: Option<&'a str>,
 }
 
-/// What is assembled, and where its bytes go.
+/// The files of `dm asm`.
 #[derive(Clone, Copy, Debug)]
 pub struct AsmOptions<'a> {
-    /// The path of the text.
+    /// The path of the text that is assembled.
     pub input: &'a str,
-    /// The path of the file of its bytes.
+    /// The path of the file that the program's bytes are written to.
     pub output: &'a str,
 }
 
@@ -52,10 +52,10 @@ pub enum Options<'a> {
     Disasm(&'a str),
 }
 
-/// Why a command line gave no options.
+/// Why a command line gives no options.
 #[derive(Debug, Drop, Error)]
 pub enum OptionsError {
-    /// A wrong command line or a call for help, with `clap`'s text.
+    /// A wrong command line, or a call for help or the version, with `clap`'s text.
     #[error("{0}")]
     Usage(clap::Error),
     /// An allocation failed.

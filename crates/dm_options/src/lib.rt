@@ -1,4 +1,4 @@
-//! The command line of the program `dm`: what its words ask for.
+//! The command line of the program `dm`: its commands and arguments, and what the words of a line ask for.
 #![tactic(auto)]
 
 mod arguments;

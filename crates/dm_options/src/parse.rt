@@ -11,41 +11,45 @@ use clap::error::ErrorKind;
 use std::alloc::{AllocError, Global};
 use std::convert::AsStr;
 
-// `clap` gives each of these arguments a value, by the words or by a default. So the error of the readers below
-// stands for a failed allocation, which is what the caller reports.
+// `clap` gives each of these arguments a value, by the words or by a default. So the readers below never return
+// their error for a missing value, and the caller reports it as a failed allocation.
 
+/// The value of the argument `id`, a number below 2^64.
 fn number_u64(matches: &ArgMatches<'_>, id: &str) -> Result<u64, AllocError>
     ensures { IfOk result (HasNumber 64 (one_of id.now (rows_of (found_of matches.now)))) }
 {
     matches.get_one::<u64>(id).ok_or(AllocError)
 }
 
+/// The value of the argument `id`, a number below 2^32.
 fn number_u32(matches: &ArgMatches<'_>, id: &str) -> Result<u32, AllocError>
     ensures { IfOk result (HasNumber 32 (one_of id.now (rows_of (found_of matches.now)))) }
 {
     matches.get_one::<u32>(id).ok_or(AllocError)
 }
 
-/// Whether an option that has no value is given.
+/// Whether the option `id`, which has no value, is given.
 fn is_given(matches: &ArgMatches<'_>, id: &str) -> bool
     ensures { IsGiven (one_of id.now (rows_of (found_of matches.now))) result }
 {
     matches.get_flag(id)
 }
 
+/// The text of the argument `id`, which has a value in each line that `clap` accepts.
 fn text_of<'a>(matches: &ArgMatches<'a>, id: &str) -> Result<&'a str, AllocError>
     ensures { IfOk result (λ s. first_of id.now (rows_of (found_of matches.now)) ≡ Some s.now) }
 {
     matches.get_str(id).ok_or(AllocError)
 }
 
-/// A text that may be left out.
+/// The text of the option `id`; None if it is not given.
 fn text_if_any<'a>(matches: &ArgMatches<'a>, id: &str) -> Option<&'a str>
     ensures { first_of id.now (rows_of (found_of matches.now)) ≡ option_map (λ s. s.now) result }
 {
     matches.get_str(id)
 }
 
+/// The paths of the argument `FILES`. An `Err` is a failed allocation.
 fn files_of<'a>(alloc: Global, matches: &ArgMatches<'a>) -> Result<Vec<&'a str>, AllocError>
     ensures { IfOk result (λ v. all_of (codes "files") (rows_of (found_of matches.now)) ≡ Some (map (λ s. s.now) v.items)) }
 {
@@ -54,6 +58,7 @@ fn files_of<'a>(alloc: Global, matches: &ArgMatches<'a>) -> Result<Vec<&'a str>,
     Ok(files)
 }
 
+/// The options and files of `dm run`, `dm check` or the machine of `dm debug`. An `Err` is a failed allocation.
 fn machine_options<'a>(
     alloc: Global,
     matches: &ArgMatches<'a>,
@@ -76,6 +81,7 @@ fn machine_options<'a>(
     })
 }
 
+/// The options and files of `dm debug`. An `Err` is a failed allocation.
 fn debug_options<'a>(
     alloc: Global,
     matches: &ArgMatches<'a>,
@@ -87,6 +93,7 @@ fn debug_options<'a>(
     Ok(DebugOptions { machine, input })
 }
 
+/// The two paths of `dm asm`.
 fn asm_options<'a>(matches: &ArgMatches<'a>) -> Result<AsmOptions<'a>, AllocError>
     ensures { IfOk result (HasAsmOptions (rows_of (found_of matches.now))) }
 {
@@ -95,6 +102,7 @@ fn asm_options<'a>(matches: &ArgMatches<'a>) -> Result<AsmOptions<'a>, AllocErro
     Ok(AsmOptions { input, output })
 }
 
+/// The options of the subcommand with this name. An `Err` is a failed allocation; `clap` accepts no other names.
 fn read_subcommand<'a>(
     alloc: Global,
     name: &str,
@@ -112,7 +120,8 @@ fn read_subcommand<'a>(
     }
 }
 
-/// The options of the subcommand that was found.
+/// The options of the subcommand that `clap` found. An `Err` is a failed allocation; `clap` accepts no line without
+/// one.
 fn found_options<'a>(alloc: Global, matches: &ArgMatches<'a>) -> Result<Options<'a>, AllocError>
     ensures { IfOk result (λ o. IsSomeAnd (subcommand_rows_of matches.now) (λ g. HasOptions g o)) }
 {
@@ -133,8 +142,8 @@ fn found_options<'a>(alloc: Global, matches: &ArgMatches<'a>) -> Result<Options<
 ///
 /// # Errors
 ///
-/// `Usage` where `clap` finds a fault in the words, which a call for help is too; its kind is one of those that the
-/// first faulty step may have. `Memory` if an allocation failed.
+/// `Usage` if `clap` finds a fault in the words; a call for help or the version is one too. Its kind is one of those
+/// that the first fault may have. `Memory` if an allocation failed.
 pub fn options<'a, S: AsStr>(alloc: Global, words: &'a [S]) -> Result<Options<'a>, OptionsError>
     ensures ok { IfOk result (λ o. IsSomeAnd (subcommand_of dm_app (map S.text words.entry.now)) (λ g. HasOptions g o)) }
     ensures no_fault { OnOk result (fault_of dm_app (map S.text words.entry.now) ≡ []) }
@@ -156,7 +165,7 @@ pub fn options<'a, S: AsStr>(alloc: Global, words: &'a [S]) -> Result<Options<'a
     }
 }
 
-/// The error of a command line that has a word which is not UTF-8, and so can't be read, in `clap`'s words.
+/// The error for a command line with a word that is not UTF-8 and so cannot be read, in `clap`'s words.
 ///
 /// # Errors
 ///

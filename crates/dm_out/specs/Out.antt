@@ -3,30 +3,31 @@ use Rattle.std.specs.Prelude.{◌≡◌, ℕ, ◌+◌, ◌-◌, ◌^◌, ◌≤�
 use Rattle.std.specs.Prelude.{List, Option, Result, Ok, Err, length, take, min, if◌then◌else◌}
 use Rattle.std.specs.Io.KnownBytes.{Appends}
 
--- at this number the count of failures stays
+-- the highest count of failures, at which the count stays
 abbrev pub most_failures : ℕ
 most_failures = 2 ^ 64 - 1
 
--- the write failed, or took no byte
+-- whether a write with this result failed or took no byte
 abbrev pub took_nothing : {E : Type 0} → Result ℕ E → Bool
 took_nothing (Ok n) = n == 0
 took_nothing (Err e) = true
 
--- the count after a write of `bytes`: it rises where at least one byte was offered and none was taken
+-- the count of failures after a write of `bytes` with the result r: one higher if bytes were offered and none was taken
 abbrev pub count_after : {E : Type 0} → ℕ → List ℕ → Result ℕ E → ℕ
 count_after count bytes r =
     if not (length bytes == 0) && took_nothing r then min (count + 1) most_failures else count
 
--- the count after a call that either succeeds or fails, as a flush does: it rises where the call failed
+-- the count of failures after a call with this result, such as a flush: one higher if it failed
 abbrev pub count_after_call : {A E : Type 0} → ℕ → Result A E → ℕ
 count_after_call count (Ok x) = count
 count_after_call count (Err e) = min (count + 1) most_failures
 
--- exactly one call failed, or one write took nothing: the count rose by one, or stands at its end
+-- the count rose from `before` to `after` by exactly one failure, unless it was at its highest
 abbrev pub HasFailed : ℕ → ℕ → Type 0
 HasFailed before after = after ≡ min (before + 1) most_failures
 
--- the writer took a first part of `bytes`
+-- the bytes that the writer has taken grew, from `old` to `new`, by a first part of `bytes`; None where they are not
+-- known
 abbrev pub AppendsPart : Option (List ℕ) → Option (List ℕ) → List ℕ → Type 0
 AppendsPart old new bytes = (k : ℕ) × (k ≤ length bytes) × Appends old new (take k bytes)
 

@@ -22,14 +22,14 @@ impl<W: io::Write + Drop> Model for Sink<W> {
 }
 
 impl<W: io::Write + Drop> Sink<W> {
-    /// Starts over `writer` with no failure counted.
+    /// A sink over `writer`, with a count of 0 failures.
     pub fn new(writer: W) -> Sink<W>
         ensures { result ≡ record { bytes = W.contents writer; failures = 0 } }
     {
         Sink { writer, count: 0 }
     }
 
-    /// Counts one more failure, unless the count stands at 2^64 - 1.
+    /// Adds 1 to the count of failures; at 2^64 - 1 it stays.
     fn fail(&mut self)
         ensures { self.new ≡ record self.old { failures = min (self.old.failures + 1) most_failures } }
     {
@@ -42,7 +42,8 @@ impl<W: io::Write + Drop> Out for Sink<W> {
 
     ghost failures = { λ s. s.failures };
 
-    /// One write of the standard writer. Any of its errors is `Failed`.
+    /// Makes one write of the standard writer. Any of its errors is `Failed`; an error, or no byte taken, is counted if
+    /// `bytes` is not empty.
     fn write(&mut self, bytes: &[u8]) -> Result<usize, Failed> {
         match self.writer.write(bytes) {
             Ok(n) => {
@@ -60,7 +61,7 @@ impl<W: io::Write + Drop> Out for Sink<W> {
         }
     }
 
-    /// One flush of the standard writer. Any of its errors is `Failed`, and is counted.
+    /// Makes one flush of the standard writer. Any of its errors is `Failed`, and is counted.
     fn flush(&mut self) -> Result<(), Failed> {
         match self.writer.flush() {
             Ok(()) => Ok(()),

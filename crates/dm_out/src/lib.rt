@@ -1,4 +1,4 @@
-//! Writers of which a contract knows the bytes taken and the writes and flushes that failed.
+//! Writers whose contracts say which bytes were taken, and how many writes and flushes failed.
 #![tactic(auto)]
 
 pub mod adapter;

@@ -1,11 +1,11 @@
-//! What output is written to: the shape of the standard `Write`, with the bytes taken and the failures counted.
+//! The trait for what output is written to: like the standard `Write`, with the bytes taken and the failures counted.
 ghost use Rattle.std.specs.Prelude.{◌≡◌, ℕ, List, [], ◌≤◌, ◌<◌, Option, IsOk, IfOk, OnOk, OnErr, length, take};
 ghost use Rattle.std.specs.Io.KnownBytes.{Appends, Keeps, WriteAppends};
 ghost use Rattle.dm_out.specs.Out.{AppendsPart, HasFailed, count_after, count_after_call};
 
 use thiserror::Error;
 
-/// A write or a flush failed, or a write took nothing of what it was offered.
+/// A write or a flush failed, or a write took none of the bytes that it was offered.
 #[derive(Clone, Copy, Debug, PartialEq, Eq, Error)]
 #[error("a write failed")]
 pub struct Failed;
@@ -21,23 +21,23 @@ pub trait Out {
     // How many writes of at least one byte failed or took nothing, and how many flushes failed.
     ghost failures: { Self → ℕ };
 
-    /// Offers `bytes`, and returns how many of them, counted from the first, were taken. After an error none were.
+    /// Offers `bytes`, and returns how many of them, from the first on, were taken. With an error, none were.
     fn write(&mut self, bytes: &[u8]) -> Result<usize, Failed>
         ensures bound { IfOk result (λ n. n ≤ length bytes.now) }
         ensures bytes { WriteAppends (taken self.old) (taken self.new) result bytes.now }
         ensures failures { failures self.new ≡ count_after (failures self.old) bytes.now result };
 
-    /// Hands on what the writer holds back, so that whoever waits for it has it.
+    /// Passes on what the writer has buffered.
     fn flush(&mut self) -> Result<(), Failed>
         ensures bytes { Keeps (taken self.old) (taken self.new) }
         ensures failures { failures self.new ≡ count_after_call (failures self.old) result };
 }
 
-/// Writes all of `bytes`, by as many writes as it takes. An empty text makes no write.
+/// Writes all of `bytes`, with as many writes as it takes. If `bytes` is empty, makes no write.
 ///
 /// # Errors
 ///
-/// `Failed` at the first write that fails or takes nothing; what the earlier writes took stays taken.
+/// `Failed` at the first write that fails or takes no byte; what the earlier writes took stays taken.
 pub fn write_all<W: Out>(out: &mut W, bytes: &[u8]) -> Result<(), Failed>
     ensures ok { OnOk result (Appends (W.taken out.old) (W.taken out.new) bytes.now) }
     ensures no_failure { OnOk result (W.failures out.new ≡ W.failures out.old) }

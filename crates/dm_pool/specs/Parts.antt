@@ -6,7 +6,7 @@ use Rattle.dm_pool.specs.declared.part.Part.TheVariants.{Low, Scratch, Block}
 use Rattle.dm_pool.specs.Blocks.{with_content, IsLive}
 use Rattle.dm_pool.specs.Stored.{Stored}
 
--- the store has the part
+-- there is such a part: always the low bytes and the scratch bytes, a block if there is one with its number
 abbrev pub HasPart : Stored → Part → Type 0
 HasPart s Low = Unit {0}
 HasPart s Scratch = Unit {0}
@@ -18,14 +18,14 @@ part_bytes s Low = s.low
 part_bytes s Scratch = s.scratch
 part_bytes s (Block i) = get_or s.blocks.contents i []
 
--- the store with other bytes in a part
+-- the store with xs as the bytes of a part; the other parts stay
 abbrev pub with_part_bytes : Stored → Part → List ℕ → Stored
 with_part_bytes s Low xs = record s { low = xs }
 with_part_bytes s Scratch xs = record s { scratch = xs }
 with_part_bytes s (Block i) xs = record s { blocks = with_content s.blocks i xs }
 
--- the store with `len` bytes of one part, from its byte `from` on, copied to the place from byte `to` on of another or
--- the same
+-- the store with `len` bytes of one part, from its byte `from` on, copied over those from byte `to` on of another part
+-- or the same one (Store.copy)
 abbrev pub part_copied : Stored → Part → ℕ → Part → ℕ → ℕ → Stored
 part_copied s source from destination to len =
     with_part_bytes s destination (with_part (part_bytes s destination) to len (part (part_bytes s source) from len))

@@ -13,14 +13,15 @@ pub record Stored : Type 0 where
 abbrev pub IsTooLarge : Sizes → Type 0
 IsTooLarge sizes = (512 < sizes.ems_pages) ⊎ (15360 < sizes.xms_kib)
 
--- the units of the pool: 16 of them are a page
+-- the units of the pool of a store of these sizes: 16 for each page of expanded memory, one for each KiB of extended
+-- memory
 abbrev pub units_of : Sizes → ℕ
 units_of sizes = 16 * sizes.ems_pages + sizes.xms_kib
 
--- so many zeros. (A definition that stays closed: the prover would else write all of them out.)
+-- n zeros. (A definition that stays closed: the prover would else write all of them out.)
 unfoldable pub zeros_of : ℕ → List ℕ
 zeros_of n = replicate n 0
 
--- a slice keeps its length, so this is what the borrower leaves
+-- what a slice that held `old` holds once `new` is written: the length of `old`, since a slice keeps its length
 abbrev pub refit : List ℕ → List ℕ → List ℕ
 refit old new = take (length old) (new ++ drop (length new) old)

@@ -23,6 +23,7 @@ impl Model for Block {
 }
 
 impl Block {
+    /// The block with the number `slot`, 0 to 575.
     pub(crate) fn new(slot: usize) -> Block
         requires { slot < 576 }
         ensures { result ≡ slot }
@@ -30,6 +31,7 @@ impl Block {
         Block { slot }
     }
 
+    /// The number of the block, 0 to 575.
     pub(crate) fn slot(self) -> usize
         ensures value { result ≡ self }
         ensures small { result < 576 }

@@ -1,9 +1,9 @@
-//! Where blocks lie.
+//! The place of a block in a pool.
 
 /// How many bytes a unit has.
 pub const UNIT: usize = 1024;
 
-/// Where a block lies.
+/// Where a block lies in a pool, in units of 1 KiB from the pool's first.
 #[derive(Clone, Copy)]
 pub struct Extent {
     /// Its first unit.

@@ -6,9 +6,9 @@ pub fn lowest_gap_is_first_fit()
     ensures { LowestIsFirstFit }
 {}
 
-/// The law that blocks which are promised come: of blocks of so many units, taken one after the other, all come exactly
-/// where as many numbers have no block and the gaps count for as many, each for its units divided by those of a block,
-/// rounded down.
+/// The law that says how many blocks can be taken: `n` blocks of `u` units, `u` at least 1, taken one after the other,
+/// all come exactly where `n` numbers have no block and the gaps hold `n` such blocks, each gap as many as its units
+/// divided by `u`, rounded down.
 pub fn blocks_come()
     ensures { BlocksCome }
 {}

@@ -1,4 +1,5 @@
-//! Blocks of units, and the bytes of a machine.
+//! The bytes of a machine in one store: low memory, scratch bytes, and a pool from which blocks of expanded and
+//! extended memory are taken, in units of 1 KiB.
 #![tactic(auto)]
 
 mod block;

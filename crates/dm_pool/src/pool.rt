@@ -1,4 +1,4 @@
-//! Blocks that come, go and change their size, over a table of blocks and the bytes of the pool.
+//! How blocks are taken, given back and resized, over the table of blocks and the bytes of the pool.
 ghost use Rattle.std.specs.Prelude.{◌≡◌, ◌+◌, ◌*◌, ◌^◌, ◌<◌, ◌≤◌, true, set, length, IfSome, MatchOption};
 ghost use Rattle.std.specs.Bool.{MatchBool};
 ghost use Rattle.dm_region.specs.Parts.{with_part};
@@ -10,7 +10,8 @@ use crate::extent::{Extent, UNIT};
 use crate::runs::{first_fit, spell};
 use crate::table::Table;
 
-/// The low end of the lowest gap that holds so many units; no unit lies at 0.
+/// The first unit of the lowest gap that holds `units` units, 0 for no unit; None if no gap holds them. `bytes` are
+/// those of the pool.
 fn lowest_gap(table: &Table, bytes: &[u8], units: usize) -> Option<usize>
     requires { IsToldIn table.now bytes.now }
     ensures lowest { result ≡ lowest table.now.places table.now.units units }
@@ -22,7 +23,7 @@ fn lowest_gap(table: &Table, bytes: &[u8], units: usize) -> Option<usize>
     first_fit(table, bytes, units)
 }
 
-/// Writes zeros into so many units from a unit on.
+/// Writes zeros into the `units` units of the pool from the unit `base` on.
 fn clear(bytes: &mut [u8], base: usize, units: usize)
     requires { (base * 1024 + units * 1024 ≤ length bytes.old) × (base + units < 2 ^ 31) }
     ensures { bytes.new ≡ with_part bytes.old (base * 1024) (units * 1024) (zeros units) }
@@ -31,7 +32,8 @@ fn clear(bytes: &mut [u8], base: usize, units: usize)
     bytes[from..from + units * UNIT].fill(0);
 }
 
-/// Writes the free runs anew, as the table has them now.
+/// Writes the free list anew for the blocks that the table has now: the runs into the free bytes of the pool, the first
+/// unit of the first run into the table. The blocks, their places and their bytes stay.
 fn retell(table: &mut Table, bytes: &mut [u8])
     requires { length bytes.old ≡ table.old.units * 1024 }
     ensures told { IsToldIn table.new bytes.new }
@@ -43,8 +45,9 @@ fn retell(table: &mut Table, bytes: &mut [u8])
     table.set_first(first);
 }
 
-/// Takes a block of so many units, all zeros, in the lowest gap that holds them. None where no gap does, or where there
-/// are as many blocks as can be.
+/// Takes a block of `units` units, all zeros, in the lowest gap that holds them: enters it into the table, clears its
+/// bytes and writes the free list anew. Returns its number, the lowest that was free. None where no gap holds it, or
+/// where all 576 numbers are taken; then nothing has changed.
 pub(crate) fn take(table: &mut Table, bytes: &mut [u8], units: usize) -> Option<usize>
     requires { IsToldIn table.old bytes.old }
     ensures told { IsToldIn table.new bytes.new }
@@ -61,7 +64,8 @@ pub(crate) fn take(table: &mut Table, bytes: &mut [u8], units: usize) -> Option<
     Some(slot)
 }
 
-/// Gives a block back.
+/// Gives the block with the number `slot` back: removes it from the table and writes the free list anew. The other
+/// blocks stay as they are.
 pub(crate) fn give(table: &mut Table, bytes: &mut [u8], slot: usize)
     requires told { IsToldIn table.old bytes.old }
     requires live { IsLive (blocks_in table.old bytes.old) slot }
@@ -74,8 +78,9 @@ pub(crate) fn give(table: &mut Table, bytes: &mut [u8], slot: usize)
     retell(table, bytes);
 }
 
-/// Where a block is to lie that gets so many units: where it is, if the units there are its own or free, else in the
-/// lowest gap, its own units counted as taken.
+/// The first unit that the block with the number `slot` gets if it is resized to `units` units: its own if the units
+/// there are its own or free, else that of the lowest gap that holds them, its old place counted as taken. 0 for no
+/// unit; None if there is no place for it.
 fn new_base(table: &Table, bytes: &[u8], slot: usize, units: usize) -> Option<usize>
     requires told { IsToldIn table.now bytes.now }
     requires live { IsLive (blocks_in table.now bytes.now) slot }
@@ -93,7 +98,8 @@ fn new_base(table: &Table, bytes: &[u8], slot: usize, units: usize) -> Option<us
     first_fit(table, bytes, units)
 }
 
-/// Moves a block's bytes to another place; what is new there is zeros.
+/// Copies a block's bytes, up to the smaller size, from one place of the pool to another, which may overlap the first,
+/// and fills the rest of the new place with zeros.
 fn move_block(bytes: &mut [u8], from: Extent, to: Extent)
     requires source { from.base * 1024 + from.units * 1024 ≤ length bytes.old }
     requires destination { to.base * 1024 + to.units * 1024 ≤ length bytes.old }
@@ -106,8 +112,9 @@ fn move_block(bytes: &mut [u8], from: Extent, to: Extent)
     clear(bytes, to.base + kept, to.units - kept);
 }
 
-/// Gives a block another size: bytes up to the smaller size stay, new ones are zeros. False where neither its place nor
-/// a gap holds it, and then nothing has changed.
+/// Gives the block with the number `slot` another size, and another place where `new_base` says so: bytes up to the
+/// smaller size stay, new ones are zeros. The free list is written anew; the other blocks stay as they are. False where
+/// no place holds it, and then nothing has changed.
 pub(crate) fn resize(table: &mut Table, bytes: &mut [u8], slot: usize, units: usize) -> bool
     requires told { IsToldIn table.old bytes.old }
     requires live { IsLive (blocks_in table.old bytes.old) slot }

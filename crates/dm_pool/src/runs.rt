@@ -1,5 +1,5 @@
-//! Free runs, kept in the free bytes themselves. A run begins with its length in units and the unit where the next run
-//! begins, four bytes each, low byte first; FFFFFFFFh stands for no run.
+//! The free list: the free runs of the pool, kept in the free bytes themselves. A run begins with its length in units
+//! and the unit where the next run begins, four bytes each, low byte first; FFFFFFFFh stands for no run.
 ghost use Rattle.std.specs.Prelude.{◌≡◌, ℕ, ◌+◌, ◌-◌, ◌*◌, ◌^◌, ◌<◌, ◌≤◌, length};
 ghost use Rattle.dm_pool.specs.Blocks.{contents_of};
 ghost use Rattle.dm_pool.specs.FreeList.{double_word};
@@ -11,7 +11,7 @@ use crate::extent::{Extent, UNIT};
 use crate::table::Table;
 use byteorder::{ByteOrder, LittleEndian};
 
-/// Where no run is.
+/// In the place of a run's first unit: there is no run.
 const NOWHERE: u32 = u32::MAX;
 
 /// The free runs of a pool, as its bytes list them: the first four bytes of a run are its length in units, the next
@@ -24,15 +24,16 @@ pub struct RunList<'a> {
     pub first: u32,
 }
 
-/// A run of free units.
+/// The first eight bytes of a run of free units.
 #[derive(Clone, Copy)]
 pub(crate) struct FreeRun {
+    /// Its length in units.
     pub(crate) units: u32,
-    /// Where the next run begins.
+    /// The unit where the next run begins, `NOWHERE` if there is none.
     pub(crate) next: u32,
 }
 
-/// The run that begins at a unit.
+/// The first eight bytes of the free run that begins at a unit of the pool.
 pub(crate) fn run_at(bytes: &[u8], unit: usize) -> FreeRun
     requires { (unit * 1024 + 8 ≤ length bytes.now) × (unit < 2 ^ 31) }
     ensures { (result.units ≡ double_word bytes.now (unit * 1024)) × (result.next ≡ double_word bytes.now (unit * 1024 + 4)) }
@@ -44,7 +45,7 @@ pub(crate) fn run_at(bytes: &[u8], unit: usize) -> FreeRun
     }
 }
 
-/// Writes a number into four bytes, low byte first.
+/// Writes a number into the four bytes from `at` on, low byte first. The other bytes stay.
 fn write_word(bytes: &mut [u8], at: usize, value: u32)
     requires { at + 4 ≤ length bytes.old }
     ensures value { double_word bytes.new at ≡ value }
@@ -53,7 +54,8 @@ fn write_word(bytes: &mut [u8], at: usize, value: u32)
     LittleEndian::write_u32(&mut bytes[at..at + 4], value);
 }
 
-/// Writes the beginning of the run at a unit.
+/// Writes the length of a free run and where the next one begins into the first eight bytes of a unit. The other bytes
+/// stay.
 fn write_run(bytes: &mut [u8], unit: usize, run: FreeRun)
     requires { (unit * 1024 + 8 ≤ length bytes.old) × (unit < 2 ^ 31) }
     ensures units { double_word bytes.new (unit * 1024) ≡ run.units }
@@ -65,7 +67,7 @@ fn write_run(bytes: &mut [u8], unit: usize, run: FreeRun)
     write_word(bytes, at + 4, run.next);
 }
 
-/// The highest of the first `rest` blocks of the order; one of no unit at 0 where `rest` is 0.
+/// The highest of the first `rest` blocks of the table's order; for a `rest` of 0, a place of no unit at unit 0.
 fn highest(table: &Table, rest: usize) -> Extent
     requires { rest ≤ length table.now.order }
     ensures below { (end : ℕ) → IsCut table.now.places table.now.order rest end → IsBelow table.now.places end result }
@@ -78,7 +80,8 @@ fn highest(table: &Table, rest: usize) -> Extent
     table.nth(rest - 1)
 }
 
-/// Writes all free runs, from the highest down, and returns where the first one begins.
+/// Writes the beginnings of all free runs into the free bytes of the pool, from the highest down. Returns the unit
+/// where the lowest one begins, `NOWHERE` if there is none. The bytes of the blocks stay.
 pub(crate) fn spell(table: &Table, bytes: &mut [u8]) -> u32
     requires { length bytes.old ≡ table.now.units * 1024 }
     ensures contents { contents_of table.now.places bytes.new ≡ contents_of table.now.places bytes.old }
@@ -102,7 +105,8 @@ pub(crate) fn spell(table: &Table, bytes: &mut [u8]) -> u32
     next
 }
 
-/// Where the lowest run of so many units begins. It walks the runs that the free bytes list.
+/// The unit where the lowest free run of at least `wanted` units begins, None if there is none. It follows the free
+/// list.
 pub(crate) fn first_fit(table: &Table, bytes: &[u8], wanted: usize) -> Option<usize>
     requires told { IsToldIn table.now bytes.now }
     requires some { 0 < wanted }
@@ -120,7 +124,7 @@ pub(crate) fn first_fit(table: &Table, bytes: &[u8], wanted: usize) -> Option<us
     None
 }
 
-/// How many units are in no block.
+/// How many units are in no block. It follows the free list.
 pub(crate) fn free_units(table: &Table, bytes: &[u8]) -> usize
     requires { IsToldIn table.now bytes.now }
     ensures { result ≡ free_units (gaps table.now.places table.now.units) }
@@ -136,7 +140,7 @@ pub(crate) fn free_units(table: &Table, bytes: &[u8]) -> usize
     sum
 }
 
-/// The units of the largest gap, 0 if there is none.
+/// The units of the largest gap, 0 if there is none. It follows the free list.
 pub(crate) fn largest(table: &Table, bytes: &[u8]) -> usize
     requires { IsToldIn table.now bytes.now }
     ensures { result ≡ largest (gaps table.now.places table.now.units) }
@@ -152,7 +156,7 @@ pub(crate) fn largest(table: &Table, bytes: &[u8]) -> usize
     most
 }
 
-/// How many blocks of so many units fit into the gaps, one after the other.
+/// How many blocks of `units` units fit into the gaps, each whole in one gap. It follows the free list.
 pub(crate) fn count_fitting(table: &Table, bytes: &[u8], units: usize) -> usize
     requires told { IsToldIn table.now bytes.now }
     requires some { 0 < units }

@@ -22,16 +22,16 @@ use std::alloc::{AllocError, Global};
 use std::marker::Model;
 use thiserror::Error;
 
-/// How many bytes have a linear address of their own, up to the end of the high memory area.
+/// How many bytes have a linear address: 0 to 10FFFFh, so that the high memory area is among them.
 const LOW: usize = 0x11_0000;
 
-/// How many bytes have no address: what is put together out of sight stands in them.
+/// How many scratch bytes there are: 2 MiB. They have no address, and no program sees them.
 const SCRATCH: usize = 0x20_0000;
 
 /// How many units a page of expanded memory has.
 const PAGE_UNITS: usize = 16;
 
-/// Where the pool begins.
+/// The byte of the region where the pool begins.
 const POOL: usize = LOW + SCRATCH;
 
 /// Low memory, scratch bytes and a pool of blocks, in one allocation that is given back when the store is dropped.
@@ -63,7 +63,7 @@ pub enum NewError {
     Memory,
 }
 
-/// A region of zeros. (A function of its own, so that no proof of a large one writes them out.)
+/// A region of `len` zeros. (A function of its own, so that no proof of a large one writes them out.)
 #[tactic(auto, unfolding(crate::specs::Stored::zeros_of))]
 fn blank(alloc: Global, len: usize) -> Result<Region, AllocError>
     ensures { IfOk result (λ region. region ≡ zeros_of len) }
@@ -71,7 +71,7 @@ fn blank(alloc: Global, len: usize) -> Result<Region, AllocError>
     Region::new(alloc, len)
 }
 
-/// A store of zeros, whose pool has so many units and no block.
+/// A store of zeros, whose pool has `units` units and no block.
 fn store_of(alloc: Global, units: usize) -> Result<Store, AllocError>
     requires { units < 2 ^ 31 }
     ensures low { IfOk result (λ store. store.low ≡ zeros_of 0x110000) }
@@ -93,7 +93,7 @@ fn pool_len(table: &Table) -> usize
     table.units() * UNIT
 }
 
-/// Where a block lies.
+/// Where a block lies in the pool.
 fn place_of(table: &Table, block: Block) -> Extent
     requires { (b : _) × (get_or table.now.places block None ≡ Some b) }
     ensures place { get_or table.now.places block None ≡ Some result }
@@ -104,7 +104,7 @@ fn place_of(table: &Table, block: Block) -> Extent
     table.place(block.slot())
 }
 
-/// Where a part begins in the region.
+/// The byte of the region where a part begins.
 fn start_of(table: &Table, part: Part) -> usize
     requires { IsLaidOut table.now part }
     ensures span { (n : _) × IsSpan table.now part result n }
@@ -140,7 +140,7 @@ impl Store {
         }
     }
 
-    /// The bytes of low memory.
+    /// The 110000h bytes of low memory, by linear address.
     #[inline(always)]
     pub fn low(&self) -> &[u8]
         ensures value { result.now ≡ self.now.low }
@@ -149,7 +149,7 @@ impl Store {
         self.region.part(0, LOW)
     }
 
-    /// The bytes of low memory, lent to be written.
+    /// The 110000h bytes of low memory, by linear address, lent to be written.
     #[inline(always)]
     pub fn low_mut(&mut self) -> &mut [u8]
         ensures* writes_back { sem 𝓛 (LendsLow self.entry result) }
@@ -159,7 +159,7 @@ impl Store {
         self.region.part_mut(0, LOW)
     }
 
-    /// The scratch bytes.
+    /// The 200000h scratch bytes.
     pub fn scratch(&self) -> &[u8]
         ensures value { result.now ≡ self.now.scratch }
         ensures length { length result.now ≡ 0x200000 }
@@ -167,7 +167,7 @@ impl Store {
         self.region.part(LOW, SCRATCH)
     }
 
-    /// The scratch bytes, lent to be written.
+    /// The 200000h scratch bytes, lent to be written.
     pub fn scratch_mut(&mut self) -> &mut [u8]
         ensures* writes_back { sem 𝓛 (LendsScratch self.entry result) }
         ensures value { result.now ≡ self.old.scratch }
@@ -176,7 +176,7 @@ impl Store {
         self.region.part_mut(LOW, SCRATCH)
     }
 
-    /// The number of a block that is taken.
+    /// Takes a block of `units` units as `take` does, and returns its number.
     fn take_slot(&mut self, units: usize) -> Option<usize>
         ensures taken { MatchOption result ((taken self.old.blocks units ≡ None) × (self.new ≡ self.old)) (λ slot. (taken self.old.blocks units ≡ Some (slot, self.new.blocks)) × (self.new ≡ record self.old { blocks = self.new.blocks })) }
         ensures small { IfSome result (λ slot. slot < 576) }
@@ -185,7 +185,7 @@ impl Store {
         pool::take(&mut self.table, self.region.part_mut(POOL, len), units)
     }
 
-    /// Takes a block of so many units of 1 KiB, all zeros, in the lowest gap that holds them; a block of no unit needs
+    /// Takes a block of `units` units of 1 KiB, all zeros, in the lowest gap that holds them; a block of no unit needs
     /// no gap. None where no gap holds them, or where there are 576 blocks; then nothing has changed.
     pub fn take(&mut self, units: usize) -> Option<Block>
         ensures { MatchOption result ((taken self.old.blocks units ≡ None) × (self.new ≡ self.old)) (λ block. (taken self.old.blocks units ≡ Some (block, self.new.blocks)) × (self.new ≡ record self.old { blocks = self.new.blocks })) }
@@ -196,7 +196,8 @@ impl Store {
         }
     }
 
-    /// Gives a block back. Its units are free then, together with the free ones beside them.
+    /// Gives a block back. Its units are free then, in one gap with the free ones beside them; the other blocks stay as
+    /// they are.
     pub fn give(&mut self, block: Block)
         requires { IsLive self.old.blocks block }
         ensures { self.new ≡ record self.old { blocks = without self.old.blocks block } }
@@ -329,7 +330,7 @@ impl Store {
         }
     }
 
-    /// How many blocks of so many units fit into the gaps, one after the other.
+    /// How many blocks of `units` units, at least 1, fit into the gaps, each whole in one gap.
     pub fn count_fitting(&self, units: usize) -> usize
         requires { 0 < units }
         ensures { result ≡ count_fitting units (gaps self.now.blocks.places self.now.blocks.units) }

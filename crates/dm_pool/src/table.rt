@@ -1,4 +1,5 @@
-//! Where blocks lie: by their numbers, and in the order in which they lie.
+//! The table of a pool: where each block lies, by its number; the order in which the blocks lie; and where the free
+//! list begins.
 ghost use Rattle.std.specs.Prelude.{◌≡◌, ◌↔◌, IsTrue, ℕ, ◌+◌, ◌^◌, ◌<◌, ◌≤◌, true, false, Some, None, get_or, set, length, replicate, IfSome, MatchOption};
 ghost use Rattle.dm_pool.specs.Gaps.{is_clear, is_free, first_empty};
 ghost use Rattle.dm_pool.specs.inner.Order.{no_layout, IsNth, IsOrder, IsTable};
@@ -10,14 +11,14 @@ use std::marker::Model;
 /// The most blocks of a pool.
 pub(crate) const SLOTS: usize = 576;
 
-/// Where the blocks of a pool lie.
+/// Where the blocks of a pool of `units` units lie; None for a number that has no block.
 #[derive(Drop)]
 pub(crate) struct Table {
     units: usize,
     places: [Option<Extent>; SLOTS],
-    /// The numbers of the blocks that have units, as they lie.
+    /// The numbers of the blocks that have units, rising by the place of the block.
     order: ArrayVec<u16, SLOTS>,
-    /// Where the first free run is.
+    /// The unit where the first free run begins, `u32::MAX` for none.
     first: u32,
 }
 
@@ -31,7 +32,7 @@ impl Model for Table {
     ghost invariant = { λ t. IsTable (record { units = t.units; places = t.places; order = t.order.items; first = t.first }) };
 }
 
-/// No block.
+/// A table with no block for a pool of `units` units. It does not say yet where the first free run begins.
 #[tactic(auto, unfolding(crate::specs::inner::Order::no_layout))]
 fn no_blocks(units: usize) -> Table
     requires { units < 2 ^ 31 }
@@ -45,7 +46,8 @@ fn no_blocks(units: usize) -> Table
     }
 }
 
-/// How many of the blocks of an order begin below a unit: those are the first ones.
+/// How many blocks of `order` begin below the unit `base`: as blocks are in rising order, the position where a block
+/// with that base comes.
 fn rank(places: &[Option<Extent>], order: &[u16], base: usize) -> usize
     requires order { IsOrder places.now order.now }
     requires count { length places.now ≡ 576 }
@@ -65,7 +67,7 @@ fn rank(places: &[Option<Extent>], order: &[u16], base: usize) -> usize
     order.len()
 }
 
-/// The lowest number that has no block.
+/// The lowest number that has no block, None if each number has one.
 fn first_empty(places: &[Option<Extent>]) -> Option<usize>
     ensures first { result ≡ first_empty places.now }
     ensures vacant { IfSome result (λ i. (i < length places.now) × (get_or places.now i None ≡ None)) }
@@ -79,7 +81,7 @@ fn first_empty(places: &[Option<Extent>]) -> Option<usize>
     None
 }
 
-/// Whether no block but the one with a number has a unit among so many from a unit on.
+/// Whether none of the `units` units from `from` on is in a block, that with the number `slot` left aside.
 fn is_clear_but(places: &[Option<Extent>], slot: usize, from: usize, units: usize) -> bool
     requires bounded { (i : ℕ) (b : _) → get_or places.now i None ≡ Some b → b.base + b.units < 2 ^ 31 }
     requires range { from + units < 2 ^ 31 }
@@ -99,7 +101,7 @@ fn is_clear_but(places: &[Option<Extent>], slot: usize, from: usize, units: usiz
     true
 }
 
-/// A block comes into the order, if it has units.
+/// Puts the number of a block that lies at `place` into the order, at its position, if the block has units.
 fn order_in(order: &mut ArrayVec<u16, SLOTS>, places: &[Option<Extent>], slot: usize, place: Extent)
     requires order { IsOrder places.now order.old.items }
     requires count { length places.now ≡ 576 }
@@ -113,7 +115,7 @@ fn order_in(order: &mut ArrayVec<u16, SLOTS>, places: &[Option<Extent>], slot: u
     }
 }
 
-/// A block goes from the order, if it has units.
+/// Takes the number of a block that lies at `place` out of the order, if the block has units.
 fn order_out(
     order: &mut ArrayVec<u16, SLOTS>,
     places: &[Option<Extent>],
@@ -132,7 +134,7 @@ fn order_out(
 }
 
 impl Table {
-    /// A table with no block, for so many units.
+    /// A table with no block for a pool of `units` units. It does not say yet where the first free run begins.
     pub(crate) fn new(units: usize) -> Table
         requires { units < 2 ^ 31 }
         ensures { result ≡ no_layout units }
@@ -148,28 +150,28 @@ impl Table {
         let _units = self.units;
     }
 
-    /// The units of the pool.
+    /// How many units the pool has.
     pub(crate) fn units(&self) -> usize
         ensures { result ≡ self.now.units }
     {
         self.units
     }
 
-    /// Where the first free run is, `u32::MAX` for none.
+    /// The unit where the first free run begins, `u32::MAX` for none.
     pub(crate) fn first(&self) -> u32
         ensures { result ≡ self.now.first }
     {
         self.first
     }
 
-    /// Keeps where the first free run is.
+    /// Sets the unit where the first free run begins, `u32::MAX` for none.
     pub(crate) fn set_first(&mut self, first: u32)
         ensures { self.new ≡ record self.old { first = first } }
     {
         self.first = first;
     }
 
-    /// Whether there is a block with a number.
+    /// Whether there is a block with the number `slot`.
     pub(crate) fn has(&self, slot: usize) -> bool
         requires { slot < 576 }
         ensures { IsTrue result ↔ ((b : _) × (get_or self.now.places slot None ≡ Some b)) }
@@ -180,7 +182,7 @@ impl Table {
         }
     }
 
-    /// Where the block with a number lies.
+    /// Where the block with the number `slot` lies.
     pub(crate) fn place(&self, slot: usize) -> Extent
         requires { (slot < 576) × ((b : _) × (get_or self.now.places slot None ≡ Some b)) }
         ensures { get_or self.now.places slot None ≡ Some result }
@@ -198,7 +200,7 @@ impl Table {
         self.order.len()
     }
 
-    /// The block at a position of the order.
+    /// Where the block at a position of the order lies.
     pub(crate) fn nth(&self, position: usize) -> Extent
         requires { position < length self.now.order }
         ensures { IsNth self.now.places self.now.order position result }
@@ -210,7 +212,7 @@ impl Table {
         }
     }
 
-    /// The lowest number that has no block.
+    /// The lowest number that has no block, None if each of the 576 has one.
     pub(crate) fn first_empty(&self) -> Option<usize>
         ensures first { result ≡ first_empty self.now.places }
         ensures vacant { IfSome result (λ i. (i < 576) × (get_or self.now.places i None ≡ None)) }
@@ -218,7 +220,8 @@ impl Table {
         first_empty(&self.places)
     }
 
-    /// Whether so many units from a unit on are in the pool, and free once the block with a number has gone.
+    /// Whether the `units` units from `from` on are in the pool and in no block, that with the number `slot` left
+    /// aside.
     pub(crate) fn is_free_but(&self, slot: usize, from: usize, units: usize) -> bool
         requires { from ≤ self.now.units }
         ensures { result ≡ is_free (set self.now.places slot None) self.now.units units from }
@@ -229,7 +232,8 @@ impl Table {
         is_clear_but(&self.places, slot, from, units)
     }
 
-    /// A block comes. It gets a number that has no block.
+    /// Enters a block at `place` under `slot`, a number that has no block. Where the first free run begins is not
+    /// changed.
     pub(crate) fn put(&mut self, slot: usize, place: Extent)
         requires vacant { (slot < 576) × (get_or self.old.places slot None ≡ None) }
         requires within { place.base + place.units ≤ self.old.units }
@@ -243,7 +247,7 @@ impl Table {
         self.places[slot] = Some(place);
     }
 
-    /// The block with a number goes.
+    /// Removes the block with the number `slot`. Where the first free run begins is not changed.
     pub(crate) fn remove(&mut self, slot: usize)
         requires { (slot < 576) × ((b : _) × (get_or self.old.places slot None ≡ Some b)) }
         ensures places { self.new.places ≡ set self.old.places slot None }

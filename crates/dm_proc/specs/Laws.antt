@@ -1,4 +1,5 @@
--- Laws of the definitions: each call has one result, and none depends on what no program sees.
+-- Laws of the definitions: each call has one result, a loaded program stays loaded, and no call depends on bytes that
+-- no program can see.
 use Rattle.std.specs.Prelude.{◌≡◌, ℕ, Bool, List, Result, Ok}
 use Rattle.dm_space.specs.Memory.{Memory}
 use Rattle.dm_space.specs.Unseen.{IsUnseen}
@@ -29,7 +30,7 @@ OverlayHasOneAnswer =
     (c : Cpu) (m : Memory) (store : List (List ℕ × List ℕ)) (r q : Result (Unit {0}) ExecRefusal) (m₁ m₂ : Memory) →
     Overlays c m store r m₁ → Overlays c m store q m₂ → (r ≡ q) × (m₁ ≡ m₂)
 
--- ending a process has one result, and leaves one state
+-- ending a process with an exit code (4Ch) has one result, and leaves one state
 abbrev pub TerminatingHasOneAnswer : Type 0
 TerminatingHasOneAnswer =
     (upper : Bool) (ps : Processes) (c : Cpu) (m : Memory) (code : ℕ) (r q : Result Ending ArenaDestroyed) (ps₁ ps₂ : Processes) (c₁ c₂ : Cpu) (m₁ m₂ : Memory) →
@@ -41,7 +42,7 @@ KeepingHasOneAnswer =
     (upper : Bool) (ps : Processes) (c : Cpu) (m : Memory) (code paragraphs : ℕ) (r q : Result Ending ArenaDestroyed) (ps₁ ps₂ : Processes) (c₁ c₂ : Cpu) (m₁ m₂ : Memory) →
     Keeps upper ps c m code paragraphs r ps₁ c₁ m₁ → Keeps upper ps c m code paragraphs q ps₂ c₂ m₂ → (r ≡ q) × (ps₁ ≡ ps₂) × (c₁ ≡ c₂) × (m₁ ≡ m₂)
 
--- a loaded program stays loaded, whatever is called; the load of the first one makes it so
+-- once a program is loaded, each call leaves one loaded; and loading the first program does
 pub record CallsKeepLoaded : Type 0 where
   pub exec : (upper : Bool) (ps : Processes) (c : Cpu) (m : Memory) (store : List (List ℕ × List ℕ)) (strategy : Strategy) (r : Result (Unit {0}) ExecRefusal) (qs : Processes) (d : Cpu) (n : Memory) →
       Executes upper ps c m store strategy r qs d n → AreLoaded ps → AreLoaded qs
@@ -52,7 +53,7 @@ pub record CallsKeepLoaded : Type 0 where
   pub keeping : (upper : Bool) (ps : Processes) (c : Cpu) (m : Memory) (code paragraphs : ℕ) (r : Result Ending ArenaDestroyed) (qs : Processes) (d : Cpu) (n : Memory) →
       Keeps upper ps c m code paragraphs r qs d n → AreLoaded ps → AreLoaded qs
 
--- no call depends on what no program sees, or changes it
+-- each call gives the same result on memory with this change as without it, and leaves the same but for the change
 pub record CallsIgnoreUnseen (change : Memory → Memory) : Type 0 where
   pub exec : (upper : Bool) (ps : Processes) (c : Cpu) (m : Memory) (store : List (List ℕ × List ℕ)) (strategy : Strategy) (r : Result (Unit {0}) ExecRefusal) (qs : Processes) (d : Cpu) (n : Memory) →
       Executes upper ps c m store strategy r qs d n → Executes upper ps c (change m) store strategy r qs d (change n)
@@ -65,6 +66,6 @@ pub record CallsIgnoreUnseen (change : Memory → Memory) : Type 0 where
   pub keeping : (upper : Bool) (ps : Processes) (c : Cpu) (m : Memory) (code paragraphs : ℕ) (r : Result Ending ArenaDestroyed) (qs : Processes) (d : Cpu) (n : Memory) →
       Keeps upper ps c m code paragraphs r qs d n → Keeps upper ps c (change m) code paragraphs r qs d (change n)
 
--- each change of memory that no program sees leaves each call what it is
+-- the calls neither depend on bytes that no program can see nor change them
 abbrev pub IgnoresUnseen : Type 0
 IgnoresUnseen = (change : Memory → Memory) → IsUnseen change → CallsIgnoreUnseen change

@@ -1,8 +1,8 @@
--- A store of named programs (this machine's own).
+-- A store of named programs (this machine's own): a list of names and of the bytes of their files.
 use Rattle.std.specs.Prelude.{ℕ, ◌<◌, ◌≤◌, Bool, List, Option, Contains, find, is_some, length, option_map}
 use Rattle.std.specs.Str.{str_eq_ignore_ascii_case}
 
--- the bytes of the first program with this name, ASCII case ignored
+-- the bytes of the first program with this name, ASCII case ignored; None if the store has none
 abbrev pub program_of : List (List ℕ × List ℕ) → List ℕ → Option (List ℕ)
 program_of store name = option_map (λ p. p.1) (find (λ p. str_eq_ignore_ascii_case p.0 name) store)
 

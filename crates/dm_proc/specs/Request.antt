@@ -1,5 +1,5 @@
--- What function 4Bh reads of the registers and of guest memory: MS-DOS Programmer's Reference, function 4Bh "Load and
--- Execute Program". Offsets wrap in their segment.
+-- What function 4Bh reads of the registers c and of guest memory m: MS-DOS Programmer's Reference, function 4Bh "Load
+-- and Execute Program". Offsets wrap in their segment.
 use Rattle.std.specs.Prelude.{◌≡◌, ℕ, ◌+◌, ◌%◌, ◌<◌, ◌≤◌, ◌⊎◌, min, List, length, Some, None, ◌==◌, if◌then◌else◌}
 use Rattle.dm_space.specs.Memory.{Memory, linear, peek, peek16}
 use Rattle.dm_space.specs.EightBytes.{byte_after}
@@ -12,62 +12,66 @@ use Rattle.dm_proc.specs.Programs.{program_of}
 use Rattle.dm_proc.specs.Writes.{bytes_from}
 use Rattle.dm_proc.specs.declared.arguments.Arguments.{Arguments}
 
--- AL, which says what the function is to do
+-- AL, the number of the action: 0 loads and starts a program, 3 loads an overlay
 abbrev pub action : Cpu → ℕ
 action c = c.ax % 256
 
--- the name at segment:offset: at most 64 bytes, up to the first zero
+-- the name at segment:offset: the bytes up to the first zero, at most 64
 pub record IsNameAt (m : Memory) (segment offset : ℕ) (name : List ℕ) : Type 0 where
   pub short : length name ≤ 64
   pub bytes : name ≡ bytes_from m segment offset (length name)
   pub before : (k : ℕ) → k < length name → byte_after m segment offset k ≡ 0 → ⊥
   pub closed : byte_after m segment offset (length name) ≡ 0
 
--- none of 65 bytes is zero
+-- there is no name at segment:offset: none of the first 65 bytes is zero
 abbrev pub NoNameAt : Memory → ℕ → ℕ → Type 0
 NoNameAt m segment offset = (k : ℕ) → k < 65 → byte_after m segment offset k ≡ 0 → ⊥
 
--- the name at DS:DX is that of a file of the store
+-- DS:DX points to the name of a program in the store, and `file` are its bytes
 pub record Names (c : Cpu) (m : Memory) (store : List (List ℕ × List ℕ)) (name file : List ℕ) : Type 0 where
   pub named : IsNameAt m c.ds c.dx name
   pub found : program_of store name ≡ Some file
 
--- the name at DS:DX is that of a file of the store which can be loaded
+-- DS:DX points to the name of a program in the store that can be loaded, and `file` are its bytes
 abbrev pub NamesGood : Cpu → Memory → List (List ℕ × List ℕ) → List ℕ → List ℕ → Type 0
 NamesGood c m store name file = Names c m store name file × IsGood file
 
--- no name, or none of the store; a file that can't be loaded
+-- why the name at DS:DX is refused: `NotFound` if it is too long or the store has no such program, `BadFormat` if the
+-- file can't be loaded. No other error is returned
 abbrev pub NameRefused : Cpu → Memory → List (List ℕ × List ℕ) → ExecRefusal → Type 0
 NameRefused c m store NotFound = NoNameAt m c.ds c.dx ⊎ ((name : List ℕ) × IsNameAt m c.ds c.dx name × (program_of store name ≡ None))
 NameRefused c m store BadFormat = (name : List ℕ) × (file : List ℕ) × Names c m store name file × (IsGood file → ⊥)
 NameRefused c m store _ = ⊥
 
--- the far pointer that stands k bytes into the parameter block at ES:BX: its offset, then its segment
+-- the far pointer at offset k of the parameter block at ES:BX: its offset, then its segment
 abbrev pub pointer_at : Cpu → Memory → ℕ → FarPointer
 pointer_at c m k = record {
   segment = peek16 m c.es ((c.bx + (k + 2)) % 65536);
   offset = peek16 m c.es ((c.bx + k) % 65536);
 }
 
--- what a program is started with: its command tail, and the first 16 bytes of its two file control blocks
+-- what a program is passed: its command tail, at most 126 bytes, and the first 16 bytes of its two file control
+-- blocks
 pub record Passed : Type 0 where
   pub tail : List ℕ
   pub first : List ℕ
   pub second : List ℕ
 
--- the arguments of a start as contracts see them
+-- an `Arguments` as contracts see it
 abbrev pub passed_of : Arguments → Passed
 passed_of a = record { tail = a.tail.items; first = a.first; second = a.second }
 
--- a tail's first byte says how many follow; over 126 counts as 126
+-- the command tail at a far pointer: the first byte is its length, where more than 126 counts as 126; the rest
+-- follows
 unfoldable pub tail_at : Memory → FarPointer → List ℕ
 tail_at m p = bytes_from m p.segment ((p.offset + 1) % 65536) (min (peek m (linear m.a20 p.segment p.offset)) 126)
 
--- the 16 bytes at a far pointer, those of a file control block that a program is passed
+-- the 16 bytes at a far pointer, the first of a file control block
 unfoldable pub control_block : Memory → FarPointer → List ℕ
 control_block m p = bytes_from m p.segment p.offset 16
 
--- the parameter block's far pointers lead to the tail and to both file control blocks
+-- what the parameter block at ES:BX passes to a program: its far pointers at 2, 6 and 10 lead to the tail and to the
+-- file control blocks
 abbrev pub passed : Cpu → Memory → Passed
 passed c m = record {
   tail = tail_at m (pointer_at c m 2);
@@ -75,15 +79,15 @@ passed c m = record {
   second = control_block m (pointer_at c m 10);
 }
 
--- the parameter block's first word is the segment of the environment to be copied; 0 stands for the present process's
--- own, whose segment is in its prefix at 2Ch
+-- the segment of the environment to be copied: the parameter block's first word, or, where that is 0, the word at 2Ch
+-- in the prefix of the present process
 abbrev pub environment_segment : Memory → ℕ → Cpu → ℕ
 environment_segment m present c = if peek16 m c.es c.bx == 0 then peek16 m present 0x2C else peek16 m c.es c.bx
 
--- the parameter block's first word: the segment where an overlay goes
+-- the segment where an overlay is loaded: the parameter block's first word
 abbrev pub load_segment : Cpu → Memory → ℕ
 load_segment c m = peek16 m c.es c.bx
 
--- the parameter block's second word: the segment that an overlay's relocations add
+-- the segment that an overlay's relocations add: the parameter block's second word
 abbrev pub relocation_factor : Cpu → Memory → ℕ
 relocation_factor c m = peek16 m c.es ((c.bx + 2) % 65536)

@@ -1,5 +1,6 @@
--- What the start of a process writes, and its registers: MS-DOS Programmer's Reference, "Program Segment Prefix"
--- and function 4Bh "Load and Execute Program". Segments wrap at 65,536.
+-- What the start of a process writes, and its registers: MS-DOS Programmer's Reference, "Program Segment Prefix" and
+-- function 4Bh "Load and Execute Program". Segments wrap at 65,536. A `Placed` says where the two blocks of the
+-- process are.
 use Rattle.std.specs.Prelude.{ℕ, ◌+◌, ◌-◌, ◌*◌, ◌/◌, ◌%◌, min, Bool, true, false, if◌then◌else◌, List, [], ◌∷◌, ◌++◌, length, replicate}
 use Rattle.dm_space.specs.Memory.{Memory, linear}
 use Rattle.dm_load.specs.declared.format.FarPointer.{FarPointer}
@@ -27,25 +28,26 @@ prefix m p parent a =
     ++ word_bytes parent ++ zeros 20 ++ word_bytes p.environment ++ zeros 34 ++ (0xCD ∷ 0x21 ∷ 0xCB ∷ [])
     ++ zeros 9 ++ a.first ++ a.second ++ zeros 4 ++ (length a.tail ∷ []) ++ a.tail ++ (0x0D ∷ []) ++ zeros (126 - length a.tail)
 
--- a COM program's stack begins at the block's end, or at its segment's
+-- SP of a COM program at its start: the offset of the last word of its block, FFFEh if the block is larger than a
+-- segment
 abbrev pub com_stack : Placed → ℕ
 com_stack p = min 0xFFFE (16 * p.size - 2)
 
--- the writes of a word of zero at segment:offset
+-- the writes of a zero word at segment:offset; the offset of the high byte wraps
 abbrev pub zero_word : Bool → ℕ → ℕ → List Write
 zero_word a20 segment offset =
     record { address = linear a20 segment offset; byte = 0 } ∷ record { address = linear a20 segment ((offset + 1) % 65536); byte = 0 } ∷ []
 
--- the word of zero on a COM program's stack, which leads a near return to offset 0; an MZ program gets none
+-- the writes of the zero word on a COM program's stack, which leads a near return to offset 0; none for an MZ program
 abbrev pub stack_writes : Bool → Placed → List ℕ → List Write
 stack_writes a20 p file = if is_mz file then [] else zero_word a20 p.program (com_stack p)
 
--- the start segment: the image begins there, after the 16 paragraphs of the prefix
+-- the start segment, to which the image is relocated: 16 paragraphs after the prefix begins
 abbrev pub start : Placed → ℕ
 start p = (p.program + 0x10) % 65536
 
--- all writes of a start after those of the headers, in their order: the environment, the prefix, the image, a COM
--- program's word of zero
+-- all writes of a start after those of the headers, in their order: environment, prefix, image, and a COM program's
+-- zero word
 unfoldable pub start_writes : Bool → Placed → List ℕ → List ℕ → List ℕ → List Write
 start_writes a20 p environment prefix file =
     block a20 p.environment environment
@@ -57,7 +59,8 @@ start_writes a20 p environment prefix file =
 abbrev pub start_flags : Flags
 start_flags = record { carry = false; parity = false; adjust = false; zero = false; sign = false; trap = false; interrupt = true; direction = false; overflow = false }
 
--- DS and ES have the process's segment, the general registers are 0
+-- the registers of a new process, from CS:IP and SS:SP: DS and ES are the segment of its prefix, the general
+-- registers are 0
 abbrev pub registers : ℕ → FarPointer → FarPointer → Cpu
 registers segment code stack = record {
   ax = 0;
@@ -76,11 +79,12 @@ registers segment code stack = record {
   flags = start_flags;
 }
 
--- a far pointer of a header, relocated by the start segment
+-- a far pointer of an MZ header with the start segment added to its segment
 abbrev pub relocated_pointer : FarPointer → ℕ → FarPointer
 relocated_pointer p by = record p { segment = (p.segment + by) % 65536 }
 
--- the registers of a new process: an MZ file says CS:IP and SS:SP, a COM file begins at offset 0100h
+-- the registers of a new process: CS:IP and SS:SP come from an MZ header; a COM program begins at offset 0100h of its
+-- block
 abbrev pub start_registers : Placed → List ℕ → Cpu
 start_registers p file =
     if is_mz file then registers p.program (relocated_pointer (code file) (start p)) (relocated_pointer (stack file) (start p))

@@ -12,7 +12,7 @@ use dm_arena::{ArenaRefusal, free_all, resize};
 use dm_cpu::Cpu;
 use dm_space::Space;
 
-/// Puts the vectors 22h to 24h back that a process's prefix keeps.
+/// Restores the vectors of interrupts 22h to 24h from the prefix at a segment, offset 0Ah.
 fn vectors_back(space: &mut Space, segment: u16)
     ensures { space.new.memory ≡ Rattle.dm_proc.specs.Processes.vectors_back space.old.memory segment }
 {
@@ -21,7 +21,7 @@ fn vectors_back(space: &mut Space, segment: u16)
     write_from(space, 0, 0x88, vectors.as_slice());
 }
 
-/// Whether a call of the arena met no clear list of blocks, or would have left none.
+/// Whether a call of the arena failed with `Destroyed`: there is no clear list of blocks, or there would be none.
 fn is_destroyed(answer: Result<(), ArenaRefusal>) -> bool
     ensures { MatchBool result (IsErrOf answer ArenaRefusal.Destroyed) (IsErrOf answer ArenaRefusal.Destroyed → ⊥) }
 {
@@ -32,8 +32,8 @@ fn is_destroyed(answer: Result<(), ArenaRefusal>) -> bool
 }
 
 impl Procs {
-    /// Ends the present process, whose blocks are freed or kept already: the vectors 22h to 24h come
-    /// back, then the parent's registers.
+    /// Ends the present process, whose blocks are freed or kept already: restores the vectors 22h to 24h from its
+    /// prefix, then sets the registers to those of its parent, if it has one. `word` is what function 4Dh returns.
     fn end(&mut self, cpu: &mut Cpu, space: &mut Space, word: u16) -> Ending
         ensures { Ends self.old cpu.old space.old.memory word result self.new cpu.new space.new.memory }
     {
@@ -41,14 +41,14 @@ impl Procs {
         self.finish(cpu, word)
     }
 
-    /// Ends the present process with an exit code (function 4Ch): its blocks are freed, the vectors
-    /// 22h to 24h come back from its prefix, its parent goes on with the registers that it had.
-    /// Where it was the first program, the registers and the present process stay.
+    /// Ends the present process with an exit code (function 4Ch): frees its blocks and restores the vectors 22h to
+    /// 24h from its prefix; its parent goes on with the registers that it waits with. Where it was the first program,
+    /// the registers and the present process stay.
     ///
     /// # Errors
     ///
-    /// `ArenaDestroyed` where memory spells no clear list of blocks or, where that isn't linked with upper
-    /// memory, no second one that is clear with it. Then nothing has changed.
+    /// `ArenaDestroyed` where memory spells no clear list of blocks or, where that isn't linked with upper memory, no
+    /// second one that is clear with it. Then nothing has changed.
     pub fn terminate(
         &mut self,
         cpu: &mut Cpu,
@@ -64,13 +64,14 @@ impl Procs {
         Ok(self.end(cpu, space, code as u16))
     }
 
-    /// Ends the present process and keeps it in memory (function 31h): its block is resized to so
-    /// many paragraphs, where it can be, and nothing is freed. The rest is as for `terminate`.
+    /// Ends the present process and keeps it in memory (function 31h): resizes its block to `paragraphs`, where that
+    /// can be done, and frees nothing. The rest is as for `terminate`; the word for function 4Dh has 3 in its high
+    /// byte.
     ///
     /// # Errors
     ///
-    /// `ArenaDestroyed` where memory spells no clear list of blocks, or none once the block is
-    /// resized. Then nothing has changed.
+    /// `ArenaDestroyed` where memory spells no clear list of blocks, or would spell none once the block is resized.
+    /// Then nothing has changed.
     pub fn keep(
         &mut self,
         cpu: &mut Cpu,

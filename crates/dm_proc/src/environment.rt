@@ -1,4 +1,5 @@
-//! The environment of a process (MS-DOS Programmer's Reference, "Environment").
+//! The environment of a process (MS-DOS Programmer's Reference, "Environment"). It is built in the
+//! scratch part of a space, bytes that no guest address shows; guest memory stays.
 ghost use Rattle.std.specs.Prelude.{◌≡◌, ◌+◌, ◌<◌, ◌≤◌, ◌++◌, length, take, IfSome, MatchOption};
 ghost use Rattle.dm_proc.specs.Environment.{closing, environment, HasNoEnd, IsEnvironment, NoVariables};
 ghost use Rattle.dm_proc.specs.inner.Environment.{IsRead, IsMade};
@@ -6,10 +7,10 @@ ghost use Rattle.dm_proc.specs.Writes.{bytes_from};
 
 use dm_space::Space;
 
-/// The longest environment, in bytes.
+/// The number of bytes in which an environment's variables must end.
 const LONGEST: usize = 0x8000;
 
-/// Writes bytes into the scratch part; where the next ones go.
+/// Copies bytes into the scratch part, from offset `at` on. Returns the offset after them.
 fn append(space: &mut Space, at: usize, bytes: &[u8]) -> usize
     requires { at + length bytes.now ≤ 0x200000 }
     ensures memory { space.new.memory ≡ space.old.memory }
@@ -21,8 +22,8 @@ fn append(space: &mut Space, at: usize, bytes: &[u8]) -> usize
     next
 }
 
-/// What ends the variables at the front of the scratch part: two zeros where there is none, else
-/// one.
+/// The zeros that close the variables, which are the first bytes of the scratch part: two where
+/// there are none, else one.
 fn closing(space: &Space, variables: usize) -> &'static [u8]
     requires { variables ≤ 0x8000 }
     ensures bytes { result.now ≡ Rattle.dm_proc.specs.Environment.closing (take variables space.now.scratch) }
@@ -33,8 +34,8 @@ fn closing(space: &Space, variables: usize) -> &'static [u8]
     if variables == 0 { &[0, 0] } else { &[0] }
 }
 
-/// Puts after the variables at the front of the scratch part what closes a new environment; its
-/// length.
+/// Completes an environment whose variables are the first bytes of the scratch part: appends the
+/// zeros that close them, the word 1 and the program's name. Returns its length in bytes.
 fn close_environment(space: &mut Space, variables: usize, name: &[u8]) -> usize
     requires variables { variables ≤ 0x8000 }
     requires name { length name.now ≤ 64 }
@@ -50,7 +51,9 @@ fn close_environment(space: &mut Space, variables: usize, name: &[u8]) -> usize
     append(space, next, &[0])
 }
 
-/// Reads the bytes of an environment's variables into the scratch part; how many they are.
+/// Copies the variables of the environment at a segment to the front of the scratch part, and
+/// returns their length in bytes. None if they have no end in 32,768 bytes; then the scratch part
+/// is overwritten too.
 fn read_environment(space: &mut Space, segment: u16) -> Option<usize>
     ensures memory { space.new.memory ≡ space.old.memory }
     ensures found { MatchOption result (HasNoEnd space.old.memory segment) (λ n. IsEnvironment space.old.memory segment n) }
@@ -68,8 +71,8 @@ fn read_environment(space: &mut Space, segment: u16) -> Option<usize>
     None
 }
 
-/// Reads the variables of the environment at a segment, where there is one, into the scratch part;
-/// how many bytes they have.
+/// Copies the variables of the environment at a segment, 0 for none, to the front of the scratch
+/// part. Returns their length in bytes, None if they have no end in 32,768 bytes.
 fn read_variables(space: &mut Space, segment: u16) -> Option<usize>
     ensures memory { space.new.memory ≡ space.old.memory }
     ensures read { MatchOption result (NoVariables space.old.memory segment) (λ n. IsRead space.old.memory segment n space.new.scratch) }
@@ -80,8 +83,9 @@ fn read_variables(space: &mut Space, segment: u16) -> Option<usize>
     read_environment(space, segment)
 }
 
-/// Puts an environment with the variables of another one, if it has an end, into the scratch part;
-/// its length in bytes.
+/// Builds a child's environment at the front of the scratch part: the variables of the environment
+/// at a segment, 0 for none, and the program's name. Returns its length in bytes, None if the old
+/// one has no end.
 pub(crate) fn make_environment(space: &mut Space, segment: u16, name: &[u8]) -> Option<usize>
     requires { length name.now ≤ 64 }
     ensures memory { space.new.memory ≡ space.old.memory }
@@ -91,7 +95,8 @@ pub(crate) fn make_environment(space: &mut Space, segment: u16, name: &[u8]) -> 
     Some(close_environment(space, variables, name))
 }
 
-/// Puts an environment with these variables into the scratch part; its length in bytes.
+/// Builds the first program's environment at the front of the scratch part, with these variables,
+/// each ended by a zero. Returns its length in bytes.
 pub(crate) fn put_environment(space: &mut Space, variables: &[u8], name: &[u8]) -> usize
     requires variables { length variables.now ≤ 0x7FFF }
     requires name { length name.now ≤ 64 }

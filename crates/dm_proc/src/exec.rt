@@ -16,7 +16,7 @@ use dm_cpu::{Cpu, interrupt_return};
 use dm_load::Image;
 use dm_space::Space;
 
-/// The registers that a call leaves which succeeds: IP, CS and FLAGS popped, CF clear.
+/// The registers after a call of function 4Bh that succeeds: IP, CS and FLAGS popped from the stack, CF clear.
 #[tactic(auto, unfolding(crate::specs::Processes::return_registers))]
 fn return_registers(cpu: &Cpu, space: &Space) -> Cpu
     ensures { result ≡ Rattle.dm_proc.specs.Processes.return_registers cpu.now space.now.memory }
@@ -28,18 +28,18 @@ fn return_registers(cpu: &Cpu, space: &Space) -> Cpu
 }
 
 impl Procs {
-    /// Starts the program that the registers and the parameter block ask for (function 4Bh, AL = 0):
-    /// the name at DS:DX, the parameter block at ES:BX. The present process waits, with the
-    /// registers as they are after the call with CF clear.
+    /// Starts the program that the registers and the parameter block ask for (function 4Bh, AL = 0): the name at
+    /// DS:DX, the parameter block at ES:BX. The present process waits, with the registers as they are after the call
+    /// with CF clear.
     ///
-    /// All of guest memory that is read, the return address among it, is read before anything is
-    /// written; both blocks are planned before either is.
+    /// All of guest memory that is read, the return address among it, is read before anything is written; both blocks
+    /// are planned before either is written. The scratch part may be overwritten, also where the call fails.
     ///
     /// # Errors
     ///
-    /// The first of `ExecRefusal`'s reasons that holds, in their order; but no room for the blocks comes
-    /// before a last list of blocks that is not clear, and that before too many processes. A refusal
-    /// changes neither memory nor registers nor processes.
+    /// The first of `ExecRefusal`'s reasons that holds, in their order; but no room for the blocks comes before a
+    /// last list of blocks that is not clear, and that before too many processes. An error changes neither memory nor
+    /// registers nor processes.
     pub fn exec(
         &mut self,
         cpu: &mut Cpu,
@@ -80,15 +80,13 @@ impl Procs {
         Ok(())
     }
 
-    /// Starts the first program with these variables, each closed by a zero: the processes, with
-    /// this one alone, and the registers that it starts with.
-    ///
-    /// The variables have at most 32,767 bytes, the name 64.
+    /// Starts the first program: it is the only process. Returns the processes, and the registers that the program
+    /// starts with. Each of the variables is ended by a zero; they have at most 32,767 bytes, the name at most 64.
     ///
     /// # Errors
     ///
-    /// `Destroyed` where memory spells no clear list of blocks or the last list would not be clear,
-    /// `Short` where there is no room for both blocks. A refusal changes no byte of memory.
+    /// `Destroyed` where memory spells no clear list of blocks or the last list would not be clear, `Short` where
+    /// there is no room for both blocks. A refusal changes no byte of memory.
     pub fn load(
         space: &mut Space,
         strategy: Strategy,

@@ -1,5 +1,5 @@
 //! What the start of a process writes, and its registers (MS-DOS Programmer's Reference, "Load and
-//! Execute Program").
+//! Execute Program"). The scratch part of a space holds bytes that no guest address shows.
 ghost use Rattle.std.specs.Prelude.{◌≡◌, ◌+◌, ◌<◌, ◌≤◌, length, min, take, true, false, MatchResult};
 ghost use Rattle.dm_load.specs.Image.{is_mz, relocated};
 ghost use Rattle.dm_blocks.specs.Chain.{first_header};
@@ -25,11 +25,12 @@ use dm_cpu::{Cpu, Flags};
 use dm_load::{FarPointer, Image, Kind};
 use dm_space::Space;
 
-/// The bytes of an image after which no relocation has a word.
+/// The length in bytes of the part of an image that relocations may change: they change no word
+/// after it.
 const RELOCATED: usize = 0x11_0000;
 
-/// Puts the first part of an image, relocated to the start segment, into the scratch part; its
-/// length. After it no word is relocated.
+/// Writes the first 110000h bytes of an image, or all if it is shorter, relocated to the start
+/// segment, into the scratch part. Returns their number. Guest memory stays.
 fn relocate(space: &mut Space, image: &Image, start: u16) -> usize
     ensures memory { space.new.memory ≡ space.old.memory }
     ensures scratch { take result space.new.scratch ≡ take 0x110000 (relocated image.now start) }
@@ -40,7 +41,8 @@ fn relocate(space: &mut Space, image: &Image, start: u16) -> usize
     count
 }
 
-/// Writes an image, relocated to the start segment, from another segment upwards.
+/// Writes an image, relocated to the segment `start`, to guest memory from `segment` upwards. The
+/// scratch part is overwritten.
 pub(crate) fn write_image(space: &mut Space, image: &Image, segment: u16, start: u16)
     ensures { space.new.memory ≡ apply (block space.old.memory.a20 segment (relocated image.now start)) space.old.memory }
 {
@@ -49,14 +51,15 @@ pub(crate) fn write_image(space: &mut Space, image: &Image, segment: u16, start:
     write_from(space, segment, count, image.rest());
 }
 
-/// Writes a word of zero.
+/// Writes a zero word at segment:offset; the offset of the high byte wraps.
 fn write_zero_word(space: &mut Space, segment: u16, offset: u16)
     ensures { space.new.memory ≡ apply (zero_word space.old.memory.a20 segment offset) space.old.memory }
 {
     space.poke16(segment, offset, 0);
 }
 
-/// Where a COM program's stack begins: at its block's end, or at its segment's.
+/// SP of a COM program at its start: the offset of the last word of its block, or FFFEh if the
+/// block is larger than a segment.
 fn com_stack(blocks: Blocks) -> u16
     requires { 0x11 ≤ blocks.size }
     ensures { result ≡ Rattle.dm_proc.specs.Start.com_stack (as_placed blocks) }
@@ -64,7 +67,8 @@ fn com_stack(blocks: Blocks) -> u16
     (16 * blocks.size as u32 - 2).min(0xFFFE) as u16
 }
 
-/// DS and ES have the process's segment, the general registers are 0, interrupts are on.
+/// The registers of a new process, from CS:IP and SS:SP: DS and ES are the segment of its prefix,
+/// the general registers are 0, and IF is the only flag that is set.
 #[tactic(auto, unfolding(dm_alu::specs::Flags::flags_of))]
 fn registers(segment: u16, code: FarPointer, stack: FarPointer) -> Cpu
     ensures { result ≡ Rattle.dm_proc.specs.Start.registers segment code stack }
@@ -90,7 +94,7 @@ fn registers(segment: u16, code: FarPointer, stack: FarPointer) -> Cpu
     }
 }
 
-/// Writes the zero word that a COM program's stack begins with.
+/// Writes the zero word on a COM program's stack; nothing for an MZ program.
 fn write_stack(space: &mut Space, image: &Image, blocks: Blocks)
     requires { Room.least image.now ≤ blocks.size }
     ensures { space.new.memory ≡ apply (stack_writes space.old.memory.a20 (as_placed blocks) image.now) space.old.memory }
@@ -101,8 +105,9 @@ fn write_stack(space: &mut Space, image: &Image, blocks: Blocks)
     }
 }
 
-/// Makes all writes of a start after those of the headers, in this order: environment (which the
-/// scratch part begins with), prefix, image, a COM program's zero word.
+/// Makes all writes of a start after those of the headers, in this order: environment (the first
+/// `environment_bytes` of the scratch part), prefix, image, a COM program's zero word. Writing the
+/// image overwrites the scratch part.
 fn write_start(
     space: &mut Space,
     image: &Image,
@@ -122,7 +127,7 @@ fn write_start(
     write_stack(space, image, blocks);
 }
 
-/// A far pointer of a header, relocated by the start segment.
+/// A far pointer of an MZ header with the start segment `by` added to its segment, modulo 65,536.
 fn relocated_pointer(pointer: FarPointer, by: u16) -> FarPointer
     ensures { result ≡ Rattle.dm_proc.specs.Start.relocated_pointer pointer by }
 {
@@ -132,7 +137,8 @@ fn relocated_pointer(pointer: FarPointer, by: u16) -> FarPointer
     }
 }
 
-/// The registers of a new process.
+/// The registers of a new process: CS:IP and SS:SP come from an MZ header; a COM program begins at
+/// offset 0100h of its block.
 fn start_registers(image: &Image, blocks: Blocks) -> Cpu
     requires { Room.least image.now ≤ blocks.size }
     ensures { result ≡ Rattle.dm_proc.specs.Start.start_registers (as_placed blocks) image.now }
@@ -161,7 +167,11 @@ fn start_registers(image: &Image, blocks: Blocks) -> Cpu
     }
 }
 
-/// Plans both blocks of a program whose environment has so many bytes. Nothing is written.
+/// Plans both blocks of a program whose environment has `environment_bytes`. Nothing is written.
+///
+/// # Errors
+///
+/// `Destroyed` or `Short`, as for `Procs::load`.
 pub(crate) fn plan(
     space: &Space,
     strategy: Strategy,
@@ -188,15 +198,17 @@ pub(crate) fn plan(
     }
 }
 
-/// A process that was started: its segment and its registers.
+/// A process that was started: the segment of its prefix, and its registers.
 #[derive(Drop)]
 pub(crate) struct Started {
     pub(crate) segment: u16,
     pub(crate) cpu: Cpu,
 }
 
-/// Writes all of a planned process: the headers, then the environment (which the scratch part
-/// begins with), the prefix, the image, a COM program's zero word. The prefix is read before.
+/// Writes all of a planned process: the headers of its blocks, then the environment (the first
+/// `environment_bytes` of the scratch part), the prefix, the image, a COM program's zero word. The
+/// prefix is made before anything is written. `parent` is the segment of the parent's prefix, 0 for
+/// the first program. Writing the image overwrites the scratch part.
 pub(crate) fn start(
     space: &mut Space,
     image: &Image,

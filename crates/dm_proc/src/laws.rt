@@ -1,13 +1,14 @@
-//! Laws of the definitions, proved of no process in particular.
+//! Laws of processes: each is the contract of a function that does nothing.
 ghost use Rattle.dm_proc.specs.Laws.{ExecHasOneAnswer, LoadHasOneAnswer, OverlayHasOneAnswer, TerminatingHasOneAnswer, KeepingHasOneAnswer, CallsKeepLoaded, IgnoresUnseen};
 
-/// Processes, registers, memory, store and strategy determine what `Procs::exec` returns and all
-/// that it leaves.
+/// Setting, processes, registers, memory, store and strategy determine what `Procs::exec` returns
+/// and all that it leaves.
 pub fn exec_has_one_answer()
     ensures { ExecHasOneAnswer }
 {}
 
-/// What is loaded and where determine what `Procs::load` returns and all that it leaves.
+/// Setting, memory, strategy, the program's file, variables, name and arguments determine what
+/// `Procs::load` returns and all that it leaves.
 pub fn load_has_one_answer()
     ensures { LoadHasOneAnswer }
 {}
@@ -17,19 +18,20 @@ pub fn overlay_has_one_answer()
     ensures { OverlayHasOneAnswer }
 {}
 
-/// Processes, registers, memory and code determine what `Procs::terminate` returns and all that it
-/// leaves.
+/// Setting, processes, registers, memory and code determine what `Procs::terminate` returns and all
+/// that it leaves.
 pub fn terminating_has_one_answer()
     ensures { TerminatingHasOneAnswer }
 {}
 
-/// Processes, registers, memory, code and size determine what `Procs::keep` returns and all that it
-/// leaves.
+/// Setting, processes, registers, memory, code and size determine what `Procs::keep` returns and
+/// all that it leaves.
 pub fn keeping_has_one_answer()
     ensures { KeepingHasOneAnswer }
 {}
 
-/// A loaded program stays loaded: the present process, and each that waits, has a segment over 0.
+/// Once a program is loaded, each call leaves one loaded: the present process, and each that waits,
+/// has a segment over 0.
 pub fn programs_stay_loaded()
     ensures { CallsKeepLoaded }
 {}

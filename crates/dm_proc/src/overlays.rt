@@ -9,9 +9,9 @@ use crate::request::asked_program;
 use dm_cpu::Cpu;
 use dm_space::Space;
 
-/// Loads an overlay (function 4Bh, AL = 3): the image of the program named at DS:DX is written from
-/// a segment upwards, which wraps, relocated by a factor; both words stand at ES:BX. No block is
-/// taken and nothing else changes.
+/// Loads an overlay (function 4Bh, AL = 3): writes the image of the program named at DS:DX from a
+/// segment upwards, which wraps, relocated by a factor. The segment and the factor are the two
+/// words at ES:BX. No block is allocated, no register changes; the scratch part is overwritten.
 ///
 /// # Errors
 ///

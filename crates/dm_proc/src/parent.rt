@@ -1,9 +1,9 @@
-//! Processes that wait for a child.
+//! Processes that wait for a child, and what follows the end of one.
 
 use dm_cpu::{Cpu, Flags};
 
 /// A process that waits for its child: the segment of its program segment prefix, and the registers
-/// that it goes on with, as the call that started the child leaves them.
+/// with which it goes on, those after the call that started the child.
 #[derive(Clone, Copy, Debug, PartialEq, Eq)]
 pub struct Parent {
     pub segment: u16,
@@ -34,7 +34,7 @@ impl Default for Parent {
     }
 }
 
-/// What is next, after a process has ended.
+/// What follows the end of a process.
 #[derive(Clone, Copy, Debug, PartialEq, Eq)]
 pub enum Ending {
     /// Its parent goes on.

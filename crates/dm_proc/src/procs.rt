@@ -27,7 +27,7 @@ impl Model for Procs {
 }
 
 impl Procs {
-    /// No process yet.
+    /// No program is loaded, and nothing has ended.
     pub fn new() -> Procs
         ensures { result ≡ record { present = 0; parents = []; code = 0 } }
     {
@@ -45,9 +45,9 @@ impl Procs {
         self.present
     }
 
-    /// The word of the last ending, which is read once: AL is its code, AH 0, or 3 where the program
-    /// stayed resident (MS-DOS Programmer's Reference, function 4Dh); 0 where it was read or nothing
-    /// has ended.
+    /// Returns the word of function 4Dh, and sets it to 0: AL is the exit code of the last process that ended, AH is
+    /// 0, or 3 where it stayed resident (MS-DOS Programmer's Reference, function 4Dh). It is 0 where it was read
+    /// already or nothing has ended.
     pub fn take_code(&mut self) -> u16
         ensures value { result ≡ self.old.code }
         ensures taken { self.new ≡ record self.old { code = 0 } }
@@ -62,7 +62,7 @@ impl Procs {
         self.parents.is_full()
     }
 
-    /// The process at a segment is alive, and no other one; nothing has ended yet.
+    /// The first program is at a segment, and is the only process; nothing has ended yet.
     pub(crate) fn of_first(segment: u16) -> Procs
         ensures { result ≡ record { present = segment; parents = []; code = 0 } }
     {
@@ -72,7 +72,8 @@ impl Procs {
         }
     }
 
-    /// A child begins at a segment; the present process waits for it with these registers.
+    /// Makes the process at a segment the present one. The process so far waits for it, and goes on with these
+    /// registers.
     pub(crate) fn begin(&mut self, segment: u16, cpu: Cpu)
         requires { length self.old.parents < 15 }
         ensures { self.new ≡ record self.old { present = segment; parents = self.old.parents ++ record { segment = self.old.present; cpu = cpu } ∷ [] } }
@@ -84,7 +85,8 @@ impl Procs {
         self.present = segment;
     }
 
-    /// The present process has ended, with the word that function 4Dh returns; its parent, if it has one, goes on.
+    /// Ends the present process, and keeps the word for function 4Dh. Its parent, if it has one, becomes the present
+    /// process, and `cpu` gets the registers it waits with; else both stay.
     pub(crate) fn finish(&mut self, cpu: &mut Cpu, word: u16) -> Ending
         ensures { GoesOn self.old cpu.old word result self.new cpu.new }
     {

@@ -13,11 +13,12 @@ pub enum AddError {
     /// A program of the store has this name already.
     #[error("name twice")]
     Twice,
-    /// Memory was refused.
+    /// An allocation failed.
     #[error("out of memory")]
     Memory,
 }
 
+/// A program: its name, and the bytes of its file.
 #[derive(Drop)]
 struct Program {
     name: Vec<u8>,
@@ -36,6 +37,7 @@ impl Model for Programs {
     ghost view = { λ s. map (λ p. (p.name.items, p.bytes.items)) s.programs.items };
 }
 
+/// Whether two names are the same, ASCII case ignored.
 fn same_name(a: &[u8], b: &[u8]) -> bool
     ensures { result ≡ str_eq_ignore_ascii_case a.now b.now }
 {
@@ -43,7 +45,7 @@ fn same_name(a: &[u8], b: &[u8]) -> bool
 }
 
 impl Programs {
-    /// An empty store. It takes no memory.
+    /// An empty store. It allocates no memory.
     pub fn new(alloc: Global) -> Programs
         ensures { result ≡ [] }
     {
@@ -52,7 +54,7 @@ impl Programs {
         }
     }
 
-    /// The bytes of the program with this name, ASCII case ignored.
+    /// The bytes of the program with this name, ASCII case ignored; None if the store has none.
     pub fn find(&self, name: &[u8]) -> Option<&[u8]>
         ensures { option_map (λ b. b.now) result ≡ program_of self.now name.now }
     {
@@ -68,8 +70,8 @@ impl Programs {
     ///
     /// # Errors
     ///
-    /// `Twice` where a program has this name already, ASCII case ignored; else `Memory` where memory
-    /// was refused. A refusal changes nothing.
+    /// `Twice` where a program has this name already, ASCII case ignored; else `Memory` where an
+    /// allocation failed. Then nothing has changed.
     pub fn add(&mut self, alloc: Global, name: &[u8], bytes: Vec<u8>) -> Result<(), AddError>
         requires { IsName name.now }
         ensures ok { OnOk result (self.new ≡ self.old ++ (name.now, bytes.items) ∷ []) }

@@ -1,4 +1,5 @@
-//! The program segment prefix (MS-DOS Programmer's Reference, "Program Segment Prefix").
+//! The program segment prefix (MS-DOS Programmer's Reference, "Program Segment Prefix"), built in a buffer from its
+//! first byte on.
 ghost use Rattle.std.specs.Prelude.{◌≡◌, ◌+◌, ◌≤◌, ◌++◌, length};
 ghost use Rattle.dm_proc.specs.Writes.{bytes_from};
 ghost use Rattle.dm_proc.specs.Start.{word_bytes, zeros, prefix};
@@ -10,10 +11,10 @@ use crate::placed::Blocks;
 use arrayvec::ArrayVec;
 use dm_space::Space;
 
-/// The bytes of a program segment prefix, as far as they are made.
+/// The bytes of a program segment prefix, from offset 0 on, as far as they are built.
 pub(crate) type Prefix = ArrayVec<u8, 256>;
 
-/// Adds a word, low byte first.
+/// Appends a word, low byte first.
 fn push_word(prefix: &mut Prefix, word: u16)
     requires { length prefix.old.items + 2 ≤ 256 }
     ensures items { prefix.new.items ≡ prefix.old.items ++ word_bytes word }
@@ -24,7 +25,7 @@ fn push_word(prefix: &mut Prefix, word: u16)
     prefix.push(high);
 }
 
-/// Adds bytes.
+/// Appends bytes.
 fn push_bytes(prefix: &mut Prefix, bytes: &[u8])
     requires { length prefix.old.items + length bytes.now ≤ 256 }
     ensures items { prefix.new.items ≡ prefix.old.items ++ bytes.now }
@@ -35,7 +36,7 @@ fn push_bytes(prefix: &mut Prefix, bytes: &[u8])
     }
 }
 
-/// Adds zeros.
+/// Appends `count` zeros.
 fn push_zeros(prefix: &mut Prefix, count: usize)
     requires { length prefix.old.items + count ≤ 256 }
     ensures items { prefix.new.items ≡ prefix.old.items ++ zeros count }
@@ -46,7 +47,7 @@ fn push_zeros(prefix: &mut Prefix, count: usize)
     }
 }
 
-/// Adds bytes of memory from segment:offset on; offsets wrap.
+/// Appends `count` bytes of guest memory from segment:offset on; offsets wrap.
 pub(crate) fn push_guest<const N: usize>(
     bytes: &mut ArrayVec<u8, N>,
     space: &Space,
@@ -64,8 +65,9 @@ pub(crate) fn push_guest<const N: usize>(
     }
 }
 
-/// The 256 bytes of the program segment prefix of a new process; the caller writes them. Of memory only the vectors 22h
-/// to 24h are read, so it comes before the writes of the start.
+/// Builds the 256 bytes of the program segment prefix of a new process; the caller writes them. `parent` is the
+/// segment of the parent's prefix. Of guest memory only the vectors 22h to 24h are read, so it is called before the
+/// start writes anything.
 #[tactic(auto, unfolding(crate::specs::Start::prefix))]
 pub(crate) fn make_prefix(
     space: &Space,

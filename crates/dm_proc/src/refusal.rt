@@ -3,8 +3,8 @@ ghost use Rattle.std.specs.Prelude.{◌≡◌, MatchResult};
 
 use thiserror::Error;
 
-/// Why function 4Bh started no program (MS-DOS Programmer's Reference, function 4Bh). A refused
-/// call has changed nothing.
+/// Why function 4Bh started no program (MS-DOS Programmer's Reference, function 4Bh). The call has changed neither
+/// memory nor registers nor processes.
 #[derive(Clone, Copy, Debug, PartialEq, Eq, Error)]
 pub enum ExecRefusal {
     /// AL asks for another function (DOS error 1, "Invalid function").
@@ -30,8 +30,8 @@ pub enum ExecRefusal {
     Short,
 }
 
-/// Memory spells no clear list of blocks, or no second one that an ending asks for; nothing has changed (DOS error 7,
-/// "Memory control blocks destroyed").
+/// Why a process did not end: memory spells no clear list of blocks, or no second one where the end needs it, or the
+/// resized list would not be clear. Nothing has changed (DOS error 7, "Memory control blocks destroyed").
 #[derive(Clone, Copy, Debug, PartialEq, Eq, Error)]
 #[error("arena destroyed")]
 pub struct ArenaDestroyed;

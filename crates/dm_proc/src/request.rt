@@ -1,4 +1,4 @@
-//! What function 4Bh is asked for, by the registers and in guest memory (MS-DOS Programmer's
+//! What a call of function 4Bh asks for, by the registers and in guest memory (MS-DOS Programmer's
 //! Reference, function 4Bh "Load and Execute Program").
 ghost use Rattle.std.specs.Prelude.{◌≡◌, ◌<◌, MatchOption, MatchResult};
 ghost use Rattle.dm_proc.specs.Request.{NoNameAt, IsNameAt, NamesGood, NameRefused, passed, passed_of};
@@ -12,20 +12,21 @@ use dm_cpu::Cpu;
 use dm_load::{BadFormat, FarPointer, Image};
 use dm_space::Space;
 
-/// A program's name, as it was asked for.
+/// The name of a program, as the call gives it, without the zero.
 pub(crate) type Name = ArrayVec<u8, 65>;
 
-/// The longest name, with its zero.
+/// The size in bytes of the longest name with its zero.
 const NAME_BYTES: u16 = 65;
 
-/// A program of the store, and the name that it was asked for by.
+/// A program of the store, and the name that the call gives for it.
 #[derive(Drop)]
 pub(crate) struct Asked<'a> {
     pub(crate) name: Name,
     pub(crate) image: Image<'a>,
 }
 
-/// The name at segment:offset: up to 64 bytes before a zero.
+/// The name at segment:offset, up to 64 bytes before a zero; None if the first 65 bytes have no
+/// zero. Offsets wrap.
 fn name_at(space: &Space, segment: u16, offset: u16) -> Option<Name>
     ensures { MatchOption result (NoNameAt space.now.memory segment offset) (λ name. IsNameAt space.now.memory segment offset name.items) }
 {
@@ -40,7 +41,7 @@ fn name_at(space: &Space, segment: u16, offset: u16) -> Option<Name>
     None
 }
 
-/// The program whose name stands at DS:DX.
+/// Looks up the program whose name stands at DS:DX.
 ///
 /// # Errors
 ///
@@ -65,7 +66,7 @@ pub(crate) fn asked_program<'a>(
     }
 }
 
-/// The far pointer that stands so many bytes into the parameter block at ES:BX.
+/// The far pointer at an offset of the parameter block at ES:BX.
 fn pointer_at(cpu: &Cpu, space: &Space, at: u16) -> FarPointer
     requires { at < 0x100 }
     ensures { result ≡ Rattle.dm_proc.specs.Request.pointer_at cpu.now space.now.memory at }
@@ -76,7 +77,8 @@ fn pointer_at(cpu: &Cpu, space: &Space, at: u16) -> FarPointer
     }
 }
 
-/// The command tail that a far pointer leads to.
+/// The command tail at a far pointer: its first byte is the length, where more than 126 counts as
+/// 126.
 #[tactic(auto, unfolding(crate::specs::Request::tail_at))]
 fn tail_at(space: &Space, pointer: FarPointer) -> ArrayVec<u8, 126>
     ensures { result.items ≡ Rattle.dm_proc.specs.Request.tail_at space.now.memory pointer }
@@ -93,7 +95,7 @@ fn tail_at(space: &Space, pointer: FarPointer) -> ArrayVec<u8, 126>
     tail
 }
 
-/// The first 16 bytes of the file control block that a far pointer leads to.
+/// The first 16 bytes of the file control block at a far pointer; offsets wrap.
 #[tactic(auto, unfolding(crate::specs::Request::control_block))]
 fn control_block(space: &Space, pointer: FarPointer) -> [u8; 16]
     ensures { result ≡ Rattle.dm_proc.specs.Request.control_block space.now.memory pointer }
@@ -105,7 +107,7 @@ fn control_block(space: &Space, pointer: FarPointer) -> [u8; 16]
     block
 }
 
-/// What the parameter block at ES:BX passes to a program.
+/// What the parameter block at ES:BX passes to a program: its tail and file control blocks.
 pub(crate) fn arguments_at(cpu: &Cpu, space: &Space) -> Arguments
     ensures { passed_of result ≡ passed cpu.now space.now.memory }
 {
@@ -116,8 +118,8 @@ pub(crate) fn arguments_at(cpu: &Cpu, space: &Space) -> Arguments
     }
 }
 
-/// The segment of the environment that is to be copied: the parameter block's first word, or, where
-/// that is 0, the one of the present process. 0 stands for none.
+/// The segment of the environment to be copied: the parameter block's first word, or, where that is
+/// 0, the word at 2Ch in the prefix of the present process. 0 stands for no environment.
 pub(crate) fn environment_segment(cpu: &Cpu, space: &Space, present: u16) -> u16
     ensures { result ≡ Rattle.dm_proc.specs.Request.environment_segment space.now.memory present cpu.now }
 {

@@ -1,17 +1,17 @@
-//! How large the blocks of a process are (MS-DOS Programmer's Reference, "EXE File Header" and
-//! function 4Bh).
+//! How large the block of a program is, in paragraphs (MS-DOS Programmer's Reference, "EXE File
+//! Header" and function 4Bh).
 ghost use Rattle.std.specs.Prelude.{◌≡◌, ◌≤◌, ◌<◌};
 ghost use Rattle.dm_proc.specs.Room;
 
 use dm_load::{Image, Kind};
 
-/// What a program's block has beside its image: the paragraphs of the prefix.
+/// The size of the program segment prefix in paragraphs.
 const PREFIX: u32 = 0x10;
 
-/// All of memory, and more.
+/// A size in paragraphs that no block reaches, for a program that takes the largest free block.
 const ALL: u32 = 0xFFFF;
 
-/// Paragraphs that hold so many bytes.
+/// The number of paragraphs that hold `bytes` bytes.
 fn paragraphs(bytes: usize) -> u32
     requires { bytes ≤ 0x200_0002 }
     ensures value { result ≡ Room.paragraphs bytes }
@@ -20,7 +20,8 @@ fn paragraphs(bytes: usize) -> u32
     bytes.div_ceil(16) as u32
 }
 
-/// The paragraphs that a program's block has at least.
+/// The least size of a program's block in paragraphs: the prefix, the image, and after it a COM
+/// program's first word of stack, or the minimum of an MZ header.
 #[tactic(auto, unfolding(crate::specs::Room::least))]
 pub(crate) fn least(image: &Image) -> u32
     ensures value { result ≡ Room.least image.now }
@@ -33,7 +34,9 @@ pub(crate) fn least(image: &Image) -> u32
     }
 }
 
-/// The paragraphs that it has at most, if there is so much room.
+/// The size of a program's block in paragraphs where there is enough memory: all there is for a COM
+/// program and for an MZ header with minimum and maximum 0, else prefix, image and maximum, but at
+/// least `least`.
 #[tactic(auto, unfolding(crate::specs::Room::most))]
 pub(crate) fn most(image: &Image) -> u32
     ensures { result ≡ Room.most image.now }

@@ -1,11 +1,13 @@
-//! Writing bytes to a block, upwards.
+//! Writing bytes to guest memory from a segment upwards. Such a block may be longer than 64 KiB;
+//! segments wrap.
 ghost use Rattle.std.specs.Prelude.{◌≡◌, ◌+◌, ◌<◌, ◌≤◌, length, take};
 ghost use Rattle.dm_proc.specs.Writes.{apply, block, block_address, upwards};
 ghost use Rattle.dm_space.specs.Memory.{poke};
 
 use dm_space::Space;
 
-/// Writes a byte of a block.
+/// Writes byte `at` of the block at a segment: `at` / 16 paragraphs up, which wraps, at offset `at`
+/// modulo 16.
 fn write_byte(space: &mut Space, segment: u16, at: usize, byte: u8)
     requires { at < 0x1000_0000 }
     ensures { space.new ≡ record space.old { memory = poke space.old.memory (block_address space.old.memory.a20 segment at) byte } }
@@ -17,7 +19,7 @@ fn write_byte(space: &mut Space, segment: u16, at: usize, byte: u8)
     );
 }
 
-/// Writes bytes to a block from one of its bytes on.
+/// Writes bytes to the block at a segment, from its byte `from` on.
 pub(crate) fn write_from(space: &mut Space, segment: u16, from: usize, bytes: &[u8])
     requires { from + length bytes.now ≤ 0x1000_0000 }
     ensures { space.new ≡ record space.old { memory = apply (upwards space.old.memory.a20 segment from bytes.now) space.old.memory } }
@@ -27,7 +29,7 @@ pub(crate) fn write_from(space: &mut Space, segment: u16, from: usize, bytes: &[
     }
 }
 
-/// Writes bytes to a block.
+/// Writes bytes to the block at a segment, from its first byte on.
 pub(crate) fn write_bytes(space: &mut Space, segment: u16, bytes: &[u8])
     requires { length bytes.now ≤ 0x200000 }
     ensures { space.new ≡ record space.old { memory = apply (block space.old.memory.a20 segment bytes.now) space.old.memory } }
@@ -35,7 +37,8 @@ pub(crate) fn write_bytes(space: &mut Space, segment: u16, bytes: &[u8])
     write_from(space, segment, 0, bytes);
 }
 
-/// Writes the first bytes of the scratch part to a block.
+/// Writes the first `count` bytes of the scratch part to the block at a segment. The scratch part
+/// stays.
 pub(crate) fn write_scratch(space: &mut Space, segment: u16, count: usize)
     requires { count ≤ 0x200000 }
     ensures { space.new ≡ record space.old { memory = apply (block space.old.memory.a20 segment (take count space.old.scratch)) space.old.memory } }

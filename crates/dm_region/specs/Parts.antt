@@ -1,18 +1,18 @@
--- Parts of a list of bytes.
+-- Parts of a list of bytes, and the loan of a part of a region.
 use Rattle.std.specs.Prelude.{ℕ, ◌+◌, List, ◌++◌, take, drop}
 use Rattle.std.specs.Borrow.{Fml, MutBor, Array, u8, Lends}
 use Rattle.std.specs.List.{refill}
 use Rattle.dm_region.specs.contracts.region.Region.{the_row}
 
--- the len bytes from the place from on
+-- the len bytes of a list from its byte `from` on
 abbrev pub part : List ℕ → ℕ → ℕ → List ℕ
 part xs from len = take len (drop from xs)
 
--- xs with ws in the place of its len bytes from the place from on
+-- xs with ws in place of its len bytes from the byte `from` on
 abbrev pub with_part : List ℕ → ℕ → ℕ → List ℕ → List ℕ
 with_part xs from len ws = take from xs ++ (ws ++ drop (from + len) xs)
 
--- what is written through the loan of a part stands there when the loan ends, and all else is as it was. (A slice keeps
--- its length, so `refill` is the list that the borrower leaves.)
+-- when the loan r of len bytes of the region s from its byte `from` on ends, these bytes are what was written through
+-- it, and all others are as they were. (A slice keeps its length, so `refill` is the list that the borrower leaves.)
 abbrev pub LendsPart : MutBor (List ℕ) → ℕ → ℕ → MutBor (List ℕ) → Fml
 LendsPart s from len r = Lends the_row (Array u8 0) s r (λ w. with_part s.now from len (refill len (part s.now from len) w))

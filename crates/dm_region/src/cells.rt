@@ -1,5 +1,5 @@
-//! A block of memory, as Rust's `[MaybeUninit<T>]`: a row of places, each empty or holding a value. All functions that
-//! follow a pointer are here.
+//! A block of memory, like Rust's `[MaybeUninit<T>]`: a row of places, each empty or holding a value. All functions
+//! that follow a raw pointer are here.
 ghost use Rattle.std.specs.Prelude.{◌≡◌, ℕ, ◌<◌, ◌≤◌, List, Option, Some, None, map, length, take, drop, replicate, get_or, slice_set, IfOk, ⊤};
 ghost use Rattle.std.specs.Borrow.{sem, u8};
 ghost use Rattle.std.specs.Vec.Ownership.{FitsInBlock};
@@ -14,7 +14,7 @@ use std::marker::{Model, PhantomData, Send, Sync};
 use std::mem::{align_of, size_of};
 use std::slice;
 
-/// Where the block begins. It owns nothing.
+/// Pointer to the first place of a block. It owns nothing.
 pub struct Base<T> {
     ptr: *mut T,
 }
@@ -35,7 +35,8 @@ unsafe impl<T> Send for Base<T> {}
 
 unsafe impl<T> Sync for Base<T> {}
 
-/// The owner of the places. It takes no space: who holds it holds the pointer and the number of places too.
+/// The owner of a block's places, from the address `at` on. It takes no space: its holder keeps the pointer and the
+/// number of places.
 pub struct Cells<T> {
     mark: PhantomData<*const T>,
     ghost at: { Ptr },
@@ -68,10 +69,11 @@ impl<T, A: Allocator> Model for Deed<T, A> {
 
 unsafe impl<T, A: Allocator + Send> Send for Deed<T, A> {}
 
-// A `&` to it holds nothing.
+// A `&Deed` holds nothing, so threads may share it.
 unsafe impl<T, A: Allocator> Sync for Deed<T, A> {}
 
-/// A block of `len` empty places from `alloc`: where it begins, its places, and the right to give it back.
+/// Allocates a block of `len` empty places from `alloc`: returns where it begins, the owner of its places, and the
+/// right to give it back.
 ///
 /// # Errors
 ///
@@ -98,7 +100,7 @@ pub(crate) fn allocate<T, A: Allocator>(
     }
 }
 
-/// Gives a block back to the allocator that it came from. All its places are empty.
+/// Gives the block of `len` places at `base` back to `alloc`, from which it came. All its places must be empty.
 pub(crate) fn deallocate<T, A: Allocator>(
     alloc: &A,
     base: Base<T>,
@@ -115,7 +117,8 @@ pub(crate) fn deallocate<T, A: Allocator>(
     }
 }
 
-/// The first `len` bytes of a slice, and those from byte `other` on, lent at once to be written.
+/// The first `len` bytes of a slice, and those from byte `other` on, lent at once to be written. The bytes between them
+/// stay as they are.
 pub fn ends_mut(bytes: &mut [u8], len: usize, other: usize) -> (&mut [u8], &mut [u8])
     requires { (len ≤ other) × (other ≤ length bytes.old) }
     ensures* writes_back { sem 𝓛 (lends_ends u8 bytes.entry len other result) }
@@ -134,7 +137,7 @@ pub fn ends_mut(bytes: &mut [u8], len: usize, other: usize) -> (&mut [u8], &mut 
 impl<T> Cells<T> {
     ghost use Rattle.dm_region.specs.inner.Lends.{lends_run};
 
-    /// Puts a value into an empty place.
+    /// Puts `item` into the empty place `index`. The other places stay as they are.
     pub(crate) fn write(&mut self, base: Base<T>, index: usize, item: T)
         requires { (base.ptr ≡ self.old.at) × (index < length self.old.slots) × (get_or self.old.slots index None ≡ None) }
         ensures { (self.new.at ≡ self.old.at) × (self.new.slots ≡ slice_set self.old.slots index (Some item)) }
@@ -142,7 +145,7 @@ impl<T> Cells<T> {
         unsafe { base.ptr.add(index).write(item) }
     }
 
-    /// Takes the value out of a place, which is empty then.
+    /// Takes the value out of the place `index`, which is empty afterwards. The other places stay as they are.
     pub(crate) fn read(&mut self, base: Base<T>, index: usize) -> T
         requires { (base.ptr ≡ self.old.at) × IsFilled self.old.slots index }
         ensures value { get_or self.old.slots index None ≡ Some result }
@@ -151,7 +154,7 @@ impl<T> Cells<T> {
         unsafe { base.ptr.add(index).read() }
     }
 
-    /// The `len` values from place `from` on.
+    /// The `len` values from place `from` on; none of these places may be empty.
     pub(crate) fn slice(&self, base: Base<T>, from: usize, len: usize) -> &[T]
         requires { (base.ptr ≡ self.now.at) × IsRun self.now.slots from len }
         ensures { take len (drop from self.now.slots) ≡ map Some result.now }
@@ -159,7 +162,7 @@ impl<T> Cells<T> {
         unsafe { slice::from_raw_parts(base.ptr.add(from), len) }
     }
 
-    /// The `len` values from place `from` on, lent to be written.
+    /// The `len` values from place `from` on, lent to be written; none of these places may be empty.
     pub(crate) fn slice_mut(&mut self, base: Base<T>, from: usize, len: usize) -> &mut [T]
         requires { (base.ptr ≡ self.old.at) × IsRun self.old.slots from len }
         ensures* writes_back { sem 𝓛 (lends_run T.row self.entry from len result) }

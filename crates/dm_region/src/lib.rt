@@ -1,5 +1,5 @@
-//! One allocation of bytes, whose parts are lent as slices. All pointers of the machine's memory are here: what stands
-//! on this crate sees a list of bytes.
+//! A block of bytes of fixed length in one allocation, whose parts are lent as slices. All code that follows raw
+//! pointers into the machine's memory is in this crate; the crates that use it see a list of bytes.
 #![tactic(auto)]
 
 mod cells;

@@ -1,4 +1,4 @@
-//! A region of bytes, all of which have a value.
+//! A region: bytes of fixed number in one allocation, all of them initialised.
 ghost use Rattle.std.specs.Prelude.{◌≡◌, ◌+◌, ◌≤◌, length, replicate, IfOk};
 ghost use Rattle.std.specs.Borrow.{sem};
 ghost use Rattle.dm_region.specs.Parts.{part, with_part, LendsPart};
@@ -7,7 +7,7 @@ use crate::cells::{Base, Cells, Deed, allocate, deallocate};
 use std::alloc::{AllocError, Global};
 use std::marker::Model;
 
-/// The most bytes of one allocation.
+/// The most bytes that one allocation may have: 2^63 - 1.
 const MOST_BYTES: usize = 0x7FFF_FFFF_FFFF_FFFF;
 
 /// Bytes in one allocation of their own, which contracts see as a list. The allocation is given back when the region is
@@ -32,7 +32,7 @@ impl Model for Region {
     ghost invariant = { IsRegion };
 }
 
-/// A region of `len` zeros, where one allocation may have that many bytes.
+/// Allocates a region of `len` zeros; `len` is `MOST_BYTES` or less.
 fn zeros(alloc: Global, len: usize) -> Result<Region, AllocError>
     requires { len ≤ MOST_BYTES }
     ensures { IfOk result (λ region. region ≡ replicate len 0) }

@@ -1,11 +1,11 @@
--- The names of calls: MS-DOS Programmer's Reference, "System Calls"; LIM EMS 4.0, section 3; XMS 3.0. Numbers that are
--- no function have none.
+-- The names of calls in the report of `dm check`: MS-DOS Programmer's Reference, "System Calls"; LIM EMS 4.0, section
+-- 3; XMS 3.0. Numbers that are not served have none.
 use Rattle.std.specs.Prelude.{ℕ, ◌==◌, if◌then◌else◌, List, [], ◌++◌, codes}
 use Rattle.dm_views.specs.Digits.{two_digits}
 use Rattle.dm_findings.specs.declared.calls.Call.{Call}
 use Rattle.dm_findings.specs.declared.calls.Call.TheVariants.{DivideError, Terminate, Dos, ExpandedMemory, Multiplex, ExtendedMemory}
 
--- the name of a function of INT 21h
+-- the name of a function of INT 21h in parentheses, after a space; empty for a number that is not served
 abbrev pub dos_name : ℕ → List ℕ
 dos_name number =
     if number == 0x00 then codes " (Terminate Program)" else
@@ -34,7 +34,7 @@ dos_name number =
     if number == 0x58 then codes " (Allocation Strategy, Upper-Memory Link)" else
     if number == 0x62 then codes " (Get Program Segment Prefix Address)" else []
 
--- the name of a function of INT 67h
+-- the name of a function of INT 67h in parentheses, after a space; empty for a number that is not served
 abbrev pub expanded_name : ℕ → List ℕ
 expanded_name number =
     if number == 0x40 then codes " (Get Status)" else
@@ -57,7 +57,8 @@ expanded_name number =
     if number == 0x57 then codes " (Move/Exchange Memory Region)" else
     if number == 0x58 then codes " (Get Mappable Physical Address Array)" else []
 
--- the name of a function of the extended memory driver
+-- the name of a function of the extended memory driver in parentheses, after a space; empty for a number that is not
+-- served
 abbrev pub extended_name : ℕ → List ℕ
 extended_name number =
     if number == 0x00 then codes " (Get XMS Version Number)" else
@@ -80,7 +81,8 @@ extended_name number =
     if number == 0x11 then codes " (Release Upper Memory Block)" else
     if number == 0x12 then codes " (Reallocate Upper Memory Block)" else []
 
--- the text of a call: the driver, the function's number, and its name if it has one
+-- the text of a call: its interrupt, or `XMS` for the extended memory driver, and the number and name of the function
+-- if it has one
 abbrev pub call_text : Call → List ℕ
 call_text DivideError = codes "interrupt 0"
 call_text Terminate = codes "INT 20h"

@@ -1,4 +1,5 @@
-//! The names of calls (MS-DOS Programmer's Reference, "System Calls"; LIM EMS 4.0, section 3; XMS 3.0).
+//! The names of calls in the report of `dm check` (MS-DOS Programmer's Reference, "System Calls"; LIM EMS 4.0, section
+//! 3; XMS 3.0).
 
 ghost use Rattle.std.specs.Prelude.{◌≡◌, ◌++◌, OnOk, codes};
 ghost use Rattle.dm_views.specs.Digits.{two_digits};
@@ -8,7 +9,7 @@ use dm_findings::Call;
 use dm_views::byte_digits;
 use std::alloc::AllocError;
 
-/// The name of a function of INT 21h, with the space before it; empty for a number that is none.
+/// The name of a function of INT 21h in parentheses, after a space; empty for a number that is not served.
 fn dos_name(number: u8) -> &'static [u8]
     ensures { result.now ≡ dos_name number }
 {
@@ -42,7 +43,7 @@ fn dos_name(number: u8) -> &'static [u8]
     }
 }
 
-/// The name of a function of INT 67h, with the space before it; empty for a number that is none.
+/// The name of a function of INT 67h in parentheses, after a space; empty for a number that is not served.
 fn expanded_name(number: u8) -> &'static [u8]
     ensures { result.now ≡ expanded_name number }
 {
@@ -70,7 +71,8 @@ fn expanded_name(number: u8) -> &'static [u8]
     }
 }
 
-/// The name of a function of the extended memory driver, with the space before it; empty for a number that is none.
+/// The name of a function of the extended memory driver in parentheses, after a space; empty for a number that is not
+/// served.
 fn extended_name(number: u8) -> &'static [u8]
     ensures { result.now ≡ extended_name number }
 {
@@ -98,7 +100,7 @@ fn extended_name(number: u8) -> &'static [u8]
     }
 }
 
-/// Puts the number of a function in hexadecimal, and its name.
+/// Appends the number of a function in two hexadecimal digits, `h`, and its name as given.
 fn put_function(out: &mut Vec<u8>, number: u8, name: &[u8]) -> Result<(), AllocError>
     ensures { OnOk result (out.new.items ≡ out.old.items ++ (two_digits number ++ codes "h" ++ name.now)) }
 {
@@ -107,7 +109,8 @@ fn put_function(out: &mut Vec<u8>, number: u8, name: &[u8]) -> Result<(), AllocE
     out.extend_from_slice(name)
 }
 
-/// Puts the text of a call: the interrupt or driver that serves it, and the function's number and name.
+/// Appends the text of a call: its interrupt, or `XMS` for the extended memory driver, and the number and name of the
+/// function if it has one.
 ///
 /// # Errors
 ///

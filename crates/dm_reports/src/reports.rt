@@ -1,4 +1,4 @@
-//! The text of a report.
+//! The text of the report of `dm check`. Each call appends its text to `out`; an `Err` is a failed allocation.
 
 ghost use Rattle.std.specs.Prelude.{◌≡◌, ◌++◌, OnOk, take};
 ghost use Rattle.std.specs.List.{flat_map};
@@ -9,7 +9,7 @@ use crate::texts::{put_found, put_number};
 use dm_findings::{Found, Report};
 use std::alloc::AllocError;
 
-/// Puts the lines of findings.
+/// Appends a line for each finding, in their order.
 fn put_all(out: &mut Vec<u8>, findings: &[Found]) -> Result<(), AllocError>
     ensures { OnOk result (out.new.items ≡ out.old.items ++ flat_map found_line findings.now) }
 {
@@ -19,8 +19,8 @@ fn put_all(out: &mut Vec<u8>, findings: &[Found]) -> Result<(), AllocError>
     Ok(())
 }
 
-/// Puts the text of a report: a line for each finding that it keeps, in the order in which they happened, then a line
-/// with the numbers of all errors and notes.
+/// Appends the text of a report: a line for each finding that it keeps, in the order in which they happened, then a
+/// line with the numbers of all errors and notes.
 ///
 /// # Errors
 ///

@@ -1,4 +1,5 @@
-//! The texts of findings.
+//! The texts of findings, as the report of `dm check` has them. Each call appends its text to `out`; an `Err` is a
+//! failed allocation.
 
 ghost use Rattle.std.specs.Prelude.{◌≡◌, ◌++◌, OnOk, codes, decimal};
 ghost use Rattle.dm_findings.specs.Findings.{is_error};
@@ -14,7 +15,7 @@ use dm_views::{byte_digits, put_address, word_digits};
 use itoa::Buffer;
 use std::alloc::AllocError;
 
-/// Puts a number in decimal.
+/// Appends a number in decimal.
 pub(crate) fn put_number(out: &mut Vec<u8>, n: u64) -> Result<(), AllocError>
     ensures { OnOk result (out.new.items ≡ out.old.items ++ decimal n) }
 {
@@ -22,7 +23,7 @@ pub(crate) fn put_number(out: &mut Vec<u8>, n: u64) -> Result<(), AllocError>
     out.extend_from_slice(buffer.format(n).as_bytes())
 }
 
-/// Puts a segment between two texts.
+/// Appends a word, such as a segment, in four hexadecimal digits between two texts.
 fn put_segment(
     out: &mut Vec<u8>,
     before: &[u8],
@@ -36,7 +37,7 @@ fn put_segment(
     out.extend_from_slice(after)
 }
 
-/// Puts a number between two texts, in decimal.
+/// Appends a number in decimal between two texts.
 fn put_count(out: &mut Vec<u8>, before: &[u8], n: u16, after: &[u8]) -> Result<(), AllocError>
     ensures { OnOk result (out.new.items ≡ out.old.items ++ (before.now ++ decimal n ++ after.now)) }
 {
@@ -45,7 +46,7 @@ fn put_count(out: &mut Vec<u8>, before: &[u8], n: u16, after: &[u8]) -> Result<(
     out.extend_from_slice(after)
 }
 
-/// Puts the signature, owner and size of a header.
+/// Appends the signature, owner and size of a header, in hexadecimal.
 fn put_contents(out: &mut Vec<u8>, contents: Contents) -> Result<(), AllocError>
     ensures { OnOk result (out.new.items ≡ out.old.items ++ contents_text contents) }
 {
@@ -54,6 +55,7 @@ fn put_contents(out: &mut Vec<u8>, contents: Contents) -> Result<(), AllocError>
     out.extend_from_slice(&word_digits(contents.size))
 }
 
+/// Appends that the header at segment `at` was overwritten: its contents before and after.
 fn put_overwritten(
     out: &mut Vec<u8>,
     at: u16,
@@ -69,6 +71,8 @@ fn put_overwritten(
     put_contents(out, new)
 }
 
+/// Appends that a call failed with code 08h, not enough memory: how many paragraphs it asked for, and the largest
+/// number available.
 fn put_short(out: &mut Vec<u8>, asked: u16, largest: u16) -> Result<(), AllocError>
     ensures { OnOk result (out.new.items ≡ out.old.items
         ++ (codes "refused with code 08h: " ++ four_digits asked ++ codes "h paragraphs wanted, " ++ four_digits largest ++ codes "h available")) }
@@ -83,6 +87,7 @@ fn put_short(out: &mut Vec<u8>, asked: u16, largest: u16) -> Result<(), AllocErr
     out.extend_from_slice(b"h available")
 }
 
+/// Appends that a call failed with an error code.
 fn put_refused(out: &mut Vec<u8>, code: u8) -> Result<(), AllocError>
     ensures { OnOk result (out.new.items ≡ out.old.items ++ (codes "refused with code " ++ two_digits code ++ codes "h")) }
 {
@@ -91,13 +96,14 @@ fn put_refused(out: &mut Vec<u8>, code: u8) -> Result<(), AllocError>
     out.extend_from_slice(b"h")
 }
 
-/// What is put after a block that is locked.
+/// What follows the size of a block of extended memory: `, locked` if it is locked, otherwise nothing.
 fn lock_of(locked: bool) -> &'static [u8]
     ensures { result.now ≡ lock_text locked }
 {
     if locked { b", locked" } else { b"" }
 }
 
+/// Appends that the block of a handle of extended memory was not freed: its size in KiB, and whether it is locked.
 fn put_block_kept(out: &mut Vec<u8>, handle: u16, kib: u16, locked: bool) -> Result<(), AllocError>
     ensures { OnOk result (out.new.items ≡ out.old.items
         ++ (codes "XMS handle " ++ decimal handle ++ codes ": " ++ decimal kib ++ codes " KiB not freed" ++ lock_text locked)) }
@@ -108,6 +114,7 @@ fn put_block_kept(out: &mut Vec<u8>, handle: u16, kib: u16, locked: bool) -> Res
     out.extend_from_slice(lock_of(locked))
 }
 
+/// Appends that the pages of a handle of expanded memory were not freed: how many they are.
 fn put_pages_kept(out: &mut Vec<u8>, handle: u16, pages: u16) -> Result<(), AllocError>
     ensures { OnOk result (out.new.items ≡ out.old.items
         ++ (codes "EMS handle " ++ decimal handle ++ codes ": " ++ decimal pages ++ codes " pages not freed")) }
@@ -116,7 +123,7 @@ fn put_pages_kept(out: &mut Vec<u8>, handle: u16, pages: u16) -> Result<(), Allo
     put_count(out, b"", pages, b" pages not freed")
 }
 
-/// Puts what was found.
+/// Appends what was found, in words, without the step.
 fn put_finding(out: &mut Vec<u8>, finding: &Finding) -> Result<(), AllocError>
     ensures { OnOk result (out.new.items ≡ out.old.items ++ finding_text finding.now) }
 {
@@ -138,7 +145,7 @@ fn put_finding(out: &mut Vec<u8>, finding: &Finding) -> Result<(), AllocError>
     }
 }
 
-/// Puts the text of an instruction, where the next one stands at an offset.
+/// Appends an instruction's text. `next` is the offset after it, from which relative jumps and calls are counted.
 fn put_instruction(out: &mut Vec<u8>, ins: &Ins, next: u16) -> Result<(), AllocError>
     ensures { OnOk result (out.new.items ≡ out.old.items ++ text_of ins.now next) }
 {
@@ -147,7 +154,7 @@ fn put_instruction(out: &mut Vec<u8>, ins: &Ins, next: u16) -> Result<(), AllocE
     out.extend_from_slice(line.bytes())
 }
 
-/// Puts what acted in a step: a call, or an instruction.
+/// Appends what was performed in a step: a call, or an instruction.
 fn put_act(out: &mut Vec<u8>, act: &Act) -> Result<(), AllocError>
     ensures { OnOk result (out.new.items ≡ out.old.items ++ act_text act.now) }
 {
@@ -157,7 +164,7 @@ fn put_act(out: &mut Vec<u8>, act: &Act) -> Result<(), AllocError>
     }
 }
 
-/// Whether a finding is an error or a note.
+/// The first word of a finding's line: `error` or `note`.
 fn kind_of(finding: &Finding) -> &'static [u8]
     ensures { result.now ≡ kind_text (is_error finding.now) }
 {
@@ -168,8 +175,8 @@ fn kind_of(finding: &Finding) -> &'static [u8]
     }
 }
 
-/// Puts the line of a finding: error or note, the number of its step, CS:IP before the step, what acted in it, and what
-/// was found.
+/// Appends the line of a finding: error or note, the number of its step, CS:IP before the step, the call or
+/// instruction, and what was found.
 ///
 /// # Errors
 ///

@@ -10,41 +10,42 @@ use Rattle.dm_arena.specs.Allocation.{Allocates}
 use Rattle.dm_arena.specs.Owned.{Frees, Resizes}
 use Rattle.dm_state.specs.State.{State, Answer, go, interrupt_returned, with_carry}
 
--- back in the program with these registers, this memory and CF
+-- the return from a call with registers c, memory m and CF: IP, CS and FLAGS are popped, CF is set or cleared, and the
+-- step is counted
 abbrev pub answered : State → Cpu → Memory → Bool → Answer
 answered s c m carry = go (with_carry (interrupt_returned (record s { cpu = c; memory = m })) carry)
 
--- AX is the error; where there is not enough memory, BX is how many paragraphs there are
+-- registers with the error in AX; where memory is too short, BX is the largest size possible, in paragraphs
 abbrev pub refused : Cpu → ArenaRefusal → Cpu
 refused c Destroyed = record c { ax = 7 }
 refused c (Short largest) = record c { ax = 8; bx = largest }
 refused c NoBlock = record c { ax = 9 }
 
--- 48h: BX paragraphs for the present process; AX is the block's segment
+-- 48h, by its result: AX is the block's segment, CF = 0; or AX is an error, CF = 1
 abbrev pub allocated : State → Result ℕ ArenaRefusal → Memory → Answer
 allocated s (Ok segment) m = answered s (record s.cpu { ax = segment }) m false
 allocated s (Err e) m = answered s (refused s.cpu e) m true
 
--- 48h: BX paragraphs for the present process, by the strategy
+-- 48h: allocates BX paragraphs for the present process, by the allocation strategy, or fails
 pub record Allocation (s : State) (x : Answer) : Type 0 where
   pub result : Result ℕ ArenaRefusal
   pub memory : Memory
   pub allocates : Allocates s.upper s.memory s.strategy s.cpu.bx s.processes.present result memory
   pub answer : x ≡ allocated s result memory
 
--- what the calls return that report success or an error, and nothing more
+-- 49h, 4Ah, and 58h with AL = 3, by the result: CF = 0 and no other register set; or AX is an error, CF = 1
 abbrev pub settled : State → Result (Unit {0}) ArenaRefusal → Memory → Answer
 settled s (Ok u) m = answered s s.cpu m false
 settled s (Err e) m = answered s (refused s.cpu e) m true
 
--- 49h: the block at segment ES is freed
+-- 49h: the block at segment ES is freed, or the call fails
 pub record Freeing (s : State) (x : Answer) : Type 0 where
   pub result : Result (Unit {0}) ArenaRefusal
   pub memory : Memory
   pub frees : Frees s.upper s.memory s.cpu.es result memory
   pub answer : x ≡ settled s result memory
 
--- 4Ah: the block at segment ES gets BX paragraphs
+-- 4Ah: the block at segment ES gets a size of BX paragraphs, or the call fails
 pub record Resizing (s : State) (x : Answer) : Type 0 where
   pub result : Result (Unit {0}) ArenaRefusal
   pub memory : Memory

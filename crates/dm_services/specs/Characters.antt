@@ -13,11 +13,11 @@ use Rattle.dm_services.specs.Text.{written}
 abbrev pub with_al : State → ℕ → State
 with_al s byte = record s { cpu = with_byte s.cpu Al byte }
 
--- the state with this input left
+-- the state with this console input left
 abbrev pub with_input : State → List ℕ → State
 with_input s rest = record s { console = record s.console { input = rest } }
 
--- the state with bytes written to the console
+-- the state with bytes written to the console: the output and the room are those of `written`
 abbrev pub with_written : State → List ℕ → State
 with_written s bytes = record s { console = written s.console bytes }
 
@@ -25,7 +25,7 @@ with_written s bytes = record s { console = written s.console bytes }
 abbrev pub with_zero : State → Bool → State
 with_zero s b = record s { cpu = record s.cpu { flags = record s.cpu.flags { zero = b } } }
 
--- 07h, 08h: AL is the next byte of the input; where none is left, the machine stops
+-- 07h, 08h, by the input that is left: AL is its first byte, which is taken; the machine stops where there is none
 abbrev pub character_of : State → List ℕ → Answer
 character_of s [] = stop_at InputEnded s
 character_of s (byte ∷ rest) = go (interrupt_returned (with_al (with_input s rest) byte))
@@ -34,20 +34,22 @@ character_of s (byte ∷ rest) = go (interrupt_returned (with_al (with_input s r
 unfoldable pub read_character : State → Answer
 read_character s = character_of s s.console.input
 
--- 01h: AL is the next byte of the input, which is written; where none is left, the machine stops
+-- 01h, by the input that is left: AL is its first byte, which is taken and written; the machine stops where there is
+-- none
 abbrev pub echo_of : State → List ℕ → Answer
 echo_of s [] = stop_at InputEnded s
 echo_of s (byte ∷ rest) = go (interrupt_returned (with_al (with_written (with_input s rest) (byte ∷ [])) byte))
 
--- 01h: AL is the next byte of the input, which is written
+-- 01h: AL is the next byte of the input, which is written to the console
 unfoldable pub echo_character : State → Answer
 echo_character s = echo_of s s.console.input
 
--- 02h: DL is written
+-- 02h: the byte in DL is written to the console
 unfoldable pub write_character : State → Answer
 write_character s = go (interrupt_returned (with_written s (byte_of s.cpu Dl ∷ [])))
 
--- 06h with DL = FFh: AL is the next byte and ZF = 0; where none is left, AL = 0 and ZF = 1
+-- 06h with DL = FFh, by the input that is left: AL is its first byte, which is taken, and ZF = 0; where there is none,
+-- AL = 0 and ZF = 1
 abbrev pub poll_of : State → List ℕ → Answer
 poll_of s [] = go (with_zero (interrupt_returned (with_al s 0)) true)
 poll_of s (byte ∷ rest) = go (with_zero (interrupt_returned (with_al (with_input s rest) byte)) false)
@@ -56,15 +58,15 @@ poll_of s (byte ∷ rest) = go (with_zero (interrupt_returned (with_al (with_inp
 unfoldable pub poll_character : State → Answer
 poll_character s = poll_of s s.console.input
 
--- 06h: DL is written, unless it is FFh
+-- 06h: reads a byte into AL if DL = FFh, otherwise writes DL to the console
 unfoldable pub direct_character : State → Answer
 direct_character s = if byte_of s.cpu Dl == 0xFF then poll_character s else write_character s
 
--- 0Bh: AL = FFh if input is left, else 0
+-- what 0Bh returns in AL, by the input that is left: FFh if there is some, else 0
 abbrev pub input_status : List ℕ → ℕ
 input_status [] = 0
 input_status (byte ∷ rest) = 0xFF
 
--- 0Bh: AL says whether input is left
+-- 0Bh: AL is FFh if console input is left, else 0; no input is taken
 unfoldable pub check_input : State → Answer
 check_input s = go (interrupt_returned (with_al s (input_status s.console.input)))

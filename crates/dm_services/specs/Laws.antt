@@ -9,11 +9,12 @@ use Rattle.dm_space.specs.declared.entry_points.Service.{Service}
 use Rattle.dm_state.specs.State.{State, Answer}
 use Rattle.dm_services.specs.Services.{Serves}
 
--- what a service returns, and all that it leaves, are functions of the state
+-- the state before a service determines its stop and the state after it
 abbrev pub ServicesHaveOneAnswer : Type 0
 ServicesHaveOneAnswer = (s : State) (service : Service) (x y : Answer) → Serves s service x → Serves s service y → x ≡ y
 
--- A20, the windows, and which blocks there are, where they lie and how large they are: each service keeps them
+-- each service keeps A20, the windows, and the number, place and size of the pool's blocks: in memory it writes bytes
+-- alone
 abbrev pub ServicesKeepTheMap : Type 0
 ServicesKeepTheMap = (s : State) (service : Service) (x : Answer) → Serves s service x → IsShaped s.memory x.state.memory
 
@@ -25,21 +26,20 @@ ServicesKeepTheTables = (s : State) (service : Service) (x : Answer) → Serves 
 abbrev pub with_change : (Memory → Memory) → State → State
 with_change change s = record s { memory = change s.memory }
 
--- what a step returns, with its memory changed
+-- a step's result with the memory of its state changed
 abbrev pub answer_with : (Memory → Memory) → Answer → Answer
 answer_with change x = record { stop = x.stop; state = with_change change x.state }
 
--- where memory is changed out of every program's sight the result is the same, and the change stays: no service of DOS
--- gives a program another view of memory, as drivers do
+-- if memory is changed where no program sees it, a service has the same result, with the same change in its memory
 abbrev pub ServicesIgnoreUnseen : Type 0
 ServicesIgnoreUnseen =
     (change : Memory → Memory) → IsUnseen change → (s : State) (service : Service) (x : Answer) →
     Serves s service x → Serves (with_change change s) service (answer_with change x)
 
--- where the output would be full without memory
+-- the length of the output plus the room: how long the output can get without an allocation
 abbrev pub limit : Streams → ℕ
 limit c = c.room + length c.output
 
--- what a service writes is taken from the room, or from more room than there was: the limit never sinks
+-- no service makes the limit of the console smaller
 abbrev pub ServicesKeepRoom : Type 0
 ServicesKeepRoom = (s : State) (service : Service) (x : Answer) → Serves s service x → limit s.console ≤ limit x.state.console

@@ -8,35 +8,37 @@ use Rattle.dm_state.specs.declared.stop.Stop.TheVariants.{InputEnded}
 use Rattle.dm_state.specs.State.{State, Answer, go, stop_at, interrupt_returned}
 use Rattle.dm_space.specs.Buffers.{with_bytes}
 
--- how many bytes stand before the first 0Dh, if there is one
+-- how many bytes of the input stand before the first 0Dh; None where there is no 0Dh
 unfoldable pub line_length : List ℕ → Option ℕ
 line_length input = position (λ byte. byte == 0x0D) input
 
--- what a buffer for m bytes keeps of a line: its first m - 1 bytes other than 0Ah
+-- what a buffer of size m keeps of a line: its first m - 1 bytes other than 0Ah
 unfoldable pub kept_bytes : ℕ → List ℕ → List ℕ
 kept_bytes m line = take (m - 1) (filter (λ byte. not (byte == 0x0A)) line)
 
--- a buffer has the bytes and 0Dh from byte 2 on, and their count (without the 0Dh) in byte 1
+-- the memory with the bytes in the buffer at segment:offset: they and a 0Dh stand from its byte 2 on, and their count
+-- (without the 0Dh) in byte 1
 abbrev pub filled : Memory → ℕ → ℕ → List ℕ → Memory
 filled m segment offset bytes =
     with_bytes (with_bytes m segment (up offset 2) (bytes ++ 0x0D ∷ [])) segment (up offset 1) (length bytes ∷ [])
 
--- the line of so many bytes is taken with its 0Dh
+-- the state with a line of so many bytes, and its 0Dh, taken from the input, and what a buffer of size m keeps of it
+-- written to the buffer at DS:DX
 abbrev pub with_line : State → ℕ → ℕ → State
 with_line s m line = record s {
   memory = filled s.memory s.cpu.ds s.cpu.dx (kept_bytes m (take line s.console.input));
   console = record s.console { input = drop (line + 1) s.console.input };
 }
 
--- where no 0Dh is left, the machine stops
+-- 0Ah with a buffer of size m above 0, by the length of the next line: the machine stops where there is no line (None)
 abbrev pub line_read : State → ℕ → Option ℕ → Answer
 line_read s m None = stop_at InputEnded s
 line_read s m (Some line) = go (interrupt_returned (with_line s m line))
 
--- a buffer for no byte stays as it is, and no input is taken
+-- 0Ah with a buffer of size m: for size 0, the buffer stays and no input is taken
 abbrev pub line_into : State → ℕ → Answer
 line_into s m = if m == 0 then go (interrupt_returned s) else line_read s m (line_length s.console.input)
 
--- 0Ah: a line of the input goes into the buffer at DS:DX, whose byte 0 says for how many bytes it is
+-- 0Ah: a line of the input goes into the buffer at DS:DX, whose byte 0 is its size
 unfoldable pub read_line : State → Answer
 read_line s = line_into s (peek s.memory (linear s.memory.a20 s.cpu.ds s.cpu.dx))

@@ -16,7 +16,7 @@ use Rattle.dm_state.specs.declared.stop.Stop.TheVariants as stop
 use Rattle.dm_state.specs.State.{State, Answer, go, stop_at, interrupt_returned}
 use Rattle.dm_services.specs.Allocation.{answered}
 
--- the error code of a refused call of 4Bh, in AX
+-- the error code of a failed call of 4Bh, in AX
 abbrev pub code_of : ExecRefusal → ℕ
 code_of Function = 1
 code_of NotFound = 2
@@ -25,20 +25,21 @@ code_of Environment = 10
 code_of Destroyed = 7
 code_of Short = 8
 
--- a call of 4Bh that is refused changes AX and CF alone
+-- 4Bh fails: AX is the error code, CF = 1; memory and processes stay
 abbrev pub not_loaded : State → ExecRefusal → Answer
 not_loaded s e = answered s (record s.cpu { ax = code_of e }) s.memory true
 
--- what a start or an end of a process leaves
+-- the state with other processes, registers and memory, as the start or the end of a process leaves them
 abbrev pub with_processes : State → Processes → Cpu → Memory → State
 with_processes s qs d n = record s { cpu = d; memory = n; processes = qs }
 
--- 4Bh with AL = 0: the child goes on, or the call is refused
+-- 4Bh with AL other than 3, by its result: the child goes on with registers d, processes qs and memory n; or the call
+-- fails
 abbrev pub executed : State → Result (Unit {0}) ExecRefusal → Processes → Cpu → Memory → Answer
 executed s (Ok u) qs d n = go (with_processes s qs d n)
 executed s (Err e) qs d n = not_loaded s e
 
--- 4Bh with AL = 0: a child is started, or the call is refused
+-- 4Bh with AL other than 3: a child is started; or the call fails, with error 1 if AL is not 0
 pub record Executing (s : State) (x : Answer) : Type 0 where
   pub result : Result (Unit {0}) ExecRefusal
   pub processes : Processes
@@ -47,29 +48,29 @@ pub record Executing (s : State) (x : Answer) : Type 0 where
   pub executes : Executes s.upper s.processes s.cpu s.memory s.programs s.strategy result processes cpu memory
   pub answer : x ≡ executed s result processes cpu memory
 
--- 4Bh with AL = 3: an overlay is loaded, and the program goes on
+-- 4Bh with AL = 3, by its result: the program goes on with the overlay in memory n, CF = 0; or the call fails
 abbrev pub overlaid : State → Result (Unit {0}) ExecRefusal → Memory → Answer
 overlaid s (Ok u) n = answered s s.cpu n false
 overlaid s (Err e) n = not_loaded s e
 
--- 4Bh with AL = 3: an overlay is loaded, or the call is refused
+-- 4Bh with AL = 3: an overlay is loaded, or the call fails
 pub record Overlaying (s : State) (x : Answer) : Type 0 where
   pub result : Result (Unit {0}) ExecRefusal
   pub memory : Memory
   pub overlays : Overlays s.cpu s.memory s.programs result memory
   pub answer : x ≡ overlaid s result memory
 
--- any AL but 0 and 3 is no such call
+-- 4Bh, by whether AL is 3: loads an overlay, or starts a child, which fails with error 1 if AL is not 0
 abbrev pub LoadingAs : Bool → State → Answer → Type 0
 LoadingAs true s x = Overlaying s x
 LoadingAs false s x = Executing s x
 
--- 4Bh, by AL
+-- 4Bh from s returns x: by AL, a child is started or an overlay loaded, or the call fails
 abbrev pub Loading : State → Answer → Type 0
 Loading s x = LoadingAs (byte_of s.cpu Al == 3) s x
 
--- a process ends: its parent goes on, or the first program has ended with the code; without a list of blocks nothing
--- changes
+-- the result of an ending with a code: the parent goes on (Returned); the machine stops, and `exited` is the code
+-- (Exited); or the machine stops with `Destroyed`, no step is made and the state is s
 abbrev pub concluded : State → ℕ → Result Ending ArenaDestroyed → Processes → Cpu → Memory → Answer
 concluded s code (Ok Returned) qs d n = go (with_processes s qs d n)
 concluded s code (Ok Exited) qs d n = record {
@@ -78,7 +79,8 @@ concluded s code (Ok Exited) qs d n = record {
 }
 concluded s code (Err e) qs d n = stop_at stop.Destroyed s
 
--- 4Ch and the other endings with a code: what the process owned is freed
+-- 00h, 4Ch, INT 20h and a divide error: the present process ends with the code, and its blocks are freed; `Destroyed`
+-- if memory holds no valid block list
 pub record Terminating (s : State) (code : ℕ) (x : Answer) : Type 0 where
   pub result : Result Ending ArenaDestroyed
   pub processes : Processes
@@ -87,7 +89,8 @@ pub record Terminating (s : State) (code : ℕ) (x : Answer) : Type 0 where
   pub terminates : Terminates s.upper s.processes s.cpu s.memory code result processes cpu memory
   pub answer : x ≡ concluded s code result processes cpu memory
 
--- 31h: the process ends with the code in AL, and keeps DX paragraphs
+-- 31h: the present process ends with the code in AL, its block is resized to DX paragraphs where that is possible, and
+-- its other blocks stay; `Destroyed` if memory holds no valid block list
 pub record Keeping (s : State) (x : Answer) : Type 0 where
   pub result : Result Ending ArenaDestroyed
   pub processes : Processes
@@ -96,7 +99,7 @@ pub record Keeping (s : State) (x : Answer) : Type 0 where
   pub keeps : Keeps s.upper s.processes s.cpu s.memory (byte_of s.cpu Al) s.cpu.dx result processes cpu memory
   pub answer : x ≡ concluded s (byte_of s.cpu Al) result processes cpu memory
 
--- 4Dh: AX is the word of the last ending, which can be read once
+-- 4Dh: AX is the word of the last ending (AL the code, AH the kind), which is 0 from then on
 unfoldable pub tell_code : State → Answer
 tell_code s =
     go (interrupt_returned (record s { cpu = record s.cpu { ax = s.processes.code }; processes = record s.processes { code = 0 } }))

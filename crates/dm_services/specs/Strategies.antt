@@ -19,27 +19,28 @@ use Rattle.dm_services.specs.Allocation.{answered, refused, settled}
 
 -- ---- strategies by their numbers: the fit in the low bits, the area in the high ones
 
--- the high bits of a strategy's number: 0, 40h for upper memory alone, 80h for upper memory first
+-- the high bits of a strategy's number, by its area: 0, 40h for upper memory alone, 80h for upper memory first
 abbrev pub number_of_area : Area → ℕ
 number_of_area All = 0
 number_of_area Upper = 0x40
 number_of_area UpperFirst = 0x80
 
--- the low bits of a strategy's number: first, best or last fit
+-- the low bits of a strategy's number, by its fit: first, best or last fit
 abbrev pub number_of_fit : Fit → ℕ
 number_of_fit First = 0
 number_of_fit Best = 1
 number_of_fit Last = 2
 
--- the number of a strategy, as BX and AX have it
+-- the number of a strategy, as function 58h has it in AX and BX
 abbrev pub strategy_number : Strategy → ℕ
 strategy_number strategy = number_of_area strategy.area + number_of_fit strategy.fit
 
--- the strategy of a fit and an area
+-- the strategy with a fit and an area
 abbrev pub strategy : Fit → Area → Strategy
 strategy fit area = record { fit = fit; area = area }
 
--- a strategy that looks at upper memory, by its number
+-- the strategy with this number that looks at upper memory, alone (40h to 42h) or first (80h to 82h); None for any
+-- other number
 abbrev pub upper_strategy_of : ℕ → Option Strategy
 upper_strategy_of number =
     if number == 0x40 then Some (strategy First Upper) else
@@ -49,7 +50,8 @@ upper_strategy_of number =
     if number == 0x81 then Some (strategy Best UpperFirst) else
     if number == 0x82 then Some (strategy Last UpperFirst) else None
 
--- those of upper memory are there where it is in the arena, linked or not
+-- the strategy with this number, or None. Those from 40h on are there only if upper memory belongs to the arena
+-- (`upper`), linked or not
 abbrev pub strategy_of : Bool → ℕ → Option Strategy
 strategy_of upper number =
     if number == 0 then Some (strategy First All) else
@@ -59,7 +61,7 @@ strategy_of upper number =
 
 -- ---- the calls
 
--- the function that AL names
+-- the subfunction of 58h with a number, which calls have in AL
 abbrev pub subfunction_of : ℕ → StrategyFunction
 subfunction_of number =
     if number == 0 then TellStrategy else
@@ -67,53 +69,57 @@ subfunction_of number =
     if number == 2 then TellLink else
     if number == 3 then SetLink else Unlisted
 
--- there is no such function, or no such value for it
+-- 58h fails with error 1 in AX, CF = 1: no such subfunction, or no such value in BX
 abbrev pub unlisted : State → Answer
 unlisted s = answered s (record s.cpu { ax = 1 }) s.memory true
 
--- AX is the strategy's number
+-- 58h with AL = 0: AX is the strategy's number, CF = 0
 abbrev pub strategy_reported : State → Answer
 strategy_reported s = answered s (record s.cpu { ax = strategy_number s.strategy }) s.memory false
 
--- the strategy is the one with the number in BX, if there is one
+-- 58h with AL = 1, by the strategy with the number in BX: it becomes the allocation strategy; error 1 if there is none
 abbrev pub set_to : State → Option Strategy → Answer
 set_to s None = unlisted s
 set_to s (Some strategy) = answered (record s { strategy = strategy }) s.cpu s.memory false
 
--- AL is 1 where the arena is linked, else 0
+-- 58h with AL = 2, by what is found: AL is 1 if the arena is linked, else 0, and CF = 0; or AX is an error, and CF = 1
 abbrev pub link_told : State → Result Bool ArenaRefusal → Answer
 link_told s (Ok on) = answered s (with_byte s.cpu Al (if on then 1 else 0)) s.memory false
 link_told s (Err e) = answered s (refused s.cpu e) s.memory true
 
--- error 7 where there is no clear list
+-- 58h with AL = 2, where upper memory belongs to the arena: AL says whether the block list in memory goes on into it;
+-- error 7 if there is no valid list
 pub record TellingLink (s : State) (x : Answer) : Type 0 where
   pub result : Result Bool ArenaRefusal
   pub tells : TellsLinked s.memory result
   pub answer : x ≡ link_told s result
 
--- without upper memory in the arena it is not linked, whatever the list
+-- 58h with AL = 2; the first argument is whether upper memory belongs to the arena. Without it, AL is 0 whatever the
+-- list
 abbrev pub TellsLink : Bool → State → Answer → Type 0
 TellsLink false s x = x ≡ link_told s (Ok false)
 TellsLink true s x = TellingLink s x
 
--- what BX asks for, if there is upper memory in the arena and BX is 0 or 1
+-- the link state that BX asks for with AL = 3: 0 to unlink, 1 to link. None for any other number, or if upper memory
+-- does not belong to the arena
 abbrev pub wanted : Bool → ℕ → Option Bool
 wanted upper number =
     if upper then (if number == 0 then Some false else if number == 1 then Some true else None) else None
 
--- 58h with AL = 3: upper memory is linked to the arena or unlinked, or the call is refused
+-- 58h with AL = 3 and a good BX: block headers are written so that the arena is linked with upper memory (`on`) or
+-- unlinked; or the call fails with error 7, and memory stays
 pub record Linking (on : Bool) (s : State) (x : Answer) : Type 0 where
   pub result : Result (Unit {0}) ArenaRefusal
   pub memory : Memory
   pub links : Links s.memory on result memory
   pub answer : x ≡ settled s result memory
 
--- the arena is linked, or parted
+-- 58h with AL = 3, by the link state that BX asks for: error 1 where it is None
 abbrev pub SetsLink : Option Bool → State → Answer → Type 0
 SetsLink None s x = x ≡ unlisted s
 SetsLink (Some on) s x = Linking on s x
 
--- 58h, by the function that AL names
+-- 58h from s returns x, by the subfunction that AL names
 abbrev pub StrategyCalls : State → StrategyFunction → Answer → Type 0
 StrategyCalls s TellStrategy x = x ≡ strategy_reported s
 StrategyCalls s SetStrategy x = x ≡ set_to s (strategy_of s.upper s.cpu.bx)

@@ -6,6 +6,6 @@ use Rattle.dm_state.specs.State.{State, Answer, go, interrupt_returned}
 unfoldable pub tell_version : State → Answer
 tell_version s = go (interrupt_returned (record s { cpu = record s.cpu { ax = 5; bx = 0; cx = 0 } }))
 
--- 51h, 62h: BX is the present process's segment
+-- 51h, 62h: BX is the segment of the present process's prefix (PSP)
 unfoldable pub tell_process : State → Answer
 tell_process s = go (interrupt_returned (record s { cpu = record s.cpu { bx = s.processes.present } }))

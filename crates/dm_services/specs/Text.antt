@@ -5,18 +5,19 @@ use Rattle.dm_console.specs.Streams.{Streams}
 use Rattle.dm_proc.specs.Writes.{bytes_from}
 use Rattle.dm_state.specs.State.{State, Answer, go, interrupt_returned}
 
--- the bytes from segment:offset on, up to the first `$`, and at most n of them; offsets wrap
+-- the bytes from segment:offset on, up to the first `$` (not included), and at most n of them; offsets wrap
 unfoldable pub text_within : Memory → ℕ → ℕ → ℕ → List ℕ
 text_within m segment offset n = take_while (λ b. not (b == 0x24)) (bytes_from m segment offset n)
 
--- a text has at most the 65,536 bytes of a segment
+-- the bytes from segment:offset on, up to the first `$`, and at most the 65,536 bytes of a segment
 abbrev pub text_at : Memory → ℕ → ℕ → List ℕ
 text_at m segment offset = text_within m segment offset 65536
 
--- a text goes out: the room grows to its length, if it must, and is used up by it
+-- the console with the text appended to the output. The room grows to the text's length first if it is smaller, and
+-- then shrinks by it
 abbrev pub written : Streams → List ℕ → Streams
 written c text = record c { output = c.output ++ text; room = max c.room (length text) - length text }
 
--- 09h: the text at DS:DX is written
+-- 09h: the text at DS:DX, up to a `$`, is written to the console; AX stays
 unfoldable pub print : State → Answer
 print s = go (interrupt_returned (record s { console = written s.console (text_at s.memory s.cpu.ds s.cpu.dx) }))

@@ -6,15 +6,15 @@ use Rattle.dm_cpu.specs.Cpu.{byte_of}
 use Rattle.dm_ins.specs.declared.operand.ByteRegister.TheVariants.{Al}
 use Rattle.dm_state.specs.State.{State, Answer, go, interrupt_returned}
 
--- the memory with another vector of an interrupt: its offset, and then its segment
+-- the memory with the vector of interrupt `number`, the two words at 0000:4*number, set to segment:offset
 abbrev pub with_vector : Memory → ℕ → ℕ → ℕ → Memory
 with_vector m number segment offset = poke16 (poke16 m 0 (4 * number) offset) 0 (4 * number + 2) segment
 
--- 25h: vector AL is DS:DX
+-- 25h: sets the vector of interrupt AL to DS:DX
 unfoldable pub set_vector : State → Answer
 set_vector s = go (interrupt_returned (record s { memory = with_vector s.memory (byte_of s.cpu Al) s.cpu.ds s.cpu.dx }))
 
--- 35h: ES:BX is vector AL
+-- 35h: returns the vector of interrupt AL in ES:BX
 unfoldable pub get_vector : State → Answer
 get_vector s = go (interrupt_returned (record s {
   cpu = record s.cpu {

@@ -7,8 +7,8 @@ use dm_arena::ArenaRefusal;
 use dm_cpu::Cpu;
 use dm_state::Parts;
 
-/// Puts the error into AX and, where there is not enough memory, how many paragraphs there are into
-/// BX.
+/// Puts the error code of a failed call of 48h, 49h, 4Ah or 58h into AX; where memory is too short (8), BX becomes the
+/// largest size possible, in paragraphs.
 pub(crate) fn refuse(cpu: &mut Cpu, refusal: ArenaRefusal)
     ensures { cpu.new ≡ refused cpu.old refusal }
 {
@@ -22,7 +22,7 @@ pub(crate) fn refuse(cpu: &mut Cpu, refusal: ArenaRefusal)
     }
 }
 
-/// Goes back to where the program called, with CF, and counts the step.
+/// Returns from a call of INT 21h: pops IP, CS and FLAGS, sets CF to `carry`, and counts the step.
 pub(crate) fn answer(parts: &mut Parts, carry: bool)
     ensures { parts.new ≡ (answered parts.old parts.old.cpu parts.old.memory carry).state }
 {
@@ -31,7 +31,8 @@ pub(crate) fn answer(parts: &mut Parts, carry: bool)
     parts.count();
 }
 
-/// 48h: allocates BX paragraphs; AX is the segment of the block.
+/// 48h: allocates BX paragraphs for the present process; AX is the segment of the block, CF is clear. On an error, AX
+/// is its code, CF is set and memory stays; for error 8, BX is the size of the largest block available.
 pub(crate) fn allocate(parts: &mut Parts)
     ensures { Allocation parts.old (record { stop = None; state = parts.new }) }
 {
@@ -54,7 +55,7 @@ pub(crate) fn allocate(parts: &mut Parts)
     }
 }
 
-/// 49h: frees the block at segment ES.
+/// 49h: frees the block at segment ES, with CF clear. On an error, AX is its code, CF is set and memory stays.
 pub(crate) fn free(parts: &mut Parts)
     ensures { Freeing parts.old (record { stop = None; state = parts.new }) }
 {
@@ -67,7 +68,8 @@ pub(crate) fn free(parts: &mut Parts)
     }
 }
 
-/// 4Ah: gives the block at segment ES a size of BX paragraphs.
+/// 4Ah: gives the block at segment ES a size of BX paragraphs, with CF clear. On an error, AX is its code, CF is set
+/// and memory stays; for error 8, BX is the largest size possible.
 pub(crate) fn resize(parts: &mut Parts)
     ensures { Resizing parts.old (record { stop = None; state = parts.new }) }
 {

@@ -1,11 +1,12 @@
-//! Bytes from the buffers of programs to the console.
+//! Writing bytes of guest memory to the console.
 ghost use Rattle.std.specs.Prelude.{◌≡◌, ◌≤◌, ◌-◌, ◌++◌};
 ghost use Rattle.dm_proc.specs.Writes.{bytes_from};
 
 use dm_console::Console;
 use dm_space::Space;
 
-/// Writes the `count` bytes from segment:offset on into the room; offsets wrap.
+/// Writes the `count` bytes at segment:offset to the console, and takes them from its room, which must suffice. Offsets
+/// wrap.
 pub(crate) fn send(console: &mut Console, space: &Space, segment: u16, offset: u16, count: u16)
     requires { count ≤ console.old.room }
     ensures { console.new ≡ record console.old {

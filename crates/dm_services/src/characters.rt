@@ -7,7 +7,8 @@ ghost use Rattle.dm_services.specs.Characters.{read_character, echo_character, w
 use dm_ins::ByteRegister;
 use dm_state::{Parts, Stop};
 
-/// 07h and 08h: AL is the next byte of the input. `InputEnded` where none is left.
+/// 07h and 08h: reads the next byte of the input into AL, without echo. Returns `InputEnded`, with nothing changed, if
+/// none is left.
 #[tactic(auto, unfolding(crate::specs::Characters::read_character))]
 pub(crate) fn read_character(parts: &mut Parts) -> Option<Stop>
     ensures answer { OrMemory parts.old (read_character parts.old) result parts.new }
@@ -22,8 +23,8 @@ pub(crate) fn read_character(parts: &mut Parts) -> Option<Stop>
     None
 }
 
-/// 01h: AL is the next byte of the input, which is written. `InputEnded` where none is left, else
-/// `Memory` where it does not go out.
+/// 01h: reads the next byte of the input into AL, and writes it to the console. With nothing changed, returns
+/// `InputEnded` if no input is left, or `Memory` if the output's allocation fails.
 #[tactic(auto, unfolding(crate::specs::Characters::echo_character))]
 pub(crate) fn echo_character(parts: &mut Parts) -> Option<Stop>
     ensures answer { OrMemory parts.old (echo_character parts.old) result parts.new }
@@ -43,7 +44,7 @@ pub(crate) fn echo_character(parts: &mut Parts) -> Option<Stop>
     None
 }
 
-/// 02h: writes DL, or stops with `Memory`.
+/// 02h: writes the byte in DL to the console. Returns `Memory`, with nothing changed, if the output's allocation fails.
 #[tactic(auto, unfolding(crate::specs::Characters::write_character))]
 pub(crate) fn write_character(parts: &mut Parts) -> Option<Stop>
     ensures answer { OrMemory parts.old (write_character parts.old) result parts.new }
@@ -58,7 +59,7 @@ pub(crate) fn write_character(parts: &mut Parts) -> Option<Stop>
     None
 }
 
-/// 06h with DL = FFh: AL is the next byte and ZF = 0; where none is left, AL = 0 and ZF = 1.
+/// 06h with DL = FFh: reads the next byte of the input into AL and clears ZF; if none is left, AL is 0 and ZF is set.
 #[tactic(auto, unfolding(crate::specs::Characters::poll_character))]
 fn poll_character(parts: &mut Parts)
     ensures answer { record { stop = None; state = parts.new } ≡ poll_character parts.old }
@@ -71,7 +72,8 @@ fn poll_character(parts: &mut Parts)
     parts.count();
 }
 
-/// 06h: reads, where DL = FFh, or writes DL.
+/// 06h: reads a byte if DL = FFh (without waiting), otherwise writes DL to the console; stops with `Memory` as 02h
+/// does.
 #[tactic(auto, unfolding(crate::specs::Characters::direct_character))]
 pub(crate) fn direct_character(parts: &mut Parts) -> Option<Stop>
     ensures answer { OrMemory parts.old (direct_character parts.old) result parts.new }
@@ -85,14 +87,14 @@ pub(crate) fn direct_character(parts: &mut Parts) -> Option<Stop>
     }
 }
 
-/// What AL says of the input: FFh where some is left, else 0.
+/// What function 0Bh returns in AL: FFh if console input is left, else 0.
 fn status(parts: &Parts) -> u8
     ensures { result ≡ input_status parts.now.console.input }
 {
     if parts.console.left() == 0 { 0 } else { 0xFF }
 }
 
-/// 0Bh: AL says whether input is left.
+/// 0Bh: AL becomes FFh if console input is left, else 0.
 #[tactic(auto, unfolding(crate::specs::Characters::check_input))]
 pub(crate) fn check_input(parts: &mut Parts) -> Option<Stop>
     ensures answer { OrMemory parts.old (check_input parts.old) result parts.new }

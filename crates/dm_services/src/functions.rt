@@ -21,16 +21,16 @@ use crate::vectors::{get_vector, set_vector};
 use dm_ins::ByteRegister;
 use dm_state::{Parts, Stop};
 
-/// What a call of INT 21h asks for.
+/// A function of INT 21h, which AH names.
 #[derive(Clone, Copy, Debug, PartialEq, Eq)]
 pub(crate) enum Function {
     /// 00h: ends the process with the code 0.
     Terminate,
     /// 01h: reads a byte of the input into AL, and writes it.
     EchoCharacter,
-    /// 02h: writes DL.
+    /// 02h: writes DL to the console.
     WriteCharacter,
-    /// 06h: writes DL, or, with DL = FFh, reads a byte if there is one.
+    /// 06h: writes DL to the console, or, with DL = FFh, reads a byte into AL if there is one.
     DirectCharacter,
     /// 07h and 08h: reads a byte of the input into AL.
     ReadCharacter,
@@ -64,7 +64,7 @@ pub(crate) enum Function {
     LoadProgram,
     /// 4Ch: ends the process with the code in AL.
     Exit,
-    /// 4Dh: returns how the last child ended.
+    /// 4Dh: returns the last child's exit code and kind of ending in AX.
     ExitCode,
     /// 51h and 62h: returns the segment of the present process in BX.
     Process,
@@ -74,7 +74,7 @@ pub(crate) enum Function {
     Unknown,
 }
 
-/// The function with this number, which calls have in AH.
+/// The function of INT 21h with this number, which calls have in AH.
 fn function_of(number: u8) -> Function
     ensures { result ≡ Rattle.dm_services.specs.Functions.function_of number }
 {
@@ -106,7 +106,7 @@ fn function_of(number: u8) -> Function
     }
 }
 
-/// Returns from the call with error 1: no such function.
+/// Returns from INT 21h with error 1, no such function, in AX and CF set.
 #[tactic(auto, unfolding(crate::specs::Functions::no_function))]
 fn refuse(parts: &mut Parts)
     ensures { parts.new ≡ (no_function parts.old).state }
@@ -117,7 +117,8 @@ fn refuse(parts: &mut Parts)
     parts.count();
 }
 
-/// Does what a call asks for.
+/// Performs a function of INT 21h and counts the step. Returns the stop, or None if the machine goes on; a program
+/// stays loaded.
 #[tactic(auto, unfolding(crate::specs::Functions::no_function, crate::specs::Processes::tell_code))]
 fn call(parts: &mut Parts, function: Function) -> Option<Stop>
     requires { HasProgram parts.old }
@@ -156,7 +157,8 @@ fn call(parts: &mut Parts, function: Function) -> Option<Stop>
     None
 }
 
-/// INT 21h: does the function that AH names.
+/// INT 21h: performs the function that AH names. Returns the stop, or None if the machine goes on; a program stays
+/// loaded.
 pub(crate) fn dos_call(parts: &mut Parts) -> Option<Stop>
     requires { HasProgram parts.old }
     ensures answer { OrWants parts.old (Calls parts.old (function_of (byte_of parts.old.cpu Ah))) result parts.new }

@@ -7,7 +7,7 @@ ghost use Rattle.dm_services.specs.Handles.{bad_handle, read_handle, write_handl
 use crate::buffers::send;
 use dm_state::{Parts, Stop};
 
-/// Returns from the call with error 6: a bad handle.
+/// Returns from function 3Fh or 40h with error 6, invalid handle, in AX and CF set.
 #[tactic(auto, unfolding(crate::specs::Handles::bad_handle))]
 fn bad_handle(parts: &mut Parts)
     ensures answer { record { stop = None; state = parts.new } ≡ bad_handle parts.old }
@@ -19,7 +19,8 @@ fn bad_handle(parts: &mut Parts)
     parts.count();
 }
 
-/// 3Fh: takes CX bytes of the input, or all that are left, to DS:DX. AX is how many.
+/// 3Fh: moves CX bytes of the console input, or all that are left, to DS:DX. AX is their count, CF is clear. A handle
+/// in BX above 2 is error 6.
 #[tactic(auto, unfolding(crate::specs::Handles::read_handle))]
 pub(crate) fn read_handle(parts: &mut Parts) -> Option<Stop>
     ensures answer { OrMemory parts.old (read_handle parts.old) result parts.new }
@@ -39,7 +40,8 @@ pub(crate) fn read_handle(parts: &mut Parts) -> Option<Stop>
     None
 }
 
-/// 40h: writes the CX bytes at DS:DX, or stops with `Memory`. AX is their count.
+/// 40h: writes the CX bytes at DS:DX to the console. AX is their count, CF is clear. A handle in BX above 2 is error 6.
+/// Returns `Memory`, with nothing changed, if the output's allocation fails.
 #[tactic(auto, using(crate::proofs::Stores::lengths), unfolding(crate::specs::Handles::write_handle))]
 pub(crate) fn write_handle(parts: &mut Parts) -> Option<Stop>
     ensures answer { OrMemory parts.old (write_handle parts.old) result parts.new }

@@ -1,5 +1,5 @@
-//! INT 21h function 0Ah, a line of the console (MS-DOS Programmer's Reference, "Buffered Keyboard
-//! Input"). The buffer begins with how many bytes it is for, then comes how many it got.
+//! INT 21h function 0Ah, a line of the console (MS-DOS Programmer's Reference, "Buffered Keyboard Input"). Byte 0 of
+//! the buffer is its size, byte 1 receives the length of the line, and the line stands from byte 2 on.
 ghost use Rattle.std.specs.Prelude.{◌≡◌, ◌<◌, ◌≤◌, IfSome, length};
 ghost use Rattle.dm_services.specs.inner.Wanting.{OrMemory};
 ghost use Rattle.dm_services.specs.Lines.{line_length, kept_bytes, read_line};
@@ -7,7 +7,7 @@ ghost use Rattle.dm_services.specs.Lines.{line_length, kept_bytes, read_line};
 use arrayvec::ArrayVec;
 use dm_state::{Parts, Stop};
 
-/// How many bytes stand before the first 0Dh, if there is one.
+/// How many bytes of the input stand before the first 0Dh; None where there is no 0Dh.
 #[tactic(auto, unfolding(crate::specs::Lines::line_length))]
 fn line_length(input: &[u8]) -> Option<usize>
     ensures length { result ≡ line_length input.now }
@@ -32,8 +32,9 @@ fn kept_bytes(size: u8, line: &[u8]) -> ArrayVec<u8, 255>
     bytes
 }
 
-/// 0Ah: a line of the input goes into the buffer at DS:DX. `InputEnded` where the buffer is for at
-/// least one byte and no 0Dh is left.
+/// 0Ah: moves a line of the input, with its 0Dh, into the buffer at DS:DX; what does not fit, and each 0Ah, is dropped.
+/// With a buffer of size 0, no input is taken and memory stays. Otherwise returns `InputEnded`, with nothing changed,
+/// if no 0Dh is left.
 #[tactic(auto, unfolding(crate::specs::Lines::read_line))]
 pub(crate) fn read_line(parts: &mut Parts) -> Option<Stop>
     ensures answer { OrMemory parts.old (read_line parts.old) result parts.new }

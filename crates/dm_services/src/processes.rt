@@ -11,7 +11,7 @@ use dm_ins::ByteRegister;
 use dm_proc::{ArenaDestroyed, Ending, ExecRefusal};
 use dm_state::{Parts, Stop};
 
-/// The error code of a refusal.
+/// The error code that function 4Bh returns in AX for a refusal.
 fn code_of(refusal: ExecRefusal) -> u16
     ensures { result ≡ Rattle.dm_services.specs.Processes.code_of refusal }
 {
@@ -25,7 +25,8 @@ fn code_of(refusal: ExecRefusal) -> u16
     }
 }
 
-/// Returns from the call with an error in AX: no program was loaded.
+/// Returns from function 4Bh with the refusal's error code in AX and CF set. Memory and processes stay; the step is
+/// counted.
 fn refuse_program(parts: &mut Parts, refusal: ExecRefusal)
     ensures { parts.new ≡ (not_loaded parts.old refusal).state }
 {
@@ -33,7 +34,8 @@ fn refuse_program(parts: &mut Parts, refusal: ExecRefusal)
     answer(parts, true);
 }
 
-/// 4Bh with AL = 0: starts a child.
+/// 4Bh with AL = 0: loads and starts a child. On an error, returns to the caller with its code in AX and CF set. Any AL
+/// but 0 is error 1.
 fn execute(parts: &mut Parts)
     requires { HasProgram parts.old }
     ensures executing { Executing parts.old (record { stop = None; state = parts.new }) }
@@ -51,7 +53,8 @@ fn execute(parts: &mut Parts)
     }
 }
 
-/// 4Bh with AL = 3: loads an overlay.
+/// 4Bh with AL = 3: loads an overlay at the segment that the parameter block at ES:BX gives, with CF clear. On an
+/// error, AX is its code, CF is set and memory stays.
 fn overlay(parts: &mut Parts)
     ensures overlaying { Overlaying parts.old (record { stop = None; state = parts.new }) }
     ensures program { parts.new.processes ≡ parts.old.processes }
@@ -62,7 +65,7 @@ fn overlay(parts: &mut Parts)
     }
 }
 
-/// 4Bh: starts a child, or loads an overlay.
+/// 4Bh: with AL = 3 loads an overlay; with AL = 0 starts a child; any other AL is error 1.
 pub(crate) fn load_program(parts: &mut Parts)
     requires { HasProgram parts.old }
     ensures loading { Loading parts.old (record { stop = None; state = parts.new }) }
@@ -75,7 +78,9 @@ pub(crate) fn load_program(parts: &mut Parts)
     }
 }
 
-/// Counts the step that ended a process with a code, or reports that it could not end.
+/// Completes an ending of the present process with `code`. Where a parent goes on, counts the step and returns None.
+/// Where the first program has ended, keeps its code, counts the step and returns `Exited`. Where the block list was
+/// destroyed, changes nothing and returns `Destroyed`.
 fn conclude(parts: &mut Parts, ended: Result<Ending, ArenaDestroyed>, code: u8) -> Option<Stop>
     ensures answer { record { stop = result; state = parts.new } ≡ concluded parts.old code ended parts.old.processes parts.old.cpu parts.old.memory }
     ensures program { parts.new.processes ≡ parts.old.processes }
@@ -94,7 +99,8 @@ fn conclude(parts: &mut Parts, ended: Result<Ending, ArenaDestroyed>, code: u8) 
     }
 }
 
-/// Ends the present process with a code; what it owned is freed.
+/// Ends the present process with a code and frees all its blocks; its parent goes on (None). Returns `Exited` where it
+/// was the first program, and `Destroyed`, with nothing changed, where there is no valid block list.
 pub(crate) fn terminate(parts: &mut Parts, code: u8) -> Option<Stop>
     requires { HasProgram parts.old }
     ensures terminating { Terminating parts.old code (record { stop = result; state = parts.new }) }
@@ -106,7 +112,8 @@ pub(crate) fn terminate(parts: &mut Parts, code: u8) -> Option<Stop>
     conclude(parts, ended, code)
 }
 
-/// 31h: ends the present process, which keeps DX paragraphs.
+/// 31h: ends the present process with the code in AL, and resizes its block to DX paragraphs where that is possible;
+/// its other blocks stay allocated. The stops are those of `terminate`.
 pub(crate) fn keep(parts: &mut Parts) -> Option<Stop>
     requires { HasProgram parts.old }
     ensures keeping { Keeping parts.old (record { stop = result; state = parts.new }) }
@@ -124,7 +131,7 @@ pub(crate) fn keep(parts: &mut Parts) -> Option<Stop>
     conclude(parts, ended, code)
 }
 
-/// 4Dh: returns the word of the last ending, once.
+/// 4Dh: AX becomes the last child's exit code (AL) and kind of ending (AH); a second call returns 0.
 #[tactic(auto, unfolding(crate::specs::Processes::tell_code))]
 pub(crate) fn tell_code(parts: &mut Parts)
     ensures told { parts.new ≡ (tell_code parts.old).state }

@@ -11,22 +11,22 @@ use dm_arena::{Area, Fit, Strategy, link, linked};
 use dm_ins::ByteRegister;
 use dm_state::Parts;
 
-/// What function 58h is asked for.
+/// A subfunction of function 58h.
 #[derive(Clone, Copy, Debug, PartialEq, Eq)]
 pub enum StrategyFunction {
-    /// AL = 0: returns the strategy's number in AX.
+    /// AL = 0: returns the allocation strategy's number in AX.
     TellStrategy,
-    /// AL = 1: sets the strategy with the number in BX.
+    /// AL = 1: sets the allocation strategy to the number in BX.
     SetStrategy,
     /// AL = 2: returns in AL whether the arena is linked with upper memory.
     TellLink,
-    /// AL = 3: links them (BX = 1), or parts them (BX = 0).
+    /// AL = 3: links the arena with upper memory (BX = 1), or unlinks it (BX = 0).
     SetLink,
-    /// There is no other.
+    /// Any other AL: error 1.
     Unlisted,
 }
 
-/// The function with a number, which calls have in AL.
+/// The subfunction of 58h with a number, which calls have in AL.
 fn subfunction_of(number: u8) -> StrategyFunction
     ensures { result ≡ Strategies.subfunction_of number }
 {
@@ -39,7 +39,7 @@ fn subfunction_of(number: u8) -> StrategyFunction
     }
 }
 
-/// The number of a strategy: its fit in the low bits, its area in the high ones.
+/// The number of a strategy: its fit (0 to 2) in the low bits, its area (0, 40h or 80h) in the high ones.
 fn strategy_number(strategy: Strategy) -> u16
     ensures { result ≡ Strategies.strategy_number strategy }
 {
@@ -56,7 +56,8 @@ fn strategy_number(strategy: Strategy) -> u16
     area + fit
 }
 
-/// The strategy with this number that looks at upper memory first or alone, if there is one.
+/// The strategy with this number among those for upper memory: 40h to 42h look there alone, 80h to 82h there first.
+/// None for any other number.
 fn upper_strategy_of(number: u16) -> Option<Strategy>
     ensures { result ≡ Strategies.upper_strategy_of number }
 {
@@ -72,7 +73,8 @@ fn upper_strategy_of(number: u16) -> Option<Strategy>
     Some(Strategy { fit, area })
 }
 
-/// The strategy with this number, if there is one; `upper` is whether there is upper memory in the arena.
+/// The strategy with this number, or None. `upper` is whether upper memory belongs to the arena; without it there is
+/// none from 40h on.
 fn strategy_of(number: u16, upper: bool) -> Option<Strategy>
     ensures { result ≡ Strategies.strategy_of upper number }
 {
@@ -90,7 +92,8 @@ fn strategy_of(number: u16, upper: bool) -> Option<Strategy>
     }
 }
 
-/// What BX asks for, if there is upper memory in the arena and BX is 0 or 1.
+/// What BX asks of subfunction 3: true (1) to link, false (0) to unlink. None for any other number, or if upper memory
+/// does not belong to the arena (`upper` is false).
 fn wanted(number: u16, upper: bool) -> Option<bool>
     ensures { result ≡ Strategies.wanted upper number }
 {
@@ -104,7 +107,7 @@ fn wanted(number: u16, upper: bool) -> Option<bool>
     }
 }
 
-/// Returns from the call with error 1: no such function, or no such value for it.
+/// Returns from function 58h with error 1 in AX and CF set: no such subfunction, or no such value in BX.
 fn refuse_number(parts: &mut Parts)
     ensures { parts.new ≡ (Strategies.unlisted parts.old).state }
 {
@@ -112,7 +115,7 @@ fn refuse_number(parts: &mut Parts)
     answer(parts, true);
 }
 
-/// AL = 0: AX is the strategy's number.
+/// 58h with AL = 0: returns the allocation strategy's number in AX.
 fn tell_strategy(parts: &mut Parts)
     ensures { parts.new ≡ (Strategies.strategy_reported parts.old).state }
 {
@@ -120,7 +123,7 @@ fn tell_strategy(parts: &mut Parts)
     answer(parts, false);
 }
 
-/// AL = 1: the strategy is the one with the number in BX.
+/// 58h with AL = 1: sets the allocation strategy to the number in BX; error 1 if there is none with that number.
 fn set_strategy(parts: &mut Parts)
     ensures { parts.new ≡ (Strategies.set_to parts.old (Strategies.strategy_of parts.old.upper parts.old.cpu.bx)).state }
 {
@@ -133,7 +136,8 @@ fn set_strategy(parts: &mut Parts)
     }
 }
 
-/// AL = 2: AL says whether the arena is linked with upper memory.
+/// 58h with AL = 2: AL becomes 1 if the arena is linked with upper memory, else 0. Error 7 if upper memory belongs to
+/// the arena and there is no valid block list.
 fn tell_link(parts: &mut Parts)
     ensures { TellsLink parts.old.upper parts.old (record { stop = None; state = parts.new }) }
 {
@@ -154,7 +158,8 @@ fn tell_link(parts: &mut Parts)
     }
 }
 
-/// AL = 3, where BX asks for one of both: links the arena with upper memory, or parts them.
+/// 58h with AL = 3 and a good BX: links the arena with upper memory (`on`), or unlinks it, by writing block headers. On
+/// an error, AX is 7, CF is set and memory stays.
 fn make_link(parts: &mut Parts, on: bool)
     ensures { Linking on parts.old (record { stop = None; state = parts.new }) }
 {
@@ -167,7 +172,8 @@ fn make_link(parts: &mut Parts, on: bool)
     }
 }
 
-/// AL = 3: links the arena with upper memory (BX = 1), or parts them (BX = 0).
+/// 58h with AL = 3: links the arena with upper memory (BX = 1), or unlinks it (BX = 0). Error 1 for any other BX, or if
+/// upper memory does not belong to the arena.
 fn set_link(parts: &mut Parts)
     ensures { SetsLink (Strategies.wanted parts.old.upper parts.old.cpu.bx) parts.old (record { stop = None; state = parts.new }) }
 {
@@ -177,7 +183,7 @@ fn set_link(parts: &mut Parts)
     }
 }
 
-/// 58h: returns the allocation strategy or the link with upper memory, or sets one.
+/// 58h: gets or sets the allocation strategy, or the link with upper memory, by AL.
 pub(crate) fn allocation_strategy(parts: &mut Parts)
     ensures { StrategyCalls parts.old (Strategies.subfunction_of (byte_of parts.old.cpu Al)) (record { stop = None; state = parts.new }) }
 {

@@ -19,7 +19,8 @@ pub(crate) fn text_length(space: &Space, segment: u16, offset: u16) -> usize
     0x1_0000
 }
 
-/// Writes the text at segment:offset, whose length is given, into the room.
+/// Writes the `length` bytes of the text at segment:offset to the console, and takes them from its room, which must
+/// suffice.
 pub(crate) fn write_text(
     console: &mut Console,
     space: &Space,
@@ -39,7 +40,8 @@ pub(crate) fn write_text(
     }
 }
 
-/// 09h: writes the text at DS:DX, or stops with `Memory`.
+/// 09h: writes the text at DS:DX, without its `$`, to the console. Returns `Memory`, with nothing changed, if the
+/// output's allocation fails.
 #[tactic(auto, using(crate::proofs::Stores::lengths), unfolding(crate::specs::Text::print))]
 pub(crate) fn print(parts: &mut Parts) -> Option<Stop>
     ensures answer { OrMemory parts.old (print parts.old) result parts.new }

@@ -6,7 +6,7 @@ ghost use Rattle.dm_services.specs.Vectors.{set_vector, get_vector};
 use dm_ins::ByteRegister;
 use dm_state::{Parts, Stop};
 
-/// 25h: vector AL becomes DS:DX.
+/// 25h: sets the vector of interrupt AL, the two words at 0000:4*AL, to DS:DX.
 #[tactic(auto, unfolding(crate::specs::Vectors::set_vector))]
 pub(crate) fn set_vector(parts: &mut Parts) -> Option<Stop>
     ensures answer { OrMemory parts.old (set_vector parts.old) result parts.new }
@@ -20,7 +20,7 @@ pub(crate) fn set_vector(parts: &mut Parts) -> Option<Stop>
     None
 }
 
-/// 35h: ES:BX becomes vector AL.
+/// 35h: returns the vector of interrupt AL in ES:BX.
 #[tactic(auto, unfolding(crate::specs::Vectors::get_vector))]
 pub(crate) fn get_vector(parts: &mut Parts) -> Option<Stop>
     ensures answer { OrMemory parts.old (get_vector parts.old) result parts.new }

@@ -1,36 +1,38 @@
--- Bytes copied one by one upwards, between the scratch bytes and linear addresses (A20 taken as on) or a block.
+-- Bytes copied one by one upwards, between the scratch bytes and linear addresses (A20 taken as on) or a block. The
+-- source, and all that is not written, stays.
 use Rattle.std.specs.Prelude.{ℕ, zero, suc, List, [], ◌∷◌}
 use Rattle.dm_region.specs.Parts.{part, with_part}
 use Rattle.dm_pool.specs.Blocks.{with_content}
 use Rattle.dm_space.specs.Memory.{Memory, Held, peek, poke, page_bytes, with_blocks}
 
--- what a function gives for the n numbers from a on
+-- the values of f at the n numbers from a on
 abbrev pub values : (ℕ → ℕ) → ℕ → ℕ → List ℕ
 values f a zero = []
 values f a (suc n) = f a ∷ values f (suc a) n
 
--- what reads of the n linear addresses from a on give
+-- the bytes that reads of the n linear addresses from a on return
 abbrev pub reads : Memory → ℕ → ℕ → List ℕ
 reads m a n = values (peek m) a n
 
--- what writes of those bytes to the linear addresses from a on leave, one after the other
+-- the memory after these bytes have been written to the linear addresses from a on, one after the other
 abbrev pub writes : Memory → ℕ → List ℕ → Memory
 writes m a [] = m
 writes m a (v ∷ vs) = writes (poke m a v) (suc a) vs
 
--- n bytes read from the linear address a on, now the scratch bytes from `at` on
+-- h after the n bytes from the linear address a on have been copied into the scratch bytes from `at` on (Space.copy_in)
 abbrev pub copied_in : Held → ℕ → ℕ → ℕ → Held
 copied_in h a at n = record h { scratch = with_part h.scratch at n (reads h.memory a n) }
 
--- the n scratch bytes from `at` on, written from the linear address a on
+-- h after the n scratch bytes from `at` on have been written to the linear addresses from a on (Space.copy_out)
 abbrev pub copied_out : Held → ℕ → ℕ → ℕ → Held
 copied_out h at a n = record h { memory = writes h.memory a (part h.scratch at n) }
 
--- n bytes of a block from its byte `from` on, now the scratch bytes from `at` on
+-- h after the n bytes of a block from its byte `from` on have been copied into the scratch bytes from `at` on
+-- (Space.copy_block_in)
 abbrev pub block_copied_in : Held → ℕ → ℕ → ℕ → ℕ → Held
 block_copied_in h block from at n = record h { scratch = with_part h.scratch at n (part (page_bytes h.memory block) from n) }
 
--- the n scratch bytes from `at` on, now those of a block from its byte `to` on
+-- h after the n scratch bytes from `at` on have been copied into a block from its byte `to` on (Space.copy_block_out)
 abbrev pub block_copied_out : Held → ℕ → ℕ → ℕ → ℕ → Held
 block_copied_out h at block to n =
     record h { memory = with_blocks h.memory (with_content h.memory.blocks block (with_part (page_bytes h.memory block) to n (part h.scratch at n))) }

@@ -40,7 +40,7 @@ expanded_memory_offset = 0x0020
 abbrev pub extended_memory_offset : ℕ
 extended_memory_offset = 0x0400
 
--- what acts at an offset of the segment F000h
+-- what acts at an offset of the segment F000h, None if nothing does
 abbrev pub entry_point_at_offset : ℕ → Option EntryPoint
 entry_point_at_offset offset =
     if offset == divide_error_offset then Some (Service DivideError) else
@@ -49,7 +49,7 @@ entry_point_at_offset offset =
     if offset == multiplex_offset then Some (Driver Multiplex) else
     if offset == extended_memory_offset then Some (Driver ExtendedMemory) else None
 
--- what acts at CS:IP; another segment and offset of the same linear address is no entry point
+-- what acts at CS:IP, None if nothing does; another segment and offset of the same linear address is no entry point
 unfoldable pub entry_point_at : ℕ → ℕ → Option EntryPoint
 entry_point_at segment offset =
     if segment == entry_segment then entry_point_at_offset offset else

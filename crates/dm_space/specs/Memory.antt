@@ -7,6 +7,7 @@ use Rattle.dm_space.specs.declared.place.Place.{Place}
 use Rattle.dm_space.specs.declared.place.Place.TheVariants.{Low, Page, Rom, Nothing}
 use Rattle.dm_space.specs.Rom.{rom}
 
+-- what a program's reads and writes depend on, and the blocks that it does not see
 pub record Memory : Type 0 where
   -- the bytes of RAM, by linear address
   pub low : List ℕ
@@ -14,6 +15,7 @@ pub record Memory : Type 0 where
   pub blocks : Blocks
   -- the block that each of the four windows of the frame shows
   pub windows : List (Option ℕ)
+  -- whether address line 20 is on
   pub a20 : Bool
 
 -- segment * 16 + offset, without bit 20 while A20 is off
@@ -21,12 +23,13 @@ abbrev pub linear : Bool → ℕ → ℕ → ℕ
 linear a20 segment offset =
     if a20 then segment * 16 + offset else (segment * 16 + offset) % 0x100000
 
--- byte k of the page that a window shows, if it shows one
+-- the place of byte k of the block that a window shows; no memory if it shows none
 abbrev pub shown : Option ℕ → ℕ → Place
 shown None k = Nothing
 shown (Some page) k = Page page k
 
--- the place of a linear address: RAM, nothing, upper memory RAM, the frame's four windows, ROM, the high memory area
+-- the place of a linear address, A20 taken as on: RAM below C0000h, nothing, upper memory RAM from D0000h, the frame's
+-- four windows from E0000h, ROM from F0000h, the high memory area from 100000h to 10FFEFh
 unfoldable pub place : Memory → ℕ → Place
 place m a =
     if nat_lt a 0xC0000 then Low a else
@@ -40,7 +43,7 @@ place m a =
 abbrev pub page_bytes : Memory → ℕ → List ℕ
 page_bytes m page = slice_index_or m.blocks.contents page []
 
--- the byte that is kept at a place
+-- the byte that is kept at a place; FFh where there is no memory
 abbrev pub byte_at : Memory → Place → ℕ
 byte_at m (Low a) = slice_index m.low a
 byte_at m (Page page k) = slice_index (page_bytes m page) k
@@ -58,11 +61,11 @@ with_byte m (Page page k) v = with_blocks m (with_content m.blocks page (slice_s
 with_byte m (Rom k) v = m
 with_byte m Nothing v = m
 
--- what a read of a linear address gives
+-- the byte that a read of a linear address returns, A20 taken as on
 unfoldable pub peek : Memory → ℕ → ℕ
 peek m a = byte_at m (place m a)
 
--- what a write to a linear address leaves
+-- the memory after a byte is written to a linear address, A20 taken as on
 unfoldable pub poke : Memory → ℕ → ℕ → Memory
 poke m a v = with_byte m (place m a) v
 
@@ -76,15 +79,15 @@ abbrev pub poke16 : Memory → ℕ → ℕ → ℕ → Memory
 poke16 m segment offset v =
     poke (poke m (linear m.a20 segment offset) (v % 256)) (linear m.a20 segment ((offset + 1) % 65536)) (v / 256)
 
--- the memory with A20 switched
+-- the memory with address line 20 on or off; all else stays
 abbrev pub with_a20 : Memory → Bool → Memory
 with_a20 m on = record m { a20 = on }
 
--- the frame's window k shows that block from now on, or none
+-- the memory whose window k of the frame shows that block, or none; all else stays
 abbrev pub with_window : Memory → ℕ → Option ℕ → Memory
 with_window m k block = record m { windows = slice_set m.windows k block }
 
--- there is such a block, and it is as large as a page
+-- there is such a block, and it has 4000h bytes, as a page has
 abbrev pub IsPage : Memory → ℕ → Type 0
 IsPage m block = IsLive m.blocks block × (length (page_bytes m block) ≡ 0x4000)
 
@@ -94,14 +97,14 @@ pub record Fits (m : Memory) : Type 0 where
   pub windows_are_four : length m.windows ≡ 4
   pub pages_there : (k : ℕ) → IfSome (slice_index_or m.windows k None) (λ page. IsPage m page)
 
--- a place is one of the memory's
+-- the memory has the place: a byte of its RAM, of one of its blocks, or of the ROM, or no memory
 abbrev pub IsThere : Memory → Place → Type 0
 IsThere m (Low a) = a < length m.low
 IsThere m (Page page k) = IsLive m.blocks page × (k < length (page_bytes m page))
 IsThere m (Rom k) = k < 0x10000
 IsThere m Nothing = Unit {0}
 
--- the memory, and the scratch bytes that no place shows
+-- what a space holds: the memory, and the scratch bytes, which have no address
 pub record Held : Type 0 where
   pub memory : Memory
   pub scratch : List ℕ
@@ -115,6 +118,6 @@ pub record IsHeld (h : Held) : Type 0 where
 abbrev pub no_windows : List (Option ℕ)
 no_windows = None ∷ None ∷ None ∷ None ∷ []
 
--- a memory whose frame shows none of the blocks, A20 off
+-- the memory with these bytes of RAM and these blocks, whose frame shows none of them, A20 off
 abbrev pub of_ram : List ℕ → Blocks → Memory
 of_ram ram blocks = record { low = ram; blocks = blocks; windows = no_windows; a20 = false }

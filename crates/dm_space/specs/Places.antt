@@ -1,18 +1,19 @@
 -- What a write does, in terms of places: for layers that compare the places of addresses and see nothing of the map.
--- Two addresses with one place that is written to are aliased.
+-- Two addresses of one writable place are aliased.
 use Rattle.std.specs.Prelude.{◌≡◌, ℕ, length}
 use Rattle.dm_space.specs.declared.place.Place.{Place}
 use Rattle.dm_space.specs.declared.place.Place.TheVariants.{Low, Page, Rom, Nothing}
 use Rattle.dm_space.specs.Memory.{Memory, page_bytes}
 
--- what is written to the place stays there
+-- a write to the place is kept there: a byte of RAM or of a block
 abbrev pub IsWritable : Place → Type 0
 IsWritable (Low a) = Unit {0}
 IsWritable (Page page k) = Unit {0}
 IsWritable (Rom k) = ⊥
 IsWritable Nothing = ⊥
 
--- T has the map of S, blocks of the same numbers and places, and as many bytes
+-- T has the map of S (A20 and windows), blocks of the same numbers, places and sizes, and as many bytes of RAM; the
+-- bytes may differ
 pub record IsShaped (S T : Memory) : Type 0 where
   pub a20 : T.a20 ≡ S.a20
   pub windows : T.windows ≡ S.windows

@@ -17,15 +17,15 @@ abbrev pub mixed : (ℕ → Bool) → (ℕ → List ℕ) → ℕ → List (List 
 mixed seen other first [] = []
 mixed seen other first (page ∷ pages) = (if seen first then page else other first) ∷ mixed seen other (suc first) pages
 
--- the memory, the contents of its unseen blocks taken from `other`
+-- the memory, the contents of the blocks that no window shows taken from `other`
 unfoldable pub unseen_as : Memory → (ℕ → List ℕ) → Memory
 unseen_as m other = with_blocks m (record m.blocks { contents = mixed (shows m.windows) other 0 m.blocks.contents })
 
--- a read doesn't depend on unseen pages
+-- no read depends on the bytes of blocks that no window shows
 abbrev pub ReadsIgnoreUnseen : Type 0
 ReadsIgnoreUnseen = (m : Memory) (other : ℕ → List ℕ) (a : ℕ) → peek (unseen_as m other) a ≡ peek m a
 
--- a write leaves them as they are
+-- a write leaves the blocks that no window shows as they are, and does not depend on their bytes
 abbrev pub WritesKeepUnseen : Type 0
 WritesKeepUnseen =
     (m : Memory) (other : ℕ → List ℕ) (a v : ℕ) → poke (unseen_as m other) a v ≡ unseen_as (poke m a v) other
@@ -40,7 +40,7 @@ pub record IsUnseen (change : Memory → Memory) : Type 0 where
   pub shape_same : (S T : Memory) → IsShaped S T → IsShaped (change S) (change T)
   pub byte_same : (S T : Memory) (p : Place) → IsShaped S T → byte_at T p ≡ byte_at S p → byte_at (change T) p ≡ byte_at (change S) p
 
--- other bytes in pages that no window shows are such a change
+-- other bytes in the blocks that no window shows are a change that no program sees
 abbrev pub UnseenPagesAreUnseen : Type 0
 UnseenPagesAreUnseen = (other : ℕ → List ℕ) → IsUnseen (λ m. unseen_as m other)
 

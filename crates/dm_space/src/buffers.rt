@@ -5,7 +5,8 @@ ghost use Rattle.dm_space.specs.Buffers.{with_bytes};
 use crate::space::Space;
 
 impl Space {
-    /// Writes the bytes upwards from segment:offset on; offsets wrap.
+    /// Writes the bytes one by one, upwards from segment:offset on; offsets wrap. What is written to ROM, or where
+    /// there is no memory, is lost.
     pub fn write_bytes(&mut self, segment: u16, offset: u16, bytes: &[u8])
         requires { length bytes.now < 65536 }
         ensures { self.new ≡ record self.old { memory = with_bytes self.old.memory segment offset bytes.now } }

@@ -7,7 +7,7 @@ use crate::entry_points::{ENTRY_SEGMENT, EXPANDED_MEMORY_OFFSET, EXPANDED_MEMORY
 /// Where the first arena header's size ends: the bytes from here on stay as they are.
 const END: usize = 0x1005;
 
-/// Where the vector of an interrupt leads: its offset.
+/// The offset that the vector of an interrupt holds as the machine starts.
 fn vector_offset(interrupt: u8) -> u16
     ensures { result ≡ vector_offset interrupt }
 {
@@ -18,7 +18,7 @@ fn vector_offset(interrupt: u8) -> u16
     }
 }
 
-/// Where the vector of an interrupt leads: its segment.
+/// The segment that the vector of an interrupt holds as the machine starts.
 fn vector_segment(interrupt: u8) -> u16
     ensures { result ≡ vector_segment interrupt }
 {
@@ -54,7 +54,8 @@ fn start_byte(linear: usize) -> u8
     }
 }
 
-/// Writes the bytes of the start over the first bytes of RAM.
+/// Writes the bytes of the start over the first 1005h bytes of RAM: the interrupt vectors, the first arena header up to
+/// the end of its size, and zeros between them. The other bytes stay.
 pub fn lay_start(ram: &mut [u8])
     requires { 0x1005 ≤ length ram.old }
     ensures { IsLaidOver ram.old ram.new }

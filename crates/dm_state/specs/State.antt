@@ -19,8 +19,8 @@ use Rattle.dm_proc.specs.Processes.{Processes}
 use Rattle.dm_state.specs.declared.stop.Stop.{Stop}
 use Rattle.dm_pool.specs.declared.sizes.Sizes.{Sizes}
 
--- registers, memory, the tables of expanded memory, console, processes, allocation strategy, the first program's exit
--- code, count of steps, and what no step changes
+-- the state of the machine: registers, memory, the tables of expanded and extended memory, console, processes,
+-- allocation strategy, the first program's exit code, count of steps, and what no step changes
 pub record State : Type 0 where
   pub cpu : Cpu
   pub memory : Memory
@@ -43,36 +43,37 @@ pub record State : Type 0 where
   pub sizes : Sizes
   pub upper : Bool
 
--- a program is loaded
+-- a program is loaded: the present process's segment is not 0
 abbrev pub HasProgram : State → Type 0
 HasProgram s = 0 < s.processes.present
 
--- the block is that of a handle of extended memory
+-- the block with this number belongs to one of the handles of extended memory
 abbrev pub IsHandled : List (Option Handle) → ℕ → Type 0
 IsHandled handles block = (k : ℕ) × (h : Handle) × (handle_at handles k ≡ Some h) × (h.block ≡ block)
 
--- the tables of expanded and of extended memory and the memory are consistent, no block is a page and a handle's at
--- once, and each that is there is one of them
+-- the tables of expanded memory (`pages`) and of extended memory (`blocks`) are consistent with memory m; no block
+-- belongs to both, and each live block of the pool belongs to one of them
 pub record AreConsistentWith (pages : Tables) (blocks : xms.Tables) (m : Memory) : Type 0 where
   pub ems : IsConsistent (expanded pages m)
   pub xms : extended_memory.IsConsistent (extended blocks m)
   pub apart : (k : ℕ) → IfSome (handle_at blocks.handles k) (λ h. IsOwned pages.pages h.block → ⊥)
   pub whole : (block : ℕ) → IsLive m.blocks block → IsOwned pages.pages block ⊎ IsHandled blocks.handles block
 
--- tables and memory of the state are consistent
+-- the state's tables of expanded and extended memory are consistent with its memory
 abbrev pub AreConsistent : State → Type 0
 AreConsistent s = AreConsistentWith s.ems s.xms s.memory
 
--- what a step returns: why the machine stops, if it does, and the state
+-- what a step returns: the stop, if the machine stops, and the state that the step leaves
 pub record Answer : Type 0 where
   pub stop : Option Stop
   pub state : State
 
--- a step is made, and the machine goes on
+-- the result of a step after which the machine goes on: no stop, and s with its count of steps one higher; at 2^64 - 1
+-- the count stays
 abbrev pub go : State → Answer
 go s = record { stop = None; state = record s { steps = min (s.steps + 1) (2 ^ 64 - 1) } }
 
--- no step is made, and the machine stops
+-- the result where the machine stops and no step is made: the stop, and s itself
 abbrev pub stop_at : Stop → State → Answer
 stop_at stop s = record { stop = Some stop; state = s }
 
@@ -80,11 +81,11 @@ stop_at stop s = record { stop = Some stop; state = s }
 abbrev pub with_guest : State → Guest → State
 with_guest s g = record s { cpu = g.cpu; memory = g.memory }
 
--- IP, CS and FLAGS are popped
+-- the state after a return from an interrupt: IP, CS and FLAGS are popped from SS:SP; memory stays
 abbrev pub interrupt_returned : State → State
 interrupt_returned s = with_guest s (interrupt_return (guest s.cpu s.memory))
 
--- IP and CS are popped
+-- the state after a return from a far call: IP and CS are popped from SS:SP; FLAGS and memory stay
 abbrev pub far_returned : State → State
 far_returned s = with_guest s (stack.far_returned (guest s.cpu s.memory) 0)
 

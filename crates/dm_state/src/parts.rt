@@ -1,4 +1,4 @@
-//! What services act on.
+//! The parts of a machine: what instructions and services read and change.
 ghost use Rattle.std.specs.Prelude.{◌≡◌};
 ghost use Rattle.dm_state.specs.State.{go, interrupt_returned, far_returned};
 
@@ -43,7 +43,7 @@ pub struct Parts {
     pub variables: Vec<u8>,
     /// How much expanded and extended memory there is.
     pub sizes: Sizes,
-    /// Whether the arena goes on in upper memory, from 9FFFh on.
+    /// Whether upper memory, from segment 9FFFh on, belongs to the arena.
     pub upper: bool,
 }
 
@@ -74,21 +74,21 @@ impl Model for Parts {
 }
 
 impl Parts {
-    /// Counts a step.
+    /// Adds 1 to the count of steps; at 2^64 - 1 it stays.
     pub fn count(&mut self)
         ensures { self.new ≡ (go self.old).state }
     {
         self.steps = self.steps.saturating_add(1);
     }
 
-    /// Goes back to where the program called.
+    /// Returns from an interrupt as IRET does: pops IP, CS and FLAGS from the stack at SS:SP. Memory stays.
     pub fn give_back(&mut self)
         ensures { self.new ≡ interrupt_returned self.old }
     {
         interrupt_return(&mut self.cpu, &self.space);
     }
 
-    /// Goes back to where the program called by a far call.
+    /// Returns from a far call as RETF does: pops IP and CS from the stack at SS:SP. FLAGS and memory stay.
     pub fn give_back_far(&mut self)
         ensures { self.new ≡ far_returned self.old }
     {

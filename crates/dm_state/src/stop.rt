@@ -2,23 +2,23 @@
 
 /// Why a run, or a step, stopped.
 ///
-/// `Exited` is returned by the step that ends the first program, and by every later call, which makes no
-/// step. The stops after it in this list make no step and leave the state before it, so that a later
-/// run meets the same instruction.
+/// The step that ends the first program returns `Exited`, and so does every later call, which makes no step. With
+/// `Halted` and the stops after it in this list no step is made and the state stays as it was, so that a later run
+/// meets the same instruction.
 #[derive(Clone, Copy, Debug, PartialEq, Eq)]
 pub enum Stop {
-    /// All the steps that were asked for were made.
+    /// All steps that were asked for were made.
     Steps,
     /// The first program has ended with this code. Every later call returns it again.
     Exited(u8),
     /// The next instruction is HLT.
     Halted,
-    /// The bytes from CS:IP on begin with no instruction.
+    /// The bytes at CS:IP are not an instruction of the 8086.
     Unlisted,
-    /// The next step would read input, and none is left.
+    /// The next step would read console input, and too little is left: no byte, or for INT 21h function 0Ah no 0Dh.
     InputEnded,
-    /// The program would end, and its arena is destroyed.
+    /// The present process would end, but memory holds no valid block list from which its blocks could be freed.
     Destroyed,
-    /// The next step would write more bytes than the room, and memory was refused.
+    /// The next step would write more bytes to the console than the room holds, and the allocation for them failed.
     Memory,
 }

@@ -1,4 +1,4 @@
--- The names that instructions are written with, and what a name names.
+-- The names of registers and mnemonics in the text of an instruction, and the look-up of a name.
 -- Source: Intel 8086 Family User's Manual, section 2.2 (registers) and section 2.7 (mnemonics).
 use Rattle.std.specs.Prelude.{ℕ, List, [], ◌∷◌, Option, Some, None, codes, if◌then◌else◌}
 use Rattle.std.specs.Str.{bytes_eq}
@@ -162,7 +162,7 @@ mnemonics = op.Add ∷ op.Or ∷ op.Adc ∷ op.Sbb ∷ op.And ∷ op.Sub ∷ op.
 abbrev pub segment_registers : List SegmentRegister
 segment_registers = Es ∷ Cs ∷ Ss ∷ Ds ∷ []
 
--- the first of some things that has this name
+-- the first element of the list that has the name w by `name_in`; None if none has
 abbrev pub named : {A : Type 0} → (A → List ℕ) → List A → List ℕ → Option A
 named name_in [] w = None
 named name_in (x ∷ xs) w = if bytes_eq (name_in x) w then Some x else named name_in xs w

@@ -1,26 +1,26 @@
--- The pieces that a line of text is made of, and their bytes. The way numbers are written is that of ASM-86:
--- hexadecimal, a digit in front, and an h at the end.
+-- The pieces that the text of an instruction is made of, and their bytes. Numbers are written as in ASM-86:
+-- hexadecimal, with a digit in front and an h at the end.
 -- Source: Intel 8086 Family User's Manual, section 2.9 (programming facilities: constants of ASM-86). How many digits
 -- there are is this machine's own.
 use Rattle.std.specs.Prelude.{ℕ, ◌+◌, ◌/◌, ◌%◌, Bool, true, false, ◌&&◌, ◌||◌, ◌==◌, List, [], ◌∷◌, ◌++◌, nat_lt, nat_le, if◌then◌else◌}
 use Rattle.std.specs.List.{list_all}
 
--- a name is letters and digits; a byte and a word are numbers; a sign is one byte between them
+-- a piece of text: a name of letters and digits, a number of a byte or of a word, or a sign, which is one byte
 pub data Piece : Type 0 where
   name : List ℕ → Piece
   byte : ℕ → Piece
   word : ℕ → Piece
   sign : ℕ → Piece
 
--- a digit from 0 to 9 or from A to F
+-- the ASCII code of a hexadecimal digit, 0 to 9 or A to F, for a value below 16
 abbrev pub digit : ℕ → ℕ
 digit d = if nat_lt d 10 then 48 + d else 55 + d
 
--- a byte in text: 0, two hexadecimal digits, h
+-- a byte as a number in text: 0, two hexadecimal digits, h
 unfoldable pub byte_digits : ℕ → List ℕ
 byte_digits n = 48 ∷ digit (n / 16) ∷ digit (n % 16) ∷ 104 ∷ []
 
--- a word in text: 0, four hexadecimal digits, h
+-- a word as a number in text: 0, four hexadecimal digits, h
 unfoldable pub word_digits : ℕ → List ℕ
 word_digits n = 48 ∷ digit (n / 4096) ∷ digit (n / 256 % 16) ∷ digit (n / 16 % 16) ∷ digit (n % 16) ∷ 104 ∷ []
 
@@ -73,12 +73,12 @@ abbrev pub is_name : List ℕ → Bool
 is_name [] = false
 is_name (b ∷ w) = list_all is_in_names (b ∷ w)
 
--- the byte is a sign: a space or + , : [ ]
+-- the byte is one of the signs of a text: a space or + , : [ ]
 abbrev pub is_mark : ℕ → Bool
 is_mark b = (b == 32) || (b == 43) || (b == 44) || (b == 58) || (b == 91) || (b == 93)
 
--- each name is digits and capital letters, each sign one of these six; and no name or number stands right after
--- another one (the first argument says whether one stands in front)
+-- no name or number stands right after another, each name is digits and capital letters, and each sign is one of
+-- these six. `behind` says whether a name or number stands right before the pieces
 abbrev pub parted : Bool → List Piece → Bool
 parted behind [] = true
 parted true (name w ∷ ps) = false

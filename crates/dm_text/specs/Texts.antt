@@ -25,11 +25,11 @@ use Rattle.dm_text.specs.Pieces.{Piece, name, byte, word, space, plus, comma, co
 
 -- ---- memory
 
--- a base and an index register with + between them
+-- a base and an index register with a + between them
 abbrev pub register_pair : WordRegister → WordRegister → List Piece
 register_pair r s = name (word_name r) ∷ plus ∷ name (word_name s) ∷ []
 
--- the registers of an address; a direct address has none
+-- the registers of an address in brackets; a direct address has none
 abbrev pub base_pieces : Base → List Piece
 base_pieces Direct = []
 base_pieces BxSi = register_pair Bx Si
@@ -41,11 +41,12 @@ base_pieces OnDi = name (word_name Di) ∷ []
 base_pieces OnBp = name (word_name Bp) ∷ []
 base_pieces OnBx = name (word_name Bx) ∷ []
 
--- the displacement after registers; 0 is left out
+-- the displacement after the registers of an address, with a + before it; 0 is left out
 abbrev pub displacement_pieces : ℕ → List Piece
 displacement_pieces n = if n == 0 then [] else plus ∷ word n ∷ []
 
--- an address; a direct one is a number, also where it is 0
+-- what stands between the brackets of a memory operand: registers and displacement; of a direct address its
+-- displacement alone, also where it is 0
 abbrev pub address_pieces : Address → List Piece
 address_pieces a = elim a.base [ Direct ↦ word a.displacement ∷ [] | _ ↦ base_pieces a.base ++ displacement_pieces a.displacement ]
 
@@ -66,7 +67,7 @@ is_general (operand.ByteRegister r) = true
 is_general (operand.WordRegister r) = true
 is_general _ = false
 
--- a general register gives the size of the other operand; a shift's CL gives none
+-- a general register as one operand gives the size of the other; CL, the count of a shift, gives none
 abbrev pub gives_size : Action → Bool
 gives_size a = if is_general a.first then true else if is_shift a.mnemonic then false else is_general a.second
 
@@ -75,7 +76,8 @@ abbrev pub width_word : Width → List ℕ
 width_word Byte = codes "BYTE"
 width_word Word = codes "WORD"
 
--- jumps and calls to what memory holds have NEAR in place of a size; the far ones have FAR in their name
+-- the size word of an action: NEAR for a jump or call by memory, none for a far one, which has FAR in its name; for
+-- others s
 abbrev pub jump_pieces : Mnemonic → List Piece → List Piece
 jump_pieces op.CallFar s = []
 jump_pieces op.JmpFar s = []
@@ -83,7 +85,8 @@ jump_pieces op.Call s = name (codes "NEAR") ∷ space ∷ []
 jump_pieces op.Jmp s = name (codes "NEAR") ∷ space ∷ []
 jump_pieces m s = s
 
--- the word before memory: BYTE or WORD where no general register gives the size
+-- the word before a memory operand with a space after it: BYTE or WORD where no general register gives the size, NEAR
+-- for jumps and calls
 abbrev pub size_pieces : Action → Width → List Piece
 size_pieces a w = jump_pieces a.mnemonic (if gives_size a then [] else name (width_word w) ∷ space ∷ [])
 
@@ -93,7 +96,8 @@ memory_pieces a w m = size_pieces a w ++ left_bracket ∷ address_pieces m ++ ri
 
 -- ---- operands
 
--- the operand of an action whose next instruction stands at an offset. A target is the offset that it leads to
+-- an operand of an action; `next` is the offset of the next instruction. A target is written as the offset that it
+-- leads to
 abbrev pub operand_pieces : Action → ℕ → Operand → List Piece
 operand_pieces a next operand.Nothing = []
 operand_pieces a next (operand.ByteRegister r) = name (byte_name r) ∷ []
@@ -106,16 +110,16 @@ operand_pieces a next operand.One = name (codes "1") ∷ []
 operand_pieces a next (operand.Target d) = word ((next + d) % 65536) ∷ []
 operand_pieces a next (operand.FarTarget o s) = word s ∷ colon ∷ word o ∷ []
 
--- an operand after a sign, where there is one
+-- the pieces of an operand after a sign; nothing without an operand
 abbrev pub behind : Piece → Operand → List Piece → List Piece
 behind s operand.Nothing ps = []
 behind s _ ps = s ∷ ps
 
--- the second operand stands after a comma
+-- the second operand after a comma, if there is one
 abbrev pub second_pieces : Action → ℕ → List Piece
 second_pieces a next = behind comma a.second (operand_pieces a next a.second)
 
--- the operands: the first one after a space, the second one after a comma
+-- both operands: the first after a space, the second after a comma; nothing without a first one
 abbrev pub operands_pieces : Action → ℕ → List Piece
 operands_pieces a next = behind space a.first (operand_pieces a next a.first ++ second_pieces a next)
 
@@ -136,18 +140,18 @@ is_accumulator o = elim o [ operand.WordRegister r ↦ (elim r [ Ax ↦ true | _
 abbrev pub is_nop : Action → Bool
 is_nop a = elim a.mnemonic [ op.Xchg ↦ (if is_accumulator a.first then is_accumulator a.second else false) | _ ↦ false ]
 
--- the mnemonic and operands of an action, where the next instruction stands at an offset
+-- the mnemonic and the operands of an action; `next` is the offset of the next instruction
 unfoldable pub action_pieces : Action → ℕ → List Piece
 action_pieces a next = if is_nop a then name (codes "NOP") ∷ [] else mnemonic_pieces a.mnemonic ++ operands_pieces a next
 
 -- ---- the prefixes that are kept: the segment's, LOCK, REP or REPNE, each with a space after it
 
--- the word of a segment override, if there is one
+-- the name of the register of a segment override prefix, if there is one
 abbrev pub segment_pieces : Option SegmentRegister → List Piece
 segment_pieces None = []
 segment_pieces (Some r) = name (segment_name r) ∷ space ∷ []
 
--- the word LOCK, if there is the prefix
+-- the word LOCK, if there is that prefix
 abbrev pub lock_pieces : Bool → List Piece
 lock_pieces l = if l then name (codes "LOCK") ∷ space ∷ [] else []
 
@@ -157,16 +161,16 @@ repeat_pieces None = []
 repeat_pieces (Some NotEqual) = name (codes "REPNE") ∷ space ∷ []
 repeat_pieces (Some Equal) = name (codes "REP") ∷ space ∷ []
 
--- words of the prefixes that are kept, in one order
+-- the words of the prefixes of an instruction, always in this order
 abbrev pub prefix_pieces : Prefixes → List Piece
 prefix_pieces p = segment_pieces p.segment ++ lock_pieces p.lock ++ repeat_pieces p.repeat
 
 -- ---- the whole text
 
--- the text of an instruction in pieces, where the next one stands at an offset
+-- the text of an instruction in pieces; `next` is the offset of the next instruction
 unfoldable pub pieces : Ins → ℕ → List Piece
 pieces i next = prefix_pieces i.prefixes ++ action_pieces i.action next
 
--- the text of an instruction, where the next one stands at an offset
+-- the text of an instruction in ASCII; `next` is the offset of the next instruction
 unfoldable pub text_of : Ins → ℕ → List ℕ
 text_of i next = text_bytes (pieces i next)

@@ -37,14 +37,14 @@ impl Line {
         self.text.as_slice()
     }
 
-    /// Takes all text away.
+    /// Empties the line.
     pub(crate) fn clear(&mut self)
         ensures { self.new ≡ [] }
     {
         self.text.clear();
     }
 
-    /// Puts text at the end.
+    /// Appends text to the line.
     pub(crate) fn put(&mut self, text: &[u8])
         requires { length self.old + length text.now ≤ 64 }
         ensures items { self.new ≡ self.old ++ text.now }
@@ -54,7 +54,7 @@ impl Line {
         let _ = self.text.try_extend_from_slice(text);
     }
 
-    /// Puts a byte's number at the end: 0, two digits, h.
+    /// Appends a byte as a number: 0, two digits, h.
     pub(crate) fn put_byte(&mut self, n: u8)
         requires { length self.old + 4 ≤ 64 }
         ensures items { self.new ≡ self.old ++ byte_digits n }
@@ -63,7 +63,7 @@ impl Line {
         self.put(&byte_number(n));
     }
 
-    /// Puts a word's number at the end: 0, four digits, h.
+    /// Appends a word as a number: 0, four digits, h.
     #[tactic(auto, unfolding(crate::specs::Pieces::word_digits))]
     pub(crate) fn put_word(&mut self, n: u16)
         requires { length self.old + 6 ≤ 64 }
@@ -81,7 +81,7 @@ impl Line {
     }
 }
 
-/// How a byte's number is written: 0, two digits, h.
+/// A byte as a number in text: 0, two hexadecimal digits, h.
 #[tactic(auto, unfolding(crate::specs::Pieces::byte_digits))]
 pub fn byte_number(n: u8) -> [u8; 4]
     ensures { result ≡ byte_digits n }
@@ -90,7 +90,7 @@ pub fn byte_number(n: u8) -> [u8; 4]
     [b'0', digit_of(n / 16), digit_of(n % 16), b'h']
 }
 
-/// A hexadecimal digit, in upper case.
+/// The ASCII code of a hexadecimal digit, 0 to 9 or A to F, for a value below 16.
 fn digit_of(n: u16) -> u8
     requires { n < 16 }
     ensures { result ≡ digit n }

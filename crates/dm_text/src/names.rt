@@ -52,8 +52,7 @@ pub fn segment_register_name(register: SegmentRegister) -> &'static [u8]
     }
 }
 
-/// The name of a mnemonic, in at most nine letters and spaces: transfers to another segment and short
-/// jumps have two words.
+/// The name of a mnemonic: one word, but two for far jumps and calls and for short jumps; at most nine bytes.
 #[tactic(auto, unfolding(crate::specs::Names::name_of))]
 pub fn mnemonic_name(mnemonic: Mnemonic) -> &'static [u8]
     ensures value { result.now ≡ name_of mnemonic }

@@ -1,5 +1,6 @@
-//! The text of an instruction: the prefix words that it keeps, its mnemonic and its operands (Intel
-//! 8086 Family User's Manual, section 2.7 and section 2.8).
+//! The text of an instruction: its prefix words, its mnemonic and its operands (Intel 8086 Family
+//! User's Manual, section 2.7 and section 2.8). Each `put` function appends to `line`, and changes
+//! nothing else.
 
 ghost use Rattle.std.specs.Prelude.{◌≡◌, ◌+◌, ◌≤◌, ◌++◌, length};
 ghost use Rattle.dm_text.specs.Pieces.{text_bytes};
@@ -12,7 +13,7 @@ use dm_ins::{
     WordRegister,
 };
 
-/// Puts two registers that are added.
+/// Appends the names of two registers with a + between them.
 fn put_pair(line: &mut Line, first: WordRegister, second: WordRegister)
     requires { length line.old + 5 ≤ 64 }
     ensures items { line.new ≡ line.old ++ text_bytes (register_pair first second) }
@@ -23,7 +24,7 @@ fn put_pair(line: &mut Line, first: WordRegister, second: WordRegister)
     line.put(word_register_name(second));
 }
 
-/// Puts the registers of an address.
+/// Appends the registers of an address; a direct address has none.
 fn put_base(line: &mut Line, base: Base)
     requires { length line.old + 5 ≤ 64 }
     ensures items { line.new ≡ line.old ++ text_bytes (base_pieces base) }
@@ -42,7 +43,7 @@ fn put_base(line: &mut Line, base: Base)
     }
 }
 
-/// Puts the displacement after registers: 0 is left out.
+/// Appends a displacement with a + before it; 0 is left out.
 fn put_displacement(line: &mut Line, n: u16)
     requires { length line.old + 7 ≤ 64 }
     ensures items { line.new ≡ line.old ++ text_bytes (displacement_pieces n) }
@@ -54,7 +55,7 @@ fn put_displacement(line: &mut Line, n: u16)
     }
 }
 
-/// Puts what stands between the brackets of a memory operand.
+/// Appends what stands between the brackets of a memory operand.
 #[tactic(auto, using(crate::proofs::Pieces::appended))]
 fn put_address(line: &mut Line, address: Address)
     requires { length line.old + 12 ≤ 64 }
@@ -70,7 +71,7 @@ fn put_address(line: &mut Line, address: Address)
     }
 }
 
-/// Whether this is the mnemonic of a shift or a rotate.
+/// Whether the mnemonic is that of a shift or a rotate.
 fn shifts(mnemonic: Mnemonic) -> bool
     ensures { result ≡ is_shift mnemonic }
 {
@@ -86,21 +87,23 @@ fn shifts(mnemonic: Mnemonic) -> bool
     )
 }
 
-/// Whether the operand is a general register.
+/// Whether the operand is a byte or word general register.
 fn general(operand: Operand) -> bool
     ensures { result ≡ is_general operand }
 {
     matches!(operand, Operand::ByteRegister(_) | Operand::WordRegister(_))
 }
 
-/// Whether a general register gives the size of the other operand. A shift's CL gives none.
+/// Whether a general register as one operand gives the size of the other. CL as the count of a
+/// shift gives none.
 pub fn size_is_given(action: &Action) -> bool
     ensures { result ≡ gives_size action.now }
 {
     general(action.first) || !shifts(action.mnemonic) && general(action.second)
 }
 
-/// The word before a memory operand, with a space after it.
+/// The word before a memory operand, BYTE, WORD or NEAR, with a space after it; empty where none
+/// stands there.
 fn size(action: &Action, width: Width) -> &'static [u8]
     ensures value { result.now ≡ text_bytes (size_pieces action.now width) }
     ensures within { length result.now ≤ 5 }
@@ -121,7 +124,7 @@ fn size(action: &Action, width: Width) -> &'static [u8]
     }
 }
 
-/// Puts a memory operand.
+/// Appends a memory operand: the word for its size, and its address in brackets.
 #[tactic(auto, using(crate::proofs::Pieces::appended))]
 fn put_memory(line: &mut Line, action: &Action, width: Width, address: Address)
     requires { length line.old + 19 ≤ 64 }
@@ -134,7 +137,8 @@ fn put_memory(line: &mut Line, action: &Action, width: Width, address: Address)
     line.put(b"]");
 }
 
-/// Puts an operand; `next` is the offset of the next instruction, from which a target counts.
+/// Appends an operand. `next` is the offset of the next instruction; a target is written as the
+/// offset that it leads to.
 fn put_operand(line: &mut Line, action: &Action, next: u16, operand: Operand)
     requires { length line.old + 19 ≤ 64 }
     ensures items { line.new ≡ line.old ++ text_bytes (operand_pieces action.now next operand) }
@@ -158,7 +162,7 @@ fn put_operand(line: &mut Line, action: &Action, next: u16, operand: Operand)
     }
 }
 
-/// Puts the second operand after a comma, if there is one.
+/// Appends a comma and the second operand, if there is one.
 fn put_second(line: &mut Line, action: &Action, next: u16)
     requires { length line.old + 20 ≤ 64 }
     ensures items { line.new ≡ line.old ++ text_bytes (second_pieces action.now next) }
@@ -173,7 +177,7 @@ fn put_second(line: &mut Line, action: &Action, next: u16)
     }
 }
 
-/// Puts the operands after a space, if there are any.
+/// Appends a space and the operands, if there are any.
 #[tactic(auto, using(crate::proofs::Pieces::appended))]
 fn put_operands(line: &mut Line, action: &Action, next: u16)
     requires { length line.old + 40 ≤ 64 }
@@ -196,7 +200,7 @@ fn accumulator(operand: Operand) -> bool
     matches!(operand, Operand::WordRegister(WordRegister::Ax))
 }
 
-/// Whether the action is XCHG AX,AX.
+/// Whether the action is XCHG AX,AX, which is written NOP.
 fn nop(action: &Action) -> bool
     ensures { result ≡ is_nop action.now }
 {
@@ -206,7 +210,7 @@ fn nop(action: &Action) -> bool
     }
 }
 
-/// Puts the mnemonic and the operands.
+/// Appends the mnemonic and the operands, or NOP.
 #[tactic(auto, using(crate::proofs::Pieces::appended), unfolding(crate::specs::Texts::action_pieces))]
 fn put_action(line: &mut Line, action: &Action, next: u16)
     requires { length line.old + 49 ≤ 64 }
@@ -220,7 +224,7 @@ fn put_action(line: &mut Line, action: &Action, next: u16)
     }
 }
 
-/// Puts a segment override, with a space after it.
+/// Appends the name of the register of a segment override prefix and a space, if there is one.
 fn put_segment(line: &mut Line, segment: Option<SegmentRegister>)
     requires { length line.old + 3 ≤ 64 }
     ensures items { line.new ≡ line.old ++ text_bytes (segment_pieces segment) }
@@ -232,7 +236,7 @@ fn put_segment(line: &mut Line, segment: Option<SegmentRegister>)
     }
 }
 
-/// The word of a LOCK prefix, with a space after it.
+/// The word LOCK with a space after it; empty without that prefix.
 fn lock_word(lock: bool) -> &'static [u8]
     ensures value { result.now ≡ text_bytes (lock_pieces lock) }
     ensures within { length result.now ≤ 5 }
@@ -240,7 +244,8 @@ fn lock_word(lock: bool) -> &'static [u8]
     if lock { b"LOCK " } else { b"" }
 }
 
-/// The word of a repeat prefix, with a space after it.
+/// The word of a repeat prefix, REP for F3h and REPNE for F2h, with a space after it; empty without
+/// one.
 fn repeat_word(repeat: Option<Repeat>) -> &'static [u8]
     ensures value { result.now ≡ text_bytes (repeat_pieces repeat) }
     ensures within { length result.now ≤ 6 }
@@ -252,7 +257,7 @@ fn repeat_word(repeat: Option<Repeat>) -> &'static [u8]
     }
 }
 
-/// Puts the words of the prefixes that are kept, each with a space after it.
+/// Appends the words of the prefixes, each with a space after it.
 #[tactic(auto, using(crate::proofs::Pieces::appended))]
 fn put_prefixes(line: &mut Line, prefixes: Prefixes)
     requires { length line.old + 14 ≤ 64 }
@@ -264,13 +269,13 @@ fn put_prefixes(line: &mut Line, prefixes: Prefixes)
     line.put(repeat_word(prefixes.repeat));
 }
 
-/// Makes `line` the text of an instruction, in at most 64 bytes: the line of an assembler for it,
+/// Sets `line` to the text of an instruction, in at most 64 bytes: the line of an assembler for it,
 /// with no label, comment or line end. `next` is the offset of the next instruction, from which the
 /// targets of jumps and calls count.
 ///
-/// Prefix words come first (the segment's, LOCK, REP or REPNE), then the mnemonic, then the operands
-/// with a comma between them. Numbers are hexadecimal, two digits for a byte and four for a word;
-/// `BYTE`, `WORD` or `NEAR` stands before memory where nothing else says its size.
+/// Prefix words come first (the segment's, LOCK, REP or REPNE), then the mnemonic, then the
+/// operands with a comma between them. Numbers are hexadecimal, two digits for a byte and four for
+/// a word; `BYTE`, `WORD` or `NEAR` stands before memory where nothing else says its size.
 #[tactic(auto, using(crate::proofs::Pieces::appended), unfolding(crate::specs::Texts::text_of, crate::specs::Texts::pieces))]
 pub fn text(ins: &Ins, next: u16, line: &mut Line)
     ensures { line.new ≡ text_of ins.now next }

@@ -1,4 +1,4 @@
--- The headers of the arena, as lines: segment, signature, owner and size.
+-- The listing of the arena: its headers, as lines with segment, signature, owner and size in paragraphs.
 -- Source: MS-DOS Programmer's Reference, "Arena header". The form is this machine's own.
 use Rattle.std.specs.Prelude.{◌≡◌, ℕ, Bool, List, [], ◌∷◌, ◌++◌, false, true, codes}
 use Rattle.dm_space.specs.Memory.{Memory}
@@ -8,25 +8,25 @@ use Rattle.dm_blocks.specs.Chain.{first_header, link_header, signature, is_parte
 use Rattle.dm_blocks.specs.Listing.{Leads, Follows}
 use Rattle.dm_views.specs.Digits.{four_digits}
 
--- the line of a header with this signature: segment, signature, owner, size
+-- the line of a header: segment, signature `signed`, owner, and size in paragraphs
 abbrev pub header_line : ℕ → Header → List ℕ
 header_line signed b = four_digits b.segment ++ (32 ∷ signed ∷ 32 ∷ []) ++ four_digits b.owner ++ codes " " ++ four_digits b.size ++ 10 ∷ []
 
--- the lines of a whole list: the last header is signed `Z`
+-- the lines of a whole list: the last header has the signature `Z`, the others `M`
 abbrev pub list_text : List Header → List ℕ
 list_text [] = []
 list_text (b ∷ L) = header_line (signature L) b ++ list_text L
 
--- the lines of headers that others follow: all are signed `M`
+-- the lines of headers after which the list is broken: all have the signature `M`
 abbrev pub front_text : List Header → List ℕ
 front_text [] = []
 front_text (b ∷ P) = header_line 0x4D b ++ front_text P
 
--- the line after the last header of a whole list
+-- the line `end`, which follows the last header of a whole list
 abbrev pub end_line : List ℕ
 end_line = codes "end" ++ 10 ∷ []
 
--- the line of the segment where no header can follow
+-- the line `destroyed at` with the segment where no header can follow
 abbrev pub destroyed_line : ℕ → List ℕ
 destroyed_line segment = codes "destroyed at " ++ four_digits segment ++ 10 ∷ []
 
@@ -34,13 +34,14 @@ destroyed_line segment = codes "destroyed at " ++ four_digits segment ++ 10 ∷ 
 abbrev pub unlinked_line : List ℕ
 unlinked_line = codes "unlinked" ++ 10 ∷ []
 
--- after the headers F, memory spells the list L from a segment on: its lines, and its end
+-- memory spells the whole list L from the segment `start` on, where F are the headers of the list before it, if any;
+-- the text is its lines and `end`
 pub record IsWhole (m : Memory) (F : List Header) (start : ℕ) (L : List Header) (text : List ℕ) : Type 0 where
   pub list : IsArenaBehind m F start L
   pub is : text ≡ list_text L ++ end_line
 
--- after the headers F, headers may stand in a list from a segment on, up to a place where none can follow: their
--- lines, and that place
+-- the list from the segment `start` on is broken, where F are the headers of the list before it, if any: the text is
+-- the lines of its headers up to a segment where none can follow, and `destroyed at` with that segment
 pub record IsCutShort (m : Memory) (F : List Header) (start : ℕ) (text : List ℕ) : Type 0 where
   pub headers : List Header
   pub at : ℕ
@@ -48,12 +49,13 @@ pub record IsCutShort (m : Memory) (F : List Header) (start : ℕ) (text : List 
   pub none : (e : Entry) → Follows m F headers at e → ⊥
   pub is : text ≡ front_text headers ++ destroyed_line at
 
--- the lines of a list from a segment on, whole or cut short
+-- the text is the listing of the list from the segment `start` on, whole or cut short
 pub data IsListText (m : Memory) (F : List Header) (start : ℕ) (text : List ℕ) : Type 0 where
   whole : (L : List Header) → IsWhole m F start L text → IsListText m F start text
   cut_short : IsCutShort m F start text → IsListText m F start text
 
--- the first list; and after it `unlinked` and the second one, where there is a second one
+-- the text is the listing of the arena: the first list; and if that is whole and, with upper memory in the arena
+-- (`upper`), not linked, then `unlinked` and the second list
 pub data IsArenaText (upper : Bool) (m : Memory) (text : List ℕ) : Type 0 where
   destroyed : IsCutShort m [] first_header text → IsArenaText upper m text
   alone : (L : List Header) → IsWhole m [] first_header L text → is_parted upper L ≡ false → IsArenaText upper m text

@@ -19,7 +19,7 @@ eight_digits n = four_digits (n / 65536 % 65536) ++ four_digits (n % 65536)
 abbrev pub address_text : ℕ → ℕ → List ℕ
 address_text segment offset = four_digits segment ++ codes ":" ++ four_digits offset
 
--- the texts of the numbers below n, one after the other
+-- the texts that f gives for the numbers 0 to n - 1, one after the other
 unfoldable pub in_turn : (ℕ → List ℕ) → ℕ → List ℕ
 in_turn f zero = []
 in_turn f (suc n) = in_turn f n ++ f n

@@ -1,5 +1,5 @@
--- Extended memory, as lines: the blocks of the handles in use, the upper memory blocks, and A20 and the high memory
--- area. Source: XMS 3.0. The form is this machine's own.
+-- The listing of extended memory: the blocks of the handles in use, the upper memory blocks, and A20 and the high
+-- memory area. Source: XMS 3.0. The form is this machine's own.
 use Rattle.std.specs.Prelude.{ℕ, ◌+◌, Bool, if◌then◌else◌, List, [], ◌∷◌, ◌++◌, codes, slice_get, Option, Some, None}
 use Rattle.dm_space.specs.Memory.{Memory}
 use Rattle.dm_xms.specs.declared.tables.Handle.{Handle}
@@ -9,32 +9,33 @@ use Rattle.dm_xms.specs.Calls.{slot}
 use Rattle.dm_xms.specs.Blocks.{address}
 use Rattle.dm_views.specs.Digits.{two_digits, four_digits, eight_digits, in_turn}
 
--- handle, linear address, KiB, locks
+-- the line of an extended memory block: handle, linear address, size in KiB, lock count
 abbrev pub block_line : ℕ → ℕ → ℕ → ℕ → List ℕ
 block_line number base kib locks = four_digits number ++ codes " " ++ eight_digits base ++ codes " " ++ four_digits kib ++ codes " " ++ two_digits locks ++ 10 ∷ []
 
--- nothing for a handle that is not in use
+-- the line of a handle's block; no text if the handle is not in use (None)
 abbrev pub if_used : Memory → ℕ → Option Handle → List ℕ
 if_used m number None = []
 if_used m number (Some h) = block_line number (address m h.block) h.kib h.locks
 
--- the line of the handle after so many, if it is in use: handles count from 1
+-- the line of the block of handle `before + 1`; no text if the handle is not in use. Handles count from 1
 abbrev pub block_text : Tables → Memory → ℕ → List ℕ
 block_text xms m before = if_used m (before + 1) (slot xms (before + 1))
 
--- segment and paragraphs of an upper memory block, if there is one
+-- the line of an upper memory block: segment and size in paragraphs; no text for None
 abbrev pub upper_line : Option Upper → List ℕ
 upper_line None = []
 upper_line (Some u) = codes "upper " ++ four_digits u.segment ++ codes " " ++ four_digits u.paragraphs ++ 10 ∷ []
 
--- the line of upper memory block k
+-- the line of upper memory block k, from 0; no text if there is none
 abbrev pub upper_text : Tables → ℕ → List ℕ
 upper_text xms k = upper_line (slice_get xms.uppers k)
 
--- the state of A20 and of the high memory area
+-- the line that says whether A20 is on and whether the high memory area is used
 abbrev pub switches_text : Bool → Bool → List ℕ
 switches_text on taken = (if on then codes "A20 on" else codes "A20 off") ++ (if taken then codes " HMA used" ++ 10 ∷ [] else codes " HMA free" ++ 10 ∷ [])
 
--- there are 64 handles, and at most 64 upper memory blocks
+-- the listing of extended memory: the lines of its 64 handles, of at most 64 upper memory blocks, and of A20 and the
+-- high memory area
 abbrev pub extended_text : Tables → Memory → List ℕ
 extended_text xms m = in_turn (block_text xms m) 64 ++ in_turn (upper_text xms) 64 ++ switches_text m.a20 xms.area

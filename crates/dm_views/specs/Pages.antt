@@ -1,4 +1,4 @@
--- Expanded memory, as lines: the handles in use, and what the windows show.
+-- The listing of expanded memory: the handles in use, and what the windows show.
 -- Source: LIM EMS 4.0, section 2. The form is this machine's own.
 use Rattle.std.specs.Prelude.{ℕ, List, [], ◌∷◌, ◌++◌, codes, Option, Some, None}
 use Rattle.std.specs.List.{flat_map}
@@ -11,31 +11,31 @@ use Rattle.dm_views.specs.Digits.{two_digits, four_digits, in_turn}
 
 -- ---- handles
 
--- number, pages, and the bytes of the name
+-- the line of a handle in use: its number, how many pages it has, and the eight bytes of its name
 abbrev pub holding_text : ℕ → Holding → List ℕ
 holding_text number h = four_digits number ++ codes " " ++ four_digits h.pages ++ codes " " ++ flat_map two_digits h.name ++ 10 ∷ []
 
--- nothing for a handle that is not in use
+-- the line of a handle; no text if it is not in use (None)
 abbrev pub if_used : ℕ → Option Holding → List ℕ
 if_used number None = []
 if_used number (Some h) = holding_text number h
 
--- the line of a handle, if it is in use
+-- the line of the handle with this number; no text if it is not in use
 abbrev pub handle_text : Tables → ℕ → List ℕ
 handle_text ems number = if_used number (holding ems number)
 
 -- ---- windows
 
--- the handle and the page that a window shows
+-- the end of a window's line: the handle and the logical page that it shows, or `none`
 abbrev pub shown_text : Option (ℕ × ℕ) → List ℕ
 shown_text None = codes "none" ++ 10 ∷ []
 shown_text (Some n) = four_digits n.0 ++ codes " " ++ four_digits n.1 ++ 10 ∷ []
 
--- the line of a window: its number, and the handle and the page that it shows
+-- the line of a window: its number, and the handle and the logical page that it shows, or `none`
 abbrev pub window_line : ℕ → Option (ℕ × ℕ) → List ℕ
 window_line number page = codes "window " ++ (digit number ∷ 32 ∷ []) ++ shown_text page
 
--- what a window shows: a page's handle and its logical number, or none
+-- the line of the window with this number
 abbrev pub window_text : Tables → Memory → ℕ → List ℕ
 window_text ems m number = window_line number (page_shown ems m number)
 

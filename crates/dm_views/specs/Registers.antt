@@ -1,4 +1,4 @@
--- The text of the registers.
+-- The listing of the registers.
 -- Source: MS-DOS User's Reference, "DEBUG" (Register); Intel 8086 Family User's Manual, section 2.2. The form is this
 -- machine's own.
 use Rattle.std.specs.Prelude.{◌≡◌, ℕ, List, [], ◌∷◌, ◌++◌, codes}
@@ -23,19 +23,19 @@ abbrev pub fields_text : List Field → List ℕ
 fields_text [] = 10 ∷ []
 fields_text (f ∷ fs) = field_text f ++ flat_map (λ g. codes " " ++ field_text g) fs ++ 10 ∷ []
 
--- the general registers, in the order of the first line
+-- the registers of the first line: AX to DX, SP, BP, SI and DI
 abbrev pub general : Cpu → List Field
 general c =
     field (codes "AX") c.ax ∷ field (codes "BX") c.bx ∷ field (codes "CX") c.cx ∷ field (codes "DX") c.dx
     ∷ field (codes "SP") c.sp ∷ field (codes "BP") c.bp ∷ field (codes "SI") c.si ∷ field (codes "DI") c.di ∷ []
 
--- the segment registers, IP and the flags, in the order of the second line; the flags are the word that PUSHF stores
+-- the registers of the second line: the segment registers, IP, and the FLAGS word as PUSHF stores it
 abbrev pub special : Cpu → List Field
 special c =
     field (codes "DS") c.ds ∷ field (codes "ES") c.es ∷ field (codes "SS") c.ss ∷ field (codes "CS") c.cs
     ∷ field (codes "IP") c.ip ∷ field (codes "FL") (flags_word c.flags) ∷ []
 
--- two lines of registers, and the line of the instruction at CS:IP
+-- the text is the listing of the registers: two lines of registers, and the line of the instruction at CS:IP
 pub record IsRegistersText (c : Cpu) (m : Memory) (text : List ℕ) : Type 0 where
   pub count : ℕ
   pub line : List ℕ

@@ -1,4 +1,5 @@
-//! The headers of the arena, as text (MS-DOS Programmer's Reference, "Arena header").
+//! The listing of the arena's headers (MS-DOS Programmer's Reference, "Arena header"). Each call appends its text to
+//! `out`; an `Err` is a failed allocation.
 
 ghost use Rattle.std.specs.Prelude.{◌≡◌, ◌++◌, ◌∷◌, [], false, IfOk, List, None, OnOk, Some, ℕ};
 ghost use Rattle.dm_blocks.specs.declared.header.Header.{Header};
@@ -13,14 +14,14 @@ use dm_blocks::{Entry, Headers, Step, is_linked, walk};
 use dm_space::Space;
 use std::alloc::AllocError;
 
-/// The signature of a header.
+/// The signature byte of a header: `Z` for the last one of its list, `M` for any other.
 fn signature(last: bool) -> u8
     ensures { result ≡ signature_byte last }
 {
     if last { b'Z' } else { b'M' }
 }
 
-/// Puts the line of a header.
+/// Appends the line of a header: segment, signature, owner and size in paragraphs.
 fn put_entry(out: &mut Vec<u8>, entry: Entry) -> Result<(), AllocError>
     ensures { OnOk result (out.new.items ≡ out.old.items ++ header_line (signature_byte entry.last) entry.header) }
 {
@@ -32,14 +33,14 @@ fn put_entry(out: &mut Vec<u8>, entry: Entry) -> Result<(), AllocError>
     out.extend_from_slice(b"\n")
 }
 
-/// Puts that the arena ends.
+/// Appends the line `end`, which follows the last header of a whole list.
 fn put_end(out: &mut Vec<u8>) -> Result<(), AllocError>
     ensures { OnOk result (out.new.items ≡ out.old.items ++ end_line) }
 {
     out.extend_from_slice(b"end\n")
 }
 
-/// Puts the digits of a word, and a line end.
+/// Appends the four hexadecimal digits of a word, and a line end.
 fn put_word_line(out: &mut Vec<u8>, word: u16) -> Result<(), AllocError>
     ensures { OnOk result (out.new.items ≡ out.old.items ++ (four_digits word ++ 10 ∷ [])) }
 {
@@ -47,7 +48,7 @@ fn put_word_line(out: &mut Vec<u8>, word: u16) -> Result<(), AllocError>
     out.extend_from_slice(b"\n")
 }
 
-/// Puts where the arena is destroyed.
+/// Appends the line `destroyed at` with the segment of the first header that breaks the list.
 fn put_destroyed(out: &mut Vec<u8>, segment: u16) -> Result<(), AllocError>
     ensures { OnOk result (out.new.items ≡ out.old.items ++ destroyed_line segment) }
 {
@@ -55,9 +56,9 @@ fn put_destroyed(out: &mut Vec<u8>, segment: u16) -> Result<(), AllocError>
     put_word_line(out, segment)
 }
 
-/// Puts the headers that a walk over a list has yet to return, a line each: segment, signature, owner and size; then
-/// `end`, or where the first stands that breaks the list. The walk at the end of its list; None where the list is
-/// broken.
+/// Appends a line for each header of the list that a walk is at the start of: segment, signature, owner and size; then
+/// `end`, or `destroyed at` with the segment of the first header that breaks the list. Returns the walk at the end of
+/// its list; None if the list is broken.
 fn put_list<'a>(out: &mut Vec<u8>, headers: Headers<'a>) -> Result<Option<Headers<'a>>, AllocError>
     requires { headers.at ≡ Some (start_of headers.second) }
     ensures { IfOk result (λ rest. TellsList headers.entry rest out.old.items out.new.items) }
@@ -78,7 +79,8 @@ fn put_list<'a>(out: &mut Vec<u8>, headers: Headers<'a>) -> Result<Option<Header
     }
 }
 
-/// Puts `unlinked`, and the second list after the first one, which a walk is through.
+/// Appends the line `unlinked` and the listing of the second list, that of upper memory. `first` is the walk at the end
+/// of the first list.
 fn put_unlinked(out: &mut Vec<u8>, first: Headers<'_>) -> Result<(), AllocError>
     requires first { first.second ≡ false }
     requires over { first.at ≡ None }
@@ -89,14 +91,15 @@ fn put_unlinked(out: &mut Vec<u8>, first: Headers<'_>) -> Result<(), AllocError>
     Ok(())
 }
 
-/// Puts the headers of the arena, a line each: segment, signature, owner and size; then `end`, or where the first
-/// stands that breaks the list. Where upper memory belongs to the arena, which `upper` says, and the list ends but
-/// isn't linked with that of upper memory, `unlinked` follows and the second list, from the link block on, in the same
-/// form; a header on a place of the first breaks it. There are at most FF00h headers in a list.
+/// Appends a line for each header of the arena: segment, signature, owner and size in paragraphs; then `end`, or
+/// `destroyed at` with the segment of the first header that breaks the list. If upper memory belongs to the arena
+/// (`upper`) and the first list is whole but not linked with that of upper memory, `unlinked` follows and the second
+/// list, from the link block on, in the same form; a header that shares a place with one of the first list breaks it.
+/// There are at most FF00h headers in a list.
 ///
 /// # Errors
 ///
-/// That memory for the text was refused.
+/// A failed allocation.
 pub fn put_arena(out: &mut Vec<u8>, space: &Space, upper: bool) -> Result<(), AllocError>
     ensures { OnOk result ((text : List ℕ) × (out.new.items ≡ out.old.items ++ text) × IsArenaText upper space.now.memory text) }
 {

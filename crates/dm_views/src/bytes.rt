@@ -1,4 +1,4 @@
-//! Bytes in memory, as text.
+//! The listing of bytes in memory. Each call appends its text to `out`; an `Err` is a failed allocation.
 
 ghost use Rattle.std.specs.Prelude.{◌≡◌, ◌+◌, ◌*◌, ◌≤◌, ◌++◌, codes, OnOk};
 ghost use Rattle.dm_views.specs.Bytes.{printable, in_digits, as_text, line_text, bytes_text};
@@ -8,10 +8,10 @@ use crate::digits::{byte_digits, put_address};
 use dm_space::Space;
 use std::alloc::AllocError;
 
-/// How many bytes a line has.
+/// How many bytes a line shows.
 const IN_LINE: u32 = 16;
 
-/// A byte as a character: itself, or a point where it is not printable.
+/// A byte as a character: itself from 20h to 7Eh, otherwise a point.
 fn printed(byte: u8) -> u8
     ensures { result ≡ printable byte }
 {
@@ -22,7 +22,7 @@ fn printed(byte: u8) -> u8
     }
 }
 
-/// Puts the digits of a byte after a space.
+/// Appends a space and the two hexadecimal digits of a byte.
 fn put_byte(out: &mut Vec<u8>, byte: u8) -> Result<(), AllocError>
     ensures { OnOk result (out.new.items ≡ out.old.items ++ (codes " " ++ two_digits byte)) }
 {
@@ -30,7 +30,7 @@ fn put_byte(out: &mut Vec<u8>, byte: u8) -> Result<(), AllocError>
     out.extend_from_slice(&byte_digits(byte))
 }
 
-/// Puts so many bytes from an address on in digits, each after a space.
+/// Appends the `count` bytes from segment:offset on in hexadecimal, a space before each. Offsets wrap.
 fn put_digits(
     out: &mut Vec<u8>,
     space: &Space,
@@ -46,7 +46,8 @@ fn put_digits(
     Ok(())
 }
 
-/// Puts so many bytes from an address on as characters.
+/// Appends the `count` bytes from segment:offset on as characters, with a point for each that is not printable. Offsets
+/// wrap.
 fn put_characters(
     out: &mut Vec<u8>,
     space: &Space,
@@ -63,7 +64,7 @@ fn put_characters(
     Ok(())
 }
 
-/// Puts the line of so many bytes from an address on.
+/// Appends one line: the address, and the `count` bytes from it on in hexadecimal and as characters.
 fn put_bytes_line(
     out: &mut Vec<u8>,
     space: &Space,
@@ -80,12 +81,12 @@ fn put_bytes_line(
     out.extend_from_slice(b"\n")
 }
 
-/// Puts so many bytes from an address on, 16 to a line: the address of the first, each in two digits after a space,
-/// two spaces, and each as a character, or a point where it is none from 20h to 7Eh. Offsets wrap in the segment.
+/// Appends the `count` bytes from segment:offset on, 16 to a line: the address of the first; each in two digits after a
+/// space; two spaces; and each as a character, or a point if it is outside 20h to 7Eh. Offsets wrap in the segment.
 ///
 /// # Errors
 ///
-/// That memory for the text was refused.
+/// A failed allocation.
 pub fn put_bytes(
     out: &mut Vec<u8>,
     space: &Space,

@@ -1,4 +1,5 @@
-//! Instructions that stand in memory, as text (Intel 8086 Family User's Manual, section 2.7 and section 4).
+//! The listing of instructions in memory (Intel 8086 Family User's Manual, section 2.7 and section 4). Each call
+//! appends its text to `out`; an `Err` is a failed allocation.
 
 ghost use Rattle.std.specs.Prelude.{◌≡◌, ◌+◌, ◌%◌, ◌++◌, ◌≤◌, List, ℕ, length, take, OnOk, IfOk};
 ghost use Rattle.std.specs.List.{flat_map};
@@ -14,7 +15,7 @@ use dm_space::Space;
 use dm_text::{Line, text};
 use std::alloc::AllocError;
 
-/// The sixteen bytes from an address on.
+/// The sixteen bytes from segment:offset on, from which an instruction is decoded; offsets wrap.
 #[tactic(auto, unfolding(dm_space::specs::EightBytes::sixteen_after))]
 fn window(space: &Space, segment: u16, offset: u16) -> [u8; 16]
     ensures { result ≡ sixteen_after space.now.memory segment offset }
@@ -40,7 +41,7 @@ fn window(space: &Space, segment: u16, offset: u16) -> [u8; 16]
     ]
 }
 
-/// Puts bytes as joined pairs of digits.
+/// Appends bytes as pairs of hexadecimal digits, with nothing between them.
 pub(crate) fn put_pairs(out: &mut Vec<u8>, bytes: &[u8]) -> Result<(), AllocError>
     ensures { OnOk result (out.new.items ≡ out.old.items ++ flat_map two_digits bytes.now) }
 {
@@ -50,7 +51,7 @@ pub(crate) fn put_pairs(out: &mut Vec<u8>, bytes: &[u8]) -> Result<(), AllocErro
     Ok(())
 }
 
-/// Puts the text of an instruction, where the next one stands at an offset.
+/// Appends an instruction's text. `next` is the offset after it, from which relative jumps and calls are counted.
 fn put_text(out: &mut Vec<u8>, ins: &Ins, next: u16) -> Result<(), AllocError>
     ensures { OnOk result (out.new.items ≡ out.old.items ++ text_of ins.now next) }
 {
@@ -59,7 +60,7 @@ fn put_text(out: &mut Vec<u8>, ins: &Ins, next: u16) -> Result<(), AllocError>
     out.extend_from_slice(line.bytes())
 }
 
-/// Puts the line of an instruction.
+/// Appends the line of an instruction: its address, its bytes and its text. `next` is the offset after it.
 fn put_listed(
     out: &mut Vec<u8>,
     segment: u16,
@@ -78,7 +79,7 @@ fn put_listed(
     out.extend_from_slice(b"\n")
 }
 
-/// Puts the line of a byte that begins no instruction.
+/// Appends the line of a byte with which no instruction begins: its address, the byte and `DB`.
 fn put_unlisted(out: &mut Vec<u8>, segment: u16, offset: u16, byte: u8) -> Result<(), AllocError>
     ensures { OnOk result (out.new.items ≡ out.old.items ++ unlisted_line segment offset byte) }
 {
@@ -88,7 +89,8 @@ fn put_unlisted(out: &mut Vec<u8>, segment: u16, offset: u16, byte: u8) -> Resul
     out.extend_from_slice(b" DB\n")
 }
 
-/// Puts the line of what stands at an address, and returns how many bytes it is.
+/// Appends the line of the instruction at segment:offset, or of the byte there if no instruction begins with it.
+/// Returns how many bytes the line covers.
 pub(crate) fn put_line(
     out: &mut Vec<u8>,
     space: &Space,
@@ -108,12 +110,12 @@ pub(crate) fn put_line(
     Ok(len as u16)
 }
 
-/// Puts the lines of so many instructions from an address on: the address, the bytes and the text of each. A byte that
-/// begins no instruction is a line of its own, with `DB` in place of a text. Offsets wrap in the segment.
+/// Appends `count` lines of instructions from segment:offset on: the address, the bytes and the text of each. A byte
+/// with which no instruction begins is a line of its own, with `DB` in place of a text. Offsets wrap in the segment.
 ///
 /// # Errors
 ///
-/// That memory for the text was refused.
+/// A failed allocation.
 pub fn put_code(
     out: &mut Vec<u8>,
     space: &Space,

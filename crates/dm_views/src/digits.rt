@@ -1,4 +1,4 @@
-//! Numbers in hexadecimal, and addresses.
+//! Numbers in hexadecimal, and addresses, as listings show them.
 
 ghost use Rattle.std.specs.Prelude.{◌≡◌, ◌<◌, ◌++◌, OnOk};
 ghost use Rattle.dm_text.specs.Pieces.{digit};
@@ -6,7 +6,7 @@ ghost use Rattle.dm_views.specs.Digits.{two_digits, four_digits, eight_digits, a
 
 use std::alloc::AllocError;
 
-/// A digit, in upper case.
+/// The hexadecimal digit of a number below 16, in upper case.
 pub(crate) fn digit_of(n: u16) -> u8
     requires { n < 16 }
     ensures { result ≡ digit n }
@@ -18,7 +18,7 @@ pub(crate) fn digit_of(n: u16) -> u8
     }
 }
 
-/// The two digits of a byte.
+/// The two hexadecimal digits of a byte.
 #[tactic(auto, unfolding(crate::specs::Digits::two_digits))]
 pub fn byte_digits(n: u8) -> [u8; 2]
     ensures { result ≡ two_digits n }
@@ -27,7 +27,7 @@ pub fn byte_digits(n: u8) -> [u8; 2]
     [digit_of(n / 16), digit_of(n % 16)]
 }
 
-/// The four digits of a word.
+/// The four hexadecimal digits of a word.
 #[tactic(auto, unfolding(crate::specs::Digits::four_digits))]
 pub fn word_digits(n: u16) -> [u8; 4]
     ensures { result ≡ four_digits n }
@@ -40,7 +40,7 @@ pub fn word_digits(n: u16) -> [u8; 4]
     ]
 }
 
-/// Puts the eight digits of a number below 2^32.
+/// Appends the eight hexadecimal digits of a number below 2^32. An `Err` is a failed allocation.
 #[tactic(auto, unfolding(crate::specs::Digits::eight_digits))]
 pub(crate) fn put_double(out: &mut Vec<u8>, n: usize) -> Result<(), AllocError>
     ensures { OnOk result (out.new.items ≡ out.old.items ++ eight_digits n) }
@@ -49,7 +49,7 @@ pub(crate) fn put_double(out: &mut Vec<u8>, n: usize) -> Result<(), AllocError>
     out.extend_from_slice(&word_digits((n % 65536) as u16))
 }
 
-/// Puts a segment and an offset, with a colon between them.
+/// Appends `segment:offset`, four hexadecimal digits each. An `Err` is a failed allocation.
 pub fn put_address(out: &mut Vec<u8>, segment: u16, offset: u16) -> Result<(), AllocError>
     ensures { OnOk result (out.new.items ≡ out.old.items ++ address_text segment offset) }
 {

@@ -1,4 +1,5 @@
-//! Extended memory, as text (XMS 3.0: blocks, upper memory blocks, A20 and the high memory area).
+//! The listing of extended memory (XMS 3.0: blocks, upper memory blocks, A20 and the high memory area). Each call
+//! appends its text to `out`; an `Err` is a failed allocation.
 
 ghost use Rattle.std.specs.Prelude.{◌≡◌, ◌<◌, ◌++◌, OnOk};
 ghost use Rattle.dm_views.specs.Extended.{block_line, block_text, upper_line, upper_text, switches_text, extended_text};
@@ -8,10 +9,11 @@ use dm_space::Space;
 use dm_xms::{Upper, Xms};
 use std::alloc::AllocError;
 
-/// How many handles there are, and how many upper memory blocks there can be.
+/// How many handles of extended memory there are, and the most upper memory blocks that there can be.
 const MOST: u16 = 64;
 
-/// Puts the line of a block: its handle, its linear address, its KiB and its locks.
+/// Appends the line of an extended memory block: its handle, its linear address, its size in KiB and how often it is
+/// locked.
 fn put_block_line(
     out: &mut Vec<u8>,
     number: u16,
@@ -31,7 +33,7 @@ fn put_block_line(
     out.extend_from_slice(b"\n")
 }
 
-/// Puts the line of the block of a handle, if it is in use; handle `before + 1`.
+/// Appends the line of handle `before + 1`'s block if the handle is in use, otherwise nothing.
 fn put_block(out: &mut Vec<u8>, xms: &Xms, space: &Space, before: u16) -> Result<(), AllocError>
     requires { before < 64 }
     ensures { OnOk result (out.new.items ≡ out.old.items ++ block_text xms.now space.now.memory before) }
@@ -43,7 +45,7 @@ fn put_block(out: &mut Vec<u8>, xms: &Xms, space: &Space, before: u16) -> Result
     }
 }
 
-/// Puts the line of an upper memory block: its segment and its paragraphs.
+/// Appends the line of an upper memory block, its segment and its size in paragraphs; nothing for None.
 fn put_upper(out: &mut Vec<u8>, upper: Option<Upper>) -> Result<(), AllocError>
     ensures { OnOk result (out.new.items ≡ out.old.items ++ upper_line upper) }
 {
@@ -57,7 +59,7 @@ fn put_upper(out: &mut Vec<u8>, upper: Option<Upper>) -> Result<(), AllocError>
     out.extend_from_slice(b"\n")
 }
 
-/// Puts how A20 stands, and whether the high memory area is taken.
+/// Appends the line that says whether A20 is on and whether the high memory area is used.
 fn put_switches(out: &mut Vec<u8>, on: bool, taken: bool) -> Result<(), AllocError>
     ensures { OnOk result (out.new.items ≡ out.old.items ++ switches_text on taken) }
 {
@@ -69,13 +71,13 @@ fn put_switches(out: &mut Vec<u8>, on: bool, taken: bool) -> Result<(), AllocErr
     })
 }
 
-/// Puts the blocks of the handles in use, rising, a line each: the handle, the linear address, the KiB and how often it
-/// is locked; then the upper memory blocks, rising, a line each: the segment and the paragraphs; then whether A20 is on
-/// and the high memory area taken.
+/// Appends the listing of extended memory: for each handle in use, in rising order, a line with the handle, the linear
+/// address, the size in KiB and the lock count of its block; for each upper memory block a line with its segment and
+/// its size in paragraphs; then whether A20 is on and whether the high memory area is used.
 ///
 /// # Errors
 ///
-/// That memory for the text was refused.
+/// A failed allocation.
 pub fn put_extended(out: &mut Vec<u8>, xms: &Xms, space: &Space) -> Result<(), AllocError>
     ensures { OnOk result (out.new.items ≡ out.old.items ++ extended_text xms.now space.now.memory) }
 {

@@ -1,9 +1,9 @@
-//! What holds of all listings.
+//! Laws of the listings, as the contract of a function that does nothing.
 
 ghost use Rattle.dm_views.specs.Laws.{ArenaHasOneText, CodeHasOneText, RegistersHaveOneText};
 
-/// The law that a listing is one text of one state: the texts of instructions, of the registers and of the arena, which
-/// are defined as relations, are functions of the state. It does nothing when called.
+/// The listings of instructions, of the registers and of the arena, whose definitions are relations, have one text each
+/// for one state.
 pub fn listings_have_one_text()
     ensures code { CodeHasOneText }
     ensures registers { RegistersHaveOneText }

@@ -1,4 +1,5 @@
-//! Expanded memory, as text (LIM EMS 4.0, section 2: handles, logical pages, the page frame).
+//! The listing of expanded memory (LIM EMS 4.0, section 2: handles, logical pages, the page frame). Each call appends
+//! its text to `out`; an `Err` is a failed allocation.
 
 ghost use Rattle.std.specs.Prelude.{◌≡◌, ◌<◌, ◌++◌, OnOk};
 ghost use Rattle.dm_views.specs.Pages.{holding_text, handle_text, window_line, pages_text};
@@ -9,10 +10,11 @@ use dm_ems::{Ems, Holding};
 use dm_space::Space;
 use std::alloc::AllocError;
 
-/// How many handles there are.
+/// How many handles of expanded memory there are.
 const HANDLES: u16 = 64;
 
-/// Puts the line of a handle in use.
+/// Appends the line of a handle in use: its number, how many pages it has, and the eight bytes of its name, all in
+/// hexadecimal.
 fn put_holding(out: &mut Vec<u8>, number: u16, holding: &Holding) -> Result<(), AllocError>
     ensures { OnOk result (out.new.items ≡ out.old.items ++ holding_text number holding.now) }
 {
@@ -24,7 +26,7 @@ fn put_holding(out: &mut Vec<u8>, number: u16, holding: &Holding) -> Result<(), 
     out.extend_from_slice(b"\n")
 }
 
-/// Puts the line of a handle, if it is in use.
+/// Appends the line of a handle if it is in use, otherwise nothing.
 fn put_handle(out: &mut Vec<u8>, ems: &Ems, number: u16) -> Result<(), AllocError>
     ensures { OnOk result (out.new.items ≡ out.old.items ++ handle_text ems.now number) }
 {
@@ -34,7 +36,8 @@ fn put_handle(out: &mut Vec<u8>, ems: &Ems, number: u16) -> Result<(), AllocErro
     }
 }
 
-/// Puts the line of a window.
+/// Appends the line of a window of the page frame: its number, and the handle and the logical page that it shows, or
+/// `none`.
 fn put_window(out: &mut Vec<u8>, number: u16, page: Option<(u16, u16)>) -> Result<(), AllocError>
     requires { number < 4 }
     ensures { OnOk result (out.new.items ≡ out.old.items ++ window_line number page) }
@@ -52,12 +55,13 @@ fn put_window(out: &mut Vec<u8>, number: u16, page: Option<(u16, u16)>) -> Resul
     }
 }
 
-/// Puts the handles in use, rising, a line each: its number, how many pages it has, and the eight bytes of its name;
-/// then what each of the four windows shows: a handle and one of its logical pages, or none.
+/// Appends the listing of expanded memory: for each handle in use, in rising order, a line with its number, how many
+/// pages it has, and the eight bytes of its name; then for each of the four windows the handle and the logical page
+/// that it shows, or `none`.
 ///
 /// # Errors
 ///
-/// That memory for the text was refused.
+/// A failed allocation.
 pub fn put_pages(out: &mut Vec<u8>, ems: &Ems, space: &Space) -> Result<(), AllocError>
     ensures { OnOk result (out.new.items ≡ out.old.items ++ pages_text ems.now space.now.memory) }
 {

@@ -1,4 +1,5 @@
-//! The registers (Intel 8086 Family User's Manual, section 2.2, registers and flags).
+//! The listing of the registers (Intel 8086 Family User's Manual, section 2.2, registers and flags). Each call appends
+//! its text to `out`; an `Err` is a failed allocation.
 
 ghost use Rattle.std.specs.Prelude.{◌≡◌, ◌++◌, List, ℕ, OnOk};
 ghost use Rattle.dm_views.specs.Registers.{field_text, fields_text, IsRegistersText};
@@ -9,14 +10,14 @@ use dm_cpu::Cpu;
 use dm_space::Space;
 use std::alloc::AllocError;
 
-/// A register's name and its word.
+/// A register as it is listed: its name of two letters, and its value.
 #[derive(Clone, Copy)]
 pub(crate) struct Field {
     name: [u8; 2],
     value: u16,
 }
 
-/// Puts a register.
+/// Appends a register as `NAME=VALUE`, with four hexadecimal digits.
 fn put_field(out: &mut Vec<u8>, field: Field) -> Result<(), AllocError>
     ensures { OnOk result (out.new.items ≡ out.old.items ++ field_text field) }
 {
@@ -25,7 +26,7 @@ fn put_field(out: &mut Vec<u8>, field: Field) -> Result<(), AllocError>
     out.extend_from_slice(&word_digits(field.value))
 }
 
-/// Puts a line of registers, with a space between any two.
+/// Appends a line of registers, with a space between any two.
 fn put_fields(out: &mut Vec<u8>, fields: &[Field]) -> Result<(), AllocError>
     ensures { OnOk result (out.new.items ≡ out.old.items ++ fields_text fields.now) }
 {
@@ -39,13 +40,14 @@ fn put_fields(out: &mut Vec<u8>, fields: &[Field]) -> Result<(), AllocError>
     out.extend_from_slice(b"\n")
 }
 
+/// A register with its name and its value.
 fn named(name: [u8; 2], value: u16) -> Field
     ensures { result ≡ record { name = name; value = value } }
 {
     Field { name, value }
 }
 
-/// The registers that instructions calculate with, and the pointers and indexes.
+/// The registers of the first line: AX to DX, SP, BP, SI and DI.
 fn general(cpu: &Cpu) -> [Field; 8]
     ensures { result ≡ Rattle.dm_views.specs.Registers.general cpu.now }
 {
@@ -61,7 +63,7 @@ fn general(cpu: &Cpu) -> [Field; 8]
     ]
 }
 
-/// The segment registers, IP and the flags.
+/// The registers of the second line: DS, ES, SS, CS, IP and the FLAGS word as PUSHF stores it.
 fn special(cpu: &Cpu) -> [Field; 6]
     ensures { result ≡ Rattle.dm_views.specs.Registers.special cpu.now }
 {
@@ -75,12 +77,12 @@ fn special(cpu: &Cpu) -> [Field; 6]
     ]
 }
 
-/// Puts the registers, in two lines, and the line of the instruction at CS:IP. The flags are the word that PUSHF
-/// stores.
+/// Appends the registers, in two lines, and the line of the instruction at CS:IP. `FL` is the FLAGS word as PUSHF
+/// stores it.
 ///
 /// # Errors
 ///
-/// That memory for the text was refused.
+/// A failed allocation.
 pub fn put_registers(out: &mut Vec<u8>, cpu: &Cpu, space: &Space) -> Result<(), AllocError>
     ensures { OnOk result ((text : List ℕ) × (out.new.items ≡ out.old.items ++ text) × IsRegistersText cpu.now space.now.memory text) }
 {

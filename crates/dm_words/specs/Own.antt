@@ -1,4 +1,4 @@
--- The words that the text of an instruction shows, where the next instruction stands at an offset.
+-- The words that the text of an instruction shows. `next` is the offset of the next instruction.
 -- Source: Intel 8086 Family User's Manual, section 2.7 (instructions and their operands); how sizes, numbers and
 -- targets are written is this machine's own (docs/DECISIONS.md).
 use Rattle.std.specs.Prelude.{ℕ, ◌+◌, ◌-◌, ◌%◌, ◌==◌, nat_lt, if◌then◌else◌, Some, None}
@@ -11,7 +11,7 @@ use Rattle.dm_words.specs.declared.written.Written.TheVariants as w
 use Rattle.dm_words.specs.declared.written.Words.{Words}
 use Rattle.dm_words.specs.Words.{size_word}
 
--- a number from 0 to FFFFh as each kind of operand
+-- a number from 0 to FFFFh as a byte, if it is below 100h, as a word, a target and a shift count
 abbrev pub numeral_of : ℕ → ℕ → Numeral
 numeral_of next n = record {
   byte = if nat_lt n 0x100 then Some n else None;
@@ -20,7 +20,7 @@ numeral_of next n = record {
   is_one = n == 1;
 }
 
--- an operand of an action; a target is written as the offset that it leads to
+-- an operand of an action as its text shows it; a target is written as the offset that it leads to
 abbrev pub written_of : Action → ℕ → Operand → Written
 written_of a next operand.Nothing = w.Nothing
 written_of a next (operand.ByteRegister r) = w.ByteRegister r
@@ -33,6 +33,6 @@ written_of a next (operand.Target d) = w.Number (numeral_of next ((next + d) % 6
 written_of a next operand.One = w.Number (numeral_of next 1)
 written_of a next (operand.FarTarget n s) = w.Far s n
 
--- the words that the text of an action shows, where the next instruction stands at an offset
+-- the mnemonic and the operands that the text of an action shows
 unfoldable pub words_of_action : Action → ℕ → Words
 words_of_action a next = record { mnemonic = a.mnemonic; first = written_of a next a.first; second = written_of a next a.second }

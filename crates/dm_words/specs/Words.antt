@@ -1,4 +1,4 @@
--- Which instruction some written words are.
+-- Which instruction some written words are: an action of the instruction table.
 -- Source: Intel 8086 Family User's Manual, section 2.7 (instructions and their operands) and section 2.8 (addressing
 -- modes); where a word says the size of memory is this machine's own (docs/DECISIONS.md).
 use Rattle.std.specs.Prelude.{◌≡◌, true, ◌⊎◌, IsSomeAnd, if◌then◌else◌}
@@ -19,7 +19,8 @@ use Rattle.dm_words.specs.declared.written.Words.{Words}
 
 -- ---- operands
 
--- a number is the byte or the word that it can be, the target at its displacement, or a shift's 1
+-- the written number can be the operand o: a byte or word value, the target that it leads to, or the count 1 of a
+-- shift
 abbrev pub IsNumber : Numeral → Operand → Type 0
 IsNumber n o =
     IsSomeAnd n.byte (λ b. o ≡ operand.ByteValue b)
@@ -27,7 +28,7 @@ IsNumber n o =
     ⊎ (o ≡ operand.Target n.distance)
     ⊎ ((n.is_one ≡ true) × (o ≡ operand.One))
 
--- what is written is the operand; memory may be a byte's or a word's
+-- what is written can be the operand o; memory may be that of a byte or of a word
 abbrev pub IsWritten : Written → Operand → Type 0
 IsWritten w.Nothing o = o ≡ operand.Nothing
 IsWritten (w.ByteRegister r) o = o ≡ operand.ByteRegister r
@@ -44,7 +45,8 @@ abbrev pub width_word : Width → Size
 width_word width.Byte = Byte
 width_word width.Word = Word
 
--- jumps and calls to what memory holds have NEAR in place of a size, and the far ones none
+-- the size word before a memory operand: NEAR for a jump or call by memory, none for a far one, which has FAR in its
+-- name; for others s
 abbrev pub jump_word : Mnemonic → Size → Size
 jump_word op.CallFar s = Absent
 jump_word op.JmpFar s = Absent
@@ -52,11 +54,12 @@ jump_word op.Call s = Near
 jump_word op.Jmp s = Near
 jump_word m s = s
 
--- BYTE or WORD where no general register gives the size
+-- the size word that an action has before a memory operand of this width: BYTE or WORD where no general register
+-- gives the size, NEAR for jumps and calls
 abbrev pub size_word : Action → Width → Size
 size_word a v = jump_word a.mnemonic (if gives_size a then Absent else width_word v)
 
--- the size word that an action has before an operand
+-- the size word that an action has before an operand; only memory has one
 abbrev pub word_before : Action → Operand → Size
 word_before a (operand.Memory v m) = size_word a v
 word_before a _ = Absent
@@ -68,7 +71,7 @@ word_written _ = Absent
 
 -- ---- instructions
 
--- the words are the action: its mnemonic and its operands, each with the word before it that the action asks for
+-- the words are the action a: its mnemonic and its operands, each with the size word that the action asks for
 pub record AreWords (words : Words) (a : Action) : Type 0 where
   pub mnemonic : a.mnemonic ≡ words.mnemonic
   pub first : IsWritten words.first a.first

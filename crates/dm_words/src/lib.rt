@@ -1,4 +1,5 @@
-//! From the words of a line to an instruction of the table.
+//! From the words of a line of assembly, a mnemonic and its operands, to an instruction of the
+//! instruction table.
 #![tactic(auto)]
 
 mod laws;

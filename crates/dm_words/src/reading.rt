@@ -1,5 +1,5 @@
 //! From written words to the instruction of the table that they are. There is no second table: each way to take the
-//! operands is asked of the table.
+//! operands is tried with the table of the encoder.
 
 ghost use Rattle.std.specs.Prelude.{◌≡◌, ◌↔◌, ℕ, IsTrue, List, IfSome, IfNone};
 ghost use Rattle.dm_ins.specs.declared.action.Action.{Action};
@@ -13,7 +13,7 @@ use arrayvec::ArrayVec;
 use dm_ins::{Action, Ins, Mnemonic, Operand, Prefixes, Width, new_encoded};
 use dm_text::size_is_given;
 
-/// A way to take a written operand. What can be taken in one way only is taken in the first.
+/// A way to take a written operand. One that can be taken in one way only is taken in the first.
 #[derive(Clone, Copy, Debug, PartialEq, Eq)]
 pub enum Way {
     /// Memory of a byte, or a number as a byte.
@@ -26,9 +26,10 @@ pub enum Way {
     AsOne,
 }
 
+/// The ways, in the order in which they are tried.
 static WAYS: [Way; 4] = [Way::AsByte, Way::AsWord, Way::AsTarget, Way::AsOne];
 
-/// The operand, in the first way.
+/// The operand in the first way, None in the others.
 fn first(way: Way, operand: Operand) -> Option<Operand>
     ensures { result ≡ first_way way operand }
 {
@@ -38,7 +39,7 @@ fn first(way: Way, operand: Operand) -> Option<Operand>
     }
 }
 
-/// The operand that a written one is, taken in this way.
+/// The operand that a written one is, taken in this way; None if it can't be taken so.
 #[tactic(auto, unfolding(crate::specs::inner::Search::taken))]
 fn take_as(way: Way, written: Written) -> Option<Operand>
     ensures { result ≡ taken way written }
@@ -69,7 +70,7 @@ fn take_as(way: Way, written: Written) -> Option<Operand>
     }
 }
 
-/// The word before memory of this width.
+/// The size word that the action has before a memory operand of this width.
 fn size_for(action: &Action, width: Width) -> Size
     ensures { result ≡ size_word action.now width }
 {
@@ -89,7 +90,7 @@ fn size_for(action: &Action, width: Width) -> Size
     }
 }
 
-/// The word that has to stand before the operand.
+/// The size word that the action has before the operand; only memory has one.
 fn size_before(action: &Action, operand: Operand) -> Size
     ensures { result ≡ word_before action.now operand }
 {
@@ -99,7 +100,7 @@ fn size_before(action: &Action, operand: Operand) -> Size
     }
 }
 
-/// The word that stands before the operand.
+/// The size word that is written before the operand; only memory has one.
 fn size_written(written: Written) -> Size
     ensures { result ≡ word_written written }
 {
@@ -109,6 +110,7 @@ fn size_written(written: Written) -> Size
     }
 }
 
+/// Whether two size words are the same.
 fn is_same(a: Size, b: Size) -> bool
     ensures { IsTrue result ↔ (a ≡ b) }
 {
@@ -118,7 +120,8 @@ fn is_same(a: Size, b: Size) -> bool
 /// An instruction, and its bytes as `encode` chooses them.
 pub type Encoded = (Ins, ArrayVec<u8, 16>);
 
-/// The instruction of these operands with its bytes, if the words before memory are right and the table has it.
+/// The instruction of these operands with its bytes; None if the size words are not those that it asks for, or if the
+/// table does not have it.
 fn spelled(prefixes: Prefixes, words: &Words, first: Operand, second: Operand) -> Option<Encoded>
     ensures found { IfSome result (λ r. (r.0.prefixes ≡ prefixes) × (r.0.action ≡ action_of words.now first second) × HaveWords words.now r.0.action) }
     ensures bytes { IfSome result (λ r. IsPreferred r.0 r.1.items) }
@@ -138,7 +141,8 @@ fn spelled(prefixes: Prefixes, words: &Words, first: Operand, second: Operand) -
     new_encoded(prefixes, action)
 }
 
-/// The instruction that the words are where the operands are taken in these ways.
+/// The instruction that the words are with the first operand taken in the way `way`, the second in the way `other`;
+/// None if they are none.
 fn taken_so(prefixes: Prefixes, words: &Words, way: Way, other: Way) -> Option<Encoded>
     ensures found { IfSome result (λ r. (r.0.prefixes ≡ prefixes) × Taken words.now way other r.0.action) }
     ensures bytes { IfSome result (λ r. IsPreferred r.0 r.1.items) }
@@ -149,7 +153,8 @@ fn taken_so(prefixes: Prefixes, words: &Words, way: Way, other: Way) -> Option<E
     spelled(prefixes, words, first, second)
 }
 
-/// The instruction that the words are where the first operand is taken in this way.
+/// The instruction that the words are with the first operand taken in this way, the second in any; None if they are
+/// none.
 fn taken_first(prefixes: Prefixes, words: &Words, way: Way) -> Option<Encoded>
     ensures found { IfSome result (λ r. (r.0.prefixes ≡ prefixes) × (other : Way) × Taken words.now way other r.0.action) }
     ensures bytes { IfSome result (λ r. IsPreferred r.0 r.1.items) }
@@ -164,9 +169,9 @@ fn taken_first(prefixes: Prefixes, words: &Words, way: Way) -> Option<Encoded>
 }
 
 /// The instruction of the table that the words are, with the prefixes, and its bytes as `encode` chooses them; None
-/// exactly where they are none. Each operand is taken in any of its ways: memory as a byte's or a word's, a number as a
-/// byte, a word, a target or a shift's 1; BYTE, WORD or NEAR has to stand before memory exactly where the text of the
-/// instruction has it.
+/// exactly where they are none. Each operand is taken in any of its ways: memory as a byte's or a word's, a number as
+/// a byte, a word, a target or a shift's 1; BYTE, WORD or NEAR has to stand before memory exactly where the text of
+/// the instruction has it.
 pub fn read_encoded(prefixes: Prefixes, words: &Words) -> Option<Encoded>
     ensures found { IfSome result (λ r. (r.0.prefixes ≡ prefixes) × AreWords words.now r.0.action) }
     ensures bytes { IfSome result (λ r. IsPreferred r.0 r.1.items) }

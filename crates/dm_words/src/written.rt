@@ -1,9 +1,9 @@
-//! An instruction as it is written, before the table is asked which one it is (Intel 8086 Family User's Manual, section
-//! 2.7 and section 2.8).
+//! An instruction as it is written: a mnemonic and operands, before it is looked up in the instruction table (Intel
+//! 8086 Family User's Manual, section 2.7 and section 2.8).
 
 use dm_ins::{Address, ByteRegister, Mnemonic, SegmentRegister, WordRegister};
 
-/// The word before a memory operand.
+/// The size word before a memory operand.
 #[derive(Clone, Copy, Debug, PartialEq, Eq)]
 pub enum Size {
     /// No word.
@@ -16,31 +16,31 @@ pub enum Size {
     Near,
 }
 
-/// What a written number is as each kind of operand.
+/// A written number, or the value of a label, as a byte, a word, a target and a shift count.
 #[derive(Clone, Copy, Debug, PartialEq, Eq)]
 pub struct Numeral {
-    /// The byte, where it can be one.
+    /// Its value as a byte; None where it can't be one.
     pub byte: Option<u8>,
-    /// The word, where it can be one.
+    /// Its value as a word; None where it can't be one.
     pub word: Option<u16>,
     /// The displacement from the next instruction to it, modulo 65,536.
     pub distance: u16,
-    /// Whether it is the count 1 of a shift.
+    /// Whether it can be the count 1 of a shift.
     pub is_one: bool,
 }
 
 /// An operand as it is written.
 #[derive(Clone, Copy, Debug, PartialEq, Eq)]
 pub enum Written {
-    /// None stands there.
+    /// No operand stands there.
     Nothing,
     ByteRegister(ByteRegister),
     WordRegister(WordRegister),
     SegmentRegister(SegmentRegister),
-    /// A memory operand with the word before it.
+    /// A memory operand, with the size word before it.
     Memory(Size, Address),
     Number(Numeral),
-    /// A segment and an offset.
+    /// A far pointer: a segment and an offset.
     Far(u16, u16),
 }
 

@@ -1,28 +1,29 @@
--- What calls return and leave. A call's row is one value: a refusal, or a result with what the call leaves; so a
--- refusal changes nothing.
+-- What calls of the extended memory driver return, and the state S that they leave, tables or tables and memory. A
+-- call is one value: an error, or a result together with the state after it; so a call that fails changes nothing.
 use Rattle.std.specs.Prelude.{ℕ, ◌-◌, ◌==◌, if◌then◌else◌, slice_index_or, slice_set, Option, Some, None, Result, Ok, Err}
 use Rattle.dm_xms.specs.declared.tables.Handle.{Handle}
 use Rattle.dm_xms.specs.Tables.{Tables}
 
--- what a call returns: its result, without what it leaves
+-- the result of a call, without the state after it
 abbrev pub answer : {A S E : Type 0} → Result (A × S) E → Result A E
 answer (Ok w) = Ok w.0
 answer (Err e) = Err e
 
--- what a call leaves: what was there before, if it is refused
+-- the state after a call from x; x itself if the call fails
 abbrev pub left : {A S E : Type 0} → S → Result (A × S) E → S
 left x (Ok w) = w.1
 left x (Err e) = x
 
--- what is there, or else a refusal
+-- f of the value, or the error e where there is none
 abbrev pub need : {A B E : Type 0} → Option A → E → (A → Result B E) → Result B E
 need None e f = Err e
 need (Some v) e f = f v
 
--- a handle in use; there is no handle 0
+-- the entry of a handle in the table; None if the handle is not in use, or there is no such handle. The first is
+-- handle 1
 abbrev pub slot : Tables → ℕ → Option Handle
 slot xms handle = if handle == 0 then None else slice_index_or xms.handles (handle - 1) None
 
--- the tables with another entry for this handle, or with none
+-- the tables with another entry for this handle, None for one that is not in use
 abbrev pub with_slot : Tables → ℕ → Option Handle → Tables
 with_slot xms handle s = record xms { handles = slice_set xms.handles (handle - 1) s }

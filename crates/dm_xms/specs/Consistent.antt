@@ -1,5 +1,6 @@
--- That the tables of extended memory and the memory are consistent: each handle in use has a block of its own, as large
--- as it says, that no window shows, and A20 is as the tables say. Windows show blocks that are there.
+-- That the tables of extended memory and the memory are consistent: each handle in use has a block of its own, as
+-- large as the table says, that no window shows, and A20 is as the tables say. Windows show blocks that are there.
+-- Blocks are named by their numbers in the pool, whose table has 576 entries.
 use Rattle.std.specs.Prelude.{ℕ, ◌*◌, ◌≡◌, ◌≢◌, true, false, List, length, slice_index_or, Option, None, IfSome}
 use Rattle.dm_pool.specs.Blocks.{IsLive}
 use Rattle.dm_pool.specs.FreeList.{AreBased}
@@ -9,13 +10,13 @@ use Rattle.dm_xms.specs.declared.tables.Handle.{Handle}
 use Rattle.dm_xms.specs.Tables.{Extended}
 use Rattle.dm_xms.specs.Line.{is_on}
 
--- there is such a block, of so many KiB, and no window shows it
+-- the block of this handle is in the pool, has the size that the entry says, and no window shows it
 pub record IsExtended (m : Memory) (s : Handle) : Type 0 where
   pub live : IsLive m.blocks s.block
   pub size : length (page_bytes m s.block) ≡ 0x400 * s.kib
   pub hidden : shows m.windows s.block ≡ false
 
--- the other handle, if it is in use, has another block
+-- t is the entry of no handle in use, or has another block than s
 abbrev pub HasOther : Handle → Option Handle → Type 0
 HasOther s t = IfSome t (λ other. other.block ≢ s.block)
 
@@ -23,7 +24,7 @@ HasOther s t = IfSome t (λ other. other.block ≢ s.block)
 abbrev pub handle_at : List (Option Handle) → ℕ → Option Handle
 handle_at handles k = slice_index_or handles k None
 
--- tables of extended memory, A20 and memory are consistent
+-- the tables of extended memory, A20 and the memory are consistent
 pub record IsConsistent (x : Extended) : Type 0 where
   pub places : length x.memory.blocks.places ≡ 576
   pub contents : length x.memory.blocks.contents ≡ 576

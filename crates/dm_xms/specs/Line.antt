@@ -1,4 +1,5 @@
--- Address line A20 (XMS 3.0, functions 03h to 07h): it is on where the global switch is on or the local count isn't 0.
+-- Address line A20 (XMS 3.0, functions 03h to 07h): it is on while the global switch is on or the local count isn't
+-- 0.
 use Rattle.std.specs.Prelude.{ℕ, ◌+◌, ◌-◌, Bool, true, false, not, ◌||◌, ◌==◌, if◌then◌else◌, Result, Ok, Err}
 use Rattle.dm_space.specs.Memory.{with_a20}
 use Rattle.dm_xms.specs.declared.status.Status.{Status}
@@ -9,23 +10,24 @@ use Rattle.dm_xms.specs.Tables.{Extended}
 abbrev pub is_on : Bool → ℕ → Bool
 is_on global local = global || not (local == 0)
 
--- the switches as given, and line A20 as they say
+-- the state with this global switch and local count, and A20 on or off as they say; the rest stays
 abbrev pub switched : Extended → Bool → ℕ → Extended
 switched x global local = record { xms = record x.xms { global = global; local = local }; memory = with_a20 x.memory (is_on global local) }
 
--- 03h: the global switch is on
+-- 03h: the global switch is turned on, and so is A20
 unfoldable pub enable_globally : Extended → Extended
 enable_globally x = switched x true x.xms.local
 
--- 04h: the global switch is off. Where the local count keeps the line on, the result says so
+-- 04h: the global switch is turned off. An error if the local count keeps A20 on
 unfoldable pub disable_globally : Extended → (Result (Unit {0}) Status × Extended)
 disable_globally x = (if x.xms.local == 0 then Ok tt else Err LineStillOn, switched x false x.xms.local)
 
--- 05h: the local count is one more; it is a word
+-- 05h: the local count goes up by one, and A20 is on; an error at FFFFh, and nothing changes
 unfoldable pub enable_locally : Extended → Result (Unit {0} × Extended) Status
 enable_locally x = if x.xms.local == 0xFFFF then Err LineError else Ok (tt, switched x x.xms.global (x.xms.local + 1))
 
--- 06h: the local count is one less; at 0 nothing changes. Where the line stays on, the result says so
+-- 06h: the local count goes down by one; at 0 an error, and nothing changes. An error too if A20 stays on, though the
+-- count has changed
 unfoldable pub disable_locally : Extended → (Result (Unit {0}) Status × Extended)
 disable_locally x =
     if x.xms.local == 0 then (Err LineError, x) else

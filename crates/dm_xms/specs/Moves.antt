@@ -1,4 +1,5 @@
--- Moves of extended memory blocks (XMS 3.0, function 0Bh): refusals in the order in which they are tried.
+-- Moves of extended memory (XMS 3.0, function 0Bh). Errors are tried in the order in which they are written. A side
+-- is the source or the destination.
 use Rattle.std.specs.Prelude.{ℕ, ◌+◌, ◌*◌, ◌/◌, ◌%◌, nat_lt, ◌==◌, ◌||◌, if◌then◌else◌, [], ◌∷◌, Result, Ok, Err}
 use Rattle.dm_space.specs.Memory.{Memory}
 use Rattle.dm_moves.specs.Buffers.{word_after}
@@ -12,42 +13,46 @@ use Rattle.dm_xms.specs.declared.moves.Side.{Side}
 use Rattle.dm_xms.specs.Tables.{Extended}
 use Rattle.dm_xms.specs.Calls.{need, slot}
 
--- what follows a success; a refusal stays
+-- f of the result of a step that succeeds; the error of one that fails
 abbrev pub and_then : {A B E : Type 0} → Result A E → (A → Result B E) → Result B E
 and_then (Ok v) f = f v
 and_then (Err e) f = Err e
 
--- the double word k places after segment:offset
+-- the double word k bytes after segment:offset; offsets wrap
 abbrev pub double_after : Memory → ℕ → ℕ → ℕ → ℕ
 double_after m segment offset k = word_after m segment offset k + 65536 * word_after m segment offset (k + 2)
 
--- one side of a move as it stands k places after segment:offset: a handle, and an offset in its block
+-- the description of one side, k bytes after segment:offset: a handle, a word, and an offset in its block, a double
+-- word
 abbrev pub described : Memory → ℕ → ℕ → ℕ → Description
 described m segment offset k = record { handle = word_after m segment offset k; offset = double_after m segment offset (k + 2) }
 
--- handle 0 is memory below the end of the high memory area: its offset is an offset and a segment, met with A20 on
+-- the side of handle 0: the offset holds an offset and, in its high word, a segment, of memory up to the end of the
+-- high memory area, with A20 on
 abbrev pub conventional : ℕ → Side
 conventional offset = record { region = span Linear (offset / 65536 * 16 + offset % 65536) []; end = 0x10FFF0 }
 
--- the side of a handle's block, from a byte of the block on
+-- the side of a handle's block from this offset on, up to the end of the block
 abbrev pub of_block : Handle → ℕ → Side
 of_block s offset = record { region = span Single offset (s.block ∷ []); end = 0x400 * s.kib }
 
--- the side that is described, or which of two refusals
+-- the side that is described; the error `unknown` if the handle is not in use, `past` if the offset is over the
+-- block's size
 unfoldable pub side : Extended → Description → Status → Status → Result Side Status
 side x d unknown past =
     if d.handle == 0 then Ok (conventional d.offset) else
     need (slot x.xms d.handle) unknown (λ s.
     if nat_lt (0x400 * s.kib) d.offset then Err past else Ok (of_block s d.offset))
 
--- the bytes of one side come to the other, if both have as many
+-- n bytes of one side are copied to the other, read whole before they are written; an error if a side has fewer. The
+-- tables stay
 unfoldable pub move_between : Extended → ℕ → Side → Side → Result (Unit {0} × Extended) Status
 move_between x n from to =
     if nat_lt from.end (from.region.start + n) || nat_lt to.end (to.region.start + n) then Err BadLength else
     Ok (tt, record x { memory = span_moved x.memory from.region to.region n })
 
--- an even number of bytes, as the structure at segment:offset has it: a double word, and for the source and then the
--- destination a handle (a word) and an offset (a double word)
+-- 0Bh: a move as the structure of 16 bytes at segment:offset says: the length in bytes, an even double word, and for
+-- the source and then the destination a handle (a word) and an offset (a double word)
 unfoldable pub move_memory : Extended → ℕ → ℕ → Result (Unit {0} × Extended) Status
 move_memory x segment offset =
     if double_after x.memory segment offset 0 % 2 == 1 then Err BadLength else

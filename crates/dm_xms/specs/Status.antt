@@ -1,9 +1,9 @@
--- The error codes of refusals (XMS 3.0, error code index).
+-- The error codes that failing calls of the driver return in BL (XMS 3.0, error code index).
 use Rattle.std.specs.Prelude.{ℕ}
 use Rattle.dm_xms.specs.declared.status.Status.{Status}
 use Rattle.dm_xms.specs.declared.status.Status.TheVariants as status
 
--- the error code of a refusal
+-- the error code of an error
 unfoldable pub code_of : Status → ℕ
 code_of status.LineError = 0x82
 code_of status.AreaTaken = 0x91

@@ -1,31 +1,31 @@
--- The tables of extended memory (XMS 3.0): blocks by their handles, who has the high memory area, what keeps A20 on,
+-- The tables of extended memory (XMS 3.0): blocks by their handles, the high memory area, the switches of A20, and
 -- upper memory blocks.
 use Rattle.std.specs.Prelude.{ℕ, ◌+◌, ◌<◌, ◌≤◌, ◌≡◌, Bool, false, List, [], ◌∷◌, replicate, Option, None}
 use Rattle.dm_space.specs.Memory.{Memory}
 use Rattle.dm_xms.specs.declared.tables.Handle.{Handle}
 use Rattle.dm_xms.specs.declared.tables.Upper.{Upper}
 
--- by handle, blocks with their sizes and locks
+-- the tables of the extended memory driver
 pub record Tables : Type 0 where
-  -- the handles in use, handle 1 first
+  -- the entry of each handle, 1 to 64, the first for handle 1; None for one that is not in use
   pub handles : List (Option Handle)
   -- whether the high memory area is taken
   pub area : Bool
   -- the global switch of A20, and how often it was switched on locally
   pub global : Bool
   pub local : ℕ
-  -- the upper memory blocks, rising
+  -- the upper memory blocks, by rising segment
   pub uppers : List Upper
 
--- what calls of the driver act on
+-- what calls of the driver read and change: its tables and the memory
 pub record Extended : Type 0 where
   pub xms : Tables
   pub memory : Memory
 
--- extended memory of these tables and this memory
+-- the tables and the memory as one state
 abbrev pub extended : Tables → Memory → Extended
 extended xms memory = record { xms = xms; memory = memory }
 
--- at the start nothing is taken, and A20 is off
+-- the tables of a new machine: no handle is in use, the high memory area and upper memory are free, and A20 is off
 abbrev pub new_tables : Tables
 new_tables = record { handles = replicate 64 None; area = false; global = false; local = 0; uppers = [] }

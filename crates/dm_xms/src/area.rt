@@ -1,4 +1,4 @@
-//! The high memory area (XMS 3.0, functions 01h and 02h).
+//! The high memory area (XMS 3.0, functions 01h and 02h), which one program at a time can take.
 
 ghost use Rattle.std.specs.Prelude.{◌≡◌};
 ghost use Rattle.dm_xms.specs.Calls.{answer, left};
@@ -8,7 +8,7 @@ use crate::status::Status;
 use crate::tables::Xms;
 
 impl Xms {
-    /// Takes the high memory area.
+    /// 01h: takes the high memory area.
     ///
     /// # Errors
     ///
@@ -25,7 +25,7 @@ impl Xms {
         Ok(())
     }
 
-    /// Gives the high memory area back.
+    /// 02h: releases the high memory area.
     ///
     /// # Errors
     ///

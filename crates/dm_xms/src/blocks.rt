@@ -1,4 +1,4 @@
-//! Extended memory blocks (XMS 3.0, functions 08h to 0Ah and 0Ch to 0Fh).
+//! Extended memory blocks (XMS 3.0, functions 08h to 0Ah and 0Ch to 0Fh). None of it changes the scratch part.
 
 ghost use Rattle.std.specs.Prelude.{◌≡◌};
 ghost use Rattle.dm_xms.specs.Tables.{extended};
@@ -14,30 +14,30 @@ use dm_space::Space;
 /// The linear address of the pool's first byte, after the high memory area.
 const POOL: usize = 0x11_0000;
 
-/// How many bytes a unit of the pool has.
+/// The size in bytes of a unit of the pool.
 const UNIT: usize = 0x400;
 
-/// What is free, in KiB; each number is FFFFh at most.
+/// What is free, in KiB; each number is at most FFFFh.
 #[derive(Clone, Copy, Debug)]
 pub struct FreeMemory {
     /// The largest gap of the pool.
     pub largest: u16,
-    /// All gaps together.
+    /// All gaps of the pool together.
     pub total: u16,
 }
 
-/// What a handle shows.
+/// What function 0Eh returns about a handle in use.
 #[derive(Clone, Copy, Debug)]
 pub struct HandleInformation {
-    /// How often its block is locked.
+    /// The number of locks of its block.
     pub locks: u8,
-    /// How many handles are not in use.
+    /// The number of handles that are not in use.
     pub free: u8,
-    /// The KiB of its block.
+    /// The size of its block in KiB.
     pub kib: u16,
 }
 
-/// The linear address of a block's first byte.
+/// The linear address of a block's first byte; 110000h if there is no such block.
 fn address(space: &Space, block: Block) -> usize
     ensures { result ≡ address space.now.memory block }
 {
@@ -49,7 +49,7 @@ fn address(space: &Space, block: Block) -> usize
 }
 
 impl Handle {
-    /// The linear address of its block's first byte; 110000h for a block of 0 KiB.
+    /// The linear address of the first byte of the handle's block; 110000h for a block of 0 KiB.
     pub fn base(&self, space: &Space) -> usize
         ensures { result ≡ address space.now.memory self.now.block }
     {
@@ -58,11 +58,11 @@ impl Handle {
 }
 
 impl Xms {
-    /// What is free, in KiB: at most FFFFh each, since both are returned in word registers.
+    /// 08h: what is free, in KiB: each number is at most FFFFh, as it is returned in a word register.
     ///
     /// # Errors
     ///
-    /// `NoMemory` where there is no gap.
+    /// `NoMemory` where the pool has no gap.
     #[tactic(auto, unfolding(crate::specs::Blocks::free_memory))]
     pub fn free_memory(&self, space: &Space) -> Result<FreeMemory, Status>
         ensures { result ≡ free_memory (extended self.now space.now.memory) }
@@ -77,8 +77,8 @@ impl Xms {
         })
     }
 
-    /// Gives a new block of so many KiB the lowest handle that is not in use, and returns the handle. The block has
-    /// zeros and lies in the lowest gap of the pool that holds it; one of 0 KiB needs none.
+    /// 09h: allocates a block of `kib` KiB with the lowest handle that is not in use, and returns the handle. The
+    /// block has zeros and lies in the lowest gap of the pool that holds it; one of 0 KiB needs none.
     ///
     /// # Errors
     ///
@@ -100,7 +100,7 @@ impl Xms {
         Ok(at + 1)
     }
 
-    /// Frees a handle and its block.
+    /// 0Ah: frees a handle and its block.
     ///
     /// # Errors
     ///
@@ -123,7 +123,7 @@ impl Xms {
         Ok(())
     }
 
-    /// Locks the block of a handle once more, so that it stays where it is, and returns its linear address.
+    /// 0Ch: locks the block of a handle once more, so that it stays where it is, and returns its linear address.
     ///
     /// # Errors
     ///
@@ -144,7 +144,7 @@ impl Xms {
         Ok(slot.base(space))
     }
 
-    /// Unlocks the block of a handle once.
+    /// 0Dh: removes one lock from the block of a handle.
     ///
     /// # Errors
     ///
@@ -165,7 +165,7 @@ impl Xms {
         Ok(())
     }
 
-    /// A block's locks and size, and how many handles are not in use.
+    /// 0Eh: the number of locks and the size of a handle's block, and the number of handles that are not in use.
     ///
     /// # Errors
     ///
@@ -184,8 +184,9 @@ impl Xms {
         })
     }
 
-    /// Makes the block of a handle so many KiB large. It stays where it is if it fits there, else it moves to the
-    /// lowest gap that holds it beside its old place. Its bytes up to the smaller size stay, new ones are zeros.
+    /// 0Fh: changes the size of the block of a handle to `kib` KiB. It stays where it is if it fits there, else it
+    /// moves to the lowest gap that holds it beside its old place. Its bytes up to the smaller size stay, new ones
+    /// are zeros.
     ///
     /// # Errors
     ///

@@ -1,5 +1,5 @@
-//! That tables and memory stay consistent, and that what is outside stays: laws, the contracts of functions that do
-//! nothing.
+//! Laws, the contracts of functions that do nothing: tables and memory stay consistent, and what is outside of
+//! extended memory stays.
 
 ghost use Rattle.dm_xms.specs.Laws.{StartIsConsistent, CallsKeepConsistency, WritesKeepConsistency, CallsLeaveOutside};
 
@@ -11,14 +11,14 @@ pub fn calls_keep_consistency()
     ensures calls { CallsKeepConsistency }
 {}
 
-/// The law that they stay consistent while a program writes. It does nothing when called.
+/// The law that the tables of extended memory and the memory stay consistent while a program writes to memory. It
+/// does nothing when called.
 pub fn writes_keep_consistency()
     ensures { WritesKeepConsistency }
 {}
 
-/// The law that calls leave the blocks of the pool that are no handle's: each is still there, with as many bytes, and
-/// still no handle's, and no block is there beside them and those of handles; and that none touches the windows. It
-/// does nothing when called.
+/// The law that calls keep the blocks of the pool that belong to no handle: each is still there, as large, and still
+/// belongs to none, and there is no other such block; and that none changes the windows. It does nothing when called.
 pub fn calls_leave_outside()
     ensures { CallsLeaveOutside }
 {}

@@ -1,4 +1,5 @@
-//! Address line A20 (XMS 3.0, functions 03h to 07h).
+//! Address line A20 (XMS 3.0, functions 03h to 07h): it is on while the global switch is on or the local count isn't
+//! 0.
 
 ghost use Rattle.std.specs.Prelude.{◌≡◌};
 ghost use Rattle.dm_xms.specs.Tables.{extended};
@@ -9,7 +10,7 @@ use crate::status::Status;
 use crate::tables::Xms;
 use dm_space::Space;
 
-/// Whether A20 is on.
+/// Whether A20 is on, with this global switch and local count.
 fn is_on(global: bool, local: u16) -> bool
     ensures { result ≡ is_on global local }
 {
@@ -17,6 +18,7 @@ fn is_on(global: bool, local: u16) -> bool
 }
 
 impl Xms {
+    /// Sets the global switch and the local count, and A20 as they say. Nothing else changes.
     fn switch(&mut self, space: &mut Space, global: bool, local: u16)
         ensures left { extended self.new space.new.memory ≡ switched (extended self.old space.old.memory) global local }
         ensures kept { space.new ≡ record space.old { memory = space.new.memory } }
@@ -26,7 +28,7 @@ impl Xms {
         space.set_a20(is_on(global, local));
     }
 
-    /// Switches A20 on globally.
+    /// 03h: turns the global switch on, and so A20.
     #[tactic(auto, unfolding(crate::specs::Line::enable_globally))]
     pub fn enable_globally(&mut self, space: &mut Space)
         ensures left { extended self.new space.new.memory ≡ enable_globally (extended self.old space.old.memory) }
@@ -36,7 +38,7 @@ impl Xms {
         self.switch(space, true, local);
     }
 
-    /// Switches A20 off globally.
+    /// 04h: turns the global switch off.
     ///
     /// # Errors
     ///
@@ -56,7 +58,7 @@ impl Xms {
         }
     }
 
-    /// Switches A20 on locally: the local count is one more.
+    /// 05h: adds one to the local count; A20 is on.
     ///
     /// # Errors
     ///
@@ -76,12 +78,12 @@ impl Xms {
         Ok(())
     }
 
-    /// Switches A20 off locally: the local count is one less.
+    /// 06h: takes one from the local count; A20 is off if the count is then 0 and the global switch is off.
     ///
     /// # Errors
     ///
-    /// `LineError` where the count is 0, and nothing has changed; `LineStillOn` where A20 is on all the same, and the
-    /// count is one less.
+    /// `LineError` where the count is 0, and nothing has changed; `LineStillOn` where A20 stays on, though the count
+    /// is one less.
     #[tactic(auto, unfolding(crate::specs::Line::disable_locally))]
     pub fn disable_locally(&mut self, space: &mut Space) -> Result<(), Status>
         ensures answer { result ≡ (disable_locally (extended self.old space.old.memory)).0 }

@@ -1,4 +1,4 @@
-//! Moves of extended memory blocks (XMS 3.0, function 0Bh).
+//! Moves of extended memory (XMS 3.0, function 0Bh). A side is the source or the destination.
 
 ghost use Rattle.std.specs.Prelude.{◌≡◌, ◌<◌, ◌≤◌, ◌+◌, ◌^◌, IfOk, OnErr};
 ghost use Rattle.dm_xms.specs.Tables.{extended};
@@ -12,37 +12,37 @@ use crate::tables::{Handle, Xms};
 use dm_moves::{Span, SpanKind, move_blocks, move_bytes, word_after};
 use dm_space::Space;
 
-/// Where memory that has addresses ends: after the high memory area.
+/// The linear address at which the memory of handle 0 ends: after the high memory area.
 const END: usize = 0x10_FFF0;
 
-/// How many bytes a KiB has.
+/// The number of bytes of a KiB.
 const KIB: usize = 0x400;
 
-/// Where the source stands in the structure.
+/// The offset of the source's description in the structure of a move.
 const SOURCE: usize = 4;
 
-/// Where the destination stands.
+/// The offset of the destination's description in the structure of a move.
 const DESTINATION: usize = 10;
 
-/// One side of a move as it is described.
+/// The description of one side of a move in its structure.
 #[derive(Clone, Copy, Debug)]
 pub struct Description {
-    /// Its handle, 0 for memory that has addresses.
+    /// Its handle; 0 for memory below 10FFF0h.
     pub handle: u16,
-    /// An offset in the block of the handle; for handle 0 an offset and a segment, the offset in the low word.
+    /// The offset in bytes in the block of the handle; for handle 0 an offset, in the low word, and a segment.
     pub offset: u32,
 }
 
-/// One side of a move.
+/// One side of a move: its region, and the end of the memory in which it lies.
 #[derive(Drop)]
 pub struct Side {
-    /// Where it begins.
+    /// The region from its first byte on.
     pub region: Span,
-    /// Where the memory ends in which it lies, counted as the region's start.
+    /// The end of the memory in which it lies, in bytes, counted like the start of the region.
     pub end: usize,
 }
 
-/// The double word so many places after segment:offset.
+/// The double word `places` bytes after segment:offset; offsets wrap.
 fn double_after(space: &Space, segment: u16, offset: u16, places: usize) -> u32
     requires { places < 0x1000 }
     ensures { result ≡ double_after space.now.memory segment offset places }
@@ -52,7 +52,7 @@ fn double_after(space: &Space, segment: u16, offset: u16, places: usize) -> u32
     low as u32 + 0x1_0000 * high as u32
 }
 
-/// The side that is described so many places after segment:offset.
+/// The description of one side that stands `places` bytes after segment:offset.
 fn described(space: &Space, segment: u16, offset: u16, places: usize) -> Description
     requires { places < 0x100 }
     ensures { result ≡ described space.now.memory segment offset places }
@@ -63,7 +63,7 @@ fn described(space: &Space, segment: u16, offset: u16, places: usize) -> Descrip
     }
 }
 
-/// Whether a side lies in a block.
+/// Whether a side lies in a block of the pool.
 fn is_single(side: &Side) -> bool
     ensures { result ≡ is_single side.now.region.kind }
 {
@@ -74,7 +74,8 @@ fn is_single(side: &Side) -> bool
     }
 }
 
-/// Moves `len` bytes of one side to the other, if both have as many.
+/// Copies `len` bytes from one side to the other; the source is read whole before anything is written. `BadLength`
+/// where a side has fewer. The scratch part may be overwritten.
 #[tactic(auto, unfolding(crate::specs::Moves::move_between), using(crate::proofs::Sides::single_kind))]
 fn move_between(
     xms: &Xms,
@@ -102,7 +103,8 @@ fn move_between(
 }
 
 impl Xms {
-    /// The side that is described, or which of two errors.
+    /// The side that is described. The error `unknown` where its handle is not in use, `past` where its offset is
+    /// over the size of its block.
     #[tactic(auto, unfolding(crate::specs::Moves::side))]
     fn side(
         &self,
@@ -132,17 +134,17 @@ impl Xms {
         Ok(Side { region, end })
     }
 
-    /// Moves an even number of bytes from one block to another, within one, or between a block and memory that has
-    /// addresses. The structure at segment:offset has sixteen bytes: how many bytes (a double word), and for the source
-    /// and then the destination a handle (a word) and an offset (a double word). For handle 0 the offset is an offset
-    /// and a segment, which are met with A20 on, up to the end of the high memory area. The source is read whole before
-    /// anything is written. The scratch bytes of the space may be overwritten.
+    /// 0Bh: moves an even number of bytes from one block to another, within one, or between a block and memory below
+    /// 10FFF0h. The structure at segment:offset has sixteen bytes: the length in bytes (a double word), and for the
+    /// source and then the destination a handle (a word) and an offset (a double word). For handle 0 the offset is an
+    /// offset and a segment, which are read with A20 on, up to the end of the high memory area. The source is read
+    /// whole before anything is written. The scratch bytes of the space may be overwritten.
     ///
     /// # Errors
     ///
-    /// In this order: `BadLength` for an odd number; `UnknownSource`, `PastSource`; `UnknownDestination`,
-    /// `PastDestination`; `BadLength` where the source or the destination has not so many bytes. Then neither memory
-    /// nor the scratch bytes have changed.
+    /// In this order: `BadLength` for an odd length; `UnknownSource`, `PastSource`; `UnknownDestination`,
+    /// `PastDestination`; `BadLength` where the source or the destination does not have so many bytes. Then neither
+    /// memory nor the scratch bytes have changed.
     #[tactic(auto, unfolding(crate::specs::Moves::move_memory))]
     pub fn move_memory(&self, space: &mut Space, segment: u16, offset: u16) -> Result<(), Status>
         requires { IsConsistent (extended self.now space.old.memory) }

@@ -1,20 +1,20 @@
-//! The errors of the extended memory driver's calls (XMS 3.0, error code index).
+//! The errors of the calls of the extended memory driver (XMS 3.0, error code index).
 
 ghost use Rattle.std.specs.Prelude.{◌≡◌};
 ghost use Rattle.dm_xms.specs.Status.{code_of};
 
-/// Why a call failed.
+/// Why a call of the extended memory driver failed.
 #[derive(Clone, Copy, Debug, PartialEq, Eq)]
 pub enum Status {
-    /// The local count of A20 is at its end.
+    /// The local count of A20 cannot go up from FFFFh, or down from 0.
     LineError,
     /// The high memory area is taken.
     AreaTaken,
     /// The high memory area is not taken.
     AreaNotTaken,
-    /// A20 is still on.
+    /// A20 is still on, by the local count or the global switch.
     LineStillOn,
-    /// No gap of the pool holds the block.
+    /// No gap of the pool holds the block; for function 08h, there is no gap.
     NoMemory,
     /// All 64 handles are in use.
     NoHandleLeft,
@@ -22,24 +22,24 @@ pub enum Status {
     UnknownHandle,
     /// The handle of the source is not in use.
     UnknownSource,
-    /// The offset of the source is past its block's end.
+    /// The offset of the source is after the end of its block.
     PastSource,
     /// The handle of the destination is not in use.
     UnknownDestination,
-    /// The offset of the destination is past its block's end.
+    /// The offset of the destination is after the end of its block.
     PastDestination,
-    /// The length is odd, or the source or the destination has not so many bytes.
+    /// The length is odd, or the source or the destination does not have so many bytes.
     BadLength,
-    /// The block is not locked.
+    /// The block has no lock.
     NotLocked,
-    /// The block is locked.
+    /// The block is locked, so it can be neither freed nor resized.
     Locked,
-    /// The block is locked 255 times.
+    /// The block has 255 locks already.
     TooManyLocks,
 }
 
 impl Status {
-    /// The error code that a program finds in BL.
+    /// The error code that the call returns in BL.
     #[tactic(auto, unfolding(crate::specs::Status::code_of))]
     pub fn code(self) -> u8
         ensures { result ≡ code_of self }

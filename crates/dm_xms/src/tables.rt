@@ -1,4 +1,5 @@
-//! The tables of extended memory (XMS 3.0).
+//! The tables of extended memory (XMS 3.0): handles in use, the high memory area, the switches of A20, and upper
+//! memory blocks.
 
 ghost use Rattle.std.specs.Prelude.{◌≡◌, ◌<◌, ◌≤◌, ◌-◌, length, slice_set, position, is_none, count_by, nat_lt, IfSome};
 ghost use Rattle.dm_xms.specs.Tables.{new_tables};
@@ -8,22 +9,22 @@ use arrayvec::ArrayVec;
 use dm_pool::Block;
 use std::marker::Model;
 
-/// How many handles there are: 1 to 64.
+/// The number of handles, which are 1 to 64.
 pub(crate) const HANDLES: usize = 64;
 
-/// A handle in use.
+/// The entry of a handle in use.
 #[derive(Clone, Copy, Debug)]
 pub struct Handle {
-    /// Its block.
+    /// Its block of the pool.
     pub block: Block,
-    /// The KiB of the block.
+    /// The size of the block in KiB.
     pub kib: u16,
-    /// How often it is locked.
+    /// The number of locks of the block.
     pub locks: u8,
 }
 
 impl Handle {
-    /// Whether its block is locked.
+    /// Whether its block has a lock.
     pub(crate) fn is_locked(&self) -> bool
         ensures { result ≡ nat_lt 0 self.now.locks }
     {
@@ -31,7 +32,7 @@ impl Handle {
     }
 }
 
-/// An upper memory block.
+/// An upper memory block, by its first segment and its size.
 #[derive(Clone, Copy, Debug, Default)]
 pub struct Upper {
     /// Its segment, D000h to DFFFh.
@@ -40,7 +41,8 @@ pub struct Upper {
     pub paragraphs: u16,
 }
 
-/// The handles, who has the high memory area, what keeps A20 on, and the upper memory blocks, which rise by segment.
+/// The tables of the extended memory driver: the handles, whether the high memory area is taken, the global switch
+/// and the local count of A20, and the upper memory blocks by rising segment. Contracts see all of them.
 #[derive(Drop)]
 pub struct Xms {
     pub(crate) handles: [Option<Handle>; 64],
@@ -61,6 +63,7 @@ impl Model for Xms {
     ghost invariant = { λ x. IsTables (record { handles = x.handles; area = x.area; global = x.global; local = x.local; uppers = x.uppers.items }) };
 }
 
+/// The index of the first handle that is not in use; None if all are.
 fn first_free(slots: &[Option<Handle>]) -> Option<usize>
     ensures first { result ≡ position is_none slots.now }
     ensures there { IfSome result (λ k. k < length slots.now) }
@@ -69,8 +72,8 @@ fn first_free(slots: &[Option<Handle>]) -> Option<usize>
 }
 
 impl Xms {
-    /// The tables as a machine starts: no handle in use, the high memory area and upper memory free, nothing that keeps
-    /// A20 on.
+    /// The tables of a new machine: no handle is in use, the high memory area and upper memory are free, and A20 is
+    /// off.
     pub fn new() -> Xms
         ensures { result ≡ new_tables }
     {
@@ -83,7 +86,7 @@ impl Xms {
         }
     }
 
-    /// A handle's block, its size and its locks; None where it is not in use. There is no handle 0.
+    /// The entry of a handle: its block, size and locks; None where it is not in use. There is no handle 0.
     pub fn handle(&self, handle: u16) -> Option<Handle>
         ensures slot { result ≡ slot self.now handle }
         ensures inside { IfSome result (λ s. (0 < handle) × (handle - 1 < 64)) }
@@ -95,7 +98,7 @@ impl Xms {
         if at < HANDLES { self.handles[at] } else { None }
     }
 
-    /// Gives a handle another entry; with None it is not in use.
+    /// Sets the entry of a handle, 1 to 64; with None it is no longer in use. The pool stays.
     pub(crate) fn set_handle(&mut self, handle: u16, slot: Option<Handle>)
         requires { (0 < handle) × (handle - 1 < 64) }
         ensures { self.new ≡ record self.old { handles = slice_set self.old.handles (handle - 1) slot } }
@@ -103,7 +106,7 @@ impl Xms {
         self.handles[handle as usize - 1] = slot;
     }
 
-    /// The lowest handle that is not in use, less 1.
+    /// The index of the lowest handle that is not in use, which is the handle less 1; None if all 64 are.
     pub(crate) fn free_slot(&self) -> Option<u16>
         ensures first { result ≡ position is_none self.now.handles }
         ensures low { IfSome result (λ at. at < 64) }
@@ -114,7 +117,7 @@ impl Xms {
         }
     }
 
-    /// How many handles are not in use.
+    /// The number of handles that are not in use.
     pub(crate) fn free_handles(&self) -> u8
         ensures { result ≡ count_by is_none self.now.handles }
     {

@@ -1,4 +1,5 @@
-//! Upper memory blocks (XMS 3.0, functions 10h to 12h): paragraphs from segment D000h to DFFFh.
+//! Upper memory blocks (XMS 3.0, functions 10h to 12h): paragraphs from segment D000h to DFFFh, of which the driver
+//! keeps a table. Memory stays.
 
 ghost use Rattle.std.specs.Prelude.{◌≡◌, ◌≤◌, ◌<◌, ◌+◌, ◌-◌, length, count_by, position, slice_get, slice_set, IfSome};
 ghost use Rattle.dm_pool.specs.Gaps.{first_fit, largest};
@@ -16,22 +17,22 @@ const FIRST: u16 = 0xD000;
 /// The segment after upper memory.
 const END: u16 = 0xE000;
 
-/// How many upper memory blocks there are at most.
+/// The largest number of upper memory blocks.
 const MOST: usize = 64;
 
 /// Why a call on upper memory blocks failed.
 #[derive(Clone, Copy, Debug, PartialEq, Eq)]
 pub enum UpperRefusal {
-    /// There are only so many paragraphs.
+    /// There is no room for so many paragraphs, only for this number.
     Smaller(u16),
     /// No paragraph is free, or there are 64 blocks.
     NoneFree,
-    /// No block begins there.
+    /// No block begins at the segment.
     Unknown,
 }
 
 impl UpperRefusal {
-    /// The error code that a program finds in BL.
+    /// The error code that the call returns in BL.
     #[tactic(auto, unfolding(crate::specs::Uppers::code_of))]
     pub fn code(self) -> u8
         ensures { result ≡ code_of self }
@@ -44,7 +45,7 @@ impl UpperRefusal {
     }
 }
 
-/// The paragraphs of the largest gap between rising blocks, from a segment on.
+/// The number of paragraphs of the largest gap between rising blocks, from segment `from` to the end of upper memory.
 #[tactic(auto, using(crate::proofs::Gaps::first_ends))]
 fn largest_from(from: u16, uppers: &[Upper]) -> u16
     requires from { 0xD000 ≤ from }
@@ -60,7 +61,8 @@ fn largest_from(from: u16, uppers: &[Upper]) -> u16
     }
 }
 
-/// The lowest segment from one on where a gap between rising blocks has so many paragraphs.
+/// The segment of the lowest gap between rising blocks, from segment `from` on, that has so many paragraphs; None if
+/// there is none.
 #[tactic(auto, using(crate::proofs::Gaps::first_ends))]
 fn lowest_from(from: u16, uppers: &[Upper], paragraphs: u16) -> Option<u16>
     requires from { 0xD000 ≤ from }
@@ -86,7 +88,7 @@ fn lowest_from(from: u16, uppers: &[Upper], paragraphs: u16) -> Option<u16>
     }
 }
 
-/// How many blocks stand below a segment.
+/// The number of blocks that begin below a segment.
 fn count_below(uppers: &[Upper], segment: u16) -> usize
     ensures count { result ≡ count_by (is_below segment) uppers.now }
     ensures few { result ≤ length uppers.now }
@@ -97,7 +99,7 @@ fn count_below(uppers: &[Upper], segment: u16) -> usize
         .count()
 }
 
-/// Where the block stands that begins at a segment.
+/// The index of the block that begins at a segment; None if none does.
 fn first_at(uppers: &[Upper], segment: u16) -> Option<usize>
     ensures first { result ≡ position (begins_at segment) uppers.now }
     ensures there { IfSome result (λ k. k < length uppers.now) }
@@ -105,6 +107,7 @@ fn first_at(uppers: &[Upper], segment: u16) -> Option<usize>
     uppers.iter().position(|upper| upper.segment == segment)
 }
 
+/// Replaces the block at an index.
 fn set_at(uppers: &mut ArrayVec<Upper, 64>, at: usize, upper: Upper)
     requires { at < length uppers.old.items }
     ensures { uppers.new.items ≡ slice_set uppers.old.items at upper }
@@ -113,7 +116,7 @@ fn set_at(uppers: &mut ArrayVec<Upper, 64>, at: usize, upper: Upper)
 }
 
 impl Xms {
-    /// The paragraphs of the largest gap of upper memory.
+    /// The number of paragraphs of the largest gap of upper memory.
     #[tactic(auto, using(crate::proofs::Gaps::gaps_are_between))]
     fn largest_upper(&self) -> u16
         ensures { result ≡ largest_upper self.now.uppers }
@@ -121,7 +124,7 @@ impl Xms {
         largest_from(FIRST, self.uppers.as_slice())
     }
 
-    /// The segment of the lowest gap of upper memory that holds so many paragraphs.
+    /// The segment of the lowest gap of upper memory that has so many paragraphs; None if there is none.
     #[tactic(auto, using(crate::proofs::Gaps::first_fit_is_lowest))]
     fn lowest_upper(&self, paragraphs: u16) -> Option<u16>
         requires { 0 < paragraphs }
@@ -130,20 +133,20 @@ impl Xms {
         lowest_from(FIRST, self.uppers.as_slice(), paragraphs)
     }
 
-    /// The upper memory block `at`, counted from the lowest one, which is 0; None where there are not so many.
+    /// The upper memory block at index `at`, the lowest one first; None where there are not so many.
     pub fn upper(&self, at: usize) -> Option<Upper>
         ensures { result ≡ slice_get self.now.uppers at }
     {
         self.uppers.as_slice().get(at).copied()
     }
 
-    /// Makes an upper memory block of so many paragraphs, at least 1, at the low end of the lowest gap that holds it,
-    /// and returns it.
+    /// 10h: allocates an upper memory block of `paragraphs`, at least 1, at the low end of the lowest gap that holds
+    /// it, and returns it.
     ///
     /// # Errors
     ///
-    /// In this order: `NoneFree` where no paragraph is free, or there are 64 blocks; `Smaller`, with the paragraphs of
-    /// the largest gap, where no gap holds it. Then nothing has changed.
+    /// In this order: `NoneFree` where no paragraph is free, or there are 64 blocks; `Smaller`, with the paragraphs
+    /// of the largest gap, where no gap holds it. Then nothing has changed.
     #[tactic(auto, unfolding(crate::specs::Uppers::request_upper))]
     pub fn request_upper(&mut self, paragraphs: u16) -> Result<Upper, UpperRefusal>
         ensures answer { result ≡ answer (request_upper self.old paragraphs) }
@@ -166,7 +169,7 @@ impl Xms {
         Ok(upper)
     }
 
-    /// Frees the upper memory block that begins at a segment.
+    /// 11h: frees the upper memory block that begins at a segment.
     ///
     /// # Errors
     ///
@@ -183,7 +186,7 @@ impl Xms {
         Ok(())
     }
 
-    /// The segment after block `at` of upper memory where the next one begins, or upper memory ends.
+    /// The segment where the block after block `at` of upper memory begins; the end of upper memory if there is none.
     fn end_of_room(&self, at: usize) -> u16
         requires { at < length self.now.uppers }
         ensures { result ≡ begin_or_end (slice_get self.now.uppers (at + 1)) }
@@ -194,7 +197,8 @@ impl Xms {
         }
     }
 
-    /// Makes the upper memory block that begins at a segment so many paragraphs large, at least 1, where it lies.
+    /// 12h: changes the size of the upper memory block that begins at a segment to `paragraphs`, at least 1, where it
+    /// lies.
     ///
     /// # Errors
     ///

@@ -1,16 +1,17 @@
--- The driver and the high memory area (XMS 3.0, functions 00h to 02h).
+-- The driver's version and the high memory area (XMS 3.0, functions 00h to 02h).
 use Rattle.dm_cpu.specs.declared.cpu.Cpu.{Cpu}
 use Rattle.dm_xms.specs.Area as rows
 use Rattle.dm_xms_calls.specs.Caller.{Caller, after_tables}
 
--- 00h: AX is version 3.0, BX the driver's own revision 1, and DX says that there is a high memory area
+-- 00h: AX is version 3.0, BX the driver's own revision, 1, and DX is 1, as there is a high memory area; this call
+-- cannot fail
 unfoldable pub tell_version : Cpu → Cpu
 tell_version cpu = record cpu { ax = 0x0300; bx = 1; dx = 1 }
 
--- 01h: the program takes the high memory area
+-- 01h: the high memory area is taken
 unfoldable pub take_area : Caller → Caller
 take_area c = after_tables c (rows.take_area c.x.xms) (λ done. c.cpu)
 
--- 02h: the program releases the high memory area
+-- 02h: the high memory area is released
 unfoldable pub release_area : Caller → Caller
 release_area c = after_tables c (rows.release_area c.x.xms) (λ done. c.cpu)

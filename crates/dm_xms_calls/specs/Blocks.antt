@@ -1,4 +1,5 @@
--- Extended memory blocks (XMS 3.0, functions 08h to 0Fh).
+-- Extended memory blocks (XMS 3.0, functions 08h to 0Fh). Success sets AX to 1, except in 08h; an error sets AX to 0
+-- and BL to its code. Registers that are not named stay.
 use Rattle.std.specs.Prelude.{ℕ, ◌+◌, ◌*◌, ◌/◌, ◌%◌, Result, Ok, Err}
 use Rattle.dm_ins.specs.declared.operand.ByteRegister.TheVariants.{Bl}
 use Rattle.dm_cpu.specs.declared.cpu.Cpu.{Cpu}
@@ -11,17 +12,18 @@ use Rattle.dm_xms.specs.Blocks as rows
 use Rattle.dm_xms.specs.Moves as moves
 use Rattle.dm_xms_calls.specs.Caller.{Caller, on_cpu, settled, after_call, after_tables}
 
--- AX, DX and BL after 08h: the largest gap and all that is free, in KiB; or zeros and the error code
+-- the registers after 08h: AX is the largest gap, DX all gaps, in KiB, and BL is 0; after an error AX and DX are 0,
+-- and BL is its code
 abbrev pub with_free : Cpu → Result FreeMemory Status → Cpu
 with_free cpu (Ok free) = with_byte (record cpu { ax = free.largest; dx = free.total }) Bl 0
 with_free cpu (Err e) = with_byte (record cpu { ax = 0; dx = 0 }) Bl (code_of e)
 
--- 08h: AX is the largest gap, DX all that is free, in KiB, and BL is 0; where nothing is free AX and DX are 0, and BL
--- is the error code
+-- 08h: AX is the largest gap of the pool, DX all gaps together, in KiB, and BL is 0; where nothing is free AX and DX
+-- are 0, and BL is the error code
 unfoldable pub tell_free : Caller → Caller
 tell_free c = on_cpu c (with_free c.cpu (rows.free_memory c.x))
 
--- 09h: DX is a new handle with a block of DX KiB
+-- 09h: a new block of DX KiB; DX is its handle
 unfoldable pub allocate : Caller → Caller
 allocate c = after_call c (rows.allocate c.x c.cpu.dx) (λ handle. record c.cpu { dx = handle })
 
@@ -29,30 +31,31 @@ allocate c = after_call c (rows.allocate c.x c.cpu.dx) (λ handle. record c.cpu 
 unfoldable pub deallocate : Caller → Caller
 deallocate c = after_call c (rows.deallocate c.x c.cpu.dx) (λ done. c.cpu)
 
--- 0Bh: a move as the structure at DS:SI describes it
+-- 0Bh: memory is moved as the structure at DS:SI says
 unfoldable pub move_memory : Caller → Caller
 move_memory c = after_call c (moves.move_memory c.x c.cpu.ds c.cpu.si) (λ done. c.cpu)
 
--- a linear address in DX:BX
+-- the registers with a linear address in DX:BX
 abbrev pub with_address : Cpu → ℕ → Cpu
 with_address cpu address = record cpu { dx = address / 65536 % 65536; bx = address % 65536 }
 
--- 0Ch: the block of the handle in DX is locked, and DX:BX is where it begins
+-- 0Ch: the block of the handle in DX gets one lock more, and DX:BX is the linear address of its first byte
 unfoldable pub lock : Caller → Caller
 lock c = after_call c (rows.lock c.x c.cpu.dx) (with_address c.cpu)
 
--- 0Dh: the block of the handle in DX has one lock less
+-- 0Dh: the block of the handle in DX gets one lock less
 unfoldable pub unlock : Caller → Caller
 unlock c = after_tables c (rows.unlock c.x.xms c.cpu.dx) (λ done. c.cpu)
 
--- BH is the locks, BL the handles that are not in use, DX the block's KiB
+-- the registers after 0Eh: BH is the number of locks, BL that of the handles that are not in use, DX the size in KiB
 abbrev pub with_information : Cpu → HandleInformation → Cpu
 with_information cpu i = record cpu { bx = i.locks * 256 + i.free; dx = i.kib }
 
--- 0Eh: BX and DX are the locks, the free handles and the KiB of the handle in DX
+-- 0Eh: BH is the number of locks of the block of the handle in DX, BL the number of handles that are not in use, DX
+-- the block's size in KiB
 unfoldable pub tell_information : Caller → Caller
 tell_information c = on_cpu c (settled c.cpu (rows.information c.x.xms c.cpu.dx) (with_information c.cpu))
 
--- 0Fh: the block of the handle in DX gets BX KiB
+-- 0Fh: the size of the block of the handle in DX becomes BX KiB
 unfoldable pub reallocate : Caller → Caller
 reallocate c = after_call c (rows.reallocate c.x c.cpu.dx c.cpu.bx) (λ done. c.cpu)

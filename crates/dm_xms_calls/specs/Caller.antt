@@ -1,5 +1,5 @@
--- What a call of the driver acts on, and how it returns (XMS 3.0: AX is 1 for success; for a refusal AX is 0, and BL
--- is the error code).
+-- What a call of the extended memory driver reads and changes, and the registers that it returns (XMS 3.0: AX is 1
+-- for success; for an error AX is 0, and BL is its code).
 use Rattle.std.specs.Prelude.{ℕ, Result, Ok, Err}
 use Rattle.dm_space.specs.Memory.{Memory}
 use Rattle.dm_ins.specs.declared.operand.ByteRegister.TheVariants.{Bl}
@@ -10,40 +10,43 @@ use Rattle.dm_xms.specs.Status.{code_of}
 use Rattle.dm_xms.specs.Tables.{Tables, Extended, extended}
 use Rattle.dm_xms.specs.Calls.{answer, left}
 
--- the registers of the program that calls, and extended memory
+-- the registers of the program that calls, and the tables and memory of the driver
 pub record Caller : Type 0 where
   pub cpu : Cpu
   pub x : Extended
 
--- a caller of these registers, tables and memory
+-- registers, tables and memory as one state
 abbrev pub caller : Cpu → Tables → Memory → Caller
 caller cpu xms memory = record { cpu = cpu; x = extended xms memory }
 
--- a call changes registers alone
+-- the state with other registers; tables and memory stay
 abbrev pub on_cpu : Caller → Cpu → Caller
 on_cpu c cpu = record c { cpu = cpu }
 
--- success
+-- the registers after success: AX is 1, the others stay
 abbrev pub succeeded : Cpu → Cpu
 succeeded cpu = record cpu { ax = 1 }
 
--- a refusal with an error code
+-- the registers after an error: AX is 0 and BL its code, the others stay
 abbrev pub refused : Cpu → ℕ → Cpu
 refused cpu code = with_byte (record cpu { ax = 0 }) Bl code
 
--- the registers after a call: success changes them as `set` does, a refusal not at all but AX and BL
+-- the registers after a call: if it succeeds, `set` of the result, and AX is 1; else AX is 0 and BL the error code,
+-- and the others stay
 abbrev pub settled : {A : Type 0} → Cpu → Result A Status → (A → Cpu) → Cpu
 settled cpu (Ok v) set = succeeded (set v)
 settled cpu (Err e) set = refused cpu (code_of e)
 
--- after a call that may change the tables or memory
+-- the state after a call: registers as in `settled`, and the tables and memory that the call leaves
 abbrev pub after_call : {A : Type 0} → Caller → Result (A × Extended) Status → (A → Cpu) → Caller
 after_call c r set = record { cpu = settled c.cpu (answer r) set; x = left c.x r }
 
--- after a call that may change the tables alone
+-- the state after a call that changes the tables but not memory: registers as in `settled`, and the tables that the
+-- call leaves
 abbrev pub after_tables : {A : Type 0} → Caller → Result (A × Tables) Status → (A → Cpu) → Caller
 after_tables c r set = record { cpu = settled c.cpu (answer r) set; x = extended (left c.x.xms r) c.x.memory }
 
--- after a call that acts also where it is refused
+-- the state after a call that may change it also where it returns an error (04h and 06h): registers as in `settled`,
+-- and the tables and memory that the call leaves
 abbrev pub after_act : Caller → (Result (Unit {0}) Status × Extended) → Caller
 after_act c r = record { cpu = settled c.cpu r.0 (λ done. c.cpu); x = r.1 }

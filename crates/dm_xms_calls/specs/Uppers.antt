@@ -1,5 +1,5 @@
--- Upper memory blocks (XMS 3.0, functions 10h to 12h). Where DOS has upper memory in its arena, the driver has none: no
--- paragraph is free, and no block begins anywhere.
+-- Upper memory blocks (XMS 3.0, functions 10h to 12h). Where upper memory belongs to the arena of DOS (`upper`), the
+-- driver has none: 10h fails with B1h, 11h and 12h with B2h.
 use Rattle.std.specs.Prelude.{Bool, if◌then◌else◌, Result, Ok, Err}
 use Rattle.dm_cpu.specs.declared.cpu.Cpu.{Cpu}
 use Rattle.dm_xms.specs.declared.tables.Upper.{Upper}
@@ -11,22 +11,23 @@ use Rattle.dm_xms.specs.Uppers as rows
 use Rattle.dm_xms.specs.Uppers.{code_of}
 use Rattle.dm_xms_calls.specs.Caller.{Caller, succeeded, refused}
 
--- DX after a refusal: the paragraphs that could be had, where the size is why
+-- DX after an error: the number of paragraphs that can be had where fewer are free, 0 where none is; else DX stays
 abbrev pub with_room : Cpu → UpperRefusal → Cpu
 with_room cpu (refusal.Smaller n) = record cpu { dx = n }
 with_room cpu refusal.NoneFree = record cpu { dx = 0 }
 with_room cpu refusal.Unknown = cpu
 
--- the registers after a call: success as `set` has it, a refusal with its error code, and DX where it says a size
+-- the registers after a call: if it succeeds, `set` of the result, and AX is 1; else AX is 0, BL the error code, and
+-- DX as in `with_room`
 abbrev pub settled : {A : Type 0} → Cpu → Result A UpperRefusal → (A → Cpu) → Cpu
 settled cpu (Ok v) set = succeeded (set v)
 settled cpu (Err e) set = refused (with_room cpu e) (code_of e)
 
--- after a call on upper memory blocks, which may change the tables alone
+-- the state after a call on upper memory blocks, which may change the tables but not memory
 abbrev pub after_call : {A : Type 0} → Caller → Result (A × Tables) UpperRefusal → (A → Cpu) → Caller
 after_call c r set = record { cpu = settled c.cpu (answer r) set; x = extended (left c.x.xms r) c.x.memory }
 
--- 10h: a block of DX paragraphs; BX is its segment, DX its size
+-- 10h: a new block of DX paragraphs; BX is its segment, DX its size
 unfoldable pub request : Bool → Caller → Caller
 request upper c = after_call c (if upper then Err refusal.NoneFree else rows.request_upper c.x.xms c.cpu.dx) (λ (u : Upper). record c.cpu { bx = u.segment; dx = u.paragraphs })
 
@@ -34,6 +35,6 @@ request upper c = after_call c (if upper then Err refusal.NoneFree else rows.req
 unfoldable pub release : Bool → Caller → Caller
 release upper c = after_call c (if upper then Err refusal.Unknown else rows.release_upper c.x.xms c.cpu.dx) (λ done. c.cpu)
 
--- 12h: the block at segment DX gets BX paragraphs
+-- 12h: the size of the block at segment DX becomes BX paragraphs
 unfoldable pub resize : Bool → Caller → Caller
 resize upper c = after_call c (if upper then Err refusal.Unknown else rows.resize_upper c.x.xms c.cpu.dx c.cpu.bx) (λ done. c.cpu)

@@ -1,5 +1,5 @@
-//! What a call of the extended memory driver returns (XMS 3.0): AX is 1 for success; for a refusal AX is 0, and BL says
-//! why.
+//! The registers that a call of the extended memory driver returns (XMS 3.0): AX is 1 for success; for an error AX is
+//! 0, and BL is its code. Each function here changes `cpu` alone, and of it only the registers that it names.
 ghost use Rattle.std.specs.Prelude.{◌≡◌};
 ghost use Rattle.dm_xms.specs.Uppers.{code_of};
 ghost use Rattle.dm_xms_calls.specs.Caller.{succeeded, refused, settled};
@@ -10,14 +10,14 @@ use dm_cpu::Cpu;
 use dm_ins::ByteRegister;
 use dm_xms::{FreeMemory, HandleInformation, Status, Upper, UpperRefusal};
 
-/// Success.
+/// Sets AX to 1: success.
 pub(crate) fn succeed(cpu: &mut Cpu)
     ensures { cpu.new ≡ succeeded cpu.old }
 {
     cpu.ax = 1;
 }
 
-/// A refusal with an error code.
+/// Sets AX to 0 and BL to an error code.
 pub(crate) fn refuse(cpu: &mut Cpu, code: u8)
     ensures { cpu.new ≡ refused cpu.old code }
 {
@@ -25,7 +25,7 @@ pub(crate) fn refuse(cpu: &mut Cpu, code: u8)
     cpu.set_byte(ByteRegister::Bl, code);
 }
 
-/// The result of a call that returns nothing more.
+/// Sets AX after a call without another result, and BL after an error.
 pub(crate) fn settle(cpu: &mut Cpu, res: Result<(), Status>)
     ensures { cpu.new ≡ settled cpu.old res (λ done. cpu.old) }
 {
@@ -35,7 +35,8 @@ pub(crate) fn settle(cpu: &mut Cpu, res: Result<(), Status>)
     }
 }
 
-/// The result of a call that returns what is free.
+/// Sets the registers of 08h: AX to the largest gap, DX to all gaps, in KiB, and BL to 0; after an error AX and DX to
+/// 0, and BL to its code.
 pub(crate) fn settle_free(cpu: &mut Cpu, res: Result<FreeMemory, Status>)
     ensures { cpu.new ≡ with_free cpu.old res }
 {
@@ -52,7 +53,7 @@ pub(crate) fn settle_free(cpu: &mut Cpu, res: Result<FreeMemory, Status>)
     }
 }
 
-/// The result of a call that returns a handle in DX.
+/// Sets AX after a call that returns a handle, and DX to that handle; after an error BL instead.
 pub(crate) fn settle_dx(cpu: &mut Cpu, res: Result<u16, Status>)
     ensures { cpu.new ≡ settled cpu.old res (λ handle. record cpu.old { dx = handle }) }
 {
@@ -65,7 +66,7 @@ pub(crate) fn settle_dx(cpu: &mut Cpu, res: Result<u16, Status>)
     }
 }
 
-/// The result of a call that returns a linear address in DX:BX.
+/// Sets AX after a call that returns a linear address, and DX:BX to that address; after an error BL instead.
 pub(crate) fn settle_address(cpu: &mut Cpu, res: Result<usize, Status>)
     ensures { cpu.new ≡ settled cpu.old res (with_address cpu.old) }
 {
@@ -79,7 +80,8 @@ pub(crate) fn settle_address(cpu: &mut Cpu, res: Result<usize, Status>)
     }
 }
 
-/// The result of a call that returns information on a handle.
+/// Sets AX after 0Eh, BH to the number of locks, BL to that of free handles and DX to the size in KiB; after an error
+/// BL alone.
 pub(crate) fn settle_information(cpu: &mut Cpu, res: Result<HandleInformation, Status>)
     ensures { cpu.new ≡ settled cpu.old res (with_information cpu.old) }
 {
@@ -93,7 +95,8 @@ pub(crate) fn settle_information(cpu: &mut Cpu, res: Result<HandleInformation, S
     }
 }
 
-/// A refusal of a call on upper memory blocks.
+/// Sets AX to 0 and BL to the code of an error on upper memory blocks. DX becomes the number of paragraphs that can
+/// be had, 0 where none is free; with `Unknown` it stays.
 #[tactic(auto, unfolding(dm_xms::specs::Uppers::code_of))]
 fn refuse_upper(cpu: &mut Cpu, refusal: UpperRefusal)
     ensures { cpu.new ≡ refused (uppers.with_room cpu.old refusal) (code_of refusal) }
@@ -106,7 +109,8 @@ fn refuse_upper(cpu: &mut Cpu, refusal: UpperRefusal)
     refuse(cpu, refusal.code());
 }
 
-/// The result of a call that returns an upper memory block: BX is its segment, DX its paragraphs.
+/// Sets AX after 10h, BX to the segment of the new block and DX to its paragraphs; after an error BL, and DX as in
+/// `refuse_upper`.
 pub(crate) fn settle_upper(cpu: &mut Cpu, res: Result<Upper, UpperRefusal>)
     ensures { cpu.new ≡ uppers.settled cpu.old res (λ u. record cpu.old { bx = u.segment; dx = u.paragraphs }) }
 {
@@ -120,7 +124,8 @@ pub(crate) fn settle_upper(cpu: &mut Cpu, res: Result<Upper, UpperRefusal>)
     }
 }
 
-/// The result of a call on upper memory blocks that returns nothing more.
+/// Sets AX after a call on upper memory blocks without another result; after an error BL, and DX as in
+/// `refuse_upper`.
 pub(crate) fn settle_uppers(cpu: &mut Cpu, res: Result<(), UpperRefusal>)
     ensures { cpu.new ≡ uppers.settled cpu.old res (λ done. cpu.old) }
 {

@@ -1,4 +1,4 @@
-//! The driver and the high memory area (XMS 3.0, functions 00h to 02h).
+//! The driver's version and the high memory area (XMS 3.0, functions 00h to 02h).
 ghost use Rattle.std.specs.Prelude.{◌≡◌};
 ghost use Rattle.dm_xms_calls.specs.Caller.{caller};
 ghost use Rattle.dm_xms_calls.specs.Area.{tell_version, take_area, release_area};
@@ -8,13 +8,14 @@ use dm_cpu::Cpu;
 use dm_space::Space;
 use dm_xms::Xms;
 
-/// The version of the standard, its digits in two bytes.
+/// The version of the specification, 3.0, its digits in two bytes.
 const VERSION: u16 = 0x0300;
 
 /// The driver's own revision.
 const REVISION: u16 = 1;
 
-/// 00h: AX becomes the version, 3.0, BX the driver's revision, DX 1: there is a high memory area.
+/// 00h: sets AX to the version, 3.0, BX to the driver's revision, and DX to 1, as there is a high
+/// memory area.
 #[tactic(auto, unfolding(crate::specs::Area::tell_version))]
 pub(crate) fn tell_version(cpu: &mut Cpu)
     ensures { cpu.new ≡ tell_version cpu.old }
@@ -24,7 +25,7 @@ pub(crate) fn tell_version(cpu: &mut Cpu)
     cpu.dx = 1;
 }
 
-/// 01h: the high memory area is taken.
+/// 01h: takes the high memory area; AX is 1, or 0 with the error in BL.
 #[tactic(auto, unfolding(crate::specs::Area::take_area))]
 pub(crate) fn take_area(cpu: &mut Cpu, xms: &mut Xms, space: &Space)
     ensures { caller cpu.new xms.new space.now.memory ≡ take_area (caller cpu.old xms.old space.now.memory) }
@@ -33,7 +34,7 @@ pub(crate) fn take_area(cpu: &mut Cpu, xms: &mut Xms, space: &Space)
     settle(cpu, res);
 }
 
-/// 02h: the high memory area is released.
+/// 02h: releases the high memory area; AX is 1, or 0 with the error in BL.
 #[tactic(auto, unfolding(crate::specs::Area::release_area))]
 pub(crate) fn release_area(cpu: &mut Cpu, xms: &mut Xms, space: &Space)
     ensures { caller cpu.new xms.new space.now.memory ≡ release_area (caller cpu.old xms.old space.now.memory) }

@@ -1,4 +1,4 @@
-//! The functions of the driver (XMS 3.0).
+//! The functions of the extended memory driver (XMS 3.0), by their numbers in AH.
 ghost use Rattle.std.specs.Prelude.{◌≡◌};
 ghost use Rattle.dm_xms.specs.Tables.{extended};
 ghost use Rattle.dm_xms.specs.Consistent.{IsConsistent};
@@ -17,10 +17,10 @@ use dm_ins::ByteRegister;
 use dm_space::Space;
 use dm_xms::Xms;
 
-/// The error code of a function that is not there.
+/// The error code of a function that the driver does not have.
 const NO_FUNCTION: u8 = 0x80;
 
-/// What a call asks for.
+/// A function of the driver, by its number in AH.
 #[derive(Clone, Copy, Debug, PartialEq, Eq)]
 pub(crate) enum Function {
     /// 00h: returns the version.
@@ -39,9 +39,9 @@ pub(crate) enum Function {
     DisableLocally,
     /// 07h: returns whether A20 is on.
     Line,
-    /// 08h: returns what is free.
+    /// 08h: returns how much memory is free.
     FreeMemory,
-    /// 09h: gives a new handle a block of DX KiB, and returns it in DX.
+    /// 09h: allocates a block of DX KiB, and returns its handle in DX.
     Allocate,
     /// 0Ah: frees handle DX and its block.
     Deallocate,
@@ -53,19 +53,19 @@ pub(crate) enum Function {
     Unlock,
     /// 0Eh: returns information on handle DX.
     Information,
-    /// 0Fh: gives the block of handle DX BX KiB.
+    /// 0Fh: changes the size of the block of handle DX to BX KiB.
     Reallocate,
-    /// 10h: makes an upper memory block of DX paragraphs.
+    /// 10h: allocates an upper memory block of DX paragraphs.
     RequestUpper,
     /// 11h: frees the upper memory block at segment DX.
     ReleaseUpper,
-    /// 12h: gives the upper memory block at segment DX BX paragraphs.
+    /// 12h: changes the size of the upper memory block at segment DX to BX paragraphs.
     ResizeUpper,
     /// Any other number.
     Unknown,
 }
 
-/// The function with this number, which calls have in AH.
+/// The function that a value of AH selects.
 fn function_of(number: u8) -> Function
     ensures { result ≡ Rattle.dm_xms_calls.specs.Functions.function_of number }
 {
@@ -93,7 +93,8 @@ fn function_of(number: u8) -> Function
     }
 }
 
-/// Does what a call asks for.
+/// Does one function of the driver, on the registers, the tables and the memory. `upper` is whether upper memory
+/// belongs to the arena of DOS.
 #[tactic(auto, unfolding(crate::specs::Functions::no_function))]
 fn call(cpu: &mut Cpu, xms: &mut Xms, space: &mut Space, upper: bool, function: Function)
     requires { IsConsistent (extended xms.old space.old.memory) }
@@ -123,10 +124,10 @@ fn call(cpu: &mut Cpu, xms: &mut Xms, space: &mut Space, upper: bool, function: 
     }
 }
 
-/// Does the function that AH names, on the registers of the program that calls, the tables of extended memory and the
-/// memory, which are consistent. AX is then 1, or 0 where the call was refused, and BL says why; functions 00h and 08h
-/// answer otherwise. `upper` is whether DOS has upper memory in its arena: then the driver gives no upper memory
-/// blocks.
+/// Does the function that AH selects, on the registers of the program that calls, the tables of extended memory and
+/// the memory, which are consistent. AX is then 1, or 0 where the call failed, with the error code in BL; functions
+/// 00h and 08h return other values in AX. `upper` is whether DOS has upper memory in its arena: then the driver gives
+/// no upper memory blocks.
 pub fn extended_memory_call(cpu: &mut Cpu, xms: &mut Xms, space: &mut Space, upper: bool)
     requires { IsConsistent (extended xms.old space.old.memory) }
     ensures { caller cpu.new xms.new space.new.memory ≡ dispatched upper (caller cpu.old xms.old space.old.memory) }

@@ -1,4 +1,4 @@
-//! The calls of the extended memory driver (XMS 3.0): what each function finds and leaves in the registers of the
+//! The calls of the extended memory driver (XMS 3.0): what each function reads and sets in the registers of the
 //! program that calls.
 #![tactic(auto)]
 

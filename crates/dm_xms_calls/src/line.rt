@@ -1,4 +1,5 @@
-//! Address line A20 (XMS 3.0, functions 03h to 07h).
+//! Address line A20 (XMS 3.0, functions 03h to 07h). Each function sets AX to 1, or to 0 with the
+//! error in BL.
 ghost use Rattle.std.specs.Prelude.{◌≡◌};
 ghost use Rattle.dm_xms_calls.specs.Caller.{caller};
 ghost use Rattle.dm_xms_calls.specs.Line.{enable_globally, disable_globally, enable_locally, disable_locally, tell_line};
@@ -8,7 +9,7 @@ use dm_cpu::Cpu;
 use dm_space::Space;
 use dm_xms::Xms;
 
-/// 03h: A20 is switched on globally.
+/// 03h: turns the global switch on, and so A20.
 #[tactic(auto, unfolding(crate::specs::Line::enable_globally))]
 pub(crate) fn enable_globally(cpu: &mut Cpu, xms: &mut Xms, space: &mut Space)
     ensures { caller cpu.new xms.new space.new.memory ≡ enable_globally (caller cpu.old xms.old space.old.memory) }
@@ -17,7 +18,7 @@ pub(crate) fn enable_globally(cpu: &mut Cpu, xms: &mut Xms, space: &mut Space)
     succeed(cpu);
 }
 
-/// 04h: A20 is switched off globally.
+/// 04h: turns the global switch off; error 94h if the local count keeps A20 on.
 #[tactic(auto, unfolding(crate::specs::Line::disable_globally))]
 pub(crate) fn disable_globally(cpu: &mut Cpu, xms: &mut Xms, space: &mut Space)
     ensures { caller cpu.new xms.new space.new.memory ≡ disable_globally (caller cpu.old xms.old space.old.memory) }
@@ -26,7 +27,7 @@ pub(crate) fn disable_globally(cpu: &mut Cpu, xms: &mut Xms, space: &mut Space)
     settle(cpu, res);
 }
 
-/// 05h: A20 is switched on locally.
+/// 05h: adds one to the local count, and turns A20 on; error 82h at FFFFh.
 #[tactic(auto, unfolding(crate::specs::Line::enable_locally))]
 pub(crate) fn enable_locally(cpu: &mut Cpu, xms: &mut Xms, space: &mut Space)
     ensures { caller cpu.new xms.new space.new.memory ≡ enable_locally (caller cpu.old xms.old space.old.memory) }
@@ -35,7 +36,7 @@ pub(crate) fn enable_locally(cpu: &mut Cpu, xms: &mut Xms, space: &mut Space)
     settle(cpu, res);
 }
 
-/// 06h: A20 is switched off locally.
+/// 06h: takes one from the local count; error 94h if A20 stays on, 82h if the count is 0.
 #[tactic(auto, unfolding(crate::specs::Line::disable_locally))]
 pub(crate) fn disable_locally(cpu: &mut Cpu, xms: &mut Xms, space: &mut Space)
     ensures { caller cpu.new xms.new space.new.memory ≡ disable_locally (caller cpu.old xms.old space.old.memory) }
@@ -44,7 +45,7 @@ pub(crate) fn disable_locally(cpu: &mut Cpu, xms: &mut Xms, space: &mut Space)
     settle(cpu, res);
 }
 
-/// 07h: AX becomes 1 where A20 is on; where it is off AX and BL become 0.
+/// 07h: sets AX to 1 where A20 is on; where it is off, AX and BL to 0.
 #[tactic(auto, unfolding(crate::specs::Line::tell_line))]
 pub(crate) fn tell_line(cpu: &mut Cpu, space: &Space)
     ensures { cpu.new ≡ tell_line cpu.old space.now.memory }

@@ -1,5 +1,5 @@
-//! Upper memory blocks (XMS 3.0, functions 10h to 12h). Where DOS has upper memory in its arena, `upper`, the driver
-//! has none.
+//! Upper memory blocks (XMS 3.0, functions 10h to 12h). Where upper memory belongs to the arena of DOS (`upper`), the
+//! driver has none. Each function sets AX to 1, or to 0 with the error in BL.
 ghost use Rattle.std.specs.Prelude.{◌≡◌};
 ghost use Rattle.dm_xms_calls.specs.Caller.{caller};
 ghost use Rattle.dm_xms_calls.specs.Uppers.{request, release, resize};
@@ -9,7 +9,8 @@ use dm_cpu::Cpu;
 use dm_space::Space;
 use dm_xms::{UpperRefusal, Xms};
 
-/// 10h: makes a block of DX paragraphs; BX becomes its segment, DX its size.
+/// 10h: allocates a block of DX paragraphs; sets BX to its segment, DX to its size. If there is no room, DX is the
+/// largest size that there is.
 #[tactic(auto, unfolding(crate::specs::Uppers::request))]
 pub(crate) fn request(cpu: &mut Cpu, xms: &mut Xms, space: &Space, upper: bool)
     ensures { caller cpu.new xms.new space.now.memory ≡ request upper (caller cpu.old xms.old space.now.memory) }
@@ -35,7 +36,8 @@ pub(crate) fn release(cpu: &mut Cpu, xms: &mut Xms, space: &Space, upper: bool)
     settle_uppers(cpu, res);
 }
 
-/// 12h: the block at segment DX gets BX paragraphs.
+/// 12h: changes the size of the block at segment DX to BX paragraphs; if there is no room, DX is the size that it can
+/// have.
 #[tactic(auto, unfolding(crate::specs::Uppers::resize))]
 pub(crate) fn resize(cpu: &mut Cpu, xms: &mut Xms, space: &Space, upper: bool)
     ensures { caller cpu.new xms.new space.now.memory ≡ resize upper (caller cpu.old xms.old space.now.memory) }

@@ -1,4 +1,4 @@
--- What only the walks over headers, and the private steps of the calls, say of each other. No public contract mentions
+-- How far the walks over headers have come, and what the private steps of the calls do. No public contract mentions
 -- any of it: a reader who checks what the calls promise can leave this file out.
 use Rattle.std.specs.Prelude.{Bool, List, None, Option, Some, [], cond, false, if◌then◌else◌, max, option_to_list, true, ℕ, ◌&&◌, ◌*◌, ◌++◌, ◌+◌, ◌-◌, ◌<◌, ◌==◌, ◌∷◌, ◌≡◌, ◌≢◌}
 use Rattle.dm_space.specs.declared.place.Place.{Place}
@@ -21,44 +21,46 @@ use Rattle.dm_arena.specs.Allocation.{Taking, with_cut}
 use Rattle.dm_blocks.specs.inner.Standing.{Occupies}
 use Rattle.dm_arena.specs.inner.Standing.{OccupiesOutside}
 
--- T is S with the header b written
+-- T is S with the five bytes of the header b written, where its place keeps them; no other place changes
 pub record IsHeaderWritten (S : Memory) (b : Header) (signature : ℕ) (T : Memory) : Type 0 where
   pub shape : IsShaped S T
   pub written : IsWritable (place S (16 * b.segment)) → IsHeader T b signature
   pub kept : (p : Place) → ((k : ℕ) → k < 5 → p ≢ place S (16 * b.segment + k)) → byte_at T p ≡ byte_at S p
 
--- e is the first block of the joined list, and K the headers after it
+-- e is the first block of L once runs of free blocks are joined, and K the headers of L after it
 pub record IsJoinedFront (upper : Bool) (S : Memory) (L : List Header) (e : Entry) (K : List Header) : Type 0 where
   pub is : join upper L ≡ e.header ∷ join upper K
   pub last : e.last ≡ is_nil K
   pub rest : Spells S (next e.header) K
   pub within : (g : ℕ) → HasHeader K g → HasHeader L g
 
--- the same, while e grows
+-- e is the first block of L with the free blocks after it taken in so far, and K the headers that are left
 pub record IsJoining (upper : Bool) (S : Memory) (L : List Header) (e : Entry) (K : List Header) : Type 0 where
   pub is : join upper L ≡ join_after upper e.header K
   pub last : e.last ≡ is_nil K
   pub rest : Spells S (next e.header) K
   pub within : (g : ℕ) → HasHeader K g → HasHeader L g
 
--- the walk that looks for a place among the headers of the joined list
+-- a search of the joined list of L for a header at the place p stands at segment h, with the headers K left: the
+-- joined list has one exactly if the rest has one
 pub record IsLooking (upper : Bool) (S : Memory) (L : List Header) (p : Place) (h : ℕ) (K : List Header) : Type 0 where
   pub spelled : IsSpelledFrom S h K
   pub forth : Occupies S (join upper L) p → Occupies S (join upper K) p
   pub back : Occupies S (join upper K) p → Occupies S (join upper L) p
 
--- the walk that looks for it among those that are not between two segments
+-- a search of L, but for its headers between segments `low` and `high`, for one at the place p stands at segment h,
+-- with the headers K left: L has one exactly if K has one
 pub record IsLookingOutside (S : Memory) (L : List Header) (low high : ℕ) (p : Place) (h : ℕ) (K : List Header) : Type 0 where
   pub spelled : IsSpelledFrom S h K
   pub forth : OccupiesOutside S L low high p → OccupiesOutside S K low high p
   pub back : OccupiesOutside S K low high p → OccupiesOutside S L low high p
 
--- T spells the joined list of S
+-- T spells the joined list of L from segment start on, and is S but for its headers
 pub record IsJoined (upper : Bool) (S : Memory) (start : ℕ) (L : List Header) (T : Memory) : Type 0 where
   pub spells : Spells T start (join upper L)
   pub differs : DiffersInHeaders S (join upper L) T
 
--- the headers `done` are joined, and those of K are left from segment h on
+-- while the list L is joined in place: the headers `done` are written, and those of K are left from segment h on
 pub record IsJoiningAll (upper : Bool) (S : Memory) (start : ℕ) (L : List Header) (T : Memory) (h : ℕ) (done K : List Header) : Type 0 where
   pub rest : Spells T h K
   pub spells : Spells T start (done ++ K)
@@ -71,7 +73,8 @@ abbrev pub Fills : ℕ → List Header → ℕ → Type 0
 Fills h [] t = h ≡ t
 Fills h (c ∷ C) t = (c.segment ≡ h) × Fills (next c) C t
 
--- the blocks B of the arena, before Q, may become C
+-- the blocks B between P and Q, from segment h to segment t, may be replaced by the blocks C, which fill the same
+-- paragraphs; the new list is clear. `last` says that Q is empty
 pub record IsReplaceable (S : Memory) (start : ℕ) (P B Q C : List Header) (last : Bool) (h t : ℕ) : Type 0 where
   pub nonempty : IsNonEmpty B
   pub spells : Spells S start (P ++ (B ++ Q))
@@ -80,51 +83,58 @@ pub record IsReplaceable (S : Memory) (start : ℕ) (P B Q C : List Header) (las
   pub end : last ≡ is_nil Q
   pub clear : IsClear S (P ++ (C ++ Q))
 
+-- T spells the list P, C, Q from segment start on, and is S but for the headers C
 pub record IsReplaced (S : Memory) (start : ℕ) (P Q C : List Header) (T : Memory) : Type 0 where
   pub spells : Spells T start (P ++ (C ++ Q))
   pub differs : DiffersInHeaders S C T
 
--- the search, as it goes
+-- the block that the search of an allocation takes once it has met c, where b, or None, was the best so far
 abbrev pub better : Bool → Strategy → ℕ → Option Header → Header → Option Header
 better upper strategy n None c = cond (fits upper strategy n c) (Some c) None
 better upper strategy n (Some b) c = cond (fits upper strategy n c && prefers strategy c b) (Some c) (Some b)
 
+-- the block that a search takes from L, where `best` is the best of those before; None if no block fits
 abbrev pub pick : Bool → Strategy → ℕ → Option Header → List Header → Option Header
 pick upper strategy n best [] = best
 pick upper strategy n best (c ∷ L) = pick upper strategy n (better upper strategy n best c) L
 
--- what there is to choose from, of a block of the list: all of it, but of the block that is spoken for only the rest
+-- the part of a block that is left to choose from: the whole block; but of the block that the first of a pair is cut
+-- from, only its rest, None if it has none
 abbrev pub left_part : Option Spoken → Header → Option Header
 left_part None b = Some b
 left_part (Some s) b = if s.segment == b.segment then s.rest else Some b
 
+-- the blocks of the list, or parts of them, that are left to choose from
 abbrev pub left_of : Option Spoken → List Header → List Header
 left_of spoken [] = []
 left_of spoken (b ∷ L) = option_to_list (left_part spoken b) ++ left_of spoken L
 
--- the part of a cut block that stays free
+-- the free part of the block b once n paragraphs, fewer than it has, are cut from it by this fit
 abbrev pub rest_block : Fit → ℕ → Header → Header
 rest_block First n b = record { segment = b.segment + 1 + n; owner = 0; size = b.size - n - 1 }
 rest_block Best n b = record { segment = b.segment + 1 + n; owner = 0; size = b.size - n - 1 }
 rest_block Last n b = record { segment = b.segment; owner = 0; size = b.size - n - 1 }
 
+-- the free part of the block b once n paragraphs are cut from it by this fit; None if n is the block's whole size
 abbrev pub rest_of : Fit → ℕ → Header → Option Header
 rest_of fit n b = if b.size == n then None else Some (rest_block fit n b)
 
--- what is left to choose from
+-- a search of the joined list stands at segment h, with the headers K left: what it still may find, together with its
+-- choice so far, is the result for the whole list
 pub record IsChoosing (upper : Bool) (S : Memory) (L : List Header) (strategy : Strategy) (n : ℕ) (spoken : Option Spoken) (h : ℕ) (choice : Choice) (K : List Header) : Type 0 where
   pub spelled : IsSpelledFrom S h K
   pub block_is : pick upper strategy n choice.block (left_of spoken (join upper K)) ≡ pick upper strategy n None (left_of spoken (join upper L))
   pub largest_is : max choice.largest (largest upper strategy (left_of spoken (join upper K))) ≡ largest upper strategy (left_of spoken (join upper L))
 
--- what is planned
+-- `plan` is what an allocation of n paragraphs for the owner writes and returns, and the new list is clear
 pub record IsPlan (upper : Bool) (S : Memory) (start : ℕ) (strategy : Strategy) (n owner : ℕ) (plan : Plan) : Type 0 where
   pub taking : Taking upper S start strategy n
   pub cut_is : cut_list plan.cut ≡ cut_block strategy.fit n owner taking.block
   pub segment_is : plan.segment ≡ taken_segment strategy.fit n taking.block + 1
   pub clear : IsClear S (with_cut taking owner)
 
--- the headers C may stand in the place of a block of the joined arena
+-- the headers C may stand in the place of `block` of the joined list: they fill the same paragraphs, and the new list
+-- is clear
 pub record Placing (upper : Bool) (S : Memory) (start : ℕ) (C : List Header) : Type 0 where
   pub list : List Header
   pub before : List Header
@@ -135,7 +145,7 @@ pub record Placing (upper : Bool) (S : Memory) (start : ℕ) (C : List Header) :
   pub fills : Fills block.segment C (next block)
   pub clear : IsClear S (before ++ (C ++ after))
 
--- g is e with the free blocks R of K taken in, and Q is left
+-- g is e with the free blocks R, the first of K, taken in; the headers Q are left
 pub record IsGrown (upper : Bool) (S : Memory) (e : Entry) (K : List Header) (g : Entry) (R Q : List Header) : Type 0 where
   pub is : K ≡ R ++ Q
   pub free : AllFree upper R
@@ -143,18 +153,20 @@ pub record IsGrown (upper : Bool) (S : Memory) (e : Entry) (K : List Header) (g 
   pub last : g.last ≡ is_nil Q
   pub rest : Spells S (next g.header) Q
 
+-- K are the headers that memory spells after the block of e, and e is marked last if there are none
 pub record IsGrowable (S : Memory) (e : Entry) (K : List Header) : Type 0 where
   pub last : e.last ≡ is_nil K
   pub rest : Spells S (next e.header) K
 
--- the blocks P are released, and K is left from segment h on
+-- while an owner's blocks are freed in the list L: those of P are, and the headers K are left from segment h on
 pub record IsReleasing (S : Memory) (start : ℕ) (owner : ℕ) (L : List Header) (T : Memory) (h : ℕ) (P K : List Header) : Type 0 where
   pub rest : Spells T h K
   pub spells : Spells T start (released owner P ++ K)
   pub is : L ≡ P ++ K
   pub differs : DiffersInHeaders S (released owner P) T
 
--- the search for a block that isn't the link block
+-- the result of a search for the block that begins at the segment: None if there is none, or if it is the link block;
+-- else its entry
 abbrev pub FindsOther : Bool → Memory → ℕ → ℕ → Option Entry → Type 0
 FindsOther upper S start segment None = (L : List Header) → IsSpelledFrom S start L → IsNoBlock upper L segment
 FindsOther upper S start segment (Some e) =

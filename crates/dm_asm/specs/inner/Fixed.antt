@@ -1,5 +1,5 @@
--- Only for the passes, and no part of what is promised: the bytes that the first pass knows already, because they are
--- the same wherever a statement stands.
+-- What the first pass of `assemble` keeps of the lines: the bytes of those that are the same wherever a statement
+-- stands. No public contract mentions any of it.
 use Rattle.std.specs.Prelude.{◌≡◌, ℕ, ◌≤◌, Bool, true, false, List, [], ◌∷◌, ◌++◌, length, Option, Some, None, is_none}
 use Rattle.dm_ins.specs.declared.operand.Operand.{Operand}
 use Rattle.dm_ins.specs.declared.operand.Operand.TheVariants as operand
@@ -16,18 +16,18 @@ use Rattle.dm_asm.specs.Labels.{Label}
 use Rattle.dm_asm.specs.Codes.{Codes, HasLength}
 use Rattle.dm_asm.specs.Programs.{Sized}
 
--- whether an operand names no label
+-- the operand names no label
 abbrev pub names_none : Term → Bool
 names_none (term.Address s v) = is_none v.label
 names_none (term.Number v) = is_none v.label
 names_none _ = true
 
--- whether an operand counts from the next instruction
+-- the operand is a target, which counts from the next instruction
 abbrev pub targets : Operand → Bool
 targets (operand.Target n) = true
 targets _ = false
 
--- what is written in an instruction that names no label, where a target counts from 0
+-- what an instruction that names no label is written as, with targets counted from 0
 pub record AreFixed (i : Instruction) (words : Words) : Type 0 where
   pub mnemonic : words.mnemonic ≡ i.mnemonic
   pub first_free : names_none i.first ≡ true
@@ -35,18 +35,18 @@ pub record AreFixed (i : Instruction) (words : Words) : Type 0 where
   pub first : written_of i.mnemonic i.first 0 0 ≡ Some words.first
   pub second : written_of i.mnemonic i.second 0 0 ≡ Some words.second
 
--- these are the bytes of an item, wherever it stands and wherever labels do
+-- these are the bytes of the item, wherever it and labels stand
 abbrev pub IsFixed : Item → List ℕ → Type 0
 IsFixed item code = (labels : List Label) (at : ℕ) → Codes labels at item code
 
--- the bytes of one known line lie in front of the others
+-- the first n bytes are those of the statement x, which are the same wherever it stands; `rest` are the others
 pub record IsKnown (x : Sized) (n : ℕ) (bytes rest : List ℕ) : Type 0 where
   pub code : List ℕ
   pub is : IsFixed x.statement.item code
   pub long : n ≡ length code
   pub parts : bytes ≡ code ++ rest
 
--- of each statement its bytes are kept, or nothing
+-- of each statement either its bytes are kept, in `bytes` one after the other, or nothing (`Open`)
 abbrev pub AreKnown : List Sized → List Line → List ℕ → Type 0
 AreKnown [] [] bytes = bytes ≡ []
 AreKnown [] (l ∷ ls) bytes = ⊥
@@ -54,11 +54,12 @@ AreKnown (x ∷ xs) [] bytes = ⊥
 AreKnown (x ∷ xs) (line.Open ∷ ls) bytes = AreKnown xs ls bytes
 AreKnown (x ∷ xs) (line.Known n ∷ ls) bytes = (rest : List ℕ) × IsKnown x n bytes rest × AreKnown xs ls rest
 
--- one more statement of an item is kept
+-- from old to new, a statement with this item is added to what is kept
 abbrev pub Keeps : Known → Known → Item → Type 0
 Keeps old new item = (xs : List Sized) (x : Sized) → x.statement.item ≡ item → AreKnown xs old.lines.items old.bytes.items → AreKnown (xs ++ x ∷ []) new.lines.items new.bytes.items
 
--- an item of a length is kept, or has none
+-- the result of adding an item: its length, after it is added; None if it has none, as the table has no such
+-- instruction
 abbrev pub KeepsOf : Known → Known → Item → Option ℕ → Type 0
 KeepsOf old new item None = (n : ℕ) → HasLength item n → ⊥
 KeepsOf old new item (Some n) = HasLength item n × (n ≤ 256) × Keeps old new item

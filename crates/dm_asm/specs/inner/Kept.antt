@@ -1,4 +1,5 @@
--- The labels that a map keeps.
+-- The map in which the assembler keeps labels, and what the first pass hands to the second. No public contract
+-- mentions any of it.
 use Rattle.std.specs.Prelude.{◌≡◌, ◌<◌, ◌≤◌, ◌^◌, ℕ, List, IfSome}
 use Rattle.std.specs.Ordering.{nat_cmp}
 use Rattle.std.specs.Cmp.Lexicographic.{slice_cmp}
@@ -15,21 +16,22 @@ use Rattle.dm_asm.specs.Codes.{Codes, Knows}
 use Rattle.dm_asm.specs.declared.known.Known.{Known}
 use Rattle.dm_asm.specs.inner.Fixed.{AreKnown}
 
--- the map has each name's first place in the list
+-- the map has the names of the list, each with its first place there, and no others
 abbrev pub AreKept : Labels → List Label → Type 0
 AreKept kept labels = (name : Name'.Name) → tree.get (slice_cmp nat_cmp) kept.places name.bytes ≡ find name labels
 
--- each place is an offset
+-- each place in the map is an offset, below 65,536
 abbrev pub AreNear : Labels → Type 0
 AreNear kept = (name : Name'.Name) → IfSome (tree.get (slice_cmp nat_cmp) kept.places name.bytes) (λ place. place < 2 ^ 16)
 
--- what is wrong with a statement at an offset
+-- why a statement at an offset has no bytes: a label that is not in the list, or else a number or target that is out
+-- of range
 abbrev pub IsProblem : List Label → ℕ → Item → Problem → Type 0
 IsProblem labels at item problem.Unknown = Knows labels item → ⊥
 IsProblem labels at item problem.Range = Knows labels item × ((code : List ℕ) → Codes labels at item code → ⊥)
 
--- all lines read, with no label twice, and have room together; the map keeps their labels, and what is known of them is
--- kept
+-- what the first pass returns: the lines of the text are statements, with no label twice and not too many bytes;
+-- `kept` has their labels, and `known` the bytes that are known already
 pub record AreLaid (text : List ℕ) (kept : Labels) (known : Known) : Type 0 where
   pub statements : List Sized
   pub laid : Laid (lines_of text) statements

@@ -1,7 +1,7 @@
--- For private contracts and proofs alone: beside specs/Lines.antt.
+-- The end of a line, as the code drops it. For private contracts and proofs alone.
 use Rattle.std.specs.Prelude.{ℕ, ◌==◌, List, [], ◌∷◌, ◌&&◌, if◌then◌else◌}
 
--- some bytes without the 0Dh at their end
+-- the bytes without one 0Dh at their end
 abbrev pub trim : List ℕ → List ℕ
 trim [] = []
 trim (b ∷ []) = if b == 13 then [] else b ∷ []

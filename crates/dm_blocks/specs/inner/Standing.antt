@@ -6,12 +6,13 @@ use Rattle.dm_space.specs.Places.{IsWritable}
 use Rattle.dm_blocks.specs.declared.header.Header.{Header}
 use Rattle.dm_blocks.specs.Chain.{HasHeader}
 
--- the place of the segment keeps what is written, and no header of L has it
+-- a header may stand at the segment beside the headers L: its place keeps what is written, and no header of L has
+-- that place
 pub record MayStand (S : Memory) (L : List Header) (segment : ℕ) : Type 0 where
   pub writable : IsWritable (place S (16 * segment))
   pub apart : (g : ℕ) → HasHeader L g → place S (16 * g) ≢ place S (16 * segment)
 
--- a header of L has the place
+-- a header of L stands at the place p
 pub record Occupies (S : Memory) (L : List Header) (p : Place) : Type 0 where
   pub segment : ℕ
   pub has : HasHeader L segment

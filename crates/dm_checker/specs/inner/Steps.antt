@@ -17,36 +17,38 @@ use Rattle.dm_checker.specs.Findings.{Finds}
 use Rattle.dm_checker.specs.Checks.{FindsAt, FindsAtStop}
 use Rattle.dm_checker.specs.inner.Watching.{IsWatch}
 
--- the registers, the call and the bytes at CS:IP of a state
+-- b is what the checker keeps of the state s before a step: the registers, the call and the bytes at CS:IP
 pub record IsBefore (s : State) (b : Before) : Type 0 where
   pub cpu : b.cpu ≡ s.cpu
   pub call : b.call ≡ call_of s.cpu
   pub bytes : b.bytes ≡ fetched s.memory s.cpu
 
--- no call is served, and the bytes there begin no instruction
+-- the step from s performs no call, and the bytes at CS:IP are no instruction
 pub record IsUnlisted (s : State) : Type 0 where
   pub call : call_of s.cpu ≡ None
   pub none : (i : Ins) (length : ℕ) → BeginsWith (fetched s.memory s.cpu) i length → ⊥
 
+-- a finding with its step: the step's number, CS:IP before it, and what it performed
 abbrev pub found_by : Before → ℕ → Act → Finding → Found
 found_by b step a f = record { step = step; segment = b.cpu.cs; offset = b.cpu.ip; act = a; finding = f }
 
--- a report that has these findings more
+-- the report `new` is the report `old` with these findings added
 abbrev pub ReportsMore : Reported → Reported → List Found → Type 0
 ReportsMore old new more = (fs : List Found) → old ≡ report_of fs → new ≡ report_of (fs ++ more)
 
--- what was found of the step stands after what stood there
+-- `new` is `old` with what is found of the step from s to t appended
 pub record Looks (s t : State) (old new : List Finding) : Type 0 where
   pub more : List Finding
   pub is : new ≡ old ++ more
   pub finds : Finds s t more
 
--- what is found at a step, whether it goes on or stops
+-- `found` is what is found of a call of `step` from s to t, whether the machine goes on (None) or stops
 abbrev pub FindsAtAny : State → Option Stop → State → List Found → Type 0
 FindsAtAny s None t found = FindsAt s t found
 FindsAtAny s (Some stop) t found = FindsAtStop s stop t found
 
--- one step, and its findings in the report
+-- one checked step from s to t: the report `new` is `old` with its findings, and if the machine goes on, w is what
+-- memory shows of the arena after it
 pub record ChecksOne (s : State) (stop : Option Stop) (t : State) (w : Watch) (old new : Reported) : Type 0 where
   pub answers : Answers s stop t
   pub found : List Found

@@ -15,11 +15,13 @@ use Rattle.dm_machine.specs.Step.{fetched}
 use Rattle.dm_ins.specs.Ins.{BeginsWith}
 use Rattle.dm_checker.specs.declared.writes.Entry.{Entry}
 
+-- the operand is in memory
 abbrev pub is_memory : Operand → Bool
 is_memory (Memory width a) = true
 is_memory _ = false
 
--- the instruction writes elsewhere than to its operands, or to an operand in memory; DIV and IDIV may take interrupt 0
+-- the instruction may write memory: it writes elsewhere than to its operands, or to an operand in memory; DIV and IDIV
+-- may take interrupt 0
 abbrev pub may_write : Mnemonic → Operand → Operand → Bool
 may_write Push first second = true
 may_write Pushf first second = true
@@ -39,11 +41,11 @@ may_write Test first second = false
 may_write Xchg first second = is_memory first || is_memory second
 may_write _ first second = is_memory first
 
--- the instruction leaves memory as it is
+-- the instruction changes no byte of memory, whatever the registers
 abbrev pub LeavesMemory : Ins → Type 0
 LeavesMemory i = (g : Guest) (length : ℕ) → (effect g i length).memory ≡ g.memory
 
--- at CS:IP, below the services and drivers, stands an instruction that leaves memory as it is
+-- the instruction at CS:IP, below the segment of services and drivers, changes no byte of memory
 pub record OnlyReads (m : Bytes) (c : Cpu) : Type 0 where
   pub below : c.cs < 0xF000
   pub ins : Ins
@@ -51,10 +53,10 @@ pub record OnlyReads (m : Bytes) (c : Cpu) : Type 0 where
   pub begins : BeginsWith (fetched m c) ins length
   pub leaves : LeavesMemory ins
 
--- wherever these eight bytes stand, an instruction that leaves memory as it is begins them
+-- wherever these eight bytes stand at CS:IP, they begin with an instruction that changes no byte of memory
 abbrev pub BeginReading : ℕ → Type 0
 BeginReading eight = (m : Bytes) (c : Cpu) → c.cs < 0xF000 → IsEightBytes m c.cs c.ip eight → OnlyReads m c
 
--- what an entry says of its bytes is so
+-- if the entry says that its bytes begin with an instruction that writes no memory, they do
 pub record IsRight (e : Entry) : Type 0 where
   pub tells : IsTrue e.only_reads → BeginReading e.eight

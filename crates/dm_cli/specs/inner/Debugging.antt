@@ -11,27 +11,27 @@ use Rattle.dm_cli.specs.declared.fault.Fault.{Fault}
 use Rattle.dm_cli.specs.declared.fault.Fault.TheVariants.{OutOfMemory}
 use Rattle.dm_cli.specs.Debugging.{IsConversation, Tells}
 
--- a reader gave the next line: bytes of which none but the last is a line end, and that one is unless nothing is left,
--- where that is known
+-- the reader gave its next line, where it is known what it has: the line goes up to the first 0Ah and includes it, or
+-- up to the end of the input
 pub record Reads (before after : Option (List ℕ)) (line : List ℕ) : Type 0 where
   pub consumes : Consumes before after line
   pub stops : StopsAt line 10
   pub last : ends_with_byte 10 line ≡ false → OnSome before (IsAtEnd after)
 
--- the line's command was done, and its answer written and flushed
+-- the line was executed, which led from session s to t, and its answer was written whole and flushed
 pub record IsAnsweredBy (s : Debugged) (line : List ℕ) (t : Debugged) (before after : Option (List ℕ)) : Type 0 where
   pub text : List ℕ
   pub tells : Tells s line t text
   pub written : Appends before after text
 
--- it was not: memory for its answer was refused, and nothing was written; or a first part of its answer was written,
--- and a write failed; or all of it, and the flush that hands it on failed
+-- the line's answer was not written whole or not flushed, with this fault: an allocation failed, and nothing was
+-- written; or a write failed after a first part; or the flush failed
 pub data IsUnanswered (s : Debugged) (line : List ℕ) (t : Debugged) (before after : Option (List ℕ)) (opened failures : ℕ) : Fault → Type 0 where
   cut_short : IsCutOff s line t → Keeps before after → failures ≡ opened → IsUnanswered s line t before after opened failures OutOfMemory
   partly : (text : List ℕ) (fault : Fault) → Tells s line t text → AppendsPart before after text → HasFailed opened failures → IsWriteFault fault → IsUnanswered s line t before after opened failures fault
   unflushed : (text : List ℕ) (fault : Fault) → Tells s line t text → Appends before after text → HasFailed opened failures → IsWriteFault fault → IsUnanswered s line t before after opened failures fault
 
--- a reader's lines were read through a buffer, of at most 16 MiB in all; or memory for the buffer was refused
+-- the lines of a reader, at most 16 MiB in all, were executed through a buffer; or the allocation of the buffer failed
 pub data ConversesWith (typed : Option (List ℕ)) (s t : Debugged) (before after : Option (List ℕ)) (opened failures : ℕ) : Option Fault → Type 0 where
   through_buffer : (end : Option Fault) → IsConversation 16777216 typed s t before after opened failures end → ConversesWith typed s t before after opened failures end
   without_buffer : Keeps before after → failures ≡ opened → ConversesWith typed s t before after opened failures (Some OutOfMemory)

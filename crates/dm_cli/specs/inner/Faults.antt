@@ -8,15 +8,17 @@ use Rattle.dm_machine.specs.declared.loading.LoadError.TheVariants as load
 use Rattle.dm_cli.specs.declared.fault.Fault.{Fault}
 use Rattle.dm_cli.specs.declared.fault.Fault.TheVariants as fault
 
--- the fault that a refusal of the store becomes
+-- the fault for a file that the store of programs did not take
 abbrev pub add_fault : AddError → Fault
 add_fault add.Twice = fault.NameTwice
 add_fault add.Memory = fault.OutOfMemory
 
+-- the fault for a machine that was not made
 abbrev pub new_fault : NewError → Fault
 new_fault new.TooLarge = fault.TooLarge
 new_fault new.Memory = fault.OutOfMemory
 
+-- the fault for a first program that was not loaded
 abbrev pub load_fault : LoadError → Fault
 load_fault load.NotFound = fault.NotFound
 load_fault load.BadFormat = fault.BadFormat

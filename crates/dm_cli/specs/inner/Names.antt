@@ -5,8 +5,8 @@ use Rattle.dm_cli.specs.declared.fault.Fault.TheVariants.{NameTooLong}
 use Rattle.dm_cli.specs.Faults.{IsUnread}
 use Rattle.dm_cli.specs.Names.{IsFileName, last_part}
 
--- why the file at a path has no name in the store: the last part of the path is no file's name, or it is one, and too
--- long
+-- why the file at a path has no name in the store: the last part of the path can name no file, or has more than 64
+-- bytes
 abbrev pub IsNameFault : List ℕ → Fault → Type 0
 IsNameFault path fault =
     (IsUnread path fault × ¬ IsFileName (last_part path))

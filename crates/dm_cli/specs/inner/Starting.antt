@@ -8,7 +8,7 @@ use Rattle.dm_cli.specs.declared.fault.Fault.TheVariants.{TailTooLong, NotFound}
 use Rattle.dm_cli.specs.Names.{last_part}
 use Rattle.dm_cli.specs.Starting.{IsLoadFault, paths_of}
 
--- the first of the files is loaded into a new machine, with a tail of at most 126 bytes
+-- the first of the files is loaded into the machine `fresh`, with a tail of at most 126 bytes, which becomes m
 pub record IsFirstLoaded (fresh : State) (paths : List (List ℕ)) (tail : List ℕ) (m : State) : Type 0 where
   pub first : List ℕ
   pub others : List (List ℕ)
@@ -16,8 +16,7 @@ pub record IsFirstLoaded (fresh : State) (paths : List (List ℕ)) (tail : List 
   pub short : length tail ≤ 126
   pub loaded : IsLoaded fresh (last_part first) tail m
 
--- the faults of the first file and the tail, in their order: the tail is too long, there is no first program, or it
--- can't be loaded
+-- a fault of the load, in this order: the tail is too long, there is no first file, or it can't be loaded
 pub data IsFirstFault (fresh : State) (o : MachineOptions) : Fault → Type 0 where
   tail_is_long : 126 < length o.tail.now → IsFirstFault fresh o TailTooLong
   no_first : length o.tail.now ≤ 126 → paths_of o ≡ [] → IsFirstFault fresh o NotFound

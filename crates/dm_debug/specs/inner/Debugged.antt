@@ -2,6 +2,6 @@
 use Rattle.dm_state.specs.State.{HasProgram}
 use Rattle.dm_debug.specs.Debugged.{Debugged}
 
--- a program is loaded
+-- a program is loaded in the session's machine
 abbrev pub IsDebugged : Debugged → Type 0
 IsDebugged s = HasProgram s.machine

@@ -4,7 +4,8 @@ use Rattle.dm_state.specs.declared.stop.Stop.{Stop}
 use Rattle.dm_debug.specs.Debugged.{Debugged}
 use Rattle.dm_host.specs.Checking.{IsChecked, IsPartlyChecked}
 
--- the stop and the text of the report, or no memory for them
+-- a run of at most n steps under the checker leads from session s to t: with the stop and the report's text; or, if an
+-- allocation failed (None), only a first part of the run was made
 abbrev pub ChecksTo : Debugged → ℕ → Option (Stop × List ℕ) → Debugged → Type 0
 ChecksTo s n (Some r) t = IsChecked s n r.0 r.1 t
 ChecksTo s n None t = IsPartlyChecked s n t

@@ -1,6 +1,6 @@
--- Only for the search of the rows that finds the least spelling, and no part of what is promised: the contracts of
--- `encode` and `Ins::new` speak of the spelling alone (Spelling.antt, Ins.antt). Which bytes each row has for some
--- operands, with the shortest displacement, and which of several is the least.
+-- For the search of the rows that finds the least spelling, and no part of what is promised: the contracts of `encode`
+-- and `Ins::new` speak of the spelling alone (Spelling.antt, Ins.antt). Which bytes each row has for some operands,
+-- with the shortest displacement, and which of several is the least.
 use Rattle.std.specs.Prelude.{◌^◌, ◌≡◌, ℕ, ◌+◌, ◌*◌, ◌/◌, ◌%◌, ◌<◌, Bool, true, false, List, [], ◌∷◌, ◌++◌, Option, Some, None, IfSome, IsSomeAnd, ◌==◌, if◌then◌else◌, length}
 use Rattle.dm_ins.specs.declared.operand.Width.{Width}
 use Rattle.dm_ins.specs.declared.operand.Width.TheVariants.{Byte, Word}
@@ -46,33 +46,40 @@ rm_of OnDi = 5
 rm_of OnBp = 6
 rm_of OnBx = 7
 
+-- an address without a base register: its displacement alone is the offset
 abbrev pub is_direct : Base → Bool
 is_direct Direct = true
 is_direct _ = false
 
+-- the widths are the same
 abbrev pub same_width : Width → Width → Bool
 same_width Byte Byte = true
 same_width Word Word = true
 same_width _ _ = false
 
+-- the number of the register that an operand is, None if it is no register of the width
 abbrev pub numbered : Width → Operand → Option ℕ
 numbered Byte (operand.ByteRegister r) = Some (byte_number r)
 numbered Word (operand.WordRegister r) = Some (word_number r)
 numbered _ _ = None
 
+-- the demand of an operand that needs these bytes after the mod r/m byte, and no field
 abbrev pub asks_data : Data → Demand
 asks_data d = record { register = None; place = None; tail = d }
 
+-- the demand of an operand that needs the number n in the reg field
 abbrev pub asks_register : ℕ → Demand
 asks_register n = record { register = Some n; place = None; tail = data_is.Nothing }
 
+-- the demand of an operand that needs the mod and r/m fields to name p
 abbrev pub asks_place : RegisterOrMemory → Demand
 asks_place p = record { register = None; place = Some p; tail = data_is.Nothing }
 
--- a word that is a byte extended by sign
+-- the demand of a word that is a byte extended by sign: this byte; None for another word
 abbrev pub as_signed : ℕ → Option Demand
 as_signed n = if sign_extended (n % 256) == n then Some (asks_data (data_is.Byte (n % 256))) else None
 
+-- what an operand asks of the bytes where a row has this kind, None if it is not of the kind
 unfoldable pub demand_of : OperandKind → Operand → Option Demand
 demand_of is.Nothing operand.Nothing = Some (asks_data data_is.Nothing)
 demand_of is.Nothing _ = None
@@ -110,15 +117,19 @@ demand_of (is.TheSegment r) _ = None
 demand_of is.One operand.One = Some (asks_data data_is.Nothing)
 demand_of is.One _ = None
 
+-- the bytes of an operand after the mod r/m byte, the low byte of a word first
 abbrev pub data_bytes : Data → List ℕ
 data_bytes data_is.Nothing = []
 data_bytes (data_is.Byte n) = n ∷ []
 data_bytes (data_is.Word n) = word_bytes n
 data_bytes (data_is.Words n s) = word_bytes n ++ word_bytes s
 
+-- the mod r/m byte with the fields r and rm, and the displacement n after it: one byte if that extends to n by sign,
+-- else a word
 abbrev pub with_displacement : ℕ → ℕ → ℕ → List ℕ
 with_displacement r rm n = if sign_extended (n % 256) == n then (64 + (8 * r + rm)) ∷ n % 256 ∷ [] else (128 + (8 * r + rm)) ∷ word_bytes n
 
+-- the mod r/m byte of a memory operand with the reg field r, and its shortest displacement
 abbrev pub memory_bytes : ℕ → Address → List ℕ
 memory_bytes r a =
     if is_direct a.base then (8 * r + 6) ∷ word_bytes a.displacement
@@ -126,31 +137,37 @@ memory_bytes r a =
     else if a.displacement == 0 then (8 * r + rm_of a.base) ∷ []
     else with_displacement r (rm_of a.base) a.displacement
 
+-- the mod r/m byte of a register or memory operand with the reg field r, and its displacement if it has one
 unfoldable pub fields_bytes : ℕ → RegisterOrMemory → List ℕ
 fields_bytes r (place.Register n) = (192 + (8 * r + n)) ∷ []
 fields_bytes r (place.Memory a) = memory_bytes r a
 
+-- the first value if there is one, else the second
 abbrev pub either : {A : Type 0} → Option A → Option A → Option A
 either None b = b
 either (Some x) b = Some x
 
+-- the second byte of a row that fixes it (AAM, AAD), if there is one
 abbrev pub second_bytes : Option ℕ → List ℕ
 second_bytes None = []
 second_bytes (Some c) = c ∷ []
 
--- the bytes between the first one and the data
+-- the bytes between the first one and the data: the mod r/m byte and its displacement if both are asked for, else the
+-- second byte of a row that fixes it
 abbrev pub behind_bytes : Option ℕ → Option RegisterOrMemory → Option ℕ → List ℕ
 behind_bytes (Some r) (Some p) c = fields_bytes r p
 behind_bytes (Some r) None c = second_bytes c
 behind_bytes None p c = second_bytes c
 
+-- the bytes of a row filled with two operands, None if they are not of its kinds
 unfoldable pub bytes_of : Choice → Operand → Operand → Option (List ℕ)
 bytes_of c one two = do
   d ← demand_of c.row.first one
   e ← demand_of c.row.second two
   Some (c.opcode ∷ behind_bytes (either c.register (either d.register e.register)) (either d.place e.place) c.second ++ (data_bytes d.tail ++ data_bytes e.tail))
 
--- the rows, numbered by the first byte and the reg field
+-- the row that the entry of the first byte b has under the reg field r, None if it has none; a row outside the groups
+-- stands under the reg field 0 alone
 abbrev pub choice_at : OpcodeEntry → ℕ → ℕ → Option Choice
 choice_at Unlisted b r = None
 choice_at (Plain p) b r = if r == 0 then Some (record { opcode = b; row = p; register = None; second = None }) else None
@@ -159,18 +176,21 @@ choice_at (Group g) b r = do
   Some (record { opcode = b; row = p; register = Some r; second = None })
 choice_at (Second c p) b r = if r == 0 then Some (record { opcode = b; row = p; register = None; second = Some c }) else None
 
+-- the number of a register is below 8
 abbrev pub PlaceFits : RegisterOrMemory → Type 0
 PlaceFits (place.Register n) = n < 8
 PlaceFits (place.Memory a) = Unit {0}
 
+-- the numbers that a demand has for the reg field and for a register are below 8
 abbrev pub DemandFits : Demand → Type 0
 DemandFits d = IfSome d.register (λ n. n < 8) × IfSome d.place PlaceFits
 
+-- the bytes of a vector, if there is one
 abbrev pub seen_bytes : Option (ArrayVec ℕ) → Option (List ℕ)
 seen_bytes None = None
 seen_bytes (Some v) = Some v.items
 
--- the numbers in an operand fit their types
+-- the numbers in an operand fit their types: a byte is below 2 ^ 8, a word below 2 ^ 16
 abbrev pub OperandFits : Operand → Type 0
 OperandFits (operand.Memory w a) = a.displacement < 2 ^ 16
 OperandFits (operand.ByteValue n) = n < 2 ^ 8
@@ -188,36 +208,42 @@ pub record CandidateAt (b g : ℕ) (a : Action) (c : List ℕ) : Type 0 where
   pub first_fits : OperandFits a.first
   pub second_fits : OperandFits a.second
 
+-- of two spellings the one that comes first (Order.antt), the first where they are the same; a missing one is passed
+-- over
 abbrev pub better_of : Option (List ℕ) → Option (List ℕ) → Option (List ℕ)
 better_of None new = new
 better_of (Some a) None = Some a
 better_of (Some a) (Some b) = if before b a then Some b else Some a
 
--- the bytes that the row under the key at a place of a list has for an action
+-- the row under the key at index n of a list has the bytes c for an action
 abbrev pub Under : List Key → ℕ → Action → List ℕ → Type 0
 Under ks n a c = CandidateAt (key_at ks n).opcode (key_at ks n).register a c
 
--- of the rows under the first n keys of a list, the least bytes for the action, if there are any
+-- o is the least of the bytes that the rows under the first n keys of a list have for the action, None if they have
+-- none
 pub record Best (n : ℕ) (ks : List Key) (a : Action) (o : Option (List ℕ)) : Type 0 where
   pub found : IfSome o (λ v. (b g : ℕ) × CandidateAt b g a v)
   pub least : (k : ℕ) (c : List ℕ) → k < n → Under ks k a c → IsSomeAnd o (λ v. before c v ≡ false)
 
--- of all rows of its mnemonic, the least bytes for the action, if there are any
+-- o is the least of the bytes that the rows of its mnemonic have for the action, None if they have none
 abbrev pub IsLeast : Action → Option (List ℕ) → Type 0
 IsLeast a o = Best (length (keyed a.mnemonic)) (keyed a.mnemonic) a o
 
--- the prefixes that are kept, in the order of their bytes
+-- the segment override that is kept, a list of one prefix or none
 abbrev pub segment_list : Option SegmentRegister → List Prefix
 segment_list None = []
 segment_list (Some s) = prefix.Segment s ∷ []
 
+-- the LOCK that is kept, a list of one prefix or none
 abbrev pub lock_list : Bool → List Prefix
 lock_list false = []
 lock_list true = prefix.Lock ∷ []
 
+-- the repeat prefix that is kept, a list of one prefix or none
 abbrev pub repeat_list : Option Repeat → List Prefix
 repeat_list None = []
 repeat_list (Some r) = prefix.Repeat r ∷ []
 
+-- the prefixes that are kept, in the order of their bytes
 abbrev pub prefix_list : Prefixes → List Prefix
 prefix_list p = segment_list p.segment ++ lock_list p.lock ++ repeat_list p.repeat

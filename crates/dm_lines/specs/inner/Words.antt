@@ -1,4 +1,4 @@
--- For private contracts and proofs alone: beside specs/Words.antt.
+-- The first bytes of reserved words, by which the code looks them up. For private contracts and proofs alone.
 use Rattle.std.specs.Prelude.{ℕ, Bool, ◌==◌, slice_index, ◌∷◌, ◌++◌}
 use Rattle.dm_ins.specs.declared.action.Mnemonic.TheVariants as op
 use Rattle.dm_words.specs.declared.written.Size.TheVariants as size
@@ -9,6 +9,6 @@ use Rattle.dm_lines.specs.declared.words.Reserved.TheVariants as word
 use Rattle.dm_lines.specs.declared.token.Token.TheVariants as t
 use Rattle.dm_lines.specs.Words.{spelling_of, reserved}
 
--- whether a reserved word begins with a byte
+-- the spelling of the reserved word begins with the byte b
 abbrev pub begins : ℕ → Reserved → Bool
 begins b r = slice_index (spelling_of r) 0 == b

@@ -1,11 +1,11 @@
--- For private contracts and proofs alone: beside specs/Parts.antt.
+-- Where the parts of a store lie in its region, as private contracts and proofs speak of it.
 use Rattle.std.specs.Prelude.{◌≡◌, ℕ, ◌+◌, ◌*◌, get_or, Some, None}
 use Rattle.dm_pool.specs.declared.part.Part.{Part}
 use Rattle.dm_pool.specs.declared.part.Part.TheVariants.{Low, Scratch, Block}
 use Rattle.dm_pool.specs.declared.extent.Extent.{Extent}
 use Rattle.dm_pool.specs.inner.Order.{Layout}
 
--- the table says where the part is (for private steps, as the next one)
+-- the part has a place: always the low bytes and the scratch bytes, a block if the table has one with its number
 abbrev pub IsLaidOut : Layout → Part → Type 0
 IsLaidOut l Low = Unit {0}
 IsLaidOut l Scratch = Unit {0}

@@ -1,4 +1,4 @@
--- For private contracts and proofs alone: beside specs/Processes.antt.
+-- A process that is written to memory. For private contracts and proofs alone.
 use Rattle.std.specs.Prelude.{◌≡◌, Bool, ℕ, List, ◌≢◌, ◌+◌, ◌<◌, ◌⊎◌, ◌∷◌, ◌++◌}
 use Rattle.dm_space.specs.Memory.{Memory}
 use Rattle.dm_arena.specs.declared.refusal.ArenaRefusal.TheVariants as arena
@@ -10,7 +10,8 @@ use Rattle.dm_proc.specs.Environment.{environment}
 use Rattle.dm_arena.specs.Pair.{placed_of}
 use Rattle.dm_proc.specs.Start.{start_writes, prefix}
 
--- what was planned is written: all
+-- a planned process is written to memory m, which leaves n: first the headers of its blocks, then environment,
+-- prefix, image and a COM program's zero word
 pub record IsWritten (upper : Bool) (m : Memory) (pair : Planned) (p : IsPlannedOn upper m pair) (environment file : List ℕ) (parent : ℕ) (a : Passed) (n : Memory) : Type 0 where
   pub middle : Memory
   pub becomes : Becomes m first_header (with_pair p.planned.pairing) middle

@@ -2,16 +2,16 @@
 use Rattle.std.specs.Prelude.{◌≡◌, ℕ, ◌+◌, ◌≤◌, get_or, List, [], ◌∷◌, map, length, take, drop, Option, Some, None}
 
 module _ {X : Type 0} where
-  -- the values that are there
+  -- the values of the places that are not empty, in their order
   abbrev pub somes : List (Option X) → List X
   somes [] = []
   somes (None ∷ cs) = somes cs
   somes (Some x ∷ cs) = x ∷ somes cs
 
-  -- the place at the index holds a value
+  -- there is a place at the index i, and it holds a value
   abbrev pub IsFilled : List (Option X) → ℕ → Type 0
   IsFilled cs i = (x : X) × (get_or cs i None ≡ Some x)
 
-  -- the len places from the index from on hold values
+  -- there are len places from the index `from` on, and all of them hold values
   abbrev pub IsRun : List (Option X) → ℕ → ℕ → Type 0
   IsRun cs from len = (from + len ≤ length cs) × ((xs : List X) × (take len (drop from cs) ≡ map Some xs))

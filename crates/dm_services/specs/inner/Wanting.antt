@@ -5,7 +5,8 @@ use Rattle.dm_state.specs.declared.stop.Stop.TheVariants.{Memory as NoMemory}
 use Rattle.dm_state.specs.State.{State, Answer}
 use Rattle.dm_services.specs.Wanting.{Overflows}
 
--- the same where one result alone may be given
+-- what a step from s returns (the stop) and leaves (t) is the result x; or the stop is `Memory`, t is s, and x writes
+-- more bytes than the room of s holds: the allocation for them failed
 abbrev pub OrMemory : State → Answer → Option Stop → State → Type 0
 OrMemory s x (Some NoMemory) t = Overflows s x × (t ≡ s)
 OrMemory s x stop t = record { stop = stop; state = t } ≡ x

@@ -1,4 +1,5 @@
--- Runs of places side by side, for private steps alone: 4000h bytes of linear addresses lie in one part of the map.
+-- Runs of places side by side, as private contracts and proofs speak of them: bytes between two multiples of 4000h lie
+-- in one part of the map.
 use Rattle.std.specs.Prelude.{ℕ, ◌+◌, List, replicate}
 use Rattle.dm_region.specs.Parts.{part, with_part}
 use Rattle.dm_pool.specs.Blocks.{with_content}
@@ -8,7 +9,7 @@ use Rattle.dm_space.specs.Memory.{Memory, page_bytes, with_blocks}
 use Rattle.dm_space.specs.Copies.{values}
 use Rattle.dm_space.specs.Rom.{rom}
 
--- byte i after a place
+-- the place i bytes after a place, in the same part of the map
 abbrev pub shift : Place → ℕ → Place
 shift (Low a) i = Low (a + i)
 shift (Page p k) i = Page p (k + i)

@@ -5,6 +5,6 @@ use Rattle.dm_xms.specs.Consistent as extended_memory
 use Rattle.dm_cpu.specs.Stack as stack
 use Rattle.dm_proc.specs.declared.parent.Parent.{Parent}
 
--- each process that waits for a child has a program segment prefix
+-- each process that waits for a child has a segment other than 0, that of its program segment prefix
 abbrev pub HaveSegments : List Parent → Type 0
 HaveSegments parents = All (λ p. 0 < p.segment) parents

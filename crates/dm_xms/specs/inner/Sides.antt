@@ -6,12 +6,13 @@ use Rattle.dm_moves.specs.declared.spans.SpanKind.TheVariants.{Linear, Pages, Si
 use Rattle.dm_moves.specs.Spans.{IsInside}
 use Rattle.dm_xms.specs.declared.moves.Side.{Side}
 
+-- the region lies in one block of the pool
 abbrev pub is_single : SpanKind → Bool
 is_single Linear = false
 is_single Pages = false
 is_single Single = true
 
--- as many bytes as end before the side's end are inside memory; they are in a block, or have addresses
+-- all bytes of a side of a move, up to its end, are in memory: in a block, or below the end of the high memory area
 pub record Reaches (m : Memory) (s : Side) : Type 0 where
   pub small : s.region.start < 2 ^ 33
   pub short : (is_single s.region.kind ≡ true) ⊎ (s.end ≤ 0x10FFF0)
