@@ -8,7 +8,7 @@ ROOT = os.path.dirname(os.path.dirname(os.path.abspath(__file__)))
 # The C type of a number, and of each type of the exports.
 NUMBERS = {"u8": "uint8_t", "u16": "uint16_t", "u32": "uint32_t", "u64": "uint64_t", "usize": "size_t"}
 TYPES = {**NUMBERS, "Handle": "mezguld", "Stopped": "mezguld_stopped", "Registers": "mezguld_cpu", "Point": "mezguld_point"}
-# What a letter of `_PARAMETERS` in the Python module stands for; `p` is a pointer that a count follows.
+# The meaning of each letter of `_PARAMETERS` in the Python module; `p` is a pointer that is followed by a count.
 LETTERS = {
     "m": "mezguld *", "s": "mezguld_stopped *", "r": "mezguld_cpu *", "w": "size_t *", "q": "uint64_t *",
     "n": "size_t", "I": "uint32_t", "B": "uint32_t", "Q": "uint64_t", "H": "uint16_t",
@@ -16,7 +16,7 @@ LETTERS = {
 EXPORT = re.compile(r'#\[unsafe\(no_mangle\)\]\s*pub extern "C" fn (\w+)\s*\(([^)]*)\)\s*(?:->\s*([\w&\[\] ]+?))?\s*(?=\bensures\b|\brequires\b|\{)')
 STRUCT = re.compile(r"#\[repr\(C\)\]\s*(?:#\[[^\]]*\]\s*)*pub struct (\w+) \{([^}]*)\}")
 CONSTANT = re.compile(r"^pub(?:\(crate\))? const (\w+): u32 = (\d+);", re.M)
-# (a status that is a named constant has its own line)
+# (A status that is a named constant is on a line of its own.)
 STATUS = re.compile(r"\b(?:Assembly)?Refusal::(\w+)(?:\(_\))? => (\d+)")
 STOP = re.compile(r"(?:Some\(Stop::(\w+)(?:\(\w+\))?\)|None) => Stopped \{\s*why: (\d+)")
 PROTOTYPE = re.compile(r"^([\w ]+?[ *]+)(mezguld_\w+)\(([^)]*)\);", re.M | re.S)
@@ -35,7 +35,7 @@ def upper(name):
 
 
 def c_parameters(name, kind):
-    """The types and names that a parameter of an export has in C; a name of None may be any, as that of a count."""
+    """The types and names that a parameter of an export has in C; None as a name stands for any name, as for a count."""
     slice_of = re.fullmatch(r"&(mut )?\[(\w+)\]", kind)
     if slice_of:
         return [(f"{'' if slice_of[1] else 'const '}{TYPES.get(slice_of[2], slice_of[2])} *", name), ("size_t", None)]
@@ -171,6 +171,6 @@ def faults():
 
 
 def words():
-    """The words of the header and of the Python module, the header's names also without their prefix; and those of C and Python that documents speak of."""
+    """The words of the header and of the Python module, the header's names also without their prefix; and those of C and Python in documents."""
     names = re.findall(r"[A-Za-z_]\w*", text_of("include/mezguld.h") + text_of("python/mezguld.py"))
     return {*names, *[re.sub(r"^MEZGULD_", "", name) for name in names], "MEZGULD_", "malloc", "realloc", "free", "unittest"}

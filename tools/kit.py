@@ -15,7 +15,7 @@ def module():
     sys.dont_write_bytecode = True
     sys.modules["rtlib"] = made
     loader.exec_module(made)
-    # (a stamp, a sum of all that a crate is made from, is made of those below, which many ways lead to)
+    # (The stamp of a crate, a checksum of all its sources, includes those of the crates below, which are reached in many ways.)
     made.Crate.stamp = functools.lru_cache(maxsize=None)(made.Crate.stamp)
     return made
 
@@ -27,5 +27,5 @@ def stamp(made, crate):
 
 
 def stamp_file(library):
-    """The file that holds the stamp of what the library was made from: the kit builds it anew where another stamp is due."""
+    """The file with the stamp of the library's sources: the kit rebuilds a library whose stamp has changed."""
     return f"{library.folder}/out/rlib/stamp"

@@ -1,4 +1,4 @@
-"""How the scripts of this folder play the program `dm`, and tell what differs."""
+"""How the scripts of this folder run the program `dm`, and report differences."""
 import concurrent.futures
 import os
 import re
@@ -14,7 +14,7 @@ STOP = re.compile(rf"stopped: (?:{'|'.join(STOPS)})\n")
 
 
 class Differs(Exception):
-    """What is seen is not what is wanted."""
+    """The result is not the expected one."""
 
 
 class Played:
@@ -32,8 +32,8 @@ class Played:
 
 
 def stops_with_a_name(run):
-    """Whether a call of `dm run` ended with the program's code and told nothing, or at a stop that has a name. (Want of memory is not
-    among these: there is enough.)"""
+    """Whether a call of `dm run` ended with the program's code and no message, or at a stop with a name. (The stop `memory` is not
+    among these: there is enough memory.)"""
     if run.status == 125 and STOP.fullmatch(run.told):
         return True
     return 0 <= run.status <= 255 and run.told == ""
@@ -45,7 +45,7 @@ def write_file(folder, name, data):
 
 
 def play_all(call, cases, jobs=None):
-    """Calls each case, as many at a time as there are processors. Yields what differs, each with its case."""
+    """Calls each case, as many at a time as there are processors. Yields each difference with its case."""
     with concurrent.futures.ThreadPoolExecutor(jobs or os.cpu_count()) as pool:
         played = {pool.submit(call, case): case for case in cases}
         for one in concurrent.futures.as_completed(played):
@@ -56,7 +56,7 @@ def play_all(call, cases, jobs=None):
 
 
 def tell(title, count, differing):
-    """Tells what differs and how much, and answers the script's status."""
+    """Prints the differences and their number, and returns the script's exit status."""
     for fault in differing[:FAULTS]:
         print(fault if len(fault) <= 4 * COLUMNS else f"{fault[: 4 * COLUMNS]} ..")
     print(f"{title}: {count} played, {len(differing)} differ")
@@ -64,7 +64,7 @@ def tell(title, count, differing):
 
 
 def program_named(words):
-    """The path of `dm` that a script was given."""
+    """The path of `dm` from the script's arguments."""
     if not words or not os.access(words[0], os.X_OK):
         sys.exit(f"usage: {os.path.relpath(sys.argv[0], ROOT)} PATH-OF-DM ..")
     return os.path.abspath(words[0])

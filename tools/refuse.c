@@ -1,10 +1,10 @@
-/* Stands between a program and the C library, and refuses one of the program's calls: what `tools/refusals` preloads.
+/* Makes one of a program's calls of the C library fail: `tools/refusals` preloads it.
 
    The variable REFUSE is a letter and a number N, counted from 1:
-     m  the N-th growth of memory (malloc, realloc) is refused         M  this one and all behind it
+     m  the N-th allocation (malloc, realloc) fails                    M  this one and all after it
      i  the N-th open, read or write fails with EIO                    s  the N-th read or write of several bytes moves one
-   On the descriptor that REFUSE_REPORT names stand `open FD PATH` for each file that was opened, and `refused CALL FD` for what was refused.
-   It is compiled without headers, as the kit has none. */
+   To the descriptor in REFUSE_REPORT it writes `open FD PATH` for each file that was opened, and `refused CALL FD` for each failed call.
+   It is compiled without headers, because the kit has none. */
 
 typedef unsigned long size_t;
 typedef long ssize_t;
@@ -67,7 +67,7 @@ static void tell(const char *what, int file, const char *path)
     syscall(WRITE, report, line, n);
 }
 
-/* Whether a call, of those that are counted under this letter, is refused. */
+/* Whether a call fails, of those that are counted under this letter. */
 static int is_refused(char of_kind)
 {
     if (kind != of_kind)

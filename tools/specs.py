@@ -24,7 +24,7 @@ def text_of(path):
 
 
 def crate_names():
-    """The crates that are no tests, and their groups, in the order of crates.txt."""
+    """The crates without the test crates, and their groups, in the order of crates.txt."""
     group, found = "", []
     for line in text_of("crates.txt").split("\n")[1:]:
         if line.startswith("#"):
@@ -98,7 +98,7 @@ class Specs:
             if used:
                 imports.update(imported(used))
             elif line.startswith("  -- ") and is_inside:
-                # (of a field)
+                # (The comment of a field.)
                 current.lines.append(line)
             elif line.lstrip().startswith("-- "):
                 comment.append(line.strip()[3:])
@@ -128,7 +128,7 @@ class Specs:
                     self.read_source(crate, os.path.relpath(f"{at}/{name}", ROOT))
 
     def read_source(self, crate, path):
-        # (a program has no public functions: what its contracts say is what it promises)
+        # (A program has no public functions: all its contracts count.)
         is_program = os.path.exists(f"{ROOT}/crates/{crate}/src/main.rt")
         exported = exports(crate)
         module = os.path.relpath(path, f"crates/{crate}/src")[: -len(".rt")].replace("/", ".")
@@ -153,7 +153,7 @@ class Specs:
                 self.read_type(crate, module, path, number, kind[2], docs, lines, whole)
             elif begun:
                 outer = f"{block[2]}::" if block else f"{trait}::" if trait else ""
-                # (a method of a trait is as public as the trait)
+                # (A method of a trait is as public as the trait.)
                 is_shown = (block[2] if block else trait or begun[2]) in exported or module.split(".")[0] in exported
                 is_public = is_program or is_shown and (begun[1] == "pub " or bool(trait or block and block[1]))
                 function = Contract(crate, path, outer + begun[2], is_public, number)
@@ -166,7 +166,7 @@ class Specs:
                 function.clauses.append(line.strip())
                 is_open = line.count("{") > line.count("}")
             elif is_open and function:
-                # (a clause of several lines)
+                # (A clause of several lines.)
                 function.clauses[-1] += " " + line.strip()
                 is_open = function.clauses[-1].count("{") > function.clauses[-1].count("}")
             elif block and block[1] == "Model" and line.strip().startswith("ghost Value"):
@@ -183,7 +183,7 @@ class Specs:
         self.imports[made.key] = {**code_imports(crate, lines), **imports}
 
     def read_value(self, crate, path, name, line, whole, inner):
-        """What a contract sees of a type: the value that its model names."""
+        """The view of a type in a contract: the value that its model names."""
         key = next((it for it in self.definitions if self.definitions[it].path == path and self.definitions[it].name == name), None)
         if key:
             self.definitions[key].lines = [line.strip()]
@@ -211,7 +211,7 @@ class Specs:
             it.refs += [key for key in self.seen(it, types) if key not in it.refs]
 
     def seen(self, it, types):
-        """The types of a function's head that contracts see as another value."""
+        """The types in a function's head that contracts see as another value."""
         for name in [*it.types, *re.findall(r"[A-Z]\w+", "\n".join(it.head))]:
             for key in types.get(name, []):
                 if key in self.values:
@@ -222,14 +222,14 @@ class Specs:
         return [line.split(" -- ")[0] for line in it.lines if not line.strip().startswith(("//", "--"))]
 
     def named(self, crate, module, imports, text):
-        """The keys of the definitions that a text names, in the order in which they stand."""
+        """The keys of the definitions that a text names, in their order in the text."""
         found = []
         for word in WORD.findall(re.sub(r'"[^"]*"', "", text)):
             for path in self.paths(crate, module, imports, word):
                 if path in self.definitions:
                     found.append(path)
                     break
-        # (what stands between operands: a step `x ← e` is `>>=`)
+        # (The operators between operands: a step `x ← e` is `>>=`.)
         between = {f"◌{word}◌" for word in text.split()} | ({"◌>>=◌"} if "←" in text else set())
         for name in between:
             path = type_path(imports[name].split(".")) if name in imports else f"{crate}.{module}.{name}"
@@ -238,7 +238,7 @@ class Specs:
         return list(dict.fromkeys(found))
 
     def paths(self, crate, module, imports, word):
-        """What a word may name, the longest first."""
+        """The names that a word may stand for, the longest first."""
         parts = word.split(".")
         if parts[0] == "Rattle" and len(parts) > 3:
             yield type_path(parts[1:])
@@ -262,7 +262,7 @@ class Specs:
         return found
 
     def naming(self):
-        """By the key of a definition, the public contracts that name it."""
+        """For the key of a definition, the public contracts that name it."""
         found = {}
         for it in self.public():
             for key in it.refs:
@@ -270,7 +270,7 @@ class Specs:
         return found
 
     def users(self):
-        """By the key of a definition, the reached definitions that name it."""
+        """For the key of a definition, the reached definitions that name it."""
         found = {}
         for it in self.reached(self.promised()).values():
             for key in it.refs:
@@ -282,7 +282,7 @@ class Specs:
         return [key for it in self.public(crate) for key in it.refs]
 
     def rows(self):
-        """By the key of a definition, the rows and tests that name it: a line `Definitions: CRATE FILE NAME..; ..` at a row's head, or in the
+        """For the key of a definition, the rows and tests that name it: a line `Definitions: CRATE FILE NAME..; ..` at a row's head, or in the
         comment of a test."""
         found = {}
         for path in sorted(glob.glob(f"{ROOT}/rows/*/*.row") + glob.glob(f"{ROOT}/examples/*.row")):
@@ -314,7 +314,7 @@ def tried(line):
 
 
 def exports(crate):
-    """The names that a library hands on: of functions, types and modules."""
+    """The names that a library re-exports: of functions, types and modules."""
     found = set()
     path = f"crates/{crate}/src/lib.rt"
     if os.path.exists(f"{ROOT}/{path}"):
@@ -356,14 +356,14 @@ def type_path(parts):
         parts = parts[: parts.index("TheVariants")]
     if len(parts) > 2 and parts[1] == "specs":
         parts = [parts[0], *parts[2:]]
-    # (a declared type has a module of its own, with its name)
+    # (A declared type has a module of its own, with the same name.)
     if len(parts) > 3 and parts[1] == "declared" and parts[-1] == parts[-2]:
         parts = parts[:-1]
     return ".".join(parts)
 
 
 def code_imports(crate, lines):
-    """The types of crates that the lines `use` of some code bring in, as far as their modules' names tell."""
+    """The types of crates that the lines `use` of some code bring in, as far as their modules' names show."""
     found = {}
     for line in lines:
         used = re.match(r"^use (crate|dm_\w+)::(?:(\w+)::)?\{?([\w, ]+)\}?;$", line)
@@ -374,7 +374,7 @@ def code_imports(crate, lines):
 
 
 def some_of(names, most):
-    """Some names as text, and how many more there are."""
+    """Some names as text, and the number of the others."""
     names = list(dict.fromkeys(names))
     more = f" and {len(names) - most} more" if len(names) > most else ""
     return ", ".join(names[:most]) + more

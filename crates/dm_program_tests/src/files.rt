@@ -142,9 +142,9 @@ pub(crate) struct Slow<'a> {
 
 impl Write for Slow<'_> {
     fn write(&mut self, buf: &[u8]) -> io::Result<usize> {
-        let [first, ..] = buf else {
+        if buf.is_empty() {
             return Ok(0);
-        };
+        }
         if self.left == 0 {
             return match self.refuses {
                 true => Ok(0),
@@ -152,7 +152,7 @@ impl Write for Slow<'_> {
             };
         }
         self.left -= 1;
-        self.taken.push(*first)?;
+        self.taken.push(buf[0])?;
         Ok(1)
     }
 
