@@ -1,6 +1,6 @@
-; Moves of extended memory, 262,144 bytes a turn of 13 steps: from one block to another, within one over itself, and from memory that has
-; addresses to a block.
-        MOV AX,4310h            ; where the driver is called
+; Moves of extended memory, 262,144 bytes a turn of 13 steps: from one block to another, within one over itself, and from conventional
+; memory to a block.
+        MOV AX,4310h            ; the driver's address
         INT 2Fh
         MOV [entry],BX
         MOV WORD [entry+2],ES
@@ -23,7 +23,7 @@ again:  MOV SI,apart
         JMP SHORT again
 
 entry:  DW 0,0
-; How many bytes, a double word; then a handle and an offset, a double word, of the source and of the destination.
+; The length, a double word; then a handle and an offset, a double word, for the source and for the destination.
 apart:  DW 0,2,1,0,0,2,0,0
 over:   DW 0,1,1,0,0,1,2,0
 plain:  DW 0,1,0,0,2000h,2,0,0

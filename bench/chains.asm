@@ -1,6 +1,6 @@
-; Spells the longest list of blocks: 57,088 headers of size 0, from 0100h to BFFFh and from D000h to EFFFh, over four pages in the four
-; windows. It asks for the last block (step 399,925), then, with window 3 on window 0's page, for no paragraph (step 399,934), which is
-; refused. It runs below the list, at 0050:0000.
+; Writes the longest block list: 57,088 headers of size 0, from 0100h to BFFFh and from D000h to EFFFh, over four pages in the four
+; windows. It asks for the last block (step 399,925), then, with window 3 on window 0's page, for 0 paragraphs (step 399,934), which
+; fails. It runs below the list, at 0050:0000.
 
         MOV     AH,43h          ; four pages
         MOV     BX,4
@@ -31,7 +31,7 @@ low:    MOV     DS,AX
         INC     AX
         CMP     AX,0C000h
         JNZ     low
-        MOV     WORD [3],1000h  ; over C000h to CFFFh, where nothing is
+        MOV     WORD [3],1000h  ; over C000h to CFFFh, where there is no memory
         MOV     AX,0D000h
 high:   MOV     DS,AX
         MOV     BYTE [0],4Dh
@@ -40,7 +40,7 @@ high:   MOV     DS,AX
         INC     AX
         CMP     AX,0F000h
         JNZ     high
-        MOV     BYTE [0],5Ah    ; the last one is free
+        MOV     BYTE [0],5Ah    ; the last block is free
         MOV     WORD [1],0
         MOV     WORD [3],0FFFh
         MOV     AH,48h

@@ -1,5 +1,5 @@
 ; Moves 64 KiB from conventional memory to four pages of expanded memory and back, over and over: ten steps a turn.
-; Runs for ever.
+; Runs forever.
 
         MOV     AH,43h
         MOV     BX,4

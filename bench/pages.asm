@@ -1,5 +1,5 @@
-; Takes a page of expanded memory and gives it back, over and over, beside 510 others: eight steps a turn.
-; Runs with --ems 512, for ever.
+; Allocates a page of expanded memory and frees it, over and over, with 510 others allocated: eight steps a turn.
+; Runs forever, with --ems 512.
 
         MOV     AH,43h
         MOV     BX,510
@@ -7,6 +7,6 @@
 again:  MOV     AH,43h          ; a page for a new handle
         MOV     BX,1
         INT     67h
-        MOV     AH,45h          ; the handle is given up
+        MOV     AH,45h          ; frees the handle
         INT     67h
         JMP     SHORT again

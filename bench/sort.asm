@@ -1,5 +1,5 @@
 ; Insertion sort of 512 words, which are filled in anew each time: word reads and writes by base and index, compares,
-; near calls, the stack. Prints `sorted` and ends with code 0, or prints nothing and ends with code 1 where they aren't.
+; near calls, the stack. Prints `sorted` and ends with code 0, or prints nothing and ends with code 1 if they are not sorted.
 ;
 ; Build: nasm -O0 -f bin -o SORT.COM sort.asm
 
@@ -38,7 +38,7 @@ fill:   mov     di,words
         loop    .next
         ret
 
-; into rising order; DI is the offset of the word that is put into its place
+; into ascending order; DI is the offset of the word that is put into its place
 sort:   mov     di,2
 .next:  mov     ax,[words+di]
         mov     bx,di
@@ -54,7 +54,7 @@ sort:   mov     di,2
         jb      .next
         ret
 
-; ends the program with code 1 where a word is below the one before
+; ends the program with code 1 if a word is below the one before
 test_order:
         mov     si,words+2
         mov     cx,COUNT-1

@@ -1,4 +1,4 @@
-; Takes, frees and splits blocks of conventional memory by functions 48h, 49h and 4Ah of INT 21h, and
+; Allocates, frees and splits blocks of conventional memory by functions 48h, 49h and 4Ah of INT 21h, and
 ; lists the arena: a line for each header, with its segment, signature, owner and size.
         MOV AH,4Ah              ; the program keeps 1000h paragraphs: ES is its prefix
         MOV BX,1000h
@@ -7,13 +7,13 @@
         MOV BX,10h
         INT 21h
         MOV [first],AX
-        MOV AH,48h              ; and one of 20h behind it
+        MOV AH,48h              ; and one of 20h after it
         MOV BX,20h
         INT 21h
-        MOV ES,WORD [first]     ; the first one is given back
+        MOV ES,WORD [first]     ; frees the first one
         MOV AH,49h
         INT 21h
-        MOV AH,48h              ; and split: 4 paragraphs of it are taken
+        MOV AH,48h              ; and splits it: allocates 4 of its paragraphs
         MOV BX,4
         INT 21h
         MOV BX,100h             ; the first header

@@ -1,10 +1,10 @@
-; Asks where the extended memory driver is called, takes a block of 16 KiB, copies a line into it and back to another place, gives the
-; block back and prints what came back.
+; Gets the address of the extended memory driver, allocates a block of 16 KiB, copies a line into it and back to another place, frees the
+; block and prints the copy.
         MOV AX,4310h            ; the driver's address
         INT 2Fh
         MOV [driver],BX
         MOV WORD [driver+2],ES
-        MOV AH,9                ; a block of 16 KiB, whose handle is DX
+        MOV AH,9                ; a block of 16 KiB, with its handle in DX
         MOV DX,16
         CALL FAR [driver]
         MOV WORD [there+8],DS
@@ -18,7 +18,7 @@ moved:  MOV SI,back             ; and back, to another place
         MOV AH,0Bh
         CALL FAR [driver]
         MOV DX,[back+4]
-        MOV AH,0Ah              ; the block is given back
+        MOV AH,0Ah              ; frees the block
         CALL FAR [driver]
         MOV AH,9
         MOV DX,room
@@ -27,7 +27,7 @@ moved:  MOV SI,back             ; and back, to another place
         INT 21h
 
 driver: DW 0,0
-there:  DW 14,0,0,line,0,0,0,0  ; length, handle and offset of the source, of the destination
+there:  DW 14,0,0,line,0,0,0,0  ; length, then handle and offset of source and destination
 back:   DW 14,0,0,0,0,0,room,0
 line:   DB 'far and back',10,'$'
 room:   DB '              '

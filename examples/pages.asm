@@ -1,8 +1,8 @@
-; Looks for the expanded memory driver as programs do, takes four pages, shows each in the window of its number, writes a letter into
-; each window and reads all four; then shows the last page in the first window too and reads them again.
+; Looks for the expanded memory driver as programs do, allocates four pages, maps each in the window of its number, writes a letter into
+; each window and reads all four; then maps the last page in the first window too and reads them again.
         MOV AX,3567h            ; the segment of vector 67h
         INT 21h
-        MOV DI,0Ah              ; the driver's name stands there at offset 0Ah
+        MOV DI,0Ah              ; the driver's name is there at offset 0Ah
         MOV SI,name
         MOV CX,8
         CLD
@@ -11,7 +11,7 @@
         MOV AH,41h              ; the frame's segment
         INT 67h
         MOV ES,BX
-        MOV AH,43h              ; four pages for a new handle, which DX is
+        MOV AH,43h              ; four pages for a new handle, in DX
         MOV BX,4
         INT 67h
         OR AH,AH
@@ -34,7 +34,7 @@ write:  ES MOV [DI],AL          ; a letter into each window
         MOV BX,3
         INT 67h
         CALL tell
-        MOV AH,45h              ; the pages are given back
+        MOV AH,45h              ; frees the pages
         INT 67h
         MOV AX,4C00h
         INT 21h

@@ -1,7 +1,7 @@
-; Overwrites the signature of its own arena header and asks for a block: the arena spells no list any more,
-; so the answer is error 7, which is written. Then it puts the header back and ends.
+; Overwrites the signature of its own arena header and requests a block: the block list is broken,
+; so the call returns error 7, which the program prints. Then it restores the header and ends.
         MOV AX,DS
-        DEC AX                  ; the header stands one paragraph below the prefix
+        DEC AX                  ; the header is one paragraph below the prefix
         MOV ES,AX
         ES MOV BYTE [0],0
         MOV AH,48h

@@ -1,4 +1,4 @@
-//! Arena calls of a program with its prefix at 0103h, whose environment stands at 0101h.
+//! Arena calls of a program with its prefix at 0103h and its environment at 0101h.
 
 use crate::checks::same;
 use crate::memory::new_space;
@@ -41,13 +41,13 @@ fn stands(rt: &impl Abort, space: &Space, entry: Entry) {
     same(rt, "size", space.peek16(segment, 3), size);
 }
 
-/// A program that was given all of memory.
+/// A program that owns all of memory.
 fn loaded(space: &mut Space) {
     set_header(space, entry(false, 0x100, OWNER, 1));
     set_header(space, entry(true, 0x102, OWNER, 0x9EFD));
 }
 
-/// The same, once its block is resized to 1000h paragraphs.
+/// The same, after its block is resized to 1000h paragraphs.
 fn shrunk(space: &mut Space) -> Result<(), ArenaRefusal> {
     loaded(space);
     resize(space, OWNER, 0x1000, false)
@@ -129,7 +129,7 @@ fn block_grows_back_over_the_rest(rt: HostRuntime) -> Result<(), Fail> {
 /// Definitions: dm_arena Allocation Allocates Taking with_cut
 #[test]
 fn rest_of_a_block_may_be_empty(rt: HostRuntime) -> Result<(), Fail> {
-    // paragraphs asked for, the header that is then the last one
+    // paragraphs requested, the header that is then the last one
     let rows = [
         (0x8EFB, entry(true, 0x9FFF, 0, 0)),
         (0x8EFC, entry(true, 0x1103, OWNER, 0x8EFC)),
@@ -325,7 +325,7 @@ fn ended_program_leaves_free_blocks(rt: HostRuntime) -> Result<(), Fail> {
     Ok(())
 }
 
-/// Plans two blocks that take all that is left, and writes them.
+/// Plans two blocks that take all the rest, and writes them.
 fn write_two(rt: &impl Abort, space: &mut Space) {
     let pair = plan_pair(
         space,

@@ -1,6 +1,6 @@
 //! Lists of blocks before and after one call of the arena, worked by hand.
 //!
-//! A list is written as the owner and the size of each block. Its first header stands at 0100h, each
+//! A list is given as the owner and the size of each block. Its first header is at 0100h, each
 //! next one after the block before it, and the last one is `Z`.
 
 use self::Call::{Allocate, Free, FreeAll, Pair, Resize};
@@ -27,7 +27,7 @@ pub(crate) fn spell(space: &mut Space, blocks: &[(u16, u16)]) {
     }
 }
 
-/// A memory that spells a list, with EEh around its headers.
+/// A memory with a list, and EEh around its headers.
 fn spelled(alloc: Global, blocks: &[(u16, u16)]) -> Result<Space, NewError> {
     let mut space = new_space(alloc)?;
     for offset in 0..0x800 {
@@ -56,8 +56,8 @@ pub(crate) fn spells(rt: &impl Abort, call: Call, space: &Space, blocks: &[(u16,
     }
 }
 
-/// Compares the bytes from 0100h:0000 on with those of a memory in which the new list alone was
-/// written: the bytes around headers stay, and so do those of headers that are none any more.
+/// Compares the bytes from 0100h:0000 on with those of a memory in which only the new list was
+/// written: the bytes around headers stay, and so do those of former headers.
 fn is_memory(rt: &impl Abort, call: Call, space: &Space, wanted: &Space) {
     for offset in 0..0x800 {
         let found = (call, offset, space.peek(0x100, offset));
@@ -77,11 +77,11 @@ pub(crate) enum Call {
     Free(u16),
     Resize(u16, u16),
     FreeAll(u16),
-    /// The environment's size, then the least and the most for the program.
+    /// The environment's size, then the minimum and the maximum for the program.
     Pair(Strategy, u16, u32, u32),
 }
 
-/// Plans and writes two blocks; where they are, and the second one's size.
+/// Plans and writes two blocks. It returns where they are, and the second one's size.
 fn pair(
     space: &mut Space,
     strategy: Strategy,
@@ -95,8 +95,8 @@ fn pair(
     Ok(placed)
 }
 
-/// Makes a call for the owner 7. It returns the segment of an allocated block, of two blocks where
-/// they are and the second one's size, else zeros.
+/// Makes a call for the owner 7. It returns the segment of an allocated block; for two blocks, where
+/// they are and the second one's size; otherwise zeros.
 pub(crate) fn answer(space: &mut Space, call: Call) -> Result<(u16, u16, u16), ArenaRefusal> {
     match call {
         Allocate(strategy, n) => Ok((allocate(space, strategy, n, 7, false)?, 0, 0)),
@@ -107,7 +107,7 @@ pub(crate) fn answer(space: &mut Space, call: Call) -> Result<(u16, u16, u16), A
     }
 }
 
-/// Makes a call and compares what it returns and leaves.
+/// Makes a call, and compares its result and the list after it.
 fn leaves(
     rt: &impl Abort,
     alloc: Global,
@@ -147,7 +147,7 @@ fn blocks_are_resized_and_freed(rt: HostRuntime) -> Result<(), Fail> {
             &[(7, 4), (0, 10), (7, 1)],
         ),
         (&[(7, 8), (0, 3)], Resize(0x101, 11), &[(7, 11), (0, 0)]),
-        // shrunk with none after it, to nothing, and left as it is
+        // shrunk with no block after it, to nothing, and unchanged
         (
             &[(7, 3), (9, 1)],
             Resize(0x101, 1),
@@ -197,7 +197,7 @@ fn blocks_are_resized_and_freed(rt: HostRuntime) -> Result<(), Fail> {
             &[(7, 1), (0, 2), (0, 3)],
         ),
         (&[(9, 1), (7, 2)], Free(0x101), &[(0, 1), (7, 2)]),
-        // all of an owner's
+        // all blocks of an owner
         (
             &[(7, 1), (9, 2), (7, 3), (0, 1)],
             FreeAll(7),
@@ -252,7 +252,7 @@ fn strategies_choose_and_cut(rt: HostRuntime) -> Result<(), Fail> {
             0x10E,
             &[(0, 2), (9, 1), (0, 5), (9, 1), (7, 9)],
         ),
-        // best fit: the smaller one is the higher; of two of one size the lower
+        // best fit: the smaller one is the higher; of two of the same size the lower
         (
             &[(0, 5), (9, 1), (0, 4), (9, 1)],
             best,
@@ -303,7 +303,7 @@ fn strategies_choose_and_cut(rt: HostRuntime) -> Result<(), Fail> {
             0x105,
             &[(0, 3), (7, 1), (9, 1)],
         ),
-        // no paragraph at all
+        // 0 paragraphs
         (
             &[(0, 2), (9, 1)],
             first,
@@ -319,7 +319,7 @@ fn strategies_choose_and_cut(rt: HostRuntime) -> Result<(), Fail> {
             0x103,
             &[(9, 1), (7, 0), (9, 2)],
         ),
-        // the last block ends at FFFFh, the last header stands at 9FFFh or A000h
+        // the last block ends at FFFFh, the last header is at 9FFFh or A000h
         (&[(0, 0xFEFE)], first, 1, 0x101, &[(7, 1), (0, 0xFEFC)]),
         (
             &[(0, 0xFEFE)],
@@ -355,7 +355,7 @@ fn two_blocks_are_chosen_in_turn(rt: HostRuntime) -> Result<(), Fail> {
     let holes = [(0, 3), (9, 1), (0, 0x40), (9, 1)];
     let ties = [(0, 1), (9, 1), (0, 5), (9, 1), (0, 5)];
     let whole = [(0, 0xFEFE)];
-    // strategy, the environment's size, the least and the most for the program; where they are
+    // strategy, the environment's size, the minimum and the maximum for the program; where they are
     let rows: [(&[(u16, u16)], Call, (u16, u16, u16), &[(u16, u16)]); 14] = [
         (
             &holes,
@@ -363,7 +363,7 @@ fn two_blocks_are_chosen_in_turn(rt: HostRuntime) -> Result<(), Fail> {
             (0x101, 0x107, 0x40),
             &[(0x107, 1), (0, 1), (9, 1), (0x107, 0x40), (9, 1)],
         ),
-        // the most may be over FFFFh paragraphs
+        // the maximum may be over FFFFh paragraphs
         (
             &holes,
             Pair(first, 1, 0, 0x1_0005),
@@ -382,7 +382,7 @@ fn two_blocks_are_chosen_in_turn(rt: HostRuntime) -> Result<(), Fail> {
             (0x101, 0x107, 0x40),
             &[(0x107, 3), (9, 1), (0x107, 0x40), (9, 1)],
         ),
-        // the program takes what the environment's block has left
+        // the program takes what is left of the environment's block
         (
             &holes,
             Pair(first, 1, 0, 1),
@@ -426,14 +426,14 @@ fn two_blocks_are_chosen_in_turn(rt: HostRuntime) -> Result<(), Fail> {
             (0x101, 0x107, 5),
             &[(0x107, 1), (0, 1), (9, 1), (0x107, 5)],
         ),
-        // nothing is left but an empty block
+        // only an empty block is left
         (
             &[(0, 2), (9, 1)],
             Pair(first, 1, 0, 5),
             (0x101, 0x103, 0),
             &[(0x103, 1), (0x103, 0), (9, 1)],
         ),
-        // the last header stands at 9FFFh, the last block ends at FFFFh
+        // the last header is at 9FFFh, the last block ends at FFFFh
         (
             &whole,
             Pair(first, 1, 0, 0x9EFC),
@@ -469,7 +469,7 @@ fn refused_calls_leave_the_list(rt: HostRuntime) -> Result<(), Fail> {
     let short = |largest| ArenaRefusal::Short { largest };
     let runs = [(0, 2), (0, 3), (9, 1), (0, 1), (0, 1)];
     let rows: [(&[(u16, u16)], Call, ArenaRefusal); 22] = [
-        // what is reported is the largest block once runs are joined
+        // the largest block after the runs are joined is reported
         (&runs, Allocate(first, 7), short(6)),
         (&runs, Allocate(best, 7), short(6)),
         (&runs, Allocate(last, 0xFFFF), short(6)),
@@ -497,7 +497,7 @@ fn refused_calls_leave_the_list(rt: HostRuntime) -> Result<(), Fail> {
         (&[(7, 4)], Free(0xFFFF), none),
         (&[(7, 4)], Resize(0xFFFF, 0), none),
         (&[(7, 4)], Resize(0, 0xFFFF), none),
-        // the new header would stand at C000h, where nothing is, or in ROM
+        // the new header would be at C000h, where there is no memory, or in ROM
         (&[(0, 0xFEFE)], Allocate(first, 0xBEFF), broken),
         (&[(0, 0xFEFE)], Allocate(last, 1), broken),
         (&[(7, 0xFEFE)], Resize(0x101, 0xBEFF), broken),
@@ -516,7 +516,7 @@ fn refused_calls_leave_the_list(rt: HostRuntime) -> Result<(), Fail> {
 fn bytes_that_spell_no_list(rt: HostRuntime) -> Result<(), Fail> {
     // the list, and the byte at 0100h:offset that breaks it
     let rows: [(&[(u16, u16)], u16, u8); 7] = [
-        // small letters, and the last signature missing, so that a header follows which is none
+        // lower-case letters, and the last signature missing, so that the next header is not one
         (&[(7, 2), (0, 3)], 0x00, b'm'),
         (&[(7, 2), (0, 3)], 0x30, b'z'),
         (&[(7, 2)], 0x00, b'z'),
@@ -533,7 +533,7 @@ fn bytes_that_spell_no_list(rt: HostRuntime) -> Result<(), Fail> {
         Resize(0x101, 1),
         FreeAll(7),
         Pair(Strategy::everywhere(Fit::Best), 1, 0, 0),
-        // these would be refused in a clear list too: no block begins there, none is so large
+        // these would fail in a whole list too: no block begins there, no block is so large
         Free(0x105),
         Resize(0x105, 1),
         Resize(0x101, 0xFFFF),

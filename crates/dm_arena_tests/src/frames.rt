@@ -1,8 +1,8 @@
-//! Lists of blocks that go through the frame, upper memory, ROM or nothing, worked by hand.
+//! Block lists through the frame, upper memory, ROM or addresses without memory, worked out by hand.
 //!
-//! Windows are written as the pages that they show, 1 to 4, or 0 for none. A list is written as the owner
+//! Windows are given as the pages that they show, 1 to 4, or 0 for none. A list is given as the owner
 //! and the size of each block from 0100h on: with a first block of h - 101h paragraphs the second
-//! header stands at h.
+//! header is at h.
 
 use crate::blocks::Call::{self, Allocate, Free, FreeAll, Pair, Resize};
 use crate::blocks::{answer, spell, spells};
@@ -16,7 +16,7 @@ use std::alloc::Global;
 use std::process::Abort;
 use std::test::Fail;
 
-/// The page of a number.
+/// The page with a number.
 fn page_of(pages: &[Option<Block>; 4], number: usize) -> Option<Block> {
     match number {
         1 => pages[0],
@@ -27,7 +27,7 @@ fn page_of(pages: &[Option<Block>; 4], number: usize) -> Option<Block> {
     }
 }
 
-/// Lets a window show a page.
+/// Maps a page in a window.
 fn show(space: &mut Space, window: usize, page: Option<Block>) {
     let Some(page) = page else {
         return;
@@ -39,7 +39,7 @@ fn show(space: &mut Space, window: usize, page: Option<Block>) {
     }
 }
 
-/// A memory whose windows show those pages and that spells a list.
+/// A memory with a list, whose windows show those pages.
 fn framed(
     alloc: Global,
     a20: bool,
@@ -68,7 +68,7 @@ fn is_paragraph(rt: &impl Abort, call: Call, segment: u16, space: &Space, wanted
     }
 }
 
-/// Compares the headers' bytes, and one more, of each paragraph of the first 2 KiB that a list has,
+/// Compares bytes 0 to 5 of each paragraph of the first 2 KiB from the list's start on,
 /// and of the frame.
 fn is_memory(rt: &impl Abort, call: Call, space: &Space, wanted: &Space) {
     for segment in 0x100..0x180 {
@@ -81,7 +81,7 @@ fn is_memory(rt: &impl Abort, call: Call, space: &Space, wanted: &Space) {
 
 type Windows = [usize; 4];
 
-/// Makes a call, whatever A20 is, and compares what it returns and leaves.
+/// Makes a call with A20 off and on, and compares its result and the list after it.
 fn leaves(
     rt: &impl Abort,
     alloc: Global,
@@ -107,7 +107,7 @@ fn leaves(
     Ok(())
 }
 
-/// The same of a call that is served, whose list stands there after it.
+/// The same for a call that succeeds, with the list after it.
 fn serves(
     rt: &impl Abort,
     alloc: Global,
@@ -144,7 +144,7 @@ fn headers_may_stand_in_the_frame(rt: HostRuntime) -> Result<(), Fail> {
         Strategy::everywhere(Fit::First),
         Strategy::everywhere(Fit::Last),
     ];
-    // E000h and E410h, of one page at other offsets
+    // E000h and E410h, different offsets in one page
     let apart = [(7, 0xDEFF), (7, 0x40F), (0, 0xBEF)];
     let owners = [(7, 0xDEFF), (7, 0x3FF), (9, 0x3FF), (7, 0x7FE)];
     let rows: [Row; 11] = [
@@ -237,7 +237,7 @@ fn headers_may_stand_in_the_frame(rt: HostRuntime) -> Result<(), Fail> {
 fn headers_that_go_have_no_place(rt: HostRuntime) -> Result<(), Fail> {
     let first = Strategy::everywhere(Fit::First);
     let rows: [Row; 3] = [
-        // the new header at E411h takes the place of E011h, which is joined or taken in
+        // the new header at E411h takes the place of E011h, which is joined or absorbed
         (
             ONE,
             &[(7, 0xDEFF), (0, 0x10), (0, 0xFEE)],
@@ -352,7 +352,7 @@ fn headers_may_stand_at_the_ends_of_memory(rt: HostRuntime) -> Result<(), Fail> 
             after,
         )?;
     }
-    // where the second header stands and the list ends: at FFFEh or FFFFh
+    // where the second header is and the list ends: at FFFEh or FFFFh
     for (windows, size, rest) in [
         (NONE, 0xBEFE, 0x3FFE),
         (NONE, 0xBEFE, 0x3FFF),
@@ -377,7 +377,7 @@ fn new_headers_need_a_place_of_their_own(rt: HostRuntime) -> Result<(), Fail> {
     let low = [(7, 1), (7, 0xFFD), (0, 0xEEFE)];
     let frame = [(7, 0xDEFF), (0, 0xFFF)];
     let rows: [(Windows, &[(u16, u16)], Call); 17] = [
-        // at E400h, which is E000h's place or no memory
+        // at E400h, which is the place of E000h or has no memory
         (
             ONE,
             &[(0x103, 1), (0x103, 0xDEFD), (0, 0xFFF)],
@@ -398,7 +398,7 @@ fn new_headers_need_a_place_of_their_own(rt: HostRuntime) -> Result<(), Fail> {
         (NONE, &low, Allocate(first, 0xDEFF)),
         (NONE, &low, Allocate(first, 0xEEFD)),
         (NONE, &low, Allocate(last, 0x3FFE)),
-        // the first block's, the second block's, one on the other's place
+        // the first block's, the second block's, one at the other's place
         (ONE, &frame, Pair(first, 0x3FF, 0, 0x10)),
         (ONE, &frame, Pair(first, 1, 0x3FD, 0x3FD)),
         (
@@ -406,13 +406,13 @@ fn new_headers_need_a_place_of_their_own(rt: HostRuntime) -> Result<(), Fail> {
             &[(7, 0xDEFE), (0, 0x1000)],
             Pair(first, 0x10, 0x3FF, 0x3FF),
         ),
-        // on the place of E011h, a free block after another one, which stay apart
+        // at the place of E011h, a free block after another one, which are not joined
         (
             [1, 2, 1, 3],
             &[(9, 0xDEFF), (0, 0x10), (0, 0x3EE), (7, 0x7FF), (9, 1)],
             Resize(0xE401, 0x410),
         ),
-        // at E010h, on the place of E810h after it
+        // at E010h, the place of E810h after it
         (
             [1, 2, 1, 3],
             &[(9, 0xDEFF), (7, 0x80F), (9, 1)],
@@ -434,7 +434,7 @@ fn new_headers_need_a_place_of_their_own(rt: HostRuntime) -> Result<(), Fail> {
 #[test]
 fn lists_that_are_not_clear(rt: HostRuntime) -> Result<(), Fail> {
     let rows: [(Windows, &[(u16, u16)]); 11] = [
-        // E000h and E400h, E000h and E800h, E400h and E800h have one place, and so the same bytes
+        // E000h and E400h, E000h and E800h, E400h and E800h are one place, and so have the same bytes
         (
             [1, 1, 2, 3],
             &[(7, 0xDEFF), (7, 0x3FF), (7, 0x3FF), (0, 0x7FE)],
@@ -447,7 +447,7 @@ fn lists_that_are_not_clear(rt: HostRuntime) -> Result<(), Fail> {
         ([1, 2, 3, 1], &[(7, 0xDEFF), (7, 0xBFF), (7, 0xBFF), (0, 1)]),
         // no page at E000h
         ([0, 1, 2, 3], &[(7, 0xDEFF), (0, 1)]),
-        // no header can stand at C000h, CFFFh, F000h, FFFFh
+        // no header can be at C000h, CFFFh, F000h, FFFFh
         ([1, 2, 3, 4], &[(7, 0xBEFF), (0, 1)]),
         ([1, 2, 3, 4], &[(7, 0xCEFE), (0, 1)]),
         ([1, 2, 3, 4], &[(7, 0xEEFF), (0, 1)]),
@@ -541,7 +541,7 @@ fn walks_go_through_the_frame(rt: HostRuntime) -> Result<(), Fail> {
     Ok(())
 }
 
-/// Writes headers of size 0 from one segment up to another, the last of so many paragraphs.
+/// Writes headers of size 0 from one segment up to another, the last of this many paragraphs.
 fn fill(space: &mut Space, from: u16, to: u16, owner: u16, size: u16) {
     for segment in from..to {
         space.poke(segment, 0, b'M');
@@ -570,7 +570,7 @@ fn longest_lists_are_looked_through(rt: HostRuntime) -> Result<(), Fail> {
         false,
     );
     same(&rt, "answer", found, Ok(0xF000));
-    // window 3 on window 0's page: EC00h is E000h's place
+    // window 3 shows the page of window 0: EC00h is the place of E000h
     let [first, _, _, _] = space.windows();
     show(&mut space, 3, first);
     let found = allocate(&mut space, Strategy::everywhere(Fit::First), 0, 7, false);

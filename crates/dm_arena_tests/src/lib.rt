@@ -1,6 +1,6 @@
 //! Worked rows of the arena: lists of blocks before and after a call.
 //!
-//! They stand apart from the crate that they try, since a crate with tests is proved twice.
+//! They are apart from the crate that they test, because a crate with tests is proved twice.
 #![tactic(auto)]
 
 #[cfg(test)]

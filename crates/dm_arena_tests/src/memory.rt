@@ -4,7 +4,7 @@ use dm_pool::{NewError, Sizes, Store};
 use dm_space::Space;
 use std::alloc::Global;
 
-/// A memory as a machine finds it, over a pool of four pages and 16 KiB.
+/// A memory as it is in a new machine, with a pool of four pages and 16 KiB.
 pub(crate) fn new_space(alloc: Global) -> Result<Space, NewError> {
     let sizes = Sizes {
         ems_pages: 4,

@@ -1,9 +1,9 @@
-//! The arena with upper memory, worked by hand: two lists that are linked or not, the strategies that
-//! look at upper memory, and endings in both lists.
+//! The arena with upper memory, worked out by hand: two lists that are linked or not, the strategies that
+//! use upper memory, and endings in both lists.
 //!
 //! A program with its prefix at 0103h has all of conventional memory: its environment's header
-//! stands at 0100h, its own at 0102h. The link block's header stands at 9FFFh, and after it at D000h
-//! that of the free block of upper memory.
+//! is at 0100h, its own at 0102h. The link block's header is at 9FFFh, and after it at D000h
+//! is that of the free block of upper memory.
 
 use self::Act::{Allocates, Frees, FreesAll, Links, Pairs, Resizes, Stands, Tells, Writes};
 use crate::checks::same;
@@ -18,7 +18,7 @@ use std::alloc::Global;
 use std::process::Abort;
 use std::test::Fail;
 
-/// A call with what it returns, or a header.
+/// A call with its result, or a header.
 #[derive(Clone, Copy, Debug, PartialEq, Eq)]
 enum Act {
     /// Whether the lists are linked.
@@ -33,7 +33,7 @@ enum Act {
     FreesAll(u16, Result<(), ArenaRefusal>),
     /// The header at a segment has this signature, owner and size.
     Stands(u16, u8, u16, u16),
-    /// Such a header is written.
+    /// A header with this signature, owner and size is written.
     Writes(u16, u8, u16, u16),
 }
 
@@ -67,7 +67,7 @@ fn write(space: &mut Space, segment: u16, signature: u8, owner: u16, size: u16) 
     space.poke16(segment, 3, size);
 }
 
-/// Plans and writes two blocks; where they are.
+/// Plans and writes two blocks. It returns where they are.
 fn pair(
     space: &mut Space,
     strategy: Strategy,
@@ -80,7 +80,7 @@ fn pair(
     Ok(placed)
 }
 
-/// Makes the call of an act; the act with its result.
+/// Makes the call of an act. It returns the act with its result.
 fn done(space: &mut Space, act: Act) -> Act {
     match act {
         Tells(_) => Tells(linked(space)),
@@ -103,7 +103,7 @@ fn done(space: &mut Space, act: Act) -> Act {
     }
 }
 
-/// Does the acts in turn, over a memory with the program's blocks and upper memory.
+/// Does the acts in turn, in a memory with the program's blocks and upper memory.
 fn play(rt: &impl Abort, space: &mut Space, acts: &[Act]) {
     write(space, 0x100, b'M', 0x103, 1);
     write(space, 0x102, b'Z', 0x103, 0x9EFC);
@@ -134,7 +134,7 @@ fn upper_memory_is_linked_and_parted(rt: HostRuntime) -> Result<(), Fail> {
         // the link block is neither freed nor resized
         Frees(0xA000, Err(NONE)),
         Resizes(0xA000, 0x10, Err(NONE)),
-        // parted, a block of upper memory is none of the list's; an ending frees it
+        // unlinked, a block of upper memory is not in the list; an ending frees it
         Links(false, OK),
         Stands(0x102, b'Z', 0x103, 0x9EFC),
         Frees(0xD001, Err(NONE)),
@@ -271,7 +271,7 @@ fn broken_upper_memory_destroys_what_it_is_linked_with(rt: HostRuntime) -> Resul
         Stands(0x100, b'M', 0x103, 1),
     ];
     play(&rt, &mut space, &acts);
-    // parted, it is an ending alone that needs it, and the link
+    // unlinked, only an ending needs it, and linking
     let mut space = new_space(rt.alloc())?;
     let acts = [
         Writes(0xD000, b'z', 0, 0xFFF),
@@ -281,7 +281,7 @@ fn broken_upper_memory_destroys_what_it_is_linked_with(rt: HostRuntime) -> Resul
         FreesAll(0x103, Err(BROKEN)),
         Stands(0x100, b'M', 0x103, 1),
         Resizes(0x103, 0x1000, OK),
-        // now the last block ends elsewhere
+        // the last block does not end at the link block's header
         Writes(0xD000, b'Z', 0, 0xFFF),
         Writes(0x1103, b'Z', 0, 0x8EF0),
         Links(true, Err(BROKEN)),
@@ -303,7 +303,7 @@ fn lists_have_no_header_together(rt: HostRuntime) -> Result<(), Fail> {
         FreesAll(0x103, Err(BROKEN)),
         Stands(0x100, b'M', 0x103, 1),
         Links(true, Err(BROKEN)),
-        // and to one of its own
+        // and to a header of its own
         Writes(0x102, b'M', 0x103, 0xCF0D),
         Writes(0xD010, b'Z', 0x103, 0x10),
         FreesAll(0x103, OK),
@@ -314,7 +314,7 @@ fn lists_have_no_header_together(rt: HostRuntime) -> Result<(), Fail> {
     Ok(())
 }
 
-/// Lets a window show a page.
+/// Maps a page in a window.
 fn show(space: &mut Space, window: usize, page: Option<Block>) {
     let Some(page) = page else {
         return;
@@ -344,7 +344,7 @@ fn second_list_needs_places_of_its_own(rt: HostRuntime) -> Result<(), Fail> {
         let answer = if aliased { Err(BROKEN) } else { OK };
         let mut space = framed(rt.alloc(), aliased)?;
         let acts = [
-            // headers at E000h and E400h, which are one where both windows show one page
+            // headers at E000h and E400h, which are one if both windows show one page
             Writes(0x9FFF, b'M', 8, 0x4000),
             Writes(0xE000, b'M', 9, 0x3FF),
             Writes(0xE400, b'M', 9, 0x3FF),

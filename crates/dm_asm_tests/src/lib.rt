@@ -1,6 +1,6 @@
 //! Worked rows of programs in assembly and their bytes.
 //!
-//! They stand apart from the crates that they try, since a crate with tests is proved twice.
+//! They are apart from the crates that they test, because a crate with tests is proved twice.
 #![tactic(auto)]
 
 #[cfg(test)]

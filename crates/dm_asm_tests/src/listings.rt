@@ -1,6 +1,6 @@
 //! Bytes and their lines, and the way back.
 //!
-//! A row is bytes and their lines, as `8B C3| DB 08Bh,0C3h ; MOV AX,BX`; after each line stands `/`.
+//! A row is bytes and their lines, as `8B C3| DB 08Bh,0C3h ; MOV AX,BX`; `/` follows each line.
 
 use crate::checks::same;
 use crate::rows::{part, put_bytes};
@@ -9,7 +9,7 @@ use std::alloc::Global;
 use std::process::Abort;
 use std::test::Fail;
 
-/// Programs, an instruction that the end cuts, and one with five prefixes.
+/// Programs, an instruction cut off by the end, and one with five prefixes.
 const LISTINGS: &str = "\
 |
 B4 09 BA 0C 01 CD 21 B8 00 4C CD 21 68 69 24| MOV AH,009h/MOV DX,0010Ch/INT 021h/MOV AX,04C00h/INT 021h/DB 068h/DB 069h/DB 024h/

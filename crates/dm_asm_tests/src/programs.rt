@@ -1,11 +1,11 @@
-//! Programs and their bytes, by the manual (Intel 8086 Family User's Manual, section 2.9 and section 4), written by
-//! hand; and texts that are refused: each kind of refusal, and each bound with one past it. How a row is read stands in
+//! Programs and their bytes from the manual (Intel 8086 Family User's Manual, section 2.9 and section 4), written by
+//! hand; and texts with errors: each kind of error, and each bound with one past it. How a row is read is in
 //! `rows`.
 
 use crate::rows::check;
 use std::test::Fail;
 
-/// Texts that have bytes.
+/// Texts without errors.
 const PROGRAMS: &str = "\
 | 
 /| 
@@ -44,7 +44,7 @@ a:/b:/DW a,b/c: DW c| 00 01 00 01 04 01
 REP MOVSB| F3 A4
 ES LOCK REP MOVSB| 26 F0 F3 A4";
 
-/// Texts at a bound, and one past it; texts with more than one thing wrong.
+/// Texts at a bound, and one past it; texts with several errors.
 const BOUNDS: &str = "\
 @| line 1: syntax
 NOP/@| line 2: syntax

@@ -1,11 +1,11 @@
-//! Rows of texts and their answers, and how they are read.
+//! Rows of texts and their results, and how they are read.
 //!
-//! A row is a text and its answer, as
+//! A row is a text and its result, as
 //!
 //!     JZ x/*127 NOP/x: | 74 7F 90 90 90 90 90 90 .. 129
 //!
-//! In a text `/` is a line end (0Ah) and `<` a 0Dh; a line that begins with `*` and a number stands there as often. An
-//! answer is the refusal's text, or the bytes: eight of them at most, then how many there are.
+//! In a text `/` is a line end (0Ah) and `<` a 0Dh; a line that begins with `*` and a number is repeated that often. A
+//! result is the error's text, or the bytes: at most eight of them, then their number.
 
 use crate::checks::same;
 use dm_asm::{AssemblyRefusal, assemble};
@@ -13,12 +13,12 @@ use std::alloc::Global;
 use std::process::Abort;
 use std::test::Fail;
 
-/// A part of a row: 0 what stands before the first `|`, 1 what stands after it.
+/// A part of a row: 0 is the text before the first `|`, 1 the text after it.
 pub(crate) fn part(row: &str, number: usize) -> Result<&str, Fail> {
     Ok(row.split('|').nth(number).ok_or("a part is missing")?)
 }
 
-/// Puts the bytes that are written in hexadecimal.
+/// Appends bytes given in hexadecimal.
 pub(crate) fn put_bytes(bytes: &mut Vec<u8>, written: &str) -> Result<(), Fail> {
     for byte in written.split_whitespace() {
         bytes.push(u8::from_str_radix(byte, 16)?)?;
@@ -26,7 +26,7 @@ pub(crate) fn put_bytes(bytes: &mut Vec<u8>, written: &str) -> Result<(), Fail> 
     Ok(())
 }
 
-/// Puts a line, with 0Dh for each `<`.
+/// Appends a line, with 0Dh for each `<`.
 fn put_line(text: &mut String, line: &str) -> Result<(), Fail> {
     for letter in line.chars() {
         text.push(if letter == '<' { '\r' } else { letter })?;
@@ -34,7 +34,7 @@ fn put_line(text: &mut String, line: &str) -> Result<(), Fail> {
     Ok(())
 }
 
-/// Puts what one part of a text between two `/` stands for.
+/// Appends what one part of a text between two `/` stands for.
 fn put_lines(text: &mut String, written: &str) -> Result<(), Fail> {
     let Some(repeated) = written.strip_prefix("*") else {
         return put_line(text, written);
@@ -49,7 +49,7 @@ fn put_lines(text: &mut String, written: &str) -> Result<(), Fail> {
     Ok(())
 }
 
-/// The text that a row writes.
+/// The text that a row stands for.
 fn text_of(alloc: Global, written: &str) -> Result<String, Fail> {
     let mut text = String::new(alloc);
     for (at, line) in written.split('/').enumerate() {
@@ -61,7 +61,7 @@ fn text_of(alloc: Global, written: &str) -> Result<String, Fail> {
     Ok(text)
 }
 
-/// Bytes as an answer shows them.
+/// Bytes as a result shows them.
 pub(crate) fn shown(alloc: Global, bytes: &[u8]) -> Result<String, Fail> {
     let mut text = String::new(alloc);
     for (at, byte) in bytes.iter().enumerate() {

@@ -1,6 +1,6 @@
-//! Each row of the instruction table once: its text as a listing shows it, and its preferred bytes, by the manual
+//! Each row of the instruction table once: its text as a listing shows it, and its preferred bytes, from the manual
 //! (Intel 8086 Family User's Manual, section 4, tables 4-13 and 4-14), written by hand. Together they are one program,
-//! which is assembled to its bytes and listed as its text again.
+//! which is assembled to its bytes and disassembled to its text again.
 //!
 //! A row is a text and its bytes, as `MOV AX,CX| 89 C8`.
 
@@ -11,7 +11,7 @@ use std::alloc::Global;
 use std::process::Abort;
 use std::test::Fail;
 
-/// Jumps and calls. All lead to offset 0100h, where the first stands.
+/// Jumps and calls. All lead to offset 0100h, where the first one is.
 const TRANSFERS: &str = "\
 JO 00100h| 70 FE
 JNO 00100h| 71 FC
@@ -102,7 +102,7 @@ CMP AX,[BX]| 3B 07
 CMP AL,00Fh| 3C 0F
 CMP AX,01234h| 3D 34 12";
 
-/// With a value. (82h is 80h again, and so no instruction's preferred byte.)
+/// With a value. (82h is the same as 80h, and so is never a preferred byte.)
 const VALUES: &str = "\
 ADD BYTE [BX],005h| 80 07 05
 ADD WORD [BX],01234h| 81 07 34 12
@@ -346,14 +346,14 @@ const TABLE: [&str; 7] = [
     TRANSFERS, ARITHMETIC, VALUES, SINGLES, MOVES, GROUPS, OTHERS,
 ];
 
-/// Puts the text of a row's instruction as a line, and its bytes.
+/// Appends the text of a row's instruction as a line, and its bytes.
 fn put_row(text: &mut String, bytes: &mut Vec<u8>, row: &str) -> Result<(), Fail> {
     text.push_str(part(row, 0)?)?;
     text.push('\n')?;
     put_bytes(bytes, part(row, 1)?)
 }
 
-/// Puts the texts and the bytes of rows.
+/// Appends the texts and the bytes of rows.
 fn put_rows(text: &mut String, bytes: &mut Vec<u8>, rows: &str) -> Result<(), Fail> {
     for row in rows.split('\n') {
         put_row(text, bytes, row)?;
@@ -361,7 +361,7 @@ fn put_rows(text: &mut String, bytes: &mut Vec<u8>, rows: &str) -> Result<(), Fa
     Ok(())
 }
 
-/// Assembles the text to the bytes, and lists these as the text.
+/// Assembles the text to the bytes, and disassembles these to the text.
 fn check_program(rt: &impl Abort, alloc: Global, text: &str, bytes: &[u8]) -> Result<(), Fail> {
     if 65278 < bytes.len() {
         return Err(Fail::from("too many bytes"));

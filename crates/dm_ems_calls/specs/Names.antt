@@ -16,7 +16,7 @@ get_name c = after_call c (rows.get_name c.x c.cpu.dx c.cpu.es c.cpu.di) (λ don
 unfoldable pub set_name : Caller → Caller
 set_name c = after_call c (rows.set_name c.x c.cpu.dx c.cpu.ds c.cpu.si) (λ done. c.cpu)
 
--- 53h: AL selects whether a name is read (0) or set (1)
+-- 53h: by AL, the name of the handle in DX is written at ES:DI (0) or set from DS:SI (1)
 unfoldable pub handle_name : Caller → Caller
 handle_name c =
     if byte_of c.cpu Al == 0 then get_name c else

@@ -1,5 +1,5 @@
--- Laws of these calls: tables and memory stay consistent, what is outside of expanded memory is kept, and a handle
--- gets all the pages that it asks for.
+-- Laws of 51h, 50h, 4Eh and 57h (reallocation, maps, moves): tables and memory stay consistent, what is outside of
+-- expanded memory is kept, and a handle gets all the pages that it asks for.
 use Rattle.std.specs.Prelude.{ℕ, ◌≡◌, None, Ok}
 use Rattle.dm_ems.specs.Tables.{Expanded}
 use Rattle.dm_ems.specs.Consistent.{IsConsistent, HasNumbers}
@@ -12,7 +12,7 @@ use Rattle.dm_ems_move.specs.Many.{map_many}
 use Rattle.dm_ems_move.specs.Maps.{whole_map}
 use Rattle.dm_ems_move.specs.RegionMoves.{move_region, exchange_region}
 
--- each of these calls leaves tables and memory consistent
+-- tables and memory that are consistent before a call are so after it: 51h, 50h, 4Eh, and 57h that moves or exchanges
 pub record MovesKeepConsistency : Type 0 where
   pub reallocating : (x : Expanded) (handle n : ℕ) → IsConsistent x → IsConsistent (left x (reallocate x handle n))
   pub mapping : (x : Expanded) (mode handle count segment offset : ℕ) → IsConsistent x → IsConsistent (left x (map_many x mode handle count segment offset))

@@ -1,5 +1,5 @@
 //! Lines and their statements: forms from the manual (Intel 8086 Family User's Manual, section 2.7 to section 2.9),
-//! written by hand. How a row is read stands in `rows`.
+//! written by hand. `rows` says how a row is read.
 
 use crate::rows::{Reader, check};
 use std::test::Fail;
@@ -74,7 +74,7 @@ INT 5b| none
 INT 5bh| INT 91
 MOV AX,1010b| none";
 
-/// Labels: 31 letters at most, and no reserved word in either case.
+/// Labels: at most 31 letters, and not a reserved word in either case.
 const LABELS: &str = "\
 a234567890123456789012345678901:| A234567890123456789012345678901: nothing
 a2345678901234567890123456789012:| none
@@ -421,7 +421,7 @@ fn data_are_numbers_texts_and_labels(rt: HostRuntime) -> Result<(), Fail> {
     check(&rt, rt.alloc(), DATA)
 }
 
-/// 255 bytes and one more, of which some are a comment.
+/// 255 bytes and one more, some of them a comment.
 /// Definitions: dm_lines Statements line_of statement_of item_of
 #[test]
 fn lines_have_255_bytes(rt: HostRuntime) -> Result<(), Fail> {
@@ -434,7 +434,7 @@ fn lines_have_255_bytes(rt: HostRuntime) -> Result<(), Fail> {
     reader.check_line(&rt, rt.alloc(), "256 bytes", line.as_slice(), "none")
 }
 
-/// A comment and a quoted text hold any byte; outside them only some can stand.
+/// A comment and a quoted text hold any byte; outside them only some bytes are allowed.
 /// Definitions: dm_lines Tokens tokens_of lexed closed marked inside_quotes
 #[test]
 fn comments_and_texts_hold_any_byte(rt: HostRuntime) -> Result<(), Fail> {

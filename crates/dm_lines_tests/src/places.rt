@@ -1,9 +1,9 @@
-//! What is written where an operand stands, by the manual (Intel 8086 Family User's Manual, section 2.9), worked out by
+//! The values written for an operand, from the manual (Intel 8086 Family User's Manual, section 2.9), worked out by
 //! hand.
 //!
-//! A row is a line, then the label's place and the next instruction's, then what is written for the first operand and,
-//! after a comma, for the second: a number as a byte, as a word and as a distance, `one` where it is 1. The last part
-//! is the second operand's outline, before any label has a place.
+//! A row is a line, then the label's address and the next instruction's, then the values for the first operand and,
+//! after a comma, for the second: a number as a byte, as a word and as a distance, `one` if it is 1. The last part
+//! is the second operand's outline, before any label has an address.
 
 use crate::checks::same;
 use crate::rows::{Reader, part, put_written};
@@ -38,7 +38,7 @@ JMP 5| 0 10| 5 5 65531,|
 JMP FAR 1:2| 0 0| 1:2,|
 RET| 0 0| ,|";
 
-/// A number of a part of a row.
+/// A number in a part of a row.
 fn number(part: &str, place: usize) -> Result<u16, Fail> {
     Ok(
         part.split_whitespace()

@@ -5,7 +5,7 @@
 //!     x: MOV AL,[BX+5] | X: MOV Al [Absent OnBx 5]
 //!
 //! A statement is its label, then prefixes, mnemonic and operands; or DB or DW and the items of data; or `nothing`.
-//! Numbers are decimal; a label has after it what is added to it. An operand in memory is the word before it, its
+//! Numbers are decimal; what is added to a label follows it. An operand in memory is the word before it, its
 //! registers and its value.
 
 use crate::checks::same;
@@ -18,7 +18,7 @@ use std::alloc::Global;
 use std::process::Abort;
 use std::test::Fail;
 
-/// A part of a row: 0 what stands before the first `|`, 1 what stands after it.
+/// A part of a row: 0 is the text before the first `|`, 1 the text after it.
 pub(crate) fn part(row: &str, number: usize) -> Result<&str, Fail> {
     Ok(row.split('|').nth(number).ok_or("a part is missing")?)
 }
@@ -135,7 +135,7 @@ fn shown(alloc: Global, statement: &Option<Statement>, items: &Items) -> Result<
     Ok(text)
 }
 
-/// What lines are read into: each row meets what the rows before it left.
+/// What lines are read into: each row finds what the rows before it left.
 #[derive(Drop)]
 pub(crate) struct Reader {
     tokens: Tokens,
@@ -155,7 +155,7 @@ impl Reader {
         read_line(line, &mut self.tokens, &mut self.items)
     }
 
-    /// Tries a line.
+    /// Tests a line.
     pub(crate) fn check_line(
         &mut self,
         rt: &impl Abort,
@@ -171,7 +171,7 @@ impl Reader {
     }
 }
 
-/// Tries each row of a text.
+/// Tests each row of a text.
 pub(crate) fn check(rt: &impl Abort, alloc: Global, rows: &str) -> Result<(), Fail> {
     let mut reader = Reader::new();
     for row in rows.lines() {
@@ -205,7 +205,7 @@ fn put_numeral(text: &mut String, numeral: &Numeral) -> Result<(), Fail> {
     Ok(())
 }
 
-/// Puts what is written where an operand stands: a number as a byte, as a word and as a distance, and whether it is 1.
+/// Appends the values written for an operand: a number as a byte, as a word and as a distance, and whether it is 1.
 pub(crate) fn put_written(text: &mut String, written: Option<Written>) -> Result<(), Fail> {
     match written {
         None => text.push_str(" none")?,

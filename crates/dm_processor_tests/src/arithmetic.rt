@@ -1,4 +1,4 @@
-//! Worked rows, and checksums over whole tables of values, whose expected numbers come from elsewhere.
+//! Worked rows, and checksums over whole tables of values, whose expected numbers come from other programs.
 use crate::checks::same;
 use dm_alu::{
     Adjustment, Division, Flags, LogicOperation, ShiftOperation, Sign, Width, add, adjust, div,
@@ -245,7 +245,7 @@ fn adjusted_accumulators(rt: HostRuntime) {
     }
 }
 
-/// The checksum with one more result; its modulus is the largest prime below 2^32.
+/// The checksum after one more result; its modulus is the largest prime below 2^32.
 fn folded(checksum: u32, value: u16, word: u16) -> u32 {
     let item = u64::from(value) * 0x1_0000 + u64::from(word);
     ((u64::from(checksum) * 31 + item) % 0xFFFF_FFFB) as u32
@@ -279,7 +279,7 @@ fn checksum_of_differences(borrow: bool) -> u32 {
 
 // The expected numbers of the next four tests were made by a C program that executed the processor's own instructions
 // (ADD, ADC, SUB, SBB, the shifts and rotates by CL, MUL, IMUL, DIV, IDIV) on the same values, on an x86-64 processor,
-// and read its flags after each; undefined flags were taken as clear, and IDIV's -128 as refused.
+// and read its flags after each; undefined flags were taken as clear, and IDIV's -128 as out of range.
 
 /// Definitions: dm_alu Width leaves_range; dm_alu Flags after_result even_parity
 /// Definitions: dm_alu Sums sum_value flags_after_sum sum_overflows difference_value flags_after_difference
@@ -426,8 +426,8 @@ fn checksum_of_adjustments(adjustment: Adjustment) -> u32 {
     checksum
 }
 
-// The expected numbers were made by a Python script, digit by digit from the manual's wording. An x86 processor of
-// today in its 32-bit mode gave the same for DAA, AAM and AAD, and for the others too where it does as the 8086 did:
+// The expected numbers were made by a Python script, digit by digit from the manual's wording. A present-day x86
+// processor in 32-bit mode gave the same for DAA, AAM and AAD, and for the others where it agrees with the 8086:
 // without AL over F9h in AAA, under 6 in AAS, and under 6 with adjust set and carry clear in DAS.
 /// Definitions: dm_alu Adjustments adjusted_value word_of_halves low_digit_off high_digit_off decimal_change
 /// Definitions: dm_alu Adjustments flags_after_adjustment after_ascii after_decimal after_accumulator

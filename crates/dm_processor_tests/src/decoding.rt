@@ -1,4 +1,4 @@
-//! Bytes and the instructions that they begin with, from the manual.
+//! Bytes and the instructions at their start, from the manual.
 
 use crate::operands::memory;
 use dm_decode::decode;
@@ -86,8 +86,8 @@ static LAST: [Option<Mnemonic>; 8] = [
     None,
 ];
 
-/// What the manual lists under a first byte and a reg field: the mnemonic, how many bytes there are
-/// beside the displacement, and whether there is a mod r/m byte.
+/// What the manual lists for a first byte and a reg field: the mnemonic, the number of bytes
+/// without the displacement, and whether there is a mod r/m byte.
 type Listed = Option<(Mnemonic, u8, bool)>;
 
 fn listed_below_80(first: u8) -> Listed {

@@ -1,6 +1,6 @@
 //! Effects at the edges of a range: the largest quotients, shifts by a count of 1 in CL, stacks that wrap.
-//! Rows worked out by hand from the manual (Intel 8086 Family User's Manual, section 2.7). How a row is
-//! read stands in `rows`, what the flags' word holds in `effects`.
+//! Rows worked out by hand from the manual (Intel 8086 Family User's Manual, section 2.7). `rows` says
+//! how a row is read, `effects` what the flags word holds.
 
 use crate::rows::check;
 use std::test::Fail;
@@ -16,7 +16,7 @@ IDIV BX | F7 FB | AX=FFFF DX=0000 BX=0002                      | AX=7FFF DX=0001
 IDIV BX | F7 FB | AX=8000 DX=0000 BX=0001 0000:0000=5678 0000:0002=9ABC | SP=00FA 3000:00FE=F002 3000:00FC=0103 3000:00FA=0102 CS=9ABC IP=5678
 IDIV BX | F7 FB | AX=0000 DX=0001 BX=0002 0000:0000=5678 0000:0002=9ABC | SP=00FA 3000:00FE=F002 3000:00FC=0103 3000:00FA=0102 CS=9ABC IP=5678";
 
-/// Shifts and rotates by CL, which is 1: OF is set as by the forms with 1.
+/// Shifts and rotates by CL = 1: OF is set as by the forms with 1.
 const COUNT_OF_1: &str = "\
 ROL AL,CL | D2 C0 | AX=1140 CX=3301 FL=F7D7 | AX=1180 FL=FFD6
 ROR AX,CL | D3 C8 | AX=0001 CX=3301         | AX=8000 FL=F803
@@ -27,7 +27,7 @@ SHL AL,CL | D2 E0 | AX=11C0 CX=3301 FL=FFD7 | AX=1180 FL=F793
 SHR AX,CL | D3 E8 | AX=8001 CX=3301         | AX=4000 FL=F807
 SAR AL,CL | D2 F8 | AX=1181 CX=3301 FL=F802 | AX=11C0 FL=F087";
 
-/// INT, CALL FAR and RETF where the stack goes over the end of its segment, also within a word.
+/// INT, CALL FAR and RETF with a stack that crosses the end of its segment, also within a word.
 const STACKS: &str = "\
 INT 21             | CD 21          | SP=0000 0000:0084=5678 0000:0086=9ABC | SP=FFFA 3000:FFFE=F002 3000:FFFC=0103 3000:FFFA=0102 CS=9ABC IP=5678
 INT 21             | CD 21          | SP=0001 0000:0084=5678 0000:0086=9ABC | SP=FFFB 3000:FFFF=02 3000:0000=F0 3000:FFFD=0103 3000:FFFB=0102 CS=9ABC IP=5678

@@ -1,8 +1,8 @@
 //! Effects of single instructions: rows worked out by hand from the manual (Intel 8086 Family User's
-//! Manual, section 2.7). How a row is read stands in `rows`.
+//! Manual, section 2.7). `rows` says how a row is read.
 //!
-//! In the flags' word carry is 0001h, parity 0004h, adjust 0010h, zero 0040h, sign 0080h, trap
-//! 0100h, interrupt 0200h, direction 0400h and overflow 0800h; F002h is none and FFD7h all of them.
+//! In the flags word carry is 0001h, parity 0004h, adjust 0010h, zero 0040h, sign 0080h, trap
+//! 0100h, interrupt 0200h, direction 0400h and overflow 0800h; F002h has none of them, FFD7h all.
 
 use crate::checks::same;
 use crate::rows::{check, note};
@@ -62,7 +62,7 @@ MOV [1000],AX        | A3 00 10          | 2000:1000=FFFF | 2000:1000=1122
 MOV BYTE [1000],5A   | C6 06 00 10 5A    | 2000:1000=FFFF | 2000:1000=5A
 MOV WORD [1000],1234 | C7 06 00 10 34 12 | FL=FFD7        | 2000:1000=1234";
 
-/// The sums of the r/m field, with DS, or SS where BP is in them, or an override; LEA. Sums wrap.
+/// The sums of the r/m field, with DS, or SS for sums with BP, or an override; LEA. Sums wrap.
 const ADDRESSES: &str = "\
 # The sums of the r/m field, with DS, or SS where BP is in them; sums wrap.
 MOV AL,[BX+SI+5] | 8A 40 05    | 2000:7A8D=5A                 | AX=115A
@@ -96,7 +96,7 @@ LEA BX,[BP+5]    | 8D 5E 05    |                              | BX=0205
 LEA AX,[1234]    | 8D 06 34 12 |                              | AX=1234
 LEA AX,ES:[BX]   | 26 8D 07    | 4000:7788=1234               | AX=7788";
 
-/// A word at offset FFFFh ends at offset 0, not in the next segment; one at BFFFFh ends where nothing is.
+/// A word at offset FFFFh ends at offset 0, not in the next segment; one at BFFFFh ends where there is no memory.
 const WORDS: &str = "\
 # A word at offset FFFF ends at offset 0, not in the next segment; one at BFFFF ends where nothing is.
 MOV AX,[FFFF] | A1 FF FF    | 2000:FFFF=12 2000:0000=34 3000:0000=56       | AX=3412
@@ -151,7 +151,7 @@ IN AX,60       | E5 60    | AX=1234                       | AX=FFFF
 IN AL,DX       | EC       |                               | AX=11FF
 IN AX,DX       | ED       |                               | AX=FFFF";
 
-/// OUT, WAIT, ESC, LOCK, HLT, and repeat prefixes before other instructions than string ones.
+/// OUT, WAIT, ESC, LOCK, HLT, and repeat prefixes before instructions other than string instructions.
 const NOTHING: &str = "\
 OUT 60,AL         | E6 60       | FL=FFD7                |
 OUT 60,AX         | E7 60       |                        |

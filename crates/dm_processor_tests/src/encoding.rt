@@ -1,4 +1,4 @@
-//! Instructions and the bytes that encoding prefers, from the manual.
+//! Instructions and their preferred bytes, from the manual.
 
 use crate::operands::memory;
 use dm_ins::{

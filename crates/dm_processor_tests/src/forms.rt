@@ -1,6 +1,6 @@
-//! Rows of instructions that have forms of their own, beside those of `effects`: other operands of the same
-//! instructions. They are made by hand from the manual (Intel 8086 Family User's Manual, section 2.7). How a row is
-//! read stands in `rows`, what the flags' word holds in `effects`.
+//! Rows of instructions that have forms of their own, besides those of `effects`: other operands of the same
+//! instructions. They are written by hand from the manual (Intel 8086 Family User's Manual, section 2.7). `rows` says
+//! how a row is read, `effects` what the flags word holds.
 
 use crate::rows::check;
 use std::test::Fail;
@@ -23,7 +23,7 @@ MOV [BP+DI],AH          | 88 23          |                                      
 MOV BYTE [DI],5A        | C6 05 5A       |                                        | 2000:0400=5A
 MOV BYTE CS:[1000],5A   | 2E C6 06 00 10 5A |                                     | 0103:1000=5A";
 
-/// Arithmetic on words. A byte's flags would be others in rows with 00FF, 0080 and 0100.
+/// Arithmetic on words. The flags of a byte would differ in rows with 00FF, 0080 and 0100.
 const WORDS: &str = "\
 ADD BX,BX      | 01 DB       | BX=8000                                | BX=0000 FL=F847
 ADD CX,ES:[BX] | 26 03 0F    | 4000:7788=0001                         | CX=3345
@@ -143,7 +143,7 @@ CALL 0100 | E8 FD FF |                                               | SP=00FE 3
 CALL 1103 | E8 00 10 | SP=0000                                       | SP=FFFE 3000:FFFE=0103 IP=1103
 RET       | C3       | SP=FFFE 3000:FFFE=5678                        | SP=0000 IP=5678";
 
-/// Strings. With a repeat prefix one repetition is made, none where CX is 0.
+/// Strings. With a repeat prefix one repetition is made, or none if CX is 0.
 const STRINGS: &str = "\
 LODSB       | AC    | 2000:0300=5A                              | AX=115A SI=0301
 LODSB       | AC    | FL=F402 2000:0300=5A                      | AX=115A SI=02FF

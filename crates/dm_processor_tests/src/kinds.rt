@@ -1,4 +1,4 @@
-//! The forms by number, so that a test knows which it has met.
+//! The forms by number, so that a test can record which it has tested.
 
 ghost use Rattle.std.specs.Prelude.{◌<◌};
 
@@ -9,7 +9,7 @@ use crate::rows::note_forms;
 use dm_forms::Form;
 use std::test::Fail;
 
-/// How many forms there are.
+/// The number of forms.
 pub(crate) const FORMS: usize = 83;
 
 /// The number of a form, in the order of their declaration.

@@ -1,7 +1,7 @@
 //! Worked rows of the processor: arithmetic, instructions to bytes and back, and the effects of instructions, each
-//! played as `dm_exec` does it and by its form.
+//! executed by `dm_exec` and by its form.
 //!
-//! They stand apart from the crates that they try, since a crate with tests is proved twice.
+//! They are apart from the crates that they test, because a crate with tests is proved twice.
 #![tactic(auto)]
 
 #[cfg(test)]

@@ -4,12 +4,12 @@
 //!
 //!     XCHG [BX],CX | 87 0F | BX=0010 2000:0010=1234 | CX=1234 2000:0010=3344
 //!
-//! It is done by its form and, from the same state, as `dm_exec` does it: both have to change that and
+//! It is executed by its form and, from the same state, by `dm_exec`: both must change that and
 //! nothing else.
 //!
-//! Registers go by their names, the flags' word by `FL`, memory by segment and offset: two digits
+//! Registers are given by their names, the flags word as `FL`, memory by segment and offset: two digits
 //! are a byte, four a word with its low byte first. What a row does not name is as in `START`, and
-//! has to stay, but for IP, which goes on by the number of the bytes. The bytes that rows
+//! must stay, except IP, which advances by the number of bytes. The bytes that rows
 //! name are 0 before. A line with `#` is a comment.
 
 use crate::checks::same;
@@ -25,7 +25,7 @@ use std::alloc::Global;
 use std::process::Abort;
 use std::test::Fail;
 
-/// Each register has a value of its own. Code stands at 0103:0100, data at 2000:0, the stack below
+/// Each register has a value of its own. Code is at 0103:0100, data at 2000:0, the stack below
 /// 3000:0100; strings go to 4000:0400.
 pub(crate) const START: Cpu = Cpu {
     ax: 0x1122,
@@ -54,7 +54,7 @@ pub(crate) const START: Cpu = Cpu {
     },
 };
 
-/// The flags whose bits are set in a word, by the places that the manual gives them.
+/// The flags whose bits are set in a word, by their positions in the manual.
 pub(crate) fn flags(word: u16) -> Flags {
     Flags {
         carry: word & 0x0001 != 0,
@@ -73,7 +73,7 @@ fn number(digits: &str) -> Result<u16, Fail> {
     Ok(u16::from_str_radix(digits, 16)?)
 }
 
-/// Gives the register of this name a value.
+/// Sets the register of this name.
 fn set_register(cpu: &mut Cpu, name: &str, value: u16) -> Result<(), Fail> {
     match name {
         "AX" => cpu.ax = value,
@@ -98,7 +98,7 @@ fn set_register(cpu: &mut Cpu, name: &str, value: u16) -> Result<(), Fail> {
 /// A byte of memory: segment, offset and value.
 type Byte = (u16, u16, u8);
 
-/// The bytes that a change names, as `2000:0010=12` or, of a word, `2000:0010=1234`; none where it
+/// The bytes that a change names, as `2000:0010=12` or, for a word, `2000:0010=1234`; none if it
 /// names a register.
 fn bytes_of(change: &str) -> Result<[Option<Byte>; 2], Fail> {
     let (name, digits) = change.split_once('=').ok_or("no value")?;
@@ -131,7 +131,7 @@ fn set_all(cpu: &mut Cpu, space: &mut Space, changes: &str) -> Result<(), Fail> 
     Ok(())
 }
 
-/// Gives the bytes that a row names the value 0 again, as all rows find them.
+/// Sets the bytes that a row names to 0 again, as all rows find them.
 fn clear(space: &mut Space, changes: &str) -> Result<(), Fail> {
     for change in changes.split_whitespace() {
         for byte in bytes_of(change)? {
@@ -162,7 +162,7 @@ fn compare_named(
     Ok(())
 }
 
-/// Compares the bytes that the rows of a text name; `row` is the one that was tried.
+/// Compares the bytes that the rows of a text name; `row` is the one that was executed.
 fn compare_all(
     rt: &impl Abort,
     row: &str,
@@ -193,7 +193,7 @@ fn difference(one: &Space, other: &Space) -> Option<(u16, u16)> {
     None
 }
 
-/// The instruction that a row's bytes are, and how many they are.
+/// The instruction in a row's bytes, and its number of bytes.
 fn instruction(bytes: &str) -> Result<(Ins, u8), Fail> {
     let mut spelled = [0; 16];
     for (place, byte) in spelled.iter_mut().zip(bytes.split_whitespace()) {
@@ -208,12 +208,12 @@ fn part(row: &str, number: usize) -> Result<&str, Fail> {
     Ok(row.split('|').nth(number).ok_or("a part is missing")?)
 }
 
-/// Whether a line of a text is a row, and no comment.
+/// Whether a line of a text is a row, and not a comment.
 fn is_row(line: &str) -> bool {
     !line.starts_with('#')
 }
 
-/// The memories of a text: that of `exec`, that of the forms, and the wanted one.
+/// The memories of a text: that of `exec`, that of the forms, and the expected one.
 #[derive(Drop)]
 struct Memories {
     plain: Space,
@@ -230,15 +230,15 @@ fn set_everywhere(memories: &mut Memories, cpu: &mut Cpu, changes: &str) -> Resu
     set_all(cpu, &mut memories.wanted, changes)
 }
 
-/// Gives the bytes that a row names the value 0 again in each memory.
+/// Sets the bytes that a row names to 0 again in each memory.
 fn clear_everywhere(memories: &mut Memories, changes: &str) -> Result<(), Fail> {
     clear(&mut memories.plain, changes)?;
     clear(&mut memories.formed, changes)?;
     clear(&mut memories.wanted, changes)
 }
 
-/// Tries a row of a text by `exec` and by its form. The memories are as all rows find them, and are so
-/// again afterwards but for bytes that no row of the text names.
+/// Tests a row of a text by `exec` and by its form. The memories are as all rows find them, and are so
+/// again afterwards except for bytes that no row of the text names.
 fn check_row(rt: &impl Abort, row: &str, rows: &str, memories: &mut Memories) -> Result<(), Fail> {
     let (bytes, before, after) = (part(row, 1)?, part(row, 2)?, part(row, 3)?);
     let (ins, length) = instruction(bytes)?;
@@ -266,7 +266,7 @@ fn check_row(rt: &impl Abort, row: &str, rows: &str, memories: &mut Memories) ->
     clear_everywhere(memories, after)
 }
 
-/// Tries each row of a text. Bytes that a row names are compared after each row, all others at the
+/// Tests each row of a text. Bytes that a row names are compared after each row, all others at the
 /// end.
 pub(crate) fn check(rt: &impl Abort, alloc: Global, rows: &str) -> Result<(), Fail> {
     let mut memories = Memories {
@@ -286,7 +286,7 @@ pub(crate) fn check(rt: &impl Abort, alloc: Global, rows: &str) -> Result<(), Fa
     Ok(())
 }
 
-/// Notes the form of each row of a text.
+/// Records the form of each row of a text.
 pub(crate) fn note_forms(seen: &mut [bool; FORMS], rows: &str) -> Result<(), Fail> {
     for row in rows.lines() {
         if is_row(row) {
@@ -297,7 +297,7 @@ pub(crate) fn note_forms(seen: &mut [bool; FORMS], rows: &str) -> Result<(), Fai
     Ok(())
 }
 
-/// Notes each mnemonic of a text that was not seen before.
+/// Records each mnemonic of a text that was not seen before.
 pub(crate) fn note(seen: &mut Vec<Mnemonic>, rows: &str) -> Result<(), Fail> {
     for row in rows.lines() {
         if is_row(row) {

@@ -1,4 +1,5 @@
-//! The program `dm` over files, readers and writers in memory: what each line writes and prints, and its status.
+//! The program `dm` with files, readers and writers in memory: what each command line writes and prints, and its
+//! status.
 use crate::checks::same_of;
 use crate::files::{Ending, Slow, Source, failing, filled, just, new_files};
 use dm_cli::{Sink, dm_main};
@@ -12,13 +13,13 @@ const HELLO: &[u8] = b"\xB4\x09\xBA\x0C\x01\xCD\x21\xB8\x00\x4C\xCD\x21hi$";
 
 const TEXT: &[u8] = b"MOV AH,9\nMOV DX,msg\nINT 21h\nMOV AX,4C00h\nINT 21h\nmsg: DB 'hi$'\n";
 
-/// Writes each byte that it reads, until none is left.
+/// Writes each byte that it reads, up to the end of the input.
 const COPY: &[u8] = b"\xB4\x01\xCD\x21\xEB\xFA";
 
 /// Frees its own block twice, and ends with code 0. MOV AH,49h; INT 21h; MOV AH,49h; INT 21h; MOV AX,4C00h; INT 21h
 const TWICE: &[u8] = b"\xB4\x49\xCD\x21\xB4\x49\xCD\x21\xB8\x00\x4C\xCD\x21";
 
-/// Asks for more than there is, and ends with code 7. MOV AH,48h; MOV BX,0FFFFh; INT 21h; MOV AX,4C07h; INT 21h
+/// Requests more memory than there is, and ends with code 7. MOV AH,48h; MOV BX,0FFFFh; INT 21h; MOV AX,4C07h; INT 21h
 const ASK: &[u8] = b"\xB4\x48\xBB\xFF\xFF\xCD\x21\xB8\x07\x4C\xCD\x21";
 
 /// Overwrites the header of its own block. MOV AX,CS; DEC AX; MOV DS,AX; MOV [0],AL; MOV AX,4C00h; INT 21h
@@ -27,7 +28,7 @@ const WRECK: &[u8] = b"\x8C\xC8\x48\x8E\xD8\xA2\x00\x00\xB8\x00\x4C\xCD\x21";
 /// 16 MiB, the most that a file or standard input may have.
 const MOST: usize = 16_777_216;
 
-/// A name of one byte more than a program's may have, of a file that fails.
+/// A name with one byte more than a program's may have, for a file that cannot be read.
 const CUT_65: &str = "cut/aaaaaaaaaaaaaaaaaaaaaaaaaaaaaaaaaaaaaaaaaaaaaaaaaaaaaaaaaaaaa.com";
 
 /// Paths that are neither opened nor written, each for its reason. (Every other path is not found.)
@@ -40,7 +41,7 @@ const REFUSED: [(&str, ErrorKind); 2] = [
 /// writes to standard error.
 type Row<'a> = (&'a str, u8, &'a [u8], &'a [u8], &'a str);
 
-/// The files that are there.
+/// The existing files.
 fn known_files() -> [(&'static str, Source<'static>); 13] {
     let cut = ErrorKind::BrokenPipe;
     let short = ErrorKind::OutOfMemory;
@@ -61,7 +62,7 @@ fn known_files() -> [(&'static str, Source<'static>); 13] {
     ]
 }
 
-/// Runs that end by themselves or at a stop, and what is written to a file.
+/// Runs that end normally or at a stop, and what is written to a file.
 const RUNS: [Row; 4] = [
     ("dm run hi.com", 0, b"", b"hi", ""),
     (
@@ -87,14 +88,14 @@ const RUNS: [Row; 4] = [
     ),
 ];
 
-/// What is reported of a block that is freed twice.
+/// The report for a block that is freed twice.
 const FREED_TWICE: &str = "\
 error: step 6, F000:0084 INT 21h function 49h (Free Allocated Memory): block at 0103 freed twice
 errors: 1, notes: 0
 ";
 
-/// Checked runs: without a finding, whatever the stop; with an error, with a note, and where an instruction destroys
-/// the arena. What keeps a run from its start, or its output from being written, is reported as for `dm run`.
+/// Checked runs: without a finding, at any stop; with an error, with a note, and with an instruction that destroys
+/// the arena. Faults before a run and faults of its output are reported as for `dm run`.
 const CHECKS: [Row; 10] = [
     ("dm check hi.com", 0, b"", b"hi", "errors: 0, notes: 0\n"),
     (
@@ -163,8 +164,8 @@ stopped: destroyed
     ),
 ];
 
-/// Faults of files: a path that names none, a file that is not opened, not read to its end, or has none; one that is
-/// not written.
+/// Faults of files: a path without a file, a file that cannot be opened, or read to its end, or has no end; one that
+/// cannot be written.
 const FILE_FAULTS: [Row; 14] = [
     ("dm run d/", 126, b"", b"", "dm: cannot read d/\n"),
     (
@@ -260,7 +261,7 @@ const FILE_FAULTS: [Row; 14] = [
     ),
 ];
 
-/// Runs a command line over the files, with this standard input. Compares what is written, what is reported, and the
+/// Runs a command line on the files, with this standard input. Compares what is written, what is reported, and the
 /// status.
 fn tells(
     rt: &impl Abort,
@@ -327,7 +328,7 @@ fn tells_faults_of_the_input(rt: HostRuntime) -> Result<(), Fail> {
     let full = failing(b"typed", ErrorKind::OutOfMemory);
     let beyond = filled(b"", MOST + 1);
     let rows: [(Source, &str, &str); 5] = [
-        // after the files, and before what comes later
+        // after the files, and before all that is checked later
         (endless, "dm run hi.com no.com", "dm: cannot read no.com\n"),
         (endless, "dm run --ems=513 hi.com", "dm: input too long\n"),
         (
@@ -345,7 +346,7 @@ fn tells_faults_of_the_input(rt: HostRuntime) -> Result<(), Fail> {
     tells(&rt, rt.alloc(), most, ("dm run hi.com", 0, b"", b"hi", ""))
 }
 
-/// One byte more than there may be is read, and no more: a further read would fail.
+/// One byte more than the limit is read, and no more: a further read would fail.
 #[test]
 fn long_input_is_read_one_byte_too_far(rt: HostRuntime) -> Result<(), Fail> {
     let beyond = Source {
@@ -360,7 +361,7 @@ fn long_input_is_read_one_byte_too_far(rt: HostRuntime) -> Result<(), Fail> {
     Ok(())
 }
 
-/// The lines before the read that fails are done, and a line that was cut is none.
+/// The lines before the read that fails are executed, and a line that was cut off is not.
 #[test]
 fn lines_before_a_failing_read_are_answered(rt: HostRuntime) -> Result<(), Fail> {
     let blocks = b"0100 M 0103 0001\n0102 Z 0103 9EFD\nend\n";
@@ -384,7 +385,7 @@ fn a_long_input_is_copied(rt: HostRuntime) -> Result<(), Fail> {
     tells(&rt, rt.alloc(), filled(b"typed", 100_000), row)
 }
 
-/// A line whose standard output fails, or takes nothing, after so many writes of one byte.
+/// A command line whose standard output fails, or takes nothing, after this many writes of one byte.
 fn fails(
     rt: &impl Abort,
     alloc: Global,
@@ -427,7 +428,7 @@ fn tells_failing_writes(rt: HostRuntime) -> Result<(), Fail> {
         ("dm run hi.com", 2, (0, "hi", "")),
         ("dm run hi.com", 3, (0, "hi", "")),
         ("dm disasm hi.com", 5, (126, "MOV A", failed)),
-        // a run that is stopped writes its output too, and where that fails the stop is not reported
+        // a run that stops writes its output too, and if that fails the stop is not reported
         ("dm run --steps=6 hi.com", 0, (126, "", failed)),
         ("dm run --steps=6 hi.com", 1, (126, "h", failed)),
         (
@@ -448,8 +449,8 @@ fn tells_failing_writes(rt: HostRuntime) -> Result<(), Fail> {
     Ok(())
 }
 
-/// A line whose standard error fails, or takes nothing, after so many writes of one byte: the message is cut there, and
-/// nothing else changes.
+/// A command line whose standard error fails, or takes nothing, after this many writes of one byte: the message is cut
+/// off there, and nothing else changes.
 fn is_cut(
     rt: &impl Abort,
     alloc: Global,

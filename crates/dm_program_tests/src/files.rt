@@ -4,14 +4,14 @@ use std::alloc::Global;
 use std::io;
 use std::io::{ErrorKind, Read, Write};
 
-/// How a reader ends, once it has given all its bytes.
+/// How a reader ends, after all its bytes.
 #[derive(Clone, Copy)]
 pub(crate) enum Ending {
     End,
     Fault(ErrorKind),
 }
 
-/// Some bytes, so many zeros after them, and the reader's end.
+/// Some bytes, a number of zeros after them, and the reader's end.
 #[derive(Clone, Copy)]
 pub(crate) struct Source<'a> {
     pub(crate) bytes: &'a [u8],
@@ -24,7 +24,7 @@ pub(crate) fn just(bytes: &[u8]) -> Source<'_> {
     filled(bytes, 0)
 }
 
-/// These bytes, and so many zeros after them.
+/// These bytes, and this many zeros after them.
 pub(crate) fn filled(bytes: &[u8], zeros: usize) -> Source<'_> {
     let ending = Ending::End;
     Source {
@@ -69,11 +69,11 @@ pub(crate) struct Files<'a> {
     pub(crate) refused: &'a [(&'a str, ErrorKind)],
     /// The path of the file that was written, a space, and its bytes.
     pub(crate) saved: Vec<u8>,
-    /// How many files were not written.
+    /// The number of files that were not written.
     pub(crate) failures: u64,
 }
 
-/// Files of which none was written yet.
+/// Files, none of which has been written yet.
 pub(crate) fn new_files<'a>(
     alloc: Global,
     known: &'a [(&'a str, Source<'a>)],
@@ -97,7 +97,7 @@ fn refusal(refused: &[(&str, ErrorKind)], path: &str) -> Option<ErrorKind> {
     None
 }
 
-/// Writes down a path, a space, and bytes.
+/// Records a path, a space, and bytes.
 fn note(saved: &mut Vec<u8>, path: &str, bytes: &[u8]) -> io::Result<()> {
     saved.extend_from_slice(path.as_bytes())?;
     saved.push(b' ')?;
@@ -132,7 +132,7 @@ impl<'a> Storage for Files<'a> {
     }
 }
 
-/// Takes one byte a write, and fails or takes nothing once `left` writes were made.
+/// Takes one byte per write, and fails or takes nothing after `left` writes.
 #[derive(Drop)]
 pub(crate) struct Slow<'a> {
     pub(crate) taken: &'a mut Vec<u8>,

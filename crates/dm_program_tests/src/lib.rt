@@ -1,8 +1,8 @@
-//! What a call in Rattle alone shows of machines, of sessions and of the program `dm`: which machines are made and
+//! What only a call in Rattle shows of machines, of sessions and of the program `dm`: which machines are made and
 //! loaded, that a stop changes nothing, room for output; readers and writers that fail, or take one byte at a time, and
-//! paths that are refused. What `dm` shows to everyone stands in the rows of text, in `rows/` at the top.
+//! paths that are rejected. What `dm` shows to everyone is tested by the rows of text, in `rows/` at the top.
 //!
-//! They stand apart from the crates that they try, since a crate with tests is proved twice.
+//! They are apart from the crates that they test, because a crate with tests is proved twice.
 #![tactic(auto)]
 
 #[cfg(test)]

@@ -19,7 +19,7 @@ pub(crate) fn store(alloc: Global, name: &[u8], file: &[u8]) -> Result<Programs,
     Ok(programs)
 }
 
-/// A machine of so many pages and KiB, with a store of programs and no input.
+/// A machine with this many pages and KiB, with a store of programs and no input.
 pub(crate) fn sized(alloc: Global, sizes: Sizes, programs: Programs) -> Result<Machine, NewError>
     ensures { IfOk result (λ m. m.processes.present ≡ 0) }
 {
@@ -77,7 +77,7 @@ pub(crate) fn loaded(alloc: Global, program: &[u8], input: &[u8]) -> Result<Mach
     loaded_as(alloc, b"HI.COM", program, input)
 }
 
-/// A number that another byte of memory changes: of all that lies below 100000h.
+/// A checksum of the memory below 100000h, which differs if one byte differs.
 pub(crate) fn sum_of_memory(machine: &Machine) -> u64 {
     let mut sum = 0u64;
     for segment in 0..=0xFFFF {

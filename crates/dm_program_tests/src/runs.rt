@@ -1,4 +1,4 @@
-//! What stops leave as it is, and room for output.
+//! What a stop leaves unchanged, and room for output.
 ghost use Rattle.dm_state.specs.State.{HasProgram};
 
 use crate::checks::same;
@@ -26,7 +26,7 @@ fn hello_prints_hi(rt: HostRuntime) -> Result<(), Fail> {
     Ok(())
 }
 
-/// What a stop leaves alone beside the registers: memory, steps, output and room.
+/// What a stop leaves unchanged in addition to the registers: memory, steps, output and room.
 fn kept(machine: &Machine) -> [u64; 4] {
     [
         sum_of_memory(machine),
@@ -36,7 +36,7 @@ fn kept(machine: &Machine) -> [u64; 4] {
     ]
 }
 
-/// A COM program stops so after so many steps. The next run stops so too, and changes nothing. The
+/// A COM program stops this way after this many steps. The next run stops the same way, and changes nothing. The
 /// program runs with this signature in the header of its block.
 fn stays(
     rt: &impl Abort,
@@ -76,7 +76,7 @@ fn stops_change_nothing(rt: HostRuntime) -> Result<(), Fail> {
     Ok(())
 }
 
-/// Makes room for output, and returns whether it was made.
+/// Reserves room for output, and returns whether that succeeded.
 fn reserve(machine: &mut Machine, bytes: usize) -> bool
     requires { HasProgram machine.old }
     ensures { HasProgram machine.new }
@@ -101,7 +101,7 @@ fn output_goes_into_room_made_beforehand(rt: HostRuntime) -> Result<(), Fail> {
     Ok(())
 }
 
-/// Runs a program that writes two bytes, with room for so many. A run that is refused its growth stops
+/// Runs a program that writes two bytes, with room for this many. A run whose allocation fails stops
 /// before the call, and the next one goes on from there.
 fn grows(rt: &impl Abort, alloc: Global, room: usize) -> Result<(), Fail> {
     let mut machine = loaded(alloc, &HELLO, b"")?;
@@ -120,7 +120,7 @@ fn grows(rt: &impl Abort, alloc: Global, room: usize) -> Result<(), Fail> {
     Ok(())
 }
 
-/// To be run with each growth refused in turn: a refused room changes nothing.
+/// Runs with each allocation failing in turn: a failed reservation changes nothing.
 /// Definitions: dm_services Wanting OrWants MayWant Overflows; dm_machine Run Answers
 /// Definitions: dm_machine Laws RoomIsEnoughForRuns RoomIsEnoughForSteps WantsBeyond IsHistory
 #[test]

@@ -1,4 +1,4 @@
-//! Sessions whose writer takes one byte at a time, and fails at some write. The figures are worked by hand from the
+//! Sessions whose writer takes one byte at a time, and fails at some write. The figures are worked out by hand from the
 //! manuals.
 use crate::checks::same_of;
 use crate::files::Slow;
@@ -15,13 +15,13 @@ const HELLO: &[u8] = b"\xB4\x09\xBA\x0C\x01\xCD\x21\xB8\x00\x4C\xCD\x21hi$";
 /// HLT
 const HALT: &[u8] = b"\xF4";
 
-/// A line, how many writes are made before one that fails, what is returned, and the bytes that are taken.
+/// A line, the number of writes before one that fails, what is returned, and the bytes that are taken.
 type Row<'a> = (&'a str, usize, Result<(), CommandRefusal>, &'a str);
 
 /// More writes than an answer has bytes.
 const ALL: usize = 1000;
 
-/// The last line is no command of a session: it is the program that ends there.
+/// The last line is not a command of a session: it is the program that ends there.
 const START: [Row; 4] = [
     (
         "R",
@@ -83,7 +83,7 @@ exited 00
     ("O", ALL, Ok(()), "hi"),
 ];
 
-/// After a failed write all that the command changes has changed, and a first part of the answer was written. A refused
+/// After a failed write all changes of the command are done, and a first part of the answer is written. A wrong
 /// line writes nothing.
 const FAILED: [Row; 13] = [
     ("B 1:2", 0, Err(CommandRefusal::Write), ""),
@@ -110,7 +110,7 @@ DS=0103 ES=0103 SS=0103 CS=0103 IP=0101 FL=F202
     ),
 ];
 
-/// Does a line, and compares the result and the bytes taken.
+/// Executes a line, and compares the result and the bytes taken.
 fn answers(
     rt: &impl Abort,
     alloc: Global,
@@ -130,8 +130,8 @@ fn answers(
     Ok(())
 }
 
-/// Does a listing with a writer that fails, or takes nothing, after so many bytes, and compares what it returns and
-/// taken.
+/// Prints a listing with a writer that fails, or takes nothing, after this many bytes, and compares the result and the
+/// bytes taken.
 fn breaks_off(
     rt: &impl Abort,
     alloc: Global,
@@ -159,7 +159,7 @@ fn breaks_off(
     Ok(())
 }
 
-/// Does the lines of a session over a program that has the name HI.COM.
+/// Executes the lines of a session with a program of the name HI.COM.
 fn play(rt: &impl Abort, alloc: Global, program: &[u8], rows: &[Row]) -> Result<(), Fail> {
     let machine = loaded_as(alloc, b"HI.COM", program, b"")?;
     let mut session = Session::new(machine);

@@ -1,5 +1,5 @@
-//! Which machines are made, which programs they take, and what a first program finds that `dm` gives
-//! none.
+//! Which machines are made, which programs they load, and what a first program finds that `dm` does not
+//! give it.
 ghost use Rattle.dm_proc.specs.Programs.{IsName};
 
 use crate::checks::same;
@@ -9,7 +9,7 @@ use std::alloc::Global;
 use std::process::Abort;
 use std::test::Fail;
 
-/// Whether a machine of such sizes is made.
+/// Whether a machine with these sizes is made.
 fn fits(rt: &impl Abort, alloc: Global, sizes: Sizes, wanted: bool) -> Result<(), Fail> {
     let found = match sized(alloc, sizes, Programs::new(alloc)) {
         Ok(_) => true,
@@ -52,7 +52,7 @@ fn store_takes_a_name_once(rt: HostRuntime) -> Result<(), Fail> {
 }
 
 /// Loads a program of this name from a store whose one program, HI.COM, is this file. The load
-/// has this result; where it is refused no byte changes.
+/// has this result; if it fails no byte changes.
 fn answers(
     rt: &impl Abort,
     alloc: Global,
@@ -73,7 +73,7 @@ fn answers(
     Ok(())
 }
 
-/// An MZ file of its header alone, which asks for FFFFh paragraphs.
+/// An MZ file that is only a header, which asks for FFFFh paragraphs.
 const GREEDY: [u8; 28] = [
     b'M', b'Z', 28, 0, 1, 0, 0, 0, 1, 0, 0xFF, 0xFF, 0, 0, 0, 0, 0, 0, 0, 0, 0, 0, 0, 0, 0, 0, 0, 0,
 ];

@@ -1,4 +1,4 @@
-//! Machines on which calls are made, and whether two show the same.
+//! Machines on which calls are made, and whether two are alike.
 ghost use Rattle.std.specs.Prelude.{◌≡◌, IfOk};
 ghost use Rattle.dm_state.specs.State.{HasProgram};
 
@@ -6,7 +6,7 @@ use anyhow::Result;
 use dm_machine::{Config, Machine, NewError, Programs, Sizes, Stop};
 use std::alloc::{AllocError, Global};
 
-/// Where a call is made: a COM program, the console's input, and how many steps lead there.
+/// Where a call is made: a COM program, the console's input, and the number of steps before it.
 #[derive(Clone, Copy)]
 pub(crate) struct Scene<'a> {
     pub(crate) program: &'a [u8],
@@ -40,7 +40,7 @@ pub(crate) fn store_of(alloc: Global, program: &[u8]) -> Result<Programs> {
     Ok(programs)
 }
 
-/// A machine that has made a scene's steps.
+/// A machine that has executed a scene's steps.
 pub(crate) fn machine_at(alloc: Global, scene: Scene) -> Result<Machine>
     ensures { IfOk result (λ m. HasProgram m) }
 {
@@ -66,7 +66,7 @@ fn have_same_bytes(one: &Machine, other: &Machine) -> bool {
     true
 }
 
-/// Whether two machines show the same: registers, steps, output, room, and each byte below 100000h.
+/// Whether two machines are alike: registers, steps, output, room, and each byte below 100000h.
 pub(crate) fn are_alike(one: &Machine, other: &Machine) -> bool {
     one.cpu() == other.cpu()
         && one.steps() == other.steps()

@@ -1,8 +1,8 @@
-//! A program of calls that take memory, to be played with each growth of memory refused in turn.
+//! A program of calls that allocate memory, to be run with each allocation failing in turn.
 //!
-//! It prints a line for each call, `NAME: ANSWER`. Where memory is refused in a call it prints `NAME: memory` before
-//! that, makes the call again, and goes on; or `NAME: changed`, where the answer or what is seen afterwards is not what
-//! the call's surface says. Where memory is refused between the calls, while one is prepared, it ends with status 1.
+//! It prints a line for each call, `NAME: ANSWER`. If an allocation fails in a call, it prints `NAME: memory` before
+//! that, makes the call again, and goes on; or `NAME: changed`, if the answer or the state afterwards is not what
+//! the call's contract says. If an allocation fails between the calls, while one is prepared, it ends with status 1.
 #![tactic(auto)]
 
 mod machines;

@@ -23,10 +23,10 @@ const TWICE: [u8; 25] = [
     0x21, 0xB8, 0x00, 0x4C, 0xCD, 0x21, 0x68, 0x69, 0x24,
 ];
 
-/// As many steps as any of these programs makes.
+/// As many steps as any of these programs executes.
 const STEPS: u64 = 100;
 
-/// A machine as it starts.
+/// A machine at its start.
 pub(crate) fn make_machine(rt: &impl Print, alloc: Global) -> Result<()> {
     let call = "Machine::new";
     let programs = store_of(alloc, &HELLO)?;
@@ -49,7 +49,7 @@ pub(crate) fn make_machine(rt: &impl Print, alloc: Global) -> Result<()> {
     )
 }
 
-/// Makes room for output.
+/// Reserves room for output.
 fn reserve(rt: &impl Print, alloc: Global, scene: Scene, bytes: usize) -> Result<()> {
     let call = "Machine::reserve_output";
     let mut machine = machine_at(alloc, scene)?;
@@ -61,7 +61,7 @@ fn reserve(rt: &impl Print, alloc: Global, scene: Scene, bytes: usize) -> Result
     Ok(())
 }
 
-/// Machines with room for output: before there is any, and after some.
+/// Machines with room for output: before there is any output, and after some.
 pub(crate) fn make_room(rt: &impl Print, alloc: Global) -> Result<()> {
     for (steps, bytes) in [(3, 2), (7, 100)] {
         let scene = Scene {
@@ -74,7 +74,7 @@ pub(crate) fn make_room(rt: &impl Print, alloc: Global) -> Result<()> {
     Ok(())
 }
 
-/// Makes room for two bytes, and runs a program that writes two. (Once the room is made, that takes no memory.)
+/// Reserves room for two bytes, and runs a program that writes two. (With that room, it allocates nothing.)
 pub(crate) fn keep_to_room(rt: &impl Print, alloc: Global) -> Result<()> {
     let call = "room for 2";
     let scene = Scene {
@@ -102,7 +102,7 @@ pub(crate) fn keep_to_room(rt: &impl Print, alloc: Global) -> Result<()> {
     tell(rt, call, str::from_utf8(machine.output())?)
 }
 
-/// Makes a step.
+/// Executes a step.
 fn make_step(machine: &mut Machine) -> Option<Stop>
     requires { HasProgram machine.old }
     ensures { HasProgram machine.new }
@@ -110,13 +110,13 @@ fn make_step(machine: &mut Machine) -> Option<Stop>
     machine.step()
 }
 
-/// Whether a machine shows what one does that has made just a scene's steps.
+/// Whether a machine is like one that has executed only a scene's steps.
 fn is_at(alloc: Global, machine: &Machine, scene: Scene) -> Result<bool> {
     let other = machine_at(alloc, scene)?;
     Ok(are_alike(machine, &other))
 }
 
-/// Prints what a step returned, and what is seen after it.
+/// Prints what a step returned, and the state after it.
 fn tell_step(rt: &impl Print, call: &str, stop: Option<Stop>, machine: &Machine) -> Result<()> {
     let output = str::from_utf8(machine.output())?;
     let steps = machine.steps();
@@ -124,7 +124,7 @@ fn tell_step(rt: &impl Print, call: &str, stop: Option<Stop>, machine: &Machine)
     Ok(())
 }
 
-/// Makes the step in which a service writes.
+/// Executes the step in which a service writes.
 fn step(rt: &impl Print, alloc: Global, call: &str, scene: Scene) -> Result<()> {
     let mut machine = machine_at(alloc, scene)?;
     let mut stop = make_step(&mut machine);
@@ -135,7 +135,7 @@ fn step(rt: &impl Print, alloc: Global, call: &str, scene: Scene) -> Result<()> 
     tell_step(rt, call, stop, &machine)
 }
 
-/// A step of each service that writes. (After three steps of a program, or two: so many lead to its service.)
+/// A step of each service that writes. (After the three or two steps of a program that lead to its service.)
 pub(crate) fn make_steps(rt: &impl Print, alloc: Global) -> Result<()> {
     // MOV AH,1; INT 21h / MOV AH,2; MOV DL,`x`; INT 21h / MOV AH,6; MOV DL,`x`; INT 21h
     // MOV BX,1; MOV CX,1; MOV DX,10Dh; MOV AH,40h; INT 21h; `x`
@@ -171,7 +171,8 @@ pub(crate) fn make_steps(rt: &impl Print, alloc: Global) -> Result<()> {
     Ok(())
 }
 
-/// Whether a run that stopped because an allocation failed is before a service that writes, and has done all before it.
+/// Whether a run that stopped because an allocation failed is before a service that writes, and has executed all steps
+/// before it.
 fn stands_before_output(alloc: Global, machine: &Machine) -> Result<bool> {
     let steps = machine.steps();
     let scene = Scene {
@@ -195,7 +196,7 @@ fn before_run(alloc: Global) -> Result<Machine>
     machine_at(alloc, scene)
 }
 
-/// Runs that program as far as it goes.
+/// Runs that program to its end or a stop.
 fn make_run(machine: &mut Machine) -> Stop
     requires { HasProgram machine.old }
     ensures { HasProgram machine.new }
@@ -203,7 +204,7 @@ fn make_run(machine: &mut Machine) -> Stop
     machine.run(STEPS)
 }
 
-/// Prints how a run stopped, after how many steps and how many bytes.
+/// Prints how a run stopped, and its numbers of steps and bytes.
 fn tell_run(
     rt: &impl Print,
     call: &str,
@@ -228,7 +229,7 @@ pub(crate) fn run_whole(rt: &impl Print, alloc: Global) -> Result<()> {
     tell_run(rt, call, stop, &machine, machine.output().len())
 }
 
-/// Runs that program as far as it goes, and writes its output after the bytes.
+/// Runs that program to its end or a stop, and appends its output to the bytes.
 fn run_into(machine: &mut Machine, taken: &mut Vec<u8>) -> Result<Stop>
     requires { HasProgram machine.old }
 {
@@ -238,7 +239,7 @@ fn run_into(machine: &mut Machine, taken: &mut Vec<u8>) -> Result<Stop>
     Ok(stop?)
 }
 
-/// Runs that program, and writes its output: also what it had written where memory was refused.
+/// Runs that program, and writes its output: also what it had written when an allocation failed.
 pub(crate) fn run_and_write(rt: &impl Print, alloc: Global) -> Result<()> {
     let call = "run_program";
     let mut taken = Vec::with_capacity(alloc, 256)?;
@@ -249,7 +250,7 @@ pub(crate) fn run_and_write(rt: &impl Print, alloc: Global) -> Result<()> {
         let stands = stands_before_output(alloc, &machine)?;
         tell_refused(rt, call, wrote && stands)?;
         taken.clear();
-        // The call's clauses speak of the run, and not of what is still loaded.
+        // The call's contract is about the run, and not about what is still loaded.
         if machine.is_loaded() {
             stop = run_into(&mut machine, &mut taken)?;
         }

@@ -13,10 +13,10 @@ const HELLO: [u8; 15] = [
     0xB4, 0x09, 0xBA, 0x0C, 0x01, 0xCD, 0x21, 0xB8, 0x00, 0x4C, 0xCD, 0x21, 0x68, 0x69, 0x24,
 ];
 
-/// As much room as any answer takes.
+/// As much room as any answer needs.
 const ROOM: usize = 1024;
 
-/// Commands that have the same answer a second time, each with what is printed of it, and its answer.
+/// Commands that have the same answer a second time, each with its printed name, and its answer.
 const COMMANDS: [(&str, &[u8], &[u8]); 12] = [
     (
         "Session::command R",
@@ -56,7 +56,7 @@ const COMMANDS: [(&str, &[u8], &[u8]); 12] = [
     ("Session::command O", b"O", b"hi!"),
 ];
 
-/// A session over a machine with room for its program's output.
+/// A session with a machine that has room for its program's output.
 fn new_session(alloc: Global) -> Result<Session> {
     let scene = Scene {
         program: &HELLO,
@@ -68,7 +68,7 @@ fn new_session(alloc: Global) -> Result<Session> {
     Ok(Session::new(machine))
 }
 
-/// Does a line of a session.
+/// Executes a line of a session.
 fn answer(
     alloc: Global,
     session: &mut Session,
@@ -81,7 +81,7 @@ fn answer(
     answered
 }
 
-/// Does a line; where memory was refused nothing was written, and it is done once more.
+/// Executes a line; if an allocation fails, nothing is written, and the line is executed once more.
 fn command(
     rt: &impl Print,
     alloc: Global,
@@ -98,8 +98,8 @@ fn command(
     tell(rt, call, if right { "its answer" } else { "others" })
 }
 
-/// A session with a command of each kind. What one changes, or leaves as it was where memory was refused, later ones
-/// show.
+/// A session with a command of each kind. Later commands show what one changes, or leaves as it was when an allocation
+/// failed.
 pub(crate) fn answer_commands(rt: &impl Print, alloc: Global) -> Result<()> {
     let mut session = new_session(alloc)?;
     for row in COMMANDS {

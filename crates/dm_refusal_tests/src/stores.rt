@@ -41,7 +41,7 @@ pub(crate) fn make_store(rt: &impl Print, alloc: Global) -> Result<()> {
     Ok(())
 }
 
-/// The names of programs. Each has its name as its bytes.
+/// The names of programs. The bytes of each are its name.
 const NAMES: [&[u8]; 5] = [b"A.COM", b"B.COM", b"C.COM", b"D.COM", b"E.COM"];
 
 /// Whether the store has the first `count` of the programs, and none of the others.
@@ -55,7 +55,7 @@ fn has_first(programs: &Programs, count: usize) -> bool {
     true
 }
 
-/// Adds a program to a store that has so many.
+/// Adds a program to a store that has this many.
 fn add(
     rt: &impl Print,
     alloc: Global,
@@ -91,7 +91,7 @@ fn has(console: &Console, room: usize, output: &[u8], input: &[u8]) -> bool {
     console.room() == room && console.output() == output && console.input() == input
 }
 
-/// Makes room in a console that has some room left, some output and some input.
+/// Reserves room in a console that has some room left, some output and some input.
 fn reserve(
     rt: &impl Print,
     console: &mut Console,

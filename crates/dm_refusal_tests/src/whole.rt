@@ -1,8 +1,8 @@
-//! A writer into room that was made before.
+//! A writer into room that was reserved before.
 use std::io;
 use std::io::Write;
 
-/// Takes all that it is given. It takes memory where the bytes have no room for that.
+/// Takes all bytes. It allocates memory if there is no room for them.
 #[derive(Drop)]
 pub(crate) struct Whole<'a> {
     pub(crate) taken: &'a mut Vec<u8>,

@@ -115,7 +115,7 @@ fn refuse_number(parts: &mut Parts)
     answer(parts, true);
 }
 
-/// 58h with AL = 0: returns the allocation strategy's number in AX.
+/// 58h with AL = 0: returns from the call with the allocation strategy's number in AX and CF clear.
 fn tell_strategy(parts: &mut Parts)
     ensures { parts.new ≡ (Strategies.strategy_reported parts.old).state }
 {

@@ -1,4 +1,4 @@
-//! Blocks of a pool that come, go and change their size.
+//! Blocks of a pool that are allocated, freed and resized.
 
 use crate::checks::same;
 use dm_pool::{Block, NewError, Sizes, Store, UNIT};
@@ -6,23 +6,23 @@ use std::alloc::Global;
 use std::process::Abort;
 use std::test::Fail;
 
-/// How many blocks a row may name.
+/// The most blocks that a row may name.
 const NAMES: usize = 8;
 
-/// What is done with a block, by its name, and where it lies then: None where the call is refused.
+/// What is done with a block, by its name, and where it lies then: None if the call fails.
 #[derive(Clone, Copy)]
 enum Step {
-    /// Takes a block of so many units.
+    /// Allocates a block of this many units.
     Take(usize, usize, Option<usize>),
-    /// Gives it back.
+    /// Frees it.
     Give(usize),
-    /// Gives it another size.
+    /// Resizes it.
     Resize(usize, usize, Option<usize>),
-    /// The units of the largest gap, all free units, and how many blocks of two units fit.
+    /// The units of the largest gap, all free units, and the number of blocks of two units that fit.
     Tells(usize, usize, usize),
 }
 
-/// A store of so many KiB of extended memory, and the blocks that were taken of it.
+/// A store with this many KiB of extended memory, and the blocks allocated in it.
 #[derive(Drop)]
 struct Taken {
     store: Store,
@@ -39,7 +39,7 @@ fn made(alloc: Global, pages: u32, kib: u32) -> Result<Store, NewError> {
     )
 }
 
-/// Where a block lies and how many bytes it has.
+/// The place of a block and its number of bytes.
 fn place_of(store: &Store, block: Block) -> (Option<usize>, usize) {
     if store.has(block) {
         (Some(store.base(block)), store.bytes(block).len())
@@ -73,7 +73,7 @@ fn fill(store: &mut Store, block: Block, own: u8) {
     }
 }
 
-/// Takes a block; its bytes have to be zeros.
+/// Allocates a block; its bytes must be zeros.
 fn take(rt: &impl Abort, taken: &mut Taken, name: usize, units: usize, base: Option<usize>) {
     let Some(block) = taken.store.take(units) else {
         same(rt, "base of a block that is refused", None, base);
@@ -92,7 +92,7 @@ fn take(rt: &impl Abort, taken: &mut Taken, name: usize, units: usize, base: Opt
     fill(&mut taken.store, block, own_byte(name));
 }
 
-/// Resizes a block; what it keeps has to be its own, and what is new zeros.
+/// Resizes a block; the bytes that it keeps must be its own, and new bytes zeros.
 fn resize(rt: &impl Abort, taken: &mut Taken, name: usize, units: usize, base: Option<usize>) {
     let Some(block) = taken.blocks[name % NAMES] else {
         return;
@@ -127,7 +127,7 @@ fn give(taken: &mut Taken, name: usize) {
     taken.blocks[name % NAMES] = None;
 }
 
-/// All blocks have their own bytes.
+/// Checks that all blocks have their own bytes.
 fn keep(rt: &impl Abort, taken: &Taken) {
     for name in 0..NAMES {
         if let Some(block) = taken.blocks[name] {
@@ -176,7 +176,7 @@ fn blocks_take_the_lowest_gap(rt: HostRuntime) -> Result<(), Fail> {
         Step::Give(1),
         Step::Tells(2, 2, 1),
         Step::Take(3, 3, None),
-        // it stays where the units after it are free
+        // it stays if the units after it are free
         Step::Resize(0, 5, Some(0)),
         Step::Tells(0, 0, 0),
         Step::Resize(0, 1, Some(0)),
@@ -184,7 +184,7 @@ fn blocks_take_the_lowest_gap(rt: HostRuntime) -> Result<(), Fail> {
         // its place reaches the end, so it moves to the lowest gap
         Step::Resize(2, 4, Some(1)),
         Step::Tells(3, 3, 1),
-        // it moves to no gap that its own units would make larger
+        // it does not move to a gap that its own units would make larger
         Step::Take(3, 1, Some(5)),
         Step::Give(0),
         Step::Tells(2, 3, 1),
@@ -218,7 +218,7 @@ fn gaps_are_counted_one_by_one(rt: HostRuntime) -> Result<(), Fail> {
         Step::Take(3, 1, Some(5)),
         Step::Give(0),
         Step::Give(2),
-        // gaps of one, three and two units hold two blocks of two units, where six units together would hold three
+        // gaps of one, three and two units hold two blocks of two units, but six units together would hold three
         Step::Tells(3, 6, 2),
     ];
     for step in steps {
@@ -266,7 +266,7 @@ fn a_table_has_576_blocks(rt: HostRuntime) -> Result<(), Fail> {
     Ok(())
 }
 
-/// Whether no block but one has a unit among so many from a unit on.
+/// Whether no block except one has a unit among this many from a unit on.
 fn is_free(
     places: &[Option<(usize, usize)>; NAMES],
     but: usize,
@@ -283,7 +283,7 @@ fn is_free(
     true
 }
 
-/// The lowest gap of a pool of 64 units that holds so many.
+/// The lowest gap of a pool of 64 units that holds this many.
 fn lowest(places: &[Option<(usize, usize)>; NAMES], units: usize) -> Option<usize> {
     for base in 0..65usize {
         if base.saturating_add(units) <= 64 && is_free(places, NAMES, base, units) {
@@ -293,7 +293,7 @@ fn lowest(places: &[Option<(usize, usize)>; NAMES], units: usize) -> Option<usiz
     None
 }
 
-/// Where a block is to lie that gets so many units.
+/// The place of a block that is resized to this many units.
 fn new_base(
     places: &[Option<(usize, usize)>; NAMES],
     name: usize,
@@ -309,7 +309,7 @@ fn new_base(
     }
 }
 
-/// 400 calls, one by one against a plain list of places.
+/// 400 calls, each compared with a plain list of places.
 /// Definitions: dm_pool Blocks taken placed zeros without resized new_base at_base fitted IsLaid IsPool Apart
 /// Definitions: dm_pool Blocks content contents_of
 #[test]
@@ -347,7 +347,7 @@ fn blocks_lie_where_a_plain_list_has_them(rt: HostRuntime) -> Result<(), Fail> {
     Ok(())
 }
 
-/// Copies bytes from a place of one block to a place of another one, where both have so many bytes there.
+/// Copies bytes from a place in one block to a place in another one, if both have this many bytes there.
 fn move_bytes(
     store: &mut Store,
     source: (Block, usize),
@@ -391,7 +391,7 @@ fn beginning(store: &Store, block: Block) -> [u8; 6] {
     letters
 }
 
-/// The bytes copied are those that stood there before, also where the two places overlap.
+/// The copied bytes are the old bytes of the source, even if the two places overlap.
 /// Definitions: dm_pool Blocks moved_bytes with_content
 #[test]
 fn bytes_move_within_and_between_blocks(rt: HostRuntime) -> Result<(), Fail> {

@@ -1,10 +1,10 @@
-//! The free list of a pool, which stands in its free bytes.
+//! The free list of a pool, which is kept in its free bytes.
 
 use crate::checks::same;
 use dm_pool::{Block, Sizes, Store, UNIT};
 use std::test::Fail;
 
-/// The first eight bytes of a unit of the pool; there a free run has its length and the unit of the next one.
+/// The first eight bytes of a unit of the pool, where a free run keeps its length and the unit of the next one.
 fn beginning(store: &Store, unit: usize) -> [u8; 8] {
     let mut bytes = [0; 8];
     if unit < 4 {

@@ -1,7 +1,7 @@
-//! Worked rows of what lies around the processor: regions of bytes, blocks of a pool, memory as a program meets it,
+//! Worked rows for what surrounds the processor: regions of bytes, blocks of a pool, memory as a program sees it,
 //! room for output, the program's writers, and the lines of the debugger.
 //!
-//! They stand apart from the crates that they try, since a crate with tests is proved twice.
+//! They are apart from the crates that they test, because a crate with tests is proved twice.
 #![tactic(auto)]
 
 #[cfg(test)]

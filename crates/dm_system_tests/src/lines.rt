@@ -1,5 +1,5 @@
-//! Lines and their commands, written by hand; the letters that DEBUG has too are its own (MS-DOS User's Reference,
-//! "DEBUG"). How a row is read stands in `rows`.
+//! Lines and their commands, written by hand; some command letters are those of DEBUG (MS-DOS User's Reference,
+//! "DEBUG"). `rows` says how a row is read.
 
 use crate::rows::{check, check_line};
 use std::test::Fail;
@@ -218,7 +218,7 @@ fn at_most_64_bytes_are_typed(rt: HostRuntime) -> Result<(), Fail> {
     check_line(&rt, rt.alloc(), "65 bytes", line.as_slice(), "none")
 }
 
-/// A tab, a line end and a zero are no spaces.
+/// A tab, a line end and a zero are not spaces.
 /// Definitions: dm_command Words words_of words_behind ended
 #[test]
 fn other_bytes_part_no_words(rt: HostRuntime) -> Result<(), Fail> {

@@ -4,7 +4,7 @@ use dm_pool::{Block, NewError, Sizes, Store};
 use dm_space::Space;
 use std::alloc::Global;
 
-/// A memory as a machine finds it, over a pool of two pages and 16 KiB.
+/// A memory as it is in a new machine, with a pool of two pages and 16 KiB.
 pub(crate) fn new_space(alloc: Global) -> Result<Space, NewError> {
     let sizes = Sizes {
         ems_pages: 2,
@@ -20,14 +20,14 @@ pub(crate) struct Pages {
     pub(crate) second: Block,
 }
 
-/// Takes two pages.
+/// Allocates two pages.
 pub(crate) fn two_pages(space: &mut Space) -> Option<Pages> {
     let first = space.take(16)?;
     let second = space.take(16)?;
     Some(Pages { first, second })
 }
 
-/// Lets a window show a page.
+/// Maps a page in a window.
 pub(crate) fn show(space: &mut Space, window: usize, page: Block) {
     if space.has(page) {
         if space.bytes(page).len() == 0x4000 {

@@ -1,4 +1,4 @@
-//! Regions of bytes: parts that are written, copies that overlap, two parts at once, and refused lengths.
+//! Regions of bytes: parts that are written, copies that overlap, two parts at once, and lengths that fail.
 ghost use Rattle.std.specs.Prelude.{◌≡◌, IfOk, length};
 
 use crate::checks::same;
@@ -38,7 +38,7 @@ fn an_empty_region_lends_empty_parts(rt: HostRuntime) -> Result<(), Fail> {
 /// Definitions: dm_region Parts part with_part LendsPart
 #[test]
 fn parts_are_read_and_written(rt: HostRuntime) -> Result<(), Fail> {
-    // first byte, length; the part's bytes; all bytes once the part is filled with `x`
+    // first byte, length; the part's bytes; all bytes after the part is filled with `x`
     let rows = [
         (0, 3, b"abc".as_slice(), b"xxxdefghij".as_slice()),
         (3, 4, b"defg".as_slice(), b"abcxxxxhij".as_slice()),
@@ -59,7 +59,7 @@ fn parts_are_read_and_written(rt: HostRuntime) -> Result<(), Fail> {
 /// Definitions: dm_region Parts part with_part
 #[test]
 fn copies_read_before_they_write(rt: HostRuntime) -> Result<(), Fail> {
-    // first byte, first byte of the copy, length; all bytes then. Apart, touching, upwards and downwards over each
+    // first byte, first byte of the copy, length; all bytes then. Apart, adjacent, upwards and downwards over each
     // other, in place, and empty
     let rows = [
         (0, 5, 3, b"abcdeabcij"),
@@ -84,8 +84,8 @@ fn copies_read_before_they_write(rt: HostRuntime) -> Result<(), Fail> {
 /// Definitions: dm_region Ends with_ends lends_ends
 #[test]
 fn two_parts_are_written_at_once(rt: HostRuntime) -> Result<(), Fail> {
-    // first byte and length of what holds both, length of the first, where the second begins; all bytes once the first
-    // is filled with `x` and the second with `y`. Touching, with a gap, and empty
+    // first byte and length of the whole, length of the first, start of the second; all bytes after the first
+    // is filled with `x` and the second with `y`. Adjacent, with a gap, and empty
     let rows = [
         (0, 10, 5, 5, b"xxxxxyyyyy"),
         (2, 4, 3, 3, b"abxxxyghij"),

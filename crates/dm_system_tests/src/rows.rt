@@ -1,6 +1,6 @@
 //! Rows of lines and commands, and how they are read.
 //!
-//! A row is a line and the command that it asks for, or `none`, as
+//! A row is a line and its command, or `none`, as
 //!
 //!     u 103:0100 10 | Unassemble 0103:0100 16
 //!
@@ -12,7 +12,7 @@ use std::alloc::Global;
 use std::process::Abort;
 use std::test::Fail;
 
-/// A part of a row: 0 what stands before the first `|`, 1 what stands after it.
+/// A part of a row: 0 is the text before the first `|`, 1 the text after it.
 fn part(row: &str, number: usize) -> Result<&str, Fail> {
     Ok(row.split('|').nth(number).ok_or("a part is missing")?)
 }
@@ -32,7 +32,7 @@ fn put_bytes(text: &mut String, bytes: &Bytes) -> Result<(), Fail> {
     Ok(())
 }
 
-/// Puts a command that is no more than its name.
+/// Appends a command that has only its name.
 fn put_name(text: &mut String, command: &Command) -> Result<(), Fail> {
     let name = match command {
         Command::Registers => "Registers",
@@ -80,7 +80,7 @@ fn shown(alloc: Global, command: &Option<Command>) -> Result<String, Fail> {
     Ok(text)
 }
 
-/// Tries a line.
+/// Tests a line.
 pub(crate) fn check_line(
     rt: &impl Abort,
     alloc: Global,
@@ -94,7 +94,7 @@ pub(crate) fn check_line(
     Ok(())
 }
 
-/// Tries each row of a text.
+/// Tests each row of a text.
 pub(crate) fn check(rt: &impl Abort, alloc: Global, rows: &str) -> Result<(), Fail> {
     for row in rows.lines() {
         check_line(

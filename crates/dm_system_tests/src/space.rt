@@ -1,4 +1,4 @@
-//! The map of memory as a program meets it.
+//! The map of memory as a program sees it.
 
 use crate::checks::same;
 use crate::memory::new_space;
@@ -42,7 +42,7 @@ fn memory_starts_over_a_used_store(rt: HostRuntime) -> Result<(), Fail> {
     let block = store.take(16).ok_or("no room")?;
     mark(&mut store, block);
     let space = Space::new(store);
-    // what is laid over memory is as ever, all else is as it was, and no window shows the block
+    // vectors, arena header and ROM are written, all else is unchanged, and no window shows the block
     let bytes = [
         (0x0000, 0x0084, 0x84),
         (0x0100, 0x0000, 0x5A),
@@ -116,8 +116,8 @@ fn each_part_of_the_map_reads_as_it_starts(rt: HostRuntime) -> Result<(), Fail> 
 #[test]
 fn each_part_of_the_map_keeps_or_loses_a_write(rt: HostRuntime) -> Result<(), Fail> {
     let mut space = new_space(rt.alloc())?;
-    // segment, offset, what is read there once 5Ah was written: at both ends of conventional and plain
-    // RAM, of the hole, of upper RAM, of the frame, where no window shows a page, and of ROM
+    // segment, offset, what is read there after 5Ah was written: at both ends of conventional and plain
+    // RAM, of the hole, of upper RAM, of the frame with no page in its windows, and of ROM
     let bytes = [
         (0x9FFF, 0x000F, 0x5A),
         (0xA000, 0x0000, 0x5A),
@@ -148,7 +148,7 @@ fn each_part_of_the_map_keeps_or_loses_a_write(rt: HostRuntime) -> Result<(), Fa
 #[test]
 fn the_high_area_goes_round_while_a20_is_off(rt: HostRuntime) -> Result<(), Fail> {
     let mut space = new_space(rt.alloc())?;
-    // A20, an offset in segment FFFFh, the byte that is written there
+    // A20, an offset in segment FFFFh, the byte written there
     let written = [
         (false, 0x0010, 0x51),
         (false, 0xFFFF, 0x52),
@@ -159,7 +159,7 @@ fn the_high_area_goes_round_while_a20_is_off(rt: HostRuntime) -> Result<(), Fail
         space.set_a20(on);
         space.poke(0xFFFF, offset, byte);
     }
-    // A20, segment, offset, the byte that is read: the ends of the high area, 100000h and 10FFEFh,
+    // A20, segment, offset, the byte read: the ends of the high area, 100000h and 10FFEFh,
     // and the places 100000h below them
     let read = [
         (true, 0xFFFF, 0x0010, 0x53),
@@ -220,7 +220,7 @@ fn eight_bytes_are_those_read_one_by_one(rt: HostRuntime) -> Result<(), Fail> {
     space.poke(0x2000, 0x0000, 0x22);
     space.poke(0x3000, 0x0000, 0x23);
     space.poke(0xBFFF, 0x000F, 0x24);
-    // Below the hole, beside it and in it; at the end of a segment; above FFFF:000F, while A20 is off.
+    // Below the hole, next to it and in it; at the end of a segment; above FFFF:000F, while A20 is off.
     let places = [
         (0x0000, 0x0000),
         (0x2000, 0xFFF8),

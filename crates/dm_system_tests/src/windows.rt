@@ -11,12 +11,12 @@ use std::alloc::Global;
 use std::process::Abort;
 use std::test::Fail;
 
-/// What is done, or what must be found.
+/// An action, or an expected value.
 #[derive(Clone, Copy)]
 enum Step {
-    /// A window shows the page of a number.
+    /// Maps the page with a number in a window.
     Show(usize, usize),
-    /// A window shows nothing.
+    /// Unmaps a window.
     Hide(usize),
     /// A byte is written at segment:offset.
     Poke(u16, u16, u8),
@@ -26,9 +26,9 @@ enum Step {
     PokeWord(u16, u16, u16),
     /// A word is found at segment:offset.
     PeekWord(u16, u16, u16),
-    /// A byte is found in a page where it lies, by its offset.
+    /// A byte is found in the bytes of a page, by its offset.
     Byte(usize, usize, u8),
-    /// A byte of a page is written where it lies.
+    /// A byte is written in the bytes of a page.
     Set(usize, usize, u8),
 }
 
@@ -42,7 +42,7 @@ fn byte_of(space: &Space, block: Block, at: usize) -> Option<u8> {
     space.bytes(block).get(at).copied()
 }
 
-/// Writes a byte of a block where it lies.
+/// Writes a byte in the bytes of a block.
 fn set_byte(space: &mut Space, block: Block, at: usize, value: u8) {
     if space.has(block) {
         let bytes = space.bytes_mut(block);
@@ -52,7 +52,7 @@ fn set_byte(space: &mut Space, block: Block, at: usize, value: u8) {
     }
 }
 
-/// The page of a number.
+/// The page with a number.
 fn page(pages: &Pages, number: usize) -> Block {
     if number == 0 {
         pages.first
@@ -61,7 +61,7 @@ fn page(pages: &Pages, number: usize) -> Block {
     }
 }
 
-/// Makes a step, or compares what it finds.
+/// Does an action, or compares a value.
 fn play(rt: &impl Abort, space: &mut Space, pages: &Pages, index: usize, step: Step) {
     match step {
         Show(window, number) => show(space, window, page(pages, number)),
@@ -92,7 +92,7 @@ fn play(rt: &impl Abort, space: &mut Space, pages: &Pages, index: usize, step: S
     }
 }
 
-/// Two pages, seen through windows, written and read by their addresses and where they lie.
+/// Two pages, seen through windows, written and read by their addresses and in their own bytes.
 const STEPS: [Step; 38] = [
     Peek(0xE000, 0x0000, 0xFF),
     Show(0, 0),
@@ -130,7 +130,7 @@ const STEPS: [Step; 38] = [
     PeekWord(0xEFFF, 0x000F, 0xCF33),
     PokeWord(0xEFFF, 0x000F, 0x0102),
     PeekWord(0xEFFF, 0x000F, 0xCF02),
-    // what is written where a page lies is seen at once
+    // what is written in the bytes of a page is seen at once
     Set(0, 0x1234, 0x99),
     Peek(0xEC00, 0x1234, 0x99),
     Poke(0xDFFF, 0x001F, 0x10),
@@ -245,7 +245,7 @@ fn each_window_is_looked_at(rt: HostRuntime) -> Result<(), Fail> {
     Ok(())
 }
 
-/// Gives a block back that no window shows; else false.
+/// Frees a block that no window shows; otherwise false.
 fn give(space: &mut Space, block: Block) -> bool {
     let may = space.has(block) && !space.shows(block);
     if may {
@@ -254,12 +254,12 @@ fn give(space: &mut Space, block: Block) -> bool {
     may
 }
 
-/// Resizes a block that no window shows; else false.
+/// Resizes a block that no window shows; otherwise false.
 fn resize(space: &mut Space, block: Block, units: usize) -> bool {
     space.has(block) && !space.shows(block) && space.resize(block, units)
 }
 
-/// Copies one byte of a block to a place of another one, where both are there.
+/// Copies one byte of a block to a place in another one, if both exist.
 fn move_byte(space: &mut Space, source: (Block, usize), destination: (Block, usize)) -> bool {
     if !space.has(source.0) || !space.has(destination.0) {
         return false;
@@ -292,7 +292,7 @@ fn blocks_come_and_go(rt: HostRuntime) -> Result<(), Fail> {
     show(&mut space, 2, second);
     set_byte(&mut space, second, 5, 0x77);
     same(&rt, "free units", space.free(), 16);
-    // the first page goes, and a smaller block comes in its place
+    // the first page is freed, and a smaller block is allocated in its place
     same(&rt, "given", give(&mut space, first), true);
     same(&rt, "shown, so not given", give(&mut space, second), false);
     same(&rt, "free units", (space.free(), space.largest()), (32, 16));
@@ -316,7 +316,7 @@ fn blocks_come_and_go(rt: HostRuntime) -> Result<(), Fail> {
     Ok(())
 }
 
-/// What the bytes beside each border of the map are before they are copied: segment, offset, byte. Windows 0 and 3
+/// The bytes next to each border of the map before they are copied: segment, offset, byte. Windows 0 and 3
 /// show the first page, window 1 the second one.
 const BORDERS: [(u16, u16, u8); 9] = [
     (0xBFFF, 0x000F, 0xA1),
@@ -345,21 +345,21 @@ fn bordered(alloc: Global) -> Result<(Space, Block), Fail> {
     Ok((space, first))
 }
 
-/// Whether so many bytes from a linear address on, and from a place of the scratch on, may be copied.
+/// Whether this many bytes from a linear address on, and from a place in the scratch on, may be copied.
 fn may_copy(linear: usize, at: usize, len: usize) -> bool
     ensures { IsTrue result → (linear + len ≤ 0x10FFF0) × (at + len ≤ 0x200000) }
 {
     linear <= 0x10_FFF0 && len <= 0x10_FFF0 - linear && at <= 0x20_0000 && len <= 0x20_0000 - at
 }
 
-/// Copies bytes in, where the condition is met.
+/// Copies bytes in, if the condition holds.
 fn copy_in(space: &mut Space, linear: usize, at: usize, len: usize) {
     if may_copy(linear, at, len) {
         space.copy_in(linear, at, len);
     }
 }
 
-/// Copies bytes out, where the condition is met.
+/// Copies bytes out, if the condition holds.
 fn copy_out(space: &mut Space, at: usize, linear: usize, len: usize) {
     if may_copy(linear, at, len) {
         space.copy_out(at, linear, len);
@@ -376,7 +376,7 @@ fn scratch_byte(space: &Space, at: usize) -> Option<u8> {
 #[test]
 fn bytes_are_copied_in_across_borders(rt: HostRuntime) -> Result<(), Fail> {
     let (mut space, _page) = bordered(rt.alloc())?;
-    // linear address, where in the scratch, the two bytes
+    // linear address, place in the scratch, the two bytes
     let rows: [(usize, usize, u8, u8); 12] = [
         (0xBFFFF, 0x000000, 0xA1, 0xFF),
         (0xCFFFF, 0x000001, 0xFF, 0xB2),
@@ -404,7 +404,7 @@ fn bytes_are_copied_in_across_borders(rt: HostRuntime) -> Result<(), Fail> {
             (linear, (Some(first), Some(second))),
         );
     }
-    // all windows at once, and what lies beside them: place in the scratch, byte
+    // all windows at once, and the bytes next to them: place in the scratch, byte
     copy_in(&mut space, 0xDFFFF, 0x20, 0x1_0002);
     let bytes = [
         (0x00020, 0xB3),
@@ -436,8 +436,8 @@ fn bytes_are_copied_in_across_borders(rt: HostRuntime) -> Result<(), Fail> {
 /// Definitions: dm_space Copies reads writes values copied_in copied_out
 #[test]
 fn bytes_are_copied_out_across_borders(rt: HostRuntime) -> Result<(), Fail> {
-    // linear address to which 51h, 52h, 53h, 54h are copied; the segment and offset of four bytes, A20 on; what they
-    // are then
+    // linear address to which 51h, 52h, 53h, 54h are copied; the segment and offset of four bytes, with A20 on; their
+    // values afterwards
     let rows: [(usize, (u16, u16), [u8; 4]); 11] = [
         (0x9FFFE, (0x9FFF, 0x000E), [0x51, 0x52, 0x53, 0x54]),
         (0xBFFFE, (0xBFFF, 0x000E), [0x51, 0x52, 0xFF, 0xFF]),
@@ -469,7 +469,7 @@ fn bytes_are_copied_out_across_borders(rt: HostRuntime) -> Result<(), Fail> {
 #[test]
 fn later_bytes_are_copied_over_earlier_ones(rt: HostRuntime) -> Result<(), Fail> {
     let (mut space, page) = bordered(rt.alloc())?;
-    // both windows show one page, so bytes come to each place twice
+    // both windows show one page, so each place is written twice
     show(&mut space, 1, page);
     space.scratch_mut()[0x0000] = 0x61;
     space.scratch_mut()[0x0001] = 0x62;

@@ -1,10 +1,10 @@
-//! The adapter over a standard writer that takes one byte a write and fails from a given write on, or at each flush.
+//! The adapter over a standard writer that takes one byte per write and fails from a given write on, or at each flush.
 use dm_out::{Failed, Out, Sink, write_all};
 use std::io;
 use std::io::Write;
 use std::test::Fail;
 
-/// Takes one byte a write, and fails once `left` writes were made. Where `refuses`, it takes nothing from then on, and
+/// Takes one byte per write, and fails after `left` writes. If `refuses`, it takes nothing from then on, and
 /// each flush fails.
 #[derive(Drop)]
 struct Slow<'a> {

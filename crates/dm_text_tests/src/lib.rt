@@ -1,6 +1,6 @@
 //! Worked rows of the text of instructions, and of the words that are instructions.
 //!
-//! They stand apart from the crates that they try, since a crate with tests is proved twice.
+//! They are apart from the crates that they test, because a crate with tests is proved twice.
 #![tactic(auto)]
 
 #[cfg(test)]

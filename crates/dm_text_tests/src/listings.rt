@@ -17,23 +17,23 @@ const ROWS: [(&[u8], &str); 16] = [
         ],
         "MOV AH,009h\nMOV DX,0010Ch\nINT 021h\nMOV AX,04C00h\nINT 021h\nDB 068h\nDB 069h\nDB 024h\n",
     ),
-    // Other bytes than the preferred ones are data, with the text after them.
+    // Bytes other than the preferred ones are data, with the text after them.
     (&[0x8B, 0xC3], "DB 08Bh,0C3h ; MOV AX,BX\n"),
     (&[0x89, 0xD8], "MOV AX,BX\n"),
     (&[0x83, 0xC0, 0x05], "DB 083h,0C0h,005h ; ADD AX,00005h\n"),
     (&[0x05, 0x05, 0x00], "ADD AX,00005h\n"),
     (&[0x8A, 0x47, 0x00], "DB 08Ah,047h,000h ; MOV AL,[BX]\n"),
     (&[0x87, 0xD8], "DB 087h,0D8h ; XCHG AX,BX\n"),
-    // Prefixes are kept in one order; twice the same one is another spelling.
+    // Prefixes are kept in one order; the same prefix twice is another encoding.
     (&[0x26, 0xF0, 0xF3, 0xA4], "ES LOCK REP MOVSB\n"),
     (&[0xF3, 0x26, 0xA4], "DB 0F3h,026h,0A4h ; ES REP MOVSB\n"),
     (&[0x26, 0x26, 0x90], "DB 026h,026h,090h ; ES NOP\n"),
-    // A fifth prefix: the first is a byte alone.
+    // A fifth prefix: the first is a single byte.
     (
         &[0x26, 0x26, 0x26, 0x26, 0x26, 0x90],
         "DB 026h\nDB 026h,026h,026h,026h,090h ; ES NOP\n",
     ),
-    // An instruction that the end cuts.
+    // An instruction cut off by the end.
     (&[0xB8, 0x00], "DB 0B8h\nDB 000h\n"),
     (
         &[0x90, 0xEA, 0x00, 0x00, 0x00],

@@ -1,5 +1,5 @@
-//! Words and the instructions that they are: operands and bytes from the manual (Intel 8086 Family User's
-//! Manual, section 2.7, and section 4 for the bytes), written by hand. How a row is read stands in `words`.
+//! Words and their instructions: operands and bytes from the manual (Intel 8086 Family User's
+//! Manual, section 2.7, and section 4 for the bytes), written by hand. `words` says how a row is read.
 
 use crate::checks::same;
 use crate::words::check;
@@ -10,7 +10,7 @@ use dm_words::{
 };
 use std::test::Fail;
 
-/// BYTE and WORD stand before memory exactly where no general register gives the size.
+/// BYTE and WORD precede memory exactly if no general register gives the size.
 const SIZES: &str = "\
 MOV | [BX],5         | none
 MOV | BYTE [BX],5    | C6 07 05
@@ -236,7 +236,7 @@ CBW |                | 98
 HLT |                | F4
 HLT | 1              | none";
 
-/// Labels are targets, and values under MOV alone.
+/// Labels are targets, and values only for MOV.
 const LABELS: &str = "\
 JMP | @300           | E9 00 03
 JZ | @7F             | 74 7F

@@ -4,7 +4,7 @@
 //!
 //!     8A 47 05 | MOV AL,[BX+00005h]
 //!
-//! The first byte stands at offset 0100h, from which the targets of jumps and calls are counted. A
+//! The first byte is at offset 0100h, from which the targets of jumps and calls are counted. A
 //! line with `#` is a comment.
 
 use crate::checks::same;
@@ -14,7 +14,7 @@ use dm_text::{Line, text};
 use std::process::Abort;
 use std::test::Fail;
 
-/// The instruction that a row's bytes are, and how many they are.
+/// The instruction in a row's bytes, and its number of bytes.
 fn instruction(bytes: &str) -> Result<(Ins, u8), Fail> {
     let mut spelled = [0; 16];
     for (place, byte) in spelled.iter_mut().zip(bytes.split_whitespace()) {
@@ -34,12 +34,12 @@ fn part(row: &str, number: usize) -> Result<&str, Fail> {
     )
 }
 
-/// Whether a line of a text is a row, and no comment.
+/// Whether a line of a text is a row, and not a comment.
 fn is_row(line: &str) -> bool {
     !line.starts_with('#')
 }
 
-/// Tries a row; the line holds the text of the row before it.
+/// Tests a row; the line holds the text of the row before it.
 fn check_row(rt: &impl Abort, row: &str, line: &mut Line) -> Result<(), Fail> {
     let bytes = part(row, 0)?;
     let (ins, length) = instruction(bytes)?;
@@ -49,7 +49,7 @@ fn check_row(rt: &impl Abort, row: &str, line: &mut Line) -> Result<(), Fail> {
     Ok(())
 }
 
-/// Tries each row of a text.
+/// Tests each row of a text.
 pub(crate) fn check(rt: &impl Abort, rows: &str) -> Result<(), Fail> {
     let mut line = Line::new();
     for row in rows.lines() {
@@ -60,7 +60,7 @@ pub(crate) fn check(rt: &impl Abort, rows: &str) -> Result<(), Fail> {
     Ok(())
 }
 
-/// Notes each mnemonic of a text that was not seen before.
+/// Records each mnemonic of a text that was not seen before.
 pub(crate) fn note(seen: &mut Vec<Mnemonic>, rows: &str) -> Result<(), Fail> {
     for row in rows.lines() {
         if is_row(row) {

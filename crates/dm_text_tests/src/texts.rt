@@ -1,5 +1,5 @@
 //! Texts of instructions: bytes and operands from the manual (Intel 8086 Family User's Manual, section
-//! 2.7, and section 4 for the bytes), written by hand. How a row is read stands in `rows`.
+//! 2.7, and section 4 for the bytes), written by hand. `rows` says how a row is read.
 
 use crate::checks::same;
 use crate::rows::{check, note};
@@ -62,7 +62,7 @@ A2 FF FF             | MOV [0FFFFh],AL
 A3 CD AB             | MOV [0ABCDh],AX
 8B 1E 00 00          | MOV BX,[00000h]";
 
-/// BYTE and WORD, exactly where no general register gives the size; NEAR and FAR.
+/// BYTE and WORD, exactly if no general register gives the size; NEAR and FAR.
 const SIZES: &str = "\
 C6 07 05             | MOV BYTE [BX],005h
 C7 07 05 00          | MOV WORD [BX],00005h
@@ -173,7 +173,7 @@ E8 00 80             | CALL 08103h
 9A 34 12 CD AB       | CALL FAR 0ABCDh:01234h
 EA 00 00 FF FF       | JMP FAR 0FFFFh:00000h";
 
-/// Prefix words that are kept: the segment's, LOCK, REP or REPNE.
+/// Prefix words that are kept: a segment, LOCK, REP or REPNE.
 const PREFIXES: &str = "\
 26 8A 07             | ES MOV AL,[BX]
 36 8A 07             | SS MOV AL,[BX]
@@ -193,7 +193,7 @@ F3 90                | REP NOP
 # The longest text.
 26 F0 F2 81 80 CD AB 34 12 | ES LOCK REPNE ADD WORD [BX+SI+0ABCDh],01234h";
 
-/// NOP is XCHG AX,AX, however it is spelled; other exchanges keep the order of their bytes.
+/// NOP is XCHG AX,AX in any encoding; other exchanges keep the order of their bytes.
 const EXCHANGES: &str = "\
 90                   | NOP
 87 C0                | NOP

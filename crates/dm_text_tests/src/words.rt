@@ -1,13 +1,13 @@
 //! Rows of written words, and how they are read.
 //!
-//! A row is a mnemonic, operands as they are written, and the bytes of the instruction that they are,
+//! A row is a mnemonic, operands as they are written, and the bytes of their instruction,
 //! as
 //!
 //!     MOV | WORD [BX 5],-1 | C7 47 05 FF FF
 //!
-//! or `none` in place of the bytes. Numbers are hexadecimal. Between brackets stand the registers, then
-//! the displacement; `@` stands before the value of a label, which is a number under MOV alone; `1:2` is
-//! a segment and an offset. The next instruction stands at offset 0, so that a target's displacement is
+//! or `none` in place of the bytes. Numbers are hexadecimal. Brackets contain the registers, then
+//! the displacement; `@` precedes the value of a label, which is a number only for MOV; `1:2` is
+//! a segment and an offset. The next instruction is at offset 0, so that a target's displacement is
 //! its offset. A line with `#` is a comment.
 
 use crate::checks::same;
@@ -168,7 +168,7 @@ fn register_of(name: &str) -> Option<Written> {
     None
 }
 
-/// The word of four hexadecimal digits at most.
+/// The word of at most four hexadecimal digits.
 fn word_of(text: &str) -> Result<u16, Fail> {
     Ok(u16::from_str_radix(text, 16)?)
 }
@@ -183,7 +183,7 @@ fn positive(n: u16) -> Numeral {
     }
 }
 
-/// A number below 0 by its distance from 0.
+/// A negative number by its absolute value.
 fn negative(size: u16) -> Numeral {
     let n = 0u16.wrapping_sub(size);
     Numeral {
@@ -198,7 +198,7 @@ fn negative(size: u16) -> Numeral {
     }
 }
 
-/// The value of a label, which is a target, and under MOV a number too.
+/// The value of a label, which is a target, and for MOV a number too.
 fn label(mnemonic: Mnemonic, n: u16) -> Numeral {
     if mnemonic == Mnemonic::Mov {
         Numeral {
@@ -225,7 +225,7 @@ fn number_of(mnemonic: Mnemonic, text: &str) -> Result<Numeral, Fail> {
     Ok(positive(word_of(text)?))
 }
 
-/// What stands between brackets.
+/// The text between brackets.
 fn address_of(text: &str) -> Result<Address, Fail> {
     for (name, base) in &BASES {
         if let Some(behind) = text.strip_prefix(*name) {
@@ -295,7 +295,7 @@ fn words_of(row: &str) -> Result<Words, Fail> {
     })
 }
 
-/// What an operand is before labels are known: their values and targets are 0, and of a byte its lower
+/// An operand before labels are known: their values and targets are 0, and of a byte its lower
 /// six bits are known.
 fn unknown(mnemonic: Mnemonic, written: Written) -> Written {
     match written {
@@ -329,7 +329,7 @@ fn unknown(mnemonic: Mnemonic, written: Written) -> Written {
     }
 }
 
-/// Compares the bytes of an instruction, and how many they are before labels are known.
+/// Compares the bytes of an instruction, and their number before labels are known.
 fn check_bytes(rt: &impl Abort, row: &str, words: &Words, ins: &Ins) -> Result<(), Fail> {
     let mut wanted = [0; 16];
     let mut length = 0usize;
@@ -358,7 +358,7 @@ fn check_row(rt: &impl Abort, row: &str) -> Result<(), Fail> {
     Ok(())
 }
 
-/// Tries each row of a text.
+/// Tests each row of a text.
 pub(crate) fn check(rt: &impl Abort, rows: &str) -> Result<(), Fail> {
     for row in rows.lines() {
         if !row.starts_with("#") {

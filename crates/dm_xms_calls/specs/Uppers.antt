@@ -27,7 +27,7 @@ settled cpu (Err e) set = refused (with_room cpu e) (code_of e)
 abbrev pub after_call : {A : Type 0} → Caller → Result (A × Tables) UpperRefusal → (A → Cpu) → Caller
 after_call c r set = record { cpu = settled c.cpu (answer r) set; x = extended (left c.x.xms r) c.x.memory }
 
--- 10h: a new block of DX paragraphs; BX is its segment, DX its size
+-- 10h: a new block of DX paragraphs, or of 1 if DX is 0; BX is its segment, DX its size
 unfoldable pub request : Bool → Caller → Caller
 request upper c = after_call c (if upper then Err refusal.NoneFree else rows.request_upper c.x.xms c.cpu.dx) (λ (u : Upper). record c.cpu { bx = u.segment; dx = u.paragraphs })
 
@@ -35,6 +35,6 @@ request upper c = after_call c (if upper then Err refusal.NoneFree else rows.req
 unfoldable pub release : Bool → Caller → Caller
 release upper c = after_call c (if upper then Err refusal.Unknown else rows.release_upper c.x.xms c.cpu.dx) (λ done. c.cpu)
 
--- 12h: the size of the block at segment DX becomes BX paragraphs
+-- 12h: the size of the block at segment DX becomes BX paragraphs, or 1 if BX is 0
 unfoldable pub resize : Bool → Caller → Caller
 resize upper c = after_call c (if upper then Err refusal.Unknown else rows.resize_upper c.x.xms c.cpu.dx c.cpu.bx) (λ done. c.cpu)

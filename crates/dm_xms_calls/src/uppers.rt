@@ -36,8 +36,8 @@ pub(crate) fn release(cpu: &mut Cpu, xms: &mut Xms, space: &Space, upper: bool)
     settle_uppers(cpu, res);
 }
 
-/// 12h: changes the size of the block at segment DX to BX paragraphs; if there is no room, DX is the size that it can
-/// have.
+/// 12h: resizes the block at segment DX to BX paragraphs, or to 1 if BX is 0. If there is less room the block stays, and
+/// DX is the number of paragraphs that it can have.
 #[tactic(auto, unfolding(crate::specs::Uppers::resize))]
 pub(crate) fn resize(cpu: &mut Cpu, xms: &mut Xms, space: &Space, upper: bool)
     ensures { caller cpu.new xms.new space.now.memory ≡ resize upper (caller cpu.old xms.old space.now.memory) }
