@@ -5,7 +5,7 @@ ghost use Rattle.dm_options.specs.Arguments.{asm_app, check_app, debug_app, disa
 ghost use Rattle.clap.specs.declared.Command.TheViews.{out-Command as fields_of};
 
 use clap::builder::ValueParser;
-use clap::{Arg, ArgAction, Command, value_parser};
+use clap::{Arg, ArgAction, Command};
 use std::alloc::{AllocError, Global};
 
 /// The version of the program, which `dm --version` prints.
@@ -19,7 +19,7 @@ fn steps_arg<'a>(alloc: Global) -> Arg<'a>
     Arg::new(alloc, "steps")
         .long("steps")
         .value_name("N")
-        .value_parser(value_parser!(u64))
+        .value_parser(ValueParser::unsigned(0, 18446744073709551615))
         .default_value("100000000")
         .help(
             "For run and check: stop after N steps (instructions, repetitions of string instructions, services)",
