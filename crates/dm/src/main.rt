@@ -13,7 +13,7 @@ use std::{env, io};
 
 /// Runs `dm_main` on the words, the files and the standard streams, and returns its exit status.
 ///
-/// What the operating system gives and takes is not known to a contract: that of `dm_main` says more, over files,
+/// What the operating system provides and takes is not known to a contract: that of `dm_main` says more, over files,
 /// readers and writers whose bytes are known.
 fn call<S: AsStr>(rt: &HostRuntime, words: &[S]) -> ExitCode
     ensures { EndsWith (map S.text words.now) (exit_status result) }

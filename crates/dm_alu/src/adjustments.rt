@@ -27,10 +27,11 @@ pub enum Adjustment {
 
 /// The accumulator AX after an adjustment, and the flags after it.
 ///
-/// AAA and AAS set adjust and carry; DAA and DAS set them and, as AAM and AAD do, parity, zero and
-/// sign by the new AL. The undefined status flags and trap, interrupt and direction stay. In AAA
-/// and AAS, AH changes by 1 and by no carry out of AL. DAA and DAS look at the old AL and the old
-/// carry for the high digit.
+/// AAA and AAS set adjust and carry if the low digit is adjusted, else clear them. DAA and DAS set adjust if the low
+/// digit is adjusted and carry if the high digit is, else clear them, and set parity, zero and sign by the new AL, as
+/// AAM and AAD do. The undefined status flags and trap, interrupt and direction stay. AAA and AAS change AH by 1 if the
+/// low digit is adjusted, and by no carry out of AL. In DAA and DAS the old AL and the old carry say whether the high
+/// digit is adjusted.
 #[tactic(auto, unfolding(crate::specs::Adjustments::flags_after_adjustment))]
 pub fn adjust(adjustment: Adjustment, ax: u16, flags: Flags) -> (u16, Flags)
     ensures value { result.0 ≡ adjusted_value adjustment ax flags }
@@ -57,7 +58,7 @@ pub fn adjust(adjustment: Adjustment, ax: u16, flags: Flags) -> (u16, Flags)
     (value, flags)
 }
 
-/// AX after an adjustment.
+/// AX after an adjustment, by AX and the flags before it. AL and AH are each taken modulo 256.
 #[tactic(auto, unfolding(crate::specs::Adjustments::adjusted_value))]
 fn adjusted_value(adjustment: Adjustment, ax: u16, flags: Flags) -> u16
     ensures { result ≡ adjusted_value adjustment ax flags }
@@ -102,7 +103,7 @@ fn high_digit_off(low: u16, flags: Flags) -> bool
     low > 0x99 || flags.carry
 }
 
-/// What a decimal adjustment adds to AL or takes from it.
+/// What a decimal adjustment adds to AL or takes from it: 0, 6, 60h or 66h.
 fn decimal_change(low: u16, flags: Flags) -> u16
     ensures change { result ≡ decimal_change low flags }
     ensures at_most { result ≤ 0x66 }

@@ -18,12 +18,12 @@ pub enum Sign {
     Signed,
 }
 
-/// What a division gives, both in the divisor's width.
+/// The results of a division, both values of the divisor's width.
 #[derive(Clone, Copy, Debug, PartialEq, Eq)]
 pub struct Division {
     /// The quotient, cut towards zero.
     pub quotient: u16,
-    /// What is left, with the dividend's sign.
+    /// What is left, with the dividend's sign, or zero.
     pub remainder: u16,
 }
 
@@ -50,7 +50,7 @@ pub fn mul(sign: Sign, width: Width, a: u16, b: u16, flags: Flags) -> (u32, Flag
     (product, flags)
 }
 
-/// The product of two values, twice as wide.
+/// The product of two values of the width, unsigned (MUL) or signed (IMUL), twice as wide.
 #[tactic(auto, unfolding(crate::specs::Products::product_value))]
 fn product(sign: Sign, width: Width, a: u16, b: u16) -> u32
     requires first { a < size width }
@@ -110,8 +110,8 @@ fn upper_is_significant(sign: Sign, width: Width, product: u32) -> bool
     }
 }
 
-/// A value of twice the width divided by one of the width, cut towards zero; the remainder has the
-/// dividend's sign.
+/// A value of twice the width divided by one of the width, cut towards zero; the remainder is zero or
+/// has the dividend's sign.
 ///
 /// None exactly at a zero divisor, and where the quotient is out of range: for DIV past 255 or
 /// 65,535, for IDIV outside -127 to 127 or -32,767 to 32,767. A division leaves each flag.
@@ -132,7 +132,7 @@ pub fn div(sign: Sign, width: Width, dividend: u32, divisor: u16) -> Option<Divi
     }
 }
 
-/// DIV by a divisor that is not zero; None where the quotient is out of range.
+/// DIV by a divisor that is not zero; None where the quotient is past 255 or 65,535.
 #[tactic(auto, unfolding(crate::specs::Products::quotient_of))]
 fn unsigned_div(width: Width, dividend: u32, divisor: u16) -> Option<Division>
     requires divisor { 0 < divisor }
@@ -153,7 +153,7 @@ fn unsigned_div(width: Width, dividend: u32, divisor: u16) -> Option<Division>
     }
 }
 
-/// IDIV by a divisor that is not zero; None where the quotient is out of range.
+/// IDIV by a divisor that is not zero; None where the quotient is outside -127 to 127 or -32,767 to 32,767.
 #[tactic(auto, unfolding(crate::specs::Products::quotient_of))]
 fn signed_div(width: Width, dividend: u32, divisor: u16) -> Option<Division>
     requires dividend { dividend < size width * size width }
@@ -199,7 +199,8 @@ fn truncated_quotient(dividend: i64, divisor: i64) -> i64
     dividend / divisor
 }
 
-/// The remainder of a division cut towards zero: it has the dividend's sign, and is nearer to zero than the divisor.
+/// The remainder of a division cut towards zero: it is zero or has the dividend's sign, and is nearer to zero than the
+/// divisor.
 #[tactic(auto, using(crate::proofs::Quotients::remainder_smaller))]
 fn truncated_remainder(dividend: i64, divisor: i64) -> i64
     requires dividend { unsigned_abs dividend ≤ 2147483648 }

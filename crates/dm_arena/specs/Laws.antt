@@ -1,4 +1,6 @@
--- Laws of the definitions: each call has one result.
+-- Laws of the calls of the arena: each that writes (48h, 49h, 4Ah, 5803h, the two blocks of 4Bh, and the end of a
+-- program) has one result; none depends on bytes that no program can see; and what the definitions say where upper
+-- memory doesn't belong to the arena.
 use Rattle.std.specs.Prelude.{◌≡◌, ◌==◌, ℕ, Bool, false, List, Result}
 use Rattle.dm_space.specs.Memory.{Memory}
 use Rattle.dm_space.specs.Unseen.{IsUnseen}
@@ -36,8 +38,8 @@ PairingHasOneAnswer = (upper : Bool) (S : Memory) (strategy : Strategy) (environ
 abbrev pub LinkingHasOneAnswer : Type 0
 LinkingHasOneAnswer = (S : Memory) (on : Bool) (r q : Result (Unit {0}) ArenaRefusal) (T U : Memory) → Links S on r T → Links S on q U → (r ≡ q) × (T ≡ U)
 
--- each call of the arena gives the same result on memory with this change as without it, and leaves the same memory
--- but for the change
+-- each call of the arena, 5802h included, returns the same on memory with this change as without it, and leaves the
+-- same memory but for the change
 pub record CallsIgnoreUnseen (change : Memory → Memory) : Type 0 where
   pub allocation : (upper : Bool) (S T : Memory) (strategy : Strategy) (n owner : ℕ) (r : Result ℕ ArenaRefusal) → Allocates upper S strategy n owner r T → Allocates upper (change S) strategy n owner r (change T)
   pub freeing : (upper : Bool) (S T : Memory) (segment : ℕ) (r : Result (Unit {0}) ArenaRefusal) → Frees upper S segment r T → Frees upper (change S) segment r (change T)

@@ -40,8 +40,8 @@ FreeRefused upper S start segment Destroyed = NoArena S start
 FreeRefused upper S start segment (Short most) = ⊥
 FreeRefused upper S start segment NoBlock = (L : List Header) × IsArena S start L × IsNoBlock upper L segment
 
--- function 49h: the block at a segment becomes free, from memory S to memory T, and its header is all that changes;
--- an error leaves memory unchanged
+-- function 49h: the block that begins at a segment becomes free, from memory S to memory T, and the owner in its header
+-- is all that changes; an error leaves memory unchanged
 abbrev pub Frees : Bool → Memory → ℕ → Result (Unit {0}) ArenaRefusal → Memory → Type 0
 Frees upper S segment (Ok u) T = (b : BlockAt upper S first_header segment) × Becomes S first_header (b.before ++ freed b.block ∷ b.after) T
 Frees upper S segment (Err e) T = (T ≡ S) × FreeRefused upper S first_header segment e
@@ -89,8 +89,8 @@ ResizeRefused upper S start segment n Destroyed = NoArena S start ⊎ ((r : Bloc
 ResizeRefused upper S start segment n (Short most) = (r : BlockRunAt upper S start segment) × (most ≡ (absorb r.block r.run).size) × (most < n)
 ResizeRefused upper S start segment n NoBlock = (L : List Header) × IsArena S start L × IsNoBlock upper L segment
 
--- function 4Ah: the block at a segment gets n paragraphs, from memory S to memory T, and the headers of the resized
--- list are all that changes; an error leaves memory unchanged
+-- function 4Ah: the block that begins at a segment gets n paragraphs, which may be 0, from memory S to memory T, and
+-- the headers of the resized list are all that changes; an error leaves memory unchanged
 abbrev pub Resizes : Bool → Memory → ℕ → ℕ → Result (Unit {0}) ArenaRefusal → Memory → Type 0
 Resizes upper S segment n (Ok u) T = (r : BlockRunAt upper S first_header segment) × (n ≤ (absorb r.block r.run).size) × Becomes S first_header (resized r n) T
 Resizes upper S segment n (Err e) T = (T ≡ S) × ResizeRefused upper S first_header segment n e
@@ -104,7 +104,7 @@ abbrev pub released : ℕ → List Header → List Header
 released owner [] = []
 released owner (b ∷ L) = released_block owner b ∷ released owner L
 
--- the owner's blocks in the first list are freed, which is the only one, or is linked with upper memory
+-- the owner's blocks in the first list are freed, where that is the only list, or is linked with upper memory
 pub record ReleasesOne (upper : Bool) (S : Memory) (owner : ℕ) (T : Memory) : Type 0 where
   pub list : List Header
   pub arena : IsArena S first_header list

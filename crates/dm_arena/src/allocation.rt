@@ -13,14 +13,14 @@ use crate::standing::may_split;
 use dm_blocks::{FIRST, is_arena, is_last};
 use dm_space::Space;
 
-/// What an allocation writes and returns: the headers for the block that is cut, and the segment of the new block.
+/// What an allocation (48h) writes and returns: the headers of the block that is cut, and the segment of the new block.
 #[derive(Clone, Copy)]
 struct Plan {
     cut: Cut,
     segment: u16,
 }
 
-/// Plans an allocation (48h) without writing anything. Fails as `allocate` does.
+/// Plans an allocation (48h) without writing anything. The errors are those of `allocate`.
 fn plan_allocation(
     space: &Space,
     strategy: Strategy,
@@ -52,8 +52,8 @@ fn plan_allocation(
     })
 }
 
-/// Writes the list with runs of free blocks joined, and the headers of a cut in place of those of one of its blocks.
-/// Bytes 0 to 4 of the headers of the new list are all that changes.
+/// Writes the first list with runs of free blocks joined, and the headers of a cut in place of that of the block of the
+/// joined list that the cut was made from. Bytes 0 to 4 of the headers of the new list are all that changes.
 fn write_joined(space: &mut Space, cut: Cut, upper: bool)
     requires placing { Placing upper space.old.memory first_header (cut_list cut) }
     requires first { next cut.first ≤ 0xFFFF }
@@ -66,23 +66,22 @@ fn write_joined(space: &mut Space, cut: Cut, upper: bool)
     write_cut(space, cut, last);
 }
 
-/// Allocates a block of n paragraphs to an owner, and returns the block's segment (MS-DOS
-/// Programmer's Reference, function 48h).
+/// Allocates a block of n paragraphs to an owner, and returns the block's segment (MS-DOS Programmer's Reference,
+/// function 48h).
 ///
-/// Runs of free blocks are joined first. Of the free blocks with at least n paragraphs that it looks
-/// at the strategy takes one. Of a block that is larger, first and best fit take the low end, last fit the high end;
-/// the rest stays free, after a header of its own. n may be 0.
+/// Runs of free blocks are joined first. Of the free blocks that the strategy looks at, it takes one with at least n
+/// paragraphs. If that block is larger, first and best fit take its low end, last fit its high end; the rest stays
+/// free, with a header of its own. n may be 0.
 ///
-/// `upper` says whether upper memory belongs to the arena: then the link block counts as taken, and
-/// where the list is linked the strategy's area counts; else it looks at all blocks.
+/// `upper` says whether upper memory belongs to the arena: then the link block counts as taken, and where the list is
+/// linked the strategy's area counts; else the strategy looks at all blocks.
 ///
 /// Bytes 0 to 4 of the headers of the new list are all that changes.
 ///
 /// # Errors
 ///
-/// `Destroyed` where memory spells no clear list; else `Short` where no free block that the strategy
-/// looks at is large enough, with the size of the largest of them once runs of free blocks are
-/// joined, 0 if there is none; else
+/// `Destroyed` where memory spells no clear list; else `Short` where no free block that the strategy looks at is large
+/// enough, with the size of the largest of them once runs of free blocks are joined, 0 if there is none; else
 /// `Destroyed` where the new list would not be clear. A call that fails changes no byte.
 pub fn allocate(
     space: &mut Space,

@@ -54,7 +54,8 @@ pub(crate) fn cut_of(fit: Fit, n: u16, owner: u16, block: Header) -> Cut
     }
 }
 
-/// The segment of the header of the n paragraphs that are taken from a block.
+/// The segment of the header of the n paragraphs that are taken from a block: the block's own with first and best fit,
+/// as the low end is taken; with last fit that before the high end.
 pub(crate) fn taken_of(fit: Fit, n: u16, block: Header) -> u16
     requires within { n ≤ block.size }
     requires fits { next block ≤ 0xFFFF }

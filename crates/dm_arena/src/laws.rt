@@ -1,4 +1,5 @@
-//! Laws of the arena's definitions: each is the contract of a function that does nothing.
+//! Laws of `allocate`, `free`, `resize`, `free_all`, the pair of `plan_pair` and `write_pair`, `link` and `linked`:
+//! each is the contract of a function that does nothing. The setting is whether upper memory belongs to the arena.
 ghost use Rattle.dm_arena.specs.Laws.{AllocationHasOneAnswer, FreeingHasOneAnswer, ResizingHasOneAnswer, ReleasingHasOneAnswer, PairingHasOneAnswer, LinkingHasOneAnswer, IgnoresUnseen, IsConventional};
 
 /// Memory, setting, strategy, size and owner determine what an allocation returns and every byte that it
@@ -39,7 +40,7 @@ pub fn arena_is_conventional()
     ensures { IsConventional }
 {}
 
-/// No call depends on bytes that no address shows, or changes them.
+/// No call of the arena depends on bytes that no address shows, or changes them.
 pub fn ignores_unseen()
     ensures { IgnoresUnseen }
 {}

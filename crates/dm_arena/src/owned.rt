@@ -13,8 +13,8 @@ use crate::standing::may_split_outside;
 use dm_blocks::{Entry, FIRST, Header, LINK, entry_at, find, has_second, is_arena, is_linked};
 use dm_space::Space;
 
-/// The header whose block begins at a segment; None if the list has none, or if it is the link block (functions 49h
-/// and 4Ah refuse that).
+/// The header of the first list whose block begins at a segment; None if no block begins there, or if the link block
+/// does (functions 49h and 4Ah refuse that).
 fn find_block(space: &Space, segment: u16, upper: bool) -> Option<Entry>
     requires { (L : List Header) × IsSpelledFrom space.now.memory first_header L }
     ensures found { FindsOther upper space.now.memory first_header segment result }
@@ -26,7 +26,7 @@ fn find_block(space: &Space, segment: u16, upper: bool) -> Option<Entry>
     find(space, segment)
 }
 
-/// Frees the block at a segment (MS-DOS Programmer's Reference, function 49h).
+/// Frees the block that begins at a segment (MS-DOS Programmer's Reference, function 49h).
 ///
 /// Its owner becomes 0; nothing is joined, and a free block stays free. Bytes 0 to 4 of its header
 /// are all that changes. `upper` says whether upper memory belongs to the arena.
@@ -77,7 +77,8 @@ fn grow(space: &Space, entry: Entry, upper: bool) -> Entry
     }
 }
 
-/// Gives the block at a segment n paragraphs (MS-DOS Programmer's Reference, function 4Ah).
+/// Resizes the block that begins at a segment to n paragraphs, which may be 0 (MS-DOS Programmer's Reference, function
+/// 4Ah).
 ///
 /// The block first takes in the run of free blocks after it, then it is cut to n as by first fit. Its owner stays.
 /// Bytes 0 to 4 of its header and of the one after its n paragraphs are all that changes. `upper` says whether upper

@@ -1,4 +1,4 @@
-//! Why an arena call failed.
+//! The errors of the calls of the arena.
 use thiserror::Error;
 
 /// Why an arena call failed. It has changed no byte.
@@ -11,8 +11,9 @@ pub enum ArenaRefusal {
     /// No free block is large enough (DOS error 8, "Not enough memory").
     #[error("not enough memory")]
     Short {
-        /// In paragraphs: for an allocation the largest free block that the strategy looks at, 0 if there is none,
-        /// and the same for the first of two blocks together; for a resize the block with the free blocks after it.
+        /// In paragraphs: for an allocation, and for the first of two blocks that are planned together, the largest
+        /// free block that the strategy looks at, 0 if there is none; for a resize the block with the free blocks after
+        /// it.
         largest: u16,
     },
     /// No block of the list begins at the segment, or the link block does (DOS error 9, "Invalid memory

@@ -20,20 +20,22 @@ use Rattle.dm_asm.specs.Labels.{Label, label_place, term_place}
 -- ---- with the places of labels
 
 -- what an operand of an instruction is written as, in the terms of `dm_words`; `next` is the offset of the next
--- instruction. None if its label is unknown, or lies out of range
+-- instruction. None if its label is unknown, or the label and what is added to it lie outside 0 to FFFFh
 abbrev pub written_for : List Label → Mnemonic → ℕ → Term → Option Written
 written_for labels m next term = do
   place ← term_place labels term
   written_of m term place next
 
--- what an instruction is written as, with the places of its labels; None if one is unknown or lies out of range
+-- what an instruction is written as, with the places of its labels; `next` is the offset of the next instruction. None
+-- if a label is unknown, or a label and what is added to it lie outside 0 to FFFFh
 abbrev pub placed_words : List Label → ℕ → Instruction → Option Words
 placed_words labels next i = do
   first ← written_for labels i.mnemonic next i.first
   second ← written_for labels i.mnemonic next i.second
   Some (record { mnemonic = i.mnemonic; first = first; second = second })
 
--- the word of a value of a DW, with the place of its label; None if that is unknown or lies out of range
+-- the word of a value of a DW, with the place of its label; None if the label is unknown, or the label and what is
+-- added to it lie outside 0 to FFFFh
 abbrev pub value_word : List Label → Value → Option ℕ
 value_word labels v = do
   place ← label_place labels v
@@ -50,8 +52,8 @@ abbrev pub outlined : Instruction → Words
 outlined i = record { mnemonic = i.mnemonic; first = outline_of i.mnemonic i.first; second = outline_of i.mnemonic i.second }
 
 -- an instruction has n bytes, as it has wherever it and its labels stand: it is counted as if each label were 0 and
--- each target near. If the table has no such instruction, it has no length, and the line is wrong wherever its labels
--- are
+-- each target the next instruction (`outline_of`). If the table has no such instruction, it has no length, and the line
+-- is wrong wherever its labels are
 pub record HasShape (i : Instruction) (n : ℕ) : Type 0 where
   pub ins : Ins
   pub prefixes : ins.prefixes ≡ i.prefixes
@@ -60,7 +62,7 @@ pub record HasShape (i : Instruction) (n : ℕ) : Type 0 where
   pub preferred : IsPreferred ins code
   pub long : n ≡ length code
 
--- an item has n bytes
+-- an item has n bytes: 0 for no item, those of an instruction, one for each number of a DB, two for each value of a DW
 abbrev pub HasLength : Item → ℕ → Type 0
 HasLength nothing n = n ≡ 0
 HasLength (instruction i) n = HasShape i n
@@ -86,7 +88,7 @@ pub record AreWordsOf (labels : List Label) (vs : List Value) (code : List ℕ) 
   pub are : map (value_word labels) vs ≡ map Some values
   pub bytes : code ≡ flat_map low_high values
 
--- the bytes of an item at an offset
+-- the bytes of an item at an offset; an item with a number, label or target out of range has none
 abbrev pub Codes : List Label → ℕ → Item → List ℕ → Type 0
 Codes labels at nothing code = code ≡ []
 Codes labels at (instruction i) code = IsCoded labels at i code

@@ -15,7 +15,7 @@ use Rattle.dm_asm.specs.Codes.{placed_words}
 use Rattle.dm_asm.specs.Lines.{lines_of}
 use Rattle.dm_asm.specs.Programs.{Sized, Laid, labels_of, total, longest_program, Assembles, IsAnswer}
 
--- a text has one result: always the same bytes, or always the same error
+-- a text has one result: no two different programs, no two different errors, and not both a program and an error
 abbrev pub TextsHaveOneAnswer : Type 0
 TextsHaveOneAnswer = (text : List ℕ) (a b : Result (List ℕ) AssemblyRefusal) → IsAnswer text a → IsAnswer text b → a ≡ b
 

@@ -19,7 +19,7 @@ pub record Sized : Type 0 where
   pub statement : Statement
   pub long : ℕ
 
--- the line is the statement of x, which has the length of x
+-- the line stands for the statement of x, whose item has the length of x
 pub record Reads (line : List ℕ) (x : Sized) : Type 0 where
   pub is : line_of line ≡ Some x.statement
   pub long : HasLength x.statement.item x.long
@@ -111,8 +111,8 @@ pub record IsBehindCoded (text : List ℕ) (n : ℕ) (labels : List Label) (at :
   pub pieces : List (List ℕ)
   pub coded : AreCoded labels 0x100 before pieces
 
--- the error of a text: the first line that is no statement, or has the label of one before it; else too many bytes;
--- else the first line that names an unknown label, or has no bytes as something is out of range
+-- the error of a text: the first line that is no statement with a length, or has the label of one before it; else too
+-- many bytes; else the first line that names an unknown label, or has no bytes as something is out of range
 pub data Refuses (text : List ℕ) : AssemblyRefusal → Type 0 where
   syntax : (n : ℕ) (line : List ℕ) (xs : List Sized) → IsBehindGood text n line xs → ((x : Sized) → Reads line x → ⊥) → Refuses text (refusal.Syntax n)
   twice : (n : ℕ) (line : List ℕ) (xs : List Sized) (x : Sized) → IsBehindGood text n line xs → Reads line x → (IsFree x.statement.label (labels_of xs) → ⊥) → Refuses text (refusal.Twice n)

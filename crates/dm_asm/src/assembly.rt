@@ -25,7 +25,7 @@ const START: usize = 0x100;
 const MOST: u128 = 65_278;
 
 /// The statement of a line, and the number of its bytes; None if the line is no statement, or the table does not have
-/// its instruction. The data of a DB or DW is put into `items`; `tokens` is overwritten.
+/// its instruction. The data of a DB or DW is put into `items`; `tokens` may be overwritten.
 fn read(line: &[u8], tokens: &mut Tokens, items: &mut Items) -> Option<(Statement, usize)>
     ensures found { IfSome result (λ r. Reads line.now (record { statement = seen_statement items.new r.0; long = r.1 })) }
     ensures none { IfNone result ((x : Sized) → Reads line.now x → ⊥) }
@@ -36,7 +36,8 @@ fn read(line: &[u8], tokens: &mut Tokens, items: &mut Items) -> Option<(Statemen
     Some((statement, length))
 }
 
-/// Adds the label of a statement, if it has one. `Twice` with the line's number if a line before it has that label.
+/// Adds the label of a statement, if it has one, at its place. `Twice` with the line's number if a line before it has
+/// that label, `Memory` if an allocation fails.
 fn add_label(
     labels: &mut Labels,
     label: Option<Name>,
@@ -154,7 +155,8 @@ fn emit(
     Ok(bytes)
 }
 
-/// The bytes of a program for offset 0100h that a text is: instructions, data and labels, one statement on each line.
+/// Assembles a text of instructions, data and labels, one statement on each line: returns the bytes of the program,
+/// whose first one is for offset 0100h.
 ///
 /// # Errors
 ///

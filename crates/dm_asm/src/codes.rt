@@ -33,8 +33,8 @@ pub(crate) enum Problem {
     Range,
 }
 
-/// What an operand is written as, with the place of its label; `next` is the offset of the next
-/// instruction. None if the label is unknown, or lies out of range.
+/// What an operand is written as, with the place of its label; `next` is the offset of the next instruction. None if
+/// the label is unknown, or the label and what is added to it lie outside 0 to FFFFh.
 fn written_for(
     labels: &Labels,
     instruction: &Instruction,
@@ -48,8 +48,8 @@ fn written_for(
     written(instruction.mnemonic, term, place as u16, next)
 }
 
-/// What an instruction is written as, with the places of its labels; None if one is unknown or lies
-/// out of range.
+/// What an instruction is written as, with the places of its labels; `next` is the offset of the next instruction.
+/// None if a label is unknown, or a label and what is added to it lie outside 0 to FFFFh.
 fn placed_words(labels: &Labels, instruction: &Instruction, next: u16) -> Option<Words>
     requires { AreNear labels.now }
     ensures { (list : List Label) → AreKept labels.now list → result ≡ words_of list next instruction.now }
@@ -124,7 +124,8 @@ pub(crate) fn bytes_code(amounts: &[Amount]) -> Option<Code>
     Some(code)
 }
 
-/// The word of a value of a DW; None if its label is unknown, or lies out of range.
+/// The word of a value of a DW; None if its label is unknown, or the label and what is added to it lie outside 0 to
+/// FFFFh.
 fn word_of(labels: &Labels, value: &Value) -> Option<u16>
     requires { AreNear labels.now }
     ensures { (list : List Label) → AreKept labels.now list → result ≡ value_of list value.now }
@@ -133,7 +134,7 @@ fn word_of(labels: &Labels, value: &Value) -> Option<u16>
     word_at(*value, place as u16)
 }
 
-/// The bytes of a DW, low bytes first; None if a value has none.
+/// The bytes of a DW, the low byte of each word first; None if a value has no word.
 fn words_code(labels: &Labels, values: &[Value]) -> Option<Code>
     requires near { AreNear labels.now }
     requires few { length values.now ≤ 128 }
@@ -176,7 +177,7 @@ fn knows(labels: &Labels, item: Item, items: &Items) -> bool
     }
 }
 
-/// The bytes of an instruction as those of a line.
+/// The bytes of an instruction as those of a line (`Code`).
 fn widened(bytes: &[u8]) -> Code
     requires { length bytes.now ≤ 16 }
     ensures { result.items ≡ bytes.now }

@@ -39,7 +39,7 @@ pub(crate) struct Known {
 }
 
 impl Known {
-    /// Nothing is kept; no line was read yet.
+    /// What is kept before a line is read: nothing.
     pub(crate) fn new(alloc: Global) -> Known
         ensures { AreKnown [] result.lines.items result.bytes.items }
     {

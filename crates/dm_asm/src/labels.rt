@@ -17,7 +17,7 @@ pub(crate) struct Labels {
 }
 
 impl Labels {
-    /// No labels.
+    /// The labels before a line is read: none.
     pub(crate) fn new(alloc: Global) -> Labels
         ensures { AreKept result [] }
     {

@@ -22,7 +22,7 @@ link_header = 0x9FFF
 abbrev pub word : Memory → ℕ → ℕ
 word S a = peek S a + 256 * peek S (a + 1)
 
--- the segment after the block of a header, where the next header of its list is
+-- the segment after the block of a header, where the next header of its list is, if there is one
 abbrev pub next : Header → ℕ
 next b = b.segment + 1 + b.size
 

@@ -1,4 +1,5 @@
--- Laws of the definitions: memory spells at most one list from a segment on, and a short one.
+-- Laws of the definitions of lists and walks: memory spells at most one list from a segment on, and lists and walks are
+-- short.
 use Rattle.std.specs.Prelude.{◌≡◌, ℕ, ◌≤◌, ◌<◌, Bool, List, length}
 use Rattle.dm_space.specs.Memory.{Memory}
 use Rattle.dm_blocks.specs.declared.header.Header.{Header}

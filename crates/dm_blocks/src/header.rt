@@ -16,7 +16,7 @@ const MORE: u8 = b'M';
 /// The signature of the last header of a list.
 const LAST: u8 = b'Z';
 
-/// What an arena header says of its block.
+/// An arena header: where it stands, and what it says of its block.
 #[derive(Clone, Copy, Debug, PartialEq, Eq)]
 pub struct Header {
     /// The header's own segment; its block begins at the next one.

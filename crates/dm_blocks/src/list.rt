@@ -96,8 +96,7 @@ pub fn is_linked(space: &Space) -> bool
     find(space, LINK + 1).is_some()
 }
 
-/// The header of the first list whose block ends where the link block's header stands; None if it
-/// has none.
+/// The header of the first list whose block ends where the link block's header stands; None if no block ends there.
 pub fn before_link(space: &Space) -> Option<Entry>
     requires { (L : List Header) × IsSpelledFrom space.now.memory first_header L }
     ensures found { EndsBefore space.now.memory first_header link_header result }

@@ -16,10 +16,9 @@ pub enum Step {
     Told(Entry),
     /// The end: there is no other header.
     End,
-    /// The list is destroyed: no header can stand at the segment, where the next one has to be.
-    /// There is no signature, or the block ends past FFFFh, or a write there would be lost, or the
-    /// place is that of an earlier header of the list (for the second list, also of any header of
-    /// the first).
+    /// The list is destroyed: no header can stand at the segment, where the next one has to be. There is no signature,
+    /// or the segment after the block would be over FFFFh, or a write there would be lost, or the place is that of an
+    /// earlier header of the list (for the second list, also of any header of the first).
     Destroyed(u16),
 }
 

@@ -60,7 +60,7 @@ fn slot_of(space: &Space, block: Block, offset: usize) -> usize
 }
 
 impl Seen {
-    /// No paragraph is marked.
+    /// The marks of a walk that has met no header: none is set.
     pub(crate) fn new() -> Seen
         ensures { (S : Memory) → AreMarked S [] result.marks }
     {
@@ -69,7 +69,7 @@ impl Seen {
         }
     }
 
-    /// Sets a mark. Returns true if it was not set before.
+    /// Sets a mark; the others stay. Returns true if it was not set before.
     fn mark(&mut self, slot: usize) -> bool
         requires { slot < 0x1000 }
         ensures { MatchBool result ((slice_index_or self.old.marks slot false ≡ false) × (self.new.marks ≡ slice_set self.old.marks slot true)) ((slice_index_or self.old.marks slot false ≡ true) × (self.new.marks ≡ self.old.marks)) }

@@ -1,4 +1,4 @@
--- How an export ends: with a handle that holds no machine, with success or a refusal, and with a buffer that C gives.
+-- How an export ends: with a handle that holds no machine, with success or a refusal, and with a buffer that C passes.
 use Rattle.std.specs.Prelude.{◌≡◌, ℕ, ◌<◌, ◌≤◌, List, ◌++◌, length, drop, Option, Some, None}
 use Rattle.dm_host.specs.declared.refusal.Refusal.{Refusal}
 use Rattle.dm_host.specs.Hosts.{Hosted}
@@ -16,8 +16,8 @@ pub data IsDoneOrRefused (status : ℕ) (Done : Type 0) (Refused : Refusal → T
   done : status ≡ 0 → Done → IsDoneOrRefused status Done Refused
   refused : (why : Refusal) → status ≡ status_of why → Refused why → IsDoneOrRefused status Done Refused
 
--- the bytes stand at the front of the buffer, with status 0, if they fit; otherwise the buffer stays, with status 4. In
--- both cases `wanted` is how many bytes they are
+-- the buffer `new` is `old` with the bytes at its front, with status 0, if they fit; otherwise it is `old`, with status
+-- 4. In both cases `wanted` is how many bytes they are
 pub data Gives (bytes old new : List ℕ) (wanted status : ℕ) : Type 0 where
   whole : length bytes ≤ length old → new ≡ bytes ++ drop (length bytes) old → wanted ≡ length bytes → status ≡ 0 → Gives bytes old new wanted status
   small : length old < length bytes → new ≡ old → wanted ≡ length bytes → status ≡ 4 → Gives bytes old new wanted status

@@ -1,4 +1,5 @@
--- What each export does with a machine: its status, what it sets, and the host h that becomes g.
+-- What each export does with a machine: its status, what it sets, and the host h that becomes g. `before` and `after`
+-- are what C passes by reference, before the call and after it.
 use Rattle.std.specs.Prelude.{◌≡◌, ◌⊎◌, ℕ, Bool, List, [], map, length, Option, Some, None}
 use Rattle.dm_pool.specs.declared.sizes.Sizes.{Sizes}
 use Rattle.dm_state.specs.declared.stop.Stop.{Stop}
@@ -20,8 +21,8 @@ use Rattle.dm_c.specs.declared.values.Point.{Point}
 use Rattle.dm_c.specs.Statuses.{status_of, stopped_of, registers_of, point_of}
 use Rattle.dm_c.specs.Calls.{IsDoneOrRefused, Gives}
 
--- `mezguld_new`: a machine with no programs is made in a handle that holds none; a handle in use stays (status 2), and
--- so does the handle at a refusal
+-- `mezguld_new`: a machine with no programs is made in a handle that holds no machine; a handle in use stays (status
+-- 2), and at a refusal the handle still holds none
 pub data Makes (old new : Option Hosted) (sizes : Sizes) (variables : List ℕ) (upper : Bool) (status : ℕ) : Type 0 where
   in_use : (h : Hosted) → old ≡ Some h → new ≡ Some h → status ≡ 2 → Makes old new sizes variables upper status
   made : old ≡ None → new ≡ Some (new_host (record { sizes = sizes; variables = variables; upper = upper; programs = [] })) → status ≡ 0
@@ -32,7 +33,8 @@ pub data Makes (old new : Option Hosted) (sizes : Sizes) (variables : List ℕ) 
 abbrev pub AddsTo : Hosted → List ℕ → List ℕ → ℕ → Hosted → Type 0
 AddsTo h name program status g = IsDoneOrRefused status (Adds h name program g) (λ why. IsUnadded h name why × (g ≡ h))
 
--- `mezguld_load`: the program of the name is loaded, or the status says why not
+-- `mezguld_load`: the program of the name is loaded, or the status says why not; with 13 (short) and 3 (out of memory)
+-- the host is then spent, with any other nothing changes
 abbrev pub LoadsTo : Hosted → List ℕ → List ℕ → List ℕ → ℕ → Hosted → Type 0
 LoadsTo h name tail input status g = IsDoneOrRefused status (Loads h name tail input g) (λ why. IsUnloaded h name tail input why g)
 
@@ -67,8 +69,8 @@ abbrev pub WritesTo : Hosted → ℕ → ℕ → List ℕ → ℕ → Hosted →
 WritesTo h segment offset bytes status g =
     IsDoneOrRefused status (Works h (λ s t. t ≡ with_machine s (record s.machine { memory = with_bytes s.machine.memory segment offset bytes })) g) (λ why. IsNotLoaded h why × (g ≡ h))
 
--- `mezguld_output`: the buffer gets all that the program has written to the console; if no program is loaded, nothing
--- changes
+-- `mezguld_output`: all that was written to the console is copied to the front of the buffer, if it fits; if no program
+-- is loaded (status 14), nothing changes
 abbrev pub OutputTo : Hosted → List ℕ → List ℕ → ℕ → ℕ → ℕ → Hosted → Type 0
 OutputTo h before after wanted_before wanted status g =
     (Shows h (λ s. Gives s.console.output before after wanted status)
@@ -87,6 +89,7 @@ ChecksTo h n before after wanted_before wanted status g =
     IsDoneOrRefused status ((stop : Stop) × Checks h n stop g × (after ≡ stopped_of (Some stop)) × (wanted ≡ length g.answer))
     (λ why. IsUnchecked h n why g × (after ≡ before) × (wanted ≡ wanted_before))
 
--- `mezguld_answer`: the buffer gets the answer of the last command or checked run; the host stays
+-- `mezguld_answer`: the answer of the last command or checked run that had one is copied to the front of the buffer, if
+-- it fits; the host stays
 abbrev pub AnswersTo : Hosted → List ℕ → List ℕ → ℕ → ℕ → Hosted → Type 0
 AnswersTo h before after wanted status g = Gives h.answer before after wanted status × (g ≡ h)

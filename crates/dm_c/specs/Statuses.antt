@@ -30,7 +30,7 @@ status_of why.NotLoaded = 14
 status_of why.Syntax = 15
 status_of why.Full = 16
 
--- the status for an assembly text that has an error
+-- the status for an assembly text that is refused: 17 to 21 for an error in it, 3 for a failed allocation
 abbrev pub text_status_of : asm.AssemblyRefusal → ℕ
 text_status_of (text.Syntax line) = 17
 text_status_of (text.Unknown line) = 18
@@ -39,7 +39,7 @@ text_status_of (text.Twice line) = 20
 text_status_of text.TooLong = 21
 text_status_of text.Memory = 3
 
--- the line of an error in an assembly text; `before` if the error has no line
+-- the line, from 1, of an error in an assembly text; `before` if the error has no line
 abbrev pub wrong_line : asm.AssemblyRefusal → ℕ → ℕ
 wrong_line (text.Syntax line) before = line
 wrong_line (text.Unknown line) before = line
@@ -48,7 +48,7 @@ wrong_line (text.Twice line) before = line
 wrong_line text.TooLong before = before
 wrong_line text.Memory before = before
 
--- a stop as C sees it: its number, and the exit code; None is a breakpoint
+-- a stop as C sees it: its number, and the exit code, 0 for any stop but `Exited`; None is a breakpoint
 abbrev pub stopped_of : Option Stop → Stopped
 stopped_of (Some stop.Steps) = record { why = 0; code = 0 }
 stopped_of (Some (stop.Exited code)) = record { why = 1; code = code }
@@ -78,6 +78,6 @@ registers_of cpu = record {
   flags = flags.flags_word cpu.flags;
 }
 
--- the breakpoint that C gives as a pair of CS and IP
+-- the breakpoint at the exact pair of CS and IP that C passes
 abbrev pub point_of : Point → Breakpoint
 point_of p = record { segment = p.segment; offset = p.offset }

@@ -7,15 +7,16 @@ use Rattle.dm_disassembler.specs.Listing.{IsListing}
 use Rattle.dm_c.specs.Statuses.{text_status_of, wrong_line}
 use Rattle.dm_c.specs.Calls.{Gives}
 
--- `mezguld_assemble`: the buffer gets the bytes of the text's program; or the text has an error, or an allocation
--- failed, and then only the status and `line` say so
+-- `mezguld_assemble`: the bytes of the text's program are copied to the front of the buffer, if they fit, and `wanted`
+-- is how many they are; or the text has an error, or an allocation failed: then buffer and `wanted` stay, and `line`
+-- becomes the line of the error, if it has one
 pub data AssemblesTo (text before after : List ℕ) (wanted_before wanted line_before line status : ℕ) : Type 0 where
   assembled : (bytes : List ℕ) → Assembles text bytes → Gives bytes before after wanted status → line ≡ line_before → AssemblesTo text before after wanted_before wanted line_before line status
   refused : (why : AssemblyRefusal) → (why ≡ Memory) ⊎ Refuses text why → status ≡ text_status_of why → line ≡ wrong_line why line_before → after ≡ before → wanted ≡ wanted_before
       → AssemblesTo text before after wanted_before wanted line_before line status
 
--- `mezguld_disassemble`: the buffer gets the assembly text of the program; or the program is too long, or an allocation
--- failed, and then only the status says so
+-- `mezguld_disassemble`: the assembly text of the program is copied to the front of the buffer, if it fits, and
+-- `wanted` is how many bytes it has; or the program is too long, or an allocation failed, and buffer and `wanted` stay
 pub data DisassemblesTo (program before after : List ℕ) (wanted_before wanted status : ℕ) : Type 0 where
   listed : (text : List ℕ) → IsListing program text → Gives text before after wanted status → DisassemblesTo program before after wanted_before wanted status
   too_long : 65278 < length program → status ≡ 21 → after ≡ before → wanted ≡ wanted_before → DisassemblesTo program before after wanted_before wanted status

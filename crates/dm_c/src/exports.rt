@@ -1,6 +1,7 @@
 //! The exports on the handle of a machine, which `include/mezguld.h` declares for C. Each returns a status: 0 for
-//! success, otherwise why not. But for `mezguld_new` and `mezguld_free`, the status is 1 if the handle holds no
-//! machine, and nothing changes then.
+//! success, otherwise why not, as `values.rt` numbers it. But for `mezguld_new` and `mezguld_free`, the status is 1 if
+//! the handle holds no machine, and nothing changes then. For all that need a loaded program, it is 14 if there is
+//! none (3 if an allocation for the points of `mezguld_run_until` fails before), and nothing changes then.
 ghost use Rattle.std.specs.Prelude.{◌≡◌, ◌<◌, None, true, false, nat_lt};
 ghost use Rattle.dm_c.specs.Calls.{IsCall};
 ghost use Rattle.dm_c.specs.Machines.{Makes, AddsTo, LoadsTo, RunsTo, RunsUntilTo, StepsTo, RegistersTo, ReadsTo, WritesTo, OutputTo, CommandsTo, ChecksTo, AnswersTo};
@@ -14,8 +15,8 @@ use dm_host::Host;
 use dm_machine::Sizes;
 use std::alloc::Global;
 
-/// Makes a machine with no programs in a handle that holds none. Any `upper` but 0 adds upper memory to the arena.
-/// Nothing changes unless the status is 0; it is 2 if the handle holds a machine.
+/// Makes a machine with no programs in a handle that holds no machine. Any `upper` but 0 adds upper memory to the
+/// arena. Nothing changes unless the status is 0; the status is 2 if the handle holds a machine.
 #[unsafe(no_mangle)]
 pub extern "C" fn mezguld_new(
     alloc: Global,
@@ -72,7 +73,7 @@ pub extern "C" fn mezguld_add(
 }
 
 /// Loads the program of a name, with a command tail and the console input. With status 13 (short) or 3 (out of memory)
-/// the machine can no longer be loaded; with any other but 0 nothing changes.
+/// no program can be added or loaded any more; with any other but 0 nothing changes.
 #[unsafe(no_mangle)]
 pub extern "C" fn mezguld_load(
     alloc: Global,
@@ -129,7 +130,7 @@ pub extern "C" fn mezguld_run_until(
     status
 }
 
-/// Sets `steps` to how many steps were made so far. It stays unless the status is 0.
+/// Sets `steps` to how many steps the machine has made so far. `steps` stays unless the status is 0.
 #[unsafe(no_mangle)]
 pub extern "C" fn mezguld_steps(alloc: Global, machine: &mut Handle, steps: &mut u64) -> u32
     ensures { IsCall machine.old.inside.value machine.new.inside.value ((result ≡ 1) × (steps.new ≡ steps.old)) (λ h g. StepsTo h steps.old steps.new result g) }
@@ -159,8 +160,8 @@ pub extern "C" fn mezguld_registers(
     status
 }
 
-/// Fills the buffer with the bytes of memory from segment:offset on; offsets wrap. The buffer stays unless the status
-/// is 0.
+/// Fills the buffer with the bytes of memory from segment:offset on; offsets wrap, and bytes where there is no memory
+/// are FFh. The buffer stays unless the status is 0.
 #[unsafe(no_mangle)]
 pub extern "C" fn mezguld_read(
     alloc: Global,
@@ -179,7 +180,8 @@ pub extern "C" fn mezguld_read(
     status
 }
 
-/// Writes the bytes to memory from segment:offset on; offsets wrap. Nothing changes unless the status is 0.
+/// Writes the bytes to memory from segment:offset on; offsets wrap, and bytes for the ROM, or where there is no memory,
+/// are lost. Nothing changes unless the status is 0.
 #[unsafe(no_mangle)]
 pub extern "C" fn mezguld_write(
     alloc: Global,
@@ -198,8 +200,8 @@ pub extern "C" fn mezguld_write(
     status
 }
 
-/// Copies all bytes that the program has written to the console to the front of the buffer, and sets `wanted` to how
-/// many they are. If they do not fit, the status is 4, and only `wanted` changes.
+/// Copies all bytes that were written to the console to the front of the buffer, and sets `wanted` to how many they
+/// are. If they do not fit, the status is 4, and only `wanted` changes; with any other but 0 nothing changes.
 #[unsafe(no_mangle)]
 pub extern "C" fn mezguld_output(
     alloc: Global,
@@ -218,8 +220,8 @@ pub extern "C" fn mezguld_output(
 }
 
 /// Executes the debugger command of a line, keeps what it prints as the answer, and sets `wanted` to how many bytes
-/// that is. `wanted` and the answer before stay unless the status is 0; with status 3 (out of memory) the command may
-/// be done, whole or in part.
+/// that is. `wanted` and the answer before stay unless the status is 0; with status 3 (out of memory) the command, or
+/// some first part of it, may have been executed.
 #[unsafe(no_mangle)]
 pub extern "C" fn mezguld_command(
     alloc: Global,
@@ -239,7 +241,7 @@ pub extern "C" fn mezguld_command(
 
 /// Makes at most `steps` steps under the memory checker, keeps its report as the answer, and sets `stopped` to why the
 /// run stopped and `wanted` to how many bytes the report has. All three stay unless the status is 0; with status 3 (out
-/// of memory) a first part of the run was made.
+/// of memory) a first part of the run, perhaps all of it, was made.
 #[unsafe(no_mangle)]
 pub extern "C" fn mezguld_check(
     alloc: Global,
@@ -258,8 +260,9 @@ pub extern "C" fn mezguld_check(
     status
 }
 
-/// Copies the answer of the last command or checked run that had one to the front of the buffer, and sets `wanted` to
-/// how many bytes it has. If they do not fit, the status is 4, and only `wanted` changes.
+/// Copies the answer of the last command or checked run that had one (no bytes before the first) to the front of the
+/// buffer, and sets `wanted` to how many bytes it has. If they do not fit, the status is 4, and only `wanted` changes.
+/// No program need be loaded.
 #[unsafe(no_mangle)]
 pub extern "C" fn mezguld_answer(
     alloc: Global,

@@ -1,6 +1,6 @@
 //! What the exports do once the handle's machine is taken out: each function calls that of the same name of `Host`, and
-//! returns its status, 0 or that of the refusal. What C passes by reference is set with status 0 alone, except by
-//! `output`.
+//! returns a status, 0 or that of the refusal. What C passes by reference is set with status 0 alone, but `wanted` of
+//! `output` with status 4 too.
 ghost use Rattle.std.specs.Prelude.{◌≡◌};
 ghost use Rattle.dm_c.specs.Machines.{AddsTo, LoadsTo, RunsTo, RunsUntilTo, StepsTo, RegistersTo, ReadsTo, WritesTo, OutputTo, CommandsTo, ChecksTo};
 
@@ -47,7 +47,7 @@ pub(crate) fn run(host: &mut Host, steps: u64, stopped: &mut Stopped) -> u32
 }
 
 /// Makes at most `steps` steps, up to the first one that leads to one of `points`, and sets `stopped` to why the run
-/// stopped. Status 14 if no program is loaded, 3 if an allocation failed; then nothing changes.
+/// stopped. Status 3 if an allocation failed, else 14 if no program is loaded; then nothing changes.
 pub(crate) fn run_until(
     alloc: Global,
     host: &mut Host,
@@ -106,8 +106,8 @@ pub(crate) fn read(host: &Host, segment: u16, offset: u16, buffer: &mut [u8]) ->
     }
 }
 
-/// Writes the bytes to memory from segment:offset on; offsets wrap. The ROM, and addresses without memory, do not
-/// change. Status 14, and no change, if no program is loaded.
+/// Writes the bytes to memory from segment:offset on; offsets wrap, and bytes for the ROM, or where there is no memory,
+/// are lost. Status 14, and no change, if no program is loaded.
 pub(crate) fn write(host: &mut Host, segment: u16, offset: u16, bytes: &[u8]) -> u32
     ensures { WritesTo host.old segment offset bytes.now result host.new }
 {
@@ -117,8 +117,8 @@ pub(crate) fn write(host: &mut Host, segment: u16, offset: u16, bytes: &[u8]) ->
     }
 }
 
-/// Sets `wanted` to how many bytes the program has written to the console, and copies them to the front of the buffer
-/// if they fit; otherwise the status is 4. Status 14, and no change, if no program is loaded.
+/// Sets `wanted` to how many bytes were written to the console, and copies them to the front of the buffer if they fit;
+/// otherwise the buffer stays, with status 4. Status 14, and no change, if no program is loaded.
 pub(crate) fn output(host: &Host, buffer: &mut [u8], wanted: &mut usize) -> u32
     ensures { OutputTo host.now buffer.old buffer.new wanted.old wanted.new result host.now }
 {
@@ -128,7 +128,8 @@ pub(crate) fn output(host: &Host, buffer: &mut [u8], wanted: &mut usize) -> u32
     }
 }
 
-/// Executes the debugger command of a line, and sets `wanted` to the length of its answer.
+/// Executes the debugger command of a line, and sets `wanted` to the length of its answer. At a refusal nothing
+/// changes, but with status 3 the command, or some first part of it, may have been executed.
 pub(crate) fn command(alloc: Global, host: &mut Host, line: &[u8], wanted: &mut usize) -> u32
     ensures { CommandsTo host.old line.now wanted.old wanted.new result host.new }
 {
@@ -142,7 +143,8 @@ pub(crate) fn command(alloc: Global, host: &mut Host, line: &[u8], wanted: &mut 
 }
 
 /// Makes at most `steps` steps under the memory checker, and sets `stopped` to why the run stopped and `wanted` to the
-/// length of the report, which is the answer.
+/// length of the report, which becomes the answer. At a refusal nothing changes, but with status 3 a first part of the
+/// run, perhaps all of it, was made.
 pub(crate) fn check(
     alloc: Global,
     host: &mut Host,

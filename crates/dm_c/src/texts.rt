@@ -7,10 +7,10 @@ use crate::values::{OUT_OF_MEMORY, TOO_LONG, give};
 use dm_asm::{AssemblyRefusal, assemble, disassemble};
 use std::alloc::Global;
 
-/// The most bytes of a COM program that is disassembled.
+/// The largest number of bytes of a program that is disassembled.
 const MOST_PROGRAM_BYTES: usize = 65_278;
 
-/// The status for an assembly text that has an error.
+/// The status for an assembly text that is refused: 17 to 21 for an error in it, 3 for a failed allocation.
 fn text_status_of(refusal: AssemblyRefusal) -> u32
     ensures { result ≡ text_status_of refusal }
 {

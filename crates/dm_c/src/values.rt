@@ -16,13 +16,13 @@ pub(crate) const NO_MACHINE: u32 = 1;
 /// The status of `mezguld_new` on a handle that holds a machine already.
 pub(crate) const IN_USE: u32 = 2;
 
-/// The status where an allocation failed.
+/// The status if an allocation failed.
 pub(crate) const OUT_OF_MEMORY: u32 = 3;
 
-/// The status where the buffer is too small.
+/// The status if the buffer is too small.
 pub(crate) const TOO_SMALL: u32 = 4;
 
-/// The status where a program has over 65,278 bytes.
+/// The status if the program to assemble or disassemble has over 65,278 bytes.
 pub(crate) const TOO_LONG: u32 = 21;
 
 /// Why a run stopped: `why` is 0 to 7 as `stopped_of` numbers the stops, and `code` is the exit code, 0 at any other
@@ -54,7 +54,7 @@ pub struct Registers {
     pub flags: u16,
 }
 
-/// A breakpoint as C gives it: an exact pair of CS and IP.
+/// A breakpoint as C passes it: an exact pair of CS and IP.
 #[repr(C)]
 #[derive(Clone, Copy, Debug, PartialEq, Eq)]
 pub struct Point {
@@ -145,7 +145,7 @@ pub(crate) fn points_of(alloc: Global, points: &[Point]) -> Result<Vec<Breakpoin
     Ok(breakpoints)
 }
 
-/// Sets `wanted` to the number of bytes, copies them to the front of the buffer and returns 0, if they fit; otherwise
+/// Sets `wanted` to the number of bytes. If they fit, copies them to the front of the buffer and returns 0; otherwise
 /// returns 4, and the buffer stays.
 pub(crate) fn give(bytes: &[u8], buffer: &mut [u8], wanted: &mut usize) -> u32
     ensures { Gives bytes.now buffer.old buffer.new wanted.new result }

@@ -13,15 +13,16 @@ use Rattle.dm_findings.specs.declared.finding.Finding.TheVariants.{FreedTwice, R
 
 -- ---- calls that write headers
 
--- the functions of INT 21h that change or query the arena: 48h, 49h, 4Ah and 58h
+-- whether the function of INT 21h with this number is one of the arena: 48h, 49h, 4Ah or 58h
 abbrev pub is_arena : ℕ → Bool
 is_arena number = (number == 0x48) || (number == 0x49) || (number == 0x4A) || (number == 0x58)
 
--- the functions of INT 21h that end a process: 00h, 31h and 4Ch
+-- whether the function of INT 21h with this number ends a process: 00h, 31h or 4Ch
 abbrev pub is_ending : ℕ → Bool
 is_ending number = (number == 0x00) || (number == 0x31) || (number == 0x4C)
 
--- whether this function of INT 21h starts a process: 4Bh does, but with AL = 3 it loads an overlay
+-- whether the call of INT 21h with this number and these registers starts a process: 4Bh, but not with AL = 3, which
+-- loads an overlay
 abbrev pub is_starting : Cpu → ℕ → Bool
 is_starting c number = (number == 0x4B) && not (byte_of c Al == 3)
 
@@ -48,13 +49,13 @@ leaves (Some (ExtendedMemory number)) = false
 
 -- ---- a block that is freed twice
 
--- one of the headers is that of the block at the segment, and the block is free (owner 0)
+-- whether one of the headers is that of the block at the segment, and the block is free (owner 0)
 abbrev pub is_free_at : List Header → ℕ → Bool
 is_free_at [] segment = false
 is_free_at (b ∷ headers) segment = ((b.segment + 1 == segment) && (b.owner == 0)) || is_free_at headers segment
 
--- the finding that a call of 49h freed the block at segment ES, and the block was free before; c and d are the
--- registers before and after the call
+-- the finding that a call of 49h succeeded for the block at segment ES, which was free before; none for any other call.
+-- c and d are the registers before and after the call, `headers` the arena before it
 abbrev pub freed_twice : Cpu → Cpu → Option Call → List Header → List Finding
 freed_twice c d (Some (Dos number)) headers =
     if (number == 0x49) && not d.flags.carry && is_free_at headers c.es then FreedTwice c.es ∷ [] else []
@@ -62,24 +63,25 @@ freed_twice c d _ headers = []
 
 -- ---- refusals, by the registers before and after a call
 
--- the finding that a call of INT 21h failed: CF is set, and AX is the error code, below 256. For code 8 of 48h and 4Ah,
--- BX in c is how many paragraphs were asked for, and BX in d how many there are
+-- the finding that a call of INT 21h failed; none if CF is clear in d. AX in d is the error code, below 256. For code 8
+-- of 48h and 4Ah, BX in c is how many paragraphs were asked for, and BX in d how many are available
 abbrev pub refused_by_dos : Cpu → Cpu → ℕ → List Finding
 refused_by_dos c d number =
     if not d.flags.carry then [] else
     if (byte_of d Al == 8) && ((number == 0x48) || (number == 0x4A)) then Short c.bx d.bx ∷ [] else Refused (byte_of d Al) ∷ []
 
--- the finding that a call of INT 67h failed with this status: not with 00h, and not with 92h, which says that a move
--- was done and its regions overlap
+-- the finding that a call of INT 67h failed with this status; none for 00h, success, and for 92h, which says that a
+-- move was done and its regions overlap
 abbrev pub refused_by_status : ℕ → List Finding
 refused_by_status status = if (status == 0) || (status == 0x92) then [] else Refused status ∷ []
 
--- the finding that a call of the extended memory driver failed: AX is 0, and BL is an error code. (Function 07h returns
--- 0 in both if A20 is off)
+-- the finding that a call of the extended memory driver failed: AX is 0, and BL, the error code, is not; else none.
+-- (Function 07h returns 0 in both if A20 is off)
 abbrev pub refused_by_error : Cpu → List Finding
 refused_by_error d = if (d.ax == 0) && not (byte_of d Bl == 0) then Refused (byte_of d Bl) ∷ [] else []
 
--- the finding that a call failed, by the registers before (c) and after it (d); none if it did not fail
+-- the finding that a call failed, by the registers before (c) and after it (d); none if it did not fail. Of INT 21h,
+-- only functions 48h, 49h, 4Ah, 4Bh and 58h are looked at
 abbrev pub refusal_findings : Cpu → Cpu → Option Call → List Finding
 refusal_findings c d None = []
 refusal_findings c d (Some DivideError) = []

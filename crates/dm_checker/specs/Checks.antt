@@ -19,12 +19,13 @@ pub record FindsAt (s t : State) (found : List Found) : Type 0 where
   pub finds : Finds s t findings
   pub told : IsFound s t findings found
 
--- what the first program left allocated, unless it stays resident: by the tables and the map after its last step, from
--- s to t, which no service changes
+-- what the first program left allocated, by the state t after the step from s that ended it; none if it stays resident
+-- (31h)
 abbrev pub left_behind : State → State → List Finding
 left_behind s t = if leaves (call_of s.cpu) then leaks t else []
 
--- `found` is what is found of the step from s to t that ends the first program, and what the program left allocated
+-- `found` is what is found of the step from s to t that ends the first program, and what the program left allocated,
+-- unless it stays resident
 pub record FindsAtEnd (s t : State) (found : List Found) : Type 0 where
   pub findings : List Finding
   pub finds : Finds s t findings
@@ -59,7 +60,7 @@ pub record IsReport (s : State) (n : ℕ) (stop : Stop) (t : State) (report : Re
   pub checks : Checks s n stop t found
   pub is : report ≡ report_of found
 
--- t is what a run of at most n steps from s leaves
+-- some run of at most n steps from s leaves t
 pub record RunsPart (s : State) (n : ℕ) (t : State) : Type 0 where
   pub most : ℕ
   pub stop : Stop

@@ -20,8 +20,8 @@ use Rattle.dm_checker.specs.Shown.{Shown, IsShown}
 use Rattle.dm_checker.specs.Headers.{overwritten, mapped_away}
 use Rattle.dm_checker.specs.Calls.{arranges, freed_twice, refusal_findings}
 
--- the finding that the arena was whole and is destroyed, or was destroyed and is whole, by where its list broke before
--- and after a step
+-- the finding that the arena was whole and is destroyed, or was destroyed and is whole, by where its list breaks before
+-- and after a step (None: nowhere); none if it was and is whole, or was and is destroyed
 abbrev pub turned : Option ℕ → Option ℕ → List Finding
 turned None (Some at) = Destroyed at ∷ []
 turned (Some at) None = Whole ∷ []
@@ -58,8 +58,8 @@ pub data IsAct (s : State) (a : Act) : Type 0 where
   called : (call : Call) → call_of s.cpu ≡ Some call → a ≡ act.Call call → IsAct s a
   instructed : (i : Ins) (length : ℕ) → call_of s.cpu ≡ None → BeginsWith (fetched s.memory s.cpu) i length → a ≡ act.Instruction i (up s.cpu.ip length) → IsAct s a
 
--- the findings with their step from s to t, which performs a: its number (how many steps were made, this one included),
--- and CS:IP before it
+-- the findings with their step from s to t, which performs a: its number (the machine's count of steps after it), and
+-- CS:IP before it
 abbrev pub found_at : State → State → Act → List Finding → List Found
 found_at s t a = map (λ f. record { step = t.steps; segment = s.cpu.cs; offset = s.cpu.ip; act = a; finding = f })
 

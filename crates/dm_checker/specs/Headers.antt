@@ -23,30 +23,31 @@ shown_at m segment = contents (λ k. peek m (16 * segment + k))
 abbrev pub kept_at : Memory → Memory → ℕ → Contents
 kept_at S T segment = contents (λ k. byte_at T (place S (16 * segment + k)))
 
--- the two headers have the same signature, owner and size
+-- whether the two headers have the same signature, owner and size
 abbrev pub same_contents : Contents → Contents → Bool
 same_contents a b = (a.signature == b.signature) && (a.owner == b.owner) && (a.size == b.size)
 
--- the pool has a block with this number
+-- whether the pool has a block with this number
 abbrev pub is_live : Blocks → ℕ → Bool
 is_live s block = nat_lt block 576 && is_some (get_or s.places block None)
 
--- the place still exists in memory: it is not in a page that was freed
+-- whether the place still exists in memory: it is not in a page that was freed
 abbrev pub is_there : Memory → Place → Bool
 is_there m (Low a) = true
 is_there m (Page block k) = is_live m.blocks block
 is_there m (Rom k) = true
 is_there m Nothing = true
 
--- the finding that a header has other bytes at its places after the step, whatever wrote them; none if its page was
--- freed
+-- the finding that a header has another signature, owner or size at its places after the step, whatever wrote it; none
+-- if its page was freed
 abbrev pub overwritten : Memory → Memory → Header → List Finding
 overwritten S T b =
     if is_there T (place S (16 * b.segment)) && not (same_contents (kept_at S T b.segment) (shown_at S b.segment))
     then Overwritten b.segment (shown_at S b.segment) (kept_at S T b.segment) ∷ [] else []
 
--- the finding that a header can no longer be read at its segment: its page was freed, or a change of windows shows
--- other bytes there than those at its places. If the other page holds the same five bytes, nothing is found
+-- the finding that a header can no longer be read at its segment: its page was freed, or its segment now shows other
+-- bytes 0 to 4 than those at its places, since a window changed. If another page shows the same five bytes, nothing is
+-- found
 abbrev pub mapped_away : Memory → Memory → Header → List Finding
 mapped_away S T b =
     if is_there T (place S (16 * b.segment)) && same_contents (kept_at S T b.segment) (shown_at T b.segment)

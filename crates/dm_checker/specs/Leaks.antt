@@ -13,19 +13,19 @@ use Rattle.dm_state.specs.State.{State}
 use Rattle.dm_findings.specs.declared.finding.Finding.{Finding}
 use Rattle.dm_findings.specs.declared.finding.Finding.TheVariants.{PagesKept, MapKept, WindowKept, BlockKept, UpperKept, AreaKept, LineKept}
 
--- the findings that f gives for the numbers 0 to n - 1, in their order
+-- the findings of f for the numbers 0 to n - 1, in their order; none if n is 0
 unfoldable pub of_each : (ℕ → List Finding) → ℕ → List Finding
 of_each f zero = []
 of_each f (suc n) = of_each f n ++ f n
 
 -- ---- expanded memory
 
--- the finding that a handle of expanded memory was not freed, with its pages, of which it may have none. Handle 0 is
--- always in use: it is found only if it has pages
+-- the finding that a handle of expanded memory was not freed, with the number of its pages, which may be 0. Handle 0 is
+-- always in use: there is a finding of it only if it has pages
 abbrev pub pages_kept : ℕ → ℕ → List Finding
 pages_kept handle pages = if (handle == 0) && (pages == 0) then [] else PagesKept handle pages ∷ []
 
--- the finding that a handle's page map was saved and not restored
+-- the finding that the page map saved with a handle was not restored; none if the handle has no saved map
 abbrev pub map_kept : ℕ → Handle → List Finding
 map_kept handle h = if is_some h.saved then MapKept handle ∷ [] else []
 
@@ -38,14 +38,14 @@ if_in_use ems handle (Some h) = pages_kept handle (page_count ems handle) ++ map
 abbrev pub handle_kept : Tables → ℕ → List Finding
 handle_kept ems handle = if_in_use ems handle (slice_index_or ems.handles handle None)
 
--- the finding that a window still shows a page
+-- the finding that this window of the frame, from 0, still shows a page; none if it shows none
 abbrev pub window_kept : Memory → ℕ → List Finding
 window_kept m window = if is_some (slice_index_or m.windows window None) then WindowKept window ∷ [] else []
 
 -- ---- extended memory
 
 -- the finding that the block of a handle of extended memory was not freed, by the handle's entry: its KiB, and whether
--- it is locked
+-- it is locked; none if the handle is not in use (None)
 abbrev pub if_allocated : ℕ → Option Block → List Finding
 if_allocated handle None = []
 if_allocated handle (Some b) = BlockKept handle b.kib (nat_lt 0 b.locks) ∷ []
@@ -63,7 +63,7 @@ if_given (Some u) = UpperKept u.segment ∷ []
 abbrev pub upper_kept : xms.Tables → ℕ → List Finding
 upper_kept tables k = if_given (slice_get tables.uppers k)
 
--- the findings that the high memory area was not released and that A20 was left on
+-- the findings that the high memory area was not released (`area`) and that A20 was left on (`on`)
 abbrev pub switches_kept : Bool → Bool → List Finding
 switches_kept area on = (if area then AreaKept ∷ [] else []) ++ (if on then LineKept ∷ [] else [])
 

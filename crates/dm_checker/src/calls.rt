@@ -1,6 +1,6 @@
 //! Which calls may change the arena, and the findings about calls: blocks freed twice and calls that failed (MS-DOS
-//! Programmer's Reference, "System Calls"; LIM EMS 4.0, section 3; XMS 3.0). Each call that puts findings appends them
-//! to `out`; an `Err` is a failed allocation.
+//! Programmer's Reference, "System Calls"; LIM EMS 4.0, section 3; XMS 3.0). Each function `put_..` appends its
+//! findings to `out`; an `Err` is a failed allocation.
 
 ghost use Rattle.std.specs.Prelude.{◌≡◌, ◌++◌, map, OnOk};
 ghost use Rattle.dm_checker.specs.Calls.{is_arena, is_ending, is_starting, arranges, leaves, is_free_at, freed_twice, refused_by_dos, refused_by_status, refused_by_error, refusal_findings};
@@ -91,8 +91,8 @@ pub(crate) fn put_freed_twice(
     Ok(())
 }
 
-/// Appends that a call of INT 21h failed, if CF is set after it: with its error code in AL, or, for code 8 of 48h and
-/// 4Ah, with the paragraphs asked for and available (BX before and after it).
+/// Appends that a call of INT 21h failed, if CF is set after it: with the error code (AL after it), or, for code 8 of
+/// 48h and 4Ah, with the paragraphs asked for and available (BX before and after it).
 fn put_refused_by_dos(
     out: &mut Vec<Finding>,
     before: &Cpu,

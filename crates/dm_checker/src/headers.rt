@@ -1,6 +1,6 @@
-//! The findings about what a step did to the headers of the arena: overwritten, or mapped away. `headers` and `windows`
-//! are those before the step, `space` is memory after it. Each call that puts findings appends them to `out`; an `Err`
-//! is a failed allocation.
+//! The findings about what a step did to the headers of the arena: overwritten, or mapped away. `headers`, `watched`
+//! and `windows` are those before the step, `space` is memory after it. Each function `put_..` appends its findings to
+//! `out`; an `Err` is a failed allocation.
 
 ghost use Rattle.std.specs.Prelude.{◌≡◌, ◌++◌, ◌+◌, ◌*◌, ◌<◌, ℕ, All, map, slice_index, OnOk};
 ghost use Rattle.std.specs.List.{flat_map};
@@ -66,7 +66,8 @@ fn contents_in(bytes: &[u8], at: usize) -> Contents
 }
 
 /// The contents that memory now has at the places where the header at `segment` stood while the windows showed these
-/// blocks; None if its page was freed. Outside the frame, E000h to EFFFh, the windows do not matter.
+/// blocks: FFh throughout in a window that showed no block; None if the block that it showed was freed. Outside the
+/// frame, segments E000h to EFFFh, the windows do not matter.
 fn kept_of(space: &Space, windows: &[Option<Block>; 4], segment: u16) -> Option<Contents>
     ensures { (S : Memory) → windows.now ≡ S.windows → IsKept S space.now.memory segment result }
 {

@@ -1,4 +1,4 @@
-//! Laws of checked runs, each the contract of a function that does nothing.
+//! Laws of checked runs (`check`), each the contract of a function that does nothing.
 
 ghost use Rattle.dm_checker.specs.Laws.{ACheckedRunIsARun, CheckHasOneReport};
 
@@ -7,8 +7,8 @@ pub fn a_checked_run_is_a_run()
     ensures { ACheckedRunIsARun }
 {}
 
-/// The law that a run has one report: the state before a run and the number of steps determine what is found, unless an
-/// allocation failed. Does nothing when called.
+/// The law that a run has one report: the state before a run and the limit of steps determine the stop, the state after
+/// it and what is found, unless an allocation fails. Does nothing when called.
 pub fn a_check_has_one_report()
     ensures { CheckHasOneReport }
 {}

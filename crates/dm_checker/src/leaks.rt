@@ -1,5 +1,5 @@
-//! The findings about what a program that has ended left allocated (LIM EMS 4.0, section 2; XMS 3.0). Each call appends
-//! its findings to `out`; an `Err` is a failed allocation.
+//! The findings about what a program that has ended left allocated (LIM EMS 4.0, section 2; XMS 3.0). Each function
+//! `put_..` appends its findings to `out`; an `Err` is a failed allocation.
 
 ghost use Rattle.std.specs.Prelude.{◌≡◌, ◌++◌, ◌<◌, ◌+◌, None, OnOk, slice_index_or};
 ghost use Rattle.dm_checker.specs.Leaks.{pages_kept, map_kept, handle_kept, window_kept, block_kept, upper_kept, switches_kept, of_each, leaks};
@@ -12,7 +12,8 @@ use dm_space::Space;
 use dm_xms::Xms;
 use std::alloc::AllocError;
 
-/// How many handles of expanded memory there are, how many of extended memory, and the most upper memory blocks.
+/// The number of handles of expanded memory (0 to 63), that of handles of extended memory (1 to 64), and the largest
+/// number of upper memory blocks.
 const MOST: u16 = 64;
 
 /// Appends that a handle of expanded memory was not freed, with the number of its pages; for handle 0 only if it has
@@ -49,7 +50,7 @@ fn put_handle(out: &mut Vec<Finding>, ems: &Ems, handle: u16) -> Result<(), Allo
     }
 }
 
-/// Appends that a window of the frame still shows a page, if it does.
+/// Appends that this window of the frame, from 0, still shows a page, if it does.
 fn put_window(out: &mut Vec<Finding>, space: &Space, window: u8) -> Result<(), AllocError>
     requires { window < 4 }
     ensures { OnOk result (out.new.items ≡ out.old.items ++ window_kept space.now.memory window) }
@@ -96,7 +97,7 @@ fn put_switches(out: &mut Vec<Finding>, area: bool, on: bool) -> Result<(), Allo
     Ok(())
 }
 
-/// Appends what the handles of expanded memory keep, in rising order.
+/// Appends what each handle of expanded memory that is in use keeps, in rising order.
 fn put_handles(out: &mut Vec<Finding>, ems: &Ems) -> Result<(), AllocError>
     ensures { OnOk result (out.new.items ≡ out.old.items ++ of_each (handle_kept ems.now) 64) }
 {

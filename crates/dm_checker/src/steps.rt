@@ -1,4 +1,4 @@
-//! One checked step: it is made, and what is found of it goes into the report.
+//! One checked step: the machine makes it, and what is found of it is added to the report.
 
 ghost use Rattle.std.specs.Prelude.{◌≡◌, ◌++◌, map, IfOk, OnOk, OnErr, Option, None, Some, List};
 ghost use Rattle.dm_findings.specs.Calls.{call_of};
@@ -65,8 +65,8 @@ fn look_anew(
     put_refused(out, &before.cpu, &after, before.call)
 }
 
-/// Appends to `out` what is found of a step, and brings `kept`, the arena as it was last read, up to date. Reads the
-/// arena anew only if the step may have changed it. An `Err` is a failed allocation.
+/// Appends to `out` what is found of a step. `kept`, the arena as it was read before the step, becomes the arena after
+/// it, which is read anew only if the step may have changed it. An `Err` is a failed allocation.
 fn look(
     alloc: Global,
     out: &mut Vec<Finding>,
@@ -87,8 +87,8 @@ fn look(
     Ok(())
 }
 
-/// Adds the findings of a step to the report, each with the step's number, CS:IP before it, and what it performed. An
-/// `Err` is a failed allocation.
+/// Adds the findings of a step to the report, each with the step's number, CS:IP before the step, and what the step
+/// performed. An `Err` is a failed allocation.
 fn tell(
     report: &mut Report,
     before: &Before,
@@ -110,7 +110,7 @@ fn tell(
     Ok(())
 }
 
-/// Adds the findings of a step after which the machine goes on to the report. An `Err` is a failed allocation.
+/// Adds to the report the findings of a step after which the machine goes on. An `Err` is a failed allocation.
 fn tell_step(
     report: &mut Report,
     before: &Before,
@@ -152,7 +152,8 @@ fn check_end(
     tell(report, before, machine.steps(), Act::Call(call), &found)
 }
 
-/// Makes one step of an instruction by `Machine::run`, which uses the decode cache. Returns the stop, or None.
+/// Makes one step of an instruction by `Machine::run`, which uses the decode cache. Returns the stop, or None if the
+/// machine goes on.
 fn run_once(machine: &mut Machine) -> Option<Stop>
     requires program { HasProgram machine.old }
     requires uncalled { call_of machine.old.cpu ≡ None }
@@ -165,7 +166,8 @@ fn run_once(machine: &mut Machine) -> Option<Stop>
     }
 }
 
-/// Makes one step, which performs `call` or, for None, an instruction. Returns the stop, or None.
+/// Makes one step, which performs `call` or, for None, an instruction. Returns the stop, or None if the machine goes
+/// on.
 fn make_step(machine: &mut Machine, call: Option<Call>) -> Option<Stop>
     requires program { HasProgram machine.old }
     requires call { call ≡ call_of machine.old.cpu }
@@ -178,7 +180,8 @@ fn make_step(machine: &mut Machine, call: Option<Call>) -> Option<Stop>
     run_once(machine)
 }
 
-/// Makes one step of an instruction that writes no memory, of which nothing is found. Returns the stop, or None.
+/// Makes one step of an instruction that writes no memory; nothing is found of it. Returns the stop, or None if the
+/// machine goes on.
 fn pass(machine: &mut Machine) -> Option<Stop>
     requires program { HasProgram machine.old }
     requires reads { OnlyReads machine.old.memory machine.old.cpu }
@@ -190,9 +193,10 @@ fn pass(machine: &mut Machine) -> Option<Stop>
     run_once(machine)
 }
 
-/// Makes one step and adds what is found of it to the report; returns the stop, or None. `known` is the cache of code
-/// that writes no memory; `kept` is the arena as it was last read, and is brought up to date if the machine goes on. An
-/// `Err` is a failed allocation of the checker, after the step was made.
+/// Makes one step and adds what is found of it to the report; returns the stop, or None if the machine goes on. `known`
+/// is the cache of code that writes no memory, to which the code at CS:IP may be added; `kept` is the arena before the
+/// step and becomes that after it if the machine goes on. An `Err` is a failed allocation of the checker, after the
+/// step was made.
 pub(crate) fn check_step(
     alloc: Global,
     machine: &mut Machine,

@@ -203,8 +203,8 @@ fn are_same_windows(first: &[Option<Block>; 4], second: &[Option<Block>; 4]) -> 
 }
 
 impl Watch {
-    /// Whether the machine's windows and all bytes that were read are still the same. Then its memory shows the same of
-    /// the arena.
+    /// Whether the machine's windows, all bytes that were read and whether upper memory belongs to the arena are still
+    /// the same. Then its memory shows the same of the arena.
     pub(crate) fn is_seen(&self, machine: &Machine) -> bool
         ensures { MatchBool result (IsSeen machine.now.upper machine.now.memory self.now) (IsSeen machine.now.upper machine.now.memory self.now → ⊥) }
     {

@@ -13,7 +13,8 @@ use std::marker::Model;
 /// How many entries a `Known` has; the low 12 bits of IP select one.
 const ENTRIES: usize = 0x1000;
 
-/// Eight bytes of code, and whether it is known that they begin with an instruction that writes no memory.
+/// Eight bytes of code as a number, the first byte lowest, and whether it is known that they begin with an instruction
+/// that writes no memory.
 #[derive(Clone, Copy)]
 pub(crate) struct Entry {
     pub(crate) eight: u64,
@@ -46,7 +47,8 @@ fn is_memory(operand: &Operand) -> bool
 }
 
 /// Whether an instruction may write memory, by its mnemonic and operands. The first arm has those that write elsewhere
-/// than to an operand: to the stack or to ES:DI. DIV and IDIV are there because they may take interrupt 0.
+/// than to an operand: to the stack or to ES:DI. DIV and IDIV are there because they may take interrupt 0, which pushes
+/// FLAGS, CS and IP.
 fn may_write(ins: &Ins) -> bool
     ensures { result ≡ may_write ins.now.action.mnemonic ins.now.action.first ins.now.action.second }
 {
@@ -98,8 +100,8 @@ impl Known {
         Ok(Known { entries })
     }
 
-    /// Whether it is known that the instruction at CS:IP writes no memory; false is no statement. Enters what it finds
-    /// out into the cache.
+    /// Whether it is known that the instruction at CS:IP writes no memory; false is no statement, and the result for CS
+    /// from F000h on. Enters what it finds out into the cache.
     #[inline(always)]
     pub(crate) fn only_reads(&mut self, cpu: &Cpu, space: &Space) -> bool
         ensures { IsTrue result → OnlyReads space.now.memory cpu.now }

@@ -1,4 +1,5 @@
--- What `dm asm` and `dm disasm` write, by what the file that they read holds, where that is known.
+-- What `dm asm` and `dm disasm` write, by what the file that they read holds. `known` is what that file holds, where it
+-- is known.
 use Rattle.std.specs.Prelude.{ℕ, ◌≡◌, ◌<◌, ◌≤◌, ◌⊎◌, List, Option, Some, None, length}
 use Rattle.std.specs.Io.KnownBytes.{Appends, Keeps}
 use Rattle.dm_asm.specs.declared.refusal.AssemblyRefusal.{AssemblyRefusal}
@@ -32,8 +33,8 @@ pub data IsAsmFault (known : Option (List ℕ)) (path : List ℕ) : Fault → Ty
   text_refused : (text : List ℕ) (why : AssemblyRefusal) → IsRead known text → Refuses text why → IsAsmFault known path (refusal_fault why)
   text_no_memory : IsAsmFault known path OutOfMemory
 
--- `dm asm`: the bytes of the text are written to a file; or that failed, and the count of failed saves has risen by
--- one; or the text has a fault. Only in the first case is a file written
+-- `dm asm`: the bytes of the text are written to a file; or that failed, and the count of failed saves is one higher;
+-- or a fault came before. `before` and `after` are the files written, which change in the first case alone
 pub data Assembles (files : List ℕ → Option (List ℕ)) (o : AsmOptions) (before after : Option (List (List ℕ × List ℕ))) (failed_before failed_after : ℕ) : Option Fault → Type 0 where
   saved : (bytes : List ℕ) → IsAssembled (files o.input.now) bytes → Saves before after o.output.now bytes → failed_after ≡ failed_before
       → Assembles files o before after failed_before failed_after None
@@ -50,7 +51,7 @@ pub data IsDisasmFault (known : Option (List ℕ)) (path : List ℕ) : Fault →
   bytes_no_memory : IsDisasmFault known path OutOfMemory
 
 -- `dm disasm`: the assembly text is appended to standard output; or a first part of it, if a write failed; or nothing,
--- at a fault before
+-- at a fault before. `before` and `after` are what standard output has taken
 pub data Disassembles (files : List ℕ → Option (List ℕ)) (path : List ℕ) (before after : Option (List ℕ)) (failed_before failed_after : ℕ) : Option Fault → Type 0 where
   listed : (text : List ℕ) → IsDisassembled (files path) text → Appends before after text → failed_after ≡ failed_before
       → Disassembles files path before after failed_before failed_after None

@@ -20,9 +20,9 @@ use Rattle.dm_cli.specs.Statuses.{stop_status}
 abbrev pub checked_status : Reported → Stop → ℕ
 checked_status report stop = if nat_lt 0 report.errors then 124 else stop_status stop
 
--- `dm check`: the machine runs as for `dm run`; the status of that run, after its whole output was written to standard
--- output, and its report with the line about the stop to standard error; or a fault. If a write of the output failed, a
--- first part of it was written; after any other fault nothing was, and no write failed
+-- `dm check`: the machine runs as for `dm run`. The result is the exit status, after the whole output was written to
+-- standard output and the report with the line about the stop was printed on standard error; or a fault. If a write of
+-- the output failed, a first part of the output was written; with any other fault nothing was, and no write failed
 pub data Checks (files : List ℕ → Option (List ℕ)) (typed : Option (List ℕ)) (o : MachineOptions) (before after : Option (List ℕ)) (failed_before failed_after : ℕ) (error_before error_after : Stream) : Result ℕ Fault → Type 0 where
   checked : (m t : State) (stop : Stop) (report : Reported) (status : ℕ) → IsStartedBy files typed o m → IsRun m o.steps stop t → IsReport m o.steps stop t report
       → Appends before after t.console.output → failed_after ≡ failed_before → Prints (report_text report ++ stop_text stop) error_before error_after → status ≡ checked_status report stop

@@ -16,11 +16,11 @@ use Rattle.dm_cli.specs.declared.fault.Fault.TheVariants.{InputTooLong, OutOfMem
 
 -- ---- one line
 
--- the line ends the session: it is `Q` or `q`
+-- the line ends the session: it is `Q` or `q` alone
 abbrev pub IsQuit : List ℕ → Type 0
 IsQuit line = (line ≡ 81 ∷ []) ⊎ (line ≡ 113 ∷ [])
 
--- what is written for a line, and the session after it: what the command prints; or why the line is refused, and then
+-- the session after a line, and what is written for it: what the command prints; or why the line is refused, and then
 -- the session stays
 pub data Tells (s : Debugged) (line : List ℕ) : Debugged → List ℕ → Type 0 where
   answered : (command : Command) (t : Debugged) (text : List ℕ) → command_of line ≡ Some command → is_syntax s (Some command) ≡ false → is_full s (Some command) ≡ false → Does s command text t → Tells s line t text
@@ -30,9 +30,9 @@ pub data Tells (s : Debugged) (line : List ℕ) : Debugged → List ℕ → Type
 -- ---- the lines of a text
 
 -- The lines of a text are executed one after the other, up to its end or a line that ends the session. A line ends with
--- 0Ah, or with the text; the lines may have n bytes in all, their 0Ah included. After session and text come: what is
--- written; the session after that; the fault that ended it early, if any; and whether all answers were written whole
--- and flushed.
+-- 0Ah, or with the text; the lines may have n bytes in all, their 0Ah included. The arguments after session and text
+-- are: what is written; the session after that; the fault that ended it early, if any; and whether all answers were
+-- written whole and flushed.
 pub data Converses : ℕ → Debugged → List ℕ → List ℕ → Debugged → Option Fault → Bool → Type 0 where
   ended : (n : ℕ) (s : Debugged) → Converses n s [] [] s None true
   quits : (n : ℕ) (s : Debugged) (text : List ℕ) → length (take_through 10 text) ≤ n → IsQuit (first_piece 10 text) → Converses n s text [] s None true
@@ -50,9 +50,10 @@ pub data Converses : ℕ → Debugged → List ℕ → List ℕ → Debugged →
   not_handed_on : (n : ℕ) (s t : Debugged) (text told : List ℕ) (fault : Fault) → text ≢ [] → length (take_through 10 text) ≤ n
       → ¬ IsQuit (first_piece 10 text) → Tells s (first_piece 10 text) t told → IsWriteFault fault → Converses n s text told t (Some fault) false
 
--- the session s executes the lines of a reader and becomes t. `known` is what the reader has, where that is known; what
--- was written is appended to a writer; `opened` and `failures` count the writer's failures before and after. The count
--- rises exactly if an answer was not written whole or not flushed
+-- the session s executes the lines of a reader, which may have n bytes in all, and becomes t; `end` is the fault that
+-- ended it early, if any. `known` is what the reader has, where that is known; `before` and `after` are what the writer
+-- has taken; `opened` and `failures` are the counts of its failures before and after. The count rises, unless it is at
+-- its highest, exactly if an answer was not written whole or not flushed
 pub record IsConversation (n : ℕ) (known : Option (List ℕ)) (s t : Debugged) (before after : Option (List ℕ)) (opened failures : ℕ) (end : Option Fault) : Type 0 where
   pub text : List ℕ
   pub told : List ℕ

@@ -1,4 +1,4 @@
--- What `dm` prints on standard error: the line about a stop, or about a fault.
+-- What `dm` prints on standard error: the line about a stop, or that of a fault.
 use Rattle.std.specs.Prelude.{ℕ, ◌≡◌, ◌++◌, List, [], ◌∷◌, Option, Some, None, Result, Ok, Err, codes}
 use Rattle.std.specs.Io.KnownBytes.{Appends}
 use Rattle.dm_out.specs.Out.{AppendsPart, HasFailed}
@@ -32,7 +32,7 @@ pub data Reports (before after : Stream) : Option Fault → Type 0 where
   silent : after ≡ before → Reports before after None
   faulty : (fault : Fault) → Prints (fault_line fault) before after → Reports before after (Some fault)
 
--- what `dm run` prints on standard error: the line about its stop, or about its fault
+-- what `dm run` prints on standard error: the line about its stop (no text for an exit), or that of its fault
 abbrev pub outcome_text : Result Stop Fault → List ℕ
 outcome_text (Ok stop) = stop_text stop
 outcome_text (Err fault) = fault_line fault

@@ -2,7 +2,7 @@
 use Rattle.std.specs.Prelude.{ℕ, ◌<◌, ◌==◌, List, Contains, length}
 use Rattle.std.specs.List.{after_last}
 
--- the part of a path after its last `/`, or all of it
+-- the part of a path after its last `/`; all of a path that has none
 abbrev pub last_part : List ℕ → List ℕ
 last_part path = after_last (λ b. b == 47) path
 

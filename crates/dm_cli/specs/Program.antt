@@ -26,8 +26,8 @@ use Rattle.dm_cli.specs.Statuses.{status_of, status_after}
 
 -- ---- the commands
 
--- `dm run`: the whole output of the run is appended to standard output; or a first part of it, if a write failed; or
--- nothing, at a fault before the run
+-- `dm run`: the result is the stop, and the whole output of the run is appended to standard output; or it is a fault:
+-- a write failed, after a first part of the output, or the run did not begin, and nothing was written
 pub data Runs (files : List ℕ → Option (List ℕ)) (typed : Option (List ℕ)) (o : MachineOptions) (before after : Option (List ℕ)) (failed_before failed_after : ℕ) : Result Stop Fault → Type 0 where
   ran : (m t : State) (stop : Stop) → IsStartedBy files typed o m → IsRun m o.steps stop t → Appends before after t.console.output → failed_after ≡ failed_before
       → Runs files typed o before after failed_before failed_after (Ok stop)
@@ -38,9 +38,9 @@ pub data Runs (files : List ℕ → Option (List ℕ)) (typed : Option (List ℕ
 
 -- ---- the program
 
--- what `dm` finds: the bytes of files by their paths and of standard input, what stands on standard output, and which
--- files were written, each where it is known; how many writes and flushes of standard output and how many saves of
--- files have failed; and standard error
+-- what `dm` finds at its start: the bytes of files by their paths and of standard input, what standard output has
+-- taken, and which files were written, each where it is known; how many writes and flushes of standard output and how
+-- many saves of files have failed; and standard error
 pub record Given : Type 0 where
   pub files : List ℕ → Option (List ℕ)
   pub typed : Option (List ℕ)
@@ -51,8 +51,9 @@ pub record Given : Type 0 where
   -- standard error
   pub messages : Stream
 
--- what `dm` leaves: what stands on standard output, which files were written, each where it is known; how many writes
--- and flushes of standard output and how many saves of files have failed; standard error; and the exit status
+-- what `dm` leaves at its end: what standard output has taken and which files were written, each where it is known; how
+-- many writes and flushes of standard output and how many saves of files have failed; standard error; and the exit
+-- status
 pub record Left : Type 0 where
   pub output : Option (List ℕ)
   pub failures : ℕ
@@ -61,7 +62,7 @@ pub record Left : Type 0 where
   pub messages : Stream
   pub status : ℕ
 
--- the words are a right command line, with these options
+-- the words are a correct command line, which asks for the command and options o
 pub record IsParsed (words : List Text) (o : Options) : Type 0 where
   pub right : fault_of dm_app words ≡ []
   pub says : IsSomeAnd (subcommand_of dm_app words) (λ given. HasOptions given o)
@@ -70,13 +71,13 @@ pub record IsParsed (words : List Text) (o : Options) : Type 0 where
 abbrev pub IsSilent : Given → Left → Type 0
 IsSilent g l = Keeps g.output l.output × (l.failures ≡ g.failures)
 
--- no file is saved, and no save fails
+-- no file is written, and no save of a file fails
 abbrev pub SavesNothing : Given → Left → Type 0
 SavesNothing g l = (l.saved ≡ g.saved) × (l.failed_saves ≡ g.failed_saves)
 
--- `dm` with these words leads from g to l: a wrong line, or a call for help, does nothing, with status 2; a right one
--- does what its command does; an allocation may fail while the words are read. For a wrong line or a call for help
--- standard error gets `clap`'s text, of which nothing is said here
+-- `dm` with these words leads from g to l: a wrong line, or a call for help, has status 2, and nothing is written but
+-- `clap`'s text on standard error, of which nothing is said here; a correct line does what its command does; and an
+-- allocation may fail while the words are read
 pub data Does (g : Given) (words : List Text) (l : Left) : Type 0 where
   usage : fault_of dm_app words ≢ [] → IsSilent g l → SavesNothing g l → l.status ≡ 2 → Does g words l
   no_memory : Prints (fault_line OutOfMemory) g.messages l.messages → IsSilent g l → SavesNothing g l → l.status ≡ 126 → Does g words l

@@ -20,7 +20,8 @@ sizes_of o = record { ems_pages = o.ems_pages; xms_kib = o.xms_kib }
 abbrev pub paths_of : MachineOptions → List (List ℕ)
 paths_of o = map (λ path. path.now) o.files.items
 
--- m is the machine that the options ask for, over the files, with this console input; both are known or not
+-- m is the machine that the options ask for, with its first program loaded: `files` is what files hold, by their paths,
+-- and `typed` the console input, each where it is known
 abbrev pub IsStartedBy : (List ℕ → Option (List ℕ)) → Option (List ℕ) → MachineOptions → State → Type 0
 IsStartedBy files typed o m = IsStarted files typed (sizes_of o) o.upper (paths_of o) o.tail.now m
 
@@ -31,15 +32,15 @@ typed_in files o = bytes_if_any files (option_map (λ path. path.now) o.input)
 -- ---- faults
 
 -- the fault of a load of the first program: the store has none of its name, it is no COM or MZ program, or memory has
--- no room for it. (The last case is for names that no program of a store can have.)
+-- no room for it. (The last line is for names that no program of a store can have: then any other fault.)
 abbrev pub IsLoadFault : State → List ℕ → Fault → Type 0
 IsLoadFault fresh name NotFound = program_of fresh.programs name ≡ None
 IsLoadFault fresh name BadFormat = IsBadProgram fresh name
 IsLoadFault fresh name Short = HasNoRoom fresh name
 IsLoadFault fresh name _ = ¬ IsName name
 
--- the first fault of a machine over a store and an input, in this order: its sizes are too large, its tail is too long,
--- there is no first program, or it can't be loaded; or an allocation failed
+-- the first fault of a machine over a store and an input, in this order: its sizes are too large, the tail is too long,
+-- there is no first file, or that can't be loaded; or, at any point, an allocation failed
 pub data IsMachineFault (store : List (List ℕ × List ℕ)) (input : List ℕ) (o : MachineOptions) : Fault → Type 0 where
   too_large : IsTooLarge (sizes_of o) → IsMachineFault store input o TooLarge
   long_tail : (fresh : State) → ¬ IsTooLarge (sizes_of o) → IsNew (sizes_of o) [] o.upper store input fresh → 126 < length o.tail.now → IsMachineFault store input o TailTooLong
@@ -59,8 +60,8 @@ pub record IsFileFault (files : List ℕ → Option (List ℕ)) (paths : List (L
   pub stores : Stores files before store
   pub faulty : IsFaultOf (files path) store path fault
 
--- the first fault that keeps a command from its machine: of the files in their order; of the console input, which has
--- this name if it is read; of the machine
+-- the first fault that keeps a command from its machine: of the files in their order; of the console input, which is
+-- read under this name (None: it is not read); of the machine
 pub data IsStartFault (files : List ℕ → Option (List ℕ)) (typed : Option (List ℕ)) (name : Option (List ℕ)) (o : MachineOptions) : Fault → Type 0 where
   of_file : (fault : Fault) → IsFileFault files (paths_of o) fault → IsStartFault files typed name o fault
   of_input : (store : List (List ℕ × List ℕ)) (fault : Fault) → Stores files (paths_of o) store → IsSomeAnd name (λ input. IsInputFault typed input fault)

@@ -3,7 +3,7 @@ use Rattle.std.specs.Prelude.{ℕ, Result, Ok, Err, Option, Some, None}
 use Rattle.dm_state.specs.declared.stop.Stop.{Stop}
 use Rattle.dm_state.specs.declared.stop.Stop.TheVariants.{Exited}
 
--- the exit status of a run that ended with a stop: the program's exit code, or 125
+-- the exit status of a run that ended with a stop: the program's exit code, or 125 for any stop but `Exited`
 abbrev pub stop_status : Stop → ℕ
 stop_status (Exited code) = code
 stop_status _ = 125

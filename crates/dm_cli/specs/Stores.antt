@@ -1,4 +1,4 @@
--- What a run starts with: the store of the files, standard input, and the machine with its first program loaded.
+-- What a command starts with: the store of the files, the console input, and the machine with its first program loaded.
 use Rattle.std.specs.Prelude.{ℕ, ◌≡◌, ◌<◌, ◌≤◌, ◌++◌, ◌⊎◌, List, [], ◌∷◌, Option, Some, None, IfSome, length, Bool, true, false}
 use Rattle.dm_cli.specs.declared.fault.Fault.{Fault}
 use Rattle.dm_cli.specs.declared.fault.Fault.TheVariants.{InputTooLong, NameTooLong, NameTwice, OutOfMemory}
@@ -55,8 +55,8 @@ pub record IsBegun (store : List (List ℕ × List ℕ)) (input : List ℕ) (siz
   pub short : length tail ≤ 126
   pub loaded : IsLoaded fresh (last_part first) tail m
 
--- m is the machine that a command begins with: over the files at the paths, with what was typed as its console input,
--- and the first program loaded
+-- m is the machine that a command begins with: over the files at the paths, with `typed` as its console input, and the
+-- first program loaded. `known` is what files hold, where that is known
 pub record IsStarted (known : List ℕ → Option (List ℕ)) (typed : Option (List ℕ)) (sizes : Sizes) (upper : Bool) (paths : List (List ℕ)) (tail : List ℕ) (m : State) : Type 0 where
   pub store : List (List ℕ × List ℕ)
   pub stores : Stores known paths store

@@ -11,7 +11,7 @@ use dm_options::command_line::AsmOptions;
 use dm_out::write_all;
 use std::alloc::Global;
 
-/// The most bytes of a COM program that `dm disasm` reads.
+/// The largest number of bytes of a program that `dm disasm` lists.
 const MOST_PROGRAM_BYTES: usize = 65_278;
 
 /// The bytes of the program whose assembly text is in the file at `path`; or a fault of the file or of the text.
@@ -47,8 +47,8 @@ fn disassembled<'a, F: Storage>(
     }
 }
 
-/// `dm asm`: assembles the file `IN` and writes the bytes to the file `OUT`, which stays as it was if the text has a
-/// fault.
+/// `dm asm`: assembles the file `IN` and writes the bytes to the file `OUT`. If `IN` cannot be read or its text has a
+/// fault, no file is written. If the write fails, what `OUT` then holds is not known.
 pub(crate) fn asm<'a, F: Storage>(
     alloc: Global,
     storage: &mut F,
@@ -63,7 +63,8 @@ pub(crate) fn asm<'a, F: Storage>(
     }
 }
 
-/// `dm disasm`: writes the assembly text of the program in the file at `path`. `CannotWrite` if a write failed.
+/// `dm disasm`: writes the assembly text of the program in the file at `path` to `out`. `CannotWrite` if a write
+/// failed; with any other fault, nothing is written.
 pub(crate) fn disasm<'a, F: Storage, W: Out>(
     alloc: Global,
     storage: &F,

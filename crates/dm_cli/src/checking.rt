@@ -41,9 +41,9 @@ fn checked_status(report: &Report, stop: Stop) -> u8
     status_of_stop(stop)
 }
 
-/// Runs a machine under the checker, writes its output, and prints the report and the line about the stop on `error`.
-/// Returns the exit status. `OutOfMemory` before anything is written, `CannotWrite` if a write of the output failed;
-/// then nothing is printed on `error`.
+/// Runs a machine under the checker, writes its output to `out`, and prints the report and the line about the stop on
+/// `error`. Returns the exit status. `OutOfMemory` if an allocation failed, before anything is written; `CannotWrite`
+/// if a write of the output failed, after a first part of it. With a fault, nothing is printed on `error`.
 fn check_machine<W: Out, E: Out>(
     alloc: Global,
     machine: &mut Machine,
@@ -72,8 +72,8 @@ fn check_machine<W: Out, E: Out>(
     }
 }
 
-/// `dm check`: runs the first file under the checker, writes its output, and prints the report and the line about the
-/// stop on `error`. Returns the exit status, or the fault, which is not printed yet.
+/// `dm check`: runs the first file under the checker, writes its output to `out`, and prints the report and the line
+/// about the stop on `error`. Returns the exit status, or the fault, which is not printed yet.
 pub(crate) fn check<'a, F: Storage, I: Read + Drop, W: Out, E: Out>(
     alloc: Global,
     storage: &F,

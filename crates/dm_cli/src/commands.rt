@@ -33,7 +33,8 @@ const STOPPED: u8 = 125;
 /// The exit status for a wrong command line or a call for help.
 const USAGE: u8 = 2;
 
-/// Runs a machine for at most `steps` steps, and writes its output at the end. `CannotWrite` if a write failed.
+/// Runs a machine for at most `steps` steps, and writes its whole output to `out` at the end, whatever the stop.
+/// Returns the stop. `CannotWrite` if a write failed.
 fn run_machine<W: Out>(
     machine: &mut Machine,
     steps: u64,
@@ -48,8 +49,8 @@ fn run_machine<W: Out>(
     }
 }
 
-/// `dm run`: runs the first file, and writes its output at the end. Returns the stop, or the fault, which is not
-/// printed yet.
+/// `dm run`: runs the first file, and writes its output to `out` at the end. Returns the stop, or the fault, which is
+/// not printed yet.
 fn run<'a, F: Storage, I: Read + Drop, W: Out>(
     alloc: Global,
     storage: &F,
@@ -63,7 +64,7 @@ fn run<'a, F: Storage, I: Read + Drop, W: Out>(
     run_machine(&mut machine, options.steps, out)
 }
 
-/// The exit status of a run that ended with this stop: the program's exit code, or 125.
+/// The exit status of a run that ended with this stop: the program's exit code, or 125 for any stop but `Exited`.
 pub(crate) fn status_of_stop(stop: Stop) -> u8
     ensures { result ≡ stop_status stop }
 {
@@ -83,8 +84,8 @@ fn report_fault<E: Out>(fault: &Fault<'_>, error: &mut E) -> u8
     FAULT
 }
 
-/// Prints how a `dm run` ended, its stop (nothing for an exit) or its fault, and returns the exit status, also if that
-/// cannot be printed.
+/// Prints on `error` how a `dm run` ended, its stop (nothing for an exit) or its fault, and returns the exit status:
+/// the program's exit code, 125 for another stop, 126 for a fault. A failed write does not change it.
 fn report<E: Out>(outcome: Result<Stop, Fault<'_>>, error: &mut E) -> u8
     ensures status { result ≡ status_of outcome.entry }
     ensures line { Prints (outcome_text outcome.entry) (record { bytes = E.taken error.old; failures = E.failures error.old })
@@ -99,7 +100,8 @@ fn report<E: Out>(outcome: Result<Stop, Fault<'_>>, error: &mut E) -> u8
     }
 }
 
-/// Prints the fault of a `dm check`, if there is one, and returns the exit status, also if it cannot be printed.
+/// Prints the fault of a `dm check` on `error`, if there is one, and returns the exit status: that of the checked run,
+/// or 126 at a fault, also if the fault cannot be printed.
 fn concluded<E: Out>(outcome: Result<u8, Fault<'_>>, error: &mut E) -> u8
     ensures status { result ≡ check_status outcome.entry }
     ensures ok { OnOk outcome.entry (error.new ≡ error.old) }
@@ -112,8 +114,8 @@ fn concluded<E: Out>(outcome: Result<u8, Fault<'_>>, error: &mut E) -> u8
     }
 }
 
-/// Prints the fault of a `dm debug`, `dm asm` or `dm disasm`, if there is one, and returns the exit status: 0, or 126
-/// at a fault, also if it cannot be printed.
+/// Prints the fault of a `dm debug`, `dm asm` or `dm disasm` on `error`, if there is one, and returns the exit status:
+/// 0, or 126 at a fault, also if the fault cannot be printed.
 fn told<E: Out>(outcome: Result<(), Fault<'_>>, error: &mut E) -> u8
     ensures status { result ≡ status_after (end_of outcome.entry) }
     ensures line { Reports (record { bytes = E.taken error.old; failures = E.failures error.old })
@@ -194,8 +196,8 @@ pub fn dm_main<S: AsStr, F: Storage, I: Read + Drop, W: Out, E: Out>(
     }
 }
 
-/// Prints that a word of the command line is not UTF-8, and returns the status of a wrong line: 2, or 126 if an
-/// allocation failed.
+/// Prints on `error` that a word of the command line is not UTF-8, and returns the status of a wrong line, 2; if an
+/// allocation failed, prints `dm: out of memory` and returns 126.
 pub fn refuse_words<E: Out>(alloc: Global, error: &mut E) -> u8
     ensures status { (result ≡ 2) ⊎ (result ≡ 126) }
     ensures line { result ≡ 126 → Prints (fault_line Fault.OutOfMemory) (record { bytes = E.taken error.old; failures = E.failures error.old })

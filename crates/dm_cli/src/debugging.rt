@@ -57,8 +57,8 @@ fn drop_end(line: &mut Vec<u8>) -> bool
     true
 }
 
-/// Reads the next line, with its line feed, into `line`, in place of what it held. Returns how many bytes it has, at
-/// most `left`: 0 if no byte is left.
+/// Reads the next line, with its line feed if it has one, into `line`, in place of what it held. Returns how many bytes
+/// the line has, at most `left`: 0 if the reader is at its end.
 ///
 /// `CannotRead` if a read failed, `InputTooLong` if the line has more than `left` bytes, `OutOfMemory`.
 fn next_line<R: BufRead>(
@@ -78,7 +78,8 @@ fn next_line<R: BufRead>(
     }
 }
 
-/// Writes the answer to a line that has an error. `CannotWrite` if a write failed; a first part may have been written.
+/// Writes `told`, the answer to a line that has an error, to `out`. `CannotWrite` if a write failed; a first part may
+/// have been written.
 fn refuse<W: Out>(out: &mut W, told: &[u8]) -> Result<(), Fault<'static>>
     ensures ok { OnOk result (Appends (W.taken out.old) (W.taken out.new) told.now) }
     ensures no_failure { OnOk result (W.failures out.new ≡ W.failures out.old) }
@@ -90,8 +91,8 @@ fn refuse<W: Out>(out: &mut W, told: &[u8]) -> Result<(), Fault<'static>>
     }
 }
 
-/// Executes a line's command and writes what it prints, or writes which error the line has. `OutOfMemory` if an
-/// allocation failed, `CannotWrite` if a write did.
+/// Executes a line's command and writes what it prints to `out`, or writes which error the line has, and then the
+/// session stays. `OutOfMemory` if an allocation failed, with nothing written; `CannotWrite` if a write failed.
 fn answer<W: Out>(
     alloc: Global,
     session: &mut Session,
@@ -130,8 +131,9 @@ fn answer_at_once<W: Out>(
     }
 }
 
-/// Executes the commands of the lines, one after the other, up to the end of the input or a line `Q`. The lines may
-/// have 16 MiB in all; more is `InputTooLong` after the answers so far. Any other fault ends the session too.
+/// Executes the commands of the lines, one after the other, up to the end of the input or a line `Q` or `q`, and writes
+/// the answers to `out`. The lines, with their line feeds, may have 16 MiB in all; more is `InputTooLong` after the
+/// answers so far. Any other fault ends the session too.
 fn converse<R: BufRead, W: Out>(
     alloc: Global,
     session: &mut Session,
@@ -157,8 +159,8 @@ fn converse<R: BufRead, W: Out>(
     Ok(())
 }
 
-/// Executes the commands that a reader gives, as `converse` does, through a buffer. `OutOfMemory` if there is no memory
-/// for the buffer.
+/// Executes the commands that are read from `commands` through a buffer, as `converse` does. `OutOfMemory` if there is
+/// no memory for the buffer.
 fn converse_with<I: Read + Drop, W: Out>(
     alloc: Global,
     session: &mut Session,
@@ -173,8 +175,8 @@ fn converse_with<I: Read + Drop, W: Out>(
     converse(alloc, session, &mut commands, out)
 }
 
-/// `dm debug`: loads the first file, and executes the commands as they are read. The fault is the first one of the
-/// start, or the one that ended the session.
+/// `dm debug`: loads the first file, executes the commands as they are read, and writes the answers to `out`. The fault
+/// is the first one of the start, or the one that ended the session; it is not printed yet.
 pub(crate) fn debug<'a, F: Storage, I: Read + Drop, W: Out>(
     alloc: Global,
     storage: &F,

@@ -12,7 +12,7 @@ use std::marker::Model;
 use std::rt::Files;
 use std::{fs, io};
 
-/// The most bytes that a file or standard input may have: 16 MiB.
+/// The largest number of bytes that a file or standard input may have: 16 MiB.
 pub(crate) const MOST_BYTES: usize = 16 * 1024 * 1024;
 
 /// Where files are opened and written by their paths.
@@ -31,7 +31,7 @@ pub trait Storage {
     // How many saves failed.
     ghost failures: { Self → ℕ };
 
-    /// Writes a file whole, in the place of what it held.
+    /// Writes a file whole, in place of what it held. What the file holds after an error is not said.
     fn save(&mut self, path: &str, bytes: &[u8]) -> io::Result<()>
         ensures saved { OnOk result (Saves (saved self.old) (saved self.new) path.now bytes.now) }
         ensures refused { OnErr result (saved self.new ≡ saved self.old) }
@@ -42,7 +42,7 @@ pub trait Storage {
         ensures contents { IfOk result (λ file. IfSome (contents self.now path.now) (λ xs. Self.File.remaining file ≡ Some xs)) };
 }
 
-/// The files of the system, together with the count of the saves that failed.
+/// The files of the operating system, together with the count of the saves that failed.
 ///
 /// A contract sees the count.
 #[derive(Drop)]
@@ -58,7 +58,7 @@ impl<'a, R> Model for System<'a, R> {
 }
 
 impl<'a, R> System<'a, R> {
-    /// The files of the system that `runtime` stands for, with no failed save counted.
+    /// The files of the operating system, as `runtime` reaches them, with no failed save counted.
     pub fn new(runtime: &'a R) -> System<'a, R>
         ensures { result ≡ 0 }
     {
@@ -71,6 +71,7 @@ impl<R: Files> Storage for System<'_, R> {
 
     ghost failures = { λ s. s };
 
+    /// Writes the file at `path` whole, through `runtime`, and counts a failure.
     fn save(&mut self, path: &str, bytes: &[u8]) -> io::Result<()> {
         let outcome = fs::write(self.runtime, path, bytes);
         if outcome.is_err() {
@@ -79,6 +80,7 @@ impl<R: Files> Storage for System<'_, R> {
         outcome
     }
 
+    /// Opens the file at `path` for reading, through `runtime`. A failure is not counted.
     fn open(&self, path: &str) -> io::Result<R::File> {
         fs::open(self.runtime, path)
     }

@@ -13,7 +13,7 @@ use dm_options::command_line::{DebugOptions, MachineOptions};
 use std::alloc::Global;
 use std::io::Read;
 
-/// The most bytes of a command tail.
+/// The largest number of bytes of a command tail.
 const MOST_TAIL_BYTES: usize = 126;
 
 /// Reads the file at `path` and adds it to the store, under the last part of its path. On a fault, nothing is added.
@@ -53,8 +53,8 @@ fn read_programs<'a, F: Storage>(
     Ok(programs)
 }
 
-/// Loads the first file into a new machine, with the command tail. `TailTooLong`, or a fault of the load; then the
-/// machine stays.
+/// Loads the first file into a new machine, with the command tail. Its faults are `TailTooLong`, `NotFound` if there is
+/// no file, and those of the load; with a fault the machine stays.
 fn load_first<'a>(machine: &mut Machine, options: &MachineOptions<'a>) -> Result<(), Fault<'a>>
     requires fresh { machine.old.processes.present ≡ 0 }
     ensures ok { OnOk result (IsFirstLoaded machine.old (paths_of options.now) options.now.tail.now machine.new) }
@@ -112,7 +112,7 @@ pub(crate) fn loaded<'a, F: Storage, I: Read + Drop>(
     begun(alloc, options, programs, input)
 }
 
-/// The bytes of the file at `path`; none for None.
+/// The bytes of the file at `path`, with the faults of `read_file`; no bytes for None.
 fn read_if_any<'a, F: Storage>(
     alloc: Global,
     storage: &F,

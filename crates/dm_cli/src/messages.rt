@@ -68,8 +68,8 @@ fn print_each<E: Out>(error: &mut E, first: &[u8], second: &[u8], third: &[u8])
     print(error, third);
 }
 
-/// Prints a fault of a line of an assembly text on `error`; `fault` is the rest of its line. If a write fails, the rest
-/// is lost.
+/// Prints on `error` `dm: line `, the number of a line of an assembly text, and `fault`, the rest of the message with
+/// its line feed. If a write fails, the rest is lost.
 fn print_line_fault<E: Out>(error: &mut E, line: usize, fault: &[u8])
     ensures { Prints (codes "dm: line " ++ decimal line ++ fault.now) (record { bytes = E.taken error.old; failures = E.failures error.old })
         (record { bytes = E.taken error.new; failures = E.failures error.new }) }

@@ -6,10 +6,10 @@ ghost use Rattle.dm_cli.specs.inner.Names.{IsNameFault};
 
 use crate::fault::Fault;
 
-/// The most bytes that a program's name may have.
+/// The largest number of bytes that a program's name may have.
 const MOST_NAME_BYTES: usize = 64;
 
-/// The part of a path after its last `/`, or all of it.
+/// The part of a path after its last `/`; all of a path that has none.
 fn last_part(path: &str) -> &[u8]
     ensures { result.now ≡ last_part path.now }
 {

@@ -15,12 +15,12 @@ use thiserror::Error;
 #[error("a write failed")]
 pub struct WriteFault;
 
-/// Makes at most `steps` steps, and then writes the machine's whole output so far, whatever the stop. Returns the stop.
-/// A program must be loaded.
+/// Makes at most `steps` steps, and then writes all output that the machine has made so far to `out`, whatever the
+/// stop. Returns the stop. A program must be loaded.
 ///
 /// # Errors
 ///
-/// `WriteFault` if a write failed or took no byte. The run's steps stand, and a first part of the output was written.
+/// `WriteFault` if a write failed or took no byte. The steps were made, and a first part of the output was written.
 pub fn run_program<W: Out>(
     machine: &mut Machine,
     steps: u64,

@@ -11,7 +11,8 @@ use Rattle.dm_command.specs.Words.{words_of}
 use Rattle.dm_command.specs.Numbers.{◌>>=◌, number_of, up_to, logical_address, bytes_from_digits}
 use Rattle.dm_command.specs.Names.{name_of}
 
--- the command of a line with a name and nothing after it, with defaults for the numbers of G and T
+-- the command of a line with a name and nothing after it, with defaults for the numbers of G and T; None if the name
+-- needs more
 abbrev pub alone : CommandName → Option Command
 alone name.Registers = Some command.Registers
 alone name.Arena = Some command.Arena
@@ -23,7 +24,8 @@ alone name.Breakpoints = Some command.Breakpoints
 alone name.Output = Some command.Output
 alone _ = None
 
--- the command of a line with a name and one word after it, with defaults for the counts of U and D
+-- the command of a line with a name and one word after it, with defaults for the counts of U and D; None if there is
+-- none
 abbrev pub with_one : CommandName → List ℕ → Option Command
 with_one name.Unassemble w = do
   a ← logical_address w
@@ -45,7 +47,7 @@ with_one name.Clear w = do
   Some (command.Clear a)
 with_one _ w = None
 
--- the command of a line with a name (U, D or E), an address and one more word
+-- the command of a line with a name (U, D or E), an address and one more word; None if there is none
 abbrev pub at_address : CommandName → LogicalAddress → List ℕ → Option Command
 at_address name.Unassemble a w = do
   n ← up_to 0x1000 (number_of w)
@@ -58,7 +60,7 @@ at_address name.Enter a w = do
   Some (command.Enter a bytes)
 at_address _ a w = None
 
--- the command of a line with a name and two words after it, of which the first is an address
+-- the command of a line with a name and two words after it, of which the first is an address; None if there is none
 abbrev pub with_two : CommandName → List ℕ → List ℕ → Option Command
 with_two n v w = do
   a ← logical_address v

@@ -8,7 +8,7 @@ use Rattle.dm_command.specs.declared.names.CommandName.TheVariants.{Registers, U
 abbrev pub uppercase : ℕ → ℕ
 uppercase b = if nat_le 97 b && nat_le b 122 then b - 32 else b
 
--- the command with this letter, in upper case, as its name: B, D, E, G, M, O, P, R, T, U or X
+-- the command with this letter, in upper case, as its name: B, D, E, G, M, O, P, R, T, U or X; None for any other
 abbrev pub letter_name : ℕ → Option CommandName
 letter_name b =
     if b == 66 then Some Break
@@ -24,7 +24,7 @@ letter_name b =
     else if b == 88 then Some Extended
     else None
 
--- the command with these two letters, in upper case, as its name: BC or BL
+-- the command with these two letters, in upper case, as its name: BC or BL; None for any other
 abbrev pub pair_name : ℕ → ℕ → Option CommandName
 pair_name a b =
     if a == 66 then (if b == 67 then Some Clear else if b == 76 then Some Breakpoints else None) else None

@@ -27,7 +27,7 @@ impl Model for Bytes {
 }
 
 impl Bytes {
-    /// Takes a copy of `bytes`, which are at most 64.
+    /// A copy of `bytes`, of which there are at most 64.
     pub(crate) fn new(bytes: &[u8]) -> Bytes
         requires { length bytes.now ≤ 64 }
         ensures { result ≡ bytes.now }
@@ -52,9 +52,9 @@ impl Bytes {
 pub enum Command {
     /// R: lists the registers, and the instruction at CS:IP.
     Registers,
-    /// U: lists so many instructions from an address on, at most 1000h.
+    /// U: lists this number of instructions, at most 1000h, from an address on.
     Unassemble(LogicalAddress, u16),
-    /// D: lists so many bytes from an address on, at most 10000h.
+    /// D: lists this number of bytes, at most 10000h, from an address on.
     Dump(LogicalAddress, u32),
     /// M: lists the headers of the arena.
     Arena,
@@ -62,9 +62,9 @@ pub enum Command {
     Pages,
     /// X: lists the blocks of extended memory, the upper memory blocks, A20 and the high memory area.
     Extended,
-    /// G: makes at most so many steps, up to a breakpoint or a stop.
+    /// G: makes at most this number of steps, up to a breakpoint or a stop.
     Go(u32),
-    /// T: makes so many steps, at most 1000h, and lists the registers after each.
+    /// T: makes this number of steps, at most 1000h, or those up to a stop, and lists the registers after each.
     Trace(u16),
     /// B: sets a breakpoint.
     Break(LogicalAddress),
@@ -74,6 +74,6 @@ pub enum Command {
     Breakpoints,
     /// E: writes 1 to 64 bytes from an address on.
     Enter(LogicalAddress, Bytes),
-    /// O: shows all that the console has written.
+    /// O: shows all that was written to the console.
     Output,
 }

@@ -6,10 +6,10 @@ ghost use Rattle.dm_command.specs.Numbers.{number_of, up_to, word_from_digits, p
 
 use crate::command::{Bytes, LogicalAddress};
 
-/// The most digits of a number.
+/// The largest number of digits of a number.
 const DIGITS: usize = 8;
 
-/// The most bytes that one E writes.
+/// The largest number of bytes that one E writes.
 const BYTES: usize = 64;
 
 /// The value of a hexadecimal digit, in either case; None for any other byte.
@@ -40,7 +40,7 @@ pub(crate) fn read_number(word: &[u8]) -> Option<u32>
     Some(n)
 }
 
-/// The number that a word spells, if it is at most `most`; otherwise None.
+/// The number that a word of one to eight hexadecimal digits spells, if it is at most `most`; otherwise None.
 pub(crate) fn read_up_to(word: &[u8], most: u32) -> Option<u32>
     ensures value { result ≡ up_to most (number_of word.now) }
     ensures few { IfSome result (λ n. n ≤ most) }
@@ -49,7 +49,7 @@ pub(crate) fn read_up_to(word: &[u8], most: u32) -> Option<u32>
     if n <= most { Some(n) } else { None }
 }
 
-/// The number that a word spells, if it is at most FFFFh; otherwise None.
+/// The number that a word of one to eight hexadecimal digits spells, if it is at most FFFFh; otherwise None.
 fn read_word(word: &[u8]) -> Option<u16>
     ensures { result ≡ word_from_digits word.now }
 {
@@ -81,7 +81,8 @@ pub(crate) fn read_address(word: &[u8]) -> Option<LogicalAddress>
     Some(LogicalAddress { segment, offset })
 }
 
-/// The 1 to 64 bytes that a word spells, each as two digits, with nothing between them; None for any other word.
+/// The 1 to 64 bytes that a word spells, each as two hexadecimal digits, with nothing between them; None for any other
+/// word.
 #[tactic(auto, unfolding(crate::specs::Numbers::bytes_from_digits))]
 pub(crate) fn read_bytes(word: &[u8]) -> Option<Bytes>
     ensures { result ≡ bytes_from_digits word.now }

@@ -8,10 +8,10 @@ use crate::names::{CommandName, read_name};
 use crate::numbers::{read_address, read_bytes, read_number, read_up_to};
 use crate::words::next_word;
 
-/// The most instructions that one U lists, and the most steps that one T makes.
+/// The largest number of instructions that one U lists, and of steps that one T makes.
 const MOST_LINES: u32 = 0x1000;
 
-/// The most bytes that one D lists.
+/// The largest number of bytes that one D lists.
 const MOST_BYTES: u32 = 0x1_0000;
 
 /// The command of a line with a name and nothing after it, with defaults for the numbers of G and T; None if the name
@@ -70,7 +70,7 @@ fn with_two(name: CommandName, first: &[u8], second: &[u8]) -> Option<Command>
     }
 }
 
-/// The command that a line asks for (the line comes without its line end); None if it is no command.
+/// The command that a line asks for; None if it is no command. `line` has no line end.
 ///
 /// Words are separated by spaces, of which there may be several, at the ends too. Letters are in either case, and
 /// numbers are hexadecimal with one to eight digits. Segments and offsets are at most FFFFh, listed instructions and

@@ -39,7 +39,9 @@ impl Console {
     /// Makes the room at least `bytes`; larger room stays. It allocates nothing where the room is
     /// large enough already.
     ///
-    /// An `Err` says that the allocation failed, and that nothing has changed.
+    /// # Errors
+    ///
+    /// `AllocError` if the allocation fails, and nothing has changed.
     pub fn reserve(&mut self, bytes: usize) -> Result<(), AllocError>
         ensures ok { OnOk result (self.new ≡ record self.old { room = max self.old.room bytes }) }
         ensures err { OnErr result (self.new ≡ self.old) }

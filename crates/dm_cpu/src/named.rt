@@ -1,5 +1,5 @@
-//! Registers that instructions name themselves (Intel 8086 Family User's Manual, section 2.2, "Implicit Use of General
-//! Registers").
+//! Registers by their names, for instructions that use them implicitly (Intel 8086 Family User's Manual, section 2.2,
+//! "Implicit Use of General Registers").
 ghost use Rattle.std.specs.Prelude.{◌≡◌};
 
 use crate::registers::Registers;

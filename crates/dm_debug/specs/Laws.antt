@@ -7,8 +7,8 @@ use Rattle.dm_state.specs.State.{State}
 use Rattle.dm_machine.specs.declared.until.Breakpoint.{Breakpoint}
 use Rattle.dm_debug.specs.Runs.{GoesTo, IsTrace, whole, cut}
 
--- G from one state, with as many steps and the same breakpoints, prints one text and leaves one state, if no allocation
--- failed
+-- G from one state, with the same limit of steps and the same breakpoints, prints one text and leaves one state, if no
+-- allocation failed
 abbrev pub GoHasOneAnswer : Type 0
 GoHasOneAnswer =
     (s t u : State) (n : ℕ) (points : List Breakpoint) (a b : List ℕ) (x : GoesTo s n points a t) (y : GoesTo s n points b u) →
@@ -19,7 +19,7 @@ abbrev pub cut_by : (s : State) (n : ℕ) (text : List ℕ) (t : State) → IsTr
 cut_by s n text t (whole traces) = None
 cut_by s n text t (cut made before told why fewer traces answers is) = Some why
 
--- T from one state, with as many steps, prints one text and leaves one state, if no allocation failed
+-- T from one state, with the same limit of steps, prints one text and leaves one state, if no allocation failed
 abbrev pub TraceHasOneAnswer : Type 0
 TraceHasOneAnswer =
     (s t u : State) (n : ℕ) (a b : List ℕ) (x : IsTrace s n a t) (y : IsTrace s n b u) →

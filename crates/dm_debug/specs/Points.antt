@@ -5,19 +5,20 @@ use Rattle.dm_command.specs.declared.command.LogicalAddress.{LogicalAddress}
 use Rattle.dm_machine.specs.declared.until.Breakpoint.{Breakpoint}
 use Rattle.dm_views.specs.Digits.{address_text}
 
--- the breakpoint for exactly this address
+-- the breakpoint at exactly this segment and offset
 abbrev pub point_at : LogicalAddress → Breakpoint
 point_at a = record { segment = a.segment; offset = a.offset }
 
--- the breakpoint is the one for exactly this segment and offset
+-- whether the breakpoint is the one at exactly this segment and offset
 abbrev pub is_point : LogicalAddress → Breakpoint → Bool
 is_point a p = p.offset == a.offset && p.segment == a.segment
 
--- a breakpoint is set at the address
+-- whether a breakpoint is set at the address
 abbrev pub is_set : List Breakpoint → LogicalAddress → Bool
 is_set points a = is_some (position (is_point a) points)
 
--- the breakpoints with one more at the address, at the end, if it has no place in the list yet
+-- the breakpoints after B, by the index in the list of the breakpoint at the address: with one more at the end if there
+-- is none (None), else as they are
 abbrev pub set_if : Option ℕ → List Breakpoint → LogicalAddress → List Breakpoint
 set_if None points a = points ++ point_at a ∷ []
 set_if (Some i) points a = points
@@ -26,7 +27,7 @@ set_if (Some i) points a = points
 abbrev pub with_point : List Breakpoint → LogicalAddress → List Breakpoint
 with_point points a = set_if (position (is_point a) points) points a
 
--- the breakpoints without the one at an index of the list; None leaves them as they are
+-- the breakpoints without the one at an index of the list; for None, all of them
 abbrev pub cleared : Option ℕ → List Breakpoint → List Breakpoint
 cleared None points = points
 cleared (Some i) points = remove points i

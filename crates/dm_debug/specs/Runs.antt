@@ -10,7 +10,8 @@ use Rattle.dm_machine.specs.Until.{RunsUntil}
 use Rattle.dm_views.specs.Digits.{two_digits}
 use Rattle.dm_views.specs.Registers.{IsRegistersText}
 
--- the word that G and T print for the end of a run; None is a breakpoint
+-- the word that G and T print for the end of a run: for None, a breakpoint, `break`; for an exit `exited ` without the
+-- code
 abbrev pub stop_text : Option Stop → List ℕ
 stop_text None = codes "break"
 stop_text (Some stop.Steps) = codes "steps"
@@ -44,13 +45,14 @@ pub data Traces (s : State) : ℕ → List ℕ → State → Type 0 where
   none : Traces s 0 [] s
   more : (n : ℕ) (t u : State) (text registers : List ℕ) → Traces s n text t → Answers t None u → IsRegistersText u.cpu u.memory registers → Traces s (n + 1) (text ++ registers) u
 
--- T: n steps lead from s to t, and the registers after each are printed; or fewer, and the line of the stop that comes
--- then
+-- T: n steps lead from s to t, and the registers after each are printed; or fewer steps were made, a stop followed that
+-- left t, and its line is printed after the registers
 pub data IsTrace (s : State) (n : ℕ) (text : List ℕ) (t : State) : Type 0 where
   whole : Traces s n text t → IsTrace s n text t
   cut : (made : ℕ) (before : State) (told : List ℕ) (why : Stop) → made < n → Traces s made told before → Answers before (Some why) t → text ≡ told ++ stop_line (Some why) → IsTrace s n text t
 
--- t is what a first part of a trace of n steps from s leaves
+-- a trace of n steps from s that a failed allocation ends leaves t: after some of the steps, or after the stop that
+-- followed them
 pub data TracesPart (s : State) (n : ℕ) (t : State) : Type 0 where
   some : (made : ℕ) (told : List ℕ) → made ≤ n → Traces s made told t → TracesPart s n t
   next : (made : ℕ) (before : State) (told : List ℕ) → made < n → Traces s made told before → Answers before None t → TracesPart s n t

@@ -32,19 +32,20 @@ new_session m = record { machine = m; points = [] }
 abbrev pub done : List ℕ
 done = codes "ok" ++ 10 ∷ []
 
--- the session with another state of its machine
+-- the session with t as the state of its machine; the breakpoints stay
 abbrev pub with_machine : Debugged → State → Debugged
 with_machine s t = record s { machine = t }
 
--- the session with other breakpoints
+-- the session with these breakpoints; the machine stays
 abbrev pub with_points : Debugged → List Breakpoint → Debugged
 with_points s points = record s { points = points }
 
--- the session with bytes written to memory from an address upwards, as E does; offsets wrap
+-- the session with bytes written to its machine's memory from an address up, as E does; offsets wrap
 abbrev pub with_entered : Debugged → LogicalAddress → List ℕ → Debugged
 with_entered s a bytes = with_machine s (record s.machine { memory = with_bytes s.machine.memory a.segment a.offset bytes })
 
--- the text that a command prints which changes nothing: a listing, or what the program has written to the console
+-- what a command prints that changes nothing (R, U, D, M, P, X, BL and O): a listing, or what was written to the
+-- console
 pub data Displays (s : Debugged) : Command → List ℕ → Type 0 where
   registers : (text : List ℕ) → IsRegistersText s.machine.cpu s.machine.memory text → Displays s c.Registers text
   code : (a : LogicalAddress) (n : ℕ) (text : List ℕ) → IsCode s.machine.memory a.segment a.offset n text → Displays s (c.Unassemble a n) text
@@ -72,27 +73,28 @@ pub data DoesPart (s : Debugged) : Command → Debugged → Type 0 where
 
 -- ---- lines
 
--- the command is BC for a breakpoint that is not set
+-- whether the command is BC for a breakpoint that is not set
 abbrev pub clears_none : Debugged → Command → Bool
 clears_none s (c.Clear a) = not (is_set s.points a)
 clears_none s _ = false
 
--- the command is B for a breakpoint that is not set, where sixteen others are
+-- whether the command is B for a breakpoint that is not set, while sixteen others are
 abbrev pub is_over : Debugged → Command → Bool
 is_over s (c.Break a) = if is_set s.points a then false else nat_le 16 (length s.points)
 is_over s _ = false
 
--- the line is no command (None), or clears a breakpoint that is not set
+-- whether the line is no command (None), or clears a breakpoint that is not set
 abbrev pub is_syntax : Debugged → Option Command → Bool
 is_syntax s None = true
 is_syntax s (Some command) = clears_none s command
 
--- the line sets a seventeenth breakpoint
+-- whether the line sets a seventeenth breakpoint
 abbrev pub is_full : Debugged → Option Command → Bool
 is_full s None = false
 is_full s (Some command) = is_over s command
 
--- the line's command was executed, which led from session s to t, and all that it prints was written
+-- the line's command was executed, which led from session s to t, and all that it prints was written: `before` and
+-- `after` are what `out` had taken before and after
 pub record IsAnswered (s : Debugged) (line : List ℕ) (t : Debugged) (before after : Option (List ℕ)) : Type 0 where
   pub command : Command
   pub text : List ℕ
@@ -106,7 +108,8 @@ pub record IsCutOff (s : Debugged) (line : List ℕ) (t : Debugged) : Type 0 whe
   pub read : command_of line ≡ Some command
   pub part : DoesPart s command t
 
--- the line's command was executed, which led from session s to t, but only a first part of what it prints was written
+-- the line's command was executed, which led from session s to t, but only a first part of what it prints was written:
+-- `before` and `after` are what `out` had taken before and after
 pub record IsPartlyWritten (s : Debugged) (line : List ℕ) (t : Debugged) (before after : Option (List ℕ)) : Type 0 where
   pub command : Command
   pub text : List ℕ

@@ -1,4 +1,4 @@
-//! The debugger of `dm debug`: a session executes the commands that lines of text give.
+//! The debugger of `dm debug`: a session executes the commands that lines of text ask for.
 #![tactic(auto)]
 
 mod laws;

@@ -1,5 +1,5 @@
-//! The commands of a debugger that list a part of the machine and change nothing. Each call appends its text to `out`;
-//! an `Err` is a failed allocation.
+//! The commands of a debugger that list a part of the machine and do not change it. Each function appends its text to
+//! `out`; an `Err` is a failed allocation.
 
 ghost use Rattle.std.specs.Prelude.{◌≡◌, ◌++◌, List, ℕ, OnOk};
 ghost use Rattle.dm_views.specs.Arena.{IsArenaText};
@@ -66,7 +66,7 @@ pub(crate) fn extended(out: &mut Vec<u8>, machine: &Machine) -> Result<(), Alloc
     put_extended(out, machine.xms(), machine.space())
 }
 
-/// O: appends all bytes that the program has written to the console.
+/// O: appends all bytes that were written to the console since the machine was made.
 pub(crate) fn output(out: &mut Vec<u8>, machine: &Machine) -> Result<(), AllocError>
     ensures { OnOk result (out.new.items ≡ out.old.items ++ machine.now.console.output) }
 {

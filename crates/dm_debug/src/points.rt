@@ -10,13 +10,13 @@ use dm_machine::Breakpoint;
 use dm_views::put_address;
 use std::alloc::AllocError;
 
-/// The most breakpoints of a session.
+/// The largest number of breakpoints of a session.
 pub(crate) const MOST: usize = 16;
 
 /// The breakpoints of a session, at most 16, in the order of setting.
 pub type Points = ArrayVec<Breakpoint, 16>;
 
-/// The breakpoint that stops where CS:IP is exactly this address.
+/// The breakpoint at exactly this segment and offset.
 pub(crate) fn point_at(address: LogicalAddress) -> Breakpoint
     ensures { result ≡ point_at address }
 {

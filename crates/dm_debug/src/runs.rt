@@ -59,8 +59,8 @@ pub(crate) fn go(
     put_machine(out, machine)
 }
 
-/// T: makes at most `n` steps and appends the registers after each. Where the run stops, appends the line of the stop
-/// instead and ends. Breakpoints do not count. An `Err` is a failed allocation; the steps so far stand.
+/// T: makes at most `n` steps and appends the registers after each; if a step returns a stop, appends the line of the
+/// stop instead and ends. Breakpoints do not count. An `Err` is a failed allocation; the steps made so far stay made.
 pub(crate) fn trace(machine: &mut Machine, n: u16, out: &mut Vec<u8>) -> Result<(), AllocError>
     requires { HasProgram machine.old }
     ensures ok { OnOk result ((text : List ℕ) × (out.new.items ≡ out.old.items ++ text) × IsTrace machine.old n text machine.new) }
@@ -76,8 +76,8 @@ pub(crate) fn trace(machine: &mut Machine, n: u16, out: &mut Vec<u8>) -> Result<
     Ok(())
 }
 
-/// E: writes the bytes to memory from segment:offset upwards; offsets wrap. The ROM, and addresses without memory, do
-/// not change.
+/// E: writes the bytes to memory from segment:offset up; offsets wrap. Bytes for the ROM, or where there is no memory,
+/// are lost. Nothing but memory changes.
 pub(crate) fn enter(machine: &mut Machine, segment: u16, offset: u16, bytes: &[u8])
     requires { HasProgram machine.old }
     ensures { machine.new ≡ record machine.old { memory = with_bytes machine.old.memory segment offset bytes.now } }

@@ -1,4 +1,4 @@
-//! A debugging session: a machine, its breakpoints, and the commands that lines of text give.
+//! A debugging session: a machine, its breakpoints, and the commands that are executed from lines of text.
 
 ghost use Rattle.std.specs.Prelude.{◌≡◌, ◌++◌, ◌↔◌, ◌⊎◌, [], true, false, OnOk, OnErr, IsErrOf};
 ghost use Rattle.dm_space.specs.Buffers.{with_bytes};
@@ -80,8 +80,8 @@ impl Session {
         &self.machine
     }
 
-    /// Makes at most `n` steps, but none after a step that led to one of these breakpoints, as `Machine::run_until`.
-    /// The breakpoints of the session do not count, and stay.
+    /// Makes at most `n` steps, but none after a step that led to one of these breakpoints, and returns None there or
+    /// why the run stopped, as `Machine::run_until`. The breakpoints of the session do not count, and stay.
     pub fn run_until(&mut self, n: u64, breakpoints: &[Breakpoint]) -> Option<Stop>
         ensures run { RunsUntil self.old.machine n breakpoints.now result self.new.machine }
         ensures points { self.new.points ≡ self.old.points }
@@ -89,7 +89,8 @@ impl Session {
         self.machine.run_until(n, breakpoints)
     }
 
-    /// Makes at most `n` steps, as `Machine::run`. The breakpoints of the session do not count, and stay.
+    /// Makes at most `n` steps, and returns why the run stopped, as `Machine::run`. The breakpoints of the session do
+    /// not count, and stay.
     pub fn run(&mut self, n: u64) -> Stop
         ensures run { IsRun self.old.machine n result self.new.machine }
         ensures points { self.new.points ≡ self.old.points }
@@ -97,8 +98,8 @@ impl Session {
         self.machine.run(n)
     }
 
-    /// Writes bytes upwards from segment:offset on; offsets wrap in their segment. Bytes of the ROM, and where there is
-    /// no memory, stay.
+    /// Writes the bytes to memory from segment:offset up; offsets wrap. Bytes for the ROM, or where there is no memory,
+    /// are lost. Nothing but memory changes.
     pub fn write(&mut self, segment: u16, offset: u16, bytes: &[u8])
         ensures { self.new ≡ with_machine self.old (record self.old.machine { memory = with_bytes self.old.machine.memory segment offset bytes.now }) }
     {
@@ -122,7 +123,7 @@ impl Session {
         }
     }
 
-    /// Whether the command is B for a seventeenth breakpoint.
+    /// Whether the command is B for a breakpoint that is not set, while sixteen others are.
     fn is_over(&self, command: &Command) -> bool
         ensures { result ≡ is_over self.now command.now }
     {
@@ -151,8 +152,8 @@ impl Session {
         }
     }
 
-    /// B: sets a breakpoint, unless it is set already, and appends `ok` to `text`. An `Err` is a failed allocation, and
-    /// the session stays as it was.
+    /// B: sets a breakpoint, unless it is set already, and appends the line `ok` to `text`. An `Err` is a failed
+    /// allocation, and the session stays as it was.
     fn set_point(&mut self, address: LogicalAddress, text: &mut Vec<u8>) -> Result<(), AllocError>
         requires over { is_over self.old (Break address) ≡ false }
         ensures ok { OnOk result (self.new ≡ with_points self.old (with_point self.old.points address)) }
@@ -164,8 +165,8 @@ impl Session {
         Ok(())
     }
 
-    /// BC: clears a breakpoint, if it is set, and appends `ok` to `text`. An `Err` is a failed allocation, and the
-    /// session stays as it was.
+    /// BC: clears a breakpoint, if it is set, and appends the line `ok` to `text`. An `Err` is a failed allocation, and
+    /// the session stays as it was.
     fn clear_point(&mut self, address: LogicalAddress, text: &mut Vec<u8>) -> Result<(), AllocError>
         ensures ok { OnOk result (self.new ≡ with_points self.old (without_point self.old.points address)) }
         ensures told { OnOk result (text.new.items ≡ text.old.items ++ done) }
@@ -176,8 +177,8 @@ impl Session {
         Ok(())
     }
 
-    /// E: writes the bytes to memory from an address on, and appends `ok` to `text`. Offsets wrap. An `Err` is a failed
-    /// allocation, and the session stays as it was.
+    /// E: writes the bytes to memory from an address up, and appends the line `ok` to `text`. Offsets wrap. An `Err` is
+    /// a failed allocation, and the session stays as it was.
     fn enter_bytes(
         &mut self,
         address: LogicalAddress,
@@ -199,7 +200,8 @@ impl Session {
     }
 
     /// Executes a command, and appends what it prints to `text`. G, T and E change the machine, B and BC the
-    /// breakpoints. An `Err` is a failed allocation: a run, or a first part of a trace, may then have been made.
+    /// breakpoints. An `Err` is a failed allocation: the run of a G, or a first part of a T, may then have been made;
+    /// after any other command the session is unchanged.
     fn perform(&mut self, command: &Command, text: &mut Vec<u8>) -> Result<(), AllocError>
         requires over { is_over self.old command.now ≡ false }
         requires empty { text.old.items ≡ [] }
@@ -223,8 +225,8 @@ impl Session {
         }
     }
 
-    /// Executes the command that a line gives, and writes what it prints to `out`, each line with a line feed (0Ah).
-    /// The line comes without its line end.
+    /// Executes the command that a line asks for, and writes what the command prints to `out`, each line with a line
+    /// feed (0Ah). `line` has no line end.
     ///
     /// # Errors
     ///

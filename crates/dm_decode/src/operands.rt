@@ -22,7 +22,7 @@ fn named(width: Width, number: u8) -> Operand
     }
 }
 
-/// The address at the base registers of an r/m field, 0 to 7, plus a displacement.
+/// The address at the base registers that an r/m field, 0 to 7, names, plus a displacement; for field 6 the base is BP.
 fn on_base(rm: u8, displacement: u16) -> Address
     requires { rm < 8 }
     ensures { result ≡ based rm displacement }

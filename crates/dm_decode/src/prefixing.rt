@@ -53,7 +53,8 @@ fn strip(prefixes: Prefixes, bytes: &[u8]) -> (Prefixes, &[u8])
     }
 }
 
-/// At most four prefixes and the action after them, and the bytes after that. None where the bytes spell no action.
+/// The prefixes at the front of the bytes, at most four, the action after them, and the bytes after that. None where no
+/// action follows the prefixes.
 #[tactic(auto, unfolding(crate::specs::inner::Reading::prefixed_at))]
 pub fn prefixed_of(bytes: &[u8]) -> Option<((Prefixes, Action), &[u8])>
     ensures { seen result ≡ prefixed_at bytes.now }

@@ -11,7 +11,7 @@ use dm_ins::Action;
 use dm_ins::fields::Fields;
 use dm_ins::table::{OpcodeEntry, OperandKind, Row, entry_at, member};
 
-/// Whether an operand of the kind is named by the mod r/m byte.
+/// Whether an operand of the kind is read from the mod r/m byte, wholly or in part.
 fn needs_fields(kind: OperandKind) -> bool
     ensures { result ≡ uses_fields kind }
 {

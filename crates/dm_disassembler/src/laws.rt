@@ -1,4 +1,4 @@
-//! A law of disassembly.
+//! The law of listings, as the contract of a function that does nothing.
 
 ghost use Rattle.dm_disassembler.specs.Laws.{BytesHaveOneListing};
 

@@ -41,7 +41,7 @@ fn standing(bytes: &[u8], at: usize) -> Option<(Ins, usize)>
     }
 }
 
-/// Appends the word DB and these bytes as numbers.
+/// Appends the word DB and these bytes as numbers, with commas between them.
 fn put_data(out: &mut Vec<u8>, bytes: &[u8]) -> Result<(), AllocError>
     ensures { OnOk result (out.new.items ≡ out.old.items ++ data_text bytes.now) }
 {

@@ -1,5 +1,6 @@
 -- Laws of the drivers: none stops the machine or changes what belongs to no driver; each keeps the tables of expanded
--- and extended memory consistent with memory; and pages of expanded memory that are promised come.
+-- and extended memory consistent with memory; and a call that allocates pages of expanded memory leaves the handle with
+-- as many as it asked for.
 use Rattle.std.specs.Prelude.{◌≡◌, ℕ, None, Ok}
 use Rattle.dm_ems.specs.Tables.{Expanded, expanded}
 use Rattle.dm_ems.specs.Handles.{allocate}
@@ -15,13 +16,14 @@ use Rattle.dm_drivers.specs.Drivers.{driven}
 abbrev pub LeavesTheRest : State → Answer → Type 0
 LeavesTheRest s x = x ≡ record { stop = None; state = record s { cpu = x.state.cpu; memory = x.state.memory; ems = x.state.ems; xms = x.state.xms; steps = x.state.steps } }
 
--- no driver stops the machine or changes what belongs to no driver, and each keeps the tables consistent with memory
+-- no driver stops the machine or changes what belongs to no driver (the rest, as in `LeavesTheRest`), and each keeps
+-- the tables of expanded and extended memory consistent with memory
 pub record DriversKeep : Type 0 where
   pub rest : (s : State) (driver : Driver) → LeavesTheRest s (driven s driver)
   pub consistency : (s : State) (driver : Driver) → AreConsistent s → AreConsistent (driven s driver).state
 
--- a handle that INT 67h function 43h allocates, or to which function 51h gives n pages without an error code, then has
--- exactly n pages, if the tables are consistent with memory
+-- if the tables are consistent with memory: a handle that INT 67h function 43h allocates with n pages, or that function
+-- 51h reallocates to n pages without an error code, then has exactly n pages
 pub record PagesCome : Type 0 where
   pub allocating : (s : State) (y : Expanded) (n handle : ℕ) → AreConsistent s → allocate (expanded s.ems s.memory) n ≡ Ok (handle, y) → HasPages (expanded s.ems s.memory) y handle n
   pub reallocating : (s : State) (y : Expanded) (handle n : ℕ) (r : Reallocated) → AreConsistent s → reallocate (expanded s.ems s.memory) handle n ≡ Ok (r, y) → r.refused ≡ None → HasPages (expanded s.ems s.memory) y handle n

@@ -9,8 +9,8 @@ use dm_space::entry_points::Driver;
 use dm_state::Parts;
 use dm_xms_calls::extended_memory_call;
 
-/// Performs the call of the driver on the registers, the driver's tables and memory, before the return to the program.
-/// INT 2Fh changes registers alone.
+/// Performs the call of the driver, before the return to the program: INT 67h and the extended memory driver change
+/// registers, memory and the driver's tables, INT 2Fh registers alone. The count of steps stays.
 fn act(parts: &mut Parts, driver: Driver)
     requires { AreConsistent parts.old }
     ensures { parts.new ≡ acted parts.old driver }
@@ -32,7 +32,7 @@ fn act(parts: &mut Parts, driver: Driver)
 }
 
 /// Returns from the driver: from INT 67h and INT 2Fh by popping IP, CS and FLAGS, from the extended memory driver by
-/// popping IP and CS. Memory stays.
+/// popping IP and CS. Memory, the tables and the count of steps stay.
 fn give_back(parts: &mut Parts, driver: Driver)
     ensures { parts.new ≡ given_back parts.old driver }
 {

@@ -1,4 +1,5 @@
-//! Laws of the drivers: each is the contract of a function that does nothing.
+//! Laws of the drivers (INT 67h, INT 2Fh and the extended memory driver): each is the contract of a function that does
+//! nothing.
 ghost use Rattle.dm_drivers.specs.Laws.{DriversKeep, PagesCome};
 
 /// No driver stops the machine, or changes anything but the registers, memory, the tables of expanded and extended
@@ -9,8 +10,8 @@ pub fn drivers_keep()
 {}
 
 /// A successful call of INT 67h function 43h or 51h leaves the handle with exactly as many pages as were asked for,
-/// each a block of its own, if the tables are consistent with memory, as in every machine. The pages that the handle
-/// had come first; the others are new blocks of zeros.
+/// each a block of its own, if the tables are consistent with memory, as in every machine. First are the pages that the
+/// handle had, as many of them as it keeps; the others are new blocks of zeros.
 pub fn pages_come()
     ensures { PagesCome }
 {}

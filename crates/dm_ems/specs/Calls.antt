@@ -26,7 +26,8 @@ need (Some v) e f = f v
 abbrev pub slot : Expanded → ℕ → Option Handle
 slot x handle = slice_index_or x.ems.handles handle None
 
--- the tables with another entry for this handle, None for one that is not in use; memory stays
+-- the tables with another entry for this handle, which is 0 to 63, None if it is no longer in use; its pages and memory
+-- stay
 abbrev pub with_slot : Expanded → ℕ → Option Handle → Expanded
 with_slot x handle s = record x { ems = record x.ems { handles = slice_set x.ems.handles handle s } }
 

@@ -1,4 +1,5 @@
--- That a call which succeeds gives a handle all the pages it asks for (law `PagesCome`).
+-- That a call which succeeds (43h and 51h) gives a handle all the pages that it asks for (the laws `PagesCome` here and
+-- in dm_ems_move).
 use Rattle.std.specs.Prelude.{ℕ, ◌≡◌, List, ◌++◌, take, All}
 use Rattle.dm_pool.specs.Blocks.{IsLive, zeros}
 use Rattle.dm_space.specs.Memory.{page_bytes}
@@ -11,8 +12,8 @@ pub record IsNewPage (x y : Expanded) (block : ℕ) : Type 0 where
   pub live : IsLive y.memory.blocks block
   pub bytes : page_bytes y.memory block ≡ zeros 16
 
--- after a call from x to y the handle has n pages: the first of those that it had, and after them new ones of zeros.
--- Tables and memory are consistent
+-- after a call from x to y the handle has n pages: of those that it had the first n, and after them new ones of zeros.
+-- Tables and memory are consistent in y
 pub record HasPages (x y : Expanded) (handle n : ℕ) : Type 0 where
   pub count : page_count y.ems handle ≡ n
   pub new : List ℕ

@@ -16,7 +16,7 @@ block_at pages k = (slice_index_or pages k (record { handle = 0; block = 0 })).b
 abbrev pub handle_at : List Page → ℕ → ℕ
 handle_at pages k = (slice_index_or pages k (record { handle = 0; block = 0 })).handle
 
--- the handle is in use by its entry in the table
+-- the handle has an entry in the table: it is in use
 abbrev pub IsUsed : List (Option Handle) → ℕ → Type 0
 IsUsed handles handle = IsSome (slice_index_or handles handle None)
 

@@ -6,7 +6,9 @@ use Rattle.dm_ems.specs.declared.status.Status.TheVariants.{NoPages, NoHandleLef
 use Rattle.dm_ems.specs.Tables.{Expanded, free_handle, unallocated, appended, blank, cut, page_count}
 use Rattle.dm_ems.specs.Calls.{need, slot, with_slot}
 
--- 43h: a new handle, the lowest that is not in use, gets n pages of zeros; its number is the result
+-- 43h: a new handle, the lowest that is not in use, gets n pages of zeros, fewer only if the pool has no number left;
+-- the handle's number is the result. Fails for 0 pages; where no handle is left; for more pages than the total; for
+-- more than can still be allocated
 unfoldable pub allocate : Expanded → ℕ → Result (ℕ × Expanded) Status
 allocate x n =
     if n == 0 then Err NoPages else
@@ -16,7 +18,7 @@ allocate x n =
     Ok (handle, appended (with_slot x handle (Some blank)) handle n))
 
 -- 45h: a handle and its pages are freed, which leave all windows and saved windows; handle 0 stays in use, with no
--- page and no name
+-- page and no name. Fails where the handle is not in use, or has saved windows
 unfoldable pub deallocate : Expanded → ℕ → Result (Unit {0} × Expanded) Status
 deallocate x handle =
     need (slot x handle) UnknownHandle (λ s.
@@ -27,6 +29,6 @@ deallocate x handle =
 abbrev pub in_use : Expanded → ℕ
 in_use x = count_by is_some x.ems.handles
 
--- 4Ch: the number of pages of a handle
+-- 4Ch: the number of pages of a handle; an error where it is not in use
 unfoldable pub count_pages : Expanded → ℕ → Result ℕ Status
 count_pages x handle = need (slot x handle) UnknownHandle (λ s. Ok (page_count x.ems handle))

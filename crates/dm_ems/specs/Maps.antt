@@ -11,7 +11,8 @@ use Rattle.dm_ems.specs.Calls.{need, slot, with_slot, with_memory}
 abbrev pub showing : Expanded → ℕ → Option ℕ → Expanded
 showing x window block = with_memory x (with_window x.memory window block)
 
--- 44h: a window shows a logical page of a handle, or nothing with page FFFFh; the tables stay
+-- 44h: a window shows a logical page of a handle, or nothing with page FFFFh; the tables stay. An error if there is no
+-- such handle, window (0 to 3) or page
 unfoldable pub map_page : Expanded → ℕ → ℕ → ℕ → Result (Unit {0} × Expanded) Status
 map_page x window page handle =
     need (slot x handle) UnknownHandle (λ s.
@@ -20,14 +21,16 @@ map_page x window page handle =
     need (slice_get (blocks_of x.ems handle) page) NoSuchPage (λ block.
     Ok (tt, showing x window (Some block))))
 
--- 47h: what the four windows show is saved under a handle; memory stays
+-- 47h: what the four windows show is saved under a handle; memory stays. An error if there is no such handle, or it has
+-- saved windows already
 unfoldable pub save_map : Expanded → ℕ → Result (Unit {0} × Expanded) Status
 save_map x handle =
     need (slot x handle) UnknownHandle (λ s.
     if is_some s.saved then Err SavedAlready else
     Ok (tt, with_slot x handle (Some (record s { saved = Some x.memory.windows }))))
 
--- 48h: the four windows show what was saved under a handle, which then has nothing saved
+-- 48h: the four windows show what was saved under a handle, which then has nothing saved. An error if there is no such
+-- handle, or it has nothing saved
 unfoldable pub restore_map : Expanded → ℕ → Result (Unit {0} × Expanded) Status
 restore_map x handle =
     need (slot x handle) UnknownHandle (λ s.

@@ -21,7 +21,7 @@ abbrev pub in_turn : (ℕ → List ℕ) → ℕ → List ℕ
 in_turn f zero = []
 in_turn f (suc n) = in_turn f n ++ f n
 
--- the bytes are written to memory from segment:offset on; the tables stay
+-- the bytes are written to memory from segment:offset on, where offsets wrap; the tables stay
 abbrev pub writing : Expanded → ℕ → ℕ → List ℕ → Expanded
 writing x segment offset bytes = with_memory x (with_bytes x.memory segment offset bytes)
 
@@ -31,11 +31,11 @@ abbrev pub page_entry : Tables → ℕ → Option Handle → List ℕ
 page_entry ems handle None = []
 page_entry ems handle (Some s) = word_bytes handle ++ word_bytes (page_count ems handle)
 
--- the entries of all handles in use, in ascending order
+-- the list of 4Dh: the `page_entry` of each handle in use, in ascending order
 abbrev pub page_entries : Expanded → List ℕ
 page_entries x = in_turn (λ handle. page_entry x.ems handle (slot x handle)) 64
 
--- 4Dh: `page_entries` are written at segment:offset; the result is the number of handles in use
+-- 4Dh: `page_entries` are written at segment:offset; the result is the number of handles in use. The tables stay
 unfoldable pub list_pages : Expanded → ℕ → ℕ → (ℕ × Expanded)
 list_pages x segment offset = (in_use x, writing x segment offset (page_entries x))
 
@@ -45,11 +45,12 @@ abbrev pub name_entry : ℕ → Option Handle → List ℕ
 name_entry handle None = []
 name_entry handle (Some s) = word_bytes handle ++ s.name
 
--- the entries of all handles in use, in ascending order
+-- the list of 54h: the `name_entry` of each handle in use, in ascending order
 abbrev pub name_entries : Expanded → List ℕ
 name_entries x = in_turn (λ handle. name_entry handle (slot x handle)) 64
 
--- 54h, AL = 0: `name_entries` are written at segment:offset; the result is the number of handles in use
+-- 54h, AL = 0: `name_entries` are written at segment:offset; the result is the number of handles in use. The tables
+-- stay
 unfoldable pub list_names : Expanded → ℕ → ℕ → (ℕ × Expanded)
 list_names x segment offset = (in_use x, writing x segment offset (name_entries x))
 
@@ -66,19 +67,21 @@ has_name name (Some s) = pointwise nat_eq s.name name
 unfoldable pub is_name_of_other : Tables → ℕ → List ℕ → Bool
 is_name_of_other ems handle name = if is_no_name name then false else list_any (has_name name) (slice_set ems.handles handle None)
 
--- 53h, AL = 0: the eight bytes of a handle's name are written at segment:offset
+-- 53h, AL = 0: the eight bytes of a handle's name are written at segment:offset; an error where it is not in use
 unfoldable pub get_name : Expanded → ℕ → ℕ → ℕ → Result (Unit {0} × Expanded) Status
 get_name x handle segment offset =
     need (slot x handle) UnknownHandle (λ s. Ok (tt, writing x segment offset s.name))
 
--- 53h, AL = 1: a handle gets the eight bytes at segment:offset as its name; memory stays
+-- 53h, AL = 1: a handle gets the eight bytes at segment:offset as its name, eight zeros for none; memory stays. An
+-- error where the handle is not in use, or another has the name
 unfoldable pub set_name : Expanded → ℕ → ℕ → ℕ → Result (Unit {0} × Expanded) Status
 set_name x handle segment offset =
     need (slot x handle) UnknownHandle (λ s.
     if is_name_of_other x.ems handle (eight_after x.memory segment offset) then Err NameTaken else
     Ok (tt, with_slot x handle (Some (record s { name = eight_after x.memory segment offset }))))
 
--- 54h, AL = 1: the lowest handle with the name at segment:offset; eight zeros are refused as `NameTaken`
+-- 54h, AL = 1: the lowest handle with the name at segment:offset, an error where there is none; eight zeros are refused
+-- as `NameTaken`
 unfoldable pub find_name : Expanded → ℕ → ℕ → Result ℕ Status
 find_name x segment offset =
     if is_no_name (eight_after x.memory segment offset) then Err NameTaken else

@@ -1,5 +1,5 @@
 -- What the calls of the expanded memory driver keep outside of expanded memory: the blocks of the pool that are not
--- pages, as those of the extended memory driver, their sizes, and A20.
+-- pages (those of the extended memory driver), their sizes, and A20.
 use Rattle.std.specs.Prelude.{ℕ, ◌≡◌, length}
 use Rattle.dm_pool.specs.Blocks.{IsLive}
 use Rattle.dm_space.specs.Memory.{page_bytes}
@@ -13,7 +13,7 @@ pub record IsOutside (x : Expanded) (block bytes : ℕ) : Type 0 where
   pub apart : IsOwned x.ems.pages block → ⊥
 
 -- from x to y: each block that is not a page is still there, as large, and still not a page; there is no other such
--- block; and A20 stays. Of their bytes nothing is said
+-- block; and A20 stays. Of the blocks' bytes nothing is said
 pub record LeavesOutside (x y : Expanded) : Type 0 where
   pub blocks : (block bytes : ℕ) → IsOutside x block bytes → IsOutside y block bytes
   pub others : (block : ℕ) → IsLive y.memory.blocks block → (IsOwned y.ems.pages block → ⊥) → IsLive x.memory.blocks block × (IsOwned x.ems.pages block → ⊥)

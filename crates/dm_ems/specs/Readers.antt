@@ -24,7 +24,8 @@ holding ems handle = held (page_count ems handle) (slice_index_or ems.handles ha
 abbrev pub page_at : List Page → ℕ → Page
 page_at pages i = slice_index_or pages i (record { handle = 0; block = 0 })
 
--- the handle of page i of the list, and the page's logical number: how many pages of that handle come before it
+-- the handle of page i of the list, and the page's logical number: how many pages of that handle stand before it in the
+-- list; None for no index
 abbrev pub numbers_at : List Page → Option ℕ → Option (ℕ × ℕ)
 numbers_at pages None = None
 numbers_at pages (Some i) = Some ((page_at pages i).handle, count_by (is_of (page_at pages i).handle) (take i pages))

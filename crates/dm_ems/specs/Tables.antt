@@ -33,7 +33,7 @@ no_name = 0 ∷ 0 ∷ 0 ∷ 0 ∷ 0 ∷ 0 ∷ 0 ∷ 0 ∷ []
 abbrev pub blank : Handle
 blank = record { name = no_name; saved = None }
 
--- the tables of a new machine: handle 0 is in use, with no page
+-- the tables of a new machine that has `total` pages, all free: handle 0 is in use, with no page and no name
 abbrev pub new_tables : ℕ → Tables
 new_tables total = record { total = total; handles = Some blank ∷ replicate 63 None; pages = [] }
 
@@ -60,15 +60,15 @@ free_handle ems = position is_none ems.handles
 abbrev pub unallocated : Expanded → ℕ
 unallocated x = min (count_fitting 16 (gaps x.memory.blocks.places x.memory.blocks.units)) (x.ems.total - length x.ems.pages)
 
--- ---- a page comes
+-- ---- adding a page
 
 -- a new block of the pool becomes the last page of a handle; without a block nothing changes
 abbrev pub with_page : Expanded → ℕ → Option (ℕ × Blocks) → Expanded
 with_page x handle None = x
 with_page x handle (Some p) = record { ems = record x.ems { pages = x.ems.pages ++ record { handle = handle; block = p.0 } ∷ [] }; memory = with_blocks x.memory p.1 }
 
--- a page of zeros is added after those of a handle, in the lowest gap of the pool that holds it; without such a gap
--- nothing changes
+-- a page of zeros is added after those of a handle, in the lowest gap of the pool that holds it; without such a gap, or
+-- a number of the pool that is left, nothing changes
 unfoldable pub appended_page : Expanded → ℕ → Expanded
 appended_page x handle = with_page x handle (taken x.memory.blocks 16)
 
@@ -77,7 +77,7 @@ abbrev pub appended : Expanded → ℕ → ℕ → Expanded
 appended x handle zero = x
 appended x handle (suc n) = appended_page (appended x handle n) handle
 
--- ---- a page goes
+-- ---- removing a page
 
 -- the memory with these blocks shown by the four windows
 abbrev pub with_windows : Memory → List (Option ℕ) → Memory

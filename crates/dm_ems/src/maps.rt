@@ -19,7 +19,7 @@ const WINDOWS: u8 = 4;
 const NO_PAGE: u16 = 0xFFFF;
 
 impl Ems {
-    /// 44h: makes a window, 0 to 3, show a logical page of a handle, or nothing with page FFFFh.
+    /// 44h: makes a window, 0 to 3, show a logical page of a handle, or nothing with page FFFFh. The tables stay.
     ///
     /// # Errors
     ///
@@ -56,7 +56,7 @@ impl Ems {
         }
     }
 
-    /// 47h: saves what the four windows show under a handle.
+    /// 47h: saves, under a handle, what the four windows show.
     ///
     /// # Errors
     ///

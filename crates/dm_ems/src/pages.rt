@@ -1,4 +1,5 @@
-//! How pages are added to a handle and removed (LIM EMS 4.0, sections 2 and 3). None of it changes the scratch part.
+//! How pages are added to a handle and removed (LIM EMS 4.0, sections 2 and 3). No function here changes the scratch
+//! part of the space.
 
 ghost use Rattle.std.specs.Prelude.{◌≡◌, ◌<◌, ◌+◌, length, map, drop, slice_index_or, IfSome, None, ℕ};
 ghost use Rattle.dm_space.specs.Memory.{IsPage};
@@ -23,7 +24,7 @@ pub fn set_windows(space: &mut Space, windows: [Option<Block>; 4])
     }
 }
 
-/// Makes each window that shows this block show nothing.
+/// Makes each window that shows this block show nothing. Nothing else changes.
 fn unmap(space: &mut Space, block: Block)
     ensures { space.new ≡ record space.old { memory = with_windows space.old.memory (map (unmapped block) space.old.memory.windows) } }
 {

@@ -40,7 +40,7 @@ impl Ems {
         }
     }
 
-    /// The handle and the logical number of the page that a window, 0 to 3, shows; None where it shows nothing.
+    /// The handle and the logical number of the page that a window, 0 to 3, shows; None where it shows no page.
     pub fn window(&self, space: &Space, window: usize) -> Option<(u16, u16)>
         requires { window < 4 }
         ensures { result ≡ page_shown self.now space.now.memory window }

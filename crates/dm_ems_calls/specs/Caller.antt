@@ -10,7 +10,7 @@ use Rattle.dm_ems.specs.Status.{code_of}
 use Rattle.dm_ems.specs.Tables.{Tables, Expanded, expanded}
 use Rattle.dm_ems.specs.Calls.{answer, left}
 
--- the registers of the program that calls, and the tables and memory of the driver
+-- the registers of the program that calls, the tables of the driver, and the memory
 pub record Caller : Type 0 where
   pub cpu : Cpu
   pub x : Expanded
@@ -41,7 +41,7 @@ abbrev pub settled : {A : Type 0} → Cpu → Result A Status → (A → Cpu) �
 settled cpu (Ok v) set = succeeded (set v)
 settled cpu (Err e) set = refused cpu e
 
--- the registers after a call: if it succeeds, `set` of the result, which gives AH too; else AH alone changes, to the
+-- the registers after a call: if it succeeds, `set` of the result, which sets AH too; else AH alone changes, to the
 -- status of the error
 abbrev pub settled_with_status : {A : Type 0} → Cpu → Result A Status → (A → Cpu) → Cpu
 settled_with_status cpu (Ok v) set = set v

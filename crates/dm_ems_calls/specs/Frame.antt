@@ -1,5 +1,5 @@
 -- The driver's version and the page frame (LIM EMS 4.0, functions 2, 7 and 25; INT 67h functions 41h, 46h and 58h).
--- AH is the status; other registers than those named stay.
+-- AH is the status, 0 for success; other registers than those named stay.
 use Rattle.std.specs.Prelude.{◌==◌, if◌then◌else◌}
 use Rattle.dm_ins.specs.declared.operand.ByteRegister.TheVariants.{Al}
 use Rattle.dm_cpu.specs.declared.cpu.Cpu.{Cpu}
@@ -16,7 +16,8 @@ tell_frame cpu = succeeded (record cpu { bx = 0xE000 })
 unfoldable pub tell_version : Cpu → Cpu
 tell_version cpu = succeeded (with_byte cpu Al 0x40)
 
--- 58h, AL = 0: the segments and numbers of the windows are written at ES:DI, and CX is the number of windows, 4
+-- 58h, AL = 0: the segments and numbers of the windows are written at ES:DI, 16 bytes, and CX is the number of windows,
+-- 4
 unfoldable pub list_frame : Caller → Caller
 list_frame c = record { cpu = succeeded (record c.cpu { cx = 4 }); x = rows.list_frame c.x c.cpu.es c.cpu.di }
 

@@ -12,7 +12,7 @@ use Rattle.dm_ems_calls.specs.Names.{handle_name, directory}
 use Rattle.dm_ems_calls.specs.Regions.{regions}
 use Rattle.dm_ems_calls.specs.Frame.{tell_frame, tell_version, mappable}
 
--- the function that AH selects
+-- the function that a value of AH selects
 abbrev pub function_of : ℕ → Function
 function_of number =
     if number == 0x40 then Status else
@@ -35,7 +35,7 @@ function_of number =
     if number == 0x57 then Regions else
     if number == 0x58 then Mappable else Unknown
 
--- a function that the driver does not have: AH is status 84h
+-- a function that the driver does not have: AH is status 84h; the other registers stay
 unfoldable pub no_function : Cpu → Cpu
 no_function cpu = with_status cpu 0x84
 
@@ -62,6 +62,6 @@ call c Regions = regions c
 call c Mappable = mappable c
 call c Unknown = on_cpu c (no_function c.cpu)
 
--- the state after INT 67h: the function that AH selects is called
+-- the state after INT 67h: after the function that AH selects
 abbrev pub dispatched : Caller → Caller
 dispatched c = call c (function_of (byte_of c.cpu Ah))

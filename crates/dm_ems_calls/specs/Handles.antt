@@ -1,5 +1,6 @@
 -- Handles and their pages (LIM EMS 4.0, functions 3, 4, 6, 12, 13, 14 and 18; INT 67h functions 42h, 43h, 45h, 4Bh to
--- 4Dh and 51h). AH is the status; other registers than those named stay.
+-- 4Dh and 51h). AH is the status, 0 for success; other registers than those named stay. An error sets AH alone, except
+-- in 51h.
 use Rattle.std.specs.Prelude.{ℕ, Option, Some, None}
 use Rattle.dm_cpu.specs.declared.cpu.Cpu.{Cpu}
 use Rattle.dm_ems.specs.declared.status.Status.{Status}
@@ -16,7 +17,7 @@ use Rattle.dm_ems_calls.specs.Caller.{Caller, with_status, on_cpu, succeeded, se
 unfoldable pub tell_pages : Caller → Caller
 tell_pages c = on_cpu c (succeeded (record c.cpu { bx = unallocated c.x; dx = c.x.ems.total }))
 
--- 43h: a new handle with BX pages; DX is its number
+-- 43h: a new handle with BX pages of zeros is allocated, and DX becomes its number
 unfoldable pub allocate : Caller → Caller
 allocate c = after_call c (rows.allocate c.x c.cpu.bx) (λ handle. record c.cpu { dx = handle })
 
@@ -49,7 +50,8 @@ status_of (Some e) = code_of e
 abbrev pub recounted : Cpu → Reallocated → Cpu
 recounted cpu r = with_status (record cpu { bx = r.pages }) (status_of r.refused)
 
--- 51h: the handle in DX gets BX pages in all; BX is then its number of pages
+-- 51h: the handle in DX gets BX pages in all, and BX becomes its number of pages. If there are not enough, the handle
+-- keeps its pages, and BX is their number; if it is not in use, BX stays
 unfoldable pub reallocate : Caller → Caller
 reallocate c =
     let r = moves.reallocate c.x c.cpu.dx c.cpu.bx in

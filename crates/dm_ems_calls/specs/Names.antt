@@ -1,5 +1,6 @@
 -- The names of handles (LIM EMS 4.0, functions 20 and 21; INT 67h functions 53h and 54h). AL selects the subfunction;
--- another value returns status 8Fh. AH is the status; other registers than those named stay.
+-- another value returns status 8Fh. AH is the status, 0 for success; other registers than those named stay. An error
+-- sets AH alone.
 use Rattle.std.specs.Prelude.{◌==◌, if◌then◌else◌}
 use Rattle.dm_ins.specs.declared.operand.ByteRegister.TheVariants.{Al}
 use Rattle.dm_cpu.specs.declared.cpu.Cpu.{Cpu}
@@ -29,7 +30,8 @@ list_names c =
     let told = rows.list_names c.x c.cpu.es c.cpu.di in
     record { cpu = succeeded (with_byte c.cpu Al told.0); x = told.1 }
 
--- 54h, AL = 1: DX is the lowest handle with the name at DS:SI
+-- 54h, AL = 1: DX becomes the lowest handle with the name at DS:SI; where no handle has it, or it is eight zeros, DX
+-- stays
 unfoldable pub find_name : Caller → Caller
 find_name c = on_cpu c (settled c.cpu (rows.find_name c.x c.cpu.ds c.cpu.si) (λ handle. record c.cpu { dx = handle }))
 
@@ -37,7 +39,8 @@ find_name c = on_cpu c (settled c.cpu (rows.find_name c.x c.cpu.ds c.cpu.si) (λ
 unfoldable pub tell_handles : Cpu → Cpu
 tell_handles cpu = succeeded (record cpu { bx = 64 })
 
--- 54h: AL selects whether names are listed (0), one is searched for (1), or all handles are counted (2)
+-- 54h: AL selects whether the names are written at ES:DI (0), one is searched for (1), or BX becomes the number of all
+-- handles (2)
 unfoldable pub directory : Caller → Caller
 directory c =
     if byte_of c.cpu Al == 0 then list_names c else

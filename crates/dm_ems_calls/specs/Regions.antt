@@ -1,5 +1,5 @@
 -- Regions of memory that are moved or exchanged (LIM EMS 4.0, function 24; INT 67h function 57h), as the structure of
--- 18 bytes at DS:SI describes them. AH is the status; the other registers stay.
+-- 18 bytes at DS:SI describes them. AH is the status, 0 for success; the other registers stay.
 use Rattle.std.specs.Prelude.{◌==◌, if◌then◌else◌}
 use Rattle.dm_ins.specs.declared.operand.ByteRegister.TheVariants.{Al}
 use Rattle.dm_cpu.specs.Cpu.{byte_of}
@@ -8,13 +8,14 @@ use Rattle.dm_ems.specs.Calls.{answer, left}
 use Rattle.dm_ems_move.specs.RegionMoves as rows
 use Rattle.dm_ems_calls.specs.Caller.{Caller, with_status, on_cpu, refused, settled_with_status, after_call}
 
--- 57h, AL = 0: the source is copied to the destination; AH is 92h where they overlap
+-- 57h, AL = 0: the source is copied to the destination; AH is 92h where they overlap and are of one type, that is, both
+-- conventional memory or both pages
 unfoldable pub move_region : Caller → Caller
 move_region c =
     let r = rows.move_region c.x c.cpu.ds c.cpu.si in
     record { cpu = settled_with_status c.cpu (answer r) (λ how. with_status c.cpu (rows.moved_code how)); x = left c.x r }
 
--- 57h, AL = 1: the two regions exchange their bytes
+-- 57h, AL = 1: the two regions exchange their bytes; an error where they overlap
 unfoldable pub exchange_region : Caller → Caller
 exchange_region c = after_call c (rows.exchange_region c.x c.cpu.ds c.cpu.si) (λ done. c.cpu)
 

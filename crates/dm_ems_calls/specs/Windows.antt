@@ -1,5 +1,5 @@
 -- The windows of the frame (LIM EMS 4.0, functions 5, 8, 9, 15 and 17; INT 67h functions 44h, 47h, 48h, 4Eh and 50h).
--- AH is the status; other registers than those named stay.
+-- AH is the status, 0 for success; other registers than those named stay. An error sets AH alone.
 use Rattle.std.specs.Prelude.{ℕ, Option, Some, None}
 use Rattle.dm_ins.specs.declared.operand.ByteRegister.TheVariants.{Al}
 use Rattle.dm_cpu.specs.declared.cpu.Cpu.{Cpu}
@@ -26,12 +26,12 @@ abbrev pub numbered : Cpu → Option ℕ → Cpu
 numbered cpu None = cpu
 numbered cpu (Some n) = with_byte cpu Al n
 
--- 4Eh: with AL = 0 the map of the windows is written at ES:DI, with 1 they are set from the map at DS:SI, with 2
--- both, and with 3 AL is the size of a map in bytes
+-- 4Eh: with AL = 0 the map of the windows is written at ES:DI, with 1 they are set from the map at DS:SI, with 2 both,
+-- the map at DS:SI read first, and with 3 AL becomes the size of a map in bytes, 16; status 8Fh for another value
 unfoldable pub whole_map : Caller → Caller
 whole_map c = after_call c (maps.whole_map c.x (byte_of c.cpu Al) c.cpu.es c.cpu.di c.cpu.ds c.cpu.si) (numbered c.cpu)
 
 -- 50h: windows show pages of the handle in DX, as CX pairs at DS:SI say, which name windows by number (AL = 0) or by
--- segment (AL = 1)
+-- segment (AL = 1); status 8Fh for another value of AL
 unfoldable pub map_many : Caller → Caller
 map_many c = after_call c (many.map_many c.x (byte_of c.cpu Al) c.cpu.dx c.cpu.cx c.cpu.ds c.cpu.si) (λ done. c.cpu)

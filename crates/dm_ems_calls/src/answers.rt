@@ -1,4 +1,4 @@
-//! The registers that a call of INT 67h returns (LIM EMS 4.0, section 3): AH is the status. Each
+//! The registers that a call of INT 67h returns (LIM EMS 4.0, section 3): AH is the status, 0 for success. Each
 //! function here changes `cpu` alone, and of it only the registers that it names.
 ghost use Rattle.std.specs.Prelude.{◌≡◌};
 ghost use Rattle.dm_ems_move.specs.RegionMoves.{moved_code};
@@ -25,7 +25,7 @@ pub(crate) fn refuse(cpu: &mut Cpu, status: Status)
     cpu.set_byte(ByteRegister::Ah, status.code());
 }
 
-/// Sets AH after a call without another result: 0, or the status of its error.
+/// Sets AH after a call that returns nothing else: to 0, or to the status of its error.
 pub(crate) fn settle(cpu: &mut Cpu, res: Result<(), Status>)
     ensures { cpu.new ≡ settled cpu.old res (λ done. cpu.old) }
 {
@@ -76,8 +76,8 @@ pub(crate) fn settle_al(cpu: &mut Cpu, res: Result<Option<u8>, Status>)
     }
 }
 
-/// Sets AH after a reallocation (51h), and BX to the handle's number of pages, also where it could
-/// not be changed. With an unknown handle BX stays.
+/// Sets AH after a reallocation (51h), and BX to the handle's number of pages, also where that number could not be
+/// changed. With an unknown handle BX stays.
 pub(crate) fn settle_pages(cpu: &mut Cpu, res: Result<Reallocated, Status>)
     ensures { cpu.new ≡ settled_with_status cpu.old res (recounted cpu.old) }
 {
@@ -93,7 +93,7 @@ pub(crate) fn settle_pages(cpu: &mut Cpu, res: Result<Reallocated, Status>)
     }
 }
 
-/// Sets AH after a move (57h, AL = 0): 0, 92h where the regions overlap, or the status of its
+/// Sets AH after a move (57h, AL = 0): to 0, to 92h if it succeeded with regions that overlap, or to the status of its
 /// error.
 pub(crate) fn settle_move(cpu: &mut Cpu, res: Result<Moved, Status>)
     ensures { cpu.new ≡ settled_with_status cpu.old res (λ how. with_status cpu.old (moved_code how)) }

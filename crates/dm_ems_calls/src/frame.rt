@@ -1,5 +1,4 @@
-//! The driver's version and the page frame (LIM EMS 4.0, functions 2, 7 and 25; INT 67h functions
-//! 41h, 46h and 58h).
+//! The driver's version and the page frame (LIM EMS 4.0, functions 2, 7 and 25; INT 67h functions 41h, 46h and 58h).
 ghost use Rattle.std.specs.Prelude.{◌≡◌};
 ghost use Rattle.dm_ems_calls.specs.Caller.{caller};
 ghost use Rattle.dm_ems_calls.specs.Frame.{tell_frame, tell_version, list_frame, count_windows, mappable};
@@ -37,8 +36,8 @@ pub(crate) fn tell_version(cpu: &mut Cpu)
     succeed(cpu);
 }
 
-/// 58h, AL = 0: writes the segments and numbers of the windows at ES:DI; sets CX to the number of
-/// windows, and AH to 0.
+/// 58h, AL = 0: writes the segments and numbers of the windows, 16 bytes, at ES:DI; sets CX to the number of windows,
+/// and AH to 0.
 #[tactic(auto, unfolding(crate::specs::Frame::list_frame))]
 fn list_frame(cpu: &mut Cpu, ems: &Ems, space: &mut Space)
     ensures { caller cpu.new ems.now space.new.memory ≡ list_frame (caller cpu.old ems.now space.old.memory) }

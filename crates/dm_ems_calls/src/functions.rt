@@ -30,7 +30,7 @@ pub(crate) enum Function {
     Frame,
     /// 42h: returns in BX the number of pages that can still be allocated, in DX that of all pages.
     Pages,
-    /// 43h: gives a new handle BX pages, and returns it in DX.
+    /// 43h: allocates a new handle with BX pages, and returns it in DX.
     Allocate,
     /// 44h: makes window AL show logical page BX of handle DX.
     MapPage,
@@ -38,7 +38,7 @@ pub(crate) enum Function {
     Deallocate,
     /// 46h: returns the version in AL.
     Version,
-    /// 47h: saves what the windows show under handle DX.
+    /// 47h: saves, under handle DX, what the windows show.
     SaveMap,
     /// 48h: makes the windows show what was saved under handle DX.
     RestoreMap,
@@ -48,19 +48,19 @@ pub(crate) enum Function {
     PageCount,
     /// 4Dh: writes the handles in use and their numbers of pages at ES:DI.
     PageList,
-    /// 4Eh: gets or sets the map of all windows.
+    /// 4Eh: writes the map of all windows at ES:DI, sets them from the map at DS:SI, does both, or returns its size.
     WholeMap,
-    /// 50h: makes windows show pages of handle DX.
+    /// 50h: makes windows show pages of handle DX, as CX pairs at DS:SI say.
     MapMany,
-    /// 51h: gives handle DX another number of pages.
+    /// 51h: changes the number of pages of handle DX to BX, and returns it in BX.
     Reallocate,
-    /// 53h: gets or sets the name of handle DX.
+    /// 53h: writes the name of handle DX at ES:DI, or sets it from DS:SI.
     HandleName,
-    /// 54h: gets all names, searches for one, or returns the number of all handles.
+    /// 54h: writes all names at ES:DI, searches for the one at DS:SI, or returns the number of all handles.
     Directory,
     /// 57h: moves or exchanges regions of memory.
     Regions,
-    /// 58h: returns the segments and numbers of the windows, or how many there are.
+    /// 58h: writes the segments and numbers of the windows at ES:DI, or only returns how many windows there are.
     Mappable,
     /// Any other number.
     Unknown,
@@ -94,7 +94,8 @@ fn function_of(number: u8) -> Function
     }
 }
 
-/// Does one function of INT 67h, on the registers, the tables and the memory.
+/// Does one function of INT 67h, on the registers, the tables and the memory. The scratch part of the space may be
+/// overwritten.
 #[tactic(auto, unfolding(crate::specs::Functions::no_function))]
 fn call(cpu: &mut Cpu, ems: &mut Ems, space: &mut Space, function: Function)
     requires { IsConsistent (expanded ems.old space.old.memory) }
@@ -125,9 +126,9 @@ fn call(cpu: &mut Cpu, ems: &mut Ems, space: &mut Space, function: Function)
 }
 
 /// Does the function of INT 67h that AH selects, on the registers of the program that calls, the tables of expanded
-/// memory and the memory, which are consistent. AH is then the status: 0 for success, 92h for a move of regions that
-/// overlap, 84h where there is no such function, otherwise the error; DX, BX, AL, CX and the program's buffers hold
-/// what each function returns (LIM EMS 4.0, section 3).
+/// memory and the memory, which are consistent. AH is then the status: 0 for success, 92h for a move that succeeds with
+/// regions that overlap, 84h where there is no such function, otherwise the error; DX, BX, AL, CX and the program's
+/// buffers hold what each function returns (LIM EMS 4.0, section 3). The scratch part of the space may be overwritten.
 pub fn expanded_memory_call(cpu: &mut Cpu, ems: &mut Ems, space: &mut Space)
     requires { IsConsistent (expanded ems.old space.old.memory) }
     ensures { caller cpu.new ems.new space.new.memory ≡ dispatched (caller cpu.old ems.old space.old.memory) }

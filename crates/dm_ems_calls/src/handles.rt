@@ -1,5 +1,5 @@
 //! Handles and their pages (LIM EMS 4.0, functions 3, 4, 6, 12, 13, 14 and 18; INT 67h functions 42h, 43h, 45h, 4Bh
-//! to 4Dh and 51h). Each function sets AH to the status.
+//! to 4Dh and 51h). Each function sets AH to the status, 0 for success. An error sets AH alone, except in 51h.
 ghost use Rattle.std.specs.Prelude.{◌≡◌};
 ghost use Rattle.dm_ems.specs.Tables.{expanded};
 ghost use Rattle.dm_ems.specs.Consistent.{IsConsistent};
@@ -68,7 +68,8 @@ pub(crate) fn list_pages(cpu: &mut Cpu, ems: &Ems, space: &mut Space)
     succeed(cpu);
 }
 
-/// 51h: changes the number of pages of the handle in DX to BX. Sets BX to the number that it has then.
+/// 51h: changes the number of pages of the handle in DX to BX. Sets BX to the number that the handle has then, also
+/// where there are not enough pages; if the handle is not in use, BX stays.
 #[tactic(auto, unfolding(crate::specs::Handles::reallocate))]
 pub(crate) fn reallocate(cpu: &mut Cpu, ems: &mut Ems, space: &mut Space)
     requires { IsConsistent (expanded ems.old space.old.memory) }

@@ -1,5 +1,5 @@
-//! The names of handles (LIM EMS 4.0, functions 20 and 21; INT 67h functions 53h and 54h). AL
-//! selects the subfunction; each sets AH to the status.
+//! The names of handles (LIM EMS 4.0, functions 20 and 21; INT 67h functions 53h and 54h). AL selects the subfunction;
+//! each sets AH to the status, 0 for success. An error sets AH alone.
 ghost use Rattle.std.specs.Prelude.{◌≡◌};
 ghost use Rattle.dm_ems_calls.specs.Caller.{caller};
 ghost use Rattle.dm_ems_calls.specs.Names.{get_name, set_name, handle_name, list_names, find_name, tell_handles, directory};
@@ -22,7 +22,7 @@ fn get_name(cpu: &mut Cpu, ems: &Ems, space: &mut Space)
     settle(cpu, res);
 }
 
-/// 53h, AL = 1: gives the handle in DX the name at DS:SI, eight bytes.
+/// 53h, AL = 1: sets the name of the handle in DX to the eight bytes at DS:SI.
 #[tactic(auto, unfolding(crate::specs::Names::set_name))]
 fn set_name(cpu: &mut Cpu, ems: &mut Ems, space: &Space)
     ensures { caller cpu.new ems.new space.now.memory ≡ set_name (caller cpu.old ems.old space.now.memory) }
@@ -31,7 +31,8 @@ fn set_name(cpu: &mut Cpu, ems: &mut Ems, space: &Space)
     settle(cpu, res);
 }
 
-/// 53h: AL selects whether a name is read (0) or set (1); status 8Fh for another value.
+/// 53h: AL selects whether the name of the handle in DX is written at ES:DI (0) or set from DS:SI (1); status 8Fh for
+/// another value.
 #[tactic(auto, unfolding(crate::specs::Names::handle_name))]
 pub(crate) fn handle_name(cpu: &mut Cpu, ems: &mut Ems, space: &mut Space)
     ensures { caller cpu.new ems.new space.new.memory ≡ handle_name (caller cpu.old ems.old space.old.memory) }
@@ -54,7 +55,8 @@ fn list_names(cpu: &mut Cpu, ems: &Ems, space: &mut Space)
     succeed(cpu);
 }
 
-/// 54h, AL = 1: sets DX to the lowest handle with the name at DS:SI.
+/// 54h, AL = 1: sets DX to the lowest handle with the name at DS:SI; where no handle has it, or it is eight zeros, DX
+/// stays.
 #[tactic(auto, unfolding(crate::specs::Names::find_name))]
 fn find_name(cpu: &mut Cpu, ems: &Ems, space: &Space)
     ensures { caller cpu.new ems.now space.now.memory ≡ find_name (caller cpu.old ems.now space.now.memory) }
@@ -72,8 +74,8 @@ fn tell_handles(cpu: &mut Cpu)
     succeed(cpu);
 }
 
-/// 54h: AL selects whether names are listed (0), one is searched for (1), or all handles are
-/// counted (2); status 8Fh for another value.
+/// 54h: AL selects whether the names are written at ES:DI (0), one is searched for (1), or BX is set to the number of
+/// all handles (2); status 8Fh for another value.
 #[tactic(auto, unfolding(crate::specs::Names::directory))]
 pub(crate) fn directory(cpu: &mut Cpu, ems: &Ems, space: &mut Space)
     ensures { caller cpu.new ems.now space.new.memory ≡ directory (caller cpu.old ems.now space.old.memory) }

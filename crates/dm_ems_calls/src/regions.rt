@@ -1,5 +1,5 @@
-//! Regions of memory that are moved or exchanged (LIM EMS 4.0, function 24; INT 67h function 57h).
-//! The scratch part of the space may be overwritten.
+//! Regions of memory that are moved or exchanged (LIM EMS 4.0, function 24; INT 67h function 57h). Each function sets
+//! AH to the status, 0 for success; the other registers stay. The scratch part of the space may be overwritten.
 ghost use Rattle.std.specs.Prelude.{◌≡◌};
 ghost use Rattle.dm_ems.specs.Tables.{expanded};
 ghost use Rattle.dm_ems.specs.Consistent.{IsConsistent};
@@ -12,8 +12,8 @@ use dm_ems::{Ems, Status};
 use dm_ins::ByteRegister;
 use dm_space::Space;
 
-/// 57h, AL = 0: moves the region that the structure at DS:SI describes; AH is the status, 92h where
-/// source and destination overlap.
+/// 57h, AL = 0: copies the source to the destination, as the structure at DS:SI describes them; AH is 0, 92h where both
+/// are of one type and overlap, or the error.
 #[tactic(auto, unfolding(crate::specs::Regions::move_region))]
 fn move_region(cpu: &mut Cpu, ems: &Ems, space: &mut Space)
     requires { IsConsistent (expanded ems.now space.old.memory) }
@@ -23,7 +23,7 @@ fn move_region(cpu: &mut Cpu, ems: &Ems, space: &mut Space)
     settle_move(cpu, res);
 }
 
-/// 57h, AL = 1: exchanges the two regions that the structure at DS:SI describes; AH is the status.
+/// 57h, AL = 1: exchanges the bytes of the two regions that the structure at DS:SI describes; AH is 0 or the error.
 #[tactic(auto, unfolding(crate::specs::Regions::exchange_region))]
 fn exchange_region(cpu: &mut Cpu, ems: &Ems, space: &mut Space)
     requires { IsConsistent (expanded ems.now space.old.memory) }

@@ -1,5 +1,5 @@
 //! The windows of the frame (LIM EMS 4.0, functions 5, 8, 9, 15 and 17; INT 67h functions 44h, 47h, 48h, 4Eh and
-//! 50h). Each function sets AH to the status.
+//! 50h). Each function sets AH to the status, 0 for success. An error sets AH alone.
 ghost use Rattle.std.specs.Prelude.{◌≡◌};
 ghost use Rattle.dm_ems.specs.Tables.{expanded};
 ghost use Rattle.dm_ems.specs.Consistent.{IsConsistent};
@@ -22,7 +22,7 @@ pub(crate) fn map_page(cpu: &mut Cpu, ems: &Ems, space: &mut Space)
     settle(cpu, res);
 }
 
-/// 47h: saves what the four windows show under the handle in DX.
+/// 47h: saves, under the handle in DX, what the four windows show.
 #[tactic(auto, unfolding(crate::specs::Windows::save_map))]
 pub(crate) fn save_map(cpu: &mut Cpu, ems: &mut Ems, space: &Space)
     ensures { caller cpu.new ems.new space.now.memory ≡ save_map (caller cpu.old ems.old space.now.memory) }
@@ -42,7 +42,7 @@ pub(crate) fn restore_map(cpu: &mut Cpu, ems: &mut Ems, space: &mut Space)
 }
 
 /// 4Eh: with AL = 0 writes the map of the windows at ES:DI, with 1 sets them from the map at DS:SI, with 2 does both,
-/// and with 3 sets AL to the size of a map in bytes.
+/// the map at DS:SI read first, and with 3 sets AL to the size of a map in bytes; status 8Fh for another value.
 #[tactic(auto, unfolding(crate::specs::Windows::whole_map))]
 pub(crate) fn whole_map(cpu: &mut Cpu, ems: &Ems, space: &mut Space)
     requires { IsConsistent (expanded ems.now space.old.memory) }
@@ -54,7 +54,7 @@ pub(crate) fn whole_map(cpu: &mut Cpu, ems: &Ems, space: &mut Space)
 }
 
 /// 50h: makes windows show pages of the handle in DX, as CX pairs at DS:SI say, which name windows by number (AL = 0)
-/// or by segment (AL = 1).
+/// or by segment (AL = 1); status 8Fh for another value of AL.
 #[tactic(auto, unfolding(crate::specs::Windows::map_many))]
 pub(crate) fn map_many(cpu: &mut Cpu, ems: &Ems, space: &mut Space)
     requires { IsConsistent (expanded ems.now space.old.memory) }

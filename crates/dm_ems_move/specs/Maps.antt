@@ -18,7 +18,7 @@ abbrev pub or_none : Option (ℕ × ℕ) → ℕ × ℕ
 or_none None = (0xFFFF, 0xFFFF)
 or_none (Some n) = n
 
--- the handle and the logical page that a window shows; FFFFh twice where it shows nothing
+-- the handle and the logical page that a window shows; FFFFh twice where it shows no page
 abbrev pub numbers : List Page → Option ℕ → ℕ × ℕ
 numbers pages window = or_none (numbers_of pages window)
 
@@ -64,12 +64,13 @@ map_at ems m segment offset =
 abbrev pub showing_all : Expanded → List (Option ℕ) → Expanded
 showing_all x windows = with_memory x (with_windows x.memory windows)
 
--- the map of what the windows show is written at segment:offset, 16 bytes
+-- the map of what the windows show is written at segment:offset, 16 bytes; the tables, and what the windows show, stay
 abbrev pub with_map : Expanded → ℕ → ℕ → Expanded
 with_map x segment offset = writing x segment offset (map_entries x.ems.pages x.memory.windows)
 
--- 4Eh: mode 0 writes the map, 1 sets the windows from a map, 2 writes it and then sets the windows from another,
--- which is read first, and 3 returns the size of a map in bytes. The tables stay
+-- 4Eh: mode 0 writes the map at the first address, 1 sets the windows from the map at the second, 2 writes it and then
+-- sets them from the second map, which is read before the write, and 3 returns the size of a map in bytes. The tables
+-- stay. A map with a bad entry is an error, and another mode
 unfoldable pub whole_map : Expanded → ℕ → ℕ → ℕ → ℕ → ℕ → Result (Option ℕ × Expanded) Status
 whole_map x mode to_segment to_offset from_segment from_offset =
     if mode == 0 then Ok (None, with_map x to_segment to_offset) else

@@ -7,17 +7,18 @@ use Rattle.dm_ems.specs.Tables.{Expanded, page_count, unallocated, appended, cut
 use Rattle.dm_ems.specs.Calls.{need, slot}
 use Rattle.dm_ems_move.specs.declared.reallocation.Reallocated.{Reallocated}
 
--- the result of a reallocation: how many pages the handle has now, and the error if it was not changed
+-- the result of a reallocation: how many pages the handle has now, and the error if their number was not changed
 abbrev pub reallocated : ℕ → Option Status → Reallocated
 reallocated pages refused = record { pages = pages; refused = refused }
 
--- a handle gets n pages: the ones after the first n are removed, or pages of zeros are added
+-- a handle gets n pages: the ones after the first n are removed, or pages of zeros are added, each as by
+-- `appended_page`
 abbrev pub with_count : Expanded → ℕ → ℕ → Expanded
 with_count x handle n =
     if nat_lt n (page_count x.ems handle) then cut x handle n else appended x handle (n - page_count x.ems handle)
 
--- 51h: a handle gets n pages in all. If there are not enough, nothing changes, and the result has its number of pages
--- and the error
+-- 51h: a handle gets n pages in all, 0 included. If n is over the total, or more pages would have to be added than can
+-- be allocated, nothing changes, and the result has the handle's number of pages and the error
 unfoldable pub reallocate : Expanded → ℕ → ℕ → Result (Reallocated × Expanded) Status
 reallocate x handle n =
     need (slot x handle) UnknownHandle (λ s.

@@ -50,7 +50,8 @@ expanded_region ems d n =
     if nat_lt (page_count ems d.handle * 0x4000) (d.page * 0x4000 + d.offset + n) then Err PastPages else
     Ok (span Pages (d.page * 0x4000 + d.offset) (blocks_of ems d.handle)))
 
--- the region of n bytes that a description means: type 0 is conventional memory, type 1 pages of a handle
+-- the region of n bytes that a description means: type 0 is conventional memory, type 1 pages of a handle, another an
+-- error
 unfoldable pub region_of : Tables → Description → ℕ → Result Span Status
 region_of ems d n =
     if nat_lt 1 d.kind then Err UnknownKind else
@@ -75,31 +76,31 @@ are_mixed from to = if is_linear from.kind then (if is_linear to.kind then false
 
 -- ---- the calls
 
--- n bytes of one region are copied to the other, read whole before they are written. The result says whether they
--- overlap; two that do must be of one type. The tables stay
+-- n bytes of `from` are copied to `to`, all read before the first is written. The result says whether the regions
+-- overlap; where they do and are of different types, it is an error. The tables stay
 unfoldable pub move_between : Expanded → ℕ → Span → Span → Result (Moved × Expanded) Status
 move_between x n from to =
     if overlap x.memory from to n
     then (if are_mixed from to then Err KindsOverlap else Ok (moved_is.Overlapping, with_memory x (span_moved x.memory from to n)))
     else Ok (moved_is.Apart, with_memory x (span_moved x.memory from to n))
 
--- two regions of n bytes exchange their bytes; they must not overlap. The tables stay
+-- two regions of n bytes exchange their bytes; an error where they overlap. The tables stay
 unfoldable pub exchange_between : Expanded → ℕ → Span → Span → Result (Unit {0} × Expanded) Status
 exchange_between x n from to =
     if overlap x.memory from to n
     then (if are_mixed from to then Err KindsOverlap else Err ExchangeOverlaps)
     else Ok (tt, with_memory x (spans_exchanged x.memory from to n))
 
--- 57h, AL = 0: the region that the structure at segment:offset describes is moved; the result says whether source and
--- destination overlap. Nothing changes for 0 bytes
+-- 57h, AL = 0: the source is copied to the destination, as the structure at segment:offset describes them; the result
+-- says whether they overlap. For 0 bytes nothing changes, whatever else the structure says; over 1 MiB is an error
 unfoldable pub move_region : Expanded → ℕ → ℕ → Result (Moved × Expanded) Status
 move_region x segment offset =
     if length_at x.memory segment offset == 0 then Ok (moved_is.Apart, x) else
     if nat_lt 0x100000 (length_at x.memory segment offset) then Err TooLong else
     and_then (regions_of x segment offset (length_at x.memory segment offset)) (λ r. move_between x (length_at x.memory segment offset) r.0 r.1)
 
--- 57h, AL = 1: the regions that the structure at segment:offset describes exchange their bytes; they must not
--- overlap. Nothing changes for 0 bytes
+-- 57h, AL = 1: the regions that the structure at segment:offset describes exchange their bytes; an error where they
+-- overlap. For 0 bytes nothing changes, whatever else the structure says; over 1 MiB is an error
 unfoldable pub exchange_region : Expanded → ℕ → ℕ → Result (Unit {0} × Expanded) Status
 exchange_region x segment offset =
     if length_at x.memory segment offset == 0 then Ok (tt, x) else

@@ -1,4 +1,4 @@
--- How the definitions of calls go from one step to the next.
+-- How the definitions of the calls 50h and 57h join one step to the next.
 use Rattle.std.specs.Prelude.{Result, Ok, Err}
 use Rattle.dm_ems.specs.declared.status.Status.{Status}
 

@@ -1,6 +1,5 @@
-//! The structure of 18 bytes that describes a move or an exchange of regions (LIM EMS 4.0, function
-//! 24; INT 67h function 57h): the length, a double word, and the descriptions of source and
-//! destination.
+//! The structure of 18 bytes that describes a move or an exchange of regions (LIM EMS 4.0, function 24; INT 67h
+//! function 57h): the length, a double word, and the descriptions of source and destination, seven bytes each.
 
 ghost use Rattle.std.specs.Prelude.{◌≡◌, ◌<◌, ◌^◌};
 ghost use Rattle.dm_ems_move.specs.RegionMoves.{length_at, described};

@@ -1,5 +1,5 @@
-//! Moves and maps of expanded memory (LIM EMS 4.0): how a handle gets another number of pages, many pages mapped at
-//! once, the whole map of the frame, and regions of memory that are moved or exchanged.
+//! Moves and maps of expanded memory (LIM EMS 4.0): how a handle gets another number of pages (51h), many pages mapped
+//! at once (50h), the whole map of the frame (4Eh), and regions of memory that are moved or exchanged (57h).
 #![tactic(auto)]
 
 mod description;

@@ -40,7 +40,7 @@ fn count_of(pages: &[Page], handle: u16) -> usize
     pages.iter().filter(|page| page.handle == handle).count()
 }
 
-/// The handle and the logical number of the page that a window shows; FFFFh twice if it shows nothing. `pages` are
+/// The handle and the logical number of the page that a window shows; FFFFh twice if it shows no page. `pages` are
 /// those of all handles.
 fn numbers(pages: &[Page], window: Option<Block>) -> (u16, u16)
     requires { length pages.now ≤ 512 }
@@ -103,7 +103,8 @@ fn meant(ems: &Ems, handle: u16, page: u16) -> Option<Option<Block>>
     }
 }
 
-/// What window `k`, 0 to 3, is to show by the map at segment:offset.
+/// What window `k`, 0 to 3, is to show by the map at segment:offset, where offsets wrap: Some(None) for nothing; None
+/// if its entry is bad.
 fn meant_at(ems: &Ems, space: &Space, segment: u16, offset: u16, k: usize) -> Option<Option<Block>>
     requires { k < 4 }
     ensures { result ≡ meant_at ems.now space.now.memory segment offset k }

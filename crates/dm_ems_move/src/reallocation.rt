@@ -28,7 +28,7 @@ fn refused(pages: u16, status: Status) -> Reallocated
     }
 }
 
-/// Adds `count` pages of zeros after those of a handle.
+/// Adds `count` pages of zeros after those of a handle, each as `Ems::append` does.
 fn append_pages(ems: &mut Ems, space: &mut Space, handle: u16, count: u16)
     requires { length ems.old.pages + count ≤ ems.old.total }
     ensures left { expanded ems.new space.new.memory ≡ appended (expanded ems.old space.old.memory) handle count }
@@ -39,9 +39,10 @@ fn append_pages(ems: &mut Ems, space: &mut Space, handle: u16, count: u16)
     }
 }
 
-/// 51h: gives a handle `count` pages in all. Its first ones stay; those after `count` leave all windows and all saved
-/// windows; new ones, after the others, are zeros. Where there are not enough (`OverTotal`, `OverFree`, in this
-/// order), nothing has changed, and the result has the number of pages as it is.
+/// 51h: gives a handle `count` pages in all, 0 included. Its first ones stay; those after `count` are freed and leave
+/// all windows and all saved windows; new ones, after the others, are zeros. The handle gets fewer only if the pool has
+/// no number left; in a machine it always has (`pages_come`). Where there are not enough pages (`OverTotal`,
+/// `OverFree`, in this order), nothing has changed, and the result has the number of pages as it is, and the error.
 ///
 /// # Errors
 ///

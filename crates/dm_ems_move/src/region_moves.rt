@@ -140,9 +140,9 @@ fn are_mixed(from: &Span, to: &Span) -> bool
     }
 }
 
-/// Copies `len` bytes from one region to the other; the source is read whole before anything is written. Returns
-/// whether they overlap; `KindsOverlap` where two of different types do. The scratch part is overwritten, unless the
-/// call fails.
+/// Copies `len` bytes of `from` to `to`; all are read before the first is written. Returns whether the regions overlap;
+/// `KindsOverlap` where two of different types do. The scratch part may be overwritten; after an error nothing has
+/// changed.
 #[tactic(auto, unfolding(crate::specs::RegionMoves::move_between))]
 fn move_between(
     ems: &Ems,
@@ -170,7 +170,7 @@ fn move_between(
 }
 
 /// Exchanges the `len` bytes of two regions. Where they overlap, `KindsOverlap` if they are of different types, else
-/// `ExchangeOverlaps`. The scratch part is overwritten, unless the call fails.
+/// `ExchangeOverlaps`. The scratch part may be overwritten; after an error nothing has changed.
 #[tactic(auto, unfolding(crate::specs::RegionMoves::exchange_between))]
 fn exchange_between(
     ems: &Ems,
@@ -199,18 +199,18 @@ fn exchange_between(
 
 /// 57h, AL = 0: moves bytes between regions of conventional memory and of pages of handles. The structure at
 /// segment:offset has eighteen bytes: the length in bytes (a double word), and for the source and then the
-/// destination a type (0 conventional memory, 1 pages), a handle, an offset (in the segment or in the page), and a
-/// segment or a logical page (words). The source is read whole before anything is written; `Overlapping` says that
-/// both regions share a byte. The scratch bytes of the space are overwritten.
+/// destination a type (a byte: 0 conventional memory, 1 pages), a handle, an offset (in the segment or in the page),
+/// and a segment or a logical page (words). The source is read whole before anything is written; `Overlapping` says
+/// that the regions share a byte. The scratch bytes of the space may be overwritten.
 ///
 /// A length of 0 is `Apart`, whatever else the structure says, and the scratch bytes stay.
 ///
 /// # Errors
 ///
-/// In this order: `TooLong` over 1 MiB; for the source and then the destination `UnknownKind` for another type,
-/// `PastMemory` where a region ends after FFFFFh, `UnknownHandle`, `OffsetPastPage`, `NoSuchPage`, `PastPages` where
-/// a region ends after the handle's pages; `KindsOverlap` where a region of conventional memory shares a byte with
-/// one of pages. Then neither memory nor the scratch bytes have changed.
+/// In this order: `TooLong` over 1 MiB; for the source and then the destination `UnknownKind` for another type, in
+/// conventional memory `PastMemory` where the region ends after FFFFFh, in pages `UnknownHandle`, `OffsetPastPage`,
+/// `NoSuchPage`, `PastPages` where the region ends after the handle's pages; `KindsOverlap` where a region of
+/// conventional memory shares a byte with one of pages. Then neither memory nor the scratch bytes have changed.
 #[tactic(auto, unfolding(crate::specs::RegionMoves::move_region))]
 pub fn move_region(ems: &Ems, space: &mut Space, segment: u16, offset: u16) -> Result<Moved, Status>
     requires { IsConsistent (expanded ems.now space.old.memory) }
@@ -236,7 +236,8 @@ pub fn move_region(ems: &Ems, space: &mut Space, segment: u16, offset: u16) -> R
 }
 
 /// 57h, AL = 1: exchanges the bytes of two regions, which are described as for [`move_region`]. Both are read whole
-/// before anything is written. The scratch bytes of the space are overwritten, unless the length is 0.
+/// before anything is written. The scratch bytes of the space may be overwritten, unless the length is 0: then nothing
+/// changes.
 ///
 /// # Errors
 ///

@@ -7,7 +7,8 @@ use Rattle.dm_cpu.specs.Guest.{Guest}
 use Rattle.dm_cpu.specs.Unseen.{changed}
 use Rattle.dm_exec.specs.Effect.{effect}
 
--- no instruction depends on what is unseen, or changes it
+-- no instruction depends on what no address shows, or changes it: with such a change made before, the effect is the
+-- effect with the same change made afterwards
 abbrev pub IgnoresUnseen : Type 0
 IgnoresUnseen =
     (change : Memory → Memory) → IsUnseen change → (g : Guest) (i : Ins) (len : ℕ) →

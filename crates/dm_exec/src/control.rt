@@ -43,7 +43,7 @@ fn changed(operation: FlagOperation, flags: Flags) -> Flags
     }
 }
 
-/// Does CLC, STC, CMC, CLD, STD, CLI or STI: changes one flag.
+/// Does CLC, STC, CMC, CLD, STD, CLI or STI: changes one flag. The registers stay.
 #[inline(never)]
 pub(crate) fn act(cpu: &mut Cpu, operation: FlagOperation)
     ensures { cpu.new ≡ record cpu.old { flags = flags_changed operation cpu.old.flags } }

@@ -19,8 +19,9 @@ pub enum Next {
     Halt,
 }
 
-/// Does an instruction that begins at `start`; IP is past it already. Each family's function is called
-/// last, so that nothing of the registers is kept here.
+/// Does an instruction that begins at `start`, with IP past it already: changes registers, flags and memory as the
+/// instruction says; HLT sets IP back to `start`. The function of the family is called as the last step, so that no
+/// value need be kept over the call.
 #[inline(never)]
 fn perform(cpu: &mut Cpu, space: &mut Space, ins: &Ins, start: u16)
     ensures { guest cpu.new space.new.memory ≡ act (guest cpu.old space.old.memory) ins.now.prefixes start (operation_of ins.now.action.mnemonic) ins.now.action.first ins.now.action.second }
@@ -46,11 +47,11 @@ fn perform(cpu: &mut Cpu, space: &mut Space, ins: &Ins, start: u16)
     }
 }
 
-/// Does the instruction of `len` bytes that stands at CS:IP (Intel 8086 Family User's Manual,
-/// section 2.7): registers, flags and memory become what the instruction says. Nothing is promised of
-/// the scratch bytes, which no program sees. Of a string instruction with a repeat prefix it does one
-/// repetition, and IP stays at the instruction until the last one. A flag that the manual leaves
-/// undefined stays.
+/// Does the instruction of `len` bytes that stands at CS:IP (Intel 8086 Family User's Manual, section 2.7): registers,
+/// flags and memory become what the instruction says, and IP is past it or where it jumps. HLT changes nothing. Of a
+/// string instruction with a repeat prefix one repetition is done, none where CX is 0, and IP stays at the instruction
+/// if another one follows. A flag that the manual leaves undefined stays. Nothing is promised of the scratch bytes,
+/// which no program sees. Returns whether the processor goes on: only HLT stops it.
 #[inline(always)]
 #[tactic(auto, unfolding(crate::specs::Effect::effect))]
 pub fn exec(cpu: &mut Cpu, space: &mut Space, ins: &Ins, len: u8) -> Next

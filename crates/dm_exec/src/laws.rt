@@ -1,15 +1,15 @@
-//! Laws of the effects of instructions: the contracts of functions that do nothing.
+//! Laws of the effect of an instruction, which [`exec`](crate::exec) has: contracts of functions that do nothing.
 ghost use Rattle.dm_exec.specs.Effect.{HaltKeeps};
 ghost use Rattle.dm_exec.specs.Map.{KeepsTheMap};
 ghost use Rattle.dm_exec.specs.Unseen.{IgnoresUnseen};
 
-/// HLT, where the processor stops, changes neither registers nor memory.
+/// HLT, at which the processor stops, changes neither registers, IP included, nor memory.
 pub fn halt_changes_nothing()
     ensures { HaltKeeps }
 {}
 
 /// No instruction changes A20, what the windows show, or which blocks there are, where they lie and how large they are:
-/// all that it writes are bytes.
+/// of memory it changes bytes alone.
 pub fn keeps_the_map()
     ensures { KeepsTheMap }
 {}

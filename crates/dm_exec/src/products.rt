@@ -10,7 +10,7 @@ use dm_cpu::{Cpu, values};
 use dm_ins::Ins;
 use dm_space::Space;
 
-/// The dividend of DIV and IDIV, of twice the width: AX, or DX above AX.
+/// The dividend of DIV and IDIV, of twice the width: AX, or DX and AX, with the upper half in DX.
 #[tactic(auto, unfolding(crate::specs::Products::double_of))]
 fn double(width: Width, cpu: &Cpu) -> u32
     ensures value { result ≡ double_of width cpu.now }
@@ -38,7 +38,8 @@ fn set_double(width: Width, cpu: &mut Cpu, value: u32)
     }
 }
 
-/// Does MUL or IMUL: multiplies AL by an operand into AX, or AX into DX and AX, and sets CF and OF.
+/// Does MUL or IMUL: sets AX to the product of AL and a byte, or DX and AX to that of AX and a word. CF and OF are set
+/// where the upper half is significant, else cleared; the other flags stay.
 #[inline(never)]
 #[tactic(auto, unfolding(crate::specs::Products::multiplied))]
 pub(crate) fn multiply(cpu: &mut Cpu, space: &Space, ins: &Ins, sign: Sign)
@@ -54,7 +55,7 @@ pub(crate) fn multiply(cpu: &mut Cpu, space: &Space, ins: &Ins, sign: Sign)
     cpu.flags = flags;
 }
 
-/// Sets AL and AH, or AX and DX, to a quotient and its remainder.
+/// Sets AL to a quotient and AH to its remainder, or AX and DX.
 #[tactic(auto, unfolding(crate::specs::Products::with_division))]
 fn set_division(width: Width, cpu: &mut Cpu, division: Division)
     requires quotient { division.quotient < size width }
@@ -70,8 +71,9 @@ fn set_division(width: Width, cpu: &mut Cpu, division: Division)
     }
 }
 
-/// Does DIV or IDIV: divides AX, or DX and AX, by an operand. Where there is no quotient, takes interrupt 0. The flags
-/// stay, but for those that the interrupt clears.
+/// Does DIV or IDIV: divides AX by a byte (quotient in AL, remainder in AH), or DX and AX by a word (quotient in AX,
+/// remainder in DX); the flags stay. Where the divisor is 0 or the quotient is out of range, takes interrupt 0 instead,
+/// which clears IF and TF; AX and DX stay.
 #[inline(never)]
 #[tactic(auto, unfolding(crate::specs::Products::divided, crate::specs::Products::after_division))]
 pub(crate) fn divide(cpu: &mut Cpu, space: &mut Space, ins: &Ins, sign: Sign)

@@ -16,7 +16,7 @@ pub record Reported : Type 0 where
   pub notes : ℕ
 
 -- those of the findings that a report keeps: each error with fewer than `most` errors before it, and each note with
--- fewer than `most` notes before it, where so many errors and notes came before the list
+-- fewer than `most` notes before it, counting the `errors` errors and `notes` notes that came before the list
 abbrev pub first_findings : ℕ → ℕ → ℕ → List Found → List Found
 first_findings most errors notes [] = []
 first_findings most errors notes (f ∷ fs) =
@@ -28,6 +28,7 @@ first_findings most errors notes (f ∷ fs) =
 abbrev pub bounded_count : (Found → Bool) → List Found → ℕ
 bounded_count is fs = min (count_by is fs) (2 ^ 64 - 1)
 
--- the report of a list of findings: the first 100 errors and the first 100 notes, and how many of each there are
+-- the report of a list of findings: the first 100 errors and the first 100 notes, in the order of the list, and how
+-- many of each there are, at most 2^64 - 1
 unfoldable pub report_of : List Found → Reported
 report_of fs = record { kept = first_findings 100 0 0 fs; errors = bounded_count is_an_error fs; notes = bounded_count is_a_note fs }

@@ -23,7 +23,7 @@ pub enum Finding {
     /// The header that stood at this segment can no longer be read there: its page was freed, or its window shows other
     /// bytes.
     MappedAway(u16),
-    /// The block list became invalid; the first header that breaks it stands at this segment.
+    /// The block list became invalid: it breaks at this segment, where no header can follow.
     Destroyed(u16),
     /// The block list, which was invalid, is valid again.
     Whole,
@@ -73,7 +73,7 @@ pub enum Act {
 /// A finding, the step that it is about, and what was performed in it.
 #[derive(Clone, Copy, Debug)]
 pub struct Found {
-    /// The number of the step; the first step of the run is number 1.
+    /// The number of the step: the machine's count of steps after it. The first step of a machine is number 1.
     pub step: u64,
     /// CS and IP before the step.
     pub segment: u16,

@@ -9,11 +9,11 @@ use crate::finding::Found;
 use std::alloc::{AllocError, Global};
 use std::marker::Model;
 
-/// How many errors, and how many notes, a report keeps.
+/// How many errors, and how many notes, a report keeps at most.
 const MOST: u64 = 100;
 
 /// The first 100 errors and the first 100 notes that were found, in the order in which they happened, and how many of
-/// each were found in all.
+/// each were found in all, at most 2^64 - 1.
 ///
 /// Contracts see the findings that are kept and the two numbers.
 #[derive(Drop)]
@@ -44,7 +44,7 @@ impl Report {
     }
 
     /// Adds an error to the report: keeps it if fewer than 100 errors came before it, and counts it. An `Err` is a
-    /// failed allocation, and nothing has changed.
+    /// failed allocation, after which nothing has changed.
     fn add_error(&mut self, found: Found) -> Result<(), AllocError>
         requires { is_an_error found ≡ true }
         ensures ok { OnOk result ((fs : List Found) → self.old ≡ report_of fs → self.new ≡ report_of (fs ++ found ∷ [])) }
@@ -58,7 +58,7 @@ impl Report {
     }
 
     /// Adds a note to the report: keeps it if fewer than 100 notes came before it, and counts it. An `Err` is a failed
-    /// allocation, and nothing has changed.
+    /// allocation, after which nothing has changed.
     fn add_note(&mut self, found: Found) -> Result<(), AllocError>
         requires { is_an_error found ≡ false }
         ensures ok { OnOk result ((fs : List Found) → self.old ≡ report_of fs → self.new ≡ report_of (fs ++ found ∷ [])) }
@@ -93,14 +93,14 @@ impl Report {
         &self.kept
     }
 
-    /// How many errors there are; at 2^64 - 1 the number stays.
+    /// How many errors were added, kept or not; at 2^64 - 1 the number stays.
     pub fn errors(&self) -> u64
         ensures { result ≡ self.now.errors }
     {
         self.errors
     }
 
-    /// How many notes there are; at 2^64 - 1 the number stays.
+    /// How many notes were added, kept or not; at 2^64 - 1 the number stays.
     pub fn notes(&self) -> u64
         ensures { result ≡ self.now.notes }
     {

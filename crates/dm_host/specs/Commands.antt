@@ -20,13 +20,13 @@ pub record IsCommanded (h : Hosted) (line : List ℕ) (g : Hosted) : Type 0 wher
   pub does : Does before command text after
   pub is : g ≡ record { stage = Loaded after; answer = text }
 
--- the line's command led from session s to t, in some first part or whole
+-- the line's command, or some first part of it, was executed, which led from session s to t
 abbrev pub IsDoneOrPart : Debugged → List ℕ → Debugged → Type 0
 IsDoneOrPart s line t = IsCutOff s line t ⊎ ((command : Command) × (text : List ℕ) × (command_of line ≡ Some command) × Does s command text t)
 
--- why the host h does not execute a line, and the host g after it: no program is loaded, or the line is no command or
--- sets a seventeenth breakpoint, and nothing has changed; or an allocation failed, and the command may be done, whole
--- or in some first part. The answer before stays
+-- why a line has no answer from the host h, and the host g after it: no program is loaded, or the line is no command,
+-- clears a breakpoint that is not set or sets a seventeenth one, and nothing has changed; or an allocation failed, and
+-- the command, or some first part of it, may have been executed. The answer before stays
 pub data IsUncommanded (h : Hosted) (line : List ℕ) (why : Refusal) (g : Hosted) : Type 0 where
   not_loaded : machine_of h.stage ≡ None → why ≡ NotLoaded → g ≡ h → IsUncommanded h line why g
   syntax : (s : Debugged) → h.stage ≡ Loaded s → is_syntax s (command_of line) ≡ true → why ≡ Syntax → g ≡ h → IsUncommanded h line why g

@@ -42,6 +42,6 @@ pub record Shows (h : Hosted) (P : State → Type 0) : Type 0 where
   pub loaded : machine_of h.stage ≡ Some machine
   pub shows : P machine
 
--- no program is loaded in the host, and the refusal says so
+-- no program is loaded in the host, and the refusal is `NotLoaded`
 abbrev pub IsNotLoaded : Hosted → Refusal → Type 0
 IsNotLoaded h e = (e ≡ NotLoaded) × (machine_of h.stage ≡ None)

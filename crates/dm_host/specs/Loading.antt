@@ -20,8 +20,8 @@ pub record Adds (h : Hosted) (name bytes : List ℕ) (g : Hosted) : Type 0 where
   pub fresh : h.stage ≡ Fresh before
   pub is : g ≡ with_stage h (Fresh (added before name bytes))
 
--- why no program of this name is added to the host: a program was loaded before, or its loading failed; or why the
--- setup refuses it
+-- why no program of this name is added to the host: one was loaded before, or its loading failed for good (`Started`);
+-- or the setup refuses the new program
 pub data IsUnadded (h : Hosted) (name : List ℕ) (why : Refusal) : Type 0 where
   late : (IsFresh h → ⊥) → why ≡ Started → IsUnadded h name why
   refused : (s : Prepared) → h.stage ≡ Fresh s → IsAddFault s name why → IsUnadded h name why
@@ -42,8 +42,9 @@ pub record Loads (h : Hosted) (name tail input : List ℕ) (g : Hosted) : Type 0
   pub is : g ≡ with_stage h (Loaded (new_session machine))
 
 -- why no program is loaded in the host h, and the host g after it, in this order: one was loaded before, or its loading
--- failed; a bad name; a tail over 126 bytes; no such program, or no good one; and in all these cases nothing has
--- changed. Or conventional memory has no room for it, or an allocation of the host failed: then the host is spent
+-- failed for good; a bad name; a tail over 126 bytes; no such program, or no good one; and in all these cases nothing
+-- has changed. Or conventional memory has no room for the program, or an allocation of the host failed: then the host
+-- is spent, and its answer stays
 pub data IsUnloaded (h : Hosted) (name tail input : List ℕ) (why : Refusal) (g : Hosted) : Type 0 where
   late : (IsFresh h → ⊥) → why ≡ Started → g ≡ h → IsUnloaded h name tail input why g
   bad_name : IsFresh h → (IsName name → ⊥) → why ≡ BadName → g ≡ h → IsUnloaded h name tail input why g

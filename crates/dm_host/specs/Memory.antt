@@ -3,7 +3,7 @@ use Rattle.std.specs.Prelude.{◌≡◌, ℕ, ◌%◌, ◌<◌, ◌≤◌, Bool,
 use Rattle.dm_space.specs.Memory.{Memory, linear, peek}
 use Rattle.dm_space.specs.Copies.{values}
 
--- the byte of a segment at the offset k, which wraps
+-- the byte of a segment at the offset k, which wraps at 65,536
 abbrev pub byte_at_offset : Memory → ℕ → ℕ → ℕ
 byte_at_offset m segment k = peek m (linear m.a20 segment (k % 65536))
 
@@ -11,7 +11,7 @@ byte_at_offset m segment k = peek m (linear m.a20 segment (k % 65536))
 abbrev pub bytes_at : Memory → ℕ → ℕ → ℕ → List ℕ
 bytes_at m segment offset n = values (byte_at_offset m segment) offset n
 
--- the bytes stand at the front of the buffer, if they fit (true); otherwise the buffer stays (false)
+-- the buffer `new` is `old` with the bytes at its front, if they fit (true); otherwise it is `old` (false)
 abbrev pub Copies : List ℕ → List ℕ → List ℕ → Bool → Type 0
 Copies bytes old new true = (length bytes ≤ length old) × (new ≡ bytes ++ drop (length bytes) old)
 Copies bytes old new false = (length old < length bytes) × (new ≡ old)

@@ -5,7 +5,7 @@ use dm_machine::{Failed, Out};
 use std::alloc::Global;
 use std::marker::Model;
 
-/// A writer that keeps the bytes that it takes.
+/// A writer that keeps the bytes that it takes, all of each write or, if an allocation fails, none.
 ///
 /// A contract sees the bytes, and how many writes failed because an allocation did.
 #[derive(Drop)]
@@ -48,6 +48,8 @@ impl Out for Answer {
 
     ghost failures = { λ a. a.failures };
 
+    /// Keeps all of `bytes`, and returns how many they are. `Failed` if the allocation for them fails, which is counted
+    /// if `bytes` is not empty.
     fn write(&mut self, bytes: &[u8]) -> Result<usize, Failed> {
         match self.bytes.extend_from_slice(bytes) {
             Ok(()) => Ok(bytes.len()),
@@ -60,6 +62,7 @@ impl Out for Answer {
         }
     }
 
+    /// Does nothing: no byte is buffered.
     fn flush(&mut self) -> Result<(), Failed> {
         Ok(())
     }

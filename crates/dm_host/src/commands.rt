@@ -22,15 +22,15 @@ fn refusal_of(refusal: dm_debug::CommandRefusal) -> Refusal
 }
 
 impl Host {
-    /// Executes the debugger command that a line gives, and keeps what it prints as the answer. The line comes without
-    /// its line end.
+    /// Executes the debugger command that a line asks for, and keeps what the command prints as the answer. `line` has
+    /// no line end.
     ///
     /// # Errors
     ///
     /// In this order: `NotLoaded` where no program is loaded; `Syntax` where the line is no command, or clears a
     /// breakpoint that is not set; `Full` where it sets a seventeenth breakpoint. Nothing has changed then, and the
-    /// answer before stays. `Memory` if an allocation failed: the command may then be done, whole or in some first
-    /// part, and the answer before stays.
+    /// answer before stays. `Memory` if an allocation failed: the command, or some first part of it, may then have been
+    /// executed, and the answer before stays.
     pub fn command(&mut self, alloc: Global, line: &[u8]) -> Result<(), Refusal>
         ensures ok { OnOk result (IsCommanded self.old line.now self.new) }
         ensures err { IfErr result (λ e. IsUncommanded self.old line.now e self.new) }

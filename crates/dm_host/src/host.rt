@@ -14,11 +14,11 @@ use std::marker::Model;
 /// The stage that a machine is at.
 #[derive(Drop)]
 pub enum Stage {
-    /// Not made yet: programs can be added, and one loaded.
+    /// The machine is not made yet: programs can be added, and one loaded.
     Fresh(Setup),
     /// A program is loaded. The machine is in a debugging session.
     Loaded(Session),
-    /// The loading failed for good, and the setup is lost.
+    /// The loading failed for good, and there is no machine: the setup is lost.
     Spent,
 }
 
@@ -97,7 +97,7 @@ impl Host {
         }
     }
 
-    /// All bytes that the program has written to the console.
+    /// All bytes that were written to the console since the machine was made.
     ///
     /// # Errors
     ///

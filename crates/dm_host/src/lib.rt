@@ -1,5 +1,5 @@
 //! A machine as a host program drives it: programs are added, one is loaded and run, and what the machine holds is
-//! read. Each call does what it says, or returns why not.
+//! read. Each call that can fail returns why it did.
 #![tactic(auto)]
 
 mod answer;

@@ -12,7 +12,7 @@ use dm_debug::Session;
 use dm_machine::{Machine, NewError};
 use std::alloc::Global;
 
-/// The most bytes of a command tail.
+/// The largest number of bytes of a command tail.
 const MOST_TAIL: usize = 126;
 
 /// A session, without breakpoints, over a new machine of the setup in which the program of this name is loaded. The
@@ -66,8 +66,8 @@ impl Host {
     /// # Errors
     ///
     /// `Started` where a program was loaded or its loading failed for good; else `BadName` where the name is empty, has
-    /// over 64 bytes or has a zero byte; else `NameTwice` where a program has it, ASCII case ignored; else `Memory` if
-    /// an allocation failed. Nothing has changed then.
+    /// over 64 bytes or has a zero byte; else `NameTwice` where a program has the name already, ASCII case ignored;
+    /// else `Memory` if an allocation failed. Nothing has changed then.
     pub fn add(&mut self, alloc: Global, name: &[u8], bytes: &[u8]) -> Result<(), Refusal>
         ensures ok { OnOk result (Adds self.old name.now bytes.now self.new) }
         ensures err { IfErr result (IsUnadded self.old name.now) }
@@ -79,14 +79,15 @@ impl Host {
         setup.add(alloc, name, bytes)
     }
 
-    /// Makes the machine, and loads the program of this name with a command tail and the console input.
+    /// Makes the machine with this console input, and loads the program of this name into it with a command tail. The
+    /// answer stays.
     ///
     /// # Errors
     ///
     /// In this order: `Started` where a program was loaded or its loading failed for good; `BadName` where the name is
     /// empty, has over 64 bytes or has a zero byte; `TailTooLong` over 126 bytes; `NotFound` where no program has the
-    /// name; `BadFormat` where it is neither a COM nor an MZ program. Nothing has changed then. `Short` where
-    /// conventional memory has no room for it, and `Memory` if an allocation failed: then the host is spent.
+    /// name; `BadFormat` where the program is neither a COM nor an MZ program. Nothing has changed then. `Short` where
+    /// conventional memory has no room for the program, and `Memory` if an allocation failed: then the host is spent.
     pub fn load(
         &mut self,
         alloc: Global,

@@ -52,8 +52,8 @@ impl Host {
         Ok(())
     }
 
-    /// Writes the bytes to memory from segment:offset on; offsets wrap in the segment. The ROM, and addresses without
-    /// memory, do not change.
+    /// Writes the bytes to memory from segment:offset on; offsets wrap in the segment. Bytes for the ROM, or where
+    /// there is no memory, are lost. Nothing but memory changes.
     ///
     /// # Errors
     ///

@@ -12,16 +12,16 @@ use dm_machine::{AddError, Config, Programs, Sizes};
 use std::alloc::Global;
 use std::marker::Model;
 
-/// The most pages of expanded memory.
+/// The largest number of pages of expanded memory.
 const MOST_PAGES: u32 = 512;
 
-/// The most KiB of extended memory.
+/// The largest size of extended memory, in KiB.
 const MOST_KIB: u32 = 15_360;
 
-/// The most bytes of the environment variables with their zeros.
+/// The largest number of bytes of the environment variables with their zeros.
 const MOST_VARIABLES: usize = 0x7FFF;
 
-/// The most bytes of a program's name.
+/// The largest number of bytes of a program's name.
 const MOST_NAME: usize = 64;
 
 /// What a machine is made from: how much memory it has, the variables of the first program's environment, whether upper
@@ -88,7 +88,8 @@ impl Setup {
     /// # Errors
     ///
     /// `BadName` exactly where the name is empty, has over 64 bytes or has a zero byte; else `NameTwice` exactly where
-    /// a program has it, ASCII case ignored; else `Memory` if an allocation failed. Nothing has changed then.
+    /// a program has the name already, ASCII case ignored; else `Memory` if an allocation failed. Nothing has changed
+    /// then.
     pub fn add(&mut self, alloc: Global, name: &[u8], bytes: &[u8]) -> Result<(), Refusal>
         ensures ok { OnOk result (self.new ≡ added self.old name.now bytes.now) }
         ensures err { IfErr result (IsAddFault self.old name.now) }
@@ -111,7 +112,7 @@ impl Setup {
     }
 
     /// Returns Ok if the store has a program of this name that can be loaded; `NotFound` if it has none of the name,
-    /// `BadFormat` if that is neither a COM nor an MZ program.
+    /// `BadFormat` if the program of the name is neither a COM nor an MZ program.
     pub(crate) fn test_program(&self, name: &[u8]) -> Result<(), Refusal>
         ensures { IsTested self.now name.now result }
     {

@@ -18,7 +18,7 @@ word_registers = Ax ∷ Cx ∷ Dx ∷ Bx ∷ Sp ∷ Bp ∷ Si ∷ Di ∷ []
 abbrev pub byte_registers : List ByteRegister
 byte_registers = Al ∷ Cl ∷ Dl ∷ Bl ∷ Ah ∷ Ch ∷ Dh ∷ Bh ∷ []
 
--- what the r/m field adds up for an address, in the order of its numbers
+-- the registers that the r/m field adds up into the base of an address, in the order of its numbers 0 to 7
 abbrev pub bases : List Base
 bases = BxSi ∷ BxDi ∷ BpSi ∷ BpDi ∷ OnSi ∷ OnDi ∷ OnBp ∷ OnBx ∷ []
 

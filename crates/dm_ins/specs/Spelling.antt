@@ -82,8 +82,8 @@ based rm n = record { base = slice_index_or bases rm BxSi; displacement = n }
 abbrev pub direct : ℕ → Address
 direct n = record { base = Direct; displacement = n }
 
--- the mod field, the r/m field and the bytes of displacement of a memory operand, or (mod 3) of none:
--- a direct address, no displacement, one byte extended by sign, one word, a register
+-- the mod field, the r/m field and the bytes of displacement of a memory operand, or (mod 3) of none;
+-- in turn: a direct address, no displacement, one byte extended by sign, one word, a register
 abbrev pub SpellsMemory : Option Address → ℕ → ℕ → List ℕ → Type 0
 SpellsMemory a mode rm d =
     ((mode ≡ 0) × (rm ≡ 6) × (n : ℕ) × (n < 2 ^ 16) × (a ≡ Some (direct n)) × (d ≡ word_bytes n))
@@ -135,7 +135,7 @@ Fills is.One m o d = (o ≡ operand.One) × (d ≡ [])
 
 -- ---- rows
 
--- whether an operand of the kind is named by the mod r/m byte
+-- whether an operand of the kind is read from the mod r/m byte, wholly or in part
 abbrev pub uses_fields : OperandKind → Bool
 uses_fields (is.RegisterOrMemory w) = true
 uses_fields (is.Register w) = true

@@ -158,7 +158,7 @@ pair m n = bare m ∷ bare n ∷ []
 
 -- ---- the table, 16 first bytes after each comment
 
--- the 256 entries, by first byte; bytes of prefixes, and those that begin no instruction, have none
+-- the 256 entries, by first byte; those of prefixes, and of bytes that begin no instruction, are `Unlisted`
 abbrev pub entries : List OpcodeEntry
 entries =
     -- 00
@@ -219,12 +219,12 @@ entries =
     ++ Group 15 ∷ []
     ++ Group 16 ∷ []
 
--- the entry of a first byte; `Unlisted` if it begins no instruction
+-- the entry of a first byte; `Unlisted` if it is a prefix or begins no instruction
 unfoldable pub entry_of : ℕ → OpcodeEntry
 entry_of b = slice_index_or entries b Unlisted
 
 -- the groups in the order of their first bytes: 80 81 82 83, 8C, 8E, 8F C6 C7, D0 D1 D2 D3, F6 F7, FE,
--- FF; in each a row for the reg fields 0 to 7
+-- FF; in each, for the reg fields 0 to 7, a row or None
 abbrev pub groups : List (List (Option Row))
 groups =
     immediate Eb Ib ∷ immediate Ew Iw ∷ immediate Eb Ib ∷ immediate Ew Is

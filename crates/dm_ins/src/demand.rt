@@ -15,7 +15,7 @@ pub enum RegisterOrMemory {
     Memory(Address),
 }
 
-/// The bytes of an operand after the mod r/m byte.
+/// The bytes of an operand after the mod r/m byte and its displacement.
 #[derive(Clone, Copy)]
 pub enum Data {
     Nothing,
@@ -27,16 +27,16 @@ pub enum Data {
 /// What an operand asks of the bytes.
 #[derive(Clone, Copy)]
 pub struct Demand {
-    /// What the reg field has to be, 0 to 7.
+    /// What the reg field has to be, 0 to 7; None if the operand does not ask for it.
     pub register: Option<u8>,
-    /// What the mod and r/m fields have to name.
+    /// What the mod and r/m fields have to name; None if the operand does not ask for it.
     pub place: Option<RegisterOrMemory>,
-    /// What follows.
+    /// The operand's bytes after the mod r/m byte and its displacement.
     pub tail: Data,
 }
 
 impl Demand {
-    /// The demand for these bytes after the mod r/m byte, and for no field.
+    /// The demand for these bytes after the mod r/m byte and its displacement, and for no field.
     fn for_data(tail: Data) -> Self
         ensures { result ≡ asks_data tail }
     {
@@ -97,7 +97,7 @@ fn is_as_wide(a: Width, b: Width) -> bool
     }
 }
 
-/// Whether an address has no base register, so that its displacement alone is the offset.
+/// Whether the base of an address is no register, so that the displacement alone is the offset.
 pub fn has_no_base(base: Base) -> bool
     ensures { result ≡ is_direct base }
 {
@@ -127,8 +127,8 @@ fn is_register(width: Width, operand: Operand) -> bool
     }
 }
 
-/// Whether an operand may be of the kind: where it is false, `demand_for` returns None. It is the quick test of each
-/// row of a mnemonic, most of which have other kinds.
+/// Whether an operand may be of the kind: where this is false, `demand_for` returns None. It is the quick test that
+/// rules out most rows of a mnemonic.
 #[inline(always)]
 #[tactic(auto, unfolding(crate::specs::inner::Search::demand_of))]
 pub fn may_be(kind: OperandKind, operand: Operand) -> bool

@@ -53,7 +53,7 @@ fn put_word(out: &mut RowBytes, n: u16)
     out.push((n / 256) as u8);
 }
 
-/// Appends the bytes of an operand after the mod r/m byte.
+/// Appends the bytes of an operand after the mod r/m byte and its displacement, each word low byte first.
 fn put_data(out: &mut RowBytes, tail: Data)
     requires { array_vec_len out.old + 4 ≤ 12 }
     ensures items { out.new.items ≡ out.old.items ++ data_bytes tail }
@@ -173,8 +173,8 @@ fn put_behind(
     }
 }
 
-/// Whether the operands may be of the row's kinds: where it is false, `fill` returns None. It is the quick test before
-/// any bytes are made.
+/// Whether the operands may be of the row's kinds: where this is false, `fill` returns None. It is the quick test
+/// before any bytes are made.
 #[inline(always)]
 pub fn may_fill(choice: &Choice, first: Operand, second: Operand) -> bool
     ensures { IsFalse result → bytes_of choice.now first second ≡ None }

@@ -5,7 +5,7 @@ ghost use Rattle.std.specs.Prelude.{◌≡◌, ◌<◌, slice_index_or};
 ghost use Rattle.dm_ins.specs.Spelling.{sign_extended};
 ghost use Rattle.dm_ins.specs.Registers.{bases, byte_registers, word_registers, byte_number, segment_number, word_number};
 
-/// How much of memory, or which half of a register, an operand names.
+/// Whether an operand is a byte or a word.
 #[derive(Clone, Copy, Debug, PartialEq, Eq)]
 pub enum Width {
     /// 8 bits.

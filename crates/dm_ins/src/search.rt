@@ -75,7 +75,8 @@ fn is_same(a: Mnemonic, b: Mnemonic) -> bool
     a == b
 }
 
-/// The bytes of the row under the key for the action, None if the row does not have the action.
+/// The bytes that the row under the key has for the action; None if there is no such row, or if it does not have the
+/// action.
 #[inline(always)]
 fn candidate(key: Key, action: &Action) -> Option<RowBytes>
     requires { key.register < 8 }

@@ -402,7 +402,7 @@ pub static ENTRIES: [OpcodeEntry; 256] = [
     OpcodeEntry::Group(16),
 ];
 
-/// For each group, in the order of the first bytes, the row for each value of the reg field.
+/// For each group, in the order of the first bytes, the row for each value of the reg field, None where there is none.
 pub static GROUPS: [[Option<Row>; 8]; 17] = [
     // 80
     [
@@ -584,7 +584,7 @@ pub static GROUPS: [[Option<Row>; 8]; 17] = [
     ],
 ];
 
-/// The entry of a first byte.
+/// The entry of a first byte; `Unlisted` if it is a prefix or begins no instruction.
 pub fn entry_at(opcode: u8) -> OpcodeEntry
     ensures entry { result ≡ entry_of opcode }
     ensures group { IfGroup result (λ g. g < 17) }

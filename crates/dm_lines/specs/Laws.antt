@@ -1,5 +1,5 @@
--- Laws of lines: the text of every instruction, and of data, is read as that instruction or data, and the numbers of
--- a line fit words.
+-- Laws of lines (`tokens_of`, `line_of`) and of their operands (`written_of`, `outline_of`): the text of every
+-- instruction, and of data, is read as that instruction or data, and the numbers of a line fit words.
 use Rattle.std.specs.Prelude.{◌≡◌, ℕ, ◌^◌, ◌<◌, ◌≤◌, ◌⊎◌, true, false, List, [], ◌∷◌, ◌++◌, length, map, Option, Some, None, codes, flat_map}
 use Rattle.std.specs.List.{AllByRecursion}
 use Rattle.dm_ins.specs.declared.operand.Operand.{Operand}
@@ -60,8 +60,8 @@ PiecesAreRead = (ps : List Piece) (comment : List ℕ) → parted false ps ≡ t
 
 -- ---- instructions
 
--- reading the operand of an instruction's text gives what that text shows (`dm_words`), wherever the instruction
--- stands
+-- the operand that an instruction's text is read as (`own_term`) is written as what that text shows (`written_of` of
+-- `dm_words`), wherever the instruction stands
 abbrev pub OwnTermsAreWritten : Type 0
 OwnTermsAreWritten = (a : Action) (next place : ℕ) (o : Operand) → written_of a.mnemonic (own_term a next o) place next ≡ Some (read.written_of a next o)
 
@@ -78,8 +78,8 @@ TermFits (term.Number v) = AmountFits v.amount
 TermFits (term.Far segment offset) = (segment < 2 ^ 16) × (offset < 2 ^ 16)
 TermFits _ = Unit {0}
 
--- the outline of an operand can stand for what the operand is once its label has a value: the instruction has as many
--- bytes
+-- the outline of an operand whose numbers are below 65,536 can stand for what the operand is once its label has a
+-- value: the instruction has as many bytes
 abbrev pub OutlinesStand : Type 0
 OutlinesStand = (m : Mnemonic) (t : Term) (place next : ℕ) (x : Written) → TermFits t → written_of m t place next ≡ Some x → OperandStands m (outline_of m t) x
 
@@ -92,7 +92,7 @@ pub record IsPlain (text : List ℕ) : Type 0 where
   pub short : length text ≤ 63
   pub printed : AllByRecursion (λ b. 32 ≤ b) text
 
--- the text of each instruction is plain
+-- the text of each instruction, whether or not the table has it, is plain
 abbrev pub TextsArePlain : Type 0
 TextsArePlain = (i : Ins) (next : ℕ) → IsPlain (text_of i next)
 
@@ -106,7 +106,8 @@ data_text b bs = codes "DB " ++ byte_digits b ++ flat_map (λ c. codes "," ++ by
 abbrev pub data_statement : List ℕ → Statement
 data_statement bs = record { label = None; item = bytes (map Plus bs) }
 
--- a DB line of bytes is read as these bytes, with a comment after it too
+-- a DB line of bytes, at least one, is read as these bytes, with a comment after it too, if it has at most 255 bytes in
+-- all
 abbrev pub DataIsRead : Type 0
 DataIsRead = (b : ℕ) (bs comment : List ℕ) → AllByRecursion (λ c. c < 2 ^ 8) (b ∷ bs) → IsComment comment → length (data_text b bs ++ comment) ≤ 255 → line_of (data_text b bs ++ comment) ≡ Some (data_statement (b ∷ bs))
 

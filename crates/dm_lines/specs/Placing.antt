@@ -77,7 +77,8 @@ numeral_from m (Some l) n place next = do
 abbrev pub numeral_at : Mnemonic → Value → ℕ → ℕ → Option Numeral
 numeral_at m v place next = numeral_from m v.label v.amount place next
 
--- what an operand is written as in an instruction of the mnemonic m
+-- what an operand is written as in an instruction of the mnemonic m; None where a label and what is added to it lie
+-- outside 0 to FFFFh
 abbrev pub written_of : Mnemonic → Term → ℕ → ℕ → Option Written
 written_of m term.Nothing place next = Some w.Nothing
 written_of m (term.ByteRegister r) place next = Some (w.ByteRegister r)
@@ -100,7 +101,7 @@ written_of m (term.Far s o) place next = Some (w.Far s o)
 abbrev pub number_outline : Amount → Numeral
 number_outline n = record { byte = Some (amount_word n % 64); word = Some (amount_word n); distance = 0; is_one = is_one_of n }
 
--- a label in an outline: as a target it is the next instruction, and under MOV it is 0 as a byte and a word
+-- a label in an outline: as a target it is the next instruction; under MOV it is 0 as a byte and a word, else neither
 abbrev pub label_outline : Mnemonic → Numeral
 label_outline m =
     if is_move m

@@ -25,7 +25,7 @@ digit_of b = if nat_le 48 b && nat_le b 57 then Some (b - 48) else if nat_le 65 
 -- ---- words, in upper case
 
 -- the number that the digits spell in this base, where the digits before them spell n; None for 65,536 and over, or
--- for another byte
+-- for a byte that is no digit of the base
 abbrev pub magnitude_of : ℕ → ℕ → List ℕ → Option ℕ
 magnitude_of base n [] = Some n
 magnitude_of base n (b ∷ bs) = do
@@ -40,13 +40,13 @@ number_of w = if slice_index w (length w - 1) == 72 then magnitude_of 16 0 (take
 abbrev pub padded_of : List ℕ → Name'.Name
 padded_of w = record { bytes = w ++ drop (length w) (replicate 31 0) }
 
--- the token of a reserved word, else the name of a label, of at most 31 bytes
+-- the token of a reserved word, else the name of a label; None for one of over 31 bytes
 abbrev pub or_name : List ℕ → Option Token → Option Token
 or_name w (Some t) = Some t
 or_name w None = if nat_le (length w) 31 then Some (Name (padded_of w)) else None
 
 -- the token of a word in upper case: a number if it begins with a digit, else a reserved word, else the name of a
--- label
+-- label; None for a bad number, or a name of over 31 bytes
 unfoldable pub word_token : List ℕ → Option Token
 word_token w =
     if nat_le 48 (slice_index w 0) && nat_le (slice_index w 0) 57 then (do

@@ -31,7 +31,7 @@ fn put_text(bytes: &mut Bytes, tokens: &[Token]) -> Option<()>
     }
 }
 
-/// Appends one number.
+/// Appends the number that the tokens are.
 fn put_number(bytes: &mut Bytes, tokens: &[Token]) -> Option<()>
     requires { array_vec_len bytes.old + length tokens.now ≤ 255 }
     ensures items { option_map (λ _. bytes.new.items) result ≡ joined_to bytes.old.items (list_of_one (amount_of tokens.now)) }

@@ -177,7 +177,7 @@ fn number_alone(amount: Amount) -> Numeral
     }
 }
 
-/// A label in an outline: as a target it is the next instruction, and under MOV it is 0 as a byte and a word.
+/// A label in an outline: as a target it is the next instruction; under MOV it is 0 as a byte and a word, else neither.
 fn label_alone(mnemonic: Mnemonic) -> Numeral
     ensures { result ≡ label_outline mnemonic }
 {
@@ -218,9 +218,9 @@ fn word_alone(value: Value) -> u16
     }
 }
 
-/// What an operand is written as before labels have values: labels are 0, targets are the next instruction, and a
-/// number as a byte counts modulo 64, so that it is in range. The instruction has as many bytes as with any values of
-/// the labels.
+/// What an operand is written as before labels have values: a label is 0 as an address, and under MOV as a byte and a
+/// word; a target is the next instruction; a number as a byte counts modulo 64, so that it is in range. The instruction
+/// has as many bytes as with any values of the labels.
 pub fn outline(mnemonic: Mnemonic, term: &Term) -> Written
     ensures { result ≡ outline_of mnemonic term.now }
 {

@@ -31,7 +31,7 @@ pub struct Items {
 }
 
 impl Items {
-    /// No data.
+    /// Items with no data.
     pub fn new() -> Items
         ensures bytes { result.bytes.items ≡ [] }
         ensures words { result.words.items ≡ [] }

@@ -194,8 +194,8 @@ fn read_statement(tokens: &[Token], items: &mut Items) -> Option<Statement>
 }
 
 /// The statement that a line, without its line end, stands for; None where it stands for none, as where it has over
-/// 255 bytes. `tokens` and `items` are overwritten, and what they hold before does not matter: they are there so that
-/// they are not made anew for each line.
+/// 255 bytes. The data of a DB or a DW is put into `items`. What `tokens` and `items` hold before does not matter, and
+/// both may be overwritten: they are there so that they are not made anew for each line.
 #[tactic(auto, unfolding(crate::specs::Statements::line_of))]
 pub fn read_line(line: &[u8], tokens: &mut Tokens, items: &mut Items) -> Option<Statement>
     ensures { option_map (seen_statement items.new) result ≡ line_of line.now }

@@ -72,8 +72,8 @@ target file k = word file (entry file k + 2) * 16 + word file (entry file k)
 unfoldable pub image : List ℕ → List ℕ
 image file = if is_mz file then slice_range file (header_length file) (size file) else file
 
--- an MZ file that can be loaded: it has at least 28 bytes and one page; header, relocation table and image lie in the
--- file, and the word of each relocation in the image
+-- an MZ file that can be loaded: it has at least 28 bytes and one page; header and image, and a relocation table that
+-- has an entry, lie in the file, and the word of each relocation lies in the image
 pub record IsGoodMz (file : List ℕ) : Type 0 where
   pub header : 28 ≤ length file
   pub some_pages : 0 < pages file

@@ -22,7 +22,7 @@ pub(crate) fn word(bytes: &[u8], at: usize) -> u16
     LittleEndian::read_u16(&bytes[at..])
 }
 
-/// Adds to the little-endian word at an offset, modulo 65,536.
+/// Adds `by` to the little-endian word at an offset, modulo 65,536; the other bytes stay.
 pub(crate) fn add_to_word(bytes: &mut [u8], at: usize, by: u16)
     requires { at + 2 ≤ length bytes.old }
     ensures { bytes.new ≡ with_word bytes.old at ((Rattle.dm_load.specs.Image.word bytes.old at + by) % 65536) }
@@ -58,7 +58,7 @@ pub(crate) fn size(file: &[u8]) -> usize
     }
 }
 
-/// The offset in the image of the word that a relocation of an MZ file changes, in bytes.
+/// The offset in the image, in bytes, of the word that relocation `index` of an MZ file changes; 0 is the first one.
 pub(crate) fn target(file: &[u8], index: usize) -> usize
     requires header { 28 ≤ length file.now }
     requires there { entry file.now (index + 1) ≤ length file.now }
@@ -90,8 +90,8 @@ fn targets_fit(file: &[u8], count: usize, room: usize) -> bool
     true
 }
 
-/// Whether an MZ file can be loaded: header, relocation table and image lie in the file, and the
-/// word of each relocation in the image.
+/// Whether an MZ file can be loaded: it has at least 28 bytes and one page; header and image, and a relocation table
+/// that has an entry, lie in the file, and the word of each relocation lies in the image.
 fn is_good_mz(file: &[u8]) -> bool
     ensures { IsTrue result ↔ IsGoodMz file.now }
 {
@@ -112,9 +112,9 @@ fn is_good_mz(file: &[u8]) -> bool
 ///
 /// # Errors
 ///
-/// `BadFormat` exactly where the file can't be loaded. A COM file: over 65,278 bytes. An MZ file:
-/// under 28 bytes, no pages, a file shorter than its pages or than its relocation table, a header
-/// longer than the pages, or a relocation of a word that is not wholly in the image.
+/// `BadFormat` exactly where the file can't be loaded. A COM file: over 65,278 bytes. An MZ file: under 28 bytes, no
+/// pages, a file that ends before its pages or before the end of a relocation table that has an entry, a header longer
+/// than the pages, or a relocation of a word that is not wholly in the image.
 pub fn kind(file: &[u8]) -> Result<Kind, BadFormat>
     ensures { MatchResult result (λ k. (k ≡ kind_of file.now) × IsGood file.now) (λ _. IsGood file.now → ⊥) }
 {

@@ -25,7 +25,7 @@ impl<'a> Model for Image<'a> {
 }
 
 impl<'a> Image<'a> {
-    /// The image of a program file. Nothing is copied.
+    /// A program file as one that can be loaded. Nothing is copied.
     ///
     /// # Errors
     ///

@@ -1,4 +1,6 @@
--- Laws of steps and runs.
+-- Laws of steps and runs: each has one result; one in which neither driver is called does not depend on bytes that no
+-- address shows; and room that was reserved is enough. `Neither driver` means neither INT 67h nor the extended memory
+-- driver: INT 2Fh may be called.
 use Rattle.std.specs.Prelude.{◌≡◌, ◌≢◌, ℕ, ◌+◌, ◌≤◌, ◌<◌, ◌==◌, ◌||◌, not, max, Bool, true, false, List, [], ◌∷◌, length, Option, Some, None}
 use Rattle.dm_space.specs.Memory.{Memory, page_bytes, with_blocks}
 use Rattle.dm_space.specs.Unseen.{shows, mixed, unseen_as, IsUnseen}
@@ -18,11 +20,11 @@ use Rattle.dm_machine.specs.Run.{Answers, Goes, IsRun}
 abbrev pub StepHasOneAnswer : Type 0
 StepHasOneAnswer = (s : State) (x y : Answer) → MakesStep s x → MakesStep s y → x ≡ y
 
--- n steps from a state lead to one state
+-- n steps from a state, if they can be made, lead to one state
 abbrev pub ThereIsOneRun : Type 0
 ThereIsOneRun = (s t u : State) (n : ℕ) → Goes s n t → Goes s n u → t ≡ u
 
--- runs of at most so many steps in which no allocation fails stop for the same reason, in the same state
+-- two runs of at most n steps from one state, in which no allocation fails, stop for the same reason in the same state
 abbrev pub RunHasOneStop : Type 0
 RunHasOneStop = (s t u : State) (n : ℕ) (a b : Stop) → IsRun s n a t → IsRun s n b u → a ≢ NoMemory → b ≢ NoMemory → (a ≡ b) × (t ≡ u)
 
@@ -53,8 +55,8 @@ UnseenBytesChangeNoRun =
     (change : Memory → Memory) → IsUnseen change → (s t : State) (n : ℕ) (stop : Stop) → StaysQuiet s n →
     IsRun s n stop t → IsRun (with_change change s) n stop (with_change change t)
 
--- the state with other bytes in the blocks of memory that no window shows: pages of expanded memory, and extended
--- memory
+-- the state with the bytes `other block` in each block that no window shows: pages of expanded memory, and blocks of
+-- extended memory
 abbrev pub with_unseen_blocks : (ℕ → List ℕ) → State → State
 with_unseen_blocks other s = record s { memory = unseen_as s.memory other }
 
@@ -75,17 +77,17 @@ pub record LeavesUnseen (m n : Memory) : Type 0 where
 abbrev pub RunLeavesUnseen : Type 0
 RunLeavesUnseen = (s t : State) (n : ℕ) (stop : Stop) → StaysQuiet s n → IsRun s n stop t → LeavesUnseen s.memory t.memory
 
--- the block with this number belongs to one of the handles of extended memory
+-- whether the block with this number belongs to one of the handles of extended memory
 abbrev pub is_extended : List (Option Handle) → ℕ → Bool
 is_extended [] block = false
 is_extended (None ∷ handles) block = is_extended handles block
 is_extended (Some handle ∷ handles) block = (handle.block == block) || is_extended handles block
 
--- the memory with other bytes in the blocks that belong to the handles of extended memory
+-- the memory with the bytes `other block` in each block that belongs to one of the handles of extended memory
 abbrev pub extended_as : List (Option Handle) → (ℕ → List ℕ) → Memory → Memory
 extended_as handles other m = with_blocks m (record m.blocks { contents = mixed (λ block. not (is_extended handles block)) other 0 m.blocks.contents })
 
--- the state with other bytes in all blocks of extended memory
+-- the state with the bytes `other block` in each block of extended memory
 abbrev pub with_extended_blocks : (ℕ → List ℕ) → State → State
 with_extended_blocks other s = record s { memory = extended_as s.xms.handles other s.memory }
 
@@ -102,8 +104,8 @@ pub record LeavesExtended (s t : State) : Type 0 where
   pub extended : t.xms ≡ s.xms
   pub bytes : (block : ℕ) → is_extended s.xms.handles block ≡ true → page_bytes t.memory block ≡ page_bytes s.memory block
 
--- if tables and memory are consistent, a run in which neither driver is called keeps the tables of both drivers and the
--- bytes of each block of extended memory
+-- if tables and memory are consistent, a run in which neither driver is called keeps the tables of expanded and of
+-- extended memory and the bytes of each block of extended memory
 abbrev pub RunLeavesExtended : Type 0
 RunLeavesExtended = (s t : State) (n : ℕ) (stop : Stop) → AreConsistent s → StaysQuiet s n → IsRun s n stop t → LeavesExtended s t
 
@@ -127,7 +129,8 @@ RoomIsEnoughForRuns =
     (bytes : ℕ) (s t u : State) (n : ℕ) → bytes ≤ s.console.room → IsHistory s t → IsRun t n NoMemory u →
     WantsBeyond (length s.console.output + bytes) u
 
--- if `bytes` bytes of room are reserved, no allocation fails in steps that together write no more than that
+-- if `bytes` bytes of room are reserved, no allocation fails in steps that together write no more than that: where one
+-- fails, the next step would leave more output
 abbrev pub RoomIsEnoughForSteps : Type 0
 RoomIsEnoughForSteps =
     (bytes : ℕ) (s t u : State) → bytes ≤ s.console.room → IsHistory s t → Answers t (Some NoMemory) u →

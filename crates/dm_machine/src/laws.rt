@@ -7,8 +7,8 @@ use crate::machine::Machine;
 
 /// In every machine the tables of expanded and extended memory are consistent with memory. Each page is a block of its
 /// own and belongs to a handle in use; each handle of extended memory has a block of its own, of the size in its entry,
-/// that no window shows; there is no other block; and windows, saved ones too, show pages alone. So pages that are
-/// promised come (`dm_drivers::pages_come`).
+/// that no window shows; there is no other block; and windows, saved ones too, show pages alone. So the law
+/// `dm_drivers::pages_come` holds in every machine.
 pub fn tables_and_memory_are_consistent(machine: &Machine)
     ensures { AreConsistent machine.now }
 {
@@ -20,16 +20,16 @@ pub fn a_step_has_one_answer()
     ensures { StepHasOneAnswer }
 {}
 
-/// The same number of steps from one state leads to one state; and runs of at most so many steps from one state stop
-/// for one reason in one state, unless an allocation fails in one.
+/// The same number of steps from one state, where they can be made, leads to one state; and runs from one state with
+/// the same limit of steps stop for the same reason in the same state, unless an allocation fails in one of them.
 pub fn there_is_one_run()
     ensures steps { ThereIsOneRun }
     ensures stops { RunHasOneStop }
 {}
 
-/// Runs up to breakpoints from one state, of at most as many steps and with the same breakpoints, end for one reason in
-/// one state, unless an allocation fails in one. That a run ends at the first breakpoint to which a step leads is the
-/// law `a_run_until_is_a_run`.
+/// Runs up to breakpoints (`run_until`) from one state, with the same limit of steps and the same breakpoints, end for
+/// the same reason in the same state, unless an allocation fails in one of them. That a run ends at the first
+/// breakpoint to which a step leads is the law `a_run_until_is_a_run`.
 pub fn there_is_one_run_until()
     ensures { UntilHasOneStop }
 {}

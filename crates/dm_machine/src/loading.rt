@@ -42,8 +42,9 @@ fn arguments(tail: &[u8]) -> Arguments
 }
 
 impl Machine {
-    /// Loads the program of this name, with its environment, into memory, and sets the registers with which it starts.
-    /// No program may be loaded yet; the name must be one that the store could have; the tail has at most 126 bytes.
+    /// Loads the program of this name, with its environment, into memory, makes it the present process, and sets the
+    /// registers with which it starts. No step is made or counted. No program may be loaded yet; the name must be one
+    /// that the store could have; the tail has at most 126 bytes.
     ///
     /// # Errors
     ///

@@ -1,4 +1,4 @@
-//! The machine and what it shows.
+//! The machine: how it is made, what it shows of its state, and how memory and room are changed from outside.
 ghost use Rattle.std.specs.Prelude.{◌≡◌, ◌≤◌, ◌↔◌, IsTrue, IfOk, IsOk, IsErrOf, OnOk, OnErr, length, max};
 ghost use Rattle.dm_space.specs.Memory.{linear, peek, poke};
 ghost use Rattle.dm_pool.specs.Stored.{IsTooLarge};
@@ -160,7 +160,7 @@ impl Machine {
         })
     }
 
-    /// Whether a program is loaded.
+    /// Whether a program is loaded, also after it has ended.
     pub fn is_loaded(&self) -> bool
         ensures { IsTrue result ↔ HasProgram self.now }
     {
@@ -216,8 +216,8 @@ impl Machine {
         self.parts.space.peek(segment, offset)
     }
 
-    /// Writes the byte at segment:offset. A write to ROM, or where there is no memory, is lost. A program must be
-    /// loaded.
+    /// Writes the byte at segment:offset; nothing else changes. A write to ROM, or where there is no memory, is lost. A
+    /// program must be loaded.
     pub fn poke(&mut self, segment: u16, offset: u16, value: u8)
         requires { HasProgram self.old }
         ensures { self.new ≡ record self.old { memory = poke self.old.memory (linear self.old.memory.a20 segment offset) value } }

@@ -1,4 +1,4 @@
--- Spans that overlap: they share a place (LIM EMS 4.0, function 24).
+-- Spans that overlap: they share a place that is memory or ROM (LIM EMS 4.0, function 24).
 use Rattle.std.specs.Prelude.{ℕ, zero, suc, ◌==◌, ◌&&◌, ◌||◌, Bool, false}
 use Rattle.dm_space.specs.declared.place.Place.{Place}
 use Rattle.dm_space.specs.declared.place.Place.TheVariants.{Low, Page, Rom, Nothing}
@@ -30,6 +30,6 @@ any_below (suc n) f = any_below n f || f n
 abbrev pub any_two : ℕ → ℕ → (ℕ → ℕ → Bool) → Bool
 any_two n l f = any_below n (λ i. any_below l (f i))
 
--- the first n bytes of one span and the first n of the other have a place in common
+-- the first n bytes of one span and the first n of the other have a place in common that is RAM, a block or ROM
 unfoldable pub overlap : Memory → Span → Span → ℕ → Bool
 overlap m from to n = any_two n n (λ i j. is_shared (place_in m from i) (place_in m to j))

@@ -12,7 +12,7 @@ use Rattle.dm_moves.specs.declared.spans.SpanKind.TheVariants.{Linear, Pages, Si
 -- a run of bytes: what it lies in, and where it begins; how many bytes it has is given where it is used
 pub record Span : Type 0 where
   pub kind : SpanKind
-  -- where it begins: a linear address; a byte of the pages, counted through; a byte of the one block
+  -- where it begins: a linear address; a byte of the pages, counted from the first one on; a byte of the one block
   pub start : ℕ
   -- the blocks of the pages, or the one block
   pub blocks : List ℕ
@@ -46,7 +46,8 @@ abbrev pub span_written : Memory → Span → ℕ → List ℕ → Memory
 span_written m r k [] = m
 span_written m r k (v ∷ vs) = span_written (with_byte m (place_in m r k) v) r (suc k) vs
 
--- the memory after the first n bytes of `from` have been moved to `to`: all are read before the first is written
+-- the memory after the first n bytes of `from` have been copied to `to`, upwards: all are read before the first is
+-- written
 abbrev pub span_moved : Memory → Span → Span → ℕ → Memory
 span_moved m from to n = span_written m to 0 (bytes_in m from n)
 
@@ -64,7 +65,8 @@ IsWithin m Linear blocks end = end ≤ 0x10FFF0
 IsWithin m Pages blocks end = (end ≤ 0x4000 * length blocks) × ((k : ℕ) → k < length blocks → IsPage m (slice_index blocks k))
 IsWithin m Single blocks end = (length blocks ≡ 1) × IsLive m.blocks (slice_index blocks 0) × (end ≤ length (page_bytes m (slice_index blocks 0)))
 
--- the first n bytes of a span lie within what it is of: linear memory, its pages, or its block
+-- the first n bytes of a span lie below linear address 10FFF0h, within its pages, or within its block, by its kind;
+-- they end below 2 ^ 32
 pub record IsInside (m : Memory) (r : Span) (n : ℕ) : Type 0 where
   pub small : r.start + n < 0x100000000
   pub within : IsWithin m r.kind r.blocks (r.start + n)

@@ -6,7 +6,7 @@ ghost use Rattle.dm_moves.specs.Buffers.{word_after};
 
 use dm_space::Space;
 
-/// The offset `places` bytes after another, modulo 65,536.
+/// The offset `places` bytes after `offset`, modulo 65,536.
 fn onward(offset: u16, places: usize) -> u16
     requires { places < 0x100000 }
     ensures { result ≡ (offset + places) % 65536 }

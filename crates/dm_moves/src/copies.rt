@@ -1,4 +1,4 @@
-//! Moves and exchanges of the bytes of spans, through the scratch bytes; `move_blocks` alone moves without them.
+//! Moves and exchanges of the bytes of spans, through the scratch bytes; `move_blocks` alone does without them.
 
 ghost use Rattle.std.specs.Prelude.{◌≡◌, ◌+◌, ◌%◌, ◌<◌, ◌≤◌};
 ghost use Rattle.dm_moves.specs.inner.Copying.{read_in, written_out};
@@ -19,7 +19,7 @@ pub(crate) fn run_len(at: usize, left: usize) -> usize
 }
 
 /// Copies `len` bytes of a span, from its byte `k` on, into the scratch bytes from `at` on. The bytes lie between two
-/// multiples of 4000h.
+/// multiples of 4000h. The memory stays.
 fn read_run(space: &mut Space, span: &Span, k: usize, at: usize, len: usize)
     requires inside { IsInside space.old.memory span.now (k + len) }
     requires some { 0 < len }
@@ -37,7 +37,7 @@ fn read_run(space: &mut Space, span: &Span, k: usize, at: usize, len: usize)
 }
 
 /// Writes `len` scratch bytes from `at` on to a span, from its byte `k` on, upwards. The bytes written lie between two
-/// multiples of 4000h.
+/// multiples of 4000h. The scratch bytes stay.
 fn write_run(space: &mut Space, span: &Span, k: usize, at: usize, len: usize)
     requires inside { IsInside space.old.memory span.now (k + len) }
     requires some { 0 < len }
@@ -84,8 +84,8 @@ fn write(space: &mut Space, at: usize, span: &Span, len: usize)
     }
 }
 
-/// Moves `len` bytes of a span to another: the source is read whole, and then written upwards. The scratch bytes are
-/// overwritten.
+/// Copies the first `len` bytes of one span to another: all are read into the scratch bytes, and then written upwards.
+/// What is written to ROM, or where there is no memory, is lost. Nothing is promised of the scratch bytes afterwards.
 pub fn move_bytes(space: &mut Space, from: &Span, to: &Span, len: usize)
     requires from { IsInside space.old.memory from.now len }
     requires to { IsInside space.old.memory to.now len }
@@ -97,8 +97,9 @@ pub fn move_bytes(space: &mut Space, from: &Span, to: &Span, len: usize)
     write(space, 0, to, len);
 }
 
-/// Moves `len` bytes of one block to another, or within one: the source is read whole, and then written upwards. The
-/// scratch bytes are not used and stay as they are, so that `len` may be more than they are.
+/// Copies the first `len` bytes of one span to another, each of them in one block, which may be the same: the result is
+/// as if all were read before the first is written. The scratch bytes are not used and stay as they are, so `len` may
+/// exceed their number.
 pub fn move_blocks(space: &mut Space, from: &Span, to: &Span, len: usize)
     requires blocks { (from.now.kind ≡ SpanKind.Single) × (to.now.kind ≡ SpanKind.Single) }
     requires from { IsInside space.old.memory from.now len }
@@ -114,8 +115,9 @@ pub fn move_blocks(space: &mut Space, from: &Span, to: &Span, len: usize)
     space.move_bytes(source, from.at(0), destination, to.at(0), len);
 }
 
-/// Exchanges `len` bytes of two spans: both are read whole, and then each is written upwards where the other was. The
-/// scratch bytes are overwritten.
+/// Exchanges the first `len` bytes of two spans: those of both are read into the scratch bytes, and then each is
+/// written upwards where the other was, to `to` first. What is written to ROM, or where there is no memory, is lost.
+/// Nothing is promised of the scratch bytes afterwards.
 pub fn exchange_bytes(space: &mut Space, from: &Span, to: &Span, len: usize)
     requires from { IsInside space.old.memory from.now len }
     requires to { IsInside space.old.memory to.now len }

@@ -22,8 +22,8 @@ pub enum SpanKind {
     Single,
 }
 
-/// What a span lies in, and where it begins. Its bytes are counted from there; it has no length, which each function is
-/// given for itself.
+/// What a span lies in, and where it begins. Its bytes are counted from there. A span has no length: each function is
+/// given the number of bytes it works on.
 #[derive(Drop)]
 pub struct Span {
     kind: SpanKind,
@@ -51,7 +51,8 @@ impl Span {
         }
     }
 
-    /// The span from byte `start` of a list of pages on, whose bytes are counted through, 4000h for each page.
+    /// The span from byte `start` of a list of pages on. Their bytes are counted from the first page on, 4000h for each
+    /// page.
     pub fn pages(blocks: ArrayVec<Block, 512>, start: usize) -> Span
         ensures { result ≡ span SpanKind.Pages start blocks.items }
     {
@@ -91,14 +92,14 @@ impl Span {
         self.start + k
     }
 
-    /// The blocks of its pages, or its one block; none for linear addresses.
+    /// The blocks that are the span's pages, or its one block; none for linear addresses.
     pub(crate) fn blocks(&self) -> &[Block]
         ensures { result.now ≡ self.now.blocks }
     {
         self.blocks.as_slice()
     }
 
-    /// The place of byte `k` of the span.
+    /// The place of byte `k` of the span, A20 taken as on.
     pub(crate) fn place(&self, space: &Space, k: usize) -> Place
         requires { IsInside space.now.memory self.now (k + 1) }
         ensures { result ≡ place_in space.now.memory self.now k }

@@ -41,7 +41,7 @@ files_rule = record (new_rule (codes "files")) {
   required = true;
 }
 
--- a command with the options and files added that `run`, `debug` and `check` share
+-- the command with the options and files added that `run`, `debug` and `check` share
 abbrev pub with_machine_rules : App → App
 with_machine_rules a =
     with_rule (with_rule (with_rule (with_rule (with_rule (with_rule a steps_rule) ems_rule) xms_rule) upper_rule) tail_rule) files_rule

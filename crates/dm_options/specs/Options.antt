@@ -1,4 +1,4 @@
--- What the options of a command line are, by the rows that `clap` gives for its words: a row has an argument's name and
+-- What the options of a command line are, by the rows that `clap` finds in its words: a row has an argument's name and
 -- its texts.
 use Rattle.std.specs.Prelude.{◌≡◌, ℕ, ◌<◌, ◌^◌, Bool, true, false, List, Option, Some, None, ⊤, MatchOption, codes, map, option_map}
 use Rattle.std.specs.Str.Parse.{IsNumeral, digits_value, without_leading_plus}
@@ -21,13 +21,14 @@ IsNumeralWithin k text n = IsNumeral 10 (without_leading_plus text)
 abbrev pub HasNumber : ℕ → Option Text → ℕ → Type 0
 HasNumber k text n = MatchOption text ⊥ (λ t. IsNumeralWithin k t n)
 
--- b is whether an option that has no value is given, by the text that `clap` gives for it: `true` or `false`
+-- b is whether an option that has no value is given, by the text that `clap` has for it: `true` or `false`; false if
+-- there is no text
 pub record IsGiven (text : Option Text) (b : Bool) : Type 0 where
   pub given : text ≡ Some (codes "true") → b ≡ true
   pub not_given : text ≡ Some (codes "false") → b ≡ false
   pub unknown : text ≡ None → b ≡ false
 
--- o has the values that the rows give for the options and files of `dm run`
+-- o has the values of the options and files that `dm run`, `dm check` and `dm debug` share, as the rows have them
 pub record HasMachineOptions (rows : List Row) (o : MachineOptions) : Type 0 where
   pub steps : HasNumber 64 (one_of (codes "steps") rows) o.steps
   pub ems_pages : HasNumber 32 (one_of (codes "ems") rows) o.ems_pages
@@ -36,17 +37,17 @@ pub record HasMachineOptions (rows : List Row) (o : MachineOptions) : Type 0 whe
   pub tail : first_of (codes "tail") rows ≡ Some o.tail.now
   pub files : all_of (codes "files") rows ≡ Some (map (λ s. s.now) o.files.items)
 
--- o has the values that the rows give for the options and files of `dm debug`
+-- o has the values of the options and files of `dm debug`, as the rows have them
 pub record HasDebugOptions (rows : List Row) (o : DebugOptions) : Type 0 where
   pub machine : HasMachineOptions rows o.machine
   pub input : first_of (codes "input") rows ≡ option_map (λ s. s.now) o.input
 
--- o has the two paths that the rows give for `dm asm`
+-- o has the two paths of `dm asm`, as the rows have them
 pub record HasAsmOptions (rows : List Row) (o : AsmOptions) : Type 0 where
   pub input : first_of (codes "in") rows ≡ Some o.input.now
   pub output : first_of (codes "out") rows ≡ Some o.output.now
 
--- these are the options of the subcommand with its name and rows
+-- these are the options of a subcommand, by its name and its rows
 abbrev pub HasOptions : Text × List Row → Options → Type 0
 HasOptions given (command.Run o) = (given.0 ≡ codes "run") × HasMachineOptions given.1 o
 HasOptions given (command.Debug o) = (given.0 ≡ codes "debug") × HasDebugOptions given.1 o

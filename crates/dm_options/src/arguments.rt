@@ -149,8 +149,8 @@ fn check_command<'a>(alloc: Global) -> Result<Command<'a>, AllocError>
     with_machine_args(alloc, command)
 }
 
-/// A required argument that is the path of one file: the name by which it is read back, and its name and text in the
-/// help.
+/// A required argument that is the path of one file. `id` is the name by which the value is read back, `value_name` and
+/// `help` are the argument's name and text in the help.
 fn path_arg<'a>(
     alloc: Global,
     id: &'static str,
@@ -194,7 +194,7 @@ fn disasm_command<'a>(alloc: Global) -> Result<Command<'a>, AllocError>
         .arg(path_arg(alloc, "in", "IN", "The COM file, at most 65278 bytes"))
 }
 
-/// Adds a subcommand to a command, if it was made. An `Err` is a failed allocation, of `made` or of this call.
+/// Adds the subcommand `made` to `command`. An `Err` is a failed allocation, that of `made` or one of this call.
 fn with_made<'a>(
     command: Command<'a>,
     made: Result<Command<'a>, AllocError>,
@@ -206,7 +206,7 @@ fn with_made<'a>(
     command.subcommand(made?)
 }
 
-/// The command `dm` with its subcommands, of which a line must name one. An `Err` is a failed allocation.
+/// The command `dm` with its subcommands, of which a command line must name one. An `Err` is a failed allocation.
 pub(crate) fn dm_command<'a>(alloc: Global) -> Result<Command<'a>, AllocError>
     ensures { IfOk result (λ c. app_of c ≡ dm_app) }
 {

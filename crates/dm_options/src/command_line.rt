@@ -5,7 +5,7 @@ use thiserror::Error;
 /// The options and files of `dm run`, `dm check` and `dm debug`: how the machine is made, and what it runs.
 #[derive(Debug, Drop)]
 pub struct MachineOptions<'a> {
-    /// The most steps that the machine makes, from `--steps`.
+    /// The largest number of steps that the machine makes, from `--steps`.
     pub steps: u64,
     /// The pages of 16 KiB of expanded memory, from `--ems`.
     pub ems_pages: u32,
@@ -52,7 +52,7 @@ pub enum Options<'a> {
     Disasm(&'a str),
 }
 
-/// Why a command line gives no options.
+/// Why no options are read from a command line.
 #[derive(Debug, Drop, Error)]
 pub enum OptionsError {
     /// A wrong command line, or a call for help or the version, with `clap`'s text.

@@ -58,7 +58,7 @@ fn files_of<'a>(alloc: Global, matches: &ArgMatches<'a>) -> Result<Vec<&'a str>,
     Ok(files)
 }
 
-/// The options and files of `dm run`, `dm check` or the machine of `dm debug`. An `Err` is a failed allocation.
+/// The options and files that `dm run`, `dm check` and `dm debug` share. An `Err` is a failed allocation.
 fn machine_options<'a>(
     alloc: Global,
     matches: &ArgMatches<'a>,
@@ -135,7 +135,7 @@ fn found_options<'a>(alloc: Global, matches: &ArgMatches<'a>) -> Result<Options<
 ///
 /// `dm run [--steps N] [--ems PAGES] [--xms KIB] [--upper] [--tail TEXT] FILES...`: N is a decimal number below 2^64,
 /// PAGES and KIB are decimal numbers below 2^32, and there is at least one file. A number may begin with `+`. The
-/// defaults are 100000000, 64, 1024 and the empty text. An option that comes twice, or one that is unknown, is wrong.
+/// defaults are 100000000, 64, 1024 and the empty text. A line with an option twice, or with an unknown one, is wrong.
 ///
 /// `dm check` takes the same. `dm debug` takes the same, and `--input FILE`, which may be left out. `dm asm IN OUT` and
 /// `dm disasm IN` take paths alone.
@@ -165,7 +165,7 @@ pub fn options<'a, S: AsStr>(alloc: Global, words: &'a [S]) -> Result<Options<'a
     }
 }
 
-/// The error for a command line with a word that is not UTF-8 and so cannot be read, in `clap`'s words.
+/// The error for a command line with a word that is not UTF-8 and so cannot be read, with `clap`'s text.
 ///
 /// # Errors
 ///

@@ -3,7 +3,7 @@ use Rattle.std.specs.Prelude.{◌≡◌, ℕ, ◌+◌, ◌-◌, ◌^◌, ◌≤�
 use Rattle.std.specs.Prelude.{List, Option, Result, Ok, Err, length, take, min, if◌then◌else◌}
 use Rattle.std.specs.Io.KnownBytes.{Appends}
 
--- the highest count of failures, at which the count stays
+-- the highest count of failures, 2^64 - 1, at which the count stays
 abbrev pub most_failures : ℕ
 most_failures = 2 ^ 64 - 1
 
@@ -26,8 +26,8 @@ count_after_call count (Err e) = min (count + 1) most_failures
 abbrev pub HasFailed : ℕ → ℕ → Type 0
 HasFailed before after = after ≡ min (before + 1) most_failures
 
--- the bytes that the writer has taken grew, from `old` to `new`, by a first part of `bytes`; None where they are not
--- known
+-- the bytes that the writer has taken grew, from `old` to `new`, by a first part of `bytes`, which may be none or all
+-- of them; None where what it has taken is not known
 abbrev pub AppendsPart : Option (List ℕ) → Option (List ℕ) → List ℕ → Type 0
 AppendsPart old new bytes = (k : ℕ) × (k ≤ length bytes) × Appends old new (take k bytes)
 

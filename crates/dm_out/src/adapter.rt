@@ -29,7 +29,7 @@ impl<W: io::Write + Drop> Sink<W> {
         Sink { writer, count: 0 }
     }
 
-    /// Adds 1 to the count of failures; at 2^64 - 1 it stays.
+    /// Adds 1 to the count of failures; at 2^64 - 1 the count stays. The writer stays.
     fn fail(&mut self)
         ensures { self.new ≡ record self.old { failures = min (self.old.failures + 1) most_failures } }
     {
@@ -42,8 +42,8 @@ impl<W: io::Write + Drop> Out for Sink<W> {
 
     ghost failures = { λ s. s.failures };
 
-    /// Makes one write of the standard writer. Any of its errors is `Failed`; an error, or no byte taken, is counted if
-    /// `bytes` is not empty.
+    /// Makes one write of the standard writer, and returns how many bytes it took. Any of its errors is `Failed`. If
+    /// `bytes` is not empty, an error or a write that took no byte is counted.
     fn write(&mut self, bytes: &[u8]) -> Result<usize, Failed> {
         match self.writer.write(bytes) {
             Ok(n) => {

@@ -27,7 +27,7 @@ pub trait Out {
         ensures bytes { WriteAppends (taken self.old) (taken self.new) result bytes.now }
         ensures failures { failures self.new ≡ count_after (failures self.old) bytes.now result };
 
-    /// Passes on what the writer has buffered.
+    /// Passes on what the writer has buffered. The bytes taken stay the same, also with an error.
     fn flush(&mut self) -> Result<(), Failed>
         ensures bytes { Keeps (taken self.old) (taken self.new) }
         ensures failures { failures self.new ≡ count_after_call (failures self.old) result };

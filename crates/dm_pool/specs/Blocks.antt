@@ -24,7 +24,7 @@ with_content s i xs = record s { contents = set s.contents i xs }
 abbrev pub without : Blocks → ℕ → Blocks
 without s i = record { units = s.units; places = set s.places i None; contents = set s.contents i [] }
 
--- the bytes of a new block of u units
+-- the bytes of a new block of u units: zeros, 1024 for each unit
 abbrev pub zeros : ℕ → List ℕ
 zeros u = replicate (u * 1024) 0
 

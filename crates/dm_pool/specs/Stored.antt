@@ -22,6 +22,6 @@ units_of sizes = 16 * sizes.ems_pages + sizes.xms_kib
 unfoldable pub zeros_of : ℕ → List ℕ
 zeros_of n = replicate n 0
 
--- what a slice that held `old` holds once `new` is written: the length of `old`, since a slice keeps its length
+-- what a slice that held `old` holds once `new` is written; it has the length of `old`, since a slice keeps its length
 abbrev pub refit : List ℕ → List ℕ → List ℕ
 refit old new = take (length old) (new ++ drop (length new) old)

@@ -23,7 +23,7 @@ fn lowest_gap(table: &Table, bytes: &[u8], units: usize) -> Option<usize>
     first_fit(table, bytes, units)
 }
 
-/// Writes zeros into the `units` units of the pool from the unit `base` on.
+/// Writes zeros into the `units` units of the pool from the unit `base` on. The other bytes stay.
 fn clear(bytes: &mut [u8], base: usize, units: usize)
     requires { (base * 1024 + units * 1024 ≤ length bytes.old) × (base + units < 2 ^ 31) }
     ensures { bytes.new ≡ with_part bytes.old (base * 1024) (units * 1024) (zeros units) }
@@ -99,7 +99,7 @@ fn new_base(table: &Table, bytes: &[u8], slot: usize, units: usize) -> Option<us
 }
 
 /// Copies a block's bytes, up to the smaller size, from one place of the pool to another, which may overlap the first,
-/// and fills the rest of the new place with zeros.
+/// and fills the rest of the new place with zeros. All bytes outside the new place stay.
 fn move_block(bytes: &mut [u8], from: Extent, to: Extent)
     requires source { from.base * 1024 + from.units * 1024 ≤ length bytes.old }
     requires destination { to.base * 1024 + to.units * 1024 ≤ length bytes.old }

@@ -11,7 +11,7 @@ use crate::extent::{Extent, UNIT};
 use crate::table::Table;
 use byteorder::{ByteOrder, LittleEndian};
 
-/// In the place of a run's first unit: there is no run.
+/// Stands for no run, where else the first unit of a run stands.
 const NOWHERE: u32 = u32::MAX;
 
 /// The free runs of a pool, as its bytes list them: the first four bytes of a run are its length in units, the next
@@ -67,7 +67,7 @@ fn write_run(bytes: &mut [u8], unit: usize, run: FreeRun)
     write_word(bytes, at + 4, run.next);
 }
 
-/// The highest of the first `rest` blocks of the table's order; for a `rest` of 0, a place of no unit at unit 0.
+/// The place of the highest of the first `rest` blocks of the table's order; for a `rest` of 0, no unit at unit 0.
 fn highest(table: &Table, rest: usize) -> Extent
     requires { rest ≤ length table.now.order }
     ensures below { (end : ℕ) → IsCut table.now.places table.now.order rest end → IsBelow table.now.places end result }

@@ -22,7 +22,7 @@ use std::alloc::{AllocError, Global};
 use std::marker::Model;
 use thiserror::Error;
 
-/// How many bytes have a linear address: 0 to 10FFFFh, so that the high memory area is among them.
+/// How many bytes low memory has: linear addresses 0 to 10FFFFh, so that the high memory area is among them.
 const LOW: usize = 0x11_0000;
 
 /// How many scratch bytes there are: 2 MiB. They have no address, and no program sees them.
@@ -63,7 +63,7 @@ pub enum NewError {
     Memory,
 }
 
-/// A region of `len` zeros. (A function of its own, so that no proof of a large one writes them out.)
+/// A region of `len` zeros. (It is a function of its own so that no proof writes out the zeros of a large region.)
 #[tactic(auto, unfolding(crate::specs::Stored::zeros_of))]
 fn blank(alloc: Global, len: usize) -> Result<Region, AllocError>
     ensures { IfOk result (λ region. region ≡ zeros_of len) }
@@ -71,7 +71,8 @@ fn blank(alloc: Global, len: usize) -> Result<Region, AllocError>
     Region::new(alloc, len)
 }
 
-/// A store of zeros, whose pool has `units` units and no block.
+/// A store whose low memory and scratch bytes are zeros, and whose pool has `units` units and no block. `AllocError` if
+/// the allocation fails.
 fn store_of(alloc: Global, units: usize) -> Result<Store, AllocError>
     requires { units < 2 ^ 31 }
     ensures low { IfOk result (λ store. store.low ≡ zeros_of 0x110000) }
@@ -118,8 +119,8 @@ fn start_of(table: &Table, part: Part) -> usize
 }
 
 impl Store {
-    /// A store of zeros with no block: 110000h bytes of low memory, 200000h scratch bytes, and a pool of 16 units of 1
-    /// KiB for each page and one for each KiB of extended memory.
+    /// A store with 110000h bytes of low memory and 200000h scratch bytes, all zeros, and a pool with no block, of 16
+    /// units of 1 KiB for each page and one for each KiB of extended memory.
     ///
     /// # Errors
     ///
@@ -176,7 +177,7 @@ impl Store {
         self.region.part_mut(LOW, SCRATCH)
     }
 
-    /// Takes a block of `units` units as `take` does, and returns its number.
+    /// Takes a block of `units` units as [`Store::take`] does, and returns its number, or None where that does.
     fn take_slot(&mut self, units: usize) -> Option<usize>
         ensures taken { MatchOption result ((taken self.old.blocks units ≡ None) × (self.new ≡ self.old)) (λ slot. (taken self.old.blocks units ≡ Some (slot, self.new.blocks)) × (self.new ≡ record self.old { blocks = self.new.blocks })) }
         ensures small { IfSome result (λ slot. slot < 576) }
@@ -212,7 +213,8 @@ impl Store {
 
     /// Gives a block another size: bytes up to the smaller size stay, and new ones are zeros. The block stays where it
     /// is if it fits there, else it moves to the lowest gap that holds it, its old place counted as taken; a block of
-    /// no unit needs no gap. False where neither holds it, and then nothing has changed.
+    /// no unit needs no gap. The other blocks stay as they are. False where neither holds it, and then nothing has
+    /// changed.
     pub fn resize(&mut self, block: Block, units: usize) -> bool
         requires { IsLive self.old.blocks block }
         ensures { MatchBool result ((resized self.old.blocks block units ≡ Some self.new.blocks) × (self.new ≡ record self.old { blocks = self.new.blocks })) ((resized self.old.blocks block units ≡ None) × (self.new ≡ self.old)) }
@@ -306,7 +308,7 @@ impl Store {
         runs::largest(&self.table, self.region.part(POOL, len))
     }
 
-    /// How many units are in no block.
+    /// How many units of the pool are in no block.
     pub fn free(&self) -> usize
         ensures { result ≡ free_units (gaps self.now.blocks.places self.now.blocks.units) }
     {

@@ -32,7 +32,7 @@ impl Model for Table {
     ghost invariant = { λ t. IsTable (record { units = t.units; places = t.places; order = t.order.items; first = t.first }) };
 }
 
-/// A table with no block for a pool of `units` units. It does not say yet where the first free run begins.
+/// A table with no block for a pool of `units` units; where the first free run begins is not set yet.
 #[tactic(auto, unfolding(crate::specs::inner::Order::no_layout))]
 fn no_blocks(units: usize) -> Table
     requires { units < 2 ^ 31 }
@@ -47,7 +47,7 @@ fn no_blocks(units: usize) -> Table
 }
 
 /// How many blocks of `order` begin below the unit `base`: as blocks are in rising order, the position where a block
-/// with that base comes.
+/// with that base belongs.
 fn rank(places: &[Option<Extent>], order: &[u16], base: usize) -> usize
     requires order { IsOrder places.now order.now }
     requires count { length places.now ≡ 576 }
@@ -81,7 +81,7 @@ fn first_empty(places: &[Option<Extent>]) -> Option<usize>
     None
 }
 
-/// Whether none of the `units` units from `from` on is in a block, that with the number `slot` left aside.
+/// Whether no block but that with the number `slot` overlaps the `units` units from `from` on.
 fn is_clear_but(places: &[Option<Extent>], slot: usize, from: usize, units: usize) -> bool
     requires bounded { (i : ℕ) (b : _) → get_or places.now i None ≡ Some b → b.base + b.units < 2 ^ 31 }
     requires range { from + units < 2 ^ 31 }
@@ -134,7 +134,7 @@ fn order_out(
 }
 
 impl Table {
-    /// A table with no block for a pool of `units` units. It does not say yet where the first free run begins.
+    /// A table with no block for a pool of `units` units; where the first free run begins is not set yet.
     pub(crate) fn new(units: usize) -> Table
         requires { units < 2 ^ 31 }
         ensures { result ≡ no_layout units }
@@ -142,7 +142,7 @@ impl Table {
         no_blocks(units)
     }
 
-    /// Does nothing: it gives proofs what holds of every table.
+    /// Does nothing; proofs take from its contract what holds of every table.
     #[inline(always)]
     pub(crate) fn recall(&self)
         ensures { IsTable self.now }
@@ -220,8 +220,8 @@ impl Table {
         first_empty(&self.places)
     }
 
-    /// Whether the `units` units from `from` on are in the pool and in no block, that with the number `slot` left
-    /// aside.
+    /// Whether the `units` units from `from` on are in the pool, and no block but that with the number `slot` overlaps
+    /// them.
     pub(crate) fn is_free_but(&self, slot: usize, from: usize, units: usize) -> bool
         requires { from ≤ self.now.units }
         ensures { result ≡ is_free (set self.now.places slot None) self.now.units units from }

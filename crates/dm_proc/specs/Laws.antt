@@ -1,5 +1,5 @@
--- Laws of the definitions: each call has one result, a loaded program stays loaded, and no call depends on bytes that
--- no program can see.
+-- Laws of the calls on processes (4Bh with AL = 0 and 3, the load of the first program, 4Ch and 31h): each call has one
+-- result, a loaded program stays loaded, and no call depends on bytes that no program can see.
 use Rattle.std.specs.Prelude.{◌≡◌, ℕ, Bool, List, Result, Ok}
 use Rattle.dm_space.specs.Memory.{Memory}
 use Rattle.dm_space.specs.Unseen.{IsUnseen}
@@ -42,7 +42,8 @@ KeepingHasOneAnswer =
     (upper : Bool) (ps : Processes) (c : Cpu) (m : Memory) (code paragraphs : ℕ) (r q : Result Ending ArenaDestroyed) (ps₁ ps₂ : Processes) (c₁ c₂ : Cpu) (m₁ m₂ : Memory) →
     Keeps upper ps c m code paragraphs r ps₁ c₁ m₁ → Keeps upper ps c m code paragraphs q ps₂ c₂ m₂ → (r ≡ q) × (ps₁ ≡ ps₂) × (c₁ ≡ c₂) × (m₁ ≡ m₂)
 
--- once a program is loaded, each call leaves one loaded; and loading the first program does
+-- once a program is loaded, each call that takes processes leaves one loaded; and loading the first program does, if it
+-- succeeds
 pub record CallsKeepLoaded : Type 0 where
   pub exec : (upper : Bool) (ps : Processes) (c : Cpu) (m : Memory) (store : List (List ℕ × List ℕ)) (strategy : Strategy) (r : Result (Unit {0}) ExecRefusal) (qs : Processes) (d : Cpu) (n : Memory) →
       Executes upper ps c m store strategy r qs d n → AreLoaded ps → AreLoaded qs
@@ -53,7 +54,7 @@ pub record CallsKeepLoaded : Type 0 where
   pub keeping : (upper : Bool) (ps : Processes) (c : Cpu) (m : Memory) (code paragraphs : ℕ) (r : Result Ending ArenaDestroyed) (qs : Processes) (d : Cpu) (n : Memory) →
       Keeps upper ps c m code paragraphs r qs d n → AreLoaded ps → AreLoaded qs
 
--- each call gives the same result on memory with this change as without it, and leaves the same but for the change
+-- each call returns the same on memory with this change as without it, and leaves the same but for the change
 pub record CallsIgnoreUnseen (change : Memory → Memory) : Type 0 where
   pub exec : (upper : Bool) (ps : Processes) (c : Cpu) (m : Memory) (store : List (List ℕ × List ℕ)) (strategy : Strategy) (r : Result (Unit {0}) ExecRefusal) (qs : Processes) (d : Cpu) (n : Memory) →
       Executes upper ps c m store strategy r qs d n → Executes upper ps c (change m) store strategy r qs d (change n)

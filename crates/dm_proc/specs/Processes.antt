@@ -82,7 +82,7 @@ abbrev pub environment_of : {ps : Processes} {c : Cpu} {m : Memory} {store : Lis
 environment_of a = environment a.variables a.name
 
 -- a child is started: its blocks are allocated and written, the registers are its own, and the present process waits
--- with the registers that the call returns. At most fifteen processes wait
+-- with the registers that the call returns. Before it at most fourteen processes wait
 pub record Execs (upper : Bool) (ps : Processes) (c : Cpu) (m : Memory) (store : List (List ℕ × List ℕ)) (strategy : Strategy) (qs : Processes) (d : Cpu) (n : Memory) : Type 0 where
   pub asks : Asks ps c m store
   pub few : length ps.parents < 15
@@ -163,7 +163,7 @@ GoesOn ps c word Returned qs d =
     (p : Parent) × (ps.parents ≡ qs.parents ++ p ∷ []) × (qs ≡ record { present = p.segment; parents = qs.parents; code = word }) × (d ≡ p.cpu)
 GoesOn ps c word Exited qs d = (ps.parents ≡ []) × (qs ≡ record ps { code = word }) × (d ≡ c)
 
--- a process ends, once its blocks are freed or kept: the vectors are restored, and its parent goes on
+-- a process ends, once its blocks are freed or kept: the vectors are restored, and then `GoesOn` says who runs
 pub record Ends (ps : Processes) (c : Cpu) (m : Memory) (word : ℕ) (ending : Ending) (qs : Processes) (d : Cpu) (n : Memory) : Type 0 where
   pub memory : n ≡ vectors_back m ps.present
   pub goes_on : GoesOn ps c word ending qs d

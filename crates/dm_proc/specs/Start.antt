@@ -28,8 +28,7 @@ prefix m p parent a =
     ++ word_bytes parent ++ zeros 20 ++ word_bytes p.environment ++ zeros 34 ++ (0xCD ∷ 0x21 ∷ 0xCB ∷ [])
     ++ zeros 9 ++ a.first ++ a.second ++ zeros 4 ++ (length a.tail ∷ []) ++ a.tail ++ (0x0D ∷ []) ++ zeros (126 - length a.tail)
 
--- SP of a COM program at its start: the offset of the last word of its block, FFFEh if the block is larger than a
--- segment
+-- SP of a COM program at its start: the offset of the last word of its block, FFFEh if the block is larger than 64 KiB
 abbrev pub com_stack : Placed → ℕ
 com_stack p = min 0xFFFE (16 * p.size - 2)
 
@@ -59,8 +58,8 @@ start_writes a20 p environment prefix file =
 abbrev pub start_flags : Flags
 start_flags = record { carry = false; parity = false; adjust = false; zero = false; sign = false; trap = false; interrupt = true; direction = false; overflow = false }
 
--- the registers of a new process, from CS:IP and SS:SP: DS and ES are the segment of its prefix, the general
--- registers are 0
+-- the registers of a new process, with this CS:IP and SS:SP: DS and ES are the segment of its prefix, the general
+-- registers are 0, and IF is the only flag that is set
 abbrev pub registers : ℕ → FarPointer → FarPointer → Cpu
 registers segment code stack = record {
   ax = 0;
@@ -83,8 +82,8 @@ registers segment code stack = record {
 abbrev pub relocated_pointer : FarPointer → ℕ → FarPointer
 relocated_pointer p by = record p { segment = (p.segment + by) % 65536 }
 
--- the registers of a new process: CS:IP and SS:SP come from an MZ header; a COM program begins at offset 0100h of its
--- block
+-- the registers of a new process: CS:IP and SS:SP are those of an MZ header with the start segment added; a COM program
+-- begins at offset 0100h of its block, with SS its block's segment and SP as in `com_stack`
 abbrev pub start_registers : Placed → List ℕ → Cpu
 start_registers p file =
     if is_mz file then registers p.program (relocated_pointer (code file) (start p)) (relocated_pointer (stack file) (start p))

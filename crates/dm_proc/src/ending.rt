@@ -12,7 +12,7 @@ use dm_arena::{ArenaRefusal, free_all, resize};
 use dm_cpu::Cpu;
 use dm_space::Space;
 
-/// Restores the vectors of interrupts 22h to 24h from the prefix at a segment, offset 0Ah.
+/// Restores the vectors of interrupts 22h to 24h, 12 bytes at 0000:0088h, from the prefix at a segment, offset 0Ah.
 fn vectors_back(space: &mut Space, segment: u16)
     ensures { space.new.memory ≡ Rattle.dm_proc.specs.Processes.vectors_back space.old.memory segment }
 {
@@ -33,7 +33,8 @@ fn is_destroyed(answer: Result<(), ArenaRefusal>) -> bool
 
 impl Procs {
     /// Ends the present process, whose blocks are freed or kept already: restores the vectors 22h to 24h from its
-    /// prefix, then sets the registers to those of its parent, if it has one. `word` is what function 4Dh returns.
+    /// prefix; its parent, if it has one, becomes the present process, and `cpu` gets the registers that it waits
+    /// with. `word` is what function 4Dh then returns.
     fn end(&mut self, cpu: &mut Cpu, space: &mut Space, word: u16) -> Ending
         ensures { Ends self.old cpu.old space.old.memory word result self.new cpu.new space.new.memory }
     {
@@ -42,8 +43,8 @@ impl Procs {
     }
 
     /// Ends the present process with an exit code (function 4Ch): frees its blocks and restores the vectors 22h to
-    /// 24h from its prefix; its parent goes on with the registers that it waits with. Where it was the first program,
-    /// the registers and the present process stay.
+    /// 24h from its prefix; its parent becomes the present process, with the registers that it waits with. Where it was
+    /// the first program, the registers and the present process stay. Either way the code is kept for function 4Dh.
     ///
     /// # Errors
     ///

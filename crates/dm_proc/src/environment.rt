@@ -22,8 +22,8 @@ fn append(space: &mut Space, at: usize, bytes: &[u8]) -> usize
     next
 }
 
-/// The zeros that close the variables, which are the first bytes of the scratch part: two where
-/// there are none, else one.
+/// The zeros that close the variables, which are the first `variables` bytes of the scratch part: two where there are
+/// none, else one.
 fn closing(space: &Space, variables: usize) -> &'static [u8]
     requires { variables ≤ 0x8000 }
     ensures bytes { result.now ≡ Rattle.dm_proc.specs.Environment.closing (take variables space.now.scratch) }
@@ -34,8 +34,8 @@ fn closing(space: &Space, variables: usize) -> &'static [u8]
     if variables == 0 { &[0, 0] } else { &[0] }
 }
 
-/// Completes an environment whose variables are the first bytes of the scratch part: appends the
-/// zeros that close them, the word 1 and the program's name. Returns its length in bytes.
+/// Completes an environment whose variables are the first `variables` bytes of the scratch part: appends the zeros that
+/// close them, the word 1, and the program's name with a zero. Returns the environment's length in bytes.
 fn close_environment(space: &mut Space, variables: usize, name: &[u8]) -> usize
     requires variables { variables ≤ 0x8000 }
     requires name { length name.now ≤ 64 }
@@ -71,8 +71,8 @@ fn read_environment(space: &mut Space, segment: u16) -> Option<usize>
     None
 }
 
-/// Copies the variables of the environment at a segment, 0 for none, to the front of the scratch
-/// part. Returns their length in bytes, None if they have no end in 32,768 bytes.
+/// Copies the variables of the environment at a segment, 0 for none, to the front of the scratch part. Returns their
+/// length in bytes; None if they have no end in 32,768 bytes, and then the scratch part is overwritten too.
 fn read_variables(space: &mut Space, segment: u16) -> Option<usize>
     ensures memory { space.new.memory ≡ space.old.memory }
     ensures read { MatchOption result (NoVariables space.old.memory segment) (λ n. IsRead space.old.memory segment n space.new.scratch) }
@@ -83,9 +83,9 @@ fn read_variables(space: &mut Space, segment: u16) -> Option<usize>
     read_environment(space, segment)
 }
 
-/// Builds a child's environment at the front of the scratch part: the variables of the environment
-/// at a segment, 0 for none, and the program's name. Returns its length in bytes, None if the old
-/// one has no end.
+/// Builds a child's environment at the front of the scratch part: the variables of the environment at a segment, 0 for
+/// none, and the program's name. Returns its length in bytes; None if the old one has no end in 32,768 bytes, and then
+/// the scratch part is overwritten too.
 pub(crate) fn make_environment(space: &mut Space, segment: u16, name: &[u8]) -> Option<usize>
     requires { length name.now ≤ 64 }
     ensures memory { space.new.memory ≡ space.old.memory }
@@ -95,8 +95,8 @@ pub(crate) fn make_environment(space: &mut Space, segment: u16, name: &[u8]) -> 
     Some(close_environment(space, variables, name))
 }
 
-/// Builds the first program's environment at the front of the scratch part, with these variables,
-/// each ended by a zero. Returns its length in bytes.
+/// Builds the first program's environment at the front of the scratch part, with these variables, each ended by a zero,
+/// and the program's name. Returns its length in bytes.
 pub(crate) fn put_environment(space: &mut Space, variables: &[u8], name: &[u8]) -> usize
     requires variables { length variables.now ≤ 0x7FFF }
     requires name { length name.now ≤ 64 }

@@ -29,17 +29,17 @@ fn return_registers(cpu: &Cpu, space: &Space) -> Cpu
 
 impl Procs {
     /// Starts the program that the registers and the parameter block ask for (function 4Bh, AL = 0): the name at
-    /// DS:DX, the parameter block at ES:BX. The present process waits, with the registers as they are after the call
-    /// with CF clear.
+    /// DS:DX, the parameter block at ES:BX. The program becomes the present process, and `cpu` gets its registers. The
+    /// process so far waits, with its registers as they are after the call: IP, CS and FLAGS popped, CF clear.
     ///
     /// All of guest memory that is read, the return address among it, is read before anything is written; both blocks
     /// are planned before either is written. The scratch part may be overwritten, also where the call fails.
     ///
     /// # Errors
     ///
-    /// The first of `ExecRefusal`'s reasons that holds, in their order; but no room for the blocks comes before a
-    /// last list of blocks that is not clear, and that before too many processes. An error changes neither memory nor
-    /// registers nor processes.
+    /// In this order: `Function`; `NotFound`; `BadFormat`; `Environment`; `Destroyed` where memory spells no clear list
+    /// of blocks; `Short` where there is no room for the blocks; `Destroyed` where the new list would not be clear;
+    /// `Short` where sixteen processes are alive. An error changes neither memory nor registers nor processes.
     pub fn exec(
         &mut self,
         cpu: &mut Cpu,
@@ -86,7 +86,8 @@ impl Procs {
     /// # Errors
     ///
     /// `Destroyed` where memory spells no clear list of blocks or the last list would not be clear, `Short` where
-    /// there is no room for both blocks. A refusal changes no byte of memory.
+    /// there is no room for both blocks. An error changes no byte of memory. The scratch part may be overwritten, also
+    /// where the call fails.
     pub fn load(
         space: &mut Space,
         strategy: Strategy,

@@ -41,8 +41,8 @@ fn relocate(space: &mut Space, image: &Image, start: u16) -> usize
     count
 }
 
-/// Writes an image, relocated to the segment `start`, to guest memory from `segment` upwards. The
-/// scratch part is overwritten.
+/// Writes an image, relocated to the segment `start`, to guest memory from `segment` upwards. The scratch part may be
+/// overwritten.
 pub(crate) fn write_image(space: &mut Space, image: &Image, segment: u16, start: u16)
     ensures { space.new.memory ≡ apply (block space.old.memory.a20 segment (relocated image.now start)) space.old.memory }
 {
@@ -58,8 +58,8 @@ fn write_zero_word(space: &mut Space, segment: u16, offset: u16)
     space.poke16(segment, offset, 0);
 }
 
-/// SP of a COM program at its start: the offset of the last word of its block, or FFFEh if the
-/// block is larger than a segment.
+/// SP of a COM program at its start: the offset of the last word of its block, or FFFEh if the block is larger than 64
+/// KiB.
 fn com_stack(blocks: Blocks) -> u16
     requires { 0x11 ≤ blocks.size }
     ensures { result ≡ Rattle.dm_proc.specs.Start.com_stack (as_placed blocks) }
@@ -67,8 +67,8 @@ fn com_stack(blocks: Blocks) -> u16
     (16 * blocks.size as u32 - 2).min(0xFFFE) as u16
 }
 
-/// The registers of a new process, from CS:IP and SS:SP: DS and ES are the segment of its prefix,
-/// the general registers are 0, and IF is the only flag that is set.
+/// The registers of a new process, with this CS:IP and SS:SP: DS and ES are the segment of its prefix, the general
+/// registers are 0, and IF is the only flag that is set.
 #[tactic(auto, unfolding(dm_alu::specs::Flags::flags_of))]
 fn registers(segment: u16, code: FarPointer, stack: FarPointer) -> Cpu
     ensures { result ≡ Rattle.dm_proc.specs.Start.registers segment code stack }
@@ -137,8 +137,8 @@ fn relocated_pointer(pointer: FarPointer, by: u16) -> FarPointer
     }
 }
 
-/// The registers of a new process: CS:IP and SS:SP come from an MZ header; a COM program begins at
-/// offset 0100h of its block.
+/// The registers of a new process: CS:IP and SS:SP are those of an MZ header with the start segment added; a COM
+/// program begins at offset 0100h of its block, with SS its block's segment and SP as `com_stack` says.
 fn start_registers(image: &Image, blocks: Blocks) -> Cpu
     requires { Room.least image.now ≤ blocks.size }
     ensures { result ≡ Rattle.dm_proc.specs.Start.start_registers (as_placed blocks) image.now }

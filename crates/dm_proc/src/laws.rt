@@ -30,8 +30,8 @@ pub fn keeping_has_one_answer()
     ensures { KeepingHasOneAnswer }
 {}
 
-/// Once a program is loaded, each call leaves one loaded: the present process, and each that waits,
-/// has a segment over 0.
+/// Once a program is loaded, `exec`, `terminate` and `keep` leave one loaded, and `load` does if it succeeds: the
+/// present process, and each that waits, has a segment over 0.
 pub fn programs_stay_loaded()
     ensures { CallsKeepLoaded }
 {}

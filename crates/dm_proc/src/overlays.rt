@@ -11,7 +11,7 @@ use dm_space::Space;
 
 /// Loads an overlay (function 4Bh, AL = 3): writes the image of the program named at DS:DX from a
 /// segment upwards, which wraps, relocated by a factor. The segment and the factor are the two
-/// words at ES:BX. No block is allocated, no register changes; the scratch part is overwritten.
+/// words at ES:BX. No block is allocated, no register changes; the scratch part may be overwritten.
 ///
 /// # Errors
 ///

@@ -27,7 +27,7 @@ impl Model for Procs {
 }
 
 impl Procs {
-    /// No program is loaded, and nothing has ended.
+    /// The processes before the first program: none is loaded, and none has ended.
     pub fn new() -> Procs
         ensures { result ≡ record { present = 0; parents = []; code = 0 } }
     {
@@ -62,7 +62,8 @@ impl Procs {
         self.parents.is_full()
     }
 
-    /// The first program is at a segment, and is the only process; nothing has ended yet.
+    /// The processes once the first program is loaded: it is the only one, its prefix is at this segment, and nothing
+    /// has ended yet.
     pub(crate) fn of_first(segment: u16) -> Procs
         ensures { result ≡ record { present = segment; parents = []; code = 0 } }
     {
@@ -86,7 +87,7 @@ impl Procs {
     }
 
     /// Ends the present process, and keeps the word for function 4Dh. Its parent, if it has one, becomes the present
-    /// process, and `cpu` gets the registers it waits with; else both stay.
+    /// process, and `cpu` gets the registers that the parent waits with; else present process and registers stay.
     pub(crate) fn finish(&mut self, cpu: &mut Cpu, word: u16) -> Ending
         ensures { GoesOn self.old cpu.old word result self.new cpu.new }
     {

@@ -66,7 +66,7 @@ pub(crate) fn asked_program<'a>(
     }
 }
 
-/// The far pointer at an offset of the parameter block at ES:BX.
+/// The far pointer at an offset of the parameter block at ES:BX: its offset, then its segment. Offsets wrap.
 fn pointer_at(cpu: &Cpu, space: &Space, at: u16) -> FarPointer
     requires { at < 0x100 }
     ensures { result ≡ Rattle.dm_proc.specs.Request.pointer_at cpu.now space.now.memory at }
@@ -77,8 +77,8 @@ fn pointer_at(cpu: &Cpu, space: &Space, at: u16) -> FarPointer
     }
 }
 
-/// The command tail at a far pointer: its first byte is the length, where more than 126 counts as
-/// 126.
+/// The command tail at a far pointer: the first byte is its length, where more than 126 counts as 126; the rest
+/// follows. Offsets wrap.
 #[tactic(auto, unfolding(crate::specs::Request::tail_at))]
 fn tail_at(space: &Space, pointer: FarPointer) -> ArrayVec<u8, 126>
     ensures { result.items ≡ Rattle.dm_proc.specs.Request.tail_at space.now.memory pointer }

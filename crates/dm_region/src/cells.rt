@@ -100,7 +100,7 @@ pub(crate) fn allocate<T, A: Allocator>(
     }
 }
 
-/// Gives the block of `len` places at `base` back to `alloc`, from which it came. All its places must be empty.
+/// Gives the block of `len` places at `base` back to `alloc`, which allocated it. All its places must be empty.
 pub(crate) fn deallocate<T, A: Allocator>(
     alloc: &A,
     base: Base<T>,

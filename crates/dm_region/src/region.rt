@@ -32,7 +32,7 @@ impl Model for Region {
     ghost invariant = { IsRegion };
 }
 
-/// Allocates a region of `len` zeros; `len` is `MOST_BYTES` or less.
+/// Allocates a region of `len` zeros; `len` is `MOST_BYTES` or less. `AllocError` if `alloc` has no memory.
 fn zeros(alloc: Global, len: usize) -> Result<Region, AllocError>
     requires { len ≤ MOST_BYTES }
     ensures { IfOk result (λ region. region ≡ replicate len 0) }
@@ -92,8 +92,8 @@ impl Region {
         self.cells.slice_mut(base, from, len)
     }
 
-    /// Copies the `len` bytes from byte `from` on to the place from byte `to` on. Both may overlap: the bytes copied
-    /// are those that stood there before.
+    /// Copies the `len` bytes from byte `from` on to the place from byte `to` on. The two may overlap: the bytes copied
+    /// are those that stood there before. The bytes outside that place stay.
     pub fn copy(&mut self, from: usize, to: usize, len: usize)
         requires source { from + len ≤ length self.old }
         requires destination { to + len ≤ length self.old }

@@ -100,7 +100,7 @@ fn extended_name(number: u8) -> &'static [u8]
     }
 }
 
-/// Appends the number of a function in two hexadecimal digits, `h`, and its name as given.
+/// Appends the number of a function in two hexadecimal digits, an `h`, and `name`.
 fn put_function(out: &mut Vec<u8>, number: u8, name: &[u8]) -> Result<(), AllocError>
     ensures { OnOk result (out.new.items ≡ out.old.items ++ (two_digits number ++ codes "h" ++ name.now)) }
 {

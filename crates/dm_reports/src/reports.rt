@@ -1,4 +1,4 @@
-//! The text of the report of `dm check`. Each call appends its text to `out`; an `Err` is a failed allocation.
+//! The text of the report of `dm check`. Each function appends its text to `out`; an `Err` is a failed allocation.
 
 ghost use Rattle.std.specs.Prelude.{◌≡◌, ◌++◌, OnOk, take};
 ghost use Rattle.std.specs.List.{flat_map};

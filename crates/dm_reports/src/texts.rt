@@ -1,5 +1,5 @@
-//! The texts of findings, as the report of `dm check` has them. Each call appends its text to `out`; an `Err` is a
-//! failed allocation.
+//! The texts of findings, as the report of `dm check` has them. Each function `put_..` appends its text to `out`; an
+//! `Err` is a failed allocation.
 
 ghost use Rattle.std.specs.Prelude.{◌≡◌, ◌++◌, OnOk, codes, decimal};
 ghost use Rattle.dm_findings.specs.Findings.{is_error};
@@ -46,7 +46,7 @@ fn put_count(out: &mut Vec<u8>, before: &[u8], n: u16, after: &[u8]) -> Result<(
     out.extend_from_slice(after)
 }
 
-/// Appends the signature, owner and size of a header, in hexadecimal.
+/// Appends the signature, owner and size of a header, in two, four and four hexadecimal digits with spaces between.
 fn put_contents(out: &mut Vec<u8>, contents: Contents) -> Result<(), AllocError>
     ensures { OnOk result (out.new.items ≡ out.old.items ++ contents_text contents) }
 {
@@ -154,7 +154,7 @@ fn put_instruction(out: &mut Vec<u8>, ins: &Ins, next: u16) -> Result<(), AllocE
     out.extend_from_slice(line.bytes())
 }
 
-/// Appends what was performed in a step: a call, or an instruction.
+/// Appends the text of what was performed in a step: a call, or an instruction.
 fn put_act(out: &mut Vec<u8>, act: &Act) -> Result<(), AllocError>
     ensures { OnOk result (out.new.items ≡ out.old.items ++ act_text act.now) }
 {

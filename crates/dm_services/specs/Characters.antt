@@ -1,7 +1,7 @@
 -- INT 21h, single bytes of the console: MS-DOS Programmer's Reference, "Read Keyboard and Echo" (01h), "Display
 -- Character" (02h), "Direct Console I/O" (06h), "Direct Console Input" (07h), "Read Keyboard" (08h), "Check Keyboard
--- Status" (0Bh). Input and output are redirected byte streams: there is no Ctrl-C check. What comes where no input is
--- left is this machine's own: 01h, 07h and 08h stop it.
+-- Status" (0Bh). Input and output are redirected byte streams: there is no Ctrl-C check. What 01h, 07h and 08h do if no
+-- input is left is this machine's own: they stop it, and nothing changes.
 use Rattle.std.specs.Prelude.{ℕ, ◌==◌, Bool, true, false, if◌then◌else◌, List, [], ◌∷◌}
 use Rattle.dm_cpu.specs.Cpu.{byte_of, with_byte}
 use Rattle.dm_ins.specs.declared.operand.ByteRegister.TheVariants.{Al, Dl}
@@ -9,7 +9,7 @@ use Rattle.dm_state.specs.declared.stop.Stop.TheVariants.{InputEnded}
 use Rattle.dm_state.specs.State.{State, Answer, go, stop_at, interrupt_returned}
 use Rattle.dm_services.specs.Text.{written}
 
--- the state with another value in AL
+-- the state with the byte in AL; AH stays
 abbrev pub with_al : State → ℕ → State
 with_al s byte = record s { cpu = with_byte s.cpu Al byte }
 
@@ -58,7 +58,7 @@ poll_of s (byte ∷ rest) = go (with_zero (interrupt_returned (with_al (with_inp
 unfoldable pub poll_character : State → Answer
 poll_character s = poll_of s s.console.input
 
--- 06h: reads a byte into AL if DL = FFh, otherwise writes DL to the console
+-- 06h: with DL = FFh, reads a byte into AL without waiting; otherwise writes DL to the console
 unfoldable pub direct_character : State → Answer
 direct_character s = if byte_of s.cpu Dl == 0xFF then poll_character s else write_character s
 

@@ -1,5 +1,5 @@
--- The functions of INT 21h: MS-DOS Programmer's Reference, "System Calls". The result of a function that is not there
--- is this machine's own.
+-- The functions of INT 21h: MS-DOS Programmer's Reference, "System Calls". What a number that is not served returns is
+-- this machine's own.
 use Rattle.std.specs.Prelude.{◌≡◌, ℕ, ◌==◌, if◌then◌else◌, true}
 use Rattle.dm_cpu.specs.Cpu.{byte_of}
 use Rattle.dm_ins.specs.declared.operand.ByteRegister.TheVariants.{Al}
@@ -18,7 +18,7 @@ use Rattle.dm_services.specs.Strategies as strategies
 use Rattle.dm_services.specs.Strategies.{StrategyCalls}
 use Rattle.dm_services.specs.Processes.{Loading, Terminating, Keeping, tell_code}
 
--- the function of INT 21h with a number, which calls have in AH
+-- the function of INT 21h with a number, which calls have in AH; `Unknown` for a number that is not served
 abbrev pub function_of : ℕ → Function
 function_of number =
     if number == 0x00 then Terminate else
@@ -47,11 +47,11 @@ function_of number =
     if number == 0x58 then AllocationStrategy else
     if number == 0x62 then Process else Unknown
 
--- INT 21h with a number that is not served: AX = 1, CF = 1
+-- INT 21h with a number that is not served: AX = 1, CF = 1, and the call returns; memory stays
 unfoldable pub no_function : State → Answer
 no_function s = go (with_carry (interrupt_returned (record s { cpu = record s.cpu { ax = 1 } })) true)
 
--- the call of a function of INT 21h from the state s returns x
+-- x is a result (stop and state) that the function of INT 21h, called from the state s, may have
 abbrev pub Calls : State → Function → Answer → Type 0
 Calls s EchoCharacter x = x ≡ echo_character s
 Calls s WriteCharacter x = x ≡ write_character s

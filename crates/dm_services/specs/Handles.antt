@@ -6,7 +6,7 @@ use Rattle.dm_state.specs.State.{State, Answer, go, interrupt_returned, with_car
 use Rattle.dm_services.specs.Characters.{with_input, with_written}
 use Rattle.dm_space.specs.Buffers.{with_bytes}
 
--- the state with another value in AX
+-- the state with this value in AX
 abbrev pub with_ax : State → ℕ → State
 with_ax s ax = record s { cpu = record s.cpu { ax = ax } }
 
@@ -14,17 +14,18 @@ with_ax s ax = record s { cpu = record s.cpu { ax = ax } }
 unfoldable pub bad_handle : State → Answer
 bad_handle s = go (with_carry (interrupt_returned (with_ax s 6)) true)
 
--- the state with the bytes written to memory from DS:DX upwards
+-- the state with the bytes written to memory from DS:DX up; offsets wrap
 abbrev pub with_read : State → List ℕ → State
 with_read s bytes = record s { memory = with_bytes s.memory s.cpu.ds s.cpu.dx bytes }
 
--- 3Fh with a good handle: the bytes are taken from the console input and written from DS:DX upwards; AX is their count,
--- CF = 0
+-- 3Fh with a good handle: the bytes, which begin the console input, are taken from it and written from DS:DX up; AX is
+-- their count, CF = 0
 abbrev pub read_from_console : State → List ℕ → Answer
 read_from_console s bytes =
     go (with_carry (interrupt_returned (with_ax (with_input (with_read s bytes) (drop (length bytes) s.console.input)) (length bytes))) false)
 
--- 3Fh: with a handle up to 2, reads the next CX bytes of the console input, or all that are left; else error 6
+-- 3Fh: with a handle in BX up to 2, reads the next CX bytes of the console input, or all if fewer are left; else error
+-- 6
 unfoldable pub read_handle : State → Answer
 read_handle s = if nat_lt s.cpu.bx 3 then read_from_console s (take s.cpu.cx s.console.input) else bad_handle s
 
@@ -33,6 +34,6 @@ abbrev pub write_to_console : State → Answer
 write_to_console s =
     go (with_carry (interrupt_returned (with_ax (with_written s (bytes_from s.memory s.cpu.ds s.cpu.dx s.cpu.cx)) s.cpu.cx)) false)
 
--- 40h: with a handle up to 2, writes the CX bytes at DS:DX to the console; else error 6
+-- 40h: with a handle in BX up to 2, writes the CX bytes at DS:DX to the console; else error 6
 unfoldable pub write_handle : State → Answer
 write_handle s = if nat_lt s.cpu.bx 3 then write_to_console s else bad_handle s

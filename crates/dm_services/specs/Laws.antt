@@ -1,5 +1,5 @@
--- Laws of the services: each has one result, none changes the map of memory, none depends on what no program sees, and
--- none gives back room.
+-- Laws of the services (the divide error, INT 20h and the functions of INT 21h): each has one result, none changes the
+-- map of memory, none depends on what no program sees, and none lowers the limit of the console.
 use Rattle.std.specs.Prelude.{◌≡◌, ℕ, ◌+◌, ◌≤◌, length}
 use Rattle.dm_space.specs.Memory.{Memory}
 use Rattle.dm_space.specs.Places.{IsShaped}
@@ -22,11 +22,11 @@ ServicesKeepTheMap = (s : State) (service : Service) (x : Answer) → Serves s s
 abbrev pub ServicesKeepTheTables : Type 0
 ServicesKeepTheTables = (s : State) (service : Service) (x : Answer) → Serves s service x → (x.state.ems ≡ s.ems) × (x.state.xms ≡ s.xms)
 
--- the state with its memory changed
+-- the state s with `change` applied to its memory
 abbrev pub with_change : (Memory → Memory) → State → State
 with_change change s = record s { memory = change s.memory }
 
--- a step's result with the memory of its state changed
+-- the result x with `change` applied to the memory of its state; the stop stays
 abbrev pub answer_with : (Memory → Memory) → Answer → Answer
 answer_with change x = record { stop = x.stop; state = with_change change x.state }
 

@@ -12,18 +12,19 @@ use Rattle.dm_space.specs.Buffers.{with_bytes}
 unfoldable pub line_length : List ℕ → Option ℕ
 line_length input = position (λ byte. byte == 0x0D) input
 
--- what a buffer of size m keeps of a line: its first m - 1 bytes other than 0Ah
+-- what a buffer of size m keeps of a line without its 0Dh: each 0Ah is dropped, and of the rest the first m - 1 bytes
+-- are kept (none if m is 0)
 unfoldable pub kept_bytes : ℕ → List ℕ → List ℕ
 kept_bytes m line = take (m - 1) (filter (λ byte. not (byte == 0x0A)) line)
 
 -- the memory with the bytes in the buffer at segment:offset: they and a 0Dh stand from its byte 2 on, and their count
--- (without the 0Dh) in byte 1
+-- (without the 0Dh) in its byte 1; byte 0 stays
 abbrev pub filled : Memory → ℕ → ℕ → List ℕ → Memory
 filled m segment offset bytes =
     with_bytes (with_bytes m segment (up offset 2) (bytes ++ 0x0D ∷ [])) segment (up offset 1) (length bytes ∷ [])
 
--- the state with a line of so many bytes, and its 0Dh, taken from the input, and what a buffer of size m keeps of it
--- written to the buffer at DS:DX
+-- the state with a line of `line` bytes, and its 0Dh, taken from the input, and what a buffer of size m keeps of the
+-- line written to the buffer at DS:DX
 abbrev pub with_line : State → ℕ → ℕ → State
 with_line s m line = record s {
   memory = filled s.memory s.cpu.ds s.cpu.dx (kept_bytes m (take line s.console.input));
@@ -39,6 +40,6 @@ line_read s m (Some line) = go (interrupt_returned (with_line s m line))
 abbrev pub line_into : State → ℕ → Answer
 line_into s m = if m == 0 then go (interrupt_returned s) else line_read s m (line_length s.console.input)
 
--- 0Ah: a line of the input goes into the buffer at DS:DX, whose byte 0 is its size
+-- 0Ah: reads a line of the input into the buffer at DS:DX, whose byte 0 is its size; AX stays
 unfoldable pub read_line : State → Answer
 read_line s = line_into s (peek s.memory (linear s.memory.a20 s.cpu.ds s.cpu.dx))

@@ -48,7 +48,7 @@ pub record Executing (s : State) (x : Answer) : Type 0 where
   pub executes : Executes s.upper s.processes s.cpu s.memory s.programs s.strategy result processes cpu memory
   pub answer : x ≡ executed s result processes cpu memory
 
--- 4Bh with AL = 3, by its result: the program goes on with the overlay in memory n, CF = 0; or the call fails
+-- 4Bh with AL = 3, by its result: the call returns with the overlay in memory n and CF = 0; or it fails
 abbrev pub overlaid : State → Result (Unit {0}) ExecRefusal → Memory → Answer
 overlaid s (Ok u) n = answered s s.cpu n false
 overlaid s (Err e) n = not_loaded s e
@@ -69,8 +69,9 @@ LoadingAs false s x = Executing s x
 abbrev pub Loading : State → Answer → Type 0
 Loading s x = LoadingAs (byte_of s.cpu Al == 3) s x
 
--- the result of an ending with a code: the parent goes on (Returned); the machine stops, and `exited` is the code
--- (Exited); or the machine stops with `Destroyed`, no step is made and the state is s
+-- the result of an ending with a code, which leaves qs, d and n: the parent goes on (Returned); or the machine stops
+-- with `Exited`, the step is counted and `exited` is the code; or it stops with `Destroyed`, no step is made and the
+-- state is s
 abbrev pub concluded : State → ℕ → Result Ending ArenaDestroyed → Processes → Cpu → Memory → Answer
 concluded s code (Ok Returned) qs d n = go (with_processes s qs d n)
 concluded s code (Ok Exited) qs d n = record {
@@ -89,8 +90,8 @@ pub record Terminating (s : State) (code : ℕ) (x : Answer) : Type 0 where
   pub terminates : Terminates s.upper s.processes s.cpu s.memory code result processes cpu memory
   pub answer : x ≡ concluded s code result processes cpu memory
 
--- 31h: the present process ends with the code in AL, its block is resized to DX paragraphs where that is possible, and
--- its other blocks stay; `Destroyed` if memory holds no valid block list
+-- 31h: the present process ends with the code in AL, its block is resized to DX paragraphs if that is possible, and its
+-- other blocks stay allocated; `Destroyed` if memory holds no valid block list, or the resized one would not be valid
 pub record Keeping (s : State) (x : Answer) : Type 0 where
   pub result : Result Ending ArenaDestroyed
   pub processes : Processes
@@ -99,7 +100,8 @@ pub record Keeping (s : State) (x : Answer) : Type 0 where
   pub keeps : Keeps s.upper s.processes s.cpu s.memory (byte_of s.cpu Al) s.cpu.dx result processes cpu memory
   pub answer : x ≡ concluded s (byte_of s.cpu Al) result processes cpu memory
 
--- 4Dh: AX is the word of the last ending (AL the code, AH the kind), which is 0 from then on
+-- 4Dh: AX is the word of the last ending (AL the code, AH 0, or 3 after 31h), which is then 0 until another process
+-- ends
 unfoldable pub tell_code : State → Answer
 tell_code s =
     go (interrupt_returned (record s { cpu = record s.cpu { ax = s.processes.code }; processes = record s.processes { code = 0 } }))

@@ -8,8 +8,8 @@ use Rattle.dm_state.specs.State.{State, Answer}
 use Rattle.dm_services.specs.Processes.{Terminating}
 use Rattle.dm_services.specs.Functions.{function_of, Calls}
 
--- the service, from the state s, returns x: a divide error ends the process with code FFh, INT 20h ends it with code 0,
--- and INT 21h performs the function in AH
+-- x is a result that the service, from the state s, may have: a divide error ends the present process with code FFh,
+-- INT 20h ends it with code 0, and INT 21h performs the function in AH
 abbrev pub Serves : State → Service → Answer → Type 0
 Serves s DivideError x = Terminating s 0xFF x
 Serves s Terminate x = Terminating s 0 x

@@ -69,7 +69,7 @@ subfunction_of number =
     if number == 2 then TellLink else
     if number == 3 then SetLink else Unlisted
 
--- 58h fails with error 1 in AX, CF = 1: no such subfunction, or no such value in BX
+-- 58h fails with error 1 in AX, CF = 1: no such subfunction, or no such value in BX. The strategy and memory stay
 abbrev pub unlisted : State → Answer
 unlisted s = answered s (record s.cpu { ax = 1 }) s.memory true
 
@@ -77,12 +77,14 @@ unlisted s = answered s (record s.cpu { ax = 1 }) s.memory true
 abbrev pub strategy_reported : State → Answer
 strategy_reported s = answered s (record s.cpu { ax = strategy_number s.strategy }) s.memory false
 
--- 58h with AL = 1, by the strategy with the number in BX: it becomes the allocation strategy; error 1 if there is none
+-- 58h with AL = 1, by the strategy with the number in BX: it becomes the allocation strategy, CF = 0; error 1 if there
+-- is none
 abbrev pub set_to : State → Option Strategy → Answer
 set_to s None = unlisted s
 set_to s (Some strategy) = answered (record s { strategy = strategy }) s.cpu s.memory false
 
--- 58h with AL = 2, by what is found: AL is 1 if the arena is linked, else 0, and CF = 0; or AX is an error, and CF = 1
+-- 58h with AL = 2, by what is found: AL is 1 if the arena is linked, else 0, and CF = 0; or AX is the error code, and
+-- CF = 1. Memory stays
 abbrev pub link_told : State → Result Bool ArenaRefusal → Answer
 link_told s (Ok on) = answered s (with_byte s.cpu Al (if on then 1 else 0)) s.memory false
 link_told s (Err e) = answered s (refused s.cpu e) s.memory true
@@ -94,8 +96,8 @@ pub record TellingLink (s : State) (x : Answer) : Type 0 where
   pub tells : TellsLinked s.memory result
   pub answer : x ≡ link_told s result
 
--- 58h with AL = 2; the first argument is whether upper memory belongs to the arena. Without it, AL is 0 whatever the
--- list
+-- 58h with AL = 2; the first argument is whether upper memory belongs to the arena. If not, AL is 0 and CF = 0 whatever
+-- memory holds
 abbrev pub TellsLink : Bool → State → Answer → Type 0
 TellsLink false s x = x ≡ link_told s (Ok false)
 TellsLink true s x = TellingLink s x
@@ -107,7 +109,7 @@ wanted upper number =
     if upper then (if number == 0 then Some false else if number == 1 then Some true else None) else None
 
 -- 58h with AL = 3 and a good BX: block headers are written so that the arena is linked with upper memory (`on`) or
--- unlinked; or the call fails with error 7, and memory stays
+-- unlinked, or memory stays if it already is so; or the call fails with error 7, and memory stays
 pub record Linking (on : Bool) (s : State) (x : Answer) : Type 0 where
   pub result : Result (Unit {0}) ArenaRefusal
   pub memory : Memory
@@ -119,7 +121,7 @@ abbrev pub SetsLink : Option Bool → State → Answer → Type 0
 SetsLink None s x = x ≡ unlisted s
 SetsLink (Some on) s x = Linking on s x
 
--- 58h from s returns x, by the subfunction that AL names
+-- x is a result that 58h, called from the state s, may have, by the subfunction that AL names
 abbrev pub StrategyCalls : State → StrategyFunction → Answer → Type 0
 StrategyCalls s TellStrategy x = x ≡ strategy_reported s
 StrategyCalls s SetStrategy x = x ≡ set_to s (strategy_of s.upper s.cpu.bx)

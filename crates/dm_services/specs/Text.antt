@@ -9,15 +9,15 @@ use Rattle.dm_state.specs.State.{State, Answer, go, interrupt_returned}
 unfoldable pub text_within : Memory → ℕ → ℕ → ℕ → List ℕ
 text_within m segment offset n = take_while (λ b. not (b == 0x24)) (bytes_from m segment offset n)
 
--- the bytes from segment:offset on, up to the first `$`, and at most the 65,536 bytes of a segment
+-- the bytes from segment:offset on, up to the first `$` (not included), and at most the 65,536 bytes of a segment
 abbrev pub text_at : Memory → ℕ → ℕ → List ℕ
 text_at m segment offset = text_within m segment offset 65536
 
--- the console with the text appended to the output. The room grows to the text's length first if it is smaller, and
--- then shrinks by it
+-- the console with the text appended to the output. The room, first raised to the text's length if it is smaller,
+-- decreases by that length; the input stays
 abbrev pub written : Streams → List ℕ → Streams
 written c text = record c { output = c.output ++ text; room = max c.room (length text) - length text }
 
--- 09h: the text at DS:DX, up to a `$`, is written to the console; AX stays
+-- 09h: the text at DS:DX, up to the first `$` (not included), is written to the console; AX stays
 unfoldable pub print : State → Answer
 print s = go (interrupt_returned (record s { console = written s.console (text_at s.memory s.cpu.ds s.cpu.dx) }))

@@ -10,11 +10,11 @@ use Rattle.dm_state.specs.State.{State, Answer, go, interrupt_returned}
 abbrev pub with_vector : Memory → ℕ → ℕ → ℕ → Memory
 with_vector m number segment offset = poke16 (poke16 m 0 (4 * number) offset) 0 (4 * number + 2) segment
 
--- 25h: sets the vector of interrupt AL to DS:DX
+-- 25h: sets the vector of interrupt AL to DS:DX; AX stays
 unfoldable pub set_vector : State → Answer
 set_vector s = go (interrupt_returned (record s { memory = with_vector s.memory (byte_of s.cpu Al) s.cpu.ds s.cpu.dx }))
 
--- 35h: returns the vector of interrupt AL in ES:BX
+-- 35h: returns the vector of interrupt AL in ES:BX; memory stays
 unfoldable pub get_vector : State → Answer
 get_vector s = go (interrupt_returned (record s {
   cpu = record s.cpu {

@@ -1,4 +1,4 @@
--- Where an allocation may fail: a step that writes more bytes to the console than the room holds.
+-- Steps that may fail for lack of memory: those that write more bytes to the console than the room holds.
 use Rattle.std.specs.Prelude.{◌≡◌, ◌+◌, ◌<◌, length, Option, Some}
 use Rattle.dm_state.specs.declared.stop.Stop.{Stop}
 use Rattle.dm_state.specs.declared.stop.Stop.TheVariants.{Memory as NoMemory}

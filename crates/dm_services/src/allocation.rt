@@ -7,8 +7,8 @@ use dm_arena::ArenaRefusal;
 use dm_cpu::Cpu;
 use dm_state::Parts;
 
-/// Puts the error code of a failed call of 48h, 49h, 4Ah or 58h into AX; where memory is too short (8), BX becomes the
-/// largest size possible, in paragraphs.
+/// Puts the error code of a failed call of 48h, 49h, 4Ah or 58h into AX: 7, 8 or 9. For 8, not enough memory, BX
+/// becomes the largest size possible, in paragraphs; for 7 and 9, BX stays.
 pub(crate) fn refuse(cpu: &mut Cpu, refusal: ArenaRefusal)
     ensures { cpu.new ≡ refused cpu.old refusal }
 {
@@ -31,8 +31,9 @@ pub(crate) fn answer(parts: &mut Parts, carry: bool)
     parts.count();
 }
 
-/// 48h: allocates BX paragraphs for the present process; AX is the segment of the block, CF is clear. On an error, AX
-/// is its code, CF is set and memory stays; for error 8, BX is the size of the largest block available.
+/// 48h: allocates BX paragraphs for the present process; AX becomes the segment of the block, and CF is clear. On an
+/// error, 7 or 8, AX is the error code, CF is set and memory stays; for error 8, BX is the size of the largest free
+/// block that the strategy allows, in paragraphs.
 pub(crate) fn allocate(parts: &mut Parts)
     ensures { Allocation parts.old (record { stop = None; state = parts.new }) }
 {
@@ -55,7 +56,8 @@ pub(crate) fn allocate(parts: &mut Parts)
     }
 }
 
-/// 49h: frees the block at segment ES, with CF clear. On an error, AX is its code, CF is set and memory stays.
+/// 49h: frees the block at segment ES; CF is clear and AX stays. On an error, 7 or 9, AX is the error code, CF is set
+/// and memory stays.
 pub(crate) fn free(parts: &mut Parts)
     ensures { Freeing parts.old (record { stop = None; state = parts.new }) }
 {
@@ -68,8 +70,8 @@ pub(crate) fn free(parts: &mut Parts)
     }
 }
 
-/// 4Ah: gives the block at segment ES a size of BX paragraphs, with CF clear. On an error, AX is its code, CF is set
-/// and memory stays; for error 8, BX is the largest size possible.
+/// 4Ah: resizes the block at segment ES to BX paragraphs; CF is clear and AX stays. On an error, 7, 8 or 9, AX is the
+/// error code, CF is set and memory stays; for error 8, BX is the largest size possible, in paragraphs.
 pub(crate) fn resize(parts: &mut Parts)
     ensures { Resizing parts.old (record { stop = None; state = parts.new }) }
 {

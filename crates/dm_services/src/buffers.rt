@@ -5,8 +5,8 @@ ghost use Rattle.dm_proc.specs.Writes.{bytes_from};
 use dm_console::Console;
 use dm_space::Space;
 
-/// Writes the `count` bytes at segment:offset to the console, and takes them from its room, which must suffice. Offsets
-/// wrap.
+/// Appends the `count` bytes at segment:offset to the console's output; offsets wrap at 65,536. The console's room must
+/// be at least `count`, and decreases by `count`.
 pub(crate) fn send(console: &mut Console, space: &Space, segment: u16, offset: u16, count: u16)
     requires { count ≤ console.old.room }
     ensures { console.new ≡ record console.old {

@@ -1,5 +1,6 @@
-//! INT 21h, single bytes of the console (MS-DOS Programmer's Reference, functions 01h, 02h, 06h,
-//! 07h, 08h and 0Bh). Input and output are redirected byte streams.
+//! INT 21h, single bytes of the console (MS-DOS Programmer's Reference, functions 01h, 02h, 06h, 07h, 08h and 0Bh).
+//! Input and output are redirected byte streams. Unless it stops the machine, each function returns by popping IP, CS
+//! and FLAGS, and counts the step; no memory is written.
 ghost use Rattle.std.specs.Prelude.{◌≡◌, None};
 ghost use Rattle.dm_services.specs.inner.Wanting.{OrMemory};
 ghost use Rattle.dm_services.specs.Characters.{read_character, echo_character, write_character, poll_character, direct_character, check_input, input_status};
@@ -23,8 +24,8 @@ pub(crate) fn read_character(parts: &mut Parts) -> Option<Stop>
     None
 }
 
-/// 01h: reads the next byte of the input into AL, and writes it to the console. With nothing changed, returns
-/// `InputEnded` if no input is left, or `Memory` if the output's allocation fails.
+/// 01h: reads the next byte of the input into AL, and writes it to the console. Returns `InputEnded` if no input is
+/// left, or `Memory` if the output's allocation fails; either stop changes nothing.
 #[tactic(auto, unfolding(crate::specs::Characters::echo_character))]
 pub(crate) fn echo_character(parts: &mut Parts) -> Option<Stop>
     ensures answer { OrMemory parts.old (echo_character parts.old) result parts.new }
@@ -59,7 +60,8 @@ pub(crate) fn write_character(parts: &mut Parts) -> Option<Stop>
     None
 }
 
-/// 06h with DL = FFh: reads the next byte of the input into AL and clears ZF; if none is left, AL is 0 and ZF is set.
+/// 06h with DL = FFh: reads the next byte of the input into AL and clears ZF; if none is left, AL becomes 0 and ZF is
+/// set. Never stops the machine.
 #[tactic(auto, unfolding(crate::specs::Characters::poll_character))]
 fn poll_character(parts: &mut Parts)
     ensures answer { record { stop = None; state = parts.new } ≡ poll_character parts.old }
@@ -72,8 +74,8 @@ fn poll_character(parts: &mut Parts)
     parts.count();
 }
 
-/// 06h: reads a byte if DL = FFh (without waiting), otherwise writes DL to the console; stops with `Memory` as 02h
-/// does.
+/// 06h: with DL = FFh, reads a byte as `poll_character` does and returns None; otherwise writes DL to the console as
+/// 02h does, and stops with `Memory` where 02h does.
 #[tactic(auto, unfolding(crate::specs::Characters::direct_character))]
 pub(crate) fn direct_character(parts: &mut Parts) -> Option<Stop>
     ensures answer { OrMemory parts.old (direct_character parts.old) result parts.new }
@@ -94,7 +96,7 @@ fn status(parts: &Parts) -> u8
     if parts.console.left() == 0 { 0 } else { 0xFF }
 }
 
-/// 0Bh: AL becomes FFh if console input is left, else 0.
+/// 0Bh: AL becomes FFh if console input is left, else 0. No input is taken, and the machine never stops.
 #[tactic(auto, unfolding(crate::specs::Characters::check_input))]
 pub(crate) fn check_input(parts: &mut Parts) -> Option<Stop>
     ensures answer { OrMemory parts.old (check_input parts.old) result parts.new }

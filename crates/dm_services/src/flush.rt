@@ -8,8 +8,9 @@ use crate::lines::read_line;
 use dm_ins::ByteRegister;
 use dm_state::{Parts, Stop};
 
-/// 0Ch: performs the function in AL if it is 01h, 06h, 07h, 08h or 0Ah, which read the console; otherwise AL becomes 0.
-/// No input is dropped: a redirected stream has nothing that was typed ahead.
+/// 0Ch: performs the function in AL if it is 01h, 06h, 07h, 08h or 0Ah, which read the console, and stops where that
+/// function does; for any other AL, AL becomes 0 and the call returns. No input is dropped: a redirected stream has
+/// nothing that was typed ahead.
 #[tactic(auto, unfolding(crate::specs::Flush::flush_and_read))]
 pub(crate) fn flush_and_read(parts: &mut Parts) -> Option<Stop>
     ensures answer { OrMemory parts.old (flush_and_read parts.old) result parts.new }

@@ -42,7 +42,7 @@ pub(crate) enum Function {
     CheckInput,
     /// 0Ch: does the function that AL names, if it reads the console.
     FlushAndRead,
-    /// 25h: gives interrupt AL the vector DS:DX.
+    /// 25h: sets the vector of interrupt AL to DS:DX.
     SetVector,
     /// 30h: returns the version.
     Version,
@@ -58,7 +58,7 @@ pub(crate) enum Function {
     Allocate,
     /// 49h: frees the block at segment ES.
     Free,
-    /// 4Ah: gives the block at segment ES a size of BX paragraphs.
+    /// 4Ah: resizes the block at segment ES to BX paragraphs.
     Resize,
     /// 4Bh: starts a program, or loads an overlay.
     LoadProgram,
@@ -74,7 +74,7 @@ pub(crate) enum Function {
     Unknown,
 }
 
-/// The function of INT 21h with this number, which calls have in AH.
+/// The function of INT 21h with this number, which calls have in AH; `Unknown` for a number that is not served.
 fn function_of(number: u8) -> Function
     ensures { result ≡ Rattle.dm_services.specs.Functions.function_of number }
 {
@@ -106,7 +106,8 @@ fn function_of(number: u8) -> Function
     }
 }
 
-/// Returns from INT 21h with error 1, no such function, in AX and CF set.
+/// A number that is not served: returns from INT 21h with error 1, no such function, in AX and CF set, and counts the
+/// step. Memory stays.
 #[tactic(auto, unfolding(crate::specs::Functions::no_function))]
 fn refuse(parts: &mut Parts)
     ensures { parts.new ≡ (no_function parts.old).state }
@@ -117,8 +118,8 @@ fn refuse(parts: &mut Parts)
     parts.count();
 }
 
-/// Performs a function of INT 21h and counts the step. Returns the stop, or None if the machine goes on; a program
-/// stays loaded.
+/// Performs a function of INT 21h. Returns None, with the step counted, if the machine goes on; `Exited`, also with the
+/// step counted, if the first program has ended; or another stop, with nothing changed. A program stays loaded.
 #[tactic(auto, unfolding(crate::specs::Functions::no_function, crate::specs::Processes::tell_code))]
 fn call(parts: &mut Parts, function: Function) -> Option<Stop>
     requires { HasProgram parts.old }
@@ -157,8 +158,8 @@ fn call(parts: &mut Parts, function: Function) -> Option<Stop>
     None
 }
 
-/// INT 21h: performs the function that AH names. Returns the stop, or None if the machine goes on; a program stays
-/// loaded.
+/// INT 21h: performs the function that AH names. The result is that of `call`: None or `Exited` with the step counted,
+/// or another stop with nothing changed. A program stays loaded.
 pub(crate) fn dos_call(parts: &mut Parts) -> Option<Stop>
     requires { HasProgram parts.old }
     ensures answer { OrWants parts.old (Calls parts.old (function_of (byte_of parts.old.cpu Ah))) result parts.new }

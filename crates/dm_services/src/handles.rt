@@ -1,5 +1,6 @@
-//! INT 21h, the handles of the console (MS-DOS Programmer's Reference, functions 3Fh and 40h).
-//! Handles 0 to 2 are the console, each in both directions.
+//! INT 21h, the handles of the console (MS-DOS Programmer's Reference, functions 3Fh and 40h). Handles 0 to 2 are the
+//! console, each in both directions. Unless it stops the machine, a function returns by popping IP, CS and FLAGS, then
+//! sets or clears CF, and counts the step.
 ghost use Rattle.std.specs.Prelude.{◌≡◌, None};
 ghost use Rattle.dm_services.specs.inner.Wanting.{OrMemory};
 ghost use Rattle.dm_services.specs.Handles.{bad_handle, read_handle, write_handle};
@@ -7,7 +8,7 @@ ghost use Rattle.dm_services.specs.Handles.{bad_handle, read_handle, write_handl
 use crate::buffers::send;
 use dm_state::{Parts, Stop};
 
-/// Returns from function 3Fh or 40h with error 6, invalid handle, in AX and CF set.
+/// Returns from function 3Fh or 40h with error 6, invalid handle, in AX and CF set. Memory and console stay.
 #[tactic(auto, unfolding(crate::specs::Handles::bad_handle))]
 fn bad_handle(parts: &mut Parts)
     ensures answer { record { stop = None; state = parts.new } ≡ bad_handle parts.old }
@@ -19,8 +20,8 @@ fn bad_handle(parts: &mut Parts)
     parts.count();
 }
 
-/// 3Fh: moves CX bytes of the console input, or all that are left, to DS:DX. AX is their count, CF is clear. A handle
-/// in BX above 2 is error 6.
+/// 3Fh: takes the next CX bytes of the console input, or all if fewer are left, and writes them from DS:DX up. AX
+/// becomes their count, 0 if no input is left; CF is clear. A handle in BX above 2 is error 6. Never stops the machine.
 #[tactic(auto, unfolding(crate::specs::Handles::read_handle))]
 pub(crate) fn read_handle(parts: &mut Parts) -> Option<Stop>
     ensures answer { OrMemory parts.old (read_handle parts.old) result parts.new }
@@ -40,7 +41,7 @@ pub(crate) fn read_handle(parts: &mut Parts) -> Option<Stop>
     None
 }
 
-/// 40h: writes the CX bytes at DS:DX to the console. AX is their count, CF is clear. A handle in BX above 2 is error 6.
+/// 40h: writes the CX bytes at DS:DX to the console. AX becomes CX, and CF is clear. A handle in BX above 2 is error 6.
 /// Returns `Memory`, with nothing changed, if the output's allocation fails.
 #[tactic(auto, using(crate::proofs::Stores::lengths), unfolding(crate::specs::Handles::write_handle))]
 pub(crate) fn write_handle(parts: &mut Parts) -> Option<Stop>

@@ -1,4 +1,5 @@
-//! Laws of the services, each the contract of a function that does nothing.
+//! Laws of the services (the divide error, INT 20h and the functions of INT 21h), each the contract of a function that
+//! does nothing.
 ghost use Rattle.dm_services.specs.Laws.{ServicesHaveOneAnswer, ServicesIgnoreUnseen, ServicesKeepRoom, ServicesKeepTheMap, ServicesKeepTheTables};
 
 /// The state before a service determines its stop and the state after it.
@@ -18,7 +19,8 @@ pub fn services_keep_the_map()
     ensures tables { ServicesKeepTheTables }
 {}
 
-/// No service gives back console memory: the length of the output plus the room never decreases.
+/// No service makes the console's output plus its room shorter: the length that the output can reach without an
+/// allocation never decreases.
 pub fn services_keep_room()
     ensures { ServicesKeepRoom }
 {}

@@ -1,5 +1,6 @@
 //! INT 21h function 0Ah, a line of the console (MS-DOS Programmer's Reference, "Buffered Keyboard Input"). Byte 0 of
-//! the buffer is its size, byte 1 receives the length of the line, and the line stands from byte 2 on.
+//! the buffer is its size; the bytes kept of the line and a 0Dh are written from byte 2 on, and the count of those
+//! bytes, without the 0Dh, to byte 1.
 ghost use Rattle.std.specs.Prelude.{◌≡◌, ◌<◌, ◌≤◌, IfSome, length};
 ghost use Rattle.dm_services.specs.inner.Wanting.{OrMemory};
 ghost use Rattle.dm_services.specs.Lines.{line_length, kept_bytes, read_line};
@@ -16,7 +17,8 @@ fn line_length(input: &[u8]) -> Option<usize>
     input.iter().position(|byte| *byte == b'\r')
 }
 
-/// What a buffer for `size` bytes keeps of a line: its first `size` - 1 bytes other than 0Ah.
+/// What a buffer for `size` bytes keeps of a line without its 0Dh: each 0Ah is dropped, and of the rest the first
+/// `size` - 1 bytes are kept, none for a size of 0 or 1.
 #[tactic(auto, unfolding(crate::specs::Lines::kept_bytes))]
 fn kept_bytes(size: u8, line: &[u8]) -> ArrayVec<u8, 255>
     ensures items { result.items ≡ kept_bytes size line.now }
@@ -32,9 +34,9 @@ fn kept_bytes(size: u8, line: &[u8]) -> ArrayVec<u8, 255>
     bytes
 }
 
-/// 0Ah: moves a line of the input, with its 0Dh, into the buffer at DS:DX; what does not fit, and each 0Ah, is dropped.
-/// With a buffer of size 0, no input is taken and memory stays. Otherwise returns `InputEnded`, with nothing changed,
-/// if no 0Dh is left.
+/// 0Ah: takes a line and its 0Dh from the input and writes what `kept_bytes` keeps, a 0Dh and the count to the buffer
+/// at DS:DX; the rest of the line is dropped. With a buffer of size 0, the call returns, no input is taken and memory
+/// stays. With any other size, returns `InputEnded`, with nothing changed, if no 0Dh is left.
 #[tactic(auto, unfolding(crate::specs::Lines::read_line))]
 pub(crate) fn read_line(parts: &mut Parts) -> Option<Stop>
     ensures answer { OrMemory parts.old (read_line parts.old) result parts.new }

@@ -34,8 +34,9 @@ fn refuse_program(parts: &mut Parts, refusal: ExecRefusal)
     answer(parts, true);
 }
 
-/// 4Bh with AL = 0: loads and starts a child. On an error, returns to the caller with its code in AX and CF set. Any AL
-/// but 0 is error 1.
+/// 4Bh with AL = 0: loads and starts a child; the registers are the child's, and the caller waits. On an error, returns
+/// to the caller with the error code in AX and CF set; memory and processes stay. Any AL but 0 is error 1. Counts the
+/// step.
 fn execute(parts: &mut Parts)
     requires { HasProgram parts.old }
     ensures executing { Executing parts.old (record { stop = None; state = parts.new }) }
@@ -53,8 +54,8 @@ fn execute(parts: &mut Parts)
     }
 }
 
-/// 4Bh with AL = 3: loads an overlay at the segment that the parameter block at ES:BX gives, with CF clear. On an
-/// error, AX is its code, CF is set and memory stays.
+/// 4Bh with AL = 3: loads an overlay at the segment that the parameter block at ES:BX names, and returns with CF clear;
+/// AX stays. On an error, AX is the error code, CF is set and memory stays. Counts the step.
 fn overlay(parts: &mut Parts)
     ensures overlaying { Overlaying parts.old (record { stop = None; state = parts.new }) }
     ensures program { parts.new.processes ≡ parts.old.processes }
@@ -65,7 +66,8 @@ fn overlay(parts: &mut Parts)
     }
 }
 
-/// 4Bh: with AL = 3 loads an overlay; with AL = 0 starts a child; any other AL is error 1.
+/// 4Bh: with AL = 3 loads an overlay; with AL = 0 loads and starts a child; any other AL is error 1. On an error, AX is
+/// the error code and CF is set. Counts the step; never stops the machine.
 pub(crate) fn load_program(parts: &mut Parts)
     requires { HasProgram parts.old }
     ensures loading { Loading parts.old (record { stop = None; state = parts.new }) }
@@ -99,8 +101,9 @@ fn conclude(parts: &mut Parts, ended: Result<Ending, ArenaDestroyed>, code: u8) 
     }
 }
 
-/// Ends the present process with a code and frees all its blocks; its parent goes on (None). Returns `Exited` where it
-/// was the first program, and `Destroyed`, with nothing changed, where there is no valid block list.
+/// 00h, 4Ch, INT 20h and a divide error: ends the present process with a code, frees all its blocks and restores
+/// vectors 22h to 24h from its prefix; its parent goes on (None). Returns `Exited` if it was the first program, or
+/// `Destroyed`, with nothing changed, if memory holds no valid block list.
 pub(crate) fn terminate(parts: &mut Parts, code: u8) -> Option<Stop>
     requires { HasProgram parts.old }
     ensures terminating { Terminating parts.old code (record { stop = result; state = parts.new }) }
@@ -112,8 +115,9 @@ pub(crate) fn terminate(parts: &mut Parts, code: u8) -> Option<Stop>
     conclude(parts, ended, code)
 }
 
-/// 31h: ends the present process with the code in AL, and resizes its block to DX paragraphs where that is possible;
-/// its other blocks stay allocated. The stops are those of `terminate`.
+/// 31h: ends the present process with the code in AL, resizes its block to DX paragraphs if that is possible, and
+/// restores vectors 22h to 24h from its prefix; its other blocks stay allocated. The results are those of `terminate`;
+/// `Destroyed` also if the resized block list would not be valid.
 pub(crate) fn keep(parts: &mut Parts) -> Option<Stop>
     requires { HasProgram parts.old }
     ensures keeping { Keeping parts.old (record { stop = result; state = parts.new }) }
@@ -131,7 +135,8 @@ pub(crate) fn keep(parts: &mut Parts) -> Option<Stop>
     conclude(parts, ended, code)
 }
 
-/// 4Dh: AX becomes the last child's exit code (AL) and kind of ending (AH); a second call returns 0.
+/// 4Dh: AX becomes the word of the last ending, which is then cleared: AL is the exit code, AH the kind of ending (0,
+/// or 3 for 31h). AX is 0 if nothing has ended since the last call. Returns from the call and counts the step.
 #[tactic(auto, unfolding(crate::specs::Processes::tell_code))]
 pub(crate) fn tell_code(parts: &mut Parts)
     ensures told { parts.new ≡ (tell_code parts.old).state }

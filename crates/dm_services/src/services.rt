@@ -8,9 +8,9 @@ use crate::processes::terminate;
 use dm_space::entry_points::Service;
 use dm_state::{Parts, Stop};
 
-/// Performs a service and counts the step: for a divide error ends the process with code FFh, for INT 20h with code 0;
-/// for INT 21h performs the function in AH. Returns the stop, or None if the machine goes on. A program must be loaded,
-/// and stays loaded.
+/// Performs a service: for a divide error ends the present process with code FFh, for INT 20h with code 0; for INT 21h
+/// performs the function in AH. Returns None if the machine goes on, and `Exited` if the first program has ended, both
+/// with the step counted; any other stop changes nothing. A program must be loaded, and stays loaded.
 pub fn serve(parts: &mut Parts, service: Service) -> Option<Stop>
     requires { HasProgram parts.old }
     ensures answer { OrWants parts.old (Serves parts.old service) result parts.new }

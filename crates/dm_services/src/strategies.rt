@@ -1,5 +1,6 @@
-//! INT 21h function 58h: the allocation strategy, and the link with upper memory (MS-DOS Programmer's
-//! Reference, function 58h).
+//! INT 21h function 58h: the allocation strategy, and the link with upper memory (MS-DOS Programmer's Reference,
+//! function 58h). A call that fails has its error code in AX and CF set, and changes nothing else; one that succeeds
+//! has CF clear. Either way it returns by popping IP, CS and FLAGS, and counts the step.
 ghost use Rattle.std.specs.Prelude.{◌≡◌, None};
 ghost use Rattle.dm_cpu.specs.Cpu.{byte_of};
 ghost use Rattle.dm_ins.specs.declared.operand.ByteRegister.TheVariants.{Al};
@@ -73,8 +74,8 @@ fn upper_strategy_of(number: u16) -> Option<Strategy>
     Some(Strategy { fit, area })
 }
 
-/// The strategy with this number, or None. `upper` is whether upper memory belongs to the arena; without it there is
-/// none from 40h on.
+/// The strategy with this number: 0 to 2, and if upper memory belongs to the arena (`upper`), 40h to 42h and 80h to
+/// 82h. None for any other number.
 fn strategy_of(number: u16, upper: bool) -> Option<Strategy>
     ensures { result ≡ Strategies.strategy_of upper number }
 {
@@ -115,7 +116,7 @@ fn refuse_number(parts: &mut Parts)
     answer(parts, true);
 }
 
-/// 58h with AL = 0: returns from the call with the allocation strategy's number in AX and CF clear.
+/// 58h with AL = 0: AX becomes the allocation strategy's number.
 fn tell_strategy(parts: &mut Parts)
     ensures { parts.new ≡ (Strategies.strategy_reported parts.old).state }
 {
@@ -123,7 +124,8 @@ fn tell_strategy(parts: &mut Parts)
     answer(parts, false);
 }
 
-/// 58h with AL = 1: sets the allocation strategy to the number in BX; error 1 if there is none with that number.
+/// 58h with AL = 1: sets the allocation strategy to that with the number in BX; error 1, and the strategy stays, if
+/// there is none with that number. AX stays on success.
 fn set_strategy(parts: &mut Parts)
     ensures { parts.new ≡ (Strategies.set_to parts.old (Strategies.strategy_of parts.old.upper parts.old.cpu.bx)).state }
 {
@@ -136,8 +138,8 @@ fn set_strategy(parts: &mut Parts)
     }
 }
 
-/// 58h with AL = 2: AL becomes 1 if the arena is linked with upper memory, else 0. Error 7 if upper memory belongs to
-/// the arena and there is no valid block list.
+/// 58h with AL = 2: AL becomes 1 if the arena is linked with upper memory, else 0; AH and memory stay. Error 7 if upper
+/// memory belongs to the arena and memory holds no valid block list.
 fn tell_link(parts: &mut Parts)
     ensures { TellsLink parts.old.upper parts.old (record { stop = None; state = parts.new }) }
 {
@@ -158,8 +160,8 @@ fn tell_link(parts: &mut Parts)
     }
 }
 
-/// 58h with AL = 3 and a good BX: links the arena with upper memory (`on`), or unlinks it, by writing block headers. On
-/// an error, AX is 7, CF is set and memory stays.
+/// 58h with AL = 3 and a good BX: links the arena with upper memory (`on`), or unlinks it, by writing block headers;
+/// memory stays if it is so already. Error 7, and memory stays, if the block lists are not valid or do not meet.
 fn make_link(parts: &mut Parts, on: bool)
     ensures { Linking on parts.old (record { stop = None; state = parts.new }) }
 {
@@ -183,7 +185,7 @@ fn set_link(parts: &mut Parts)
     }
 }
 
-/// 58h: gets or sets the allocation strategy, or the link with upper memory, by AL.
+/// 58h: gets or sets the allocation strategy, or the link with upper memory, by AL; error 1 for an AL above 3.
 pub(crate) fn allocation_strategy(parts: &mut Parts)
     ensures { StrategyCalls parts.old (Strategies.subfunction_of (byte_of parts.old.cpu Al)) (record { stop = None; state = parts.new }) }
 {

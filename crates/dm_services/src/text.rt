@@ -7,7 +7,7 @@ use dm_console::Console;
 use dm_space::Space;
 use dm_state::{Parts, Stop};
 
-/// How many bytes stand before the first `$` from segment:offset on; 65,536 where there is none.
+/// How many bytes stand before the first `$` from segment:offset on; 65,536 where the segment has no `$`. Offsets wrap.
 pub(crate) fn text_length(space: &Space, segment: u16, offset: u16) -> usize
     ensures { result ≡ length (text_at space.now.memory segment offset) }
 {
@@ -19,8 +19,8 @@ pub(crate) fn text_length(space: &Space, segment: u16, offset: u16) -> usize
     0x1_0000
 }
 
-/// Writes the `length` bytes of the text at segment:offset to the console, and takes them from its room, which must
-/// suffice.
+/// Appends the text at segment:offset, which has `length` bytes, to the console's output. The console's room must be at
+/// least `length`, and decreases by `length`.
 pub(crate) fn write_text(
     console: &mut Console,
     space: &Space,
@@ -40,8 +40,8 @@ pub(crate) fn write_text(
     }
 }
 
-/// 09h: writes the text at DS:DX, without its `$`, to the console. Returns `Memory`, with nothing changed, if the
-/// output's allocation fails.
+/// 09h: writes the text at DS:DX, without its `$`, to the console; without a `$`, all 65,536 bytes of the segment. AX
+/// stays. Returns `Memory`, with nothing changed, if the output's allocation fails.
 #[tactic(auto, using(crate::proofs::Stores::lengths), unfolding(crate::specs::Text::print))]
 pub(crate) fn print(parts: &mut Parts) -> Option<Stop>
     ensures answer { OrMemory parts.old (print parts.old) result parts.new }

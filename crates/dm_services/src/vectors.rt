@@ -1,4 +1,5 @@
-//! INT 21h, interrupt vectors (MS-DOS Programmer's Reference, functions 25h and 35h).
+//! INT 21h, interrupt vectors (MS-DOS Programmer's Reference, functions 25h and 35h). Each function returns by popping
+//! IP, CS and FLAGS, and counts the step; it never stops the machine.
 ghost use Rattle.std.specs.Prelude.{◌≡◌};
 ghost use Rattle.dm_services.specs.inner.Wanting.{OrMemory};
 ghost use Rattle.dm_services.specs.Vectors.{set_vector, get_vector};
@@ -6,7 +7,7 @@ ghost use Rattle.dm_services.specs.Vectors.{set_vector, get_vector};
 use dm_ins::ByteRegister;
 use dm_state::{Parts, Stop};
 
-/// 25h: sets the vector of interrupt AL, the two words at 0000:4*AL, to DS:DX.
+/// 25h: sets the vector of interrupt AL, the two words at 0000:4*AL (offset, then segment), to DS:DX. AX stays.
 #[tactic(auto, unfolding(crate::specs::Vectors::set_vector))]
 pub(crate) fn set_vector(parts: &mut Parts) -> Option<Stop>
     ensures answer { OrMemory parts.old (set_vector parts.old) result parts.new }
@@ -20,7 +21,7 @@ pub(crate) fn set_vector(parts: &mut Parts) -> Option<Stop>
     None
 }
 
-/// 35h: returns the vector of interrupt AL in ES:BX.
+/// 35h: ES:BX becomes the vector of interrupt AL, the two words at 0000:4*AL. Memory stays.
 #[tactic(auto, unfolding(crate::specs::Vectors::get_vector))]
 pub(crate) fn get_vector(parts: &mut Parts) -> Option<Stop>
     ensures answer { OrMemory parts.old (get_vector parts.old) result parts.new }

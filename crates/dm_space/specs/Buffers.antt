@@ -2,7 +2,8 @@
 use Rattle.std.specs.Prelude.{ℕ, suc, ◌%◌, List, [], ◌∷◌}
 use Rattle.dm_space.specs.Memory.{Memory, linear, poke}
 
--- the memory after the bytes have been written one by one, upwards from segment:offset on (Space.write_bytes)
+-- the memory after the bytes have been written one by one, upwards from segment:offset on; offsets wrap
+-- (Space.write_bytes)
 unfoldable pub with_bytes : Memory → ℕ → ℕ → List ℕ → Memory
 with_bytes m segment offset [] = m
 with_bytes m segment offset (byte ∷ bytes) =

@@ -16,27 +16,27 @@ entry_segment = 0xF000
 abbrev pub expanded_memory_segment : ℕ
 expanded_memory_segment = 0xF100
 
--- F000:0000, interrupt 0, which DIV and IDIV take where there is no quotient
+-- the offset of F000:0000, the entry point of interrupt 0, which DIV and IDIV take where there is no quotient
 abbrev pub divide_error_offset : ℕ
 divide_error_offset = 0x0000
 
--- F000:0080, INT 20h
+-- the offset of F000:0080, the entry point of INT 20h
 abbrev pub terminate_offset : ℕ
 terminate_offset = 0x0080
 
--- F000:0084, INT 21h
+-- the offset of F000:0084, the entry point of INT 21h
 abbrev pub dos_offset : ℕ
 dos_offset = 0x0084
 
--- F000:00BC, INT 2Fh
+-- the offset of F000:00BC, the entry point of INT 2Fh
 abbrev pub multiplex_offset : ℕ
 multiplex_offset = 0x00BC
 
--- F100:0020, INT 67h
+-- the offset of F100:0020, the entry point of INT 67h, the expanded memory driver
 abbrev pub expanded_memory_offset : ℕ
 expanded_memory_offset = 0x0020
 
--- F000:0400, extended memory, by a far call
+-- the offset of F000:0400, the entry point of the extended memory driver, reached by a far call
 abbrev pub extended_memory_offset : ℕ
 extended_memory_offset = 0x0400
 

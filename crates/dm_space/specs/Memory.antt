@@ -28,8 +28,8 @@ abbrev pub shown : Option ℕ → ℕ → Place
 shown None k = Nothing
 shown (Some page) k = Page page k
 
--- the place of a linear address, A20 taken as on: RAM below C0000h, nothing, upper memory RAM from D0000h, the frame's
--- four windows from E0000h, ROM from F0000h, the high memory area from 100000h to 10FFEFh
+-- the place of a linear address, A20 taken as on: RAM below C0000h, nothing from C0000h, upper memory RAM from D0000h,
+-- the frame's four windows from E0000h, ROM from F0000h, the high memory area from 100000h to 10FFEFh, nothing above
 unfoldable pub place : Memory → ℕ → Place
 place m a =
     if nat_lt a 0xC0000 then Low a else
@@ -39,7 +39,7 @@ place m a =
     if nat_lt a 0x100000 then Rom (a - 0xF0000) else
     if nat_lt a 0x10FFF0 then Low a else Nothing
 
--- the bytes of a block of the pool, as of a page of expanded memory
+-- the bytes of a block of the pool, which may be a page of expanded memory; none if there is no such block
 abbrev pub page_bytes : Memory → ℕ → List ℕ
 page_bytes m page = slice_index_or m.blocks.contents page []
 
@@ -91,7 +91,7 @@ with_window m k block = record m { windows = slice_set m.windows k block }
 abbrev pub IsPage : Memory → ℕ → Type 0
 IsPage m block = IsLive m.blocks block × (length (page_bytes m block) ≡ 0x4000)
 
--- the sizes are those of the machine, and each window shows a page that is there
+-- the sizes are those of the machine, and each window shows a page that is there, or none
 pub record Fits (m : Memory) : Type 0 where
   pub low_length : length m.low ≡ 0x110000
   pub windows_are_four : length m.windows ≡ 4

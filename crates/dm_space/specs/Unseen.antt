@@ -17,7 +17,7 @@ abbrev pub mixed : (ℕ → Bool) → (ℕ → List ℕ) → ℕ → List (List 
 mixed seen other first [] = []
 mixed seen other first (page ∷ pages) = (if seen first then page else other first) ∷ mixed seen other (suc first) pages
 
--- the memory, the contents of the blocks that no window shows taken from `other`
+-- the memory with the contents of the blocks that no window shows taken from `other`
 unfoldable pub unseen_as : Memory → (ℕ → List ℕ) → Memory
 unseen_as m other = with_blocks m (record m.blocks { contents = mixed (shows m.windows) other 0 m.blocks.contents })
 
@@ -44,6 +44,7 @@ pub record IsUnseen (change : Memory → Memory) : Type 0 where
 abbrev pub UnseenPagesAreUnseen : Type 0
 UnseenPagesAreUnseen = (other : ℕ → List ℕ) → IsUnseen (λ m. unseen_as m other)
 
--- a write keeps the map: A20, the windows, which blocks there are, where they lie and how large they are
+-- a write to a linear address keeps the map: A20, the windows, which blocks there are, where they lie and how large
+-- they are
 abbrev pub WritesKeepTheMap : Type 0
 WritesKeepTheMap = (m : Memory) (a v : ℕ) → IsShaped m (poke m a v)

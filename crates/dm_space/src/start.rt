@@ -4,7 +4,7 @@ ghost use Rattle.dm_space.specs.Start.{start_byte, vector_offset, vector_segment
 
 use crate::entry_points::{ENTRY_SEGMENT, EXPANDED_MEMORY_OFFSET, EXPANDED_MEMORY_SEGMENT};
 
-/// Where the first arena header's size ends: the bytes from here on stay as they are.
+/// The linear address after the size in the first arena header: the bytes from here on stay as they are.
 const END: usize = 0x1005;
 
 /// The offset that the vector of an interrupt holds as the machine starts.

@@ -37,13 +37,13 @@ pub record State : Type 0 where
   -- how many steps were made; at 2^64 - 1 the count stays
   pub steps : ℕ
   -- what no step changes: the store of programs (names and files), the variables of the first program's environment,
-  -- each closed by a zero, the sizes, and whether the arena goes on in upper memory
+  -- each closed by a zero, the sizes of expanded and extended memory, and whether upper memory belongs to the arena
   pub programs : List (List ℕ × List ℕ)
   pub variables : List ℕ
   pub sizes : Sizes
   pub upper : Bool
 
--- a program is loaded: the present process's segment is not 0
+-- a program is loaded, though it may have ended: the present process's segment is not 0
 abbrev pub HasProgram : State → Type 0
 HasProgram s = 0 < s.processes.present
 
@@ -63,7 +63,7 @@ pub record AreConsistentWith (pages : Tables) (blocks : xms.Tables) (m : Memory)
 abbrev pub AreConsistent : State → Type 0
 AreConsistent s = AreConsistentWith s.ems s.xms s.memory
 
--- what a step returns: the stop, if the machine stops, and the state that the step leaves
+-- the result of a step: the stop, if the machine stops, and the state that the step leaves
 pub record Answer : Type 0 where
   pub stop : Option Stop
   pub state : State

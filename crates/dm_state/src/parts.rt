@@ -74,21 +74,23 @@ impl Model for Parts {
 }
 
 impl Parts {
-    /// Adds 1 to the count of steps; at 2^64 - 1 it stays.
+    /// Adds 1 to the count of steps; at 2^64 - 1 the count stays.
     pub fn count(&mut self)
         ensures { self.new ≡ (go self.old).state }
     {
         self.steps = self.steps.saturating_add(1);
     }
 
-    /// Returns from an interrupt as IRET does: pops IP, CS and FLAGS from the stack at SS:SP. Memory stays.
+    /// Returns from an interrupt as IRET does: pops IP, CS and FLAGS from the stack at SS:SP. Memory and the count of
+    /// steps stay.
     pub fn give_back(&mut self)
         ensures { self.new ≡ interrupt_returned self.old }
     {
         interrupt_return(&mut self.cpu, &self.space);
     }
 
-    /// Returns from a far call as RETF does: pops IP and CS from the stack at SS:SP. FLAGS and memory stay.
+    /// Returns from a far call as RETF does: pops IP and CS from the stack at SS:SP. FLAGS, memory and the count of
+    /// steps stay.
     pub fn give_back_far(&mut self)
         ensures { self.new ≡ far_returned self.old }
     {

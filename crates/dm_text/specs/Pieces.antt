@@ -38,7 +38,7 @@ text_bytes (p ∷ ps) = piece_bytes p ++ text_bytes ps
 
 -- ---- the signs
 
--- the space after a mnemonic, a prefix word or a size word
+-- the space after a word of a mnemonic, a prefix word or a size word
 abbrev pub space : Piece
 space = sign 32
 

@@ -29,7 +29,7 @@ use Rattle.dm_text.specs.Pieces.{Piece, name, byte, word, space, plus, comma, co
 abbrev pub register_pair : WordRegister → WordRegister → List Piece
 register_pair r s = name (word_name r) ∷ plus ∷ name (word_name s) ∷ []
 
--- the registers of an address in brackets; a direct address has none
+-- the registers of an address, without its brackets; a direct address has none
 abbrev pub base_pieces : Base → List Piece
 base_pieces Direct = []
 base_pieces BxSi = register_pair Bx Si
@@ -41,7 +41,7 @@ base_pieces OnDi = name (word_name Di) ∷ []
 base_pieces OnBp = name (word_name Bp) ∷ []
 base_pieces OnBx = name (word_name Bx) ∷ []
 
--- the displacement after the registers of an address, with a + before it; 0 is left out
+-- the displacement after the registers of an address, with a + before it; nothing for 0
 abbrev pub displacement_pieces : ℕ → List Piece
 displacement_pieces n = if n == 0 then [] else plus ∷ word n ∷ []
 
@@ -67,7 +67,8 @@ is_general (operand.ByteRegister r) = true
 is_general (operand.WordRegister r) = true
 is_general _ = false
 
--- a general register as one operand gives the size of the other; CL, the count of a shift, gives none
+-- the action has a general register as an operand, which gives the size of the other; CL as the count of a shift gives
+-- none
 abbrev pub gives_size : Action → Bool
 gives_size a = if is_general a.first then true else if is_shift a.mnemonic then false else is_general a.second
 

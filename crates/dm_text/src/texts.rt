@@ -55,7 +55,8 @@ fn put_displacement(line: &mut Line, n: u16)
     }
 }
 
-/// Appends what stands between the brackets of a memory operand.
+/// Appends what stands between the brackets of a memory operand: registers and displacement; of a direct address its
+/// displacement alone, also where it is 0.
 #[tactic(auto, using(crate::proofs::Pieces::appended))]
 fn put_address(line: &mut Line, address: Address)
     requires { length line.old + 12 ≤ 64 }
@@ -94,7 +95,7 @@ fn general(operand: Operand) -> bool
     matches!(operand, Operand::ByteRegister(_) | Operand::WordRegister(_))
 }
 
-/// Whether a general register as one operand gives the size of the other. CL as the count of a
+/// Whether the action has a general register as an operand, which gives the size of the other. CL as the count of a
 /// shift gives none.
 pub fn size_is_given(action: &Action) -> bool
     ensures { result ≡ gives_size action.now }
@@ -275,7 +276,8 @@ fn put_prefixes(line: &mut Line, prefixes: Prefixes)
 ///
 /// Prefix words come first (the segment's, LOCK, REP or REPNE), then the mnemonic, then the
 /// operands with a comma between them. Numbers are hexadecimal, two digits for a byte and four for
-/// a word; `BYTE`, `WORD` or `NEAR` stands before memory where nothing else says its size.
+/// a word, but the count 1 of a shift is `1`. `BYTE` or `WORD` stands before memory where no general
+/// register gives its size; but JMP and CALL have `NEAR` there, and their far forms no such word.
 #[tactic(auto, using(crate::proofs::Pieces::appended), unfolding(crate::specs::Texts::text_of, crate::specs::Texts::pieces))]
 pub fn text(ins: &Ins, next: u16, line: &mut Line)
     ensures { line.new ≡ text_of ins.now next }

@@ -27,6 +27,6 @@ line_text m segment offset count =
 abbrev pub line_at : Memory → ℕ → ℕ → ℕ → ℕ → List ℕ
 line_at m segment offset count j = line_text m segment (up offset (16 * j)) (min 16 (count - 16 * j))
 
--- the listing of `count` bytes from segment:offset on, 16 to a line
+-- the listing of `count` bytes from segment:offset on, 16 to a line; offsets wrap
 abbrev pub bytes_text : Memory → ℕ → ℕ → ℕ → List ℕ
 bytes_text m segment offset count = in_turn (line_at m segment offset count) ((count + 15) / 16)

@@ -11,7 +11,7 @@ two_digits n = digit (n / 16) ∷ digit (n % 16) ∷ []
 unfoldable pub four_digits : ℕ → List ℕ
 four_digits n = digit (n / 4096) ∷ digit (n / 256 % 16) ∷ digit (n / 16 % 16) ∷ digit (n % 16) ∷ []
 
--- a number below 2^32 as eight hexadecimal digits
+-- the low 32 bits of a number as eight hexadecimal digits
 unfoldable pub eight_digits : ℕ → List ℕ
 eight_digits n = four_digits (n / 65536 % 65536) ++ four_digits (n % 65536)
 

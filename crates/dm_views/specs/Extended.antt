@@ -31,11 +31,11 @@ upper_line (Some u) = codes "upper " ++ four_digits u.segment ++ codes " " ++ fo
 abbrev pub upper_text : Tables → ℕ → List ℕ
 upper_text xms k = upper_line (slice_get xms.uppers k)
 
--- the line that says whether A20 is on and whether the high memory area is used
+-- the line that says whether A20 is on (`on`) and whether the high memory area is used (`taken`)
 abbrev pub switches_text : Bool → Bool → List ℕ
 switches_text on taken = (if on then codes "A20 on" else codes "A20 off") ++ (if taken then codes " HMA used" ++ 10 ∷ [] else codes " HMA free" ++ 10 ∷ [])
 
--- the listing of extended memory: the lines of its 64 handles, of at most 64 upper memory blocks, and of A20 and the
--- high memory area
+-- the listing of extended memory: a line for each of its 64 handles that is in use, one for each of at most 64 upper
+-- memory blocks, and that of A20 and the high memory area
 abbrev pub extended_text : Tables → Memory → List ℕ
 extended_text xms m = in_turn (block_text xms m) 64 ++ in_turn (upper_text xms) 64 ++ switches_text m.a20 xms.area

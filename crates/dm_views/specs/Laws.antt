@@ -1,4 +1,4 @@
--- Laws of the listings: each has one text for one state.
+-- Laws of the listings of instructions, of the registers and of the arena: each has one text for one state.
 use Rattle.std.specs.Prelude.{◌≡◌, ℕ, Bool, List}
 use Rattle.dm_space.specs.Memory.{Memory}
 use Rattle.dm_cpu.specs.declared.cpu.Cpu.{Cpu}

@@ -11,7 +11,7 @@ use Rattle.dm_views.specs.Digits.{two_digits, four_digits, in_turn}
 
 -- ---- handles
 
--- the line of a handle in use: its number, how many pages it has, and the eight bytes of its name
+-- the line of a handle in use: its number, how many pages it has, and the eight bytes of its name, all in hexadecimal
 abbrev pub holding_text : ℕ → Holding → List ℕ
 holding_text number h = four_digits number ++ codes " " ++ four_digits h.pages ++ codes " " ++ flat_map two_digits h.name ++ 10 ∷ []
 
@@ -41,6 +41,7 @@ window_text ems m number = window_line number (page_shown ems m number)
 
 -- ---- all of it
 
--- the listing of expanded memory: the handles in use, and the four windows
+-- the listing of expanded memory: a line for each of the 64 handles that is in use, and one for each of the four
+-- windows
 abbrev pub pages_text : Tables → Memory → List ℕ
 pages_text ems m = in_turn (handle_text ems) 64 ++ in_turn (window_text ems m) 4

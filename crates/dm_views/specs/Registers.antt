@@ -18,7 +18,7 @@ field name value = record { name = name; value = value }
 abbrev pub field_text : Field → List ℕ
 field_text f = f.name ++ codes "=" ++ four_digits f.value
 
--- a line of registers, with a space between any two
+-- a line of registers, separated by spaces
 abbrev pub fields_text : List Field → List ℕ
 fields_text [] = 10 ∷ []
 fields_text (f ∷ fs) = field_text f ++ flat_map (λ g. codes " " ++ field_text g) fs ++ 10 ∷ []

@@ -1,5 +1,5 @@
-//! The listing of the arena's headers (MS-DOS Programmer's Reference, "Arena header"). Each call appends its text to
-//! `out`; an `Err` is a failed allocation.
+//! The listing of the arena's headers (MS-DOS Programmer's Reference, "Arena header"). Each function `put_..` appends
+//! its text to `out`; an `Err` is a failed allocation.
 
 ghost use Rattle.std.specs.Prelude.{◌≡◌, ◌++◌, ◌∷◌, [], false, IfOk, List, None, OnOk, Some, ℕ};
 ghost use Rattle.dm_blocks.specs.declared.header.Header.{Header};
@@ -48,7 +48,7 @@ fn put_word_line(out: &mut Vec<u8>, word: u16) -> Result<(), AllocError>
     out.extend_from_slice(b"\n")
 }
 
-/// Appends the line `destroyed at` with the segment of the first header that breaks the list.
+/// Appends the line `destroyed at` with the segment where the list breaks.
 fn put_destroyed(out: &mut Vec<u8>, segment: u16) -> Result<(), AllocError>
     ensures { OnOk result (out.new.items ≡ out.old.items ++ destroyed_line segment) }
 {
@@ -56,9 +56,9 @@ fn put_destroyed(out: &mut Vec<u8>, segment: u16) -> Result<(), AllocError>
     put_word_line(out, segment)
 }
 
-/// Appends a line for each header of the list that a walk is at the start of: segment, signature, owner and size; then
-/// `end`, or `destroyed at` with the segment of the first header that breaks the list. Returns the walk at the end of
-/// its list; None if the list is broken.
+/// Appends a line for each header of the list that a walk is at the start of: segment, signature, owner and size in
+/// paragraphs; then `end`, or `destroyed at` with the segment where the list breaks. Returns the walk at the end of its
+/// list; None if the list breaks.
 fn put_list<'a>(out: &mut Vec<u8>, headers: Headers<'a>) -> Result<Option<Headers<'a>>, AllocError>
     requires { headers.at ≡ Some (start_of headers.second) }
     ensures { IfOk result (λ rest. TellsList headers.entry rest out.old.items out.new.items) }

@@ -1,4 +1,4 @@
-//! The listing of bytes in memory. Each call appends its text to `out`; an `Err` is a failed allocation.
+//! The listing of bytes in memory. Each function `put_..` appends its text to `out`; an `Err` is a failed allocation.
 
 ghost use Rattle.std.specs.Prelude.{◌≡◌, ◌+◌, ◌*◌, ◌≤◌, ◌++◌, codes, OnOk};
 ghost use Rattle.dm_views.specs.Bytes.{printable, in_digits, as_text, line_text, bytes_text};
@@ -8,7 +8,7 @@ use crate::digits::{byte_digits, put_address};
 use dm_space::Space;
 use std::alloc::AllocError;
 
-/// How many bytes a line shows.
+/// How many bytes a line shows; the last line may show fewer.
 const IN_LINE: u32 = 16;
 
 /// A byte as a character: itself from 20h to 7Eh, otherwise a point.
@@ -64,7 +64,8 @@ fn put_characters(
     Ok(())
 }
 
-/// Appends one line: the address, and the `count` bytes from it on in hexadecimal and as characters.
+/// Appends one line: the address segment:offset, and the `count` bytes from there on in hexadecimal and as characters.
+/// Offsets wrap.
 fn put_bytes_line(
     out: &mut Vec<u8>,
     space: &Space,

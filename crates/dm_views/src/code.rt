@@ -1,5 +1,5 @@
-//! The listing of instructions in memory (Intel 8086 Family User's Manual, section 2.7 and section 4). Each call
-//! appends its text to `out`; an `Err` is a failed allocation.
+//! The listing of instructions in memory (Intel 8086 Family User's Manual, section 2.7 and section 4). Each function
+//! `put_..` appends its text to `out`; an `Err` is a failed allocation.
 
 ghost use Rattle.std.specs.Prelude.{◌≡◌, ◌+◌, ◌%◌, ◌++◌, ◌≤◌, List, ℕ, length, take, OnOk, IfOk};
 ghost use Rattle.std.specs.List.{flat_map};

@@ -1,5 +1,5 @@
-//! The listing of extended memory (XMS 3.0: blocks, upper memory blocks, A20 and the high memory area). Each call
-//! appends its text to `out`; an `Err` is a failed allocation.
+//! The listing of extended memory (XMS 3.0: blocks, upper memory blocks, A20 and the high memory area). Each function
+//! `put_..` appends its text to `out`; an `Err` is a failed allocation.
 
 ghost use Rattle.std.specs.Prelude.{◌≡◌, ◌<◌, ◌++◌, OnOk};
 ghost use Rattle.dm_views.specs.Extended.{block_line, block_text, upper_line, upper_text, switches_text, extended_text};
@@ -9,7 +9,7 @@ use dm_space::Space;
 use dm_xms::{Upper, Xms};
 use std::alloc::AllocError;
 
-/// How many handles of extended memory there are, and the most upper memory blocks that there can be.
+/// The number of handles of extended memory (1 to 64), and the largest number of upper memory blocks.
 const MOST: u16 = 64;
 
 /// Appends the line of an extended memory block: its handle, its linear address, its size in KiB and how often it is
@@ -59,7 +59,7 @@ fn put_upper(out: &mut Vec<u8>, upper: Option<Upper>) -> Result<(), AllocError>
     out.extend_from_slice(b"\n")
 }
 
-/// Appends the line that says whether A20 is on and whether the high memory area is used.
+/// Appends the line that says whether A20 is on (`on`) and whether the high memory area is used (`taken`).
 fn put_switches(out: &mut Vec<u8>, on: bool, taken: bool) -> Result<(), AllocError>
     ensures { OnOk result (out.new.items ≡ out.old.items ++ switches_text on taken) }
 {

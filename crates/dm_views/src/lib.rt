@@ -1,8 +1,9 @@
 //! The listings of a debugger: the texts of registers, instructions, bytes, the arena, and expanded and extended
 //! memory.
 //!
-//! Each call appends a text to `out`. Digits are hexadecimal, in upper case, and each line ends with a line feed (0Ah).
-//! An `Err` is a failed allocation: what stood in `out` before the call still does, and part of the text may follow it.
+//! Each function `put_..` appends a text to `out`. Digits are hexadecimal, in upper case, and each line ends with a
+//! line feed (0Ah). An `Err` is a failed allocation: what stood in `out` before the call still does, and part of the
+//! text may follow it.
 #![tactic(auto)]
 
 mod arena;

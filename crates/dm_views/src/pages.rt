@@ -1,5 +1,5 @@
-//! The listing of expanded memory (LIM EMS 4.0, section 2: handles, logical pages, the page frame). Each call appends
-//! its text to `out`; an `Err` is a failed allocation.
+//! The listing of expanded memory (LIM EMS 4.0, section 2: handles, logical pages, the page frame). Each function
+//! `put_..` appends its text to `out`; an `Err` is a failed allocation.
 
 ghost use Rattle.std.specs.Prelude.{◌≡◌, ◌<◌, ◌++◌, OnOk};
 ghost use Rattle.dm_views.specs.Pages.{holding_text, handle_text, window_line, pages_text};
@@ -10,7 +10,7 @@ use dm_ems::{Ems, Holding};
 use dm_space::Space;
 use std::alloc::AllocError;
 
-/// How many handles of expanded memory there are.
+/// The number of handles of expanded memory (0 to 63).
 const HANDLES: u16 = 64;
 
 /// Appends the line of a handle in use: its number, how many pages it has, and the eight bytes of its name, all in
@@ -36,8 +36,8 @@ fn put_handle(out: &mut Vec<u8>, ems: &Ems, number: u16) -> Result<(), AllocErro
     }
 }
 
-/// Appends the line of a window of the page frame: its number, and the handle and the logical page that it shows, or
-/// `none`.
+/// Appends the line of a window of the page frame: its number, and the handle and the logical page that it shows
+/// (`page`), or `none`.
 fn put_window(out: &mut Vec<u8>, number: u16, page: Option<(u16, u16)>) -> Result<(), AllocError>
     requires { number < 4 }
     ensures { OnOk result (out.new.items ≡ out.old.items ++ window_line number page) }

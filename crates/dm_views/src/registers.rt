@@ -1,5 +1,5 @@
-//! The listing of the registers (Intel 8086 Family User's Manual, section 2.2, registers and flags). Each call appends
-//! its text to `out`; an `Err` is a failed allocation.
+//! The listing of the registers (Intel 8086 Family User's Manual, section 2.2, registers and flags). Each function
+//! `put_..` appends its text to `out`; an `Err` is a failed allocation.
 
 ghost use Rattle.std.specs.Prelude.{◌≡◌, ◌++◌, List, ℕ, OnOk};
 ghost use Rattle.dm_views.specs.Registers.{field_text, fields_text, IsRegistersText};
@@ -26,7 +26,7 @@ fn put_field(out: &mut Vec<u8>, field: Field) -> Result<(), AllocError>
     out.extend_from_slice(&word_digits(field.value))
 }
 
-/// Appends a line of registers, with a space between any two.
+/// Appends a line of registers, separated by spaces.
 fn put_fields(out: &mut Vec<u8>, fields: &[Field]) -> Result<(), AllocError>
     ensures { OnOk result (out.new.items ≡ out.old.items ++ fields_text fields.now) }
 {

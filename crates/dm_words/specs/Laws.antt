@@ -1,5 +1,5 @@
--- Laws of written instructions: the words of a line are one instruction at most, the text of an instruction is read
--- as that instruction, and words for values that are not known yet have the same length.
+-- Laws of written instructions (`AreWords`, `StandsFor`): the words of a line are one instruction at most, the text of
+-- an instruction is read as that instruction, and words for values that are not known yet have the same length.
 use Rattle.std.specs.Prelude.{◌≡◌, ℕ, ◌^◌, ◌<◌, List, [], ◌∷◌, length, codes}
 use Rattle.dm_ins.specs.declared.operand.Width.{Width}
 use Rattle.dm_ins.specs.declared.action.Action.{Action}

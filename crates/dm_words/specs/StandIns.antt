@@ -21,16 +21,17 @@ abbrev pub has_no_base : Base → Bool
 has_no_base Direct = true
 has_no_base b = false
 
--- the number `stand` can stand for n under the mnemonic m. As a byte it is any under MOV, else n modulo 64 (the
--- number of ESC, which decides its first byte, is below 64); as a word any under MOV, else n; as a target the next
--- instruction; and it is 1 exactly where n is
+-- the number `stand` can stand for n under the mnemonic m. As a byte, where n can be one, it is any under MOV, else n
+-- modulo 64 (the number of ESC, which decides its first byte, is below 64); as a word, where n can be one, any under
+-- MOV, else n; as a target the next instruction; and it can be the count 1 of a shift exactly where n can
 pub record NumberStands (m : Mnemonic) (stand n : Numeral) : Type 0 where
   pub byte : IfSome n.byte (λ b. IsSomeAnd stand.byte (λ c. (c < 2 ^ 8) × (is_move m ≡ false → c ≡ b % 64)))
   pub word : IfSome n.word (λ v. IsSomeAnd stand.word (λ u. (u < 2 ^ 16) × (is_move m ≡ false → u ≡ v)))
   pub distance : stand.distance ≡ 0
   pub is_one : stand.is_one ≡ n.is_one
 
--- the address `stand` can stand for a: the displacement of a direct address is any, of another one the same
+-- the address `stand` can stand for a: with the same registers, and the same displacement, which may be any word if the
+-- address is direct
 pub record AddressStands (stand a : Address) : Type 0 where
   pub base : stand.base ≡ a.base
   pub displacement : has_no_base a.base ≡ false → stand.displacement ≡ a.displacement
@@ -43,7 +44,8 @@ OperandStands m (w.Number k) (w.Number n) = NumberStands m k n
 OperandStands m (w.Memory s a) (w.Memory t b) = (s ≡ t) × AddressStands a b
 OperandStands m x y = x ≡ y
 
--- the words `stand` can stand for the words: the mnemonics are the same, and each operand can stand for the other
+-- the words `stand` can stand for `words`: the mnemonics are the same, and each operand of `stand` can stand for that
+-- of `words` in its place
 pub record StandsFor (stand words : Words) : Type 0 where
   pub mnemonic : stand.mnemonic ≡ words.mnemonic
   pub first : OperandStands words.mnemonic stand.first words.first

@@ -1,4 +1,5 @@
-//! Laws of written instructions.
+//! Laws of written instructions: the words of a line are one instruction at most, the text of an instruction is read as
+//! that instruction, and words for values that are not known yet have the same length.
 
 ghost use Rattle.dm_words.specs.Laws.{LengthsAreKnown, OwnWordsAreRead, SizesAreShown, StandInsAreRead, WordsAreOne};
 

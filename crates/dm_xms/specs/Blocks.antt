@@ -30,14 +30,15 @@ abbrev pub leaving : Extended → Tables → Blocks → Extended
 leaving x xms blocks = record { xms = xms; memory = with_blocks x.memory blocks }
 
 -- 09h: a new block of zeros in the lowest gap of the pool that holds it, which gets the lowest handle that is not in
--- use; the handle is the result. A block of 0 KiB needs no gap
+-- use; the handle is the result. A block of 0 KiB needs no gap. Fails where no handle is left; else where no gap holds
+-- the block, or the pool has no number left
 unfoldable pub allocate : Extended → ℕ → Result (ℕ × Extended) Status
 allocate x kib =
     need (position is_none x.xms.handles) NoHandleLeft (λ k.
     need (taken x.memory.blocks kib) NoMemory (λ new.
     Ok (k + 1, leaving x (with_slot x.xms (k + 1) (Some (record { block = new.0; kib = kib; locks = 0 }))) new.1)))
 
--- 0Ah: a handle and its block are freed; an error if the block is locked
+-- 0Ah: a handle and its block are freed; an error if the handle is not in use, or its block is locked
 unfoldable pub deallocate : Extended → ℕ → Result (Unit {0} × Extended) Status
 deallocate x handle =
     need (slot x.xms handle) UnknownHandle (λ s.
@@ -49,32 +50,36 @@ abbrev pub first_unit : Option Extent → ℕ
 first_unit None = 0
 first_unit (Some b) = b.base
 
--- the linear address of a block's first byte; the pool begins at 110000h, above all memory that a program can address
+-- the linear address of a block's first byte, 110000h if there is no such block; the pool begins at 110000h, above all
+-- memory that a program can address
 abbrev pub address : Memory → ℕ → ℕ
 address m block = 0x110000 + 0x400 * first_unit (get_or m.blocks.places block None)
 
--- 0Ch: the block of a handle gets one lock more, 255 at most; the result is its linear address
+-- 0Ch: the block of a handle gets one lock more, and the result is its linear address; an error if the handle is not
+-- in use, or its block has 255 locks already
 unfoldable pub lock : Extended → ℕ → Result (ℕ × Extended) Status
 lock x handle =
     need (slot x.xms handle) UnknownHandle (λ s.
     if s.locks == 255 then Err TooManyLocks else
     Ok (address x.memory s.block, record x { xms = with_slot x.xms handle (Some (record s { locks = s.locks + 1 })) }))
 
--- 0Dh: the block of a handle gets one lock less; an error if it has none
+-- 0Dh: the block of a handle gets one lock less; an error if the handle is not in use, or its block has no lock
 unfoldable pub unlock : Tables → ℕ → Result (Unit {0} × Tables) Status
 unlock xms handle =
     need (slot xms handle) UnknownHandle (λ s.
     if s.locks == 0 then Err NotLocked else
     Ok (tt, with_slot xms handle (Some (record s { locks = s.locks - 1 }))))
 
--- 0Eh: the number of locks and the size in KiB of a handle's block, and the number of handles that are not in use
+-- 0Eh: the number of locks and the size in KiB of a handle's block, and the number of handles that are not in use; an
+-- error if this handle is not in use
 unfoldable pub information : Tables → ℕ → Result HandleInformation Status
 information xms handle =
     need (slot xms handle) UnknownHandle (λ s.
     Ok (record { locks = s.locks; free = count_by is_none xms.handles; kib = s.kib }))
 
 -- 0Fh: the block of a handle gets another size in KiB. It stays where it is if it fits there, else it moves to the
--- lowest gap that holds it beside its old place; new bytes are zeros. An error if it is locked
+-- lowest gap that holds it, its old place counted as taken. Its bytes up to the smaller size stay, new ones are zeros.
+-- Fails if the handle is not in use, the block is locked, or it fits nowhere
 unfoldable pub reallocate : Extended → ℕ → ℕ → Result (Unit {0} × Extended) Status
 reallocate x handle kib =
     need (slot x.xms handle) UnknownHandle (λ s.

@@ -1,5 +1,6 @@
 -- What calls of the extended memory driver return, and the state S that they leave, tables or tables and memory. A
--- call is one value: an error, or a result together with the state after it; so a call that fails changes nothing.
+-- call is one value: an error, or a result together with the state after it; so a call that fails changes nothing. 04h
+-- and 06h, which change the state even where they fail, are pairs of a result and a state instead (`Line`).
 use Rattle.std.specs.Prelude.{ℕ, ◌-◌, ◌==◌, if◌then◌else◌, slice_index_or, slice_set, Option, Some, None, Result, Ok, Err}
 use Rattle.dm_xms.specs.declared.tables.Handle.{Handle}
 use Rattle.dm_xms.specs.Tables.{Tables}
@@ -24,6 +25,6 @@ need (Some v) e f = f v
 abbrev pub slot : Tables → ℕ → Option Handle
 slot xms handle = if handle == 0 then None else slice_index_or xms.handles (handle - 1) None
 
--- the tables with another entry for this handle, None for one that is not in use
+-- the tables with another entry for this handle, which is 1 to 64; None if it is no longer in use
 abbrev pub with_slot : Tables → ℕ → Option Handle → Tables
 with_slot xms handle s = record xms { handles = slice_set xms.handles (handle - 1) s }

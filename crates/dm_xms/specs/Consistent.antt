@@ -16,7 +16,7 @@ pub record IsExtended (m : Memory) (s : Handle) : Type 0 where
   pub size : length (page_bytes m s.block) ≡ 0x400 * s.kib
   pub hidden : shows m.windows s.block ≡ false
 
--- t is the entry of no handle in use, or has another block than s
+-- t is None, the entry of a handle that is not in use, or has another block than s
 abbrev pub HasOther : Handle → Option Handle → Type 0
 HasOther s t = IfSome t (λ other. other.block ≢ s.block)
 
@@ -24,7 +24,7 @@ HasOther s t = IfSome t (λ other. other.block ≢ s.block)
 abbrev pub handle_at : List (Option Handle) → ℕ → Option Handle
 handle_at handles k = slice_index_or handles k None
 
--- the tables of extended memory, A20 and the memory are consistent
+-- the tables of extended memory, A20 and the memory are consistent, as the head of this file says
 pub record IsConsistent (x : Extended) : Type 0 where
   pub places : length x.memory.blocks.places ≡ 576
   pub contents : length x.memory.blocks.contents ≡ 576

@@ -1,5 +1,6 @@
--- Laws of the driver: tables and memory stay consistent, at the start, through each call, and while a program writes.
--- And calls keep the windows, and the blocks that belong to no handle.
+-- Laws of the extended memory driver: tables and memory are consistent at the start, and stay so through each call that
+-- changes them (01h to 06h, 09h to 0Dh, 0Fh to 12h) and while a program writes. And these calls keep the windows, and
+-- the blocks that belong to no handle.
 use Rattle.std.specs.Prelude.{ℕ, List}
 use Rattle.dm_pool.specs.Blocks.{no_blocks}
 use Rattle.dm_space.specs.Memory.{Memory, of_ram}
@@ -14,11 +15,12 @@ use Rattle.dm_xms.specs.Line.{enable_globally, disable_globally, enable_locally,
 use Rattle.dm_xms.specs.Moves.{move_memory}
 use Rattle.dm_xms.specs.Blocks.{allocate, deallocate, lock, unlock, reallocate}
 
--- the tables and the memory of a new machine are consistent: the pool has no block, and A20 is off
+-- the tables and the memory of a new machine are consistent, however many units its pool has and whatever its RAM
+-- holds: the pool has no block, and A20 is off
 abbrev pub StartIsConsistent : Type 0
 StartIsConsistent = (units : ℕ) (low : List ℕ) → IsConsistent (extended new_tables (of_ram low (no_blocks units)))
 
--- each call leaves tables, A20 and memory consistent
+-- each call leaves tables, A20 and memory consistent if they are so before it, whether it succeeds or fails
 pub record CallsKeepConsistency : Type 0 where
   pub taking_area : (x : Extended) → IsConsistent x → IsConsistent (extended (left x.xms (take_area x.xms)) x.memory)
   pub releasing_area : (x : Extended) → IsConsistent x → IsConsistent (extended (left x.xms (release_area x.xms)) x.memory)
@@ -36,11 +38,12 @@ pub record CallsKeepConsistency : Type 0 where
   pub releasing : (x : Extended) (segment : ℕ) → IsConsistent x → IsConsistent (extended (left x.xms (release_upper x.xms segment)) x.memory)
   pub resizing : (x : Extended) (segment paragraphs : ℕ) → IsConsistent x → IsConsistent (extended (left x.xms (resize_upper x.xms segment paragraphs)) x.memory)
 
--- tables and memory stay consistent when a program writes to memory, which keeps its map
+-- tables and memory stay consistent when a program writes to memory: with the same tables and any memory of the same
+-- map and the same blocks, whatever its bytes
 abbrev pub WritesKeepConsistency : Type 0
 WritesKeepConsistency = (x : Extended) (m : Memory) → IsShaped x.memory m → IsConsistent x → IsConsistent (extended x.xms m)
 
--- each call keeps the blocks that belong to no handle, their sizes, and the windows
+-- each call keeps the blocks that belong to no handle, their sizes, and the windows, whether it succeeds or fails
 pub record CallsLeaveOutside : Type 0 where
   pub taking_area : (x : Extended) → LeavesOutside x (extended (left x.xms (take_area x.xms)) x.memory)
   pub releasing_area : (x : Extended) → LeavesOutside x (extended (left x.xms (release_area x.xms)) x.memory)

@@ -1,5 +1,5 @@
--- Address line A20 (XMS 3.0, functions 03h to 07h): it is on while the global switch is on or the local count isn't
--- 0.
+-- Address line A20 (XMS 3.0, functions 03h to 07h): it is on while the global switch is on or the local count is at
+-- least 1.
 use Rattle.std.specs.Prelude.{ℕ, ◌+◌, ◌-◌, Bool, true, false, not, ◌||◌, ◌==◌, if◌then◌else◌, Result, Ok, Err}
 use Rattle.dm_space.specs.Memory.{with_a20}
 use Rattle.dm_xms.specs.declared.status.Status.{Status}
@@ -18,7 +18,7 @@ switched x global local = record { xms = record x.xms { global = global; local =
 unfoldable pub enable_globally : Extended → Extended
 enable_globally x = switched x true x.xms.local
 
--- 04h: the global switch is turned off. An error if the local count keeps A20 on
+-- 04h: the global switch is turned off. An error if the local count keeps A20 on, though the switch is off
 unfoldable pub disable_globally : Extended → (Result (Unit {0}) Status × Extended)
 disable_globally x = (if x.xms.local == 0 then Ok tt else Err LineStillOn, switched x false x.xms.local)
 

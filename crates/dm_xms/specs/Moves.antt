@@ -44,7 +44,7 @@ side x d unknown past =
     need (slot x.xms d.handle) unknown (λ s.
     if nat_lt (0x400 * s.kib) d.offset then Err past else Ok (of_block s d.offset))
 
--- n bytes of one side are copied to the other, read whole before they are written; an error if a side has fewer. The
+-- n bytes of `from` are copied to `to`, all read before the first is written; an error if either side has fewer. The
 -- tables stay
 unfoldable pub move_between : Extended → ℕ → Side → Side → Result (Unit {0} × Extended) Status
 move_between x n from to =
@@ -52,7 +52,7 @@ move_between x n from to =
     Ok (tt, record x { memory = span_moved x.memory from.region to.region n })
 
 -- 0Bh: a move as the structure of 16 bytes at segment:offset says: the length in bytes, an even double word, and for
--- the source and then the destination a handle (a word) and an offset (a double word)
+-- the source and then the destination a handle (a word) and an offset (a double word). An odd length is an error
 unfoldable pub move_memory : Extended → ℕ → ℕ → Result (Unit {0} × Extended) Status
 move_memory x segment offset =
     if double_after x.memory segment offset 0 % 2 == 1 then Err BadLength else

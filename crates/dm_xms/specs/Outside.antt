@@ -1,5 +1,5 @@
 -- What the calls of the extended memory driver keep outside of extended memory: the blocks of the pool that belong to
--- no handle, as the pages of expanded memory, their sizes, and the windows.
+-- no handle (the pages of expanded memory), their sizes, and the windows.
 use Rattle.std.specs.Prelude.{ℕ, ◌≡◌, ◌≢◌, length, IfSome}
 use Rattle.dm_pool.specs.Blocks.{IsLive}
 use Rattle.dm_space.specs.Memory.{page_bytes}
@@ -17,7 +17,7 @@ pub record IsOutside (x : Extended) (block bytes : ℕ) : Type 0 where
   pub apart : IsNoHandles x block
 
 -- from x to y: each block that belongs to no handle is still there, as large, and still belongs to none; there is no
--- other such block; and the windows stay. Of their bytes nothing is said
+-- other such block; and the windows stay. Of the blocks' bytes nothing is said
 pub record LeavesOutside (x y : Extended) : Type 0 where
   pub blocks : (block bytes : ℕ) → IsOutside x block bytes → IsOutside y block bytes
   pub others : (block : ℕ) → IsLive y.memory.blocks block → IsNoHandles y block → IsLive x.memory.blocks block × IsNoHandles x block

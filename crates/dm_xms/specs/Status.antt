@@ -3,7 +3,7 @@ use Rattle.std.specs.Prelude.{ℕ}
 use Rattle.dm_xms.specs.declared.status.Status.{Status}
 use Rattle.dm_xms.specs.declared.status.Status.TheVariants as status
 
--- the error code of an error
+-- the code in BL of an error
 unfoldable pub code_of : Status → ℕ
 code_of status.LineError = 0x82
 code_of status.AreaTaken = 0x91

@@ -11,7 +11,7 @@ pub record Tables : Type 0 where
   pub handles : List (Option Handle)
   -- whether the high memory area is taken
   pub area : Bool
-  -- the global switch of A20, and how often it was switched on locally
+  -- the global switch of A20, and its local count
   pub global : Bool
   pub local : ℕ
   -- the upper memory blocks, by rising segment

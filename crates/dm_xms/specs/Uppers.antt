@@ -49,8 +49,8 @@ inserted u us = insert us (count_by (is_below u.segment) us) u
 abbrev pub with_uppers : Tables → List Upper → Tables
 with_uppers xms us = record xms { uppers = us }
 
--- a new block of n paragraphs at paragraph p, which a search for a gap has found; None fails with the size of the
--- largest gap
+-- a new block of n paragraphs at paragraph p, counted from D000h, which a search for a gap has found; with None an
+-- error that has the size of the largest gap
 abbrev pub new_upper : Tables → ℕ → Option ℕ → Result (Upper × Tables) UpperRefusal
 new_upper xms n None = Err (refusal.Smaller (largest_upper xms.uppers))
 new_upper xms n (Some p) =
@@ -69,7 +69,7 @@ request_upper xms n =
 abbrev pub begins_at : ℕ → Upper → Bool
 begins_at segment u = u.segment == segment
 
--- 11h: the block that begins at a segment is freed
+-- 11h: the block that begins at a segment is freed; an error if none begins there
 unfoldable pub release_upper : Tables → ℕ → Result (Unit {0} × Tables) UpperRefusal
 release_upper xms segment =
     need (position (begins_at segment) xms.uppers) refusal.Unknown (λ k.

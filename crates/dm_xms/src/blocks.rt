@@ -1,4 +1,5 @@
-//! Extended memory blocks (XMS 3.0, functions 08h to 0Ah and 0Ch to 0Fh). None of it changes the scratch part.
+//! Extended memory blocks (XMS 3.0, functions 08h to 0Ah and 0Ch to 0Fh). No function here changes the scratch part of
+//! the space.
 
 ghost use Rattle.std.specs.Prelude.{◌≡◌};
 ghost use Rattle.dm_xms.specs.Tables.{extended};
@@ -82,7 +83,8 @@ impl Xms {
     ///
     /// # Errors
     ///
-    /// In this order: `NoHandleLeft`; `NoMemory` where no gap holds the block. Then nothing has changed.
+    /// In this order: `NoHandleLeft`; `NoMemory` where no gap holds the block, or the pool has no number left. Then
+    /// nothing has changed.
     #[tactic(auto, unfolding(crate::specs::Blocks::allocate))]
     pub fn allocate(&mut self, space: &mut Space, kib: u16) -> Result<u16, Status>
         ensures answer { result ≡ answer (allocate (extended self.old space.old.memory) kib) }
@@ -123,11 +125,12 @@ impl Xms {
         Ok(())
     }
 
-    /// 0Ch: locks the block of a handle once more, so that it stays where it is, and returns its linear address.
+    /// 0Ch: adds one lock to the block of a handle, which is neither moved nor freed while it has one, and returns the
+    /// block's linear address.
     ///
     /// # Errors
     ///
-    /// In this order: `UnknownHandle`; `TooManyLocks` where it is locked 255 times. Then nothing has changed.
+    /// In this order: `UnknownHandle`; `TooManyLocks` where it has 255 locks already. Then nothing has changed.
     #[tactic(auto, unfolding(crate::specs::Blocks::lock))]
     pub fn lock(&mut self, space: &Space, handle: u16) -> Result<usize, Status>
         ensures answer { result ≡ answer (lock (extended self.old space.now.memory) handle) }
@@ -185,8 +188,8 @@ impl Xms {
     }
 
     /// 0Fh: changes the size of the block of a handle to `kib` KiB. It stays where it is if it fits there, else it
-    /// moves to the lowest gap that holds it beside its old place. Its bytes up to the smaller size stay, new ones
-    /// are zeros.
+    /// moves to the lowest gap that holds it, its old place counted as taken. Its bytes up to the smaller size stay,
+    /// new ones are zeros.
     ///
     /// # Errors
     ///

@@ -1,11 +1,11 @@
-//! Laws, the contracts of functions that do nothing: tables and memory stay consistent, and what is outside of
-//! extended memory stays.
+//! Laws of the calls of `Xms` and of writes to memory, as the contracts of functions that do nothing: tables and memory
+//! stay consistent, and the calls keep what is outside of extended memory.
 
 ghost use Rattle.dm_xms.specs.Laws.{StartIsConsistent, CallsKeepConsistency, WritesKeepConsistency, CallsLeaveOutside};
 
-/// The laws that the tables of extended memory and the memory are consistent from the start, and after each call: each
-/// handle in use has a block of its own, as large as it says, that no window shows, and A20 is as the tables say. It
-/// does nothing when called.
+/// The laws that the tables of extended memory and the memory are consistent in a new machine, and after each call if
+/// they were before it: each handle in use has a block of its own, as large as its entry says, that no window shows,
+/// and A20 is as the tables say. It does nothing when called.
 pub fn calls_keep_consistency()
     ensures start { StartIsConsistent }
     ensures calls { CallsKeepConsistency }
@@ -18,7 +18,8 @@ pub fn writes_keep_consistency()
 {}
 
 /// The law that calls keep the blocks of the pool that belong to no handle: each is still there, as large, and still
-/// belongs to none, and there is no other such block; and that none changes the windows. It does nothing when called.
+/// belongs to none, and there is no other such block; and that no call changes the windows. Of the blocks' bytes it
+/// says nothing. It does nothing when called.
 pub fn calls_leave_outside()
     ensures { CallsLeaveOutside }
 {}

@@ -1,5 +1,5 @@
-//! Address line A20 (XMS 3.0, functions 03h to 07h): it is on while the global switch is on or the local count isn't
-//! 0.
+//! Address line A20 (XMS 3.0, functions 03h to 07h): it is on while the global switch is on or the local count is at
+//! least 1.
 
 ghost use Rattle.std.specs.Prelude.{◌≡◌};
 ghost use Rattle.dm_xms.specs.Tables.{extended};

@@ -29,7 +29,7 @@ const DESTINATION: usize = 10;
 pub struct Description {
     /// Its handle; 0 for memory below 10FFF0h.
     pub handle: u16,
-    /// The offset in bytes in the block of the handle; for handle 0 an offset, in the low word, and a segment.
+    /// The offset in bytes in the block of the handle; for handle 0 an offset in the low word, a segment in the high.
     pub offset: u32,
 }
 
@@ -74,8 +74,8 @@ fn is_single(side: &Side) -> bool
     }
 }
 
-/// Copies `len` bytes from one side to the other; the source is read whole before anything is written. `BadLength`
-/// where a side has fewer. The scratch part may be overwritten.
+/// Copies `len` bytes of `from` to `to`; all are read before the first is written. The scratch part may be
+/// overwritten. `BadLength` where either side has fewer; then nothing has changed.
 #[tactic(auto, unfolding(crate::specs::Moves::move_between), using(crate::proofs::Sides::single_kind))]
 fn move_between(
     xms: &Xms,
@@ -134,11 +134,11 @@ impl Xms {
         Ok(Side { region, end })
     }
 
-    /// 0Bh: moves an even number of bytes from one block to another, within one, or between a block and memory below
-    /// 10FFF0h. The structure at segment:offset has sixteen bytes: the length in bytes (a double word), and for the
-    /// source and then the destination a handle (a word) and an offset (a double word). For handle 0 the offset is an
-    /// offset and a segment, which are read with A20 on, up to the end of the high memory area. The source is read
-    /// whole before anything is written. The scratch bytes of the space may be overwritten.
+    /// 0Bh: copies an even number of bytes from a source to a destination, each a block of a handle or, for handle 0,
+    /// memory below 10FFF0h. The structure at segment:offset has sixteen bytes: the length in bytes (a double word),
+    /// and for the source and then the destination a handle (a word) and an offset (a double word). For handle 0 the
+    /// double word is an offset and, in the high word, a segment; A20 counts as on. The source is read whole before
+    /// anything is written. The scratch bytes of the space may be overwritten.
     ///
     /// # Errors
     ///

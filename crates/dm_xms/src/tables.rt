@@ -86,7 +86,7 @@ impl Xms {
         }
     }
 
-    /// The entry of a handle: its block, size and locks; None where it is not in use. There is no handle 0.
+    /// The entry of a handle: its block, size and locks; None where it is not in use, or is not one of 1 to 64.
     pub fn handle(&self, handle: u16) -> Option<Handle>
         ensures slot { result ≡ slot self.now handle }
         ensures inside { IfSome result (λ s. (0 < handle) × (handle - 1 < 64)) }

@@ -45,7 +45,8 @@ impl UpperRefusal {
     }
 }
 
-/// The number of paragraphs of the largest gap between rising blocks, from segment `from` to the end of upper memory.
+/// The number of paragraphs of the largest gap between rising blocks, from segment `from` to the end of upper memory; 0
+/// if there is none.
 #[tactic(auto, using(crate::proofs::Gaps::first_ends))]
 fn largest_from(from: u16, uppers: &[Upper]) -> u16
     requires from { 0xD000 ≤ from }
@@ -107,7 +108,7 @@ fn first_at(uppers: &[Upper], segment: u16) -> Option<usize>
     uppers.iter().position(|upper| upper.segment == segment)
 }
 
-/// Replaces the block at an index.
+/// Replaces the block at an index; the others stay.
 fn set_at(uppers: &mut ArrayVec<Upper, 64>, at: usize, upper: Upper)
     requires { at < length uppers.old.items }
     ensures { uppers.new.items ≡ slice_set uppers.old.items at upper }
@@ -116,7 +117,7 @@ fn set_at(uppers: &mut ArrayVec<Upper, 64>, at: usize, upper: Upper)
 }
 
 impl Xms {
-    /// The number of paragraphs of the largest gap of upper memory.
+    /// The number of paragraphs of the largest gap of upper memory; 0 if there is none.
     #[tactic(auto, using(crate::proofs::Gaps::gaps_are_between))]
     fn largest_upper(&self) -> u16
         ensures { result ≡ largest_upper self.now.uppers }
@@ -133,7 +134,7 @@ impl Xms {
         lowest_from(FIRST, self.uppers.as_slice(), paragraphs)
     }
 
-    /// The upper memory block at index `at`, the lowest one first; None where there are not so many.
+    /// The upper memory block at index `at`, where 0 is the lowest block; None where there are not so many.
     pub fn upper(&self, at: usize) -> Option<Upper>
         ensures { result ≡ slice_get self.now.uppers at }
     {

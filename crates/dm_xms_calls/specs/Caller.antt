@@ -10,7 +10,7 @@ use Rattle.dm_xms.specs.Status.{code_of}
 use Rattle.dm_xms.specs.Tables.{Tables, Extended, extended}
 use Rattle.dm_xms.specs.Calls.{answer, left}
 
--- the registers of the program that calls, and the tables and memory of the driver
+-- the registers of the program that calls, the tables of the driver, and the memory
 pub record Caller : Type 0 where
   pub cpu : Cpu
   pub x : Extended
@@ -46,7 +46,7 @@ after_call c r set = record { cpu = settled c.cpu (answer r) set; x = left c.x r
 abbrev pub after_tables : {A : Type 0} → Caller → Result (A × Tables) Status → (A → Cpu) → Caller
 after_tables c r set = record { cpu = settled c.cpu (answer r) set; x = extended (left c.x.xms r) c.x.memory }
 
--- the state after a call that may change it also where it returns an error (04h and 06h): registers as in `settled`,
--- and the tables and memory that the call leaves
+-- the state after a call that may change tables and memory even where it returns an error (04h and 06h): registers as
+-- in `settled`, and the tables and memory that the call leaves
 abbrev pub after_act : Caller → (Result (Unit {0}) Status × Extended) → Caller
 after_act c r = record { cpu = settled c.cpu r.0 (λ done. c.cpu); x = r.1 }

@@ -11,7 +11,7 @@ use Rattle.dm_xms_calls.specs.Line.{enable_globally, disable_globally, enable_lo
 use Rattle.dm_xms_calls.specs.Blocks.{tell_free, allocate, deallocate, move_memory, lock, unlock, tell_information, reallocate}
 use Rattle.dm_xms_calls.specs.Uppers as uppers
 
--- the function that AH selects
+-- the function that a value of AH selects
 abbrev pub function_of : ℕ → Function
 function_of number =
     if number == 0x00 then Version else
@@ -34,11 +34,11 @@ function_of number =
     if number == 0x11 then ReleaseUpper else
     if number == 0x12 then ResizeUpper else Unknown
 
--- a function that the driver does not have: AX is 0, and BL is 80h, not implemented
+-- a function that the driver does not have: AX is 0, and BL is the error code 80h; the other registers stay
 unfoldable pub no_function : Cpu → Cpu
 no_function cpu = refused cpu 0x80
 
--- the state after a call of a function. `upper` is the setting whether upper memory belongs to the arena of DOS
+-- the state after a call of a function. `upper` is whether upper memory belongs to the arena of DOS
 abbrev pub call : Bool → Caller → Function → Caller
 call upper c Version = on_cpu c (tell_version c.cpu)
 call upper c TakeArea = take_area c
@@ -61,6 +61,6 @@ call upper c ReleaseUpper = uppers.release upper c
 call upper c ResizeUpper = uppers.resize upper c
 call upper c Unknown = on_cpu c (no_function c.cpu)
 
--- the state after a call of the driver: the function that AH selects is called
+-- the state after a call of the driver: after the function that AH selects
 abbrev pub dispatched : Bool → Caller → Caller
 dispatched upper c = call upper c (function_of (byte_of c.cpu Ah))

@@ -1,5 +1,6 @@
--- Upper memory blocks (XMS 3.0, functions 10h to 12h). Where upper memory belongs to the arena of DOS (`upper`), the
--- driver has none: 10h fails with B1h, 11h and 12h with B2h.
+-- Upper memory blocks (XMS 3.0, functions 10h to 12h). Success sets AX to 1; an error sets AX to 0 and BL to its code.
+-- Where upper memory belongs to the arena of DOS (`upper`), the driver has none: 10h fails with B1h and sets DX to 0,
+-- 11h and 12h fail with B2h.
 use Rattle.std.specs.Prelude.{Bool, if◌then◌else◌, Result, Ok, Err}
 use Rattle.dm_cpu.specs.declared.cpu.Cpu.{Cpu}
 use Rattle.dm_xms.specs.declared.tables.Upper.{Upper}
@@ -11,7 +12,8 @@ use Rattle.dm_xms.specs.Uppers as rows
 use Rattle.dm_xms.specs.Uppers.{code_of}
 use Rattle.dm_xms_calls.specs.Caller.{Caller, succeeded, refused}
 
--- DX after an error: the number of paragraphs that can be had where fewer are free, 0 where none is; else DX stays
+-- the registers with DX after an error: for B0h the largest number of paragraphs that the call can get, for B1h 0; for
+-- B2h DX stays
 abbrev pub with_room : Cpu → UpperRefusal → Cpu
 with_room cpu (refusal.Smaller n) = record cpu { dx = n }
 with_room cpu refusal.NoneFree = record cpu { dx = 0 }
@@ -27,14 +29,15 @@ settled cpu (Err e) set = refused (with_room cpu e) (code_of e)
 abbrev pub after_call : {A : Type 0} → Caller → Result (A × Tables) UpperRefusal → (A → Cpu) → Caller
 after_call c r set = record { cpu = settled c.cpu (answer r) set; x = extended (left c.x.xms r) c.x.memory }
 
--- 10h: a new block of DX paragraphs, or of 1 if DX is 0; BX is its segment, DX its size
+-- 10h: a new block of DX paragraphs, or of 1 if DX is 0; BX becomes its segment, DX its size in paragraphs
 unfoldable pub request : Bool → Caller → Caller
 request upper c = after_call c (if upper then Err refusal.NoneFree else rows.request_upper c.x.xms c.cpu.dx) (λ (u : Upper). record c.cpu { bx = u.segment; dx = u.paragraphs })
 
--- 11h: the block at segment DX is freed
+-- 11h: the block that begins at segment DX is freed
 unfoldable pub release : Bool → Caller → Caller
 release upper c = after_call c (if upper then Err refusal.Unknown else rows.release_upper c.x.xms c.cpu.dx) (λ done. c.cpu)
 
--- 12h: the size of the block at segment DX becomes BX paragraphs, or 1 if BX is 0
+-- 12h: the size of the block that begins at segment DX becomes BX paragraphs, or 1 if BX is 0; after error B0h the
+-- block stays, and DX is the largest size that it can have there
 unfoldable pub resize : Bool → Caller → Caller
 resize upper c = after_call c (if upper then Err refusal.Unknown else rows.resize_upper c.x.xms c.cpu.dx c.cpu.bx) (λ done. c.cpu)

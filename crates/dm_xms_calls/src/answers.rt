@@ -25,7 +25,7 @@ pub(crate) fn refuse(cpu: &mut Cpu, code: u8)
     cpu.set_byte(ByteRegister::Bl, code);
 }
 
-/// Sets AX after a call without another result, and BL after an error.
+/// Sets AX to 1 after a call that returns nothing else; after an error AX to 0 and BL to its code.
 pub(crate) fn settle(cpu: &mut Cpu, res: Result<(), Status>)
     ensures { cpu.new ≡ settled cpu.old res (λ done. cpu.old) }
 {
@@ -53,7 +53,7 @@ pub(crate) fn settle_free(cpu: &mut Cpu, res: Result<FreeMemory, Status>)
     }
 }
 
-/// Sets AX after a call that returns a handle, and DX to that handle; after an error BL instead.
+/// Sets AX to 1 and DX to the handle that a call returns; after an error AX to 0 and BL to its code.
 pub(crate) fn settle_dx(cpu: &mut Cpu, res: Result<u16, Status>)
     ensures { cpu.new ≡ settled cpu.old res (λ handle. record cpu.old { dx = handle }) }
 {
@@ -66,7 +66,7 @@ pub(crate) fn settle_dx(cpu: &mut Cpu, res: Result<u16, Status>)
     }
 }
 
-/// Sets AX after a call that returns a linear address, and DX:BX to that address; after an error BL instead.
+/// Sets AX to 1 and DX:BX to the linear address that a call returns; after an error AX to 0 and BL to its code.
 pub(crate) fn settle_address(cpu: &mut Cpu, res: Result<usize, Status>)
     ensures { cpu.new ≡ settled cpu.old res (with_address cpu.old) }
 {
@@ -80,8 +80,8 @@ pub(crate) fn settle_address(cpu: &mut Cpu, res: Result<usize, Status>)
     }
 }
 
-/// Sets AX after 0Eh, BH to the number of locks, BL to that of free handles and DX to the size in KiB; after an error
-/// BL alone.
+/// Sets the registers of 0Eh: AX to 1, BH to the number of locks, BL to that of free handles and DX to the size in KiB;
+/// after an error AX to 0 and BL to its code.
 pub(crate) fn settle_information(cpu: &mut Cpu, res: Result<HandleInformation, Status>)
     ensures { cpu.new ≡ settled cpu.old res (with_information cpu.old) }
 {
@@ -95,8 +95,8 @@ pub(crate) fn settle_information(cpu: &mut Cpu, res: Result<HandleInformation, S
     }
 }
 
-/// Sets AX to 0 and BL to the code of an error on upper memory blocks. DX becomes the number of paragraphs that can
-/// be had, 0 where none is free; with `Unknown` it stays.
+/// Sets AX to 0 and BL to the code of an error on upper memory blocks. DX becomes the number of paragraphs of
+/// `Smaller`, with `NoneFree` 0; with `Unknown` it stays.
 #[tactic(auto, unfolding(dm_xms::specs::Uppers::code_of))]
 fn refuse_upper(cpu: &mut Cpu, refusal: UpperRefusal)
     ensures { cpu.new ≡ refused (uppers.with_room cpu.old refusal) (code_of refusal) }
@@ -109,8 +109,8 @@ fn refuse_upper(cpu: &mut Cpu, refusal: UpperRefusal)
     refuse(cpu, refusal.code());
 }
 
-/// Sets AX after 10h, BX to the segment of the new block and DX to its paragraphs; after an error BL, and DX as in
-/// `refuse_upper`.
+/// Sets the registers of 10h: AX to 1, BX to the segment of the new block and DX to its size in paragraphs; after an
+/// error AX, BL and DX as `refuse_upper` does.
 pub(crate) fn settle_upper(cpu: &mut Cpu, res: Result<Upper, UpperRefusal>)
     ensures { cpu.new ≡ uppers.settled cpu.old res (λ u. record cpu.old { bx = u.segment; dx = u.paragraphs }) }
 {
@@ -124,8 +124,7 @@ pub(crate) fn settle_upper(cpu: &mut Cpu, res: Result<Upper, UpperRefusal>)
     }
 }
 
-/// Sets AX after a call on upper memory blocks without another result; after an error BL, and DX as in
-/// `refuse_upper`.
+/// Sets AX to 1 after 11h or 12h; after an error AX, BL and DX as `refuse_upper` does.
 pub(crate) fn settle_uppers(cpu: &mut Cpu, res: Result<(), UpperRefusal>)
     ensures { cpu.new ≡ uppers.settled cpu.old res (λ done. cpu.old) }
 {

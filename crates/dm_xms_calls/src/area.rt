@@ -8,14 +8,13 @@ use dm_cpu::Cpu;
 use dm_space::Space;
 use dm_xms::Xms;
 
-/// The version of the specification, 3.0, its digits in two bytes.
+/// The version of the specification, 3.0: 3 in the high byte, 0 in the low byte.
 const VERSION: u16 = 0x0300;
 
 /// The driver's own revision.
 const REVISION: u16 = 1;
 
-/// 00h: sets AX to the version, 3.0, BX to the driver's revision, and DX to 1, as there is a high
-/// memory area.
+/// 00h: sets AX to the version, 3.0, BX to the driver's revision, and DX to 1, as there is a high memory area.
 #[tactic(auto, unfolding(crate::specs::Area::tell_version))]
 pub(crate) fn tell_version(cpu: &mut Cpu)
     ensures { cpu.new ≡ tell_version cpu.old }
@@ -25,7 +24,7 @@ pub(crate) fn tell_version(cpu: &mut Cpu)
     cpu.dx = 1;
 }
 
-/// 01h: takes the high memory area; AX is 1, or 0 with the error in BL.
+/// 01h: takes the high memory area, and sets AX to 1; if it is taken already, AX to 0 and BL to 91h.
 #[tactic(auto, unfolding(crate::specs::Area::take_area))]
 pub(crate) fn take_area(cpu: &mut Cpu, xms: &mut Xms, space: &Space)
     ensures { caller cpu.new xms.new space.now.memory ≡ take_area (caller cpu.old xms.old space.now.memory) }
@@ -34,7 +33,7 @@ pub(crate) fn take_area(cpu: &mut Cpu, xms: &mut Xms, space: &Space)
     settle(cpu, res);
 }
 
-/// 02h: releases the high memory area; AX is 1, or 0 with the error in BL.
+/// 02h: releases the high memory area, and sets AX to 1; if it is not taken, AX to 0 and BL to 93h.
 #[tactic(auto, unfolding(crate::specs::Area::release_area))]
 pub(crate) fn release_area(cpu: &mut Cpu, xms: &mut Xms, space: &Space)
     ensures { caller cpu.new xms.new space.now.memory ≡ release_area (caller cpu.old xms.old space.now.memory) }

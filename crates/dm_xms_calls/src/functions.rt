@@ -55,7 +55,7 @@ pub(crate) enum Function {
     Information,
     /// 0Fh: changes the size of the block of handle DX to BX KiB.
     Reallocate,
-    /// 10h: allocates an upper memory block of DX paragraphs.
+    /// 10h: allocates an upper memory block of DX paragraphs, and returns its segment in BX, its size in DX.
     RequestUpper,
     /// 11h: frees the upper memory block at segment DX.
     ReleaseUpper,
@@ -94,7 +94,7 @@ fn function_of(number: u8) -> Function
 }
 
 /// Does one function of the driver, on the registers, the tables and the memory. `upper` is whether upper memory
-/// belongs to the arena of DOS.
+/// belongs to the arena of DOS. The scratch part of the space may be overwritten.
 #[tactic(auto, unfolding(crate::specs::Functions::no_function))]
 fn call(cpu: &mut Cpu, xms: &mut Xms, space: &mut Space, upper: bool, function: Function)
     requires { IsConsistent (extended xms.old space.old.memory) }
@@ -125,9 +125,10 @@ fn call(cpu: &mut Cpu, xms: &mut Xms, space: &mut Space, upper: bool, function: 
 }
 
 /// Does the function that AH selects, on the registers of the program that calls, the tables of extended memory and
-/// the memory, which are consistent. AX is then 1, or 0 where the call failed, with the error code in BL; functions
-/// 00h and 08h return other values in AX. `upper` is whether DOS has upper memory in its arena: then the driver gives
-/// no upper memory blocks.
+/// the memory, which are consistent. AX is then 1, or after an error 0, with the error code in BL; functions 00h and
+/// 08h return other values in AX, and 07h returns 0 in AX and BL while A20 is off. `upper` is whether upper memory
+/// belongs to the arena of DOS: then the driver allocates no upper memory blocks. The scratch part of the space may be
+/// overwritten.
 pub fn extended_memory_call(cpu: &mut Cpu, xms: &mut Xms, space: &mut Space, upper: bool)
     requires { IsConsistent (extended xms.old space.old.memory) }
     ensures { caller cpu.new xms.new space.new.memory ≡ dispatched upper (caller cpu.old xms.old space.old.memory) }

@@ -1,5 +1,5 @@
-//! Address line A20 (XMS 3.0, functions 03h to 07h). Each function sets AX to 1, or to 0 with the
-//! error in BL.
+//! Address line A20 (XMS 3.0, functions 03h to 07h). Each function sets AX to 1, or after an error AX to 0 and BL to
+//! its code.
 ghost use Rattle.std.specs.Prelude.{◌≡◌};
 ghost use Rattle.dm_xms_calls.specs.Caller.{caller};
 ghost use Rattle.dm_xms_calls.specs.Line.{enable_globally, disable_globally, enable_locally, disable_locally, tell_line};
@@ -18,7 +18,7 @@ pub(crate) fn enable_globally(cpu: &mut Cpu, xms: &mut Xms, space: &mut Space)
     succeed(cpu);
 }
 
-/// 04h: turns the global switch off; error 94h if the local count keeps A20 on.
+/// 04h: turns the global switch off; error 94h if the local count keeps A20 on, though the switch is off.
 #[tactic(auto, unfolding(crate::specs::Line::disable_globally))]
 pub(crate) fn disable_globally(cpu: &mut Cpu, xms: &mut Xms, space: &mut Space)
     ensures { caller cpu.new xms.new space.new.memory ≡ disable_globally (caller cpu.old xms.old space.old.memory) }
@@ -27,7 +27,7 @@ pub(crate) fn disable_globally(cpu: &mut Cpu, xms: &mut Xms, space: &mut Space)
     settle(cpu, res);
 }
 
-/// 05h: adds one to the local count, and turns A20 on; error 82h at FFFFh.
+/// 05h: adds one to the local count, and turns A20 on; error 82h at FFFFh, and count and A20 stay.
 #[tactic(auto, unfolding(crate::specs::Line::enable_locally))]
 pub(crate) fn enable_locally(cpu: &mut Cpu, xms: &mut Xms, space: &mut Space)
     ensures { caller cpu.new xms.new space.new.memory ≡ enable_locally (caller cpu.old xms.old space.old.memory) }
@@ -36,7 +36,8 @@ pub(crate) fn enable_locally(cpu: &mut Cpu, xms: &mut Xms, space: &mut Space)
     settle(cpu, res);
 }
 
-/// 06h: takes one from the local count; error 94h if A20 stays on, 82h if the count is 0.
+/// 06h: takes one from the local count; error 94h if A20 stays on, though the count is one less; error 82h if the count
+/// is 0, which stays.
 #[tactic(auto, unfolding(crate::specs::Line::disable_locally))]
 pub(crate) fn disable_locally(cpu: &mut Cpu, xms: &mut Xms, space: &mut Space)
     ensures { caller cpu.new xms.new space.new.memory ≡ disable_locally (caller cpu.old xms.old space.old.memory) }

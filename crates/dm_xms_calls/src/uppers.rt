@@ -1,5 +1,6 @@
 //! Upper memory blocks (XMS 3.0, functions 10h to 12h). Where upper memory belongs to the arena of DOS (`upper`), the
-//! driver has none. Each function sets AX to 1, or to 0 with the error in BL.
+//! driver has none: 10h fails with B1h and sets DX to 0, 11h and 12h fail with B2h. Each function sets AX to 1, or
+//! after an error AX to 0 and BL to its code.
 ghost use Rattle.std.specs.Prelude.{◌≡◌};
 ghost use Rattle.dm_xms_calls.specs.Caller.{caller};
 ghost use Rattle.dm_xms_calls.specs.Uppers.{request, release, resize};
@@ -9,8 +10,8 @@ use dm_cpu::Cpu;
 use dm_space::Space;
 use dm_xms::{UpperRefusal, Xms};
 
-/// 10h: allocates a block of DX paragraphs; sets BX to its segment, DX to its size. If there is no room, DX is the
-/// largest size that there is.
+/// 10h: allocates a block of DX paragraphs, or of 1 if DX is 0; sets BX to its segment, DX to its size. After error
+/// B0h DX is the number of paragraphs of the largest gap, after B1h 0.
 #[tactic(auto, unfolding(crate::specs::Uppers::request))]
 pub(crate) fn request(cpu: &mut Cpu, xms: &mut Xms, space: &Space, upper: bool)
     ensures { caller cpu.new xms.new space.now.memory ≡ request upper (caller cpu.old xms.old space.now.memory) }
@@ -23,7 +24,7 @@ pub(crate) fn request(cpu: &mut Cpu, xms: &mut Xms, space: &Space, upper: bool)
     settle_upper(cpu, res);
 }
 
-/// 11h: frees the block at segment DX.
+/// 11h: frees the block that begins at segment DX.
 #[tactic(auto, unfolding(crate::specs::Uppers::release))]
 pub(crate) fn release(cpu: &mut Cpu, xms: &mut Xms, space: &Space, upper: bool)
     ensures { caller cpu.new xms.new space.now.memory ≡ release upper (caller cpu.old xms.old space.now.memory) }
@@ -36,8 +37,8 @@ pub(crate) fn release(cpu: &mut Cpu, xms: &mut Xms, space: &Space, upper: bool)
     settle_uppers(cpu, res);
 }
 
-/// 12h: resizes the block at segment DX to BX paragraphs, or to 1 if BX is 0. If there is less room the block stays, and
-/// DX is the number of paragraphs that it can have.
+/// 12h: resizes the block that begins at segment DX to BX paragraphs, or to 1 if BX is 0. If there is less room (error
+/// B0h) the block stays, and DX is the number of paragraphs that it can have there.
 #[tactic(auto, unfolding(crate::specs::Uppers::resize))]
 pub(crate) fn resize(cpu: &mut Cpu, xms: &mut Xms, space: &Space, upper: bool)
     ensures { caller cpu.new xms.new space.now.memory ≡ resize upper (caller cpu.old xms.old space.now.memory) }

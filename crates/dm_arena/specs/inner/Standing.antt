@@ -1,4 +1,4 @@
--- When a new header may stand beside others. No public contract mentions any of it.
+-- When a new header may stand beside others. For private contracts and proofs alone.
 use Rattle.std.specs.Prelude.{List, None, Option, Some, ℕ, ◌*◌, ◌≡◌, ◌≢◌, ◌≤◌, ◌⊎◌}
 use Rattle.dm_space.specs.declared.place.Place.{Place}
 use Rattle.dm_space.specs.Memory.{Memory, place}

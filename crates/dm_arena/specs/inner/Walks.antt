@@ -1,5 +1,5 @@
--- How far the walks over headers have come, and what the private steps of the calls do. No public contract mentions
--- any of it: a reader who checks what the calls promise can leave this file out.
+-- How far the walks over headers have come, and what the private steps of the calls do. For private contracts and
+-- proofs alone: a reader who checks what the calls promise can leave this file out.
 use Rattle.std.specs.Prelude.{Bool, List, None, Option, Some, [], cond, false, if◌then◌else◌, max, option_to_list, true, ℕ, ◌&&◌, ◌*◌, ◌++◌, ◌+◌, ◌-◌, ◌<◌, ◌==◌, ◌∷◌, ◌≡◌, ◌≢◌}
 use Rattle.dm_space.specs.declared.place.Place.{Place}
 use Rattle.dm_space.specs.Memory.{Memory, byte_at, place}

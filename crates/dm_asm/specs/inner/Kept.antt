@@ -1,5 +1,5 @@
--- The map in which the assembler keeps labels, and what the first pass hands to the second. No public contract
--- mentions any of it.
+-- The map in which the assembler keeps labels, and what the first pass hands to the second. For private contracts and
+-- proofs alone.
 use Rattle.std.specs.Prelude.{◌≡◌, ◌<◌, ◌≤◌, ◌^◌, ℕ, List, IfSome}
 use Rattle.std.specs.Ordering.{nat_cmp}
 use Rattle.std.specs.Cmp.Lexicographic.{slice_cmp}

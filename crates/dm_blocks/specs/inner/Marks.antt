@@ -1,6 +1,6 @@
 -- Which paragraphs of the EMS page frame have a header, as a walk records them: a mark for each of the 400h
 -- paragraphs of each of the four windows. Where several windows show one block of the pool, the marks are those of
--- the first of them. No public contract mentions any of it.
+-- the first of them. For private contracts and proofs alone.
 use Rattle.std.specs.Prelude.{Bool, List, None, Option, Some, [], false, if◌then◌else◌, length, slice_index_or, suc, true, ℕ, ◌*◌, ◌++◌, ◌+◌, ◌/◌, ◌==◌, ◌∷◌, ◌≡◌, MatchBool}
 use Rattle.dm_space.specs.declared.place.Place.TheVariants.{Page}
 use Rattle.dm_space.specs.Memory.{Memory, place}

@@ -1,4 +1,4 @@
--- When a header may stand beside others. No public contract of the arena mentions any of it.
+-- When a header may stand beside others. For private contracts and proofs alone.
 use Rattle.std.specs.Prelude.{List, ℕ, ◌*◌, ◌≡◌, ◌≢◌}
 use Rattle.dm_space.specs.declared.place.Place.{Place}
 use Rattle.dm_space.specs.Memory.{Memory, place}

@@ -1,5 +1,4 @@
--- A walk that goes to the end of its list (`tell_all` of src/list.rt). No public contract of the arena mentions any
--- of it.
+-- A walk that goes to the end of its list (`tell_all` of src/list.rt). For private contracts and proofs alone.
 use Rattle.std.specs.Prelude.{List, None, Option, Some, ℕ, ◌≡◌}
 use Rattle.dm_blocks.specs.declared.header.Header.{Header}
 use Rattle.dm_blocks.specs.Chain.{IsArenaBehind, NoArenaBehind}

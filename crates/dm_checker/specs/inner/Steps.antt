@@ -32,7 +32,7 @@ pub record IsUnlisted (s : State) : Type 0 where
 abbrev pub found_by : Before → ℕ → Act → Finding → Found
 found_by b step a f = record { step = step; segment = b.cpu.cs; offset = b.cpu.ip; act = a; finding = f }
 
--- the report `new` is the report `old` with these findings added
+-- the report `new` is the report `old` with the findings `more` added
 abbrev pub ReportsMore : Reported → Reported → List Found → Type 0
 ReportsMore old new more = (fs : List Found) → old ≡ report_of fs → new ≡ report_of (fs ++ more)
 
@@ -47,8 +47,8 @@ abbrev pub FindsAtAny : State → Option Stop → State → List Found → Type 
 FindsAtAny s None t found = FindsAt s t found
 FindsAtAny s (Some stop) t found = FindsAtStop s stop t found
 
--- one checked step from s to t: the report `new` is `old` with its findings, and if the machine goes on, w is what
--- memory shows of the arena after it
+-- one checked step from s to t, with this stop or None: the report `new` is `old` with the findings of the step added,
+-- and if the machine goes on, w is what memory shows of the arena after the step
 pub record ChecksOne (s : State) (stop : Option Stop) (t : State) (w : Watch) (old new : Reported) : Type 0 where
   pub answers : Answers s stop t
   pub found : List Found

@@ -60,7 +60,8 @@ pub record IsWatch (upper : Bool) (m : Memory) (w : Watch) : Type 0 where
   pub headers : All (IsWatched m) w.headers.items
   pub there : IsBrokenIn m w.broken
 
--- memory m has the same windows and the same bytes as those kept in w; and its windows show pages that are there
+-- memory m has the windows and the bytes that are kept in w, with the same setting `upper`; and its windows show pages
+-- that are there
 pub record IsSeen (upper : Bool) (m : Memory) (w : Watch) : Type 0 where
   pub setting : upper ≡ w.upper
   pub windows : m.windows ≡ w.windows

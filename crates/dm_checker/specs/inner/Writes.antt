@@ -15,13 +15,13 @@ use Rattle.dm_machine.specs.Step.{fetched}
 use Rattle.dm_ins.specs.Ins.{BeginsWith}
 use Rattle.dm_checker.specs.declared.writes.Entry.{Entry}
 
--- the operand is in memory
+-- whether the operand is in memory
 abbrev pub is_memory : Operand → Bool
 is_memory (Memory width a) = true
 is_memory _ = false
 
--- the instruction may write memory: it writes elsewhere than to its operands, or to an operand in memory; DIV and IDIV
--- may take interrupt 0
+-- whether the instruction with this mnemonic and these operands may write memory: elsewhere than to its operands, or to
+-- an operand in memory; DIV and IDIV may take interrupt 0, which pushes FLAGS, CS and IP
 abbrev pub may_write : Mnemonic → Operand → Operand → Bool
 may_write Push first second = true
 may_write Pushf first second = true

@@ -1,4 +1,4 @@
--- For private contracts and proofs alone: beside specs/Checking.antt.
+-- The part of `dm check` after its machine is loaded. Private contracts and proofs alone name this.
 use Rattle.std.specs.Prelude.{ℕ, ◌≡◌, ◌++◌, List, Option, Result, Ok, Err}
 use Rattle.std.specs.Io.KnownBytes.{Appends, Keeps}
 use Rattle.dm_out.specs.Out.{AppendsPart, HasFailed}
@@ -15,7 +15,7 @@ use Rattle.dm_cli.specs.Messages.{Stream, Prints, stop_text}
 use Rattle.dm_cli.specs.Checking.{checked_status}
 
 -- `dm check` once its machine m is loaded: the exit status, after the output and the report were written; or a fault: a
--- write of the output failed, or an allocation, and then nothing was written
+-- write of the output failed, after a first part; or an allocation failed, and nothing was written
 pub data ChecksRun (m : State) (steps : ℕ) (before after : Option (List ℕ)) (failed_before failed_after : ℕ) (error_before error_after : Stream) : Result ℕ Fault → Type 0 where
   run_checked : (t : State) (stop : Stop) (report : Reported) (status : ℕ) → IsRun m steps stop t → IsReport m steps stop t report
       → Appends before after t.console.output → failed_after ≡ failed_before → Prints (report_text report ++ stop_text stop) error_before error_after → status ≡ checked_status report stop

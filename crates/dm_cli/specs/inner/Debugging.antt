@@ -1,4 +1,4 @@
--- For private contracts and proofs alone: beside specs/Debugging.antt.
+-- Parts of a conversation of `dm debug`. Private contracts and proofs alone name these.
 use Rattle.std.specs.Prelude.{ℕ, ◌≡◌, false, List, Option, Some, OnSome}
 use Rattle.std.specs.Io.{StopsAt}
 use Rattle.std.specs.Io.BufRead.{ends_with_byte}
@@ -11,8 +11,8 @@ use Rattle.dm_cli.specs.declared.fault.Fault.{Fault}
 use Rattle.dm_cli.specs.declared.fault.Fault.TheVariants.{OutOfMemory}
 use Rattle.dm_cli.specs.Debugging.{IsConversation, Tells}
 
--- the reader gave its next line, where it is known what it has: the line goes up to the first 0Ah and includes it, or
--- up to the end of the input
+-- `line` is the next line of a reader, up to its first 0Ah, which it includes, or up to the reader's end; `before` and
+-- `after` are the bytes left in the reader, where they are known
 pub record Reads (before after : Option (List ℕ)) (line : List ℕ) : Type 0 where
   pub consumes : Consumes before after line
   pub stops : StopsAt line 10

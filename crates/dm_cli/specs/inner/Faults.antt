@@ -1,4 +1,4 @@
--- For private contracts and proofs alone: beside specs/Faults.antt.
+-- The faults for the errors of the crates below. Private contracts and proofs alone name these.
 use Rattle.dm_proc.specs.declared.programs.AddError.{AddError}
 use Rattle.dm_proc.specs.declared.programs.AddError.TheVariants as add
 use Rattle.dm_machine.specs.declared.machine.NewError.{NewError}

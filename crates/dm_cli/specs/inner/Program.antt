@@ -1,4 +1,4 @@
--- For private contracts and proofs alone: beside specs/Program.antt.
+-- The part of `dm run` after its machine is loaded. Private contracts and proofs alone name this.
 use Rattle.std.specs.Prelude.{ℕ, ◌≡◌, List, Option, Result, Ok, Err}
 use Rattle.std.specs.Io.KnownBytes.{Appends}
 use Rattle.dm_out.specs.Out.{AppendsPart, HasFailed}

@@ -1,4 +1,4 @@
--- For private contracts and proofs alone: beside specs/Saving.antt.
+-- The list of the files that `dm` has written.
 use Rattle.std.specs.Prelude.{ℕ, List}
 
 -- files by their paths, with their bytes, in the order in which they were written

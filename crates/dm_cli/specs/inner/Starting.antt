@@ -1,4 +1,4 @@
--- For private contracts and proofs alone: beside specs/Starting.antt.
+-- The load of the first file into a new machine. Private contracts and proofs alone name these.
 use Rattle.std.specs.Prelude.{ℕ, ◌≡◌, ◌<◌, ◌≤◌, List, [], ◌∷◌, length}
 use Rattle.dm_machine.specs.Start.{IsLoaded}
 use Rattle.dm_options.specs.declared.command_line.MachineOptions.{MachineOptions}
@@ -8,7 +8,7 @@ use Rattle.dm_cli.specs.declared.fault.Fault.TheVariants.{TailTooLong, NotFound}
 use Rattle.dm_cli.specs.Names.{last_part}
 use Rattle.dm_cli.specs.Starting.{IsLoadFault, paths_of}
 
--- the first of the files is loaded into the machine `fresh`, with a tail of at most 126 bytes, which becomes m
+-- the machine `fresh`, into which the first of the files is loaded with a tail of at most 126 bytes, becomes m
 pub record IsFirstLoaded (fresh : State) (paths : List (List ℕ)) (tail : List ℕ) (m : State) : Type 0 where
   pub first : List ℕ
   pub others : List (List ℕ)

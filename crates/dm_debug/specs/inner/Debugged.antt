@@ -1,4 +1,4 @@
--- For private contracts and proofs alone: beside specs/Debugged.antt.
+-- The invariant of `Session`. Private contracts and proofs alone name this.
 use Rattle.dm_state.specs.State.{HasProgram}
 use Rattle.dm_debug.specs.Debugged.{Debugged}
 

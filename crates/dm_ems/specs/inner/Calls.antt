@@ -1,8 +1,8 @@
--- What a call is as one value. For private contracts and proofs alone.
+-- The type of a call as one value. For private contracts and proofs alone.
 use Rattle.std.specs.Prelude.{Result}
 use Rattle.dm_ems.specs.declared.status.Status.{Status}
 use Rattle.dm_ems.specs.Tables.{Expanded}
 
--- what a call with a result of type A is: an error, or the result and the state after it
+-- a call with a result of type A: an error, or the result and the state after it
 abbrev pub Row : Type 0 → Type 0
 Row A = Result (A × Expanded) Status

@@ -1,4 +1,4 @@
--- For private contracts and proofs alone: beside specs/Loading.antt.
+-- The tests before a load, and the session that a load begins. Private contracts and proofs alone name these.
 use Rattle.std.specs.Prelude.{◌≡◌, ℕ, ◌<◌, ◌≤◌, List, Result, Ok, Err, length}
 use Rattle.dm_state.specs.State.{State}
 use Rattle.dm_machine.specs.Start.{IsLoaded, HasNoRoom}

@@ -1,4 +1,4 @@
--- For private contracts and proofs alone: beside specs/Setups.antt.
+-- The invariant of `Setup`, and the test of a program. Private contracts and proofs alone name these.
 use Rattle.std.specs.Prelude.{ℕ, ◌≤◌, List, Result, Ok, Err, length}
 use Rattle.dm_pool.specs.Stored.{IsTooLarge}
 use Rattle.dm_host.specs.declared.refusal.Refusal.{Refusal}

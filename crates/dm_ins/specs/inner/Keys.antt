@@ -22,7 +22,7 @@ has_field k = nat_lt k.register 8
 abbrev pub is_of : Mnemonic → Row → Bool
 is_of m r = sameb the_type r.mnemonic m
 
--- the list with the key before it if the test is true, else as it is
+-- the list with the key put before it if the test is true, else as it is
 abbrev pub onto : Bool → Key → List Key → List Key
 onto true k ks = k ∷ ks
 onto false k ks = ks

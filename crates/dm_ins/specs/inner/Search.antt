@@ -63,7 +63,7 @@ numbered Byte (operand.ByteRegister r) = Some (byte_number r)
 numbered Word (operand.WordRegister r) = Some (word_number r)
 numbered _ _ = None
 
--- the demand of an operand that needs these bytes after the mod r/m byte, and no field
+-- the demand of an operand that needs these bytes after the mod r/m byte and its displacement, and no field
 abbrev pub asks_data : Data → Demand
 asks_data d = record { register = None; place = None; tail = d }
 
@@ -117,7 +117,7 @@ demand_of (is.TheSegment r) _ = None
 demand_of is.One operand.One = Some (asks_data data_is.Nothing)
 demand_of is.One _ = None
 
--- the bytes of an operand after the mod r/m byte, the low byte of a word first
+-- the bytes of an operand after the mod r/m byte and its displacement, the low byte of a word first
 abbrev pub data_bytes : Data → List ℕ
 data_bytes data_is.Nothing = []
 data_bytes (data_is.Byte n) = n ∷ []
@@ -199,7 +199,7 @@ OperandFits (operand.Target n) = n < 2 ^ 16
 OperandFits (operand.FarTarget n s) = (n < 2 ^ 16) × (s < 2 ^ 16)
 OperandFits _ = Unit {0}
 
--- the bytes that the row under the first byte b and the reg field g has for an action
+-- c are the bytes that the row under the first byte b and the reg field g has for the action a
 pub record CandidateAt (b g : ℕ) (a : Action) (c : List ℕ) : Type 0 where
   pub choice : Choice
   pub is_choice : choice_at (entry_of b) b g ≡ Some choice
@@ -219,8 +219,8 @@ better_of (Some a) (Some b) = if before b a then Some b else Some a
 abbrev pub Under : List Key → ℕ → Action → List ℕ → Type 0
 Under ks n a c = CandidateAt (key_at ks n).opcode (key_at ks n).register a c
 
--- o is the least of the bytes that the rows under the first n keys of a list have for the action, None if they have
--- none
+-- o is bytes that some row has for the action, and no row under the first n keys of a list has lesser ones; None only
+-- if those rows have none
 pub record Best (n : ℕ) (ks : List Key) (a : Action) (o : Option (List ℕ)) : Type 0 where
   pub found : IfSome o (λ v. (b g : ℕ) × CandidateAt b g a v)
   pub least : (k : ℕ) (c : List ℕ) → k < n → Under ks k a c → IsSomeAnd o (λ v. before c v ≡ false)

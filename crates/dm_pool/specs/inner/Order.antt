@@ -30,7 +30,7 @@ pub record IsOrder (places : List (Option Extent)) (order : List ℕ) : Type 0 w
   pub counted : length order ≡ count_by has_units places
   pub small : (p : ℕ) → p < length order → get_or order p 0 < 576
 
--- no two blocks share a unit, and each lies within the pool; those of no unit at unit 0
+-- no two blocks share a unit, and each lies within the pool, those of no unit at unit 0; the order has those with units
 pub record IsTable (l : Layout) : Type 0 where
   pub laid : IsLaid l.units l.places
   pub based : AreBased l.places

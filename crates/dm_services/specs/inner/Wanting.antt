@@ -1,4 +1,5 @@
--- For private contracts and proofs alone: beside specs/Wanting.antt.
+-- Steps with one result that may fail for lack of memory, as specs/Wanting.antt has it for several results. Private
+-- contracts and proofs alone name this.
 use Rattle.std.specs.Prelude.{◌≡◌, Option, Some, ◌+◌, ◌<◌}
 use Rattle.dm_state.specs.declared.stop.Stop.{Stop}
 use Rattle.dm_state.specs.declared.stop.Stop.TheVariants.{Memory as NoMemory}

@@ -1,4 +1,4 @@
--- For private contracts and proofs alone: beside specs/State.antt.
+-- A part of the invariant of `Parts`. Private contracts and proofs alone name this.
 use Rattle.std.specs.Prelude.{◌-◌, ◌<◌, All, List, ◌≡◌, ◌⊎◌, ◌+◌, ◌^◌}
 use Rattle.dm_xms.specs.Tables as xms
 use Rattle.dm_xms.specs.Consistent as extended_memory

@@ -1,5 +1,5 @@
 -- The search for the instruction that words are, as `read_encoded` makes it: a written operand may be up to four
--- operands, and each is tried (`Way`). No public contract mentions any of it: they speak of `AreWords`.
+-- operands, and each is tried (`Way`). For private contracts and proofs alone: public contracts speak of `AreWords`.
 use Rattle.std.specs.Prelude.{◌≡◌, ℕ, ◌<◌, List, [], ◌∷◌, slice_index_or, if◌then◌else◌, Option, Some, None}
 use Rattle.dm_ins.specs.declared.operand.Width.TheVariants as width
 use Rattle.dm_ins.specs.declared.operand.Address.{Address}

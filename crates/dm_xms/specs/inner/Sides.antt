@@ -1,4 +1,4 @@
--- Where the bytes of a side of a move lie. No public contract mentions it.
+-- Where the bytes of a side of a move (function 0Bh) lie. For private contracts and proofs alone.
 use Rattle.std.specs.Prelude.{◌≡◌, ◌⊎◌, ℕ, ◌+◌, ◌≤◌, ◌<◌, ◌^◌, Bool, true, false}
 use Rattle.dm_space.specs.Memory.{Memory}
 use Rattle.dm_moves.specs.declared.spans.SpanKind.{SpanKind}
