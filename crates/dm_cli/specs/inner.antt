@@ -4,6 +4,5 @@ pub mod Debugging
 pub mod Faults
 pub mod Names
 pub mod Program
-pub mod Saving
 pub mod Starting
 pub mod Statuses
