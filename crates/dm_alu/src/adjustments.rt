@@ -89,7 +89,7 @@ fn word_of_halves(high: u16, low: u16) -> u16
     high % 0x100 * 0x100 + low % 0x100
 }
 
-/// Whether the low digit of AL is over 9, or the adjust flag is set.
+/// Whether AAA, AAS, DAA and DAS adjust the low digit of AL (`low`): it is over 9, or the adjust flag is set.
 fn low_digit_off(low: u16, flags: Flags) -> bool
     ensures { result ≡ low_digit_off low flags }
 {

@@ -44,8 +44,8 @@ RunsTo h n before after status g =
     IsDoneOrRefused status ((stop : Stop) × Works h (λ s t. IsRun s.machine n stop t.machine × (t.points ≡ s.points)) g × (after ≡ stopped_of (Some stop)))
     (λ why. IsNotLoaded h why × (g ≡ h) × (after ≡ before))
 
--- `mezguld_run_until`: a run of at most n steps, up to a breakpoint, and why it stopped; if no program is loaded, or an
--- allocation failed, nothing changes
+-- `mezguld_run_until`: a run of at most n steps, up to a breakpoint, and why it stopped; if no program is loaded, or the
+-- allocation of the list of breakpoints failed, nothing changes
 abbrev pub RunsUntilTo : Hosted → ℕ → List Point → Stopped → Stopped → ℕ → Hosted → Type 0
 RunsUntilTo h n points before after status g =
     IsDoneOrRefused status ((stop : Option Stop) × Works h (λ s t. RunsUntil s.machine n (map point_of points) stop t.machine × (t.points ≡ s.points)) g × (after ≡ stopped_of stop))

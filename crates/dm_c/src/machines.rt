@@ -47,7 +47,8 @@ pub(crate) fn run(host: &mut Host, steps: u64, stopped: &mut Stopped) -> u32
 }
 
 /// Makes at most `steps` steps, up to the first one that leads to one of `points`, and sets `stopped` to why the run
-/// stopped. Status 3 if an allocation failed, else 14 if no program is loaded; then nothing changes.
+/// stopped. Status 3 if the allocation of the list of breakpoints failed, else 14 if no program is loaded; then nothing
+/// changes. An allocation that fails during the run is a stop (6), with status 0.
 pub(crate) fn run_until(
     alloc: Global,
     host: &mut Host,

@@ -97,9 +97,9 @@ pub fn move_bytes(space: &mut Space, from: &Span, to: &Span, len: usize)
     write(space, 0, to, len);
 }
 
-/// Copies the first `len` bytes of one span to another, each of them in one block, which may be the same: the result is
-/// as if all were read before the first is written. The scratch bytes are not used and stay as they are, so `len` may
-/// exceed their number.
+/// Copies the first `len` bytes of one span to another, each of them in one block, which may be the same (XMS 3.0,
+/// function 0Bh between handles): the result is as if all were read before the first is written. The scratch bytes are
+/// not used and stay as they are, so `len` may exceed their number.
 pub fn move_blocks(space: &mut Space, from: &Span, to: &Span, len: usize)
     requires blocks { (from.now.kind ≡ SpanKind.Single) × (to.now.kind ≡ SpanKind.Single) }
     requires from { IsInside space.old.memory from.now len }

@@ -106,7 +106,7 @@ impl Xms {
         self.handles[handle as usize - 1] = slot;
     }
 
-    /// The index of the lowest handle that is not in use, which is the handle less 1; None if all 64 are.
+    /// The lowest handle that is not in use, less 1, which is its index in the table; None if all 64 are in use.
     pub(crate) fn free_slot(&self) -> Option<u16>
         ensures first { result ≡ position is_none self.now.handles }
         ensures low { IfSome result (λ at. at < 64) }
