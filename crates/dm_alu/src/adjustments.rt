@@ -96,14 +96,14 @@ fn low_digit_off(low: u16, flags: Flags) -> bool
     low % 0x10 > 9 || flags.adjust
 }
 
-/// Whether AL is over 99h, or the carry flag is set.
+/// Whether DAA and DAS adjust the high digit of AL (`low`): AL is over 99h, or the carry flag is set.
 fn high_digit_off(low: u16, flags: Flags) -> bool
     ensures { result ≡ high_digit_off low flags }
 {
     low > 0x99 || flags.carry
 }
 
-/// What a decimal adjustment adds to AL or takes from it: 0, 6, 60h or 66h.
+/// What DAA adds to AL (`low`) and DAS takes from it: 0, 6, 60h or 66h.
 fn decimal_change(low: u16, flags: Flags) -> u16
     ensures change { result ≡ decimal_change low flags }
     ensures at_most { result ≤ 0x66 }
@@ -113,7 +113,7 @@ fn decimal_change(low: u16, flags: Flags) -> u16
     units + tens
 }
 
-/// The flags with parity, zero and sign set by AL of `ax`; the others stay.
+/// The flags with parity, zero and sign set by AL of `ax` (DAA, DAS, AAM, AAD); the others stay.
 fn after_accumulator(ax: u16, flags: Flags) -> Flags
     ensures { result ≡ after_accumulator ax flags }
 {

@@ -64,7 +64,7 @@ fn product(sign: Sign, width: Width, a: u16, b: u16) -> u32
     }
 }
 
-/// The product of the signed numbers that two values stand for.
+/// IMUL: the product of the signed numbers that two values stand for.
 fn signed_product(width: Width, a: u16, b: u16) -> i32
     requires first { a < size width }
     requires second { b < size width }
@@ -74,7 +74,7 @@ fn signed_product(width: Width, a: u16, b: u16) -> i32
     width.signed(a) * width.signed(b)
 }
 
-/// The value of twice the width that stands for a signed number in two's complement.
+/// The value of twice the width that stands for a signed number in two's complement, for the product of IMUL.
 fn double_complement(width: Width, number: i32) -> u32
     requires { unsigned_abs number ≤ half width * half width }
     ensures value { result ≡ twos_complement (size width * size width) number }
@@ -189,7 +189,7 @@ fn signed_division(width: Width, quotient: i64, remainder: i64) -> Option<Divisi
     }
 }
 
-/// The quotient, cut towards zero. (Thirty-two bits would not hold that of the least dividend by -1.)
+/// The quotient of IDIV, cut towards zero. (Thirty-two bits would not hold that of the least dividend by -1.)
 #[tactic(auto, using(crate::proofs::Quotients::quotient_smaller))]
 fn truncated_quotient(dividend: i64, divisor: i64) -> i64
     requires dividend { unsigned_abs dividend ≤ 2147483648 }
@@ -199,8 +199,8 @@ fn truncated_quotient(dividend: i64, divisor: i64) -> i64
     dividend / divisor
 }
 
-/// The remainder of a division cut towards zero: it is zero or has the dividend's sign, and is nearer to zero than the
-/// divisor.
+/// The remainder of IDIV, whose quotient is cut towards zero: it is zero or has the dividend's sign, and is nearer to
+/// zero than the divisor.
 #[tactic(auto, using(crate::proofs::Quotients::remainder_smaller))]
 fn truncated_remainder(dividend: i64, divisor: i64) -> i64
     requires dividend { unsigned_abs dividend ≤ 2147483648 }
@@ -211,7 +211,7 @@ fn truncated_remainder(dividend: i64, divisor: i64) -> i64
     dividend % divisor
 }
 
-/// The signed number that a value of twice the width stands for in two's complement.
+/// The signed number that a value of twice the width, the dividend of IDIV, stands for in two's complement.
 #[tactic(auto, unfolding(crate::specs::Products::signed_double))]
 fn signed_double(width: Width, value: u32) -> i64
     requires { value < size width * size width }
@@ -225,7 +225,7 @@ fn signed_double(width: Width, value: u32) -> i64
     }
 }
 
-/// The value of the width that stands for a signed number in two's complement.
+/// A signed number, the quotient or remainder of IDIV, as a value of the width: below 0 with the width's size added.
 fn single_complement(width: Width, number: i32) -> u16
     requires { unsigned_abs number ≤ half width }
     ensures value { result ≡ twos_complement (size width) number }

@@ -44,8 +44,8 @@ RunsTo h n before after status g =
     IsDoneOrRefused status ((stop : Stop) × Works h (λ s t. IsRun s.machine n stop t.machine × (t.points ≡ s.points)) g × (after ≡ stopped_of (Some stop)))
     (λ why. IsNotLoaded h why × (g ≡ h) × (after ≡ before))
 
--- `mezguld_run_until`: a run of at most n steps, up to a breakpoint, and why it stopped; if no program is loaded, or the
--- allocation of the list of breakpoints failed, nothing changes
+-- `mezguld_run_until`: a run of at most n steps, up to a breakpoint, and why it stopped; if no program is loaded, or
+-- the allocation of the list of breakpoints failed, nothing changes
 abbrev pub RunsUntilTo : Hosted → ℕ → List Point → Stopped → Stopped → ℕ → Hosted → Type 0
 RunsUntilTo h n points before after status g =
     IsDoneOrRefused status ((stop : Option Stop) × Works h (λ s t. RunsUntil s.machine n (map point_of points) stop t.machine × (t.points ≡ s.points)) g × (after ≡ stopped_of stop))
@@ -69,8 +69,8 @@ abbrev pub WritesTo : Hosted → ℕ → ℕ → List ℕ → ℕ → Hosted →
 WritesTo h segment offset bytes status g =
     IsDoneOrRefused status (Works h (λ s t. t ≡ with_machine s (record s.machine { memory = with_bytes s.machine.memory segment offset bytes })) g) (λ why. IsNotLoaded h why × (g ≡ h))
 
--- `mezguld_output`: all that was written to the console is copied to the front of the buffer, if it fits; if no program
--- is loaded (status 14), nothing changes
+-- `mezguld_output`: all that was written to the console is copied to the front of the buffer, if it fits, and `wanted`
+-- becomes its length; if no program is loaded (status 14), nothing changes
 abbrev pub OutputTo : Hosted → List ℕ → List ℕ → ℕ → ℕ → ℕ → Hosted → Type 0
 OutputTo h before after wanted_before wanted status g =
     (Shows h (λ s. Gives s.console.output before after wanted status)
@@ -82,14 +82,14 @@ abbrev pub CommandsTo : Hosted → List ℕ → ℕ → ℕ → ℕ → Hosted �
 CommandsTo h line before wanted status g =
     IsDoneOrRefused status (IsCommanded h line g × (wanted ≡ length g.answer)) (λ why. IsUncommanded h line why g × (wanted ≡ before))
 
--- `mezguld_check`: a run of at most n steps under the memory checker, and why it stopped; `wanted` becomes how many
--- bytes the report has. Both stay at a refusal
+-- `mezguld_check`: a run of at most n steps under the memory checker; `after` is why it stopped, and `wanted` how many
+-- bytes the report has. Both are as before at a refusal
 abbrev pub ChecksTo : Hosted → ℕ → Stopped → Stopped → ℕ → ℕ → ℕ → Hosted → Type 0
 ChecksTo h n before after wanted_before wanted status g =
     IsDoneOrRefused status ((stop : Stop) × Checks h n stop g × (after ≡ stopped_of (Some stop)) × (wanted ≡ length g.answer))
     (λ why. IsUnchecked h n why g × (after ≡ before) × (wanted ≡ wanted_before))
 
 -- `mezguld_answer`: the answer of the last command or checked run that had one is copied to the front of the buffer, if
--- it fits; the host stays
+-- it fits, and `wanted` is its length; the host stays
 abbrev pub AnswersTo : Hosted → List ℕ → List ℕ → ℕ → ℕ → Hosted → Type 0
 AnswersTo h before after wanted status g = Gives h.answer before after wanted status × (g ≡ h)

@@ -14,7 +14,7 @@ use Rattle.dm_c.specs.declared.values.Registers.{Registers}
 use Rattle.dm_c.specs.declared.values.Point.{Point}
 
 -- the status of a refusal of `dm_host`. Other statuses: 0 success, 1 no machine in the handle, 2 a handle in use, 4 a
--- buffer too small
+-- buffer too small, 17 to 21 those of `text_status_of`
 abbrev pub status_of : Refusal → ℕ
 status_of why.Memory = 3
 status_of why.TooLarge = 5

@@ -7,9 +7,9 @@ use Rattle.dm_disassembler.specs.Listing.{IsListing}
 use Rattle.dm_c.specs.Statuses.{text_status_of, wrong_line}
 use Rattle.dm_c.specs.Calls.{Gives}
 
--- `mezguld_assemble`: the bytes of the text's program are copied to the front of the buffer, if they fit, and `wanted`
--- is how many they are; or the text has an error, or an allocation failed: then buffer and `wanted` stay, and `line`
--- becomes the line of the error, if it has one
+-- `mezguld_assemble`: the bytes of the text's program are copied to the front of the buffer, if they fit, `wanted` is
+-- how many they are, and `line` stays; or the text has an error, or an allocation failed: then buffer and `wanted`
+-- stay, and `line` becomes the line of the error, if it has one
 pub data AssemblesTo (text before after : List ℕ) (wanted_before wanted line_before line status : ℕ) : Type 0 where
   assembled : (bytes : List ℕ) → Assembles text bytes → Gives bytes before after wanted status → line ≡ line_before → AssemblesTo text before after wanted_before wanted line_before line status
   refused : (why : AssemblyRefusal) → (why ≡ Memory) ⊎ Refuses text why → status ≡ text_status_of why → line ≡ wrong_line why line_before → after ≡ before → wanted ≡ wanted_before

@@ -130,7 +130,8 @@ pub extern "C" fn mezguld_run_until(
     status
 }
 
-/// Sets `steps` to how many steps the machine has made so far. `steps` stays unless the status is 0.
+/// Sets `steps` to how many steps the machine has made so far; at 2^64 - 1 the count stays. `steps` stays unless the
+/// status is 0.
 #[unsafe(no_mangle)]
 pub extern "C" fn mezguld_steps(alloc: Global, machine: &mut Handle, steps: &mut u64) -> u32
     ensures { IsCall machine.old.inside.value machine.new.inside.value ((result ≡ 1) × (steps.new ≡ steps.old)) (λ h g. StepsTo h steps.old steps.new result g) }
@@ -220,8 +221,8 @@ pub extern "C" fn mezguld_output(
 }
 
 /// Executes the debugger command of a line, keeps what it prints as the answer, and sets `wanted` to how many bytes
-/// that is. `wanted` and the answer before stay unless the status is 0; with status 3 (out of memory) the command, or
-/// some first part of it, may have been executed.
+/// that is. With status 3 (out of memory) the command, or some first part of it, may have been executed, and `wanted`
+/// and the answer before stay; with any other but 0 nothing changes.
 #[unsafe(no_mangle)]
 pub extern "C" fn mezguld_command(
     alloc: Global,
@@ -241,7 +242,7 @@ pub extern "C" fn mezguld_command(
 
 /// Makes at most `steps` steps under the memory checker, keeps its report as the answer, and sets `stopped` to why the
 /// run stopped and `wanted` to how many bytes the report has. All three stay unless the status is 0; with status 3 (out
-/// of memory) a first part of the run, perhaps all of it, was made.
+/// of memory) none, some or all of the run's steps were made.
 #[unsafe(no_mangle)]
 pub extern "C" fn mezguld_check(
     alloc: Global,

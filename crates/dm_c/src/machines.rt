@@ -129,8 +129,9 @@ pub(crate) fn output(host: &Host, buffer: &mut [u8], wanted: &mut usize) -> u32
     }
 }
 
-/// Executes the debugger command of a line, and sets `wanted` to the length of its answer. At a refusal nothing
-/// changes, but with status 3 the command, or some first part of it, may have been executed.
+/// Executes the debugger command of a line, keeps what it prints as the answer, and sets `wanted` to the answer's
+/// length. At a refusal nothing changes, but with status 3 the command, or some first part of it, may have been
+/// executed.
 pub(crate) fn command(alloc: Global, host: &mut Host, line: &[u8], wanted: &mut usize) -> u32
     ensures { CommandsTo host.old line.now wanted.old wanted.new result host.new }
 {
@@ -144,8 +145,8 @@ pub(crate) fn command(alloc: Global, host: &mut Host, line: &[u8], wanted: &mut 
 }
 
 /// Makes at most `steps` steps under the memory checker, and sets `stopped` to why the run stopped and `wanted` to the
-/// length of the report, which becomes the answer. At a refusal nothing changes, but with status 3 a first part of the
-/// run, perhaps all of it, was made.
+/// length of the report, which becomes the answer. At a refusal nothing changes, but with status 3 none, some or all of
+/// the run's steps were made.
 pub(crate) fn check(
     alloc: Global,
     host: &mut Host,

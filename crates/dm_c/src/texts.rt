@@ -39,7 +39,7 @@ fn wrong_line(refusal: AssemblyRefusal, before: usize) -> usize
 
 /// Assembles a text, copies the bytes of the COM program to the front of the buffer, and sets `wanted` to how many they
 /// are. If they do not fit, the status is 4, and only `wanted` changes. At an error in the text (17 to 21), or if an
-/// allocation failed (3), the buffer and `wanted` stay; `line` is set to the line of the error, if it has one.
+/// allocation failed (3), the buffer and `wanted` stay. `line` changes with 17 to 20 alone, to the line of the error.
 #[unsafe(no_mangle)]
 pub extern "C" fn mezguld_assemble(
     alloc: Global,

@@ -10,13 +10,13 @@ use std::alloc::{AllocError, Global};
 /// The status of a call that has succeeded.
 pub(crate) const OK: u32 = 0;
 
-/// The status of a call on a handle that holds no machine.
+/// The status of a call that needs a machine (any but `mezguld_new` and `mezguld_free`), on a handle that holds none.
 pub(crate) const NO_MACHINE: u32 = 1;
 
 /// The status of `mezguld_new` on a handle that holds a machine already.
 pub(crate) const IN_USE: u32 = 2;
 
-/// The status if an allocation failed.
+/// The status if an allocation of the library failed. One for the program's output is a stop (6) instead.
 pub(crate) const OUT_OF_MEMORY: u32 = 3;
 
 /// The status if the buffer is too small.
@@ -145,8 +145,8 @@ pub(crate) fn points_of(alloc: Global, points: &[Point]) -> Result<Vec<Breakpoin
     Ok(breakpoints)
 }
 
-/// Sets `wanted` to the number of bytes. If they fit, copies them to the front of the buffer and returns 0; otherwise
-/// returns 4, and the buffer stays.
+/// The end of the calls for output, answer, assembly and disassembly: sets `wanted` to the number of bytes. If they
+/// fit, copies them to the front of the buffer and returns 0; otherwise returns 4, and the buffer stays.
 pub(crate) fn give(bytes: &[u8], buffer: &mut [u8], wanted: &mut usize) -> u32
     ensures { Gives bytes.now buffer.old buffer.new wanted.new result }
 {

@@ -21,8 +21,8 @@ is_arena number = (number == 0x48) || (number == 0x49) || (number == 0x4A) || (n
 abbrev pub is_ending : ℕ → Bool
 is_ending number = (number == 0x00) || (number == 0x31) || (number == 0x4C)
 
--- whether the call of INT 21h with this number and these registers starts a process: 4Bh, but not with AL = 3, which
--- loads an overlay
+-- whether the call of INT 21h with this number and these registers may start a process: 4Bh, but not with AL = 3, which
+-- loads an overlay (any other AL but 0 is an error)
 abbrev pub is_starting : Cpu → ℕ → Bool
 is_starting c number = (number == 0x4B) && not (byte_of c Al == 3)
 

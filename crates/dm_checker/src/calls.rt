@@ -27,7 +27,8 @@ fn is_ending(number: u8) -> bool
     number == 0x00 || number == 0x31 || number == 0x4C
 }
 
-/// Whether the call of INT 21h with this number and these registers starts a process: 4Bh, but not with AL = 3.
+/// Whether the call of INT 21h with this number and these registers may start a process: 4Bh, but not with AL = 3.
+/// (With any other AL but 0 it fails.)
 fn is_starting(cpu: &Cpu, number: u8) -> bool
     ensures { result ≡ is_starting cpu.now number }
 {

@@ -16,8 +16,8 @@ use std::alloc::{AllocError, Global};
 /// failed, and, if the first program ended and does not stay resident, what it left allocated. Returns why the run
 /// stopped, and the report. A program must be loaded.
 ///
-/// An `Err` says that an allocation of the checker failed: the machine has made a first part of the run, perhaps all of
-/// it, and the report is lost.
+/// An `Err` says that an allocation of the checker failed: the machine has made none, some or all steps of the run, and
+/// the report is lost.
 pub fn check(alloc: Global, machine: &mut Machine, n: u64) -> Result<(Stop, Report), AllocError>
     requires { HasProgram machine.old }
     ensures run { IfOk result (λ r. IsRun machine.old n r.0 machine.new) }

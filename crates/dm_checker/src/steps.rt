@@ -1,4 +1,5 @@
-//! One checked step: the machine makes it, and what is found of it is added to the report.
+//! One checked step: the machine makes it, and what is found of it is added to the report. After an `Err`, a failed
+//! allocation, `out` and the report may have a part of what is found.
 
 ghost use Rattle.std.specs.Prelude.{◌≡◌, ◌++◌, map, IfOk, OnOk, OnErr, Option, None, Some, List};
 ghost use Rattle.dm_findings.specs.Calls.{call_of};
@@ -26,7 +27,8 @@ use dm_findings::{Act, Call, Finding, Found, Report};
 use dm_machine::{Machine, Stop, tables_and_memory_are_consistent};
 use std::alloc::{AllocError, Global};
 
-/// Appends to `out` that the arena is destroyed, or whole again, by where its list broke before the step and after it.
+/// Appends to `out` that the step destroyed the arena or made it whole again, if it did, by where the arena's list
+/// broke before the step and after it (None: nowhere).
 fn put_turned(
     out: &mut Vec<Finding>,
     before: &Option<Broken>,
@@ -131,7 +133,7 @@ fn tell_step(
 }
 
 /// Adds what is found of the step that ended the first program to the report: its findings, and what the program left
-/// allocated, unless it stays resident. An `Err` is a failed allocation.
+/// allocated, unless it stays resident. `kept` becomes the arena after the step. An `Err` is a failed allocation.
 fn check_end(
     alloc: Global,
     before: &Before,

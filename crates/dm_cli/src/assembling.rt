@@ -14,7 +14,8 @@ use std::alloc::Global;
 /// The largest number of bytes of a program that `dm disasm` lists.
 const MOST_PROGRAM_BYTES: usize = 65_278;
 
-/// The bytes of the program whose assembly text is in the file at `path`; or a fault of the file or of the text.
+/// The bytes of the program whose assembly text is in the file at `path`; or a fault of the file or of the text, or
+/// `OutOfMemory`.
 fn assembled<'a, F: Storage>(
     alloc: Global,
     storage: &F,
@@ -28,7 +29,8 @@ fn assembled<'a, F: Storage>(
     Ok(bytes)
 }
 
-/// The assembly text of the program in the file at `path`; or a fault of the file, or `TooLong` over 65,278 bytes.
+/// The assembly text of the program in the file at `path`; or a fault of the file, `TooLong` over 65,278 bytes, or
+/// `OutOfMemory`.
 fn disassembled<'a, F: Storage>(
     alloc: Global,
     storage: &F,
@@ -47,8 +49,8 @@ fn disassembled<'a, F: Storage>(
     }
 }
 
-/// `dm asm`: assembles the file `IN` and writes the bytes to the file `OUT`. If `IN` cannot be read or its text has a
-/// fault, no file is written. If the write fails, what `OUT` then holds is not known.
+/// `dm asm`: assembles the file `IN` and writes the bytes to the file `OUT`. If `IN` cannot be read or assembled, no
+/// file is written. If the write fails, what `OUT` then holds is not known.
 pub(crate) fn asm<'a, F: Storage>(
     alloc: Global,
     storage: &mut F,
@@ -64,7 +66,7 @@ pub(crate) fn asm<'a, F: Storage>(
 }
 
 /// `dm disasm`: writes the assembly text of the program in the file at `path` to `out`. `CannotWrite` if a write
-/// failed; with any other fault, nothing is written.
+/// failed, after a first part of the text or none; with any other fault, nothing is written.
 pub(crate) fn disasm<'a, F: Storage, W: Out>(
     alloc: Global,
     storage: &F,

@@ -1,4 +1,5 @@
-//! `dm check`: a run with a report of its findings on standard error.
+//! `dm check`: a run with a report of its findings on standard error. The line about the stop, which follows the
+//! report, is empty for an exit.
 ghost use Rattle.std.specs.Prelude.{◌≡◌, ◌++◌, OnErr, OnOk};
 ghost use Rattle.dm_reports.specs.Reports.{report_text};
 ghost use Rattle.dm_cli.specs.Checking.{Checks, checked_status};
@@ -43,7 +44,7 @@ fn checked_status(report: &Report, stop: Stop) -> u8
 
 /// Runs a machine under the checker, writes its output to `out`, and prints the report and the line about the stop on
 /// `error`. Returns the exit status. `OutOfMemory` if an allocation failed, before anything is written; `CannotWrite`
-/// if a write of the output failed, after a first part of it. With a fault, nothing is printed on `error`.
+/// if a write of the output failed, after a first part of it or none. With a fault, nothing is printed on `error`.
 fn check_machine<W: Out, E: Out>(
     alloc: Global,
     machine: &mut Machine,

@@ -34,7 +34,7 @@ const STOPPED: u8 = 125;
 const USAGE: u8 = 2;
 
 /// Runs a machine for at most `steps` steps, and writes its whole output to `out` at the end, whatever the stop.
-/// Returns the stop. `CannotWrite` if a write failed.
+/// Returns the stop. `CannotWrite` if a write failed, after the run and a first part of the output or none.
 fn run_machine<W: Out>(
     machine: &mut Machine,
     steps: u64,
@@ -136,9 +136,9 @@ fn told<E: Out>(outcome: Result<(), Fault<'_>>, error: &mut E) -> u8
 /// `too large` (over 512 pages or 15360 KiB), `tail too long` (over 126 bytes), `not found`, `bad format`, `short`;
 /// `cannot write standard output`.
 ///
-/// `dm check` runs the program as `dm run` does, prints a report of its errors in the use of memory on standard error,
-/// then the line of `stopped: `, and exits with status 124 if there is an error, whatever the stop; otherwise with the
-/// status of `dm run`. Its faults are those of `dm run`.
+/// `dm check` runs the program as `dm run` does, prints a report of its errors in the use of memory, and notes, on
+/// standard error, then the line of `stopped: ` unless the program has ended, and exits with status 124 if there is an
+/// error, whatever the stop; otherwise with the status of `dm run`. Its faults are those of `dm run`.
 ///
 /// `dm debug` exits with status 0, also where the program has ended, or reports a fault with status 126, in the same
 /// order: the console's input is the file of `--input`, and none without it. The commands are read after `short`, a
@@ -150,8 +150,8 @@ fn told<E: Out>(outcome: Result<(), Fault<'_>>, error: &mut E) -> u8
 /// `syntax`, `unknown`, `range` or `twice`, then `cannot write NAME`. A text with an error leaves the output file as it
 /// was.
 ///
-/// `out of memory` is reported if an allocation fails. For a wrong command line or a call for help `clap`'s text is
-/// printed, with status 2.
+/// `out of memory` is the fault if an allocation fails; one for the program's output is the stop `memory` instead. For
+/// a wrong command line or a call for help `clap`'s text is printed, with status 2.
 pub fn dm_main<S: AsStr, F: Storage, I: Read + Drop, W: Out, E: Out>(
     alloc: Global,
     storage: &mut F,

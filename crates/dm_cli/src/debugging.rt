@@ -92,7 +92,8 @@ fn refuse<W: Out>(out: &mut W, told: &[u8]) -> Result<(), Fault<'static>>
 }
 
 /// Executes a line's command and writes what it prints to `out`, or writes which error the line has, and then the
-/// session stays. `OutOfMemory` if an allocation failed, with nothing written; `CannotWrite` if a write failed.
+/// session stays. `OutOfMemory` if an allocation failed, with nothing written and the command executed in part, wholly
+/// or not at all; `CannotWrite` if a write failed, after the command and a first part of the answer or none.
 fn answer<W: Out>(
     alloc: Global,
     session: &mut Session,

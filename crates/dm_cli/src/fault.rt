@@ -11,7 +11,7 @@ pub(crate) enum Fault<'a> {
     CannotRead(&'a str),
     /// A file, or standard output, of this name cannot be written.
     CannotWrite(&'a str),
-    /// The store has no program of the first file's name.
+    /// There is no first file, or the store has no program of its name.
     NotFound,
     /// The first file is neither a COM file of at most 65,278 bytes nor a good MZ file.
     BadFormat,
@@ -29,7 +29,7 @@ pub(crate) enum Fault<'a> {
     InputTooLong,
     /// The program that is assembled or disassembled has more than 65,278 bytes.
     TooLong,
-    /// This line of an assembly text is no statement.
+    /// This line of an assembly text is no statement, or the instruction table does not have its instruction.
     Syntax(usize),
     /// This line of an assembly text names a label that no line has.
     Unknown(usize),
@@ -37,7 +37,7 @@ pub(crate) enum Fault<'a> {
     Range(usize),
     /// This line of an assembly text has the label of a line before it.
     Twice(usize),
-    /// An allocation failed.
+    /// An allocation failed, but not one for the program's output: that is the stop `Memory`.
     OutOfMemory,
 }
 

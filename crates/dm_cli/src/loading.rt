@@ -54,7 +54,7 @@ fn read_programs<'a, F: Storage>(
 }
 
 /// Loads the first file into a new machine, with the command tail. Its faults are `TailTooLong`, `NotFound` if there is
-/// no file, and those of the load; with a fault the machine stays.
+/// no file, and those of its name and of the load; with a fault the machine stays.
 fn load_first<'a>(machine: &mut Machine, options: &MachineOptions<'a>) -> Result<(), Fault<'a>>
     requires fresh { machine.old.processes.present ≡ 0 }
     ensures ok { OnOk result (IsFirstLoaded machine.old (paths_of options.now) options.now.tail.now machine.new) }

@@ -20,7 +20,8 @@ pub struct WriteFault;
 ///
 /// # Errors
 ///
-/// `WriteFault` if a write failed or took no byte. The steps were made, and a first part of the output was written.
+/// `WriteFault` if a write failed or took no byte. The steps were made, and a first part of the output, or none of it,
+/// was written.
 pub fn run_program<W: Out>(
     machine: &mut Machine,
     steps: u64,

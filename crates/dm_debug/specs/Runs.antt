@@ -51,8 +51,8 @@ pub data IsTrace (s : State) (n : ℕ) (text : List ℕ) (t : State) : Type 0 wh
   whole : Traces s n text t → IsTrace s n text t
   cut : (made : ℕ) (before : State) (told : List ℕ) (why : Stop) → made < n → Traces s made told before → Answers before (Some why) t → text ≡ told ++ stop_line (Some why) → IsTrace s n text t
 
--- a trace of n steps from s that a failed allocation ends leaves t: after some of the steps, or after the stop that
--- followed them
+-- a trace of n steps from s that a failed allocation ends leaves t: after at most n steps, or after the stop that
+-- followed fewer
 pub data TracesPart (s : State) (n : ℕ) (t : State) : Type 0 where
   some : (made : ℕ) (told : List ℕ) → made ≤ n → Traces s made told t → TracesPart s n t
   next : (made : ℕ) (before : State) (told : List ℕ) → made < n → Traces s made told before → Answers before None t → TracesPart s n t

@@ -65,7 +65,8 @@ pub data Does (s : Debugged) : Command → List ℕ → Debugged → Type 0 wher
   clears : (a : LogicalAddress) → Does s (c.Clear a) done (with_points s (without_point s.points a))
   enters : (a : LogicalAddress) (typed : List ℕ) → Does s (c.Enter a typed) done (with_entered s a typed)
 
--- the session after a command that a failed allocation cut off: a first part of what the command changes has changed
+-- the session after a command that a failed allocation cut off: nothing has changed; or G has made its run; or T has
+-- made some of its steps, or all
 pub data DoesPart (s : Debugged) : Command → Debugged → Type 0 where
   nothing : (command : Command) → DoesPart s command s
   ran : (n : ℕ) (why : Option Stop) (t : State) → RunsUntil s.machine n s.points why t → DoesPart s (c.Go n) (with_machine s t)
@@ -102,14 +103,14 @@ pub record IsAnswered (s : Debugged) (line : List ℕ) (t : Debugged) (before af
   pub does : Does s command text t
   pub written : Appends before after text
 
--- an allocation failed for the line's command, of which a first part led from session s to t
+-- an allocation failed for the line's command, and what was executed of it, perhaps nothing, led from session s to t
 pub record IsCutOff (s : Debugged) (line : List ℕ) (t : Debugged) : Type 0 where
   pub command : Command
   pub read : command_of line ≡ Some command
   pub part : DoesPart s command t
 
--- the line's command was executed, which led from session s to t, but only a first part of what it prints was written:
--- `before` and `after` are what `out` had taken before and after
+-- the line's command was executed, which led from session s to t, and a first part of what it prints, which may be none
+-- or all of it, was written: `before` and `after` are what `out` had taken before and after
 pub record IsPartlyWritten (s : Debugged) (line : List ℕ) (t : Debugged) (before after : Option (List ℕ)) : Type 0 where
   pub command : Command
   pub text : List ℕ

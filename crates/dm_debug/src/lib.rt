@@ -1,4 +1,5 @@
-//! The debugger of `dm debug`: a session executes the commands that lines of text ask for.
+//! The debugger of `dm debug` and of the hosts of `dm_host`: a session executes the commands that lines of text ask
+//! for.
 #![tactic(auto)]
 
 mod laws;

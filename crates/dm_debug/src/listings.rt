@@ -1,5 +1,5 @@
 //! The commands of a debugger that list a part of the machine and do not change it. Each function appends its text to
-//! `out`; an `Err` is a failed allocation.
+//! `out`; an `Err` is a failed allocation, after which a first part of the text may be in `out`.
 
 ghost use Rattle.std.specs.Prelude.{◌≡◌, ◌++◌, List, ℕ, OnOk};
 ghost use Rattle.dm_views.specs.Arena.{IsArenaText};

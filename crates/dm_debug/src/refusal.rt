@@ -11,12 +11,12 @@ pub enum CommandRefusal {
     /// The line sets one more breakpoint than there can be. Nothing has changed, and nothing was written.
     #[error("full")]
     Full,
-    /// An allocation for the answer failed. Nothing was written; some first part of what the command changes may have
-    /// changed.
+    /// An allocation for the answer failed. Nothing was written; what the command changes may have changed, in part or
+    /// whole.
     #[error("out of memory")]
     Memory,
-    /// A write failed or took no byte. All that the command changes has changed, and a first part of the answer was
-    /// written.
+    /// A write failed or took no byte. All that the command changes has changed, and a first part of the answer, or
+    /// none of it, was written.
     #[error("a write failed")]
     Write,
 }

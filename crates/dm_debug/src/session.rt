@@ -200,8 +200,8 @@ impl Session {
     }
 
     /// Executes a command, and appends what it prints to `text`. G, T and E change the machine, B and BC the
-    /// breakpoints. An `Err` is a failed allocation: the run of a G, or a first part of a T, may then have been made;
-    /// after any other command the session is unchanged.
+    /// breakpoints. An `Err` is a failed allocation: the run of a G, or some or all steps of a T, may then have been
+    /// made; after any other command the session is unchanged.
     fn perform(&mut self, command: &Command, text: &mut Vec<u8>) -> Result<(), AllocError>
         requires over { is_over self.old command.now ≡ false }
         requires empty { text.old.items ≡ [] }
@@ -232,9 +232,9 @@ impl Session {
     ///
     /// In this order: `Syntax` exactly where the line is no command, or clears a breakpoint that is not set; `Full`
     /// exactly where it sets a seventeenth breakpoint: then nothing has changed, and nothing was written. `Memory` if
-    /// an allocation for the answer failed: then nothing was written, and some first part of what the command changes
-    /// may have changed. `Write` if a write failed or took no byte: then all that the command changes has changed, and
-    /// a first part of the answer was written.
+    /// an allocation for the answer failed: then nothing was written, and what the command changes may have changed, in
+    /// part or whole. `Write` if a write failed or took no byte: then all that the command changes has changed, and a
+    /// first part of the answer, or none of it, was written.
     pub fn command<O: Out>(
         &mut self,
         alloc: Global,

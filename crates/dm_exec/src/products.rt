@@ -23,7 +23,7 @@ fn double(width: Width, cpu: &Cpu) -> u32
     }
 }
 
-/// Sets AX to a value of two bytes, or DX and AX to one of four, the upper half in DX.
+/// Sets AX to a product (MUL, IMUL) of two bytes, or DX and AX to one of four, the upper half in DX.
 #[tactic(auto, unfolding(crate::specs::Products::with_double))]
 fn set_double(width: Width, cpu: &mut Cpu, value: u32)
     requires { value < size width * size width }
@@ -55,7 +55,7 @@ pub(crate) fn multiply(cpu: &mut Cpu, space: &Space, ins: &Ins, sign: Sign)
     cpu.flags = flags;
 }
 
-/// Sets AL to a quotient and AH to its remainder, or AX and DX.
+/// Sets AL to a quotient (DIV, IDIV) and AH to its remainder, or AX and DX.
 #[tactic(auto, unfolding(crate::specs::Products::with_division))]
 fn set_division(width: Width, cpu: &mut Cpu, division: Division)
     requires quotient { division.quotient < size width }

@@ -20,7 +20,7 @@ pub record IsChecked (s : Debugged) (n : ℕ) (stop : Stop) (text : List ℕ) (t
   pub told : text ≡ report_text report
   pub points : t.points ≡ s.points
 
--- a first part of a run of at most n steps, or all of it, leads from session s to t; the breakpoints stay
+-- a run of some number of steps, from 0 to n, leads from session s to t; the breakpoints stay
 pub record IsPartlyChecked (s : Debugged) (n : ℕ) (t : Debugged) : Type 0 where
   pub part : RunsPart s.machine n t.machine
   pub points : t.points ≡ s.points
@@ -35,7 +35,7 @@ pub record Checks (h : Hosted) (n : ℕ) (stop : Stop) (g : Hosted) : Type 0 whe
   pub is : g ≡ record { stage = Loaded after; answer = text }
 
 -- why a checked run has no report, and the host g after it: no program is loaded, and nothing has changed; or an
--- allocation failed, after a first part of the run or all of it. The answer before stays
+-- allocation failed, after none, some or all of the steps. The answer before stays
 pub data IsUnchecked (h : Hosted) (n : ℕ) (why : Refusal) (g : Hosted) : Type 0 where
   not_loaded : machine_of h.stage ≡ None → why ≡ NotLoaded → g ≡ h → IsUnchecked h n why g
   no_memory : (s t : Debugged) → h.stage ≡ Loaded s → IsPartlyChecked s n t → why ≡ Memory → g ≡ with_stage h (Loaded t) → IsUnchecked h n why g

@@ -20,7 +20,7 @@ pub record IsCommanded (h : Hosted) (line : List ℕ) (g : Hosted) : Type 0 wher
   pub does : Does before command text after
   pub is : g ≡ record { stage = Loaded after; answer = text }
 
--- the line's command, or some first part of it, was executed, which led from session s to t
+-- the line's command was executed, or some first part of it or none, which led from session s to t
 abbrev pub IsDoneOrPart : Debugged → List ℕ → Debugged → Type 0
 IsDoneOrPart s line t = IsCutOff s line t ⊎ ((command : Command) × (text : List ℕ) × (command_of line ≡ Some command) × Does s command text t)
 

@@ -23,7 +23,7 @@ fn text_of(alloc: Global, report: &Report) -> Result<Vec<u8>, AllocError>
 }
 
 /// Makes at most `n` steps of the session's machine under the checker, and returns the session with the stop and the
-/// text of the report; None in their place if an allocation failed, after a first part of the run or all of it. The
+/// text of the report; None in their place if an allocation failed, after none, some or all of the steps. The
 /// breakpoints of the session do not count, and stay.
 fn checked(alloc: Global, session: Session, n: u64) -> (Session, Option<(Stop, Vec<u8>)>)
     ensures { ChecksTo session n (option_map (λ r. (r.0, r.1.items)) result.1) result.0 }
@@ -46,8 +46,8 @@ impl Host {
     ///
     /// # Errors
     ///
-    /// `NotLoaded` exactly where no program is loaded; then nothing has changed. `Memory` if an allocation failed: a
-    /// first part of the run, perhaps all of it, was made, and the answer before stays.
+    /// `NotLoaded` exactly where no program is loaded; then nothing has changed. `Memory` if an allocation failed:
+    /// none, some or all of the steps were made, and the answer before stays.
     pub fn check(&mut self, alloc: Global, n: u64) -> Result<Stop, Refusal>
         ensures ok { IfOk result (λ stop. Checks self.old n stop self.new) }
         ensures err { IfErr result (λ e. IsUnchecked self.old n e self.new) }

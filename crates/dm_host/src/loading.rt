@@ -86,8 +86,9 @@ impl Host {
     ///
     /// In this order: `Started` where a program was loaded or its loading failed for good; `BadName` where the name is
     /// empty, has over 64 bytes or has a zero byte; `TailTooLong` over 126 bytes; `NotFound` where no program has the
-    /// name; `BadFormat` where the program is neither a COM nor an MZ program. Nothing has changed then. `Short` where
-    /// conventional memory has no room for the program, and `Memory` if an allocation failed: then the host is spent.
+    /// name; `BadFormat` where the program is neither a COM file of at most 65,278 bytes nor a good MZ file. Nothing
+    /// has changed then. `Short` where conventional memory has no room for the program and its environment, and
+    /// `Memory` if an allocation failed: then the host is spent.
     pub fn load(
         &mut self,
         alloc: Global,

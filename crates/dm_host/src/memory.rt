@@ -22,8 +22,8 @@ fn read_each(machine: &Machine, segment: u16, offset: u16, buffer: &mut [u8])
     }
 }
 
-/// Copies `bytes` to the front of the buffer and returns true, if they fit; otherwise returns false, and the buffer
-/// stays.
+/// Copies `bytes` to the front of a buffer that C passes and returns true, if they fit; otherwise returns false, and
+/// the buffer stays.
 pub fn copy_all(bytes: &[u8], buffer: &mut [u8]) -> bool
     ensures { Copies bytes.now buffer.old buffer.new result }
 {

@@ -112,7 +112,7 @@ impl Setup {
     }
 
     /// Returns Ok if the store has a program of this name that can be loaded; `NotFound` if it has none of the name,
-    /// `BadFormat` if the program of the name is neither a COM nor an MZ program.
+    /// `BadFormat` if the file of the name is neither a COM file of at most 65,278 bytes nor a good MZ file.
     pub(crate) fn test_program(&self, name: &[u8]) -> Result<(), Refusal>
         ensures { IsTested self.now name.now result }
     {

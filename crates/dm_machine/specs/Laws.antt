@@ -16,7 +16,7 @@ use Rattle.dm_space.specs.EntryPoints.{entry_point_at}
 use Rattle.dm_machine.specs.Step.{MakesStep}
 use Rattle.dm_machine.specs.Run.{Answers, Goes, IsRun}
 
--- a step from a state has one result
+-- a step from a state, in which no allocation fails, has one result
 abbrev pub StepHasOneAnswer : Type 0
 StepHasOneAnswer = (s : State) (x y : Answer) → MakesStep s x → MakesStep s y → x ≡ y
 

@@ -15,7 +15,7 @@ pub fn tables_and_memory_are_consistent(machine: &Machine)
     let _steps = machine.parts.steps;
 }
 
-/// The state before a step determines its result: its stop and the state after it.
+/// The state before a step determines its result, its stop and the state after it, unless an allocation fails.
 pub fn a_step_has_one_answer()
     ensures { StepHasOneAnswer }
 {}

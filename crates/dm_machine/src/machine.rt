@@ -106,10 +106,9 @@ fn start_space(alloc: Global, sizes: Sizes, upper: bool) -> Result<Space, NewErr
 }
 
 impl Machine {
-    /// A machine as it starts: memory of zeros but for the interrupt vectors and the first arena
-    /// header, or the three headers of an arena that continues in upper memory, A20 off, a pool of the configuration's
-    /// sizes with no block, no handle of expanded memory but handle 0, none of extended memory, no output, no program
-    /// loaded.
+    /// A machine as it starts: RAM of zeros but for the interrupt vectors and the first arena header, or the three
+    /// headers of an arena that continues in upper memory, A20 off, a pool of the configuration's sizes with no block,
+    /// no handle of expanded memory but handle 0, none of extended memory, no output, no program loaded.
     ///
     /// The variables of the configuration must have at most 32,767 bytes with their zeros.
     ///

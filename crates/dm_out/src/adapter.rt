@@ -6,7 +6,8 @@ use crate::writer::{Failed, Out};
 use std::io;
 use std::marker::Model;
 
-/// A standard writer together with the count of its writes that failed or took nothing and of its flushes that failed.
+/// A standard writer together with the count of its writes of at least one byte that failed or took nothing, and of its
+/// flushes that failed.
 ///
 /// A contract sees the bytes that the writer holds, where its type knows them, and the count.
 #[derive(Drop)]

@@ -10,8 +10,8 @@ use Rattle.dm_arena.specs.Allocation.{Allocates}
 use Rattle.dm_arena.specs.Owned.{Frees, Resizes}
 use Rattle.dm_state.specs.State.{State, Answer, go, interrupt_returned, with_carry}
 
--- the return from a call with registers c, memory m and CF: IP, CS and FLAGS are popped, CF is set or cleared, and the
--- step is counted
+-- the return from 48h, 49h, 4Ah, 4Bh or 58h with registers c, memory m and CF: IP, CS and FLAGS are popped, CF is set
+-- or cleared, and the step is counted
 abbrev pub answered : State → Cpu → Memory → Bool → Answer
 answered s c m carry = go (with_carry (interrupt_returned (record s { cpu = c; memory = m })) carry)
 

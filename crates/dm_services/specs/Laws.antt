@@ -9,7 +9,7 @@ use Rattle.dm_space.specs.declared.entry_points.Service.{Service}
 use Rattle.dm_state.specs.State.{State, Answer}
 use Rattle.dm_services.specs.Services.{Serves}
 
--- the state before a service determines its stop and the state after it
+-- the state before a service, in which no allocation fails, determines its stop and the state after it
 abbrev pub ServicesHaveOneAnswer : Type 0
 ServicesHaveOneAnswer = (s : State) (service : Service) (x y : Answer) → Serves s service x → Serves s service y → x ≡ y
 

@@ -1,6 +1,6 @@
 -- The calls that start and end programs: MS-DOS Programmer's Reference, functions 00h, 31h, 4Bh, 4Ch and 4Dh, and INT
--- 20h. The error codes are 1 (no such call), 2 (no such program), 7 (arena destroyed), 8 (not enough memory), 10 (no
--- end of the environment) and 11 (bad format).
+-- 20h. The error codes are 1 (no such call), 2 (no such program), 7 (arena destroyed), 8 (not enough memory, or sixteen
+-- processes alive), 10 (no end of the environment) and 11 (bad format).
 use Rattle.std.specs.Prelude.{◌≡◌, ℕ, ◌==◌, Bool, true, false, Some, Result, Ok, Err}
 use Rattle.dm_space.specs.Memory.{Memory}
 use Rattle.dm_cpu.specs.declared.cpu.Cpu.{Cpu}
@@ -81,7 +81,7 @@ concluded s code (Ok Exited) qs d n = record {
 concluded s code (Err e) qs d n = stop_at stop.Destroyed s
 
 -- 00h, 4Ch, INT 20h and a divide error: the present process ends with the code, and its blocks are freed; `Destroyed`
--- if memory holds no valid block list
+-- if memory holds no valid block list, or upper memory in the arena no valid one
 pub record Terminating (s : State) (code : ℕ) (x : Answer) : Type 0 where
   pub result : Result Ending ArenaDestroyed
   pub processes : Processes

@@ -108,8 +108,9 @@ abbrev pub wanted : Bool → ℕ → Option Bool
 wanted upper number =
     if upper then (if number == 0 then Some false else if number == 1 then Some true else None) else None
 
--- 58h with AL = 3 and a good BX: block headers are written so that the arena is linked with upper memory (`on`) or
--- unlinked, or memory stays if it already is so; or the call fails with error 7, and memory stays
+-- 58h with AL = 3 and a good BX: byte 0 of the header before the link block's is written, so that the arena is linked
+-- with upper memory (`on`) or unlinked, or memory stays if it already is so; or the call fails with error 7, and memory
+-- stays
 pub record Linking (on : Bool) (s : State) (x : Answer) : Type 0 where
   pub result : Result (Unit {0}) ArenaRefusal
   pub memory : Memory

@@ -13,8 +13,8 @@ text_within m segment offset n = take_while (λ b. not (b == 0x24)) (bytes_from 
 abbrev pub text_at : Memory → ℕ → ℕ → List ℕ
 text_at m segment offset = text_within m segment offset 65536
 
--- the console with the text appended to the output. The room, first raised to the text's length if it is smaller,
--- decreases by that length; the input stays
+-- the console with the text appended to the output, as 01h, 02h, 06h, 09h and 40h do it. The room, first raised to the
+-- text's length if it is smaller, decreases by that length; the input stays
 abbrev pub written : Streams → List ℕ → Streams
 written c text = record c { output = c.output ++ text; room = max c.room (length text) - length text }
 

@@ -22,7 +22,7 @@ pub(crate) fn refuse(cpu: &mut Cpu, refusal: ArenaRefusal)
     }
 }
 
-/// Returns from a call of INT 21h: pops IP, CS and FLAGS, sets CF to `carry`, and counts the step.
+/// Returns from function 48h, 49h, 4Ah, 4Bh or 58h: pops IP, CS and FLAGS, sets CF to `carry`, and counts the step.
 pub(crate) fn answer(parts: &mut Parts, carry: bool)
     ensures { parts.new ≡ (answered parts.old parts.old.cpu parts.old.memory carry).state }
 {
@@ -33,7 +33,7 @@ pub(crate) fn answer(parts: &mut Parts, carry: bool)
 
 /// 48h: allocates BX paragraphs for the present process; AX becomes the segment of the block, and CF is clear. On an
 /// error, 7 or 8, AX is the error code, CF is set and memory stays; for error 8, BX is the size of the largest free
-/// block that the strategy allows, in paragraphs.
+/// block that the strategy allows, in paragraphs, where free blocks in a row count as one.
 pub(crate) fn allocate(parts: &mut Parts)
     ensures { Allocation parts.old (record { stop = None; state = parts.new }) }
 {

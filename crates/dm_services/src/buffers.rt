@@ -1,4 +1,4 @@
-//! Writing bytes of guest memory to the console.
+//! Writing bytes of guest memory to the console, as INT 21h function 40h does.
 ghost use Rattle.std.specs.Prelude.{◌≡◌, ◌≤◌, ◌-◌, ◌++◌};
 ghost use Rattle.dm_proc.specs.Writes.{bytes_from};
 

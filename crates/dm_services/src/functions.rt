@@ -50,7 +50,7 @@ pub(crate) enum Function {
     Keep,
     /// 35h: returns the vector of interrupt AL in ES:BX.
     GetVector,
-    /// 3Fh: reads CX bytes from handle BX to DS:DX.
+    /// 3Fh: reads at most CX bytes from handle BX to DS:DX.
     ReadHandle,
     /// 40h: writes the CX bytes at DS:DX to handle BX.
     WriteHandle,

@@ -2,7 +2,7 @@
 //! does nothing.
 ghost use Rattle.dm_services.specs.Laws.{ServicesHaveOneAnswer, ServicesIgnoreUnseen, ServicesKeepRoom, ServicesKeepTheMap, ServicesKeepTheTables};
 
-/// The state before a service determines its stop and the state after it.
+/// The state before a service determines its stop and the state after it, unless an allocation fails.
 pub fn services_have_one_answer()
     ensures { ServicesHaveOneAnswer }
 {}

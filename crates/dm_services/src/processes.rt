@@ -103,7 +103,7 @@ fn conclude(parts: &mut Parts, ended: Result<Ending, ArenaDestroyed>, code: u8) 
 
 /// 00h, 4Ch, INT 20h and a divide error: ends the present process with a code, frees all its blocks and restores
 /// vectors 22h to 24h from its prefix; its parent goes on (None). Returns `Exited` if it was the first program, or
-/// `Destroyed`, with nothing changed, if memory holds no valid block list.
+/// `Destroyed`, with nothing changed, if memory holds no valid block list, or upper memory in the arena no valid one.
 pub(crate) fn terminate(parts: &mut Parts, code: u8) -> Option<Stop>
     requires { HasProgram parts.old }
     ensures terminating { Terminating parts.old code (record { stop = result; state = parts.new }) }
@@ -116,8 +116,9 @@ pub(crate) fn terminate(parts: &mut Parts, code: u8) -> Option<Stop>
 }
 
 /// 31h: ends the present process with the code in AL, resizes its block to DX paragraphs if that is possible, and
-/// restores vectors 22h to 24h from its prefix; its other blocks stay allocated. The results are those of `terminate`;
-/// `Destroyed` also if the resized block list would not be valid.
+/// restores vectors 22h to 24h from its prefix; its other blocks stay allocated. Returns None or `Exited` as
+/// `terminate` does, or `Destroyed`, with nothing changed, if memory holds no valid block list or would hold none after
+/// the resize.
 pub(crate) fn keep(parts: &mut Parts) -> Option<Stop>
     requires { HasProgram parts.old }
     ensures keeping { Keeping parts.old (record { stop = result; state = parts.new }) }

@@ -160,8 +160,9 @@ fn tell_link(parts: &mut Parts)
     }
 }
 
-/// 58h with AL = 3 and a good BX: links the arena with upper memory (`on`), or unlinks it, by writing block headers;
-/// memory stays if it is so already. Error 7, and memory stays, if the block lists are not valid or do not meet.
+/// 58h with AL = 3 and a good BX: links the arena with upper memory (`on`), or unlinks it, by writing byte 0 of the
+/// header before the link block's; memory stays if it is so already. Error 7, and memory stays, if memory holds no
+/// valid block list or, to link, none in upper memory that can follow it.
 fn make_link(parts: &mut Parts, on: bool)
     ensures { Linking on parts.old (record { stop = None; state = parts.new }) }
 {

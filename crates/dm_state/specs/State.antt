@@ -81,11 +81,13 @@ stop_at stop s = record { stop = Some stop; state = s }
 abbrev pub with_guest : State → Guest → State
 with_guest s g = record s { cpu = g.cpu; memory = g.memory }
 
--- the state after a return from an interrupt: IP, CS and FLAGS are popped from SS:SP; memory stays
+-- the state after the return from a service or a driver that was called by INT: IP, CS and FLAGS are popped from SS:SP;
+-- memory stays
 abbrev pub interrupt_returned : State → State
 interrupt_returned s = with_guest s (interrupt_return (guest s.cpu s.memory))
 
--- the state after a return from a far call: IP and CS are popped from SS:SP; FLAGS and memory stay
+-- the state after the return from the far call of the extended memory driver: IP and CS are popped from SS:SP; FLAGS
+-- and memory stay
 abbrev pub far_returned : State → State
 far_returned s = with_guest s (stack.far_returned (guest s.cpu s.memory) 0)
 

@@ -1,4 +1,4 @@
-//! The parts of a machine: what instructions and services read and change.
+//! The parts of a machine: what instructions, services and drivers read and change.
 ghost use Rattle.std.specs.Prelude.{◌≡◌};
 ghost use Rattle.dm_state.specs.State.{go, interrupt_returned, far_returned};
 
@@ -81,16 +81,16 @@ impl Parts {
         self.steps = self.steps.saturating_add(1);
     }
 
-    /// Returns from an interrupt as IRET does: pops IP, CS and FLAGS from the stack at SS:SP. Memory and the count of
-    /// steps stay.
+    /// Returns from a service or a driver that was called by INT as IRET does: pops IP, CS and FLAGS from the stack at
+    /// SS:SP. Memory and the count of steps stay.
     pub fn give_back(&mut self)
         ensures { self.new ≡ interrupt_returned self.old }
     {
         interrupt_return(&mut self.cpu, &self.space);
     }
 
-    /// Returns from a far call as RETF does: pops IP and CS from the stack at SS:SP. FLAGS, memory and the count of
-    /// steps stay.
+    /// Returns from the far call of the extended memory driver as RETF does: pops IP and CS from the stack at SS:SP.
+    /// FLAGS, memory and the count of steps stay.
     pub fn give_back_far(&mut self)
         ensures { self.new ≡ far_returned self.old }
     {

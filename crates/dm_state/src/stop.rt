@@ -17,7 +17,9 @@ pub enum Stop {
     Unlisted,
     /// The next step would read console input, and too little is left: no byte, or for INT 21h function 0Ah no 0Dh.
     InputEnded,
-    /// The present process would end, but memory holds no valid block list from which its blocks could be freed.
+    /// The present process would end, but memory holds no valid block list; or, for INT 21h function 31h, the list
+    /// would not be valid once the process's block is resized; or, for any other ending, upper memory in the arena
+    /// holds no valid list.
     Destroyed,
     /// The next step would write more bytes to the console than the room holds, and the allocation for them failed.
     Memory,

@@ -41,7 +41,8 @@ fn window(space: &Space, segment: u16, offset: u16) -> [u8; 16]
     ]
 }
 
-/// Appends bytes as pairs of hexadecimal digits, with nothing between them.
+/// Appends bytes, those of an instruction or of the name of an expanded memory handle, as pairs of hexadecimal digits
+/// with nothing between them.
 pub(crate) fn put_pairs(out: &mut Vec<u8>, bytes: &[u8]) -> Result<(), AllocError>
     ensures { OnOk result (out.new.items ≡ out.old.items ++ flat_map two_digits bytes.now) }
 {

@@ -18,7 +18,7 @@ pub record Reads (before after : Option (List ℕ)) (line : List ℕ) : Type 0 w
   pub stops : StopsAt line 10
   pub last : ends_with_byte 10 line ≡ false → OnSome before (IsAtEnd after)
 
--- the line was executed, which led from session s to t, and its answer was written whole and flushed
+-- the line led from session s to t, and its answer, or why it is refused, was written whole
 pub record IsAnsweredBy (s : Debugged) (line : List ℕ) (t : Debugged) (before after : Option (List ℕ)) : Type 0 where
   pub text : List ℕ
   pub tells : Tells s line t text

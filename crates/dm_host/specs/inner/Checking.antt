@@ -5,7 +5,7 @@ use Rattle.dm_debug.specs.Debugged.{Debugged}
 use Rattle.dm_host.specs.Checking.{IsChecked, IsPartlyChecked}
 
 -- a run of at most n steps under the checker leads from session s to t: with the stop and the report's text; or, if an
--- allocation failed (None), a first part of the run, or all of it, was made
+-- allocation failed (None), none, some or all of the steps were made
 abbrev pub ChecksTo : Debugged → ℕ → Option (Stop × List ℕ) → Debugged → Type 0
 ChecksTo s n (Some r) t = IsChecked s n r.0 r.1 t
 ChecksTo s n None t = IsPartlyChecked s n t
