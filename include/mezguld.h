@@ -37,7 +37,7 @@ enum {
     MEZGULD_OK = 0,
     MEZGULD_NO_MACHINE = 1,         /* the `mezguld` holds no machine */
     MEZGULD_IN_USE = 2,             /* the `mezguld` holds a machine already */
-    MEZGULD_OUT_OF_MEMORY = 3,      /* an allocation failed */
+    MEZGULD_OUT_OF_MEMORY = 3,      /* an allocation failed; one for the program's output is the stop MEZGULD_MEMORY */
     MEZGULD_TOO_SMALL = 4,          /* the buffer has less room than `*wanted` */
     MEZGULD_TOO_LARGE = 5,          /* over 512 pages of expanded memory, or over 15,360 KiB of extended memory */
     MEZGULD_VARIABLES_TOO_LONG = 6, /* the variables have over 32,767 bytes */
@@ -141,8 +141,8 @@ uint32_t mezguld_output(mezguld *machine, uint8_t *buffer, size_t room, size_t *
 uint32_t mezguld_command(mezguld *machine, const uint8_t *line, size_t line_count, size_t *wanted);
 
 /* Makes at most so many steps, as mezguld_run, under the memory checker, keeps the text of its report as the answer, and
- * writes the text's count into `*wanted`. NO_MACHINE, NOT_LOADED. After OUT_OF_MEMORY a first part of the run was made.
- */
+ * writes the text's count into `*wanted`. NO_MACHINE, NOT_LOADED. After OUT_OF_MEMORY any part of the run was made, none
+ * or all of it included. */
 uint32_t mezguld_check(mezguld *machine, uint64_t steps, mezguld_stopped *stopped, size_t *wanted);
 
 /* Copies the answer of the last command or checked run that had one into a buffer, and its count into `*wanted`.

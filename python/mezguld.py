@@ -379,7 +379,7 @@ class Machine:
     def check(self, steps: int) -> tuple[Stopped, str]:
         """Makes at most so many steps, as `run`, under the memory checker, and returns the text of its report beside the stop.
 
-        `NotLoaded`; `OutOfMemory`, after which a first part of the run was made.
+        `NotLoaded`; `OutOfMemory`, after which any part of the run was made.
         """
         stopped, wanted = _Stopped(), ctypes.c_size_t()
         _check(_library.mezguld_check(self._handle, _count(steps), stopped, wanted))

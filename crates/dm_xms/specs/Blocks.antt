@@ -50,8 +50,8 @@ abbrev pub first_unit : Option Extent → ℕ
 first_unit None = 0
 first_unit (Some b) = b.base
 
--- the linear address of a block's first byte, 110000h if there is no such block; the pool begins at 110000h, above all
--- memory that a program can address
+-- the linear address of a block's first byte, 110000h if there is no such block or it has 0 KiB; the pool begins at
+-- 110000h, above all memory that a program can address
 abbrev pub address : Memory → ℕ → ℕ
 address m block = 0x110000 + 0x400 * first_unit (get_or m.blocks.places block None)
 
@@ -78,8 +78,8 @@ information xms handle =
     Ok (record { locks = s.locks; free = count_by is_none xms.handles; kib = s.kib }))
 
 -- 0Fh: the block of a handle gets another size in KiB. It stays where it is if it fits there, else it moves to the
--- lowest gap that holds it, its old place counted as taken. Its bytes up to the smaller size stay, new ones are zeros.
--- Fails if the handle is not in use, the block is locked, or it fits nowhere
+-- lowest gap that holds it, its old place counted as taken; one of 0 KiB lies at 110000h then. Its bytes up to the
+-- smaller size stay, new ones are zeros. Fails if the handle is not in use, the block is locked, or it fits nowhere
 unfoldable pub reallocate : Extended → ℕ → ℕ → Result (Unit {0} × Extended) Status
 reallocate x handle kib =
     need (slot x.xms handle) UnknownHandle (λ s.

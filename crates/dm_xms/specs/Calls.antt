@@ -1,6 +1,6 @@
 -- What calls of the extended memory driver return, and the state S that they leave, tables or tables and memory. A
 -- call is one value: an error, or a result together with the state after it; so a call that fails changes nothing. 04h
--- and 06h, which change the state even where they fail, are pairs of a result and a state instead (`Line`).
+-- and 06h, which can change the state and fail all the same, are pairs of a result and a state instead (`Line`).
 use Rattle.std.specs.Prelude.{ℕ, ◌-◌, ◌==◌, if◌then◌else◌, slice_index_or, slice_set, Option, Some, None, Result, Ok, Err}
 use Rattle.dm_xms.specs.declared.tables.Handle.{Handle}
 use Rattle.dm_xms.specs.Tables.{Tables}

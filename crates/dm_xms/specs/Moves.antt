@@ -22,8 +22,8 @@ and_then (Err e) f = Err e
 abbrev pub double_after : Memory → ℕ → ℕ → ℕ → ℕ
 double_after m segment offset k = word_after m segment offset k + 65536 * word_after m segment offset (k + 2)
 
--- the description of one side, k bytes after segment:offset: a handle, a word, and an offset in its block, a double
--- word
+-- the description of one side, k bytes after segment:offset: a handle, a word, and an offset, a double word, which for
+-- handle 0 is an offset and a segment
 abbrev pub described : Memory → ℕ → ℕ → ℕ → Description
 described m segment offset k = record { handle = word_after m segment offset k; offset = double_after m segment offset (k + 2) }
 
@@ -36,8 +36,8 @@ conventional offset = record { region = span Linear (offset / 65536 * 16 + offse
 abbrev pub of_block : Handle → ℕ → Side
 of_block s offset = record { region = span Single offset (s.block ∷ []); end = 0x400 * s.kib }
 
--- the side that is described; the error `unknown` if the handle is not in use, `past` if the offset is over the
--- block's size
+-- the side that is described: for handle 0 as in `conventional`, which is never an error here; for another the error
+-- `unknown` if the handle is not in use, `past` if the offset is over its block's size
 unfoldable pub side : Extended → Description → Status → Status → Result Side Status
 side x d unknown past =
     if d.handle == 0 then Ok (conventional d.offset) else

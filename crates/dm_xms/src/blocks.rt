@@ -38,7 +38,7 @@ pub struct HandleInformation {
     pub kib: u16,
 }
 
-/// The linear address of a block's first byte; 110000h if there is no such block.
+/// The linear address of a block's first byte; 110000h for a block of 0 KiB, and if there is no such block.
 fn address(space: &Space, block: Block) -> usize
     ensures { result ≡ address space.now.memory block }
 {
@@ -188,8 +188,8 @@ impl Xms {
     }
 
     /// 0Fh: changes the size of the block of a handle to `kib` KiB. It stays where it is if it fits there, else it
-    /// moves to the lowest gap that holds it, its old place counted as taken. Its bytes up to the smaller size stay,
-    /// new ones are zeros.
+    /// moves to the lowest gap that holds it, its old place counted as taken; one of 0 KiB lies at 110000h then. Its
+    /// bytes up to the smaller size stay, new ones are zeros.
     ///
     /// # Errors
     ///

@@ -103,8 +103,8 @@ fn move_between(
 }
 
 impl Xms {
-    /// The side that is described. The error `unknown` where its handle is not in use, `past` where its offset is
-    /// over the size of its block.
+    /// The side that is described: for handle 0 memory below 10FFF0h, which is never an error here, else a handle's
+    /// block. The error `unknown` where that handle is not in use, `past` where the offset is over the block's size.
     #[tactic(auto, unfolding(crate::specs::Moves::side))]
     fn side(
         &self,

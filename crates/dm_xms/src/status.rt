@@ -14,7 +14,7 @@ pub enum Status {
     AreaNotTaken,
     /// A20 is still on, by the local count or the global switch.
     LineStillOn,
-    /// No gap of the pool holds the block; for function 08h, there is no gap.
+    /// No gap of the pool holds the block, or the pool has no number left; for function 08h, there is no gap.
     NoMemory,
     /// All 64 handles are in use.
     NoHandleLeft,

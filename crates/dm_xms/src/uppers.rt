@@ -25,9 +25,9 @@ const MOST: usize = 64;
 pub enum UpperRefusal {
     /// There is no room for so many paragraphs, only for this number.
     Smaller(u16),
-    /// No paragraph is free, or there are 64 blocks.
+    /// No paragraph is free, there are 64 blocks, or upper memory belongs to the arena of DOS.
     NoneFree,
-    /// No block begins at the segment.
+    /// No block of the driver begins at the segment.
     Unknown,
 }
 
@@ -62,8 +62,8 @@ fn largest_from(from: u16, uppers: &[Upper]) -> u16
     }
 }
 
-/// The segment of the lowest gap between rising blocks, from segment `from` on, that has so many paragraphs; None if
-/// there is none.
+/// The segment of the lowest gap between rising blocks, from segment `from` on to the end of upper memory, that has at
+/// least so many paragraphs; None if there is none.
 #[tactic(auto, using(crate::proofs::Gaps::first_ends))]
 fn lowest_from(from: u16, uppers: &[Upper], paragraphs: u16) -> Option<u16>
     requires from { 0xD000 ≤ from }
@@ -125,7 +125,7 @@ impl Xms {
         largest_from(FIRST, self.uppers.as_slice())
     }
 
-    /// The segment of the lowest gap of upper memory that has so many paragraphs; None if there is none.
+    /// The segment of the lowest gap of upper memory that has at least so many paragraphs; None if there is none.
     #[tactic(auto, using(crate::proofs::Gaps::first_fit_is_lowest))]
     fn lowest_upper(&self, paragraphs: u16) -> Option<u16>
         requires { 0 < paragraphs }
@@ -203,8 +203,8 @@ impl Xms {
     ///
     /// # Errors
     ///
-    /// In this order: `Unknown` where none begins there; `Smaller`, with the paragraphs that it can have there. Then
-    /// nothing has changed.
+    /// In this order: `Unknown` where none begins there; `Smaller` where there is less room, with the paragraphs that
+    /// it can have there. Then nothing has changed.
     #[tactic(auto, unfolding(crate::specs::Uppers::resize_upper))]
     pub fn resize_upper(&mut self, segment: u16, paragraphs: u16) -> Result<(), UpperRefusal>
         ensures answer { result ≡ answer (resize_upper self.old segment paragraphs) }

@@ -1,5 +1,5 @@
 -- What a call of the extended memory driver reads and changes, and the registers that it returns (XMS 3.0: AX is 1
--- for success; for an error AX is 0, and BL is its code).
+-- for success, except in 00h and 08h; for an error AX is 0, and BL is its code).
 use Rattle.std.specs.Prelude.{ℕ, Result, Ok, Err}
 use Rattle.dm_space.specs.Memory.{Memory}
 use Rattle.dm_ins.specs.declared.operand.ByteRegister.TheVariants.{Bl}
@@ -27,7 +27,7 @@ on_cpu c cpu = record c { cpu = cpu }
 abbrev pub succeeded : Cpu → Cpu
 succeeded cpu = record cpu { ax = 1 }
 
--- the registers after an error: AX is 0 and BL its code, the others stay
+-- the registers after an error: AX is 0 and BL its code, the others stay. With code 0 those of 07h while A20 is off
 abbrev pub refused : Cpu → ℕ → Cpu
 refused cpu code = with_byte (record cpu { ax = 0 }) Bl code
 

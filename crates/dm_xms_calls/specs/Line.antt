@@ -1,5 +1,5 @@
--- Address line A20 (XMS 3.0, functions 03h to 07h). Success sets AX to 1; an error sets AX to 0 and BL to its code. The
--- other registers stay.
+-- Address line A20 (XMS 3.0, functions 03h to 07h). In 03h to 06h success sets AX to 1, and an error sets AX to 0 and
+-- BL to its code; 07h cannot fail. The other registers stay.
 use Rattle.std.specs.Prelude.{if◌then◌else◌}
 use Rattle.dm_cpu.specs.declared.cpu.Cpu.{Cpu}
 use Rattle.dm_space.specs.Memory.{Memory}
@@ -10,7 +10,8 @@ use Rattle.dm_xms_calls.specs.Caller.{Caller, succeeded, refused, after_call, af
 unfoldable pub enable_globally : Caller → Caller
 enable_globally c = record { cpu = succeeded c.cpu; x = rows.enable_globally c.x }
 
--- 04h: the global switch is turned off; error 94h if the local count keeps A20 on, though the switch is off
+-- 04h: the global switch is turned off, and A20 too where the local count is 0; else error 94h, though the switch is
+-- off
 unfoldable pub disable_globally : Caller → Caller
 disable_globally c = after_act c (rows.disable_globally c.x)
 
@@ -18,8 +19,8 @@ disable_globally c = after_act c (rows.disable_globally c.x)
 unfoldable pub enable_locally : Caller → Caller
 enable_locally c = after_call c (rows.enable_locally c.x) (λ done. c.cpu)
 
--- 06h: the local count goes down by one; error 94h if A20 stays on, though the count is one less. At 0 error 82h, and
--- count and A20 stay
+-- 06h: the local count goes down by one, and A20 is off where the count is then 0 and the global switch is off; else
+-- error 94h, though the count is one less. At 0 error 82h, and count and A20 stay
 unfoldable pub disable_locally : Caller → Caller
 disable_locally c = after_act c (rows.disable_locally c.x)
 

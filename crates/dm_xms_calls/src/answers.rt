@@ -1,5 +1,6 @@
-//! The registers that a call of the extended memory driver returns (XMS 3.0): AX is 1 for success; for an error AX is
-//! 0, and BL is its code. Each function here changes `cpu` alone, and of it only the registers that it names.
+//! The registers that a call of the extended memory driver returns (XMS 3.0): AX is 1 for success, except in 00h and
+//! 08h; for an error AX is 0, and BL is its code. Each function here changes `cpu` alone, and of it only the registers
+//! that it names.
 ghost use Rattle.std.specs.Prelude.{◌≡◌};
 ghost use Rattle.dm_xms.specs.Uppers.{code_of};
 ghost use Rattle.dm_xms_calls.specs.Caller.{succeeded, refused, settled};
@@ -17,7 +18,7 @@ pub(crate) fn succeed(cpu: &mut Cpu)
     cpu.ax = 1;
 }
 
-/// Sets AX to 0 and BL to an error code.
+/// Sets AX to 0 and BL to `code`: an error's, or 0 where 07h returns that A20 is off.
 pub(crate) fn refuse(cpu: &mut Cpu, code: u8)
     ensures { cpu.new ≡ refused cpu.old code }
 {
@@ -25,7 +26,8 @@ pub(crate) fn refuse(cpu: &mut Cpu, code: u8)
     cpu.set_byte(ByteRegister::Bl, code);
 }
 
-/// Sets AX to 1 after a call that returns nothing else; after an error AX to 0 and BL to its code.
+/// Sets AX to 1 after a call that returns nothing else (01h, 02h, 04h to 06h, 0Ah, 0Bh, 0Dh and 0Fh); after an error AX
+/// to 0 and BL to its code.
 pub(crate) fn settle(cpu: &mut Cpu, res: Result<(), Status>)
     ensures { cpu.new ≡ settled cpu.old res (λ done. cpu.old) }
 {
@@ -53,7 +55,7 @@ pub(crate) fn settle_free(cpu: &mut Cpu, res: Result<FreeMemory, Status>)
     }
 }
 
-/// Sets AX to 1 and DX to the handle that a call returns; after an error AX to 0 and BL to its code.
+/// Sets the registers of 09h: AX to 1 and DX to the new handle; after an error AX to 0 and BL to its code.
 pub(crate) fn settle_dx(cpu: &mut Cpu, res: Result<u16, Status>)
     ensures { cpu.new ≡ settled cpu.old res (λ handle. record cpu.old { dx = handle }) }
 {
@@ -66,7 +68,7 @@ pub(crate) fn settle_dx(cpu: &mut Cpu, res: Result<u16, Status>)
     }
 }
 
-/// Sets AX to 1 and DX:BX to the linear address that a call returns; after an error AX to 0 and BL to its code.
+/// Sets the registers of 0Ch: AX to 1 and DX:BX to a linear address; after an error AX to 0 and BL to its code.
 pub(crate) fn settle_address(cpu: &mut Cpu, res: Result<usize, Status>)
     ensures { cpu.new ≡ settled cpu.old res (with_address cpu.old) }
 {

@@ -47,19 +47,19 @@ pub(crate) enum Function {
     Deallocate,
     /// 0Bh: moves memory.
     Move,
-    /// 0Ch: locks the block of handle DX, and returns its address in DX:BX.
+    /// 0Ch: adds one lock to the block of handle DX, and returns the block's address in DX:BX.
     Lock,
-    /// 0Dh: unlocks the block of handle DX.
+    /// 0Dh: removes one lock from the block of handle DX.
     Unlock,
     /// 0Eh: returns information on handle DX.
     Information,
     /// 0Fh: changes the size of the block of handle DX to BX KiB.
     Reallocate,
-    /// 10h: allocates an upper memory block of DX paragraphs, and returns its segment in BX, its size in DX.
+    /// 10h: allocates an upper memory block of DX paragraphs, at least 1; returns its segment in BX, its size in DX.
     RequestUpper,
     /// 11h: frees the upper memory block at segment DX.
     ReleaseUpper,
-    /// 12h: changes the size of the upper memory block at segment DX to BX paragraphs.
+    /// 12h: changes the size of the upper memory block at segment DX to BX paragraphs, at least 1.
     ResizeUpper,
     /// Any other number.
     Unknown,

@@ -1,5 +1,5 @@
-//! Address line A20 (XMS 3.0, functions 03h to 07h). Each function sets AX to 1, or after an error AX to 0 and BL to
-//! its code.
+//! Address line A20 (XMS 3.0, functions 03h to 07h). Functions 03h to 06h set AX to 1, or after an error AX to 0 and BL
+//! to its code.
 ghost use Rattle.std.specs.Prelude.{◌≡◌};
 ghost use Rattle.dm_xms_calls.specs.Caller.{caller};
 ghost use Rattle.dm_xms_calls.specs.Line.{enable_globally, disable_globally, enable_locally, disable_locally, tell_line};
@@ -18,7 +18,7 @@ pub(crate) fn enable_globally(cpu: &mut Cpu, xms: &mut Xms, space: &mut Space)
     succeed(cpu);
 }
 
-/// 04h: turns the global switch off; error 94h if the local count keeps A20 on, though the switch is off.
+/// 04h: turns the global switch off, and A20 too where the local count is 0; else error 94h, though the switch is off.
 #[tactic(auto, unfolding(crate::specs::Line::disable_globally))]
 pub(crate) fn disable_globally(cpu: &mut Cpu, xms: &mut Xms, space: &mut Space)
     ensures { caller cpu.new xms.new space.new.memory ≡ disable_globally (caller cpu.old xms.old space.old.memory) }
@@ -36,8 +36,8 @@ pub(crate) fn enable_locally(cpu: &mut Cpu, xms: &mut Xms, space: &mut Space)
     settle(cpu, res);
 }
 
-/// 06h: takes one from the local count; error 94h if A20 stays on, though the count is one less; error 82h if the count
-/// is 0, which stays.
+/// 06h: takes one from the local count, and turns A20 off where the count is then 0 and the global switch is off; else
+/// error 94h, though the count is one less. Error 82h if the count is 0 already, and nothing changes but AX and BL.
 #[tactic(auto, unfolding(crate::specs::Line::disable_locally))]
 pub(crate) fn disable_locally(cpu: &mut Cpu, xms: &mut Xms, space: &mut Space)
     ensures { caller cpu.new xms.new space.new.memory ≡ disable_locally (caller cpu.old xms.old space.old.memory) }
@@ -46,7 +46,7 @@ pub(crate) fn disable_locally(cpu: &mut Cpu, xms: &mut Xms, space: &mut Space)
     settle(cpu, res);
 }
 
-/// 07h: sets AX to 1 where A20 is on; where it is off, AX and BL to 0.
+/// 07h: sets AX to 1 where A20 is on; where it is off, AX and BL to 0. It cannot fail.
 #[tactic(auto, unfolding(crate::specs::Line::tell_line))]
 pub(crate) fn tell_line(cpu: &mut Cpu, space: &Space)
     ensures { cpu.new ≡ tell_line cpu.old space.now.memory }
