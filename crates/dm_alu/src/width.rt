@@ -61,8 +61,9 @@ impl Width {
         }
     }
 
-    /// Whether no value of the width stands for the signed number: for a byte it is at least 128 or
-    /// below -128, for a word at least 32,768 or below -32,768.
+    /// Whether no value of the width stands for the signed number, as where a sum or difference
+    /// overflows: for a byte it is at least 128 or below -128, for a word at least 32,768 or below
+    /// -32,768.
     #[tactic(auto, unfolding(crate::specs::Width::leaves_range))]
     pub(crate) fn leaves_range(self, number: i32) -> bool
         ensures { result ≡ leaves_range self number }

@@ -1,4 +1,5 @@
--- Blocks that are owned: freed (49h), resized (4Ah), and all blocks of one owner freed at the end of a program.
+-- Blocks that are owned: freed (49h), resized (4Ah, and 31h for the block of a program that stays resident), and all
+-- blocks of one owner freed at the end of a program.
 -- `upper` is the setting whether upper memory belongs to the arena: only then is there a link block.
 -- MS-DOS Programmer's Reference, functions 49h and 4Ah.
 use Rattle.std.specs.Prelude.{Bool, Err, List, Ok, Result, [], false, if◌then◌else◌, true, ℕ, ◌&&◌, ◌++◌, ◌+◌, ◌<◌, ◌==◌, ◌∷◌, ◌≡◌, ◌≤◌, ◌⊎◌}

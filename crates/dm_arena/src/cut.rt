@@ -1,4 +1,5 @@
-//! A block cut in two: the part that is taken, and the rest, which is free.
+//! A block cut in two (48h, 4Ah, 4Bh and 31h): the part that is taken, and the rest, which is free. 49h and the end of
+//! a program write a cut of one header.
 ghost use Rattle.std.specs.Prelude.{◌≡◌, ℕ, ◌+◌, ◌<◌, ◌≤◌, List, MatchOption};
 ghost use Rattle.dm_blocks.specs.declared.header.Header.{Header};
 ghost use Rattle.dm_blocks.specs.Chain.{next};

@@ -1,4 +1,4 @@
-//! Which free block an allocation takes.
+//! Which free block an allocation (48h), or each of the two of 4Bh, takes.
 ghost use Rattle.std.specs.Prelude.{◌≡◌, ◌++◌, List, None, max, option_to_list};
 ghost use Rattle.dm_blocks.specs.declared.header.Header.{Header};
 ghost use Rattle.dm_blocks.specs.Chain.{first_header};

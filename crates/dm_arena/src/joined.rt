@@ -1,4 +1,5 @@
-//! Lists of blocks with each run of free blocks joined: read header by header, or written back to memory.
+//! Lists of blocks with each run of free blocks joined, as 48h and 4Bh do: read header by header, or written back to
+//! memory.
 ghost use Rattle.std.specs.Prelude.{◌≡◌, ℕ, ◌+◌, ◌≤◌, List};
 ghost use Rattle.dm_blocks.specs.declared.header.Header.{Header};
 ghost use Rattle.dm_blocks.specs.Chain.{first_header, next, IsArena};

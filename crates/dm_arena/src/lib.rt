@@ -1,5 +1,6 @@
 //! The arena: memory allocated in blocks of paragraphs, by lists of headers that the bytes of
-//! memory spell (MS-DOS Programmer's Reference, "Arena header", functions 48h to 4Ah and 58h).
+//! memory spell (MS-DOS Programmer's Reference, "Arena header", functions 48h to 4Bh, 31h and 58h,
+//! and the end of a program).
 //!
 //! Nothing is kept beside those bytes: a program that has written over a header meets a destroyed
 //! arena, as it would under DOS. Each header needs a place of its own: where a write would be lost,

@@ -1,4 +1,5 @@
-//! Blocks that are owned already: freed (49h), resized (4Ah), and all of an owner freed at the end of a program.
+//! Blocks that are owned already: freed (49h), resized (4Ah, and 31h for the block of a program that stays resident),
+//! and all of an owner freed at the end of a program.
 ghost use Rattle.std.specs.Prelude.{◌≡◌, ◌≤◌, List, MatchOption};
 ghost use Rattle.dm_blocks.specs.declared.header.Header.{Header};
 ghost use Rattle.dm_blocks.specs.Chain.{first_header, next, Becomes, IsArena};
@@ -77,8 +78,8 @@ fn grow(space: &Space, entry: Entry, upper: bool) -> Entry
     }
 }
 
-/// Resizes the block that begins at a segment to n paragraphs, which may be 0 (MS-DOS Programmer's Reference, function
-/// 4Ah).
+/// Resizes the block that begins at a segment to n paragraphs, which may be 0 (MS-DOS Programmer's Reference, functions
+/// 4Ah and 31h).
 ///
 /// The block first takes in the run of free blocks after it, then it is cut to n as by first fit. Its owner stays.
 /// Bytes 0 to 4 of its header and of the one after its n paragraphs are all that changes. `upper` says whether upper
@@ -158,8 +159,8 @@ fn release(space: &mut Space, first: u16, owner: u16)
 ///
 /// # Errors
 ///
-/// `Destroyed` where memory spells no clear list, or where the list isn't linked and memory spells no
-/// second one, or the first followed by the second isn't clear; then no byte changes.
+/// `Destroyed` where memory spells no clear list, or where, with `upper`, the list isn't linked and
+/// memory spells no second one, or the first followed by the second isn't clear; then no byte changes.
 pub fn free_all(space: &mut Space, owner: u16, upper: bool) -> Result<(), ArenaRefusal>
     ensures memory { Releases upper space.old.memory owner result space.new.memory }
     ensures scratch { space.new.scratch ≡ space.old.scratch }

@@ -130,9 +130,9 @@ fn are_clear(space: &Space, first: Cut, second: Cut, upper: bool) -> bool
 ///
 /// # Errors
 ///
-/// `Destroyed` where memory spells no clear list; else `Short` where the first block has no room, or the second would
-/// have less than `least` paragraphs, with the size of the largest free block that the strategy looks at for the
-/// first one once runs are joined; else `Destroyed` where the last list would not be clear.
+/// `Destroyed` where memory spells no clear list; else `Short` where the first block has no room, no free block is left
+/// for the second, or it would have less than `least` paragraphs, with the size of the largest free block that the
+/// strategy looks at for the first one once runs are joined; else `Destroyed` where the last list would not be clear.
 pub fn plan_pair(
     space: &Space,
     strategy: Strategy,

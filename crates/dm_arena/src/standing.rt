@@ -1,5 +1,6 @@
 //! Whether a new header may stand beside those of a list: a write there is kept, and no other
-//! header has the same place.
+//! header has the same place. Functions 48h and 4Bh make one in the joined list, 4Ah and 31h in the
+//! list as it stands.
 //!
 //! Each address of conventional and upper memory RAM has a place of its own. So only a new header
 //! in the EMS page frame has to be compared with the others. Pages are blocks of the pool, offsets

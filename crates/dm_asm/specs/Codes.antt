@@ -88,7 +88,7 @@ pub record AreWordsOf (labels : List Label) (vs : List Value) (code : List ℕ) 
   pub are : map (value_word labels) vs ≡ map Some values
   pub bytes : code ≡ flat_map low_high values
 
--- the bytes of an item at an offset; an item with a number, label or target out of range has none
+-- the bytes of an item at an offset; an item with an unknown label, or a number, label or target out of range, has none
 abbrev pub Codes : List Label → ℕ → Item → List ℕ → Type 0
 Codes labels at nothing code = code ≡ []
 Codes labels at (instruction i) code = IsCoded labels at i code

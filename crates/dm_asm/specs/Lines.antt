@@ -1,4 +1,4 @@
--- The lines of a text: bytes with 0Ah, or 0Dh and 0Ah, after each line.
+-- The lines of a text: bytes with 0Ah, or 0Dh and 0Ah, after each line; the last one may end with the text.
 use Rattle.std.specs.Prelude.{ℕ, Bool, false, ◌==◌, ◌&&◌, List, [], ◌∷◌, if◌then◌else◌}
 
 -- the lines with a byte in front of the first one

@@ -37,7 +37,7 @@ fn read(line: &[u8], tokens: &mut Tokens, items: &mut Items) -> Option<(Statemen
 }
 
 /// Adds the label of a statement, if it has one, at its place. `Twice` with the line's number if a line before it has
-/// that label, `Memory` if an allocation fails.
+/// that label, whose place is then overwritten; `Memory` if an allocation fails.
 fn add_label(
     labels: &mut Labels,
     label: Option<Name>,

@@ -56,7 +56,7 @@ fn is_target(operand: Operand) -> bool
 }
 
 /// The bytes of an instruction that names no label and has no target: they are the same wherever it stands. None for
-/// any other instruction, and where the table does not have it.
+/// any other instruction, and where the table does not have it or a number is out of range.
 pub(crate) fn fixed_code(instruction: &Instruction) -> Option<ArrayVec<u8, 16>>
     ensures { IfSome result (λ code. (list : List Label) (at : ℕ) → IsCoded list at instruction.now code.items) }
 {

@@ -67,8 +67,8 @@ impl Known {
         Ok(())
     }
 
-    /// Adds a line with an instruction, with its bytes if they are the same wherever it stands. Returns the number of
-    /// its bytes; None where the table does not have it.
+    /// Adds a line with an instruction, with its bytes if it names no label, has no target and no number is out of
+    /// range. Returns the number of its bytes; None where the table does not have it.
     fn put_instruction(&mut self, instruction: &Instruction) -> Result<Option<usize>, AllocError>
         ensures { IfOk result (λ n. KeepsOf self.old self.new (encoded instruction.now) n) }
     {
@@ -84,7 +84,7 @@ impl Known {
         }
     }
 
-    /// Adds a line with a DB, with its bytes if they are in range. Returns the number of its bytes.
+    /// Adds a line with a DB, with its bytes if all are in range. Returns the number of its bytes, never None.
     fn put_data(&mut self, amounts: &[Amount]) -> Result<Option<usize>, AllocError>
         requires { length amounts.now ≤ 255 }
         ensures { IfOk result (λ n. KeepsOf self.old self.new (data_bytes amounts.now) n) }

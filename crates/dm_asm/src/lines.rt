@@ -1,4 +1,4 @@
-//! The lines of a text: bytes with 0Ah, or 0Dh and 0Ah, after each line.
+//! The lines of a text: bytes with 0Ah, or 0Dh and 0Ah, after each line; the last one may end with the text.
 
 ghost use Rattle.std.specs.Prelude.{◌≡◌, ◌<◌, ◌∷◌, [], MatchOption, IfSome, length};
 ghost use Rattle.dm_asm.specs.Lines.{lines_of};

@@ -36,7 +36,7 @@ pub struct Entry {
 }
 
 impl Header {
-    /// The segment after the block, where the next header stands.
+    /// The segment after the block, where the next header of its list stands, if there is one.
     pub fn next(self) -> u16
         requires { next self ≤ 0xFFFF }
         ensures { result ≡ next self }

@@ -1,5 +1,6 @@
 //! The headers of the arena, as memory spells them: each is read where it stands, one after the
-//! other (MS-DOS Programmer's Reference, "Arena header").
+//! other (MS-DOS Programmer's Reference, "Arena header"), for functions 48h to 4Bh, 31h and 58h of
+//! INT 21h, the end of a program, the debugger's listing of the arena, and `dm check`.
 //!
 //! A list begins with the header at segment 0100h. Where upper memory belongs to the arena, the
 //! header of the link block at 9FFFh begins a second one, that of upper memory; the first list is

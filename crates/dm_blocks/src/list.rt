@@ -56,8 +56,8 @@ pub fn is_arena(space: &Space) -> bool
     tell_all(walk(space)).is_some()
 }
 
-/// Whether memory spells a second list, from the link block's header on, and the first list followed
-/// by it is clear.
+/// Whether memory spells a second list, from the link block's header on, that shares no header with
+/// the first, and the first list followed by it is clear. False where the lists are linked.
 pub fn has_second(space: &Space) -> bool
     requires { (L : List Header) × IsArena space.now.memory first_header L }
     ensures { MatchBool result ((L U : List Header) × IsArena space.now.memory first_header L × IsArenaBehind space.now.memory L link_header U) ((L : List Header) × IsArena space.now.memory first_header L × NoArenaBehind space.now.memory L link_header) }
@@ -96,7 +96,8 @@ pub fn is_linked(space: &Space) -> bool
     find(space, LINK + 1).is_some()
 }
 
-/// The header of the first list whose block ends where the link block's header stands; None if no block ends there.
+/// The header of the first list whose block ends where the link block's header stands, which function 5803h changes;
+/// None if no block ends there.
 pub fn before_link(space: &Space) -> Option<Entry>
     requires { (L : List Header) × IsSpelledFrom space.now.memory first_header L }
     ensures found { EndsBefore space.now.memory first_header link_header result }

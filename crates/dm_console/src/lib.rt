@@ -1,5 +1,5 @@
 //! The console of a machine: redirected byte streams, and room for output that is reserved in
-//! advance.
+//! advance. INT 21h reads and writes it, by functions 01h, 02h, 06h to 0Ch, 3Fh and 40h.
 #![tactic(auto)]
 
 mod console;

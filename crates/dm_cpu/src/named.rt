@@ -1,5 +1,6 @@
 //! Registers by their names, for instructions that use them implicitly (Intel 8086 Family User's Manual, section 2.2,
-//! "Implicit Use of General Registers").
+//! "Implicit Use of General Registers"), and CS for the emulation's inner loop. Each function that sets a register
+//! leaves the others and the flags.
 ghost use Rattle.std.specs.Prelude.{◌≡◌};
 
 use crate::registers::Registers;

@@ -35,6 +35,6 @@ abbrev pub numbers_of : List Page → Option ℕ → Option (ℕ × ℕ)
 numbers_of pages None = None
 numbers_of pages (Some block) = numbers_at pages (position (is_block block) pages)
 
--- the handle and the logical number of the page that a window shows; None if it shows nothing
+-- the handle and the logical number of the page that a window shows; None if it shows no page
 abbrev pub page_shown : Tables → Memory → ℕ → Option (ℕ × ℕ)
 page_shown ems m window = numbers_of ems.pages (slice_index_or m.windows window None)

@@ -1,5 +1,6 @@
-//! How pages are added to a handle and removed (LIM EMS 4.0, sections 2 and 3). No function here changes the scratch
-//! part of the space.
+//! How pages are added to a handle (INT 67h functions 43h and 51h) and removed (45h and 51h), and windows are set (48h,
+//! 4Eh and 50h, and where a page is removed): LIM EMS 4.0, sections 2 and 3. No function here changes the scratch part
+//! of the space.
 
 ghost use Rattle.std.specs.Prelude.{◌≡◌, ◌<◌, ◌+◌, length, map, drop, slice_index_or, IfSome, None, ℕ};
 ghost use Rattle.dm_space.specs.Memory.{IsPage};
@@ -44,8 +45,8 @@ fn behind(blocks: &[Block], count: usize) -> &[Block]
 }
 
 impl Ems {
-    /// 42h: the number of pages that can still be allocated: those that fit the gaps of the pool, but not more than
-    /// are left of the total.
+    /// 42h: the number of pages that can still be allocated, by 43h and 51h too: those that fit the gaps of the pool,
+    /// but not more than are left of the total.
     pub fn unallocated(&self, space: &Space) -> u16
         ensures { result ≡ unallocated (expanded self.now space.now.memory) }
     {

@@ -14,7 +14,7 @@ pub enum Status {
     ContextSaved,
     /// The call asks for more pages than the machine has.
     OverTotal,
-    /// The call asks for more pages than are free.
+    /// The call asks for more new pages than can still be allocated.
     OverFree,
     /// The call asks for no page.
     NoPages,
@@ -42,7 +42,7 @@ pub enum Status {
     UnknownKind,
     /// No handle has the name.
     NameNotFound,
-    /// Another handle has the name, or it is eight zeros, which are no name.
+    /// Another handle has the name that is set (53h), or the one searched for (54h) is eight zeros, which are no name.
     NameTaken,
     /// A region of conventional memory ends after address FFFFFh.
     PastMemory,

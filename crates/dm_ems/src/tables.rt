@@ -19,7 +19,8 @@ pub(crate) const NO_NAME: [u8; 8] = [0; 8];
 pub struct Handle {
     /// Its name; eight zeros if it has none.
     pub name: [u8; 8],
-    /// What the four windows showed when they were saved under the handle (47h); None if nothing is saved.
+    /// What the four windows showed when they were saved under the handle (47h), but for pages freed since, in whose
+    /// place is nothing; None if nothing is saved.
     pub saved: Option<[Option<Block>; 4]>,
 }
 

@@ -21,7 +21,7 @@ tell_pages c = on_cpu c (succeeded (record c.cpu { bx = unallocated c.x; dx = c.
 unfoldable pub allocate : Caller → Caller
 allocate c = after_call c (rows.allocate c.x c.cpu.bx) (λ handle. record c.cpu { dx = handle })
 
--- 45h: the handle in DX and its pages are freed
+-- 45h: the handle in DX and its pages are freed; handle 0 stays in use
 unfoldable pub deallocate : Caller → Caller
 deallocate c = after_call c (rows.deallocate c.x c.cpu.dx) (λ done. c.cpu)
 

@@ -1,5 +1,6 @@
 -- Regions of memory that are moved or exchanged (LIM EMS 4.0, function 24; INT 67h function 57h), as the structure of
--- 18 bytes at DS:SI describes them. AH is the status, 0 for success; the other registers stay.
+-- 18 bytes at DS:SI describes them; they overlap where they share a byte of memory or ROM. AH is the status, 0 for
+-- success; the other registers stay.
 use Rattle.std.specs.Prelude.{◌==◌, if◌then◌else◌}
 use Rattle.dm_ins.specs.declared.operand.ByteRegister.TheVariants.{Al}
 use Rattle.dm_cpu.specs.Cpu.{byte_of}

@@ -26,12 +26,13 @@ abbrev pub numbered : Cpu → Option ℕ → Cpu
 numbered cpu None = cpu
 numbered cpu (Some n) = with_byte cpu Al n
 
--- 4Eh: with AL = 0 the map of the windows is written at ES:DI, with 1 they are set from the map at DS:SI, with 2 both,
--- the map at DS:SI read first, and with 3 AL becomes the size of a map in bytes, 16; status 8Fh for another value
+-- 4Eh: with AL = 0 the map of the windows is written at ES:DI, with 1 they are set from the map at DS:SI, with 2 the
+-- map at DS:SI is read, that of the windows written at ES:DI, and then they are set, and with 3 AL becomes the size of
+-- a map in bytes, 16; status 8Fh for another value
 unfoldable pub whole_map : Caller → Caller
 whole_map c = after_call c (maps.whole_map c.x (byte_of c.cpu Al) c.cpu.es c.cpu.di c.cpu.ds c.cpu.si) (numbered c.cpu)
 
--- 50h: windows show pages of the handle in DX, as CX pairs at DS:SI say, which name windows by number (AL = 0) or by
--- segment (AL = 1); status 8Fh for another value of AL
+-- 50h: windows show pages of the handle in DX, or nothing, as CX pairs at DS:SI say, which name windows by number
+-- (AL = 0) or by segment (AL = 1); status 8Fh for another value of AL
 unfoldable pub map_many : Caller → Caller
 map_many c = after_call c (many.map_many c.x (byte_of c.cpu Al) c.cpu.dx c.cpu.cx c.cpu.ds c.cpu.si) (λ done. c.cpu)

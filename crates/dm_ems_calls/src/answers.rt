@@ -35,7 +35,7 @@ pub(crate) fn settle(cpu: &mut Cpu, res: Result<(), Status>)
     }
 }
 
-/// Sets AH after a call that returns a number, and BX to that number if it succeeded.
+/// Sets AH after 4Ch, and BX to the number of pages that it returns if it succeeded.
 pub(crate) fn settle_bx(cpu: &mut Cpu, res: Result<u16, Status>)
     ensures { cpu.new ≡ settled cpu.old res (λ number. record cpu.old { bx = number }) }
 {
@@ -48,7 +48,7 @@ pub(crate) fn settle_bx(cpu: &mut Cpu, res: Result<u16, Status>)
     }
 }
 
-/// Sets AH after a call that returns a handle, and DX to that handle if it succeeded.
+/// Sets AH after a call that returns a handle (43h, and 54h with AL = 1), and DX to that handle if it succeeded.
 pub(crate) fn settle_dx(cpu: &mut Cpu, res: Result<u16, Status>)
     ensures { cpu.new ≡ settled cpu.old res (λ handle. record cpu.old { dx = handle }) }
 {
@@ -61,7 +61,7 @@ pub(crate) fn settle_dx(cpu: &mut Cpu, res: Result<u16, Status>)
     }
 }
 
-/// Sets AH after a call that may return a number, and AL to that number if there is one.
+/// Sets AH after 4Eh, and AL to the size of a map if the call returns it.
 pub(crate) fn settle_al(cpu: &mut Cpu, res: Result<Option<u8>, Status>)
     ensures { cpu.new ≡ settled cpu.old res (numbered cpu.old) }
 {

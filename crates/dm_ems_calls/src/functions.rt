@@ -32,9 +32,9 @@ pub(crate) enum Function {
     Pages,
     /// 43h: allocates a new handle with BX pages, and returns it in DX.
     Allocate,
-    /// 44h: makes window AL show logical page BX of handle DX.
+    /// 44h: makes window AL show logical page BX of handle DX, or nothing for page FFFFh.
     MapPage,
-    /// 45h: frees handle DX and its pages.
+    /// 45h: frees handle DX and its pages; handle 0 stays in use.
     Deallocate,
     /// 46h: returns the version in AL.
     Version,
@@ -52,7 +52,7 @@ pub(crate) enum Function {
     WholeMap,
     /// 50h: makes windows show pages of handle DX, as CX pairs at DS:SI say.
     MapMany,
-    /// 51h: changes the number of pages of handle DX to BX, and returns it in BX.
+    /// 51h: changes the number of pages of handle DX to BX, and returns in BX the number that it then has.
     Reallocate,
     /// 53h: writes the name of handle DX at ES:DI, or sets it from DS:SI.
     HandleName,
@@ -128,7 +128,8 @@ fn call(cpu: &mut Cpu, ems: &mut Ems, space: &mut Space, function: Function)
 /// Does the function of INT 67h that AH selects, on the registers of the program that calls, the tables of expanded
 /// memory and the memory, which are consistent. AH is then the status: 0 for success, 92h for a move that succeeds with
 /// regions that overlap, 84h where there is no such function, otherwise the error; DX, BX, AL, CX and the program's
-/// buffers hold what each function returns (LIM EMS 4.0, section 3). The scratch part of the space may be overwritten.
+/// buffers hold what each function returns (LIM EMS 4.0, section 3). Only 57h may overwrite the scratch part of the
+/// space.
 pub fn expanded_memory_call(cpu: &mut Cpu, ems: &mut Ems, space: &mut Space)
     requires { IsConsistent (expanded ems.old space.old.memory) }
     ensures { caller cpu.new ems.new space.new.memory ≡ dispatched (caller cpu.old ems.old space.old.memory) }

@@ -30,7 +30,7 @@ pub(crate) fn allocate(cpu: &mut Cpu, ems: &mut Ems, space: &mut Space)
     settle_dx(cpu, res);
 }
 
-/// 45h: frees the handle in DX and its pages.
+/// 45h: frees the handle in DX and its pages; handle 0 stays in use.
 #[tactic(auto, unfolding(crate::specs::Handles::deallocate))]
 pub(crate) fn deallocate(cpu: &mut Cpu, ems: &mut Ems, space: &mut Space)
     requires { IsConsistent (expanded ems.old space.old.memory) }

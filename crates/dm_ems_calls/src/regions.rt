@@ -1,5 +1,6 @@
-//! Regions of memory that are moved or exchanged (LIM EMS 4.0, function 24; INT 67h function 57h). Each function sets
-//! AH to the status, 0 for success; the other registers stay. The scratch part of the space may be overwritten.
+//! Regions of memory that are moved or exchanged (LIM EMS 4.0, function 24; INT 67h function 57h); they overlap where
+//! they share a byte of memory or ROM. Each function sets AH to the status, 0 for success; the other registers stay.
+//! The scratch part of the space may be overwritten.
 ghost use Rattle.std.specs.Prelude.{◌≡◌};
 ghost use Rattle.dm_ems.specs.Tables.{expanded};
 ghost use Rattle.dm_ems.specs.Consistent.{IsConsistent};

@@ -41,8 +41,9 @@ pub(crate) fn restore_map(cpu: &mut Cpu, ems: &mut Ems, space: &mut Space)
     settle(cpu, res);
 }
 
-/// 4Eh: with AL = 0 writes the map of the windows at ES:DI, with 1 sets them from the map at DS:SI, with 2 does both,
-/// the map at DS:SI read first, and with 3 sets AL to the size of a map in bytes; status 8Fh for another value.
+/// 4Eh: with AL = 0 writes the map of the windows at ES:DI, with 1 sets them from the map at DS:SI, with 2 reads the
+/// map at DS:SI, writes that of the windows at ES:DI and then sets them, and with 3 sets AL to the size of a map in
+/// bytes; status 8Fh for another value.
 #[tactic(auto, unfolding(crate::specs::Windows::whole_map))]
 pub(crate) fn whole_map(cpu: &mut Cpu, ems: &Ems, space: &mut Space)
     requires { IsConsistent (expanded ems.now space.old.memory) }
@@ -53,8 +54,8 @@ pub(crate) fn whole_map(cpu: &mut Cpu, ems: &Ems, space: &mut Space)
     settle_al(cpu, res);
 }
 
-/// 50h: makes windows show pages of the handle in DX, as CX pairs at DS:SI say, which name windows by number (AL = 0)
-/// or by segment (AL = 1); status 8Fh for another value of AL.
+/// 50h: makes windows show pages of the handle in DX, or nothing, as CX pairs at DS:SI say, which name windows by
+/// number (AL = 0) or by segment (AL = 1); status 8Fh for another value of AL.
 #[tactic(auto, unfolding(crate::specs::Windows::map_many))]
 pub(crate) fn map_many(cpu: &mut Cpu, ems: &Ems, space: &mut Space)
     requires { IsConsistent (expanded ems.now space.old.memory) }

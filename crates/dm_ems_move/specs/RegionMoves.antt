@@ -1,5 +1,5 @@
--- Regions of memory that are moved or exchanged (LIM EMS 4.0, function 24; INT 67h function 57h). Errors are tried in
--- the order in which they are written.
+-- Regions of memory that are moved or exchanged (LIM EMS 4.0, function 24; INT 67h function 57h). They overlap where
+-- they share a byte of memory or ROM. Errors are tried in the order in which they are written.
 use Rattle.std.specs.Prelude.{ℕ, ◌+◌, ◌*◌, Bool, true, false, nat_lt, nat_le, ◌==◌, if◌then◌else◌, [], slice_index_or, None, Result, Ok, Err}
 use Rattle.dm_space.specs.Memory.{Memory}
 use Rattle.dm_space.specs.EightBytes.{byte_after}

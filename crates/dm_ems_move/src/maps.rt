@@ -136,8 +136,8 @@ fn write_map(ems: &Ems, space: &mut Space, segment: u16, offset: u16)
 
 /// 4Eh: the map of the frame, sixteen bytes: for each window the handle and the logical page that it shows, two
 /// words, or FFFFh twice where it shows nothing. Mode 0 writes it at the first address, mode 1 makes the windows show
-/// what the map at the second address says, mode 2 does both, and reads the second map before it writes the first,
-/// and mode 3 only returns the size of a map in bytes.
+/// what the map at the second address says, mode 2 reads the second map, writes the first of what the windows show so
+/// far, and then sets them, and mode 3 only returns the size of a map in bytes.
 ///
 /// # Errors
 ///

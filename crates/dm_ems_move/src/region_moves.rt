@@ -1,4 +1,5 @@
-//! Regions of memory that are moved or exchanged (LIM EMS 4.0, function 24; INT 67h function 57h).
+//! Regions of memory that are moved or exchanged (LIM EMS 4.0, function 24; INT 67h function 57h). They overlap where
+//! they share a byte of memory or ROM; an address without memory is none.
 
 ghost use Rattle.std.specs.Prelude.{◌≡◌, ◌≤◌, ◌+◌, IfOk, OnErr};
 ghost use Rattle.dm_ems.specs.Tables.{expanded};
@@ -24,9 +25,9 @@ const PAGE: usize = 0x4000;
 /// The result of a move that succeeds.
 #[derive(Clone, Copy, Debug, PartialEq, Eq)]
 pub enum Moved {
-    /// The two regions share no byte.
+    /// The two regions share no byte of memory or ROM.
     Apart,
-    /// They share bytes; all were read before any was written.
+    /// They share such bytes; all were read before any was written.
     Overlapping,
 }
 
@@ -78,7 +79,7 @@ fn expanded_region(ems: &Ems, described: Description, len: usize) -> Result<Span
 }
 
 /// The region of `len` bytes that is described: type 0 is conventional memory, type 1 pages of a handle.
-/// `UnknownKind` for another type.
+/// `UnknownKind` for another type, else the errors of the region's type.
 #[tactic(auto, unfolding(crate::specs::RegionMoves::region_of))]
 fn region_of(ems: &Ems, described: Description, len: usize) -> Result<Span, Status>
     requires { len ≤ 0x100000 }
@@ -201,7 +202,7 @@ fn exchange_between(
 /// segment:offset has eighteen bytes: the length in bytes (a double word), and for the source and then the
 /// destination a type (a byte: 0 conventional memory, 1 pages), a handle, an offset (in the segment or in the page),
 /// and a segment or a logical page (words). The source is read whole before anything is written; `Overlapping` says
-/// that the regions share a byte. The scratch bytes of the space may be overwritten.
+/// that the regions overlap. The scratch bytes of the space may be overwritten.
 ///
 /// A length of 0 is `Apart`, whatever else the structure says, and the scratch bytes stay.
 ///
@@ -241,8 +242,8 @@ pub fn move_region(ems: &Ems, space: &mut Space, segment: u16, offset: u16) -> R
 ///
 /// # Errors
 ///
-/// Those of [`move_region`] in their order; then `ExchangeOverlaps` where the regions share a byte. Then neither
-/// memory nor the scratch bytes have changed.
+/// Those of [`move_region`] in their order; then `ExchangeOverlaps` where the regions overlap. Then neither memory nor
+/// the scratch bytes have changed.
 #[tactic(auto, unfolding(crate::specs::RegionMoves::exchange_region))]
 pub fn exchange_region(
     ems: &Ems,

@@ -23,7 +23,7 @@ fn double(width: Width, cpu: &Cpu) -> u32
     }
 }
 
-/// Sets AX to a product (MUL, IMUL) of two bytes, or DX and AX to one of four, the upper half in DX.
+/// Sets AX to a product (MUL, IMUL) that is two bytes wide, or DX and AX to one of four bytes, the upper half in DX.
 #[tactic(auto, unfolding(crate::specs::Products::with_double))]
 fn set_double(width: Width, cpu: &mut Cpu, value: u32)
     requires { value < size width * size width }

@@ -10,11 +10,11 @@ use Rattle.dm_ins.specs.declared.operand.SegmentRegister.TheVariants.{Es, Cs, Ss
 use Rattle.dm_ins.specs.declared.operand.Base.{Base}
 use Rattle.dm_ins.specs.declared.operand.Base.TheVariants.{BxSi, BxDi, BpSi, BpDi, OnSi, OnDi, OnBp, OnBx}
 
--- the word registers that the reg field names, in the order of their numbers
+-- the word registers that the reg field names, and the r/m field where mod is 3, in the order of their numbers
 abbrev pub word_registers : List WordRegister
 word_registers = Ax ∷ Cx ∷ Dx ∷ Bx ∷ Sp ∷ Bp ∷ Si ∷ Di ∷ []
 
--- the byte registers that the reg field names, in the order of their numbers
+-- the byte registers that the reg field names, and the r/m field where mod is 3, in the order of their numbers
 abbrev pub byte_registers : List ByteRegister
 byte_registers = Al ∷ Cl ∷ Dl ∷ Bl ∷ Ah ∷ Ch ∷ Dh ∷ Bh ∷ []
 
@@ -22,7 +22,7 @@ byte_registers = Al ∷ Cl ∷ Dl ∷ Bl ∷ Ah ∷ Ch ∷ Dh ∷ Bh ∷ []
 abbrev pub bases : List Base
 bases = BxSi ∷ BxDi ∷ BpSi ∷ BpDi ∷ OnSi ∷ OnDi ∷ OnBp ∷ OnBx ∷ []
 
--- the number of a word register in the reg field
+-- the number of a word register in the reg field, and in the r/m field where mod is 3
 abbrev pub word_number : WordRegister → ℕ
 word_number Ax = 0
 word_number Cx = 1
@@ -33,7 +33,7 @@ word_number Bp = 5
 word_number Si = 6
 word_number Di = 7
 
--- the number of a byte register in the reg field
+-- the number of a byte register in the reg field, and in the r/m field where mod is 3
 abbrev pub byte_number : ByteRegister → ℕ
 byte_number Al = 0
 byte_number Cl = 1

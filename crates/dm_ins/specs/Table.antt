@@ -148,7 +148,7 @@ shifts a b = (map (λ m. Some (row m a b)) (op.Rol ∷ op.Ror ∷ op.Rcl ∷ op.
 abbrev pub unary : OperandKind → OperandKind → List (Option Row)
 unary e i = (Some (row op.Test e i) ∷ None ∷ map (λ m. Some (row m e is.Nothing)) (op.Not ∷ op.Neg ∷ op.Mul ∷ op.Imul ∷ op.Div ∷ op.Idiv ∷ []))
 
--- a group with a row for the reg field 0 alone
+-- a group with a row for the reg field 0 alone: POP 8Fh, MOV C6h and C7h
 abbrev pub zeroth : Row → List (Option Row)
 zeroth r = (Some r ∷ None ∷ None ∷ None ∷ None ∷ None ∷ None ∷ None ∷ [])
 

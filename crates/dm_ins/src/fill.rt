@@ -126,7 +126,7 @@ fn put_fields(out: &mut RowBytes, register: u8, place: RegisterOrMemory)
     }
 }
 
-/// The first number if there is one, else the second.
+/// The first reg field, of a group or that an operand asks for, if there is one, else the second.
 fn first_number(a: Option<u8>, b: Option<u8>) -> Option<u8>
     ensures value { result ≡ either a b }
     ensures fits { IfSome a (λ n. n < 8) → IfSome b (λ n. n < 8) → IfSome result (λ n. n < 8) }
@@ -149,7 +149,7 @@ fn first_place(a: Option<RegisterOrMemory>, b: Option<RegisterOrMemory>) -> Opti
 }
 
 /// Appends what comes after the first byte: a mod r/m byte with its displacement if there are a reg field and a place,
-/// else the second byte of a row that fixes it.
+/// else the second byte of a row that fixes it, else nothing.
 fn put_behind(
     out: &mut RowBytes,
     register: Option<u8>,

@@ -36,7 +36,7 @@ impl WordRegister {
         self as u8
     }
 
-    /// The register with the number in the reg field, 0 to 7.
+    /// The register with the number, 0 to 7, in the reg field, or in the r/m field where mod is 3.
     pub fn from_number(number: u8) -> Self
         requires { number < 8 }
         ensures { result ≡ slice_index_or word_registers number WordRegister.Ax }
@@ -79,7 +79,7 @@ impl ByteRegister {
         self as u8
     }
 
-    /// The register with the number in the reg field, 0 to 7.
+    /// The register with the number, 0 to 7, in the reg field, or in the r/m field where mod is 3.
     pub fn from_number(number: u8) -> Self
         requires { number < 8 }
         ensures { result ≡ slice_index_or byte_registers number ByteRegister.Al }

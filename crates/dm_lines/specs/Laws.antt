@@ -54,7 +54,8 @@ abbrev pub IsComment : List ℕ → Type 0
 IsComment [] = Unit {0}
 IsComment (b ∷ bs) = (b ≡ 59) ⊎ ((b ≡ 32) × IsComment bs)
 
--- a text whose names and numbers stand apart has the tokens of its pieces, with a comment after it too
+-- a text whose names and numbers stand apart, and whose numbers fit their sizes, has the tokens of its pieces, with a
+-- comment after it too
 abbrev pub PiecesAreRead : Type 0
 PiecesAreRead = (ps : List Piece) (comment : List ℕ) → parted false ps ≡ true → AllFit ps → IsComment comment → tokens_of (text_bytes ps ++ comment) ≡ all_tokens ps
 
@@ -87,7 +88,7 @@ OutlinesStand = (m : Mnemonic) (t : Term) (place next : ℕ) (x : Written) → T
 abbrev pub TextsAreRead : Type 0
 TextsAreRead = (i : Ins) (bytes : List ℕ) (next : ℕ) → SpellsAction i.action bytes → line_of (text_of i next) ≡ Some (own_statement i next)
 
--- the text has at most 63 bytes, and none is a control byte, so that no line end is among them
+-- the text has at most 63 bytes, and none is below 20h, so that no line end is among them
 pub record IsPlain (text : List ℕ) : Type 0 where
   pub short : length text ≤ 63
   pub printed : AllByRecursion (λ b. 32 ≤ b) text

@@ -32,7 +32,8 @@ magnitude_of base n (b ∷ bs) = do
   d ← digit_of b
   if nat_le base d then None else if nat_le 65536 (n * base + d) then None else magnitude_of base (n * base + d) bs
 
--- the number that a word spells: hexadecimal with an H at the end, else decimal; None if it spells none
+-- the number that a word that begins with a digit spells: hexadecimal with an H at the end, else decimal; None if it
+-- spells none
 abbrev pub number_of : List ℕ → Option ℕ
 number_of w = if slice_index w (length w - 1) == 72 then magnitude_of 16 0 (take (length w - 1) w) else magnitude_of 10 0 w
 
@@ -101,6 +102,6 @@ lexed false w (b ∷ bs) =
     else if b == 59 then closed w
     else then_tokens (closed w) (then_tokens (marked b) (lexed (b == 39) [] bs))
 
--- the tokens of a line up to its comment; None if a byte belongs to no token or a quoted text does not end
+-- the tokens of a line up to its comment; None if a byte or a word is no token, or a quoted text does not end
 unfoldable pub tokens_of : List ℕ → Option (List Token)
 tokens_of line = lexed false [] line

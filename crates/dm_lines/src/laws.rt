@@ -3,8 +3,8 @@
 
 ghost use Rattle.dm_lines.specs.Laws.{PiecesAreRead, OwnTermsAreWritten, OutlinesStand, TextsAreRead, TextsArePlain, DataIsRead, NumbersFit};
 
-/// The law that a text whose names and numbers stand apart has the tokens of its pieces, with a comment after it too:
-/// a name is a word, a number that number. It does nothing when called.
+/// The law that a text whose names and numbers stand apart, and whose numbers fit their sizes, has the tokens of its
+/// pieces, with a comment after it too: a name is a word, a number that number. It does nothing when called.
 #[tactic(auto, using(crate::proofs::Printed::pieces_are_read))]
 pub fn pieces_are_read()
     ensures { PiecesAreRead }
@@ -35,8 +35,8 @@ pub fn texts_are_plain()
     ensures { TextsArePlain }
 {}
 
-/// The law that a DB line of some bytes is read as these bytes, with a comment after it too. It does nothing when
-/// called.
+/// The law that a DB line of some bytes, at least one, is read as these bytes, with a comment after it too, if it has
+/// at most 255 bytes in all. It does nothing when called.
 #[tactic(auto, using(crate::proofs::Data::data_is_read))]
 pub fn data_is_read()
     ensures { DataIsRead }

@@ -49,7 +49,7 @@ fn digit(byte: u8) -> Option<u8>
     }
 }
 
-/// The number that digits spell in a base; None if one is no digit of it, or for 65,536 and over.
+/// The number that digits spell in a base, 0 for no digits; None if one is no digit of it, or for 65,536 and over.
 fn magnitude(base: u8, digits: &[u8]) -> Option<u16>
     requires { base ≤ 16 }
     ensures { result ≡ magnitude_of base 0 digits.now }
@@ -69,7 +69,8 @@ fn magnitude(base: u8, digits: &[u8]) -> Option<u16>
     Some(n)
 }
 
-/// The number that a word spells: hexadecimal with an H at the end, else decimal; None if it spells none.
+/// The number that a word that begins with a digit spells: hexadecimal with an H at the end, else decimal; None if it
+/// spells none.
 fn number(word: &[u8]) -> Option<u16>
     requires { 0 < length word.now }
     ensures { result ≡ number_of word.now }
@@ -156,8 +157,8 @@ fn quoted_token(byte: u8) -> Token
     }
 }
 
-/// Sets `tokens` to the tokens of a line. None if a byte belongs to no token or a quoted text does not end; what is
-/// left in `tokens` then means nothing.
+/// Sets `tokens` to the tokens of a line up to its comment. None if a byte or a word is no token, or a quoted text does
+/// not end; what is left in `tokens` then means nothing.
 #[tactic(auto, unfolding(crate::specs::Tokens::tokens_of))]
 pub(crate) fn put_tokens(tokens: &mut Tokens, line: &[u8]) -> Option<()>
     requires { length line.now ≤ 255 }

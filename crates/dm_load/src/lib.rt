@@ -1,5 +1,6 @@
 //! Program files: COM files, which are their own image, and MZ files, whose header says how the
-//! image is relocated and where it starts (MS-DOS Programmer's Reference, "EXE File Header").
+//! image is relocated and where it starts (MS-DOS Programmer's Reference, "EXE File Header"). They
+//! are read where the first program is loaded and by function 4Bh.
 #![tactic(auto)]
 
 mod format;

@@ -1,4 +1,5 @@
--- Words in a program's buffer; offsets wrap in their segment.
+-- Words in a program's buffer (INT 67h functions 4Eh, 50h and 57h; XMS 3.0, function 0Bh); offsets wrap in their
+-- segment.
 use Rattle.std.specs.Prelude.{ℕ, ◌+◌, ◌%◌}
 use Rattle.dm_space.specs.Memory.{Memory, peek16}
 

@@ -1,5 +1,5 @@
--- Spans of memory, and the memory after a move or an exchange of two of them (LIM EMS 4.0, function 24): bytes are read
--- and written through places.
+-- Spans of memory, and the memory after a move (LIM EMS 4.0, function 24; XMS 3.0, function 0Bh) or an exchange of two
+-- of them (function 24 alone): bytes are read and written through places.
 use Rattle.std.specs.Prelude.{◌≡◌, ℕ, suc, ◌+◌, ◌*◌, ◌/◌, ◌%◌, ◌≤◌, ◌<◌, List, [], ◌∷◌, length, slice_index}
 use Rattle.dm_pool.specs.Blocks.{IsLive}
 use Rattle.dm_space.specs.declared.place.Place.{Place}

@@ -1,4 +1,5 @@
-//! Bytes and words in a program's buffer; offsets wrap in their segment.
+//! Bytes and words in a program's buffer (INT 67h functions 4Eh, 50h and 57h; XMS 3.0, function 0Bh); offsets wrap in
+//! their segment.
 
 ghost use Rattle.std.specs.Prelude.{◌≡◌, ◌<◌, ◌+◌, ◌%◌};
 ghost use Rattle.dm_space.specs.EightBytes.{byte_after};

@@ -84,7 +84,8 @@ fn write(space: &mut Space, at: usize, span: &Span, len: usize)
     }
 }
 
-/// Copies the first `len` bytes of one span to another: all are read into the scratch bytes, and then written upwards.
+/// Copies the first `len` bytes of one span to another (INT 67h function 57h, AL = 0; XMS 3.0, function 0Bh with memory
+/// of handle 0): all are read into the scratch bytes, and then written upwards.
 /// What is written to ROM, or where there is no memory, is lost. Nothing is promised of the scratch bytes afterwards.
 pub fn move_bytes(space: &mut Space, from: &Span, to: &Span, len: usize)
     requires from { IsInside space.old.memory from.now len }
@@ -115,9 +116,9 @@ pub fn move_blocks(space: &mut Space, from: &Span, to: &Span, len: usize)
     space.move_bytes(source, from.at(0), destination, to.at(0), len);
 }
 
-/// Exchanges the first `len` bytes of two spans: those of both are read into the scratch bytes, and then each is
-/// written upwards where the other was, to `to` first. What is written to ROM, or where there is no memory, is lost.
-/// Nothing is promised of the scratch bytes afterwards.
+/// Exchanges the first `len` bytes of two spans (INT 67h function 57h, AL = 1): those of both are read into the scratch
+/// bytes, and then each is written upwards where the other was, to `to` first. What is written to ROM, or where there
+/// is no memory, is lost. Nothing is promised of the scratch bytes afterwards.
 pub fn exchange_bytes(space: &mut Space, from: &Span, to: &Span, len: usize)
     requires from { IsInside space.old.memory from.now len }
     requires to { IsInside space.old.memory to.now len }

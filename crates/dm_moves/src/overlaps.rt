@@ -1,4 +1,5 @@
-//! Whether spans overlap: whether they share a place that is memory or ROM.
+//! Whether spans overlap: whether they share a place that is memory or ROM (LIM EMS 4.0, function 24; INT 67h function
+//! 57h).
 
 ghost use Rattle.std.specs.Prelude.{◌≡◌, ◌==◌, ◌+◌, ◌<◌};
 ghost use Rattle.dm_space.specs.inner.Runs.{shift};

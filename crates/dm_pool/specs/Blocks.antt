@@ -57,11 +57,12 @@ content bytes (Some b) = part bytes (b.base * 1024) (b.units * 1024)
 abbrev pub contents_of : List (Option Extent) → List ℕ → List (List ℕ)
 contents_of places bytes = map (content bytes) places
 
--- two places share no unit; a place of no unit at unit 0 is apart from every other
+-- one place ends at or below the first unit of the other, so that they share no unit; a place of no unit at unit 0 is
+-- apart from every other
 abbrev pub Apart : Extent → Extent → Type 0
 Apart b d = (b.base + b.units ≤ d.base) ⊎ (d.base + d.units ≤ b.base)
 
--- each block lies within the pool, no two share a unit, and there are 576 numbers and fewer than 2 ^ 31 units
+-- each block lies within the pool, all are apart, and there are 576 numbers and fewer than 2 ^ 31 units
 pub record IsLaid (units : ℕ) (places : List (Option Extent)) : Type 0 where
   pub count : length places ≡ 576
   pub small : units < 2 ^ 31

@@ -1,5 +1,6 @@
 //! The bytes of a machine in one store: low memory, scratch bytes, and a pool from which blocks of expanded and
-//! extended memory are taken, in units of 1 KiB.
+//! extended memory are taken, in units of 1 KiB: one of 16 units for each page of expanded memory, one of so many KiB
+//! for each handle of extended memory.
 #![tactic(auto)]
 
 mod block;

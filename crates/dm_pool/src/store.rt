@@ -63,7 +63,8 @@ pub enum NewError {
     Memory,
 }
 
-/// A region of `len` zeros. (It is a function of its own so that no proof writes out the zeros of a large region.)
+/// A region of `len` zeros; `AllocError` if the allocation fails. (It is a function of its own so that no proof writes
+/// out the zeros of a large region.)
 #[tactic(auto, unfolding(crate::specs::Stored::zeros_of))]
 fn blank(alloc: Global, len: usize) -> Result<Region, AllocError>
     ensures { IfOk result (λ region. region ≡ zeros_of len) }
@@ -187,7 +188,7 @@ impl Store {
     }
 
     /// Takes a block of `units` units of 1 KiB, all zeros, in the lowest gap that holds them; a block of no unit needs
-    /// no gap. None where no gap holds them, or where there are 576 blocks; then nothing has changed.
+    /// no gap, and lies at unit 0. None where no gap holds them, or there are 576 blocks; then nothing has changed.
     pub fn take(&mut self, units: usize) -> Option<Block>
         ensures { MatchOption result ((taken self.old.blocks units ≡ None) × (self.new ≡ self.old)) (λ block. (taken self.old.blocks units ≡ Some (block, self.new.blocks)) × (self.new ≡ record self.old { blocks = self.new.blocks })) }
     {
@@ -213,8 +214,8 @@ impl Store {
 
     /// Gives a block another size: bytes up to the smaller size stay, and new ones are zeros. The block stays where it
     /// is if it fits there, else it moves to the lowest gap that holds it, its old place counted as taken; a block of
-    /// no unit needs no gap. The other blocks stay as they are. False where neither holds it, and then nothing has
-    /// changed.
+    /// no unit needs no gap, and lies at unit 0. The other blocks stay as they are. False where neither holds it, and
+    /// then nothing has changed.
     pub fn resize(&mut self, block: Block, units: usize) -> bool
         requires { IsLive self.old.blocks block }
         ensures { MatchBool result ((resized self.old.blocks block units ≡ Some self.new.blocks) × (self.new ≡ record self.old { blocks = self.new.blocks })) ((resized self.old.blocks block units ≡ None) × (self.new ≡ self.old)) }
@@ -228,7 +229,7 @@ impl Store {
         )
     }
 
-    /// Whether the store has a block: it was taken, and not given back since.
+    /// Whether the store has a block with this number: one that was taken and has not been given back since.
     pub fn has(&self, block: Block) -> bool
         ensures { IsTrue result ↔ IsLive self.now.blocks block }
     {
@@ -267,7 +268,7 @@ impl Store {
     }
 
     /// Copies `len` bytes of a block, from its byte `from` on, to the place from byte `to` on of another block or the
-    /// same one. The bytes copied are those that stood there before.
+    /// same one. The two places may overlap: the bytes copied are those that stood in the first before the call.
     pub fn move_bytes(
         &mut self,
         source: Block,
@@ -288,7 +289,7 @@ impl Store {
     }
 
     /// Copies `len` bytes of a part, from its byte `from` on, to the place from byte `to` on of another part or the
-    /// same one. The bytes copied are those that stood there before.
+    /// same one. The two places may overlap: the bytes copied are those that stood in the first before the call.
     pub fn copy(&mut self, source: Part, from: usize, destination: Part, to: usize, len: usize)
         requires source { HasPart self.old source × (from + len ≤ length (part_bytes self.old source)) }
         requires destination { HasPart self.old destination × (to + len ≤ length (part_bytes self.old destination)) }

@@ -30,7 +30,7 @@ OverlayHasOneAnswer =
     (c : Cpu) (m : Memory) (store : List (List ℕ × List ℕ)) (r q : Result (Unit {0}) ExecRefusal) (m₁ m₂ : Memory) →
     Overlays c m store r m₁ → Overlays c m store q m₂ → (r ≡ q) × (m₁ ≡ m₂)
 
--- ending a process with an exit code (4Ch) has one result, and leaves one state
+-- ending a process with an exit code (00h, 4Ch and the like) has one result, and leaves one state
 abbrev pub TerminatingHasOneAnswer : Type 0
 TerminatingHasOneAnswer =
     (upper : Bool) (ps : Processes) (c : Cpu) (m : Memory) (code : ℕ) (r q : Result Ending ArenaDestroyed) (ps₁ ps₂ : Processes) (c₁ c₂ : Cpu) (m₁ m₂ : Memory) →

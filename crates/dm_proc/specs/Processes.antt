@@ -168,15 +168,15 @@ pub record Ends (ps : Processes) (c : Cpu) (m : Memory) (word : ℕ) (ending : E
   pub memory : n ≡ vectors_back m ps.present
   pub goes_on : GoesOn ps c word ending qs d
 
--- the end of the present process with an exit code, as by function 4Ch: its blocks are freed. Where the arena is
--- destroyed nothing changes
+-- the end of the present process with an exit code (functions 00h and 4Ch, INT 20h, a divide error): its blocks are
+-- freed. Where the arena is destroyed nothing changes
 abbrev pub Terminates : Bool → Processes → Cpu → Memory → ℕ → Result Ending ArenaDestroyed → Processes → Cpu → Memory → Type 0
 Terminates upper ps c m code (Ok ending) qs d n =
     (freed : Memory) × Releases upper m ps.present (Ok tt) freed × Ends ps c freed code ending qs d n
 Terminates upper ps c m code (Err e) qs d n = (qs ≡ ps) × (d ≡ c) × (n ≡ m) × Releases upper m ps.present (Err arena.Destroyed) m
 
--- function 31h: the block of the present process is resized to `paragraphs` if that is possible, nothing is freed,
--- and the process ends. Where the arena is destroyed, or would be, nothing changes
+-- function 31h: the block of the present process is resized to `paragraphs` if that is possible, none of its blocks is
+-- freed, and the process ends. Where the arena is destroyed, or would be, nothing changes
 abbrev pub Keeps : Bool → Processes → Cpu → Memory → ℕ → ℕ → Result Ending ArenaDestroyed → Processes → Cpu → Memory → Type 0
 Keeps upper ps c m code paragraphs (Ok ending) qs d n =
     (answer : Result (Unit {0}) ArenaRefusal) × (kept : Memory) × Resizes upper m ps.present paragraphs answer kept × (answer ≢ Err arena.Destroyed)

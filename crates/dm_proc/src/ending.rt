@@ -1,4 +1,4 @@
-//! How a program ends (MS-DOS Programmer's Reference, functions 4Ch and 31h).
+//! How a program ends (MS-DOS Programmer's Reference, functions 00h, 4Ch and 31h, and INT 20h).
 ghost use Rattle.std.specs.Prelude.{◌≡◌, ◌+◌, IsErrOf, MatchBool};
 ghost use Rattle.dm_proc.specs.Processes.{Ends, Keeps, Terminates};
 
@@ -42,14 +42,15 @@ impl Procs {
         self.finish(cpu, word)
     }
 
-    /// Ends the present process with an exit code (function 4Ch): frees its blocks and restores the vectors 22h to
-    /// 24h from its prefix; its parent becomes the present process, with the registers that it waits with. Where it was
-    /// the first program, the registers and the present process stay. Either way the code is kept for function 4Dh.
+    /// Ends the present process with an exit code (functions 00h and 4Ch, INT 20h, a divide error): frees its blocks
+    /// and restores the vectors 22h to 24h from its prefix; its parent becomes the present process, with the registers
+    /// that it waits with. Where it was the first program, the registers and the present process stay. Either way the
+    /// code is kept for function 4Dh.
     ///
     /// # Errors
     ///
-    /// `ArenaDestroyed` where memory spells no clear list of blocks or, where that isn't linked with upper memory, no
-    /// second one that is clear with it. Then nothing has changed.
+    /// `ArenaDestroyed` where memory spells no clear list of blocks or, where upper memory belongs to the arena
+    /// (`upper`) and that list isn't linked with it, no second one that is clear with it. Then nothing has changed.
     pub fn terminate(
         &mut self,
         cpu: &mut Cpu,
@@ -66,8 +67,8 @@ impl Procs {
     }
 
     /// Ends the present process and keeps it in memory (function 31h): resizes its block to `paragraphs`, where that
-    /// can be done, and frees nothing. The rest is as for `terminate`; the word for function 4Dh has 3 in its high
-    /// byte.
+    /// can be done, and frees none of its blocks. The rest is as for `terminate`; the word for function 4Dh has 3 in
+    /// its high byte.
     ///
     /// # Errors
     ///

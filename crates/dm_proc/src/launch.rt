@@ -41,8 +41,8 @@ fn relocate(space: &mut Space, image: &Image, start: u16) -> usize
     count
 }
 
-/// Writes an image, relocated to the segment `start`, to guest memory from `segment` upwards. The scratch part may be
-/// overwritten.
+/// Writes an image, a program's or an overlay's, relocated to the segment `start`, to guest memory from `segment`
+/// upwards. The scratch part may be overwritten.
 pub(crate) fn write_image(space: &mut Space, image: &Image, segment: u16, start: u16)
     ensures { space.new.memory ≡ apply (block space.old.memory.a20 segment (relocated image.now start)) space.old.memory }
 {

@@ -1,6 +1,6 @@
 //! Processes: the store of programs; how a program is started, by blocks of the arena, environment,
 //! program segment prefix, image and registers; and how it ends (MS-DOS Programmer's Reference,
-//! functions 4Bh, 4Ch, 31h and 4Dh).
+//! functions 4Bh, 00h, 4Ch, 31h and 4Dh).
 #![tactic(auto)]
 
 mod arguments;

@@ -47,7 +47,8 @@ fn push_zeros(prefix: &mut Prefix, count: usize)
     }
 }
 
-/// Appends `count` bytes of guest memory from segment:offset on; offsets wrap.
+/// Appends `count` bytes of guest memory from segment:offset on; offsets wrap. For the prefix, the command tail of 4Bh,
+/// and the vectors that the end of a process restores.
 pub(crate) fn push_guest<const N: usize>(
     bytes: &mut ArrayVec<u8, N>,
     space: &Space,

@@ -3,11 +3,11 @@ ghost use Rattle.std.specs.Prelude.{◌≡◌, MatchResult};
 
 use thiserror::Error;
 
-/// Why function 4Bh started no program (MS-DOS Programmer's Reference, function 4Bh). The call has changed neither
-/// memory nor registers nor processes.
+/// Why function 4Bh started no program or loaded no overlay (MS-DOS Programmer's Reference, function 4Bh), or the first
+/// program was not started. The call has changed neither memory nor registers nor processes.
 #[derive(Clone, Copy, Debug, PartialEq, Eq, Error)]
 pub enum ExecRefusal {
-    /// AL asks for another function (DOS error 1, "Invalid function").
+    /// AL is not the call's: 0 to start a program, 3 to load an overlay (DOS error 1, "Invalid function").
     #[error("no such function")]
     Function,
     /// No name is closed by a zero within 65 bytes, or the store has no program of this name (DOS

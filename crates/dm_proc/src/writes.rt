@@ -1,5 +1,5 @@
 //! Writing bytes to guest memory from a segment upwards. Such a block may be longer than 64 KiB;
-//! segments wrap.
+//! segments wrap. What is written to ROM, or where there is no memory, is lost.
 ghost use Rattle.std.specs.Prelude.{◌≡◌, ◌+◌, ◌<◌, ◌≤◌, length, take};
 ghost use Rattle.dm_proc.specs.Writes.{apply, block, block_address, upwards};
 ghost use Rattle.dm_space.specs.Memory.{poke};

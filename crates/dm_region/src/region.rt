@@ -81,7 +81,7 @@ impl Region {
         self.cells.slice(self.base, from, len)
     }
 
-    /// The `len` bytes from byte `from` on, lent to be written.
+    /// The `len` bytes from byte `from` on, lent to be written; the others stay.
     #[inline(always)]
     pub fn part_mut(&mut self, from: usize, len: usize) -> &mut [u8]
         requires { from + len ≤ length self.old }
@@ -93,7 +93,7 @@ impl Region {
     }
 
     /// Copies the `len` bytes from byte `from` on to the place from byte `to` on. The two may overlap: the bytes copied
-    /// are those that stood there before. The bytes outside that place stay.
+    /// are those that stood in the first before the call. The bytes outside the second stay.
     pub fn copy(&mut self, from: usize, to: usize, len: usize)
         requires source { from + len ≤ length self.old }
         requires destination { to + len ≤ length self.old }

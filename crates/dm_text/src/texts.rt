@@ -178,7 +178,7 @@ fn put_second(line: &mut Line, action: &Action, next: u16)
     }
 }
 
-/// Appends a space and the operands, if there are any.
+/// Appends a space and the operands; nothing without a first one.
 #[tactic(auto, using(crate::proofs::Pieces::appended))]
 fn put_operands(line: &mut Line, action: &Action, next: u16)
     requires { length line.old + 40 ≤ 64 }
@@ -275,9 +275,10 @@ fn put_prefixes(line: &mut Line, prefixes: Prefixes)
 /// targets of jumps and calls count.
 ///
 /// Prefix words come first (the segment's, LOCK, REP or REPNE), then the mnemonic, then the
-/// operands with a comma between them. Numbers are hexadecimal, two digits for a byte and four for
-/// a word, but the count 1 of a shift is `1`. `BYTE` or `WORD` stands before memory where no general
-/// register gives its size; but JMP and CALL have `NEAR` there, and their far forms no such word.
+/// operands with a comma between them; XCHG AX,AX is written NOP. Numbers are hexadecimal, two
+/// digits for a byte and four for a word, but the count 1 of a shift is `1`. `BYTE` or `WORD`
+/// stands before memory where no general register gives its size; but JMP and CALL have `NEAR`
+/// there, and their far forms no such word.
 #[tactic(auto, using(crate::proofs::Pieces::appended), unfolding(crate::specs::Texts::text_of, crate::specs::Texts::pieces))]
 pub fn text(ins: &Ins, next: u16, line: &mut Line)
     ensures { line.new ≡ text_of ins.now next }

@@ -16,8 +16,9 @@ pub fn own_words_are_read()
     ensures sizes { SizesAreShown }
 {}
 
-/// The laws that where some words are an instruction, words with other targets, byte values, direct addresses or
-/// values of MOV in their place (`StandsFor`) are one too, and it has as many bytes. It does nothing when called.
+/// The laws that where some words are an instruction, words that stand for them (`StandsFor`: with targets at the next
+/// instruction, byte values modulo 64, any direct addresses and any values of MOV) are one too, and it has as many
+/// bytes. It does nothing when called.
 pub fn stand_ins_have_the_length()
     ensures read { StandInsAreRead }
     ensures lengths { LengthsAreKnown }

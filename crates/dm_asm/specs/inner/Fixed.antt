@@ -1,5 +1,5 @@
--- What the first pass of `assemble` keeps of the lines: the bytes of each statement that has the same bytes wherever it
--- stands. For private contracts and proofs alone.
+-- What the first pass of `assemble` keeps of the lines: the bytes of statements that have the same bytes wherever they
+-- and labels stand, but nothing of a DW. For private contracts and proofs alone.
 use Rattle.std.specs.Prelude.{◌≡◌, ℕ, ◌≤◌, Bool, true, false, List, [], ◌∷◌, ◌++◌, length, Option, Some, None, is_none}
 use Rattle.dm_ins.specs.declared.operand.Operand.{Operand}
 use Rattle.dm_ins.specs.declared.operand.Operand.TheVariants as operand

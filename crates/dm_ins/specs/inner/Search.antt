@@ -152,8 +152,8 @@ abbrev pub second_bytes : Option ℕ → List ℕ
 second_bytes None = []
 second_bytes (Some c) = c ∷ []
 
--- the bytes between the first one and the data: the mod r/m byte and its displacement if both are asked for, else the
--- second byte of a row that fixes it
+-- the bytes between the first one and the data: the mod r/m byte and its displacement if both fields are asked for,
+-- else the second byte of a row that fixes it, else none
 abbrev pub behind_bytes : Option ℕ → Option RegisterOrMemory → Option ℕ → List ℕ
 behind_bytes (Some r) (Some p) c = fields_bytes r p
 behind_bytes (Some r) None c = second_bytes c

@@ -23,13 +23,14 @@ pub record IsBelow (places : List (Option Extent)) (end : ℕ) (b : Extent) : Ty
   pub free : is_clear places (b.base + b.units) (end - (b.base + b.units)) ≡ true
   pub there : ((b.base ≡ 0) × (b.units ≡ 0)) ⊎ ((0 < b.units) × ((i : ℕ) × (get_or places i None ≡ Some b)))
 
--- the bytes xs of a pool list its gaps from the unit `from` on, and the first of these begins at the unit `first`
+-- the bytes xs of a pool list its gaps from the unit `from` on, and the first of these begins at the unit `first`,
+-- FFFFFFFFh if there is none
 pub record Tells (places : List (Option Extent)) (units from first : ℕ) (xs : List ℕ) : Type 0 where
   pub runs : List Run
   pub gaps : AreGaps places units from runs
   pub told : Spells xs first runs
 
--- a pool whose free bytes list all its gaps, the first of which begins at the unit `first`
+-- a pool whose free bytes list all its gaps, the first of which begins at the unit `first`, FFFFFFFFh if there is none
 pub record IsTold (units : ℕ) (places : List (Option Extent)) (bytes : List ℕ) (first : ℕ) : Type 0 where
   pub pool : IsPool units places bytes
   pub based : AreBased places
