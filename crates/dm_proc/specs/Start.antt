@@ -19,7 +19,7 @@ word_bytes w = w % 256 ∷ w / 256 ∷ []
 unfoldable pub zeros : ℕ → List ℕ
 zeros n = replicate n 0
 
--- the 256 bytes of the program segment prefix: INT 20h; the segment past the block; at 0Ah the vectors 22h to 24h; at
+-- the 256 bytes of the program segment prefix: INT 20h; the segment past the program's block; at 0Ah the vectors 22h to 24h; at
 -- 16h the parent; at 2Ch the environment's segment; at 50h INT 21h and RETF; at 5Ch and 6Ch the file control blocks; at
 -- 80h the tail's length, the tail and 0Dh; else zeros
 unfoldable pub prefix : Memory → Placed → ℕ → Passed → List ℕ
@@ -45,8 +45,8 @@ stack_writes a20 p file = if is_mz file then [] else zero_word a20 p.program (co
 abbrev pub start : Placed → ℕ
 start p = (p.program + 0x10) % 65536
 
--- all writes of a start after those of the headers, in their order: environment, prefix, image, and a COM program's
--- zero word
+-- all writes of a start after those of the arena's headers, in their order: environment and prefix, each from its
+-- block's segment on, the image at `start`, and the zero word on a COM program's stack
 unfoldable pub start_writes : Bool → Placed → List ℕ → List ℕ → List ℕ → List Write
 start_writes a20 p environment prefix file =
     block a20 p.environment environment

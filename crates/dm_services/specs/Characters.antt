@@ -54,11 +54,12 @@ abbrev pub poll_of : State → List ℕ → Answer
 poll_of s [] = go (with_zero (interrupt_returned (with_al s 0)) true)
 poll_of s (byte ∷ rest) = go (with_zero (interrupt_returned (with_al (with_input s rest) byte)) false)
 
--- 06h with DL = FFh: AL is the next byte of the input, if one is left
+-- 06h with DL = FFh: AL is the next byte of the input, and ZF is 0; with no input left, AL is 0 and ZF is 1, and the
+-- machine does not stop
 unfoldable pub poll_character : State → Answer
 poll_character s = poll_of s s.console.input
 
--- 06h: with DL = FFh, reads a byte into AL without waiting; otherwise writes DL to the console
+-- 06h: with DL = FFh, reads a byte into AL if one is left, and sets ZF; with any other DL, writes DL to the console
 unfoldable pub direct_character : State → Answer
 direct_character s = if byte_of s.cpu Dl == 0xFF then poll_character s else write_character s
 

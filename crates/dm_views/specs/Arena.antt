@@ -26,7 +26,7 @@ front_text (b ∷ P) = header_line 0x4D b ++ front_text P
 abbrev pub end_line : List ℕ
 end_line = codes "end" ++ 10 ∷ []
 
--- the line `destroyed at` with the segment where no header can follow
+-- the line `destroyed at` with the segment where no header can follow, in four hexadecimal digits
 abbrev pub destroyed_line : ℕ → List ℕ
 destroyed_line segment = codes "destroyed at " ++ four_digits segment ++ 10 ∷ []
 

@@ -52,7 +52,8 @@ fn double_after(space: &Space, segment: u16, offset: u16, places: usize) -> u32
     low as u32 + 0x1_0000 * high as u32
 }
 
-/// The description of one side that stands `places` bytes after segment:offset.
+/// The description of one side in the structure of a move, a handle (word) and an offset (double word), `places` bytes
+/// after segment:offset; offsets wrap.
 fn described(space: &Space, segment: u16, offset: u16, places: usize) -> Description
     requires { places < 0x100 }
     ensures { result ≡ described space.now.memory segment offset places }
