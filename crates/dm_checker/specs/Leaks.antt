@@ -67,7 +67,7 @@ upper_kept tables k = if_given (slice_get tables.uppers k)
 abbrev pub switches_kept : Bool → Bool → List Finding
 switches_kept area on = (if area then AreaKept ∷ [] else []) ++ (if on then LineKept ∷ [] else [])
 
--- ---- all of it: there are 64 handles of each, and at most 64 upper memory blocks
+-- ---- all of it: there are 64 handles of expanded and 64 of extended memory, and at most 64 upper memory blocks
 
 -- all that is found of a program that has ended: handles of expanded memory, windows, blocks of extended memory, upper
 -- memory blocks, the high memory area and A20

@@ -35,7 +35,7 @@ fn contents_of(bits: u64) -> Contents
     }
 }
 
-/// The byte at an index of a block; 0 past its end.
+/// The byte at an index of the bytes of a pool block, a page that a window showed; 0 past its end.
 fn byte_in(bytes: &[u8], at: usize) -> u8
     ensures { result ≡ slice_index bytes.now at }
 {
@@ -45,7 +45,7 @@ fn byte_in(bytes: &[u8], at: usize) -> u8
     }
 }
 
-/// The word at an index of a block, low byte first; bytes past its end count as 0.
+/// The word at an index of the bytes of a pool block, low byte first; bytes past its end count as 0.
 fn word_in(bytes: &[u8], at: usize) -> u16
     requires { at < 0x8000 }
     ensures { result ≡ slice_index bytes.now at + 256 * slice_index bytes.now (at + 1) }
@@ -53,7 +53,7 @@ fn word_in(bytes: &[u8], at: usize) -> u16
     byte_in(bytes, at) as u16 + 256 * byte_in(bytes, at + 1) as u16
 }
 
-/// The signature, owner and size of a header at an index of a block.
+/// The signature, owner and size of a header that stands in the page frame, at an index of the bytes of its pool block.
 fn contents_in(bytes: &[u8], at: usize) -> Contents
     requires { at < 0x4000 }
     ensures { result ≡ contents_by bytes.now at }
@@ -66,8 +66,8 @@ fn contents_in(bytes: &[u8], at: usize) -> Contents
 }
 
 /// The contents that memory now has at the places where the header at `segment` stood while the windows showed these
-/// blocks: FFh throughout in a window that showed no block; None if the block that it showed was freed. Outside the
-/// frame, segments E000h to EFFFh, the windows do not matter.
+/// blocks of the pool: FFh throughout in a window that showed no block; None if the block that the window showed was
+/// freed. Outside the frame, segments E000h to EFFFh, the windows do not matter.
 fn kept_of(space: &Space, windows: &[Option<Block>; 4], segment: u16) -> Option<Contents>
     ensures { (S : Memory) → windows.now ≡ S.windows → IsKept S space.now.memory segment result }
 {
@@ -95,7 +95,8 @@ fn is_same(first: Contents, second: Contents) -> bool
     first.signature == second.signature && first.owner == second.owner && first.size == second.size
 }
 
-/// Appends that a header was overwritten, if the bytes at its places have changed and its page was not freed.
+/// Appends that a header was overwritten, if its signature, owner or size has changed at the places where it stood
+/// before the step and the page that it stood in, if any, was not freed.
 fn put_overwritten(
     out: &mut Vec<Finding>,
     space: &Space,
@@ -114,8 +115,8 @@ fn put_overwritten(
     put(out, Finding::Overwritten(watched.header.segment, old, kept))
 }
 
-/// Appends that a header was mapped away, if its page was freed or its segment now shows other bytes than those at its
-/// places.
+/// Appends that a header was mapped away, if its page was freed or its segment now shows another signature, owner or
+/// size than the places where it stood before the step.
 fn put_mapped_away(
     out: &mut Vec<Finding>,
     space: &Space,

@@ -27,7 +27,7 @@ fn put_pages(out: &mut Vec<Finding>, handle: u16, pages: u16) -> Result<(), Allo
     put(out, Finding::PagesKept(handle, pages))
 }
 
-/// Appends that a handle's saved page map was not restored, if the handle has one.
+/// Appends that the page map saved with a handle of expanded memory was not restored, if the handle has one.
 fn put_map(out: &mut Vec<Finding>, handle: u16, slot: &Handle) -> Result<(), AllocError>
     ensures { OnOk result (out.new.items ≡ out.old.items ++ map_kept handle slot.now) }
 {

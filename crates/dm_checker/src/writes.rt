@@ -101,7 +101,7 @@ impl Known {
     }
 
     /// Whether it is known that the instruction at CS:IP writes no memory; false is no statement, and the result for CS
-    /// from F000h on. Enters what it finds out into the cache.
+    /// from F000h on. What is found out of code not in the cache replaces the entry for the low 12 bits of IP.
     #[inline(always)]
     pub(crate) fn only_reads(&mut self, cpu: &Cpu, space: &Space) -> bool
         ensures { IsTrue result → OnlyReads space.now.memory cpu.now }

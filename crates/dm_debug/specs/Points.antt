@@ -17,8 +17,8 @@ is_point a p = p.offset == a.offset && p.segment == a.segment
 abbrev pub is_set : List Breakpoint → LogicalAddress → Bool
 is_set points a = is_some (position (is_point a) points)
 
--- the breakpoints after B, by the index in the list of the breakpoint at the address: with one more at the end if there
--- is none (None), else as they are
+-- the breakpoints after B, by the index in the list of the breakpoint at the address: with one more at the end if none
+-- is there (None), else the list stays
 abbrev pub set_if : Option ℕ → List Breakpoint → LogicalAddress → List Breakpoint
 set_if None points a = points ++ point_at a ∷ []
 set_if (Some i) points a = points
@@ -27,7 +27,8 @@ set_if (Some i) points a = points
 abbrev pub with_point : List Breakpoint → LogicalAddress → List Breakpoint
 with_point points a = set_if (position (is_point a) points) points a
 
--- the breakpoints without the one at an index of the list; for None, all of them
+-- the breakpoints after BC, by the index in the list of the breakpoint at the address: without that one; for None, all
+-- of them
 abbrev pub cleared : Option ℕ → List Breakpoint → List Breakpoint
 cleared None points = points
 cleared (Some i) points = remove points i

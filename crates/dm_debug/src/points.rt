@@ -33,7 +33,7 @@ fn is_point(address: LogicalAddress, point: Breakpoint) -> bool
     point.offset == address.offset && point.segment == address.segment
 }
 
-/// The index of the breakpoint at an address in the list; None if it is not set.
+/// The index, in the list of breakpoints, of the one at an address; None if no breakpoint is set there.
 pub(crate) fn place_of(points: &[Breakpoint], address: LogicalAddress) -> Option<usize>
     ensures first { result ≡ position (is_point address) points.now }
     ensures there { IfSome result (λ k. k < length points.now) }

@@ -41,8 +41,8 @@ fn put_stop(out: &mut Vec<u8>, stop: Option<Stop>) -> Result<(), AllocError>
     out.extend_from_slice(b"\n")
 }
 
-/// G: makes at most `n` steps, up to a breakpoint or a stop, and appends why the run ended and the registers. An `Err`
-/// is a failed allocation after the run.
+/// G: makes at most `n` steps, up to a breakpoint or a stop, as `Machine::run_until` does, and appends to `out` why the
+/// run ended and the registers. An `Err` is a failed allocation after the run: a first part of the text may be in `out`.
 pub(crate) fn go(
     machine: &mut Machine,
     n: u32,
@@ -59,8 +59,9 @@ pub(crate) fn go(
     put_machine(out, machine)
 }
 
-/// T: makes at most `n` steps and appends the registers after each; if a step returns a stop, appends the line of the
-/// stop instead and ends. Breakpoints do not count. An `Err` is a failed allocation; the steps made so far stay made.
+/// T: makes at most `n` steps and appends the registers after each to `out`; if a step returns a stop, appends the line
+/// of the stop instead and ends. Breakpoints do not count. An `Err` is a failed allocation; the steps made so far stay
+/// made, and a first part of the text may be in `out`.
 pub(crate) fn trace(machine: &mut Machine, n: u16, out: &mut Vec<u8>) -> Result<(), AllocError>
     requires { HasProgram machine.old }
     ensures ok { OnOk result ((text : List ℕ) × (out.new.items ≡ out.old.items ++ text) × IsTrace machine.old n text machine.new) }

@@ -80,8 +80,8 @@ impl Session {
         &self.machine
     }
 
-    /// Makes at most `n` steps, but none after a step that led to one of these breakpoints, and returns None there or
-    /// why the run stopped, as `Machine::run_until`. The breakpoints of the session do not count, and stay.
+    /// Makes at most `n` steps, but none after a step that led to one of `breakpoints`, and returns None there or why
+    /// the run stopped, as `Machine::run_until`. The session's own breakpoints do not count, and stay.
     pub fn run_until(&mut self, n: u64, breakpoints: &[Breakpoint]) -> Option<Stop>
         ensures run { RunsUntil self.old.machine n breakpoints.now result self.new.machine }
         ensures points { self.new.points ≡ self.old.points }
@@ -133,7 +133,8 @@ impl Session {
         }
     }
 
-    /// Adds a breakpoint at the end of the list, unless it is set already. There must be room for it.
+    /// Adds a breakpoint at the end of the session's list; if it is set already, the list stays, else there must be room
+    /// for it. The machine stays.
     fn set(&mut self, address: LogicalAddress)
         requires { is_over self.old (Break address) ≡ false }
         ensures { self.new ≡ with_points self.old (with_point self.old.points address) }
@@ -143,7 +144,7 @@ impl Session {
         }
     }
 
-    /// Removes a breakpoint from the list, if it is set.
+    /// Removes a breakpoint from the session's list; if it is not set, the list stays. The machine stays.
     fn clear(&mut self, address: LogicalAddress)
         ensures { self.new ≡ with_points self.old (without_point self.old.points address) }
     {

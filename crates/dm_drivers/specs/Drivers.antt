@@ -25,15 +25,16 @@ after_expanded s c = record s { cpu = c.cpu; memory = c.x.memory; ems = c.x.ems 
 abbrev pub after_extended : State → extended.Caller → State
 after_extended s c = record s { cpu = c.cpu; memory = c.x.memory; xms = c.x.xms }
 
--- the state after the driver's call, before the return to the program: for INT 67h (LIM EMS) and the extended memory
--- driver (XMS), registers, memory and the driver's tables differ; for INT 2Fh, registers alone
+-- the state after the driver's call, before the return to the program: registers, memory and the tables of expanded
+-- memory are those that INT 67h (LIM EMS) leaves, or registers, memory and the tables of extended memory those that the
+-- extended memory driver (XMS) leaves; for INT 2Fh, registers alone differ
 abbrev pub acted : State → Driver → State
 acted s ExpandedMemory = after_expanded s (expanded_memory.dispatched (expanded_caller s))
 acted s Multiplex = record s { cpu = multiplex_reply s.cpu }
 acted s ExtendedMemory = after_extended s (extended_memory.dispatched s.upper (extended_caller s))
 
 -- the state after the driver's return: IP, CS and FLAGS are popped after INT 67h and INT 2Fh, IP and CS after the far
--- call of the extended memory driver
+-- call of the extended memory driver; memory, the tables and the count of steps stay
 abbrev pub given_back : State → Driver → State
 given_back s ExpandedMemory = interrupt_returned s
 given_back s Multiplex = interrupt_returned s

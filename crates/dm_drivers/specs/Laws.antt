@@ -16,8 +16,8 @@ use Rattle.dm_drivers.specs.Drivers.{driven}
 abbrev pub LeavesTheRest : State → Answer → Type 0
 LeavesTheRest s x = x ≡ record { stop = None; state = record s { cpu = x.state.cpu; memory = x.state.memory; ems = x.state.ems; xms = x.state.xms; steps = x.state.steps } }
 
--- no driver stops the machine or changes what belongs to no driver (the rest, as in `LeavesTheRest`), and each keeps
--- the tables of expanded and extended memory consistent with memory
+-- no driver stops the machine or changes more than registers, memory, the tables of expanded and extended memory and
+-- the count of steps (`LeavesTheRest`), and each keeps those tables consistent with memory
 pub record DriversKeep : Type 0 where
   pub rest : (s : State) (driver : Driver) → LeavesTheRest s (driven s driver)
   pub consistency : (s : State) (driver : Driver) → AreConsistent s → AreConsistent (driven s driver).state

@@ -9,8 +9,9 @@ use dm_space::entry_points::Driver;
 use dm_state::Parts;
 use dm_xms_calls::extended_memory_call;
 
-/// Performs the call of the driver, before the return to the program: INT 67h and the extended memory driver change
-/// registers, memory and the driver's tables, INT 2Fh registers alone. The count of steps stays.
+/// Performs the call of the driver, before the return to the program: INT 67h changes registers, memory and the tables
+/// of expanded memory, the extended memory driver registers, memory and its own tables, INT 2Fh registers alone. The
+/// count of steps stays.
 fn act(parts: &mut Parts, driver: Driver)
     requires { AreConsistent parts.old }
     ensures { parts.new ≡ acted parts.old driver }

@@ -3,15 +3,15 @@
 ghost use Rattle.dm_drivers.specs.Laws.{DriversKeep, PagesCome};
 
 /// No driver stops the machine, or changes anything but the registers, memory, the tables of expanded and extended
-/// memory and the count of steps. Each keeps the tables consistent with memory: no block belongs to both drivers, and
-/// none to neither.
+/// memory and the count of steps. Each keeps the tables consistent with memory: no block of the pool belongs to both
+/// drivers, and none to neither.
 pub fn drivers_keep()
     ensures { DriversKeep }
 {}
 
 /// A successful call of INT 67h function 43h or 51h leaves the handle with exactly as many pages as were asked for,
-/// each a block of its own, if the tables are consistent with memory, as in every machine. First are the pages that the
-/// handle had, as many of them as it keeps; the others are new blocks of zeros.
+/// each a block of the pool of its own, if the tables are consistent with memory, as in every machine. First are the
+/// pages that the handle had, as many of them as it keeps; the pages after them are new blocks of zeros.
 pub fn pages_come()
     ensures { PagesCome }
 {}

@@ -23,11 +23,11 @@ pub enum Finding {
     /// The header that stood at this segment can no longer be read there: its page was freed, or its window shows other
     /// bytes.
     MappedAway(u16),
-    /// The block list became invalid: it breaks at this segment, where no header can follow.
+    /// The block list of the arena became invalid: it breaks at this segment, where no header can follow.
     Destroyed(u16),
     /// The block list, which was invalid, is valid again.
     Whole,
-    /// The block at this segment was freed while it was free.
+    /// The block of the arena at this segment was freed while it was free.
     FreedTwice(u16),
     /// The call failed with this error code.
     Refused(u8),

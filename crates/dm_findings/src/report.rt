@@ -43,8 +43,8 @@ impl Report {
         }
     }
 
-    /// Adds an error to the report: keeps it if fewer than 100 errors came before it, and counts it. An `Err` is a
-    /// failed allocation, after which nothing has changed.
+    /// Adds an error to the report: keeps it if fewer than 100 errors came before it, and counts it, at most to
+    /// 2^64 - 1. An `Err` is a failed allocation, after which nothing has changed.
     fn add_error(&mut self, found: Found) -> Result<(), AllocError>
         requires { is_an_error found ≡ true }
         ensures ok { OnOk result ((fs : List Found) → self.old ≡ report_of fs → self.new ≡ report_of (fs ++ found ∷ [])) }
@@ -57,8 +57,8 @@ impl Report {
         Ok(())
     }
 
-    /// Adds a note to the report: keeps it if fewer than 100 notes came before it, and counts it. An `Err` is a failed
-    /// allocation, after which nothing has changed.
+    /// Adds a note to the report: keeps it if fewer than 100 notes came before it, and counts it, at most to 2^64 - 1.
+    /// An `Err` is a failed allocation, after which nothing has changed.
     fn add_note(&mut self, found: Found) -> Result<(), AllocError>
         requires { is_an_error found ≡ false }
         ensures ok { OnOk result ((fs : List Found) → self.old ≡ report_of fs → self.new ≡ report_of (fs ++ found ∷ [])) }
@@ -72,7 +72,7 @@ impl Report {
     }
 
     /// Adds a finding to the report: keeps it if fewer than 100 of its kind (errors or notes) came before it, and
-    /// counts it. The numbers stay at 2^64 - 1.
+    /// counts it, kept or not. A number of errors or notes that is 2^64 - 1 stays.
     ///
     /// An `Err` says that an allocation failed, and that nothing has changed.
     pub fn add(&mut self, found: Found) -> Result<(), AllocError>

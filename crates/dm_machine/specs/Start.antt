@@ -41,14 +41,15 @@ with_upper_headers m =
 abbrev pub with_headers : Bool → Memory → Memory
 with_headers upper m = if upper then with_upper_headers m else m
 
--- m is the memory of a machine as it starts, with no block in its pool, and with the headers of upper memory if `upper`
+-- m is the memory of a machine as it starts, with no block in its pool, and with the arena headers of `with_headers` if
+-- `upper`
 pub record IsStartWith (upper : Bool) (sizes : Sizes) (m : Memory) : Type 0 where
   pub plain : Memory
   pub start : IsStart (no_blocks (units_of sizes)) plain
   pub headers : m ≡ with_headers upper plain
 
--- s is a machine as it starts: memory as above, registers 0, no handle but handle 0 of expanded memory, no output, no
--- process, the strategy first fit in all of the arena
+-- s is a machine as it starts: memory as in `IsStartWith`, registers 0, no handle but handle 0 of expanded memory, no
+-- output, no process, the strategy first fit in all of the arena
 pub record IsNew (sizes : Sizes) (variables : List ℕ) (upper : Bool) (programs : List (List ℕ × List ℕ)) (input : List ℕ) (s : State) : Type 0 where
   pub memory : IsStartWith upper sizes s.memory
   pub others : s ≡ record {
@@ -86,7 +87,8 @@ pub record IsBadProgram (s : State) (name : List ℕ) : Type 0 where
   pub found : program_of s.programs name ≡ Some file
   pub bad : IsGood file → ⊥
 
--- the program's file is good, but memory has no room for its two blocks, or holds no valid block list
+-- the program's file is good, but memory has no room for the blocks of environment and program, or holds no valid block
+-- list
 pub record HasNoRoom (s : State) (name : List ℕ) : Type 0 where
   pub file : List ℕ
   pub found : program_of s.programs name ≡ Some file

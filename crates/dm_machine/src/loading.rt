@@ -49,8 +49,8 @@ impl Machine {
     /// # Errors
     ///
     /// `NotFound` exactly where the store has no such program (ASCII case ignored), `BadFormat` exactly where it has
-    /// one that is bad, `Short` exactly where there is no room for its two blocks or memory holds no valid block list.
-    /// A call that fails changes nothing.
+    /// one that is bad, `Short` exactly where there is no room for the blocks of environment and program or memory
+    /// holds no valid block list. A call that fails changes nothing.
     pub fn load(&mut self, name: &[u8], tail: &[u8]) -> Result<(), LoadError>
         requires fresh { self.old.processes.present ≡ 0 }
         requires name { IsName name.now }

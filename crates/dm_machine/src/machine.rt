@@ -87,7 +87,8 @@ fn write_headers(space: &mut Space, upper: bool)
     }
 }
 
-/// The memory of a machine of those sizes as it starts; `upper` is whether upper memory belongs to the arena.
+/// The memory of a machine with these sizes of expanded and extended memory as it starts; `upper` is whether upper
+/// memory belongs to the arena.
 /// `TooLarge` exactly where the sizes are over 512 pages or 15,360 KiB, otherwise `Memory` if an allocation failed.
 fn start_space(alloc: Global, sizes: Sizes, upper: bool) -> Result<Space, NewError>
     ensures start { IfOk result (λ space. IsStartWith upper sizes space.memory) }
@@ -107,8 +108,8 @@ fn start_space(alloc: Global, sizes: Sizes, upper: bool) -> Result<Space, NewErr
 
 impl Machine {
     /// A machine as it starts: RAM of zeros but for the interrupt vectors and the first arena header, or the three
-    /// headers of an arena that continues in upper memory, A20 off, a pool of the configuration's sizes with no block,
-    /// no handle of expanded memory but handle 0, none of extended memory, no output, no program loaded.
+    /// arena headers if the arena continues in upper memory, A20 off, a pool of the configuration's sizes with no
+    /// block, no handle of expanded memory but handle 0, none of extended memory, no output, no program loaded.
     ///
     /// The variables of the configuration must have at most 32,767 bytes with their zeros.
     ///

@@ -12,12 +12,14 @@ abbrev pub took_nothing : {E : Type 0} → Result ℕ E → Bool
 took_nothing (Ok n) = n == 0
 took_nothing (Err e) = true
 
--- the count of failures after a write of `bytes` with the result r: one higher if bytes were offered and none was taken
+-- the count of failures after a write of `bytes` with the result r: one higher, up to `most_failures`, if bytes were
+-- offered and none was taken; else it stays
 abbrev pub count_after : {E : Type 0} → ℕ → List ℕ → Result ℕ E → ℕ
 count_after count bytes r =
     if not (length bytes == 0) && took_nothing r then min (count + 1) most_failures else count
 
--- the count of failures after a call with this result, such as a flush: one higher if it failed
+-- the count of failures after a call with this result, such as a flush: one higher, up to `most_failures`, if the call
+-- failed; else it stays
 abbrev pub count_after_call : {A E : Type 0} → ℕ → Result A E → ℕ
 count_after_call count (Ok x) = count
 count_after_call count (Err e) = min (count + 1) most_failures

@@ -11,7 +11,7 @@ use Rattle.dm_findings.specs.declared.finding.Found.{Found}
 use Rattle.dm_findings.specs.Findings.{is_error}
 use Rattle.dm_reports.specs.Names.{call_text}
 
--- signature, owner and size of a header, in two, four and four hexadecimal digits with spaces between
+-- signature, owner and size of an arena header, in two, four and four hexadecimal digits with spaces between
 abbrev pub contents_text : Contents → List ℕ
 contents_text c = two_digits c.signature ++ codes " " ++ four_digits c.owner ++ codes " " ++ four_digits c.size
 

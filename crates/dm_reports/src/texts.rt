@@ -15,7 +15,7 @@ use dm_views::{byte_digits, put_address, word_digits};
 use itoa::Buffer;
 use std::alloc::AllocError;
 
-/// Appends a number in decimal.
+/// Appends a number, such as that of a step or of all errors, in decimal.
 pub(crate) fn put_number(out: &mut Vec<u8>, n: u64) -> Result<(), AllocError>
     ensures { OnOk result (out.new.items ≡ out.old.items ++ decimal n) }
 {
@@ -37,7 +37,7 @@ fn put_segment(
     out.extend_from_slice(after)
 }
 
-/// Appends a number in decimal between two texts.
+/// Appends a number, such as a handle or a count of pages, in decimal between two texts.
 fn put_count(out: &mut Vec<u8>, before: &[u8], n: u16, after: &[u8]) -> Result<(), AllocError>
     ensures { OnOk result (out.new.items ≡ out.old.items ++ (before.now ++ decimal n ++ after.now)) }
 {
@@ -46,7 +46,8 @@ fn put_count(out: &mut Vec<u8>, before: &[u8], n: u16, after: &[u8]) -> Result<(
     out.extend_from_slice(after)
 }
 
-/// Appends the signature, owner and size of a header, in two, four and four hexadecimal digits with spaces between.
+/// Appends the signature, owner and size of an arena header, in two, four and four hexadecimal digits with spaces
+/// between.
 fn put_contents(out: &mut Vec<u8>, contents: Contents) -> Result<(), AllocError>
     ensures { OnOk result (out.new.items ≡ out.old.items ++ contents_text contents) }
 {
@@ -55,7 +56,7 @@ fn put_contents(out: &mut Vec<u8>, contents: Contents) -> Result<(), AllocError>
     out.extend_from_slice(&word_digits(contents.size))
 }
 
-/// Appends that the header at segment `at` was overwritten: its contents before and after.
+/// Appends that the arena header at segment `at` was overwritten: its contents before the step and after it.
 fn put_overwritten(
     out: &mut Vec<u8>,
     at: u16,

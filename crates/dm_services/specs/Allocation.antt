@@ -15,7 +15,8 @@ use Rattle.dm_state.specs.State.{State, Answer, go, interrupt_returned, with_car
 abbrev pub answered : State → Cpu → Memory → Bool → Answer
 answered s c m carry = go (with_carry (interrupt_returned (record s { cpu = c; memory = m })) carry)
 
--- the registers c with the error code in AX; for error 8, BX is the largest size possible, in paragraphs
+-- the registers c with the error code of a failed call of 48h, 49h, 4Ah or 58h in AX; for error 8, BX is the largest
+-- size possible, in paragraphs
 abbrev pub refused : Cpu → ArenaRefusal → Cpu
 refused c Destroyed = record c { ax = 7 }
 refused c (Short largest) = record c { ax = 8; bx = largest }

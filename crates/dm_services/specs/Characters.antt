@@ -1,7 +1,8 @@
 -- INT 21h, single bytes of the console: MS-DOS Programmer's Reference, "Read Keyboard and Echo" (01h), "Display
 -- Character" (02h), "Direct Console I/O" (06h), "Direct Console Input" (07h), "Read Keyboard" (08h), "Check Keyboard
 -- Status" (0Bh). Input and output are redirected byte streams: there is no Ctrl-C check. What 01h, 07h and 08h do if no
--- input is left is this machine's own: they stop it, and nothing changes.
+-- input is left is this machine's own: they stop it, and nothing changes. Any other call returns by popping IP, CS and
+-- FLAGS, with the step counted; memory stays.
 use Rattle.std.specs.Prelude.{ℕ, ◌==◌, Bool, true, false, if◌then◌else◌, List, [], ◌∷◌}
 use Rattle.dm_cpu.specs.Cpu.{byte_of, with_byte}
 use Rattle.dm_ins.specs.declared.operand.ByteRegister.TheVariants.{Al, Dl}
@@ -30,7 +31,7 @@ abbrev pub character_of : State → List ℕ → Answer
 character_of s [] = stop_at InputEnded s
 character_of s (byte ∷ rest) = go (interrupt_returned (with_al (with_input s rest) byte))
 
--- 07h, 08h: AL is the next byte of the input
+-- 07h, 08h: AL is the next byte of the input, which is taken; with no input left, the machine stops and nothing changes
 unfoldable pub read_character : State → Answer
 read_character s = character_of s s.console.input
 
@@ -40,11 +41,12 @@ abbrev pub echo_of : State → List ℕ → Answer
 echo_of s [] = stop_at InputEnded s
 echo_of s (byte ∷ rest) = go (interrupt_returned (with_al (with_written (with_input s rest) (byte ∷ [])) byte))
 
--- 01h: AL is the next byte of the input, which is written to the console
+-- 01h: AL is the next byte of the input, which is taken and written to the console; with no input left, the machine
+-- stops and nothing changes
 unfoldable pub echo_character : State → Answer
 echo_character s = echo_of s s.console.input
 
--- 02h: the byte in DL is written to the console
+-- 02h: the byte in DL is written to the console; AX stays
 unfoldable pub write_character : State → Answer
 write_character s = go (interrupt_returned (with_written s (byte_of s.cpu Dl ∷ [])))
 
@@ -59,7 +61,8 @@ poll_of s (byte ∷ rest) = go (with_zero (interrupt_returned (with_al (with_inp
 unfoldable pub poll_character : State → Answer
 poll_character s = poll_of s s.console.input
 
--- 06h: with DL = FFh, reads a byte into AL if one is left, and sets ZF; with any other DL, writes DL to the console
+-- 06h: with DL = FFh, AL is the next byte of the input, which is taken, and ZF is 0, or with no input left AL is 0 and
+-- ZF is 1; with any other DL, DL is written to the console and AX stays
 unfoldable pub direct_character : State → Answer
 direct_character s = if byte_of s.cpu Dl == 0xFF then poll_character s else write_character s
 

@@ -22,7 +22,7 @@ ServicesKeepTheMap = (s : State) (service : Service) (x : Answer) → Serves s s
 abbrev pub ServicesKeepTheTables : Type 0
 ServicesKeepTheTables = (s : State) (service : Service) (x : Answer) → Serves s service x → (x.state.ems ≡ s.ems) × (x.state.xms ≡ s.xms)
 
--- the state s with `change` applied to its memory
+-- the state s with `change`, that of a law on unseen bytes, applied to its memory
 abbrev pub with_change : (Memory → Memory) → State → State
 with_change change s = record s { memory = change s.memory }
 

@@ -31,15 +31,17 @@ with_line s m line = record s {
   console = record s.console { input = drop (line + 1) s.console.input };
 }
 
--- 0Ah with a buffer of size m above 0, by the length of the next line: the machine stops where there is no line (None)
+-- 0Ah with a buffer of size m above 0, by the length of the next line: the line is taken and written to the buffer;
+-- where there is none (None), the machine stops and nothing changes
 abbrev pub line_read : State → ℕ → Option ℕ → Answer
 line_read s m None = stop_at InputEnded s
 line_read s m (Some line) = go (interrupt_returned (with_line s m line))
 
--- 0Ah with a buffer of size m: for size 0, the buffer stays and no input is taken
+-- 0Ah with a buffer of size m: for size 0, the call returns, memory stays and no input is taken
 abbrev pub line_into : State → ℕ → Answer
 line_into s m = if m == 0 then go (interrupt_returned s) else line_read s m (line_length s.console.input)
 
--- 0Ah: reads a line of the input into the buffer at DS:DX, whose byte 0 is its size; AX stays
+-- 0Ah: takes a line of the input and writes it to the buffer at DS:DX, whose byte 0 is its size, and returns; AX stays.
+-- With a size above 0 and no 0Dh left in the input, the machine stops and nothing changes
 unfoldable pub read_line : State → Answer
 read_line s = line_into s (peek s.memory (linear s.memory.a20 s.cpu.ds s.cpu.dx))

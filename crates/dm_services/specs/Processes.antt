@@ -69,9 +69,9 @@ LoadingAs false s x = Executing s x
 abbrev pub Loading : State → Answer → Type 0
 Loading s x = LoadingAs (byte_of s.cpu Al == 3) s x
 
--- the result of an ending with a code, which leaves qs, d and n: the parent goes on (Returned); or the machine stops
--- with `Exited`, the step is counted and `exited` is the code; or it stops with `Destroyed`, no step is made and the
--- state is s
+-- the result of the end of a process with a code, which leaves processes qs, registers d and memory n: the parent goes
+-- on with them (Returned); or the machine stops with `Exited`, the step is counted and `exited` is the code; or it
+-- stops with `Destroyed`, no step is made and the state is s
 abbrev pub concluded : State → ℕ → Result Ending ArenaDestroyed → Processes → Cpu → Memory → Answer
 concluded s code (Ok Returned) qs d n = go (with_processes s qs d n)
 concluded s code (Ok Exited) qs d n = record {
@@ -80,8 +80,9 @@ concluded s code (Ok Exited) qs d n = record {
 }
 concluded s code (Err e) qs d n = stop_at stop.Destroyed s
 
--- 00h, 4Ch, INT 20h and a divide error: the present process ends with the code, and its blocks are freed; `Destroyed`
--- if memory holds no valid block list, or upper memory in the arena no valid one
+-- 00h, 4Ch, INT 20h and a divide error: the present process ends with the code, its blocks are freed and vectors 22h to
+-- 24h restored from its prefix; its parent goes on with the registers that it waits with, or the machine stops
+-- (`Exited`). `Destroyed` if memory holds no valid block list, or upper memory in the arena no valid one
 pub record Terminating (s : State) (code : ℕ) (x : Answer) : Type 0 where
   pub result : Result Ending ArenaDestroyed
   pub processes : Processes
@@ -91,7 +92,8 @@ pub record Terminating (s : State) (code : ℕ) (x : Answer) : Type 0 where
   pub answer : x ≡ concluded s code result processes cpu memory
 
 -- 31h: the present process ends with the code in AL, its block is resized to DX paragraphs if that is possible, and its
--- other blocks stay allocated; `Destroyed` if memory holds no valid block list, or the resized one would not be valid
+-- other blocks stay allocated; vectors, parent and `Exited` are as in `Terminating`. `Destroyed` if memory holds no
+-- valid block list, or would hold none after the resize
 pub record Keeping (s : State) (x : Answer) : Type 0 where
   pub result : Result Ending ArenaDestroyed
   pub processes : Processes

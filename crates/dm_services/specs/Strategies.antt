@@ -77,8 +77,8 @@ unlisted s = answered s (record s.cpu { ax = 1 }) s.memory true
 abbrev pub strategy_reported : State → Answer
 strategy_reported s = answered s (record s.cpu { ax = strategy_number s.strategy }) s.memory false
 
--- 58h with AL = 1, by the strategy with the number in BX: it becomes the allocation strategy, CF = 0; error 1 if there
--- is none
+-- 58h with AL = 1, by the strategy with the number in BX: it becomes the allocation strategy, CF = 0, and AX and memory
+-- stay; error 1, and the strategy stays, if there is none
 abbrev pub set_to : State → Option Strategy → Answer
 set_to s None = unlisted s
 set_to s (Some strategy) = answered (record s { strategy = strategy }) s.cpu s.memory false
@@ -117,7 +117,7 @@ pub record Linking (on : Bool) (s : State) (x : Answer) : Type 0 where
   pub links : Links s.memory on result memory
   pub answer : x ≡ settled s result memory
 
--- 58h with AL = 3, by the link state that BX asks for: error 1 where it is None
+-- 58h with AL = 3, by the link state that BX asks for: error 1, and memory stays, where it is None; else as `Linking`
 abbrev pub SetsLink : Option Bool → State → Answer → Type 0
 SetsLink None s x = x ≡ unlisted s
 SetsLink (Some on) s x = Linking on s x

@@ -18,6 +18,7 @@ text_at m segment offset = text_within m segment offset 65536
 abbrev pub written : Streams → List ℕ → Streams
 written c text = record c { output = c.output ++ text; room = max c.room (length text) - length text }
 
--- 09h: the text at DS:DX, up to the first `$` (not included), is written to the console; AX stays
+-- 09h: the text at DS:DX, up to the first `$` (not included), is written to the console, and the call returns; AX and
+-- memory stay
 unfoldable pub print : State → Answer
 print s = go (interrupt_returned (record s { console = written s.console (text_at s.memory s.cpu.ds s.cpu.dx) }))

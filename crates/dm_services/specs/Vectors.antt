@@ -1,5 +1,6 @@
 -- INT 21h, interrupt vectors: MS-DOS Programmer's Reference, "Set Interrupt Vector" (25h), "Get Interrupt Vector"
--- (35h). Vector n is the words offset and segment at 0000:4n (Intel 8086 Family User's Manual, section 2.6).
+-- (35h). Vector n is the words offset and segment at 0000:4n (Intel 8086 Family User's Manual, section 2.6). Each call
+-- returns by popping IP, CS and FLAGS, and counts the step.
 use Rattle.std.specs.Prelude.{ℕ, ◌+◌, ◌*◌}
 use Rattle.dm_space.specs.Memory.{Memory, peek16, poke16}
 use Rattle.dm_cpu.specs.Cpu.{byte_of}

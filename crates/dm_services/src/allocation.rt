@@ -22,7 +22,8 @@ pub(crate) fn refuse(cpu: &mut Cpu, refusal: ArenaRefusal)
     }
 }
 
-/// Returns from function 48h, 49h, 4Ah, 4Bh or 58h: pops IP, CS and FLAGS, sets CF to `carry`, and counts the step.
+/// Returns from function 48h, 49h, 4Ah, 4Bh or 58h: pops IP, CS and FLAGS, sets CF to `carry`, and counts the step. AX,
+/// BX and memory stay as the function has left them.
 pub(crate) fn answer(parts: &mut Parts, carry: bool)
     ensures { parts.new ≡ (answered parts.old parts.old.cpu parts.old.memory carry).state }
 {

@@ -45,7 +45,8 @@ pub(crate) fn echo_character(parts: &mut Parts) -> Option<Stop>
     None
 }
 
-/// 02h: writes the byte in DL to the console. Returns `Memory`, with nothing changed, if the output's allocation fails.
+/// 02h: writes the byte in DL to the console; AX stays. Returns `Memory`, with nothing changed, if the output's
+/// allocation fails.
 #[tactic(auto, unfolding(crate::specs::Characters::write_character))]
 pub(crate) fn write_character(parts: &mut Parts) -> Option<Stop>
     ensures answer { OrMemory parts.old (write_character parts.old) result parts.new }
@@ -74,8 +75,8 @@ fn poll_character(parts: &mut Parts)
     parts.count();
 }
 
-/// 06h: with DL = FFh, reads a byte as `poll_character` does and returns None; otherwise writes DL to the console as
-/// 02h does, and stops with `Memory` where 02h does.
+/// 06h: with DL = FFh, sets AL and ZF as `poll_character` does (AL 0 and ZF set if no input is left) and returns None;
+/// otherwise writes DL to the console as 02h does, AX stays, and it stops with `Memory` where 02h does.
 #[tactic(auto, unfolding(crate::specs::Characters::direct_character))]
 pub(crate) fn direct_character(parts: &mut Parts) -> Option<Stop>
     ensures answer { OrMemory parts.old (direct_character parts.old) result parts.new }

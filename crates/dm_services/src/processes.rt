@@ -102,8 +102,9 @@ fn conclude(parts: &mut Parts, ended: Result<Ending, ArenaDestroyed>, code: u8) 
 }
 
 /// 00h, 4Ch, INT 20h and a divide error: ends the present process with a code, frees all its blocks and restores
-/// vectors 22h to 24h from its prefix; its parent goes on (None). Returns `Exited` if it was the first program, or
-/// `Destroyed`, with nothing changed, if memory holds no valid block list, or upper memory in the arena no valid one.
+/// vectors 22h to 24h from its prefix; its parent goes on with the registers that it waits with (None). Returns
+/// `Exited`, and the registers stay, if it was the first program, or `Destroyed`, with nothing changed, if memory holds
+/// no valid block list, or upper memory in the arena no valid one.
 pub(crate) fn terminate(parts: &mut Parts, code: u8) -> Option<Stop>
     requires { HasProgram parts.old }
     ensures terminating { Terminating parts.old code (record { stop = result; state = parts.new }) }

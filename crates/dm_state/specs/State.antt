@@ -47,12 +47,12 @@ pub record State : Type 0 where
 abbrev pub HasProgram : State → Type 0
 HasProgram s = 0 < s.processes.present
 
--- the block with this number belongs to one of the handles of extended memory
+-- the block of the pool with this number belongs to one of the handles of extended memory
 abbrev pub IsHandled : List (Option Handle) → ℕ → Type 0
 IsHandled handles block = (k : ℕ) × (h : Handle) × (handle_at handles k ≡ Some h) × (h.block ≡ block)
 
--- the tables of expanded memory (`pages`) and of extended memory (`blocks`) are consistent with memory m; no block
--- belongs to both, and each live block of the pool belongs to one of them
+-- the tables of expanded memory (`pages`) and of extended memory (`blocks`) are consistent with memory m; no block of
+-- the pool belongs to both, and each live one belongs to one of them
 pub record AreConsistentWith (pages : Tables) (blocks : xms.Tables) (m : Memory) : Type 0 where
   pub ems : IsConsistent (expanded pages m)
   pub xms : extended_memory.IsConsistent (extended blocks m)
@@ -77,20 +77,20 @@ go s = record { stop = None; state = record s { steps = min (s.steps + 1) (2 ^ 6
 abbrev pub stop_at : Stop → State → Answer
 stop_at stop s = record { stop = Some stop; state = s }
 
--- the state with these registers and this memory
+-- the state with the registers and memory of g, as an instruction or a return leaves them; all else stays
 abbrev pub with_guest : State → Guest → State
 with_guest s g = record s { cpu = g.cpu; memory = g.memory }
 
 -- the state after the return from a service or a driver that was called by INT: IP, CS and FLAGS are popped from SS:SP;
--- memory stays
+-- memory and the count of steps stay
 abbrev pub interrupt_returned : State → State
 interrupt_returned s = with_guest s (interrupt_return (guest s.cpu s.memory))
 
--- the state after the return from the far call of the extended memory driver: IP and CS are popped from SS:SP; FLAGS
--- and memory stay
+-- the state after the return from the far call of the extended memory driver: IP and CS are popped from SS:SP; FLAGS,
+-- memory and the count of steps stay
 abbrev pub far_returned : State → State
 far_returned s = with_guest s (stack.far_returned (guest s.cpu s.memory) 0)
 
--- the state with CF set or clear
+-- the state with CF set or clear, as the functions of INT 21h return an error or success
 abbrev pub with_carry : State → Bool → State
 with_carry s b = record s { cpu = record s.cpu { flags = record s.cpu.flags { carry = b } } }

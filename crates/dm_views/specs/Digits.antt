@@ -11,7 +11,7 @@ two_digits n = digit (n / 16) ∷ digit (n % 16) ∷ []
 unfoldable pub four_digits : ℕ → List ℕ
 four_digits n = digit (n / 4096) ∷ digit (n / 256 % 16) ∷ digit (n / 16 % 16) ∷ digit (n % 16) ∷ []
 
--- the low 32 bits of a number as eight hexadecimal digits
+-- the low 32 bits of a number, a linear address of extended memory, as eight hexadecimal digits
 unfoldable pub eight_digits : ℕ → List ℕ
 eight_digits n = four_digits (n / 65536 % 65536) ++ four_digits (n % 65536)
 
@@ -19,7 +19,7 @@ eight_digits n = four_digits (n / 65536 % 65536) ++ four_digits (n % 65536)
 abbrev pub address_text : ℕ → ℕ → List ℕ
 address_text segment offset = four_digits segment ++ codes ":" ++ four_digits offset
 
--- the texts that f gives for the numbers 0 to n - 1, one after the other
+-- the texts that f gives for the numbers 0 to n - 1 (of bytes, lines, handles or windows), one after the other
 unfoldable pub in_turn : (ℕ → List ℕ) → ℕ → List ℕ
 in_turn f zero = []
 in_turn f (suc n) = in_turn f n ++ f n

@@ -14,7 +14,7 @@ use dm_blocks::{Entry, Headers, Step, is_linked, walk};
 use dm_space::Space;
 use std::alloc::AllocError;
 
-/// The signature byte of a header: `Z` for the last one of its list, `M` for any other.
+/// The signature byte of an arena header: `Z` for the last one of its list, `M` for any other.
 fn signature(last: bool) -> u8
     ensures { result ≡ signature_byte last }
 {
@@ -40,7 +40,7 @@ fn put_end(out: &mut Vec<u8>) -> Result<(), AllocError>
     out.extend_from_slice(b"end\n")
 }
 
-/// Appends the four hexadecimal digits of a word, and a line end.
+/// Appends the four hexadecimal digits of a word, the segment in the line `destroyed at`, and a line feed.
 fn put_word_line(out: &mut Vec<u8>, word: u16) -> Result<(), AllocError>
     ensures { OnOk result (out.new.items ≡ out.old.items ++ (four_digits word ++ 10 ∷ [])) }
 {

@@ -40,7 +40,8 @@ pub fn word_digits(n: u16) -> [u8; 4]
     ]
 }
 
-/// Appends the low 32 bits of a number in eight hexadecimal digits. An `Err` is a failed allocation.
+/// Appends the low 32 bits of a number, a linear address in the listing of extended memory, in eight hexadecimal
+/// digits. An `Err` is a failed allocation.
 #[tactic(auto, unfolding(crate::specs::Digits::eight_digits))]
 pub(crate) fn put_double(out: &mut Vec<u8>, n: usize) -> Result<(), AllocError>
     ensures { OnOk result (out.new.items ≡ out.old.items ++ eight_digits n) }

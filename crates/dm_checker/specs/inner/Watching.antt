@@ -24,7 +24,7 @@ pub record IsBits (m : Memory) (segment bits : ℕ) : Type 0 where
   pub is : bits ≡ little (five_at m segment)
   pub bytes : (k : ℕ) → k < 5 → peek m (16 * segment + k) < 256
 
--- the signature, owner and size of a header at an index of a block
+-- the signature, owner and size of a header that stands in the page frame, at an index of the bytes of its pool block
 abbrev pub contents_by : List ℕ → ℕ → Contents
 contents_by bytes at = contents (λ k. slice_index bytes (at + k))
 
@@ -35,11 +35,11 @@ IsKept S T segment (Some c) = (is_there T (place S (16 * segment)) ≡ true) × 
 
 -- ---- headers
 
--- the header of an entry, without its bytes
+-- the header that is watched, without its bytes
 abbrev pub header_of : Watched → Header
 header_of w = w.header
 
--- the bytes of the entry are those that memory has at the header's segment
+-- the bytes kept of the watched header are those that memory has at its segment
 abbrev pub IsWatched : Memory → Watched → Type 0
 IsWatched m w = IsBits m w.header.segment w.bits
 
@@ -84,13 +84,13 @@ pub record Collects (w : Walking) (rest : Result Walking ℕ) (old new : List Wa
   pub walked : (F : List Header) → IsBehind w.memory w.second F → IsWalked w F rest (map header_of more)
   pub watched : All (IsWatched w.memory) more
 
--- these are the headers that memory shows of the second list, to its end or up to where it breaks; F are those of the
--- first
+-- these are the headers that memory shows of the second list, that of upper memory, to its end or up to where it
+-- breaks; F are the headers of the first list
 abbrev pub IsSecond : Memory → List Header → Option Broken → List Header → Type 0
 IsSecond m F None headers = IsArenaBehind m F link_header headers
 IsSecond m F (Some b) headers = IsCut m F link_header headers b.segment × IsBits m b.segment b.bits
 
--- `new` is `old` with the headers of the second list appended
+-- `new` is `old` with the headers of the second list, that of upper memory, appended
 pub record CollectsSecond (m : Memory) (broken : Option Broken) (old new : List Watched) : Type 0 where
   pub more : List Watched
   pub is : new ≡ old ++ more

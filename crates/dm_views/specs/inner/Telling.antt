@@ -1,4 +1,4 @@
--- The text that `put_list` appends for a walk over a list of headers. No public contract mentions any of it.
+-- The text that `put_list` appends for a walk over a list of arena headers. No public contract mentions any of it.
 use Rattle.std.specs.Prelude.{◌≡◌, ℕ, List, Option, Some, None, ◌++◌}
 use Rattle.dm_blocks.specs.declared.header.Header.{Header}
 use Rattle.dm_blocks.specs.Listing.{Walking, IsBehind, start_of}
