@@ -63,8 +63,8 @@ prefers_by First b c = nat_le b.segment c.segment
 prefers_by Best b c = nat_lt b.size c.size || (b.size == c.size && nat_le b.segment c.segment)
 prefers_by Last b c = nat_le c.segment b.segment
 
--- whether the first of two blocks is taken rather than the second, where b says that the first has a property and c
--- that the second has it: if one alone has it, that one is taken; else `test` decides
+-- whether the first of two blocks is taken rather than the second, where b says that the first has a property (to be
+-- one of upper memory) and c that the second has it: if one alone has it, that one is taken; else `test` decides
 abbrev pub before_or : Bool → Bool → Bool → Bool
 before_or b c test = cond b (not c || test) (not c && test)
 

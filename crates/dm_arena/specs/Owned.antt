@@ -47,23 +47,23 @@ abbrev pub Frees : Bool → Memory → ℕ → Result (Unit {0}) ArenaRefusal �
 Frees upper S segment (Ok u) T = (b : BlockAt upper S first_header segment) × Becomes S first_header (b.before ++ freed b.block ∷ b.after) T
 Frees upper S segment (Err e) T = (T ≡ S) × FreeRefused upper S first_header segment e
 
--- the header b with the blocks of the run after it taken into its block; segment and owner stay
+-- the header b with the blocks of the run after it taken into its block, by 4Ah; segment and owner stay
 abbrev pub absorb : Header → List Header → Header
 absorb b [] = b
 absorb b (c ∷ R) = absorb (merge b c) R
 
--- each block of the list is free
+-- each block of the list, a run that 4Ah takes in, is free
 abbrev pub AllFree : Bool → List Header → Type 0
 AllFree upper [] = Unit {0}
 AllFree upper (b ∷ L) = (is_free upper b ≡ true) × AllFree upper L
 
--- the list is empty, or its first block is not free
+-- the list, which follows such a run, is empty, or its first block is not free
 abbrev pub BeginsTaken : Bool → List Header → Type 0
 BeginsTaken upper [] = Unit {0}
 BeginsTaken upper (b ∷ L) = is_free upper b ≡ false
 
--- S spells the clear list `list`, in which `block` begins at the segment and isn't the link block; `run` is the run
--- of free blocks after it, and `after` the blocks after that
+-- for 4Ah: S spells the clear list `list`, in which `block` begins at the segment and isn't the link block; `run` is
+-- the run of free blocks after it, and `after` the blocks after that run
 pub record BlockRunAt (upper : Bool) (S : Memory) (start : ℕ) (segment : ℕ) : Type 0 where
   pub list : List Header
   pub before : List Header

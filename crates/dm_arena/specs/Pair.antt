@@ -10,8 +10,8 @@ use Rattle.dm_blocks.specs.Chain.{first_header, IsArena, NoArena, IsClear, Becom
 use Rattle.dm_arena.specs.Blocks.{in_effect, join, largest, IsFit, cut_block, taken_segment}
 use Rattle.dm_arena.specs.Allocation.{Taking, with_cut}
 
--- the block that the strategy takes for the environment; then, of the list in which it is taken, the block for the
--- program, which has the smaller of `most` paragraphs and the largest free block, and at least `least`. The program's
+-- the block that the strategy takes for the environment; then, of the list with this block cut, the block for the
+-- program, which gets the smaller of `most` paragraphs and the largest free block, and at least `least`. The program's
 -- segment owns both. Each block is looked for by the strategy that is in effect in the list from which it is taken:
 -- where the first block makes the link block's header, the strategy's area counts for the second block, though not for
 -- the first

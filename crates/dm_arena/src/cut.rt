@@ -69,8 +69,8 @@ pub(crate) fn taken_of(fit: Fit, n: u16, block: Header) -> u16
     }
 }
 
-/// Writes the headers of a cut, the upper one first. `last` says that no header of the list follows
-/// the block. Nothing else changes.
+/// Writes the headers of a cut, the upper one first. `last` says that no header of the list follows the block: then the
+/// upper one, or the only one, gets the signature of a last header. Nothing else changes.
 pub(crate) fn write_cut(space: &mut Space, cut: Cut, last: bool)
     requires first { next cut.first ≤ 0xFFFF }
     requires second { MatchOption cut.second (Unit {0}) (λ c. next c ≤ 0xFFFF) }

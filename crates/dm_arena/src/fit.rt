@@ -65,8 +65,8 @@ pub(crate) struct Choice {
     pub(crate) largest: u16,
 }
 
-/// The strategy that a call uses: its area counts only where upper memory belongs to the arena (`upper`) and the list
-/// goes on there; else it looks at all blocks.
+/// The strategy that a call of 48h or 4Bh uses: the area counts only where upper memory belongs to the arena (`upper`)
+/// and the list goes on there; else it looks at all blocks.
 pub(crate) fn in_effect(space: &Space, strategy: Strategy, upper: bool) -> Strategy
     requires { (L : List Header) × IsSpelledFrom space.now.memory first_header L }
     ensures { (L : List Header) → IsSpelledFrom space.now.memory first_header L → result ≡ Blocks.in_effect upper L strategy }
@@ -77,8 +77,8 @@ pub(crate) fn in_effect(space: &Space, strategy: Strategy, upper: bool) -> Strat
     Strategy::everywhere(strategy.fit)
 }
 
-/// The strategy that a call uses once the header `new`, if there is one, stands in the list too: it may be the link
-/// block's.
+/// The strategy that 4Bh uses for its second block, once the header `new` that the first one makes, if there is one,
+/// stands in the list too: it may be the link block's.
 pub(crate) fn in_effect_beside(
     space: &Space,
     strategy: Strategy,
@@ -196,7 +196,8 @@ fn left_part(spoken: Option<Spoken>, header: Header) -> Option<Header>
     }
 }
 
-/// The choice once the search has met one more block, or None for nothing.
+/// The choice once the search has met one more block, or the part of it that is left; None if nothing of it is left,
+/// and then the choice stays.
 fn meet(strategy: Strategy, n: u16, choice: Choice, header: Option<Header>, upper: bool) -> Choice
     ensures block { result.block ≡ pick upper strategy n choice.block (option_to_list header) }
     ensures largest { result.largest ≡ max choice.largest (largest upper strategy (option_to_list header)) }

@@ -22,14 +22,14 @@ pub fn linked(space: &Space) -> Result<bool, ArenaRefusal>
     Ok(is_linked(space))
 }
 
-/// Links the list with that of upper memory (`on`), or unlinks them (MS-DOS Programmer's Reference,
-/// function 5803h). Where it is so already, nothing changes.
+/// Links the list with that of upper memory (`on`), or unlinks the two (MS-DOS Programmer's Reference,
+/// function 5803h). Where they are linked, or unlinked, as asked already, nothing changes.
 ///
 /// Byte 0 of the header before the link block's is all that changes: `M` if linked, `Z` if not.
 ///
 /// # Errors
 ///
-/// `Destroyed` where memory spells no clear list; or, to link, where its last block doesn't end at
+/// `Destroyed` where memory spells no clear list; or, to link, where the list's last block doesn't end at
 /// the link block's header, or memory spells no second list there, or the first followed by the
 /// second isn't clear. Then no byte changes.
 pub fn link(space: &mut Space, on: bool) -> Result<(), ArenaRefusal>

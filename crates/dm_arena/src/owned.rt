@@ -81,9 +81,9 @@ fn grow(space: &Space, entry: Entry, upper: bool) -> Entry
 /// Resizes the block that begins at a segment to n paragraphs, which may be 0 (MS-DOS Programmer's Reference, functions
 /// 4Ah and 31h).
 ///
-/// The block first takes in the run of free blocks after it, then it is cut to n as by first fit. Its owner stays.
-/// Bytes 0 to 4 of its header and of the one after its n paragraphs are all that changes. `upper` says whether upper
-/// memory belongs to the arena.
+/// The block first takes in the run of free blocks after it, then it is cut to n as by first fit: the low end keeps its
+/// owner, what is left is free. Bytes 0 to 4 of its header and of the free part's are all that changes. `upper` says
+/// whether upper memory belongs to the arena.
 ///
 /// # Errors
 ///
@@ -129,8 +129,8 @@ fn released_of(header: Header, owner: u16) -> Header
     }
 }
 
-/// Frees each block of an owner in the list from a segment on. Bytes 0 to 4 of the list's headers are all that
-/// changes.
+/// Frees each block of an owner in the list from a segment on, at the end of a program. Bytes 0 to 4 of the list's
+/// headers are all that changes.
 fn release(space: &mut Space, first: u16, owner: u16)
     requires { (L : List Header) × IsArena space.old.memory first L }
     ensures memory { (L : List Header) → IsArena space.old.memory first L → Becomes space.old.memory first (released owner L) space.new.memory }
@@ -154,13 +154,13 @@ fn release(space: &mut Space, first: u16, owner: u16)
 
 /// Frees each block of an owner, as at the end of a program. Nothing is joined.
 ///
-/// `upper` says whether upper memory belongs to the arena. Where the list isn't linked then, the
-/// second list's blocks are freed too. Bytes 0 to 4 of the headers of the lists are all that changes.
+/// `upper` says whether upper memory belongs to the arena. If it does, and the first list isn't linked with the second,
+/// the owner's blocks in the second are freed too. Bytes 0 to 4 of the headers of the lists are all that changes.
 ///
 /// # Errors
 ///
-/// `Destroyed` where memory spells no clear list, or where, with `upper`, the list isn't linked and
-/// memory spells no second one, or the first followed by the second isn't clear; then no byte changes.
+/// `Destroyed` where memory spells no clear first list, or where, with `upper`, it isn't linked and memory spells no
+/// second list, or the first followed by the second isn't clear; then no byte changes.
 pub fn free_all(space: &mut Space, owner: u16, upper: bool) -> Result<(), ArenaRefusal>
     ensures memory { Releases upper space.old.memory owner result space.new.memory }
     ensures scratch { space.new.scratch ≡ space.old.scratch }

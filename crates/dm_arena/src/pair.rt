@@ -98,7 +98,7 @@ fn spoken_of(fit: Fit, n: u16, block: Header) -> Spoken
     }
 }
 
-/// The smaller of two sizes in paragraphs.
+/// The size in paragraphs of the second block of a pair: the smaller of what is asked for and what is left.
 fn smaller(most: u32, left: u16) -> u16
     ensures { result ≡ min most left }
 {
@@ -109,8 +109,8 @@ fn smaller(most: u32, left: u16) -> u16
     }
 }
 
-/// Whether the new headers of both cuts, if they make any, may stand beside those of the joined list and beside each
-/// other: writes there are kept, and no two share a place.
+/// Whether the new headers of a pair's two cuts, if they make any, may stand beside the headers of the joined list and
+/// beside each other: writes there are kept, and no two share a place.
 fn are_clear(space: &Space, first: Cut, second: Cut, upper: bool) -> bool
     requires { (L : List Header) × IsSpelledFrom space.now.memory first_header L }
     ensures { (L : List Header) → IsSpelledFrom space.now.memory first_header L → IsNew (join upper L) first.second → IsNew (option_to_list first.second ++ join upper L) second.second → MatchBool result (MaySplit space.now.memory (join upper L) first.second × MaySplit space.now.memory (option_to_list first.second ++ join upper L) second.second) ((MaySplit space.now.memory (join upper L) first.second → ⊥) ⊎ (MaySplit space.now.memory (option_to_list first.second ++ join upper L) second.second → ⊥)) }
@@ -124,15 +124,17 @@ fn are_clear(space: &Space, first: Cut, second: Cut, upper: bool) -> bool
 /// Plans two blocks: the first with `environment_paragraphs`, then, of what is left, the second with the smaller of
 /// `most` paragraphs and the largest free block. Nothing is written.
 ///
-/// Both are chosen by the strategy, as by an allocation of each in turn, once runs of free blocks are joined. `upper`
+/// Both blocks are chosen by the strategy, as by an allocation of each in turn, once runs of free blocks are joined.
+/// `upper`
 /// says whether upper memory belongs to the arena: then the strategy's area counts where the list is linked, for the
 /// second block also where the first one makes the link block's header.
 ///
 /// # Errors
 ///
 /// `Destroyed` where memory spells no clear list; else `Short` where the first block has no room, no free block is left
-/// for the second, or it would have less than `least` paragraphs, with the size of the largest free block that the
-/// strategy looks at for the first one once runs are joined; else `Destroyed` where the last list would not be clear.
+/// for the second, or the second would have less than `least` paragraphs, with the size of the largest free block that
+/// the strategy looks at for the first one once runs are joined; else `Destroyed` where the list with both blocks would
+/// not be clear.
 pub fn plan_pair(
     space: &Space,
     strategy: Strategy,
@@ -181,11 +183,10 @@ pub fn plan_pair(
     })
 }
 
-/// Writes the headers of two blocks, both owned by the second one's segment, and those of the free
-/// blocks around them.
+/// Writes a planned pair to the first list: joins its runs of free blocks, and writes the headers of the two blocks
+/// that are cut, the parts taken owned by the segment of the program's block, the parts left free.
 ///
-/// Memory and setting are as the pair was planned on. Bytes 0 to 4 of the headers of the new list are all
-/// that changes.
+/// Memory and setting are as the pair was planned on. Bytes 0 to 4 of the headers of the new list are all that changes.
 pub fn write_pair(space: &mut Space, pair: Pair, upper: bool)
     requires { IsPlannedOn upper space.old.memory pair }
     ensures memory { (p : IsPlannedOn upper space.old.memory pair) → Becomes space.old.memory first_header (with_pair p.planned.pairing) space.new.memory }

@@ -1,5 +1,5 @@
 //! Whether a new header may stand beside those of a list: a write there is kept, and no other
-//! header has the same place. Functions 48h and 4Bh make one in the joined list, 4Ah and 31h in the
+//! header has the same place. Functions 48h and 4Bh make a new header in the joined list, 4Ah and 31h in the
 //! list as it stands.
 //!
 //! Each address of conventional and upper memory RAM has a place of its own. So only a new header
@@ -19,7 +19,7 @@ use dm_blocks::{Header, entry_at};
 use dm_pool::Block;
 use dm_space::{Place, Space};
 
-/// Whether the byte at segment:0 is the byte of a page at this offset.
+/// Whether the byte at segment:0, the first of a header there, is the byte of a page at this offset.
 fn is_on(space: &Space, segment: u16, block: Block, offset: usize) -> bool
     ensures { MatchBool result (place space.now.memory (16 * segment) ≡ Page block offset) (place space.now.memory (16 * segment) ≢ Page block offset) }
 {
@@ -61,7 +61,7 @@ fn stands_joined(space: &Space, first: u16, block: Block, offset: usize, upper: 
     }
 }
 
-/// Whether a segment that is at most `low` or at least `high` is at the byte of a page at this
+/// Whether a header's segment that is at most `low` or at least `high` is at the byte of a page at this
 /// offset; false for a segment between them.
 fn is_on_outside(
     space: &Space,
@@ -128,7 +128,7 @@ fn is_occupied(
 }
 
 /// Whether the header `new`, if there is one, may stand beside the header `beside`, if there is
-/// one, and those of the joined list from segment `first` on.
+/// one, and the headers of the joined list from segment `first` on (48h and 4Bh).
 pub(crate) fn may_split(
     space: &Space,
     first: u16,
@@ -150,8 +150,8 @@ pub(crate) fn may_split(
 }
 
 /// Whether the header `new`, if there is one, may stand beside the headers of the list from segment
-/// `first` on whose segments are at most `low` or at least `high`; those between are to be
-/// overwritten.
+/// `first` on whose segments are at most `low` or at least `high`; the headers between are part of the resized block
+/// (4Ah and 31h).
 pub(crate) fn may_split_outside(
     space: &Space,
     first: u16,

@@ -1,5 +1,4 @@
-//! A header written: the first five bytes of a paragraph (MS-DOS Programmer's Reference, "Arena
-//! header").
+//! An arena header written: the first five bytes of a paragraph (MS-DOS Programmer's Reference, "Arena header").
 ghost use Rattle.std.specs.Prelude.{◌≡◌, ◌+◌, ◌*◌, ◌<◌, ◌≤◌};
 ghost use Rattle.dm_space.specs.Memory.{IsHeld};
 ghost use Rattle.dm_space.specs.inner.Places.{IsPoked};
@@ -16,8 +15,8 @@ fn knows_sizes(space: &Space)
     let _a20 = space.a20();
 }
 
-/// Writes a byte at an offset, below 16, of the paragraph at a segment. A write to ROM, or where
-/// there is no memory, is lost.
+/// Writes a byte of a header: at an offset, below 16, of the paragraph at the header's segment. A write to ROM, or
+/// where there is no memory, is lost.
 fn set_byte(space: &mut Space, segment: u16, offset: u16, value: u8)
     requires { offset < 16 }
     ensures memory { IsPoked space.old.memory (16 * segment + offset) value space.new.memory }
@@ -27,7 +26,7 @@ fn set_byte(space: &mut Space, segment: u16, offset: u16, value: u8)
     space.poke(segment, offset, value);
 }
 
-/// Writes a header's five bytes: signature, owner and size. Nothing else changes.
+/// Writes a header's five bytes: signature (`Z` if it is marked last, else `M`), owner and size. Nothing else changes.
 pub(crate) fn write_header(space: &mut Space, entry: Entry)
     requires { next entry.header ≤ 0xFFFF }
     ensures memory { IsHeaderWritten space.old.memory entry.header (signature_byte entry.last) space.new.memory }

@@ -41,7 +41,7 @@ value_word labels v = do
   place ← label_place labels v
   standing v place
 
--- a word as two bytes, low byte first
+-- a word of a DW as two bytes, low byte first
 abbrev pub low_high : ℕ → List ℕ
 low_high w = w % 256 ∷ w / 256 ∷ []
 
@@ -72,7 +72,7 @@ HasLength (words vs) n = n ≡ 2 * length vs
 -- ---- bytes
 
 -- the bytes of an instruction at an offset: those that are preferred for the instruction of the table with its
--- prefixes and operands. They are as many as were counted before labels had places
+-- prefixes and operands. They are as many as were counted before labels had places (`HasShape`)
 pub record IsCoded (labels : List Label) (at : ℕ) (i : Instruction) (code : List ℕ) : Type 0 where
   pub shape : HasShape i (length code)
   pub written : Words
@@ -97,11 +97,11 @@ Codes labels at (words vs) code = AreWordsOf labels vs code
 
 -- ---- labels that are named
 
--- the operand names no label, or one of these
+-- the operand names no label, or one of the labels in the list
 abbrev pub KnowsTerm : List Label → Term → Type 0
 KnowsTerm labels term = IsSome (term_place labels term)
 
--- each label that an item names is one of these
+-- each label that an item names is one of the labels in the list
 abbrev pub Knows : List Label → Item → Type 0
 Knows labels nothing = Unit {0}
 Knows labels (instruction i) = KnowsTerm labels i.first × KnowsTerm labels i.second

@@ -23,7 +23,7 @@ TextsHaveOneAnswer = (text : List ℕ) (a b : Result (List ℕ) AssemblyRefusal)
 abbrev pub ListingsAssemble : Type 0
 ListingsAssemble = (bytes text : List ℕ) → AllByRecursion (λ b. b < 2 ^ 8) bytes → length bytes ≤ longest_program → IsListing bytes text → Assembles text bytes
 
--- such a listing has no other result than these bytes: it is not refused
+-- the listing of a program's bytes, at most 65,278, has no other result of assembly than these bytes: it is not refused
 abbrev pub ListingsAreAnswered : Type 0
 ListingsAreAnswered = (bytes text : List ℕ) (answer : Result (List ℕ) AssemblyRefusal) → AllByRecursion (λ b. b < 2 ^ 8) bytes → length bytes ≤ longest_program → IsListing bytes text → IsAnswer text answer → answer ≡ Ok bytes
 

@@ -74,7 +74,7 @@ AreCoded labels at [] (p ∷ ps) = ⊥
 AreCoded labels at (x ∷ xs) [] = ⊥
 AreCoded labels at (x ∷ xs) (p ∷ ps) = Codes labels at x.statement.item p × AreCoded labels (at + length p) xs ps
 
--- the pieces in one list
+-- the pieces, each the bytes of a statement, in one list
 abbrev pub joined : List (List ℕ) → List ℕ
 joined [] = []
 joined (p ∷ ps) = p ++ joined ps

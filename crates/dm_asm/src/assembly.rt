@@ -1,5 +1,5 @@
 //! From a text to the bytes of a program, in two passes over its lines (Intel 8086 Family User's Manual, section
-//! 2.9): the first finds the places of labels, the second makes the bytes.
+//! 2.9): the first finds the places of labels (offsets in the program's segment), the second makes the bytes.
 
 ghost use Rattle.std.specs.Prelude.{◌≡◌, ◌≤◌, ◌++◌, ◌⊎◌, List, IfSome, IfNone, IfOk, IfErr, OnOk, MatchResult};
 ghost use Rattle.dm_lines.specs.Statements.{seen_statement};
@@ -36,8 +36,8 @@ fn read(line: &[u8], tokens: &mut Tokens, items: &mut Items) -> Option<(Statemen
     Some((statement, length))
 }
 
-/// Adds the label of a statement, if it has one, at its place. `Twice` with the line's number if a line before it has
-/// that label, whose place is then overwritten; `Memory` if an allocation fails.
+/// Adds the label of a statement at its place; without a label, `labels` stays. `Twice` with the line's number if a
+/// line before it has that label, whose place is then overwritten; `Memory` if an allocation fails.
 fn add_label(
     labels: &mut Labels,
     label: Option<Name>,
@@ -93,7 +93,7 @@ fn lay(alloc: Global, text: &[u8]) -> Result<(Labels, Known), AssemblyRefusal>
     Ok((labels, known))
 }
 
-/// Appends bytes; `Memory` if the allocation fails.
+/// Appends the bytes of a line to those of the program; `Memory` if the allocation fails.
 fn append(bytes: &mut Vec<u8>, code: &[u8]) -> Result<(), AssemblyRefusal>
     ensures added { OnOk result (bytes.new.items ≡ bytes.old.items ++ code.now) }
     ensures refused { IfErr result (λ e. e ≡ OutOfMemory) }

@@ -49,7 +49,7 @@ impl Known {
         }
     }
 
-    /// Adds a line with these bytes.
+    /// Adds a line with these bytes: their number to `lines`, and the bytes to `bytes`.
     fn put_bytes(&mut self, code: &[u8]) -> Result<(), AllocError>
         requires { length code.now ≤ 255 }
         ensures { OnOk result ((item : Stated) → IsFixed item code.now → Keeps self.old self.new item) }
@@ -59,7 +59,7 @@ impl Known {
         Ok(())
     }
 
-    /// Adds a line that is read again.
+    /// Adds a line that is read again, as `Open` to `lines`; `bytes` stays.
     fn put_open(&mut self) -> Result<(), AllocError>
         ensures { OnOk result ((item : Stated) → Keeps self.old self.new item) }
     {
@@ -67,8 +67,8 @@ impl Known {
         Ok(())
     }
 
-    /// Adds a line with an instruction, with its bytes if it names no label, has no target and no number is out of
-    /// range. Returns the number of its bytes; None where the table does not have it.
+    /// Adds a line with an instruction: with its bytes if it names no label, has no target and no number is out of
+    /// range, else as one that is read again. Returns the number of its bytes; None where the table does not have it.
     fn put_instruction(&mut self, instruction: &Instruction) -> Result<Option<usize>, AllocError>
         ensures { IfOk result (λ n. KeepsOf self.old self.new (encoded instruction.now) n) }
     {
@@ -84,7 +84,8 @@ impl Known {
         }
     }
 
-    /// Adds a line with a DB, with its bytes if all are in range. Returns the number of its bytes, never None.
+    /// Adds a line with a DB: with its bytes if all numbers are in range, else as one that is read again. Returns the
+    /// number of its bytes, never None.
     fn put_data(&mut self, amounts: &[Amount]) -> Result<Option<usize>, AllocError>
         requires { length amounts.now ≤ 255 }
         ensures { IfOk result (λ n. KeepsOf self.old self.new (data_bytes amounts.now) n) }
@@ -96,8 +97,9 @@ impl Known {
         Ok(Some(amounts.len()))
     }
 
-    /// Adds a line with this item, whose data is in `items`. Returns the number of its bytes; None where the table
-    /// does not have its instruction.
+    /// Adds a line with this item, whose data is in `items`: with its bytes where they are known already, else as one
+    /// that is read again, as every DW is. Returns the number of its bytes; None where the table does not have its
+    /// instruction.
     pub(crate) fn put(&mut self, item: Item, items: &Items) -> Result<Option<usize>, AllocError>
         ensures { IfOk result (λ n. KeepsOf self.old self.new (seen_item items.now item) n) }
     {

@@ -42,9 +42,10 @@ fn checked_status(report: &Report, stop: Stop) -> u8
     status_of_stop(stop)
 }
 
-/// Runs a machine under the checker, writes its output to `out`, and prints the report and the line about the stop on
-/// `error`. Returns the exit status. `OutOfMemory` if an allocation failed, before anything is written; `CannotWrite`
-/// if a write of the output failed, after a first part of it or none. With a fault, nothing is printed on `error`.
+/// Runs a machine for at most `steps` steps under the checker, writes its output to `out`, and prints the report and
+/// the line about the stop on `error`. Returns the exit status. `OutOfMemory` if an allocation failed, before anything
+/// is written; `CannotWrite` if a write of the output failed, after a first part of it or none. With a fault, nothing
+/// is printed on `error`.
 fn check_machine<W: Out, E: Out>(
     alloc: Global,
     machine: &mut Machine,

@@ -41,7 +41,7 @@ fn is_quit(line: &[u8]) -> bool
     }
 }
 
-/// Removes the line feed (0Ah) at the end of a line, and returns whether there was one.
+/// Removes the line feed (0Ah) at the end of a line, and returns whether there was one; a line without one stays.
 fn drop_end(line: &mut Vec<u8>) -> bool
     ensures had { result ≡ ends_with_byte 10 line.old.items }
     ensures dropped { line.new.items ≡ strip_last 10 line.old.items }
@@ -60,7 +60,8 @@ fn drop_end(line: &mut Vec<u8>) -> bool
 /// Reads the next line, with its line feed if it has one, into `line`, in place of what it held. Returns how many bytes
 /// the line has, at most `left`: 0 if the reader is at its end.
 ///
-/// `CannotRead` if a read failed, `InputTooLong` if the line has more than `left` bytes, `OutOfMemory`.
+/// `CannotRead` if a read failed, `OutOfMemory`; `InputTooLong` if the line has more than `left` bytes, and then it is
+/// in `line` all the same.
 fn next_line<R: BufRead>(
     commands: &mut R,
     line: &mut Vec<u8>,

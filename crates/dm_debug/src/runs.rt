@@ -42,7 +42,8 @@ fn put_stop(out: &mut Vec<u8>, stop: Option<Stop>) -> Result<(), AllocError>
 }
 
 /// G: makes at most `n` steps, up to a breakpoint or a stop, as `Machine::run_until` does, and appends to `out` why the
-/// run ended and the registers. An `Err` is a failed allocation after the run: a first part of the text may be in `out`.
+/// run ended and the registers. An `Err` is a failed allocation after the run; a first part of the text may be in
+/// `out`.
 pub(crate) fn go(
     machine: &mut Machine,
     n: u32,

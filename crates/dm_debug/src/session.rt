@@ -133,8 +133,8 @@ impl Session {
         }
     }
 
-    /// Adds a breakpoint at the end of the session's list; if it is set already, the list stays, else there must be room
-    /// for it. The machine stays.
+    /// Adds a breakpoint at the end of the session's list, where there must be room for it; if it is set already, the
+    /// list stays. The machine stays.
     fn set(&mut self, address: LogicalAddress)
         requires { is_over self.old (Break address) ≡ false }
         ensures { self.new ≡ with_points self.old (with_point self.old.points address) }

@@ -9,7 +9,7 @@ use Rattle.dm_ins.specs.Preferred.{IsPreferred}
 use Rattle.dm_text.specs.Pieces.{byte_digits}
 use Rattle.dm_text.specs.Texts.{text_of}
 
--- the k bytes from a place on; fewer at the end of the bytes
+-- the k bytes of a program from a place on; fewer at the program's end
 abbrev pub bytes_at : List ℕ → ℕ → ℕ → List ℕ
 bytes_at bytes at k = take k (drop at bytes)
 

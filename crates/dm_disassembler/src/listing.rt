@@ -14,7 +14,7 @@ use std::alloc::{AllocError, Global};
 /// The offset of a program's first byte in its segment.
 const START: usize = 0x100;
 
-/// The sixteen bytes from a place on, with zeros after the program's last byte.
+/// The sixteen bytes from a place on, of which an instruction is decoded, with zeros after the program's last byte.
 fn window(bytes: &[u8], at: usize) -> [u8; 16]
     requires { at ≤ length bytes.now }
     ensures { (k : ℕ) → k ≤ 16 → at + k ≤ length bytes.now → take k result ≡ bytes_at bytes.now at k }
@@ -65,7 +65,7 @@ fn put_instruction(out: &mut Vec<u8>, ins: &Ins, next: u16) -> Result<(), AllocE
     out.extend_from_slice(line.bytes())
 }
 
-/// Whether two runs of bytes are the same.
+/// Whether two runs of bytes, those that `encode` chooses for an instruction and its own, are the same.
 fn same(a: &[u8], b: &[u8]) -> bool
     ensures { IsTrue result ↔ (a.now ≡ b.now) }
 {

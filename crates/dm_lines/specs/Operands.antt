@@ -81,7 +81,7 @@ based s None ts = do
 abbrev pub memory_operand : Size → List Token → Option Term
 memory_operand s ts = based s (base_at ts) ts
 
--- a token in front of the list
+-- a token in front of those that `inside` finds between brackets; None without them
 abbrev pub onto : Token → Option (List Token) → Option (List Token)
 onto t None = None
 onto t (Some ts) = Some (t ∷ ts)
@@ -133,7 +133,7 @@ term_of ts = from_number ts
 
 -- ---- commas part operands, and the items of data
 
--- a token in front of the first part
+-- a token in front of the first of the parts between commas; a part of its own if there is none
 abbrev pub begin : Token → List (List Token) → List (List Token)
 begin t [] = (t ∷ []) ∷ []
 begin t (p ∷ ps) = (t ∷ p) ∷ ps

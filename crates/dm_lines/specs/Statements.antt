@@ -49,17 +49,17 @@ seen_statement d s = record { label = s.label; item = seen_item d s.item }
 
 -- ---- data
 
--- the elements xs in front of the list; None without a list
+-- the bytes of a DB or the words of a DW, xs, in front of the list of those behind them; None without a list
 abbrev pub joined_to : {A : Type 0} → List A → Option (List A) → Option (List A)
 joined_to xs None = None
 joined_to xs (Some ys) = Some (xs ++ ys)
 
--- two lists joined; None if one is missing
+-- two lists, of bytes of a DB or of words of a DW, joined; None if one is missing
 abbrev pub then_list : {A : Type 0} → Option (List A) → Option (List A) → Option (List A)
 then_list None r = None
 then_list (Some xs) r = joined_to xs r
 
--- the list of this element; None without it
+-- the list of this element, the number of a DB or the value of a DW; None without it
 abbrev pub list_of_one : {A : Type 0} → Option A → Option (List A)
 list_of_one None = None
 list_of_one (Some x) = Some (x ∷ [])

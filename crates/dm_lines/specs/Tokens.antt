@@ -64,12 +64,12 @@ closed (b ∷ w) = do
   t ← word_token (b ∷ w)
   Some (t ∷ [])
 
--- the tokens xs in front of the others
+-- the tokens xs in front of those of the bytes behind them on the line; None without those
 abbrev pub with_front : List Token → Option (List Token) → Option (List Token)
 with_front xs None = None
 with_front xs (Some ys) = Some (xs ++ ys)
 
--- two runs of tokens joined; None if one is missing
+-- two runs of tokens of a line joined; None if one is missing
 abbrev pub then_tokens : Option (List Token) → Option (List Token) → Option (List Token)
 then_tokens None r = None
 then_tokens (Some xs) r = with_front xs r

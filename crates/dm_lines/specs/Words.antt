@@ -116,12 +116,12 @@ meaning_of (word.Keyword k) = keyword_token k
 
 -- ---- which there are
 
--- x in front of the list if the first argument is true, else the list
+-- x in front of the list if the first argument is true, else the list; for `those`
 abbrev pub onto : {A : Type 0} → Bool → A → List A → List A
 onto true x xs = x ∷ xs
 onto false x xs = xs
 
--- the elements for which p is true
+-- the elements of a list, of mnemonics or reserved words, for which p is true, in their order
 abbrev pub those : {A : Type 0} → (A → Bool) → List A → List A
 those p [] = []
 those p (x ∷ xs) = onto (p x) x (those p xs)

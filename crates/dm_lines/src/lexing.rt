@@ -111,8 +111,8 @@ fn token_of(word: &[u8]) -> Option<Token>
     }
 }
 
-/// Appends the token of the word so far, if there is one, and empties the word. None if it has no token; then the
-/// word stays.
+/// Appends the token of the word so far to `tokens`, unless the word is empty, and empties the word. None if the word
+/// has no token; then it and `tokens` stay.
 fn close(tokens: &mut Tokens, word: &mut Letters) -> Option<()>
     requires { array_vec_len tokens.old + array_vec_len word.old ≤ 255 }
     ensures items { option_map (λ _. tokens.new.items) result ≡ with_front tokens.old.items (closed word.old.items) }
@@ -126,7 +126,8 @@ fn close(tokens: &mut Tokens, word: &mut Letters) -> Option<()>
     Some(())
 }
 
-/// Appends the token of a byte between words; nothing for a tab or a space. None for a byte that is no sign.
+/// Appends the token of a byte between words to `tokens`; nothing for a tab or a space. None for a byte that is no
+/// sign; then `tokens` stays.
 fn mark(tokens: &mut Tokens, byte: u8) -> Option<()>
     requires { array_vec_len tokens.old < 255 }
     ensures items { option_map (λ _. tokens.new.items) result ≡ with_front tokens.old.items (marked byte) }

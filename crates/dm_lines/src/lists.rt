@@ -31,7 +31,7 @@ fn put_text(bytes: &mut Bytes, tokens: &[Token]) -> Option<()>
     }
 }
 
-/// Appends the number that the tokens are.
+/// Appends the number that the tokens of an item of a DB are, with its sign.
 fn put_number(bytes: &mut Bytes, tokens: &[Token]) -> Option<()>
     requires { array_vec_len bytes.old + length tokens.now ≤ 255 }
     ensures items { option_map (λ _. bytes.new.items) result ≡ joined_to bytes.old.items (list_of_one (amount_of tokens.now)) }
@@ -54,7 +54,7 @@ fn put_item(bytes: &mut Bytes, tokens: &[Token]) -> Option<()>
     }
 }
 
-/// Sets the list to the bytes of a DB, by the tokens after that word.
+/// Sets the list `found` to the bytes of a DB, by the tokens after the word DB.
 pub(crate) fn put_bytes(found: &mut Bytes, tokens: &[Token]) -> Option<()>
     requires { length tokens.now ≤ 255 }
     ensures { option_map (λ _. found.new.items) result ≡ byte_items (parts tokens.now) }
@@ -71,7 +71,7 @@ pub(crate) fn put_bytes(found: &mut Bytes, tokens: &[Token]) -> Option<()>
     }
 }
 
-/// Sets the list to the words of a DW, by the tokens after that word.
+/// Sets the list `found` to the words of a DW, by the tokens after the word DW.
 pub(crate) fn put_words(found: &mut Words, tokens: &[Token]) -> Option<()>
     requires { length tokens.now ≤ 255 }
     ensures { option_map (λ _. found.new.items) result ≡ word_items (parts tokens.now) }

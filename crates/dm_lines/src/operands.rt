@@ -211,7 +211,8 @@ fn is_between(token: Token) -> bool
     matches!(token, Token::Comma)
 }
 
-/// The tokens before the first comma, and those after it; None for the latter without a comma.
+/// The tokens of the first operand or item of data, up to the first comma, and the tokens after that comma; None for
+/// the latter without a comma.
 pub(crate) fn front(tokens: &[Token]) -> (&[Token], Option<&[Token]>)
     ensures parts { parts tokens.now ≡ result.0.now ∷ parts_behind result.1 }
     ensures shorter { IfSome result.1 (λ rest. length result.0.now + length rest.now < length tokens.now) }

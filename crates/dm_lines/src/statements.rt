@@ -154,7 +154,8 @@ fn read_instruction(tokens: &[Token]) -> Option<Instruction>
     action(found, rest)
 }
 
-/// What the tokens after a label are: nothing, an instruction, or data, which is put into `items`.
+/// What the tokens after a label are: nothing, an instruction, or data, which replaces the bytes (of a DB) or the words
+/// (of a DW) in `items`. For None, what `items` then holds means nothing.
 fn read_item(tokens: &[Token], items: &mut Items) -> Option<Item>
     requires { length tokens.now ≤ 255 }
     ensures { option_map (seen_item items.new) result ≡ item_of tokens.now }
@@ -173,7 +174,7 @@ fn read_item(tokens: &[Token], items: &mut Items) -> Option<Item>
     }
 }
 
-/// The statement that the tokens of a line are; its data is put into `items`.
+/// The statement that the tokens of a line are; its data is put into `items` as `read_item` does.
 fn read_statement(tokens: &[Token], items: &mut Items) -> Option<Statement>
     requires { length tokens.now ≤ 255 }
     ensures { option_map (seen_statement items.new) result ≡ statement_of tokens.now }

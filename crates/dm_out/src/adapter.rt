@@ -30,7 +30,7 @@ impl<W: io::Write + Drop> Sink<W> {
         Sink { writer, count: 0 }
     }
 
-    /// Adds 1 to the count of failures, for a write or a flush that failed; at 2^64 - 1 the count stays. The writer stays.
+    /// Adds 1 to the count of failures, for a write or a flush; at 2^64 - 1 the count stays. The writer stays.
     fn fail(&mut self)
         ensures { self.new ≡ record self.old { failures = min (self.old.failures + 1) most_failures } }
     {

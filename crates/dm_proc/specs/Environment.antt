@@ -14,7 +14,7 @@ closing (b ∷ bs) = 0 ∷ []
 abbrev pub environment : List ℕ → List ℕ → List ℕ
 environment variables name = variables ++ (closing variables ++ (1 ∷ 0 ∷ []) ++ name ++ (0 ∷ []))
 
--- the byte at segment:k
+-- the byte at segment:k, of an environment
 abbrev pub byte_at_offset : Memory → ℕ → ℕ → ℕ
 byte_at_offset m segment k = peek m (linear m.a20 segment k)
 

@@ -44,12 +44,12 @@ return_registers c m =
     let r = (interrupt_return (guest c m)).cpu in
     record r { flags = record r.flags { carry = false } }
 
--- the two blocks of a program allocated, from memory m to memory n: for an environment of `count` bytes, and for the
--- program in `file`
+-- the two blocks of a program allocated, from memory m to memory n, for an environment of `count` bytes and for the
+-- program in `file`: `answer` is where they are, with their headers written; or an error, and then n is m
 abbrev pub Plans : Bool → Memory → Strategy → ℕ → List ℕ → Result Placed ArenaRefusal → Memory → Type 0
 Plans upper m strategy count file answer n = Pairs upper m strategy (paragraphs count) (least file) (most file) answer n
 
--- both blocks can be allocated: there is room, and the new list of blocks would be clear
+-- both blocks of a program can be allocated: there is room, and the new list of blocks would be clear
 abbrev pub IsPlanned : Bool → Memory → Strategy → ℕ → List ℕ → Type 0
 IsPlanned upper m strategy count file = (pair : Planned) × IsPair upper m first_header strategy (paragraphs count) (least file) (most file) pair
 
@@ -60,8 +60,8 @@ PlanRefused upper m strategy count file Destroyed = Plans upper m strategy count
 PlanRefused upper m strategy count file Short = (room : ℕ) × Plans upper m strategy count file (Err (arena.Short room)) m
 PlanRefused upper m strategy count file _ = ⊥
 
--- both blocks of a program are allocated, which leaves `middle`, and then all of it is written, which leaves n. The
--- prefix is made from memory as it was before
+-- both blocks of a program are allocated, which leaves `middle`, and then environment, prefix, image and a COM
+-- program's zero word are written, which leaves n. The prefix is made from memory m, as it was before
 pub record Starts (upper : Bool) (m : Memory) (strategy : Strategy) (environment file : List ℕ) (parent : ℕ) (a : Passed) (placed : Placed) (n : Memory) : Type 0 where
   pub middle : Memory
   pub plans : Plans upper m strategy (length environment) file (Ok placed) middle
@@ -82,7 +82,7 @@ abbrev pub environment_of : {ps : Processes} {c : Cpu} {m : Memory} {store : Lis
 environment_of a = environment a.variables a.name
 
 -- a child is started: its blocks are allocated and written, the registers are its own, and the present process waits
--- with the registers that the call returns. Before it at most fourteen processes wait
+-- with the registers that the call returns; the word for 4Dh stays. Before the call at most fourteen processes wait
 pub record Execs (upper : Bool) (ps : Processes) (c : Cpu) (m : Memory) (store : List (List ℕ × List ℕ)) (strategy : Strategy) (qs : Processes) (d : Cpu) (n : Memory) : Type 0 where
   pub asks : Asks ps c m store
   pub few : length ps.parents < 15
@@ -123,8 +123,8 @@ pub record Begins (upper : Bool) (m : Memory) (strategy : Strategy) (file variab
   pub registers : d ≡ start_registers placed file
   pub processes : qs ≡ record { present = placed.program; parents = []; code = 0 }
 
--- the load of the first program, from memory m to memory n: the processes and the registers; an error leaves memory
--- unchanged
+-- the load of the first program, from memory m to memory n: it returns the processes, and the registers that the
+-- program starts with; an error leaves memory unchanged
 abbrev pub Loads : Bool → Memory → Strategy → List ℕ → List ℕ → List ℕ → Passed → Result (Processes × Cpu) ExecRefusal → Memory → Type 0
 Loads upper m strategy file variables name a (Ok r) n = Begins upper m strategy file variables name a r.0 r.1 n
 Loads upper m strategy file variables name a (Err e) n = (n ≡ m) × PlanRefused upper m strategy (length (environment variables name)) file e
@@ -163,20 +163,22 @@ GoesOn ps c word Returned qs d =
     (p : Parent) × (ps.parents ≡ qs.parents ++ p ∷ []) × (qs ≡ record { present = p.segment; parents = qs.parents; code = word }) × (d ≡ p.cpu)
 GoesOn ps c word Exited qs d = (ps.parents ≡ []) × (qs ≡ record ps { code = word }) × (d ≡ c)
 
--- a process ends, once its blocks are freed or kept: the vectors are restored, and then `GoesOn` says who runs
+-- the present process ends, once its blocks are freed or kept: the vectors 22h to 24h are restored from its prefix, and
+-- `GoesOn` says who runs then
 pub record Ends (ps : Processes) (c : Cpu) (m : Memory) (word : ℕ) (ending : Ending) (qs : Processes) (d : Cpu) (n : Memory) : Type 0 where
   pub memory : n ≡ vectors_back m ps.present
   pub goes_on : GoesOn ps c word ending qs d
 
 -- the end of the present process with an exit code (functions 00h and 4Ch, INT 20h, a divide error): its blocks are
--- freed. Where the arena is destroyed nothing changes
+-- freed, and then it ends as `Ends` says, with the code for 4Dh. Where the arena is destroyed nothing changes
 abbrev pub Terminates : Bool → Processes → Cpu → Memory → ℕ → Result Ending ArenaDestroyed → Processes → Cpu → Memory → Type 0
 Terminates upper ps c m code (Ok ending) qs d n =
     (freed : Memory) × Releases upper m ps.present (Ok tt) freed × Ends ps c freed code ending qs d n
 Terminates upper ps c m code (Err e) qs d n = (qs ≡ ps) × (d ≡ c) × (n ≡ m) × Releases upper m ps.present (Err arena.Destroyed) m
 
--- function 31h: the block of the present process is resized to `paragraphs` if that is possible, none of its blocks is
--- freed, and the process ends. Where the arena is destroyed, or would be, nothing changes
+-- function 31h: the block of the present process is resized to `paragraphs`, or stays if that is not possible; none of
+-- its blocks is freed, and it ends as `Ends` says, with the word for 4Dh. Where the arena is destroyed, or would be,
+-- nothing changes
 abbrev pub Keeps : Bool → Processes → Cpu → Memory → ℕ → ℕ → Result Ending ArenaDestroyed → Processes → Cpu → Memory → Type 0
 Keeps upper ps c m code paragraphs (Ok ending) qs d n =
     (answer : Result (Unit {0}) ArenaRefusal) × (kept : Memory) × Resizes upper m ps.present paragraphs answer kept × (answer ≢ Err arena.Destroyed)

@@ -43,7 +43,7 @@ NameRefused c m store NotFound = NoNameAt m c.ds c.dx ⊎ ((name : List ℕ) × 
 NameRefused c m store BadFormat = (name : List ℕ) × (file : List ℕ) × Names c m store name file × (IsGood file → ⊥)
 NameRefused c m store _ = ⊥
 
--- the far pointer at offset k of the parameter block at ES:BX: its offset, then its segment
+-- the far pointer that begins at byte k of the parameter block at ES:BX: its offset word, then its segment word
 abbrev pub pointer_at : Cpu → Memory → ℕ → FarPointer
 pointer_at c m k = record {
   segment = peek16 m c.es ((c.bx + (k + 2)) % 65536);
@@ -61,8 +61,8 @@ pub record Passed : Type 0 where
 abbrev pub passed_of : Arguments → Passed
 passed_of a = record { tail = a.tail.items; first = a.first; second = a.second }
 
--- the command tail at a far pointer: the first byte is its length, where more than 126 counts as 126; the rest
--- follows
+-- the command tail at a far pointer: the first byte is the tail's length, where more than 126 counts as 126; the tail's
+-- bytes follow
 unfoldable pub tail_at : Memory → FarPointer → List ℕ
 tail_at m p = bytes_from m p.segment ((p.offset + 1) % 65536) (min (peek m (linear m.a20 p.segment p.offset)) 126)
 

@@ -11,17 +11,17 @@ use Rattle.dm_arena.specs.Pair.{Placed}
 use Rattle.dm_proc.specs.Request.{Passed}
 use Rattle.dm_proc.specs.Writes.{Write, block, bytes_from}
 
--- a word as two bytes, low byte first
+-- a word of the prefix as two bytes, low byte first
 abbrev pub word_bytes : ℕ → List ℕ
 word_bytes w = w % 256 ∷ w / 256 ∷ []
 
--- n bytes of zero
+-- n bytes of zero, for the prefix
 unfoldable pub zeros : ℕ → List ℕ
 zeros n = replicate n 0
 
--- the 256 bytes of the program segment prefix: INT 20h; the segment past the program's block; at 0Ah the vectors 22h to 24h; at
--- 16h the parent; at 2Ch the environment's segment; at 50h INT 21h and RETF; at 5Ch and 6Ch the file control blocks; at
--- 80h the tail's length, the tail and 0Dh; else zeros
+-- the 256 bytes of the program segment prefix: INT 20h; the segment past the program's block; at 0Ah the vectors 22h to
+-- 24h, read from memory m; at 16h the segment of the parent's prefix; at 2Ch the environment's segment; at 50h INT 21h
+-- and RETF; at 5Ch and 6Ch the file control blocks; at 80h the tail's length, the tail and 0Dh; else zeros
 unfoldable pub prefix : Memory → Placed → ℕ → Passed → List ℕ
 prefix m p parent a =
     (0xCD ∷ 0x20 ∷ []) ++ word_bytes ((p.program + p.size) % 65536) ++ zeros 6 ++ bytes_from m 0 0x88 12
@@ -32,7 +32,7 @@ prefix m p parent a =
 abbrev pub com_stack : Placed → ℕ
 com_stack p = min 0xFFFE (16 * p.size - 2)
 
--- the writes of a zero word at segment:offset; the offset of the high byte wraps
+-- the writes of the zero word of a COM program's stack at segment:offset; the offset of the high byte wraps
 abbrev pub zero_word : Bool → ℕ → ℕ → List Write
 zero_word a20 segment offset =
     record { address = linear a20 segment offset; byte = 0 } ∷ record { address = linear a20 segment ((offset + 1) % 65536); byte = 0 } ∷ []
@@ -78,7 +78,7 @@ registers segment code stack = record {
   flags = start_flags;
 }
 
--- a far pointer of an MZ header with the start segment added to its segment
+-- CS:IP or SS:SP of an MZ header with the start segment `by` added to the pointer's segment
 abbrev pub relocated_pointer : FarPointer → ℕ → FarPointer
 relocated_pointer p by = record p { segment = (p.segment + by) % 65536 }
 

@@ -1,5 +1,5 @@
--- Lists of writes to memory, applied in turn. A block here is any run of bytes from a segment upwards, which may be
--- longer than 64 KiB.
+-- Lists of writes to memory, applied in turn: those of a process's start, of an overlay, and of the vectors at an end.
+-- A block here is any run of bytes from a segment upwards, which may be longer than 64 KiB.
 use Rattle.std.specs.Prelude.{ℕ, suc, zero, ◌+◌, ◌/◌, ◌%◌, Bool, List, [], ◌∷◌}
 use Rattle.dm_space.specs.Memory.{Memory, linear, peek, poke}
 
@@ -27,7 +27,8 @@ upwards a20 segment k (b ∷ bs) = record { address = block_address a20 segment 
 abbrev pub block : Bool → ℕ → List ℕ → List Write
 block a20 segment bytes = upwards a20 segment 0 bytes
 
--- the n bytes at segment:offset and upwards; offsets wrap at 65,536
+-- the n bytes at segment:offset and upwards, of a name, a command tail, a file control block, an environment or
+-- vectors; offsets wrap at 65,536
 abbrev pub bytes_from : Memory → ℕ → ℕ → ℕ → List ℕ
 bytes_from m segment offset zero = []
 bytes_from m segment offset (suc n) = peek m (linear m.a20 segment (offset % 65536)) ∷ bytes_from m segment (suc offset) n

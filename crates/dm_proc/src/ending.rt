@@ -21,7 +21,8 @@ fn vectors_back(space: &mut Space, segment: u16)
     write_from(space, 0, 0x88, vectors.as_slice());
 }
 
-/// Whether a call of the arena failed with `Destroyed`: there is no clear list of blocks, or there would be none.
+/// Whether the arena's resize, for function 31h, failed with `Destroyed`: there is no clear list of blocks, or there
+/// would be none.
 fn is_destroyed(answer: Result<(), ArenaRefusal>) -> bool
     ensures { MatchBool result (IsErrOf answer ArenaRefusal.Destroyed) (IsErrOf answer ArenaRefusal.Destroyed → ⊥) }
 {
@@ -33,8 +34,8 @@ fn is_destroyed(answer: Result<(), ArenaRefusal>) -> bool
 
 impl Procs {
     /// Ends the present process, whose blocks are freed or kept already: restores the vectors 22h to 24h from its
-    /// prefix; its parent, if it has one, becomes the present process, and `cpu` gets the registers that it waits
-    /// with. `word` is what function 4Dh then returns.
+    /// prefix; its parent, if it has one, becomes the present process, and `cpu` gets the registers that the parent
+    /// waits with, else present process and registers stay. `word` is what function 4Dh then returns.
     fn end(&mut self, cpu: &mut Cpu, space: &mut Space, word: u16) -> Ending
         ensures { Ends self.old cpu.old space.old.memory word result self.new cpu.new space.new.memory }
     {
@@ -43,9 +44,9 @@ impl Procs {
     }
 
     /// Ends the present process with an exit code (functions 00h and 4Ch, INT 20h, a divide error): frees its blocks
-    /// and restores the vectors 22h to 24h from its prefix; its parent becomes the present process, with the registers
-    /// that it waits with. Where it was the first program, the registers and the present process stay. Either way the
-    /// code is kept for function 4Dh.
+    /// and restores the vectors 22h to 24h from its prefix; its parent becomes the present process, and `cpu` gets the
+    /// registers that the parent waits with. Where the first program ends, registers and present process stay. Either
+    /// way the code is kept for function 4Dh.
     ///
     /// # Errors
     ///
@@ -66,9 +67,9 @@ impl Procs {
         Ok(self.end(cpu, space, code as u16))
     }
 
-    /// Ends the present process and keeps it in memory (function 31h): resizes its block to `paragraphs`, where that
-    /// can be done, and frees none of its blocks. The rest is as for `terminate`; the word for function 4Dh has 3 in
-    /// its high byte.
+    /// Ends the present process and keeps it in memory (function 31h): resizes its block to `paragraphs` (the size
+    /// stays where that can't be done), and frees none of its blocks. Vectors, parent and registers are as for
+    /// `terminate`; the word for function 4Dh has the code in its low byte, 3 in its high byte.
     ///
     /// # Errors
     ///

@@ -84,8 +84,8 @@ fn read_variables(space: &mut Space, segment: u16) -> Option<usize>
 }
 
 /// Builds a child's environment at the front of the scratch part: the variables of the environment at a segment, 0 for
-/// none, and the program's name. Returns its length in bytes; None if the old one has no end in 32,768 bytes, and then
-/// the scratch part is overwritten too.
+/// none, and the program's name. Returns its length in bytes; None if the variables have no end in 32,768 bytes, and
+/// then the scratch part is overwritten too.
 pub(crate) fn make_environment(space: &mut Space, segment: u16, name: &[u8]) -> Option<usize>
     requires { length name.now ≤ 64 }
     ensures memory { space.new.memory ≡ space.old.memory }

@@ -32,8 +32,9 @@ impl Procs {
     /// DS:DX, the parameter block at ES:BX. The program becomes the present process, and `cpu` gets its registers. The
     /// process so far waits, with its registers as they are after the call: IP, CS and FLAGS popped, CF clear.
     ///
-    /// All of guest memory that is read, the return address among it, is read before anything is written; both blocks
-    /// are planned before either is written. The scratch part may be overwritten, also where the call fails.
+    /// All of guest memory that is read, the return address among it, is read before anything is written; the blocks of
+    /// environment and program are planned before either is written. The scratch part may be overwritten, also where
+    /// the call fails.
     ///
     /// # Errors
     ///
@@ -81,13 +82,14 @@ impl Procs {
     }
 
     /// Starts the first program: it is the only process. Returns the processes, and the registers that the program
-    /// starts with. Each of the variables is ended by a zero; they have at most 32,767 bytes, the name at most 64.
+    /// starts with. Each of the variables is ended by a zero; together they have at most 32,767 bytes, the name at
+    /// most 64.
     ///
     /// # Errors
     ///
-    /// `Destroyed` where memory spells no clear list of blocks or the last list would not be clear, `Short` where
-    /// there is no room for both blocks. An error changes no byte of memory. The scratch part may be overwritten, also
-    /// where the call fails.
+    /// `Destroyed` where memory spells no clear list of blocks or the new list would not be clear, `Short` where there
+    /// is no room for the blocks of environment and program. An error changes no byte of memory. The scratch part may
+    /// be overwritten, also where the call fails.
     pub fn load(
         space: &mut Space,
         strategy: Strategy,

@@ -1,5 +1,6 @@
 //! What the start of a process writes, and its registers (MS-DOS Programmer's Reference, "Load and
-//! Execute Program"). The scratch part of a space holds bytes that no guest address shows.
+//! Execute Program"). The start segment of a program is 10h paragraphs after its prefix begins: its image is written
+//! there. The scratch part of a space holds bytes that no guest address shows.
 ghost use Rattle.std.specs.Prelude.{◌≡◌, ◌+◌, ◌<◌, ◌≤◌, length, min, take, true, false, MatchResult};
 ghost use Rattle.dm_load.specs.Image.{is_mz, relocated};
 ghost use Rattle.dm_blocks.specs.Chain.{first_header};
@@ -29,8 +30,8 @@ use dm_space::Space;
 /// after it.
 const RELOCATED: usize = 0x11_0000;
 
-/// Writes the first 110000h bytes of an image, or all if it is shorter, relocated to the start
-/// segment, into the scratch part. Returns their number. Guest memory stays.
+/// Writes the first 110000h bytes of an image, or all if it is shorter, relocated to the segment `start`, to the front
+/// of the scratch part. Returns their number. Guest memory stays.
 fn relocate(space: &mut Space, image: &Image, start: u16) -> usize
     ensures memory { space.new.memory ≡ space.old.memory }
     ensures scratch { take result space.new.scratch ≡ take 0x110000 (relocated image.now start) }
@@ -51,7 +52,7 @@ pub(crate) fn write_image(space: &mut Space, image: &Image, segment: u16, start:
     write_from(space, segment, count, image.rest());
 }
 
-/// Writes a zero word at segment:offset; the offset of the high byte wraps.
+/// Writes the zero word of a COM program's stack at segment:offset; the offset of the high byte wraps.
 fn write_zero_word(space: &mut Space, segment: u16, offset: u16)
     ensures { space.new.memory ≡ apply (zero_word space.old.memory.a20 segment offset) space.old.memory }
 {
@@ -94,7 +95,7 @@ fn registers(segment: u16, code: FarPointer, stack: FarPointer) -> Cpu
     }
 }
 
-/// Writes the zero word on a COM program's stack; nothing for an MZ program.
+/// Writes the zero word at SS:SP of a COM program, for its near return to offset 0; nothing for an MZ program.
 fn write_stack(space: &mut Space, image: &Image, blocks: Blocks)
     requires { Room.least image.now ≤ blocks.size }
     ensures { space.new.memory ≡ apply (stack_writes space.old.memory.a20 (as_placed blocks) image.now) space.old.memory }
@@ -105,9 +106,9 @@ fn write_stack(space: &mut Space, image: &Image, blocks: Blocks)
     }
 }
 
-/// Makes all writes of a start after those of the headers, in this order: environment (the first
-/// `environment_bytes` of the scratch part), prefix, image, a COM program's zero word. Writing the
-/// image overwrites the scratch part.
+/// Makes all writes of a start after those of the arena's headers, in this order: the environment (the first
+/// `environment_bytes` of the scratch part) to its block, the prefix to the program's block, the image from the start
+/// segment on, the zero word on a COM program's stack. Writing the image overwrites the scratch part.
 fn write_start(
     space: &mut Space,
     image: &Image,
@@ -127,7 +128,7 @@ fn write_start(
     write_stack(space, image, blocks);
 }
 
-/// A far pointer of an MZ header with the start segment `by` added to its segment, modulo 65,536.
+/// CS:IP or SS:SP of an MZ header with the start segment `by` added to the pointer's segment, modulo 65,536.
 fn relocated_pointer(pointer: FarPointer, by: u16) -> FarPointer
     ensures { result ≡ Rattle.dm_proc.specs.Start.relocated_pointer pointer by }
 {
@@ -167,7 +168,7 @@ fn start_registers(image: &Image, blocks: Blocks) -> Cpu
     }
 }
 
-/// Plans both blocks of a program whose environment has `environment_bytes`. Nothing is written.
+/// Plans both blocks of a program, its own and that of its environment of `environment_bytes`. Nothing is written.
 ///
 /// # Errors
 ///
@@ -205,8 +206,8 @@ pub(crate) struct Started {
     pub(crate) cpu: Cpu,
 }
 
-/// Writes all of a planned process: the headers of its blocks, then the environment (the first
-/// `environment_bytes` of the scratch part), the prefix, the image, a COM program's zero word. The
+/// Writes all of a planned process: the arena's headers with its two blocks, and then what `write_start` writes:
+/// environment (the first `environment_bytes` of the scratch part), prefix, image, and a COM program's zero word. The
 /// prefix is made before anything is written. `parent` is the segment of the parent's prefix, 0 for
 /// the first program. Writing the image overwrites the scratch part.
 pub(crate) fn start(

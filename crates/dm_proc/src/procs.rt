@@ -73,8 +73,8 @@ impl Procs {
         }
     }
 
-    /// Makes the process at a segment the present one. The process so far waits for it, and goes on with these
-    /// registers.
+    /// Makes a new process, whose prefix is at a segment, the present one (function 4Bh). The present process so far
+    /// waits for its end, and then goes on with these registers.
     pub(crate) fn begin(&mut self, segment: u16, cpu: Cpu)
         requires { length self.old.parents < 15 }
         ensures { self.new ≡ record self.old { present = segment; parents = self.old.parents ++ record { segment = self.old.present; cpu = cpu } ∷ [] } }

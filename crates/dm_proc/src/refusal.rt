@@ -20,7 +20,7 @@ pub enum ExecRefusal {
     /// The environment has no end within 32,768 bytes (DOS error 10, "Invalid environment").
     #[error("environment too long")]
     Environment,
-    /// Memory spells no clear list of blocks, or the last list would not be clear (DOS error 7,
+    /// Memory spells no clear list of blocks, or the list with the program's blocks would not be clear (DOS error 7,
     /// "Memory control blocks destroyed").
     #[error("arena destroyed")]
     Destroyed,
@@ -30,8 +30,9 @@ pub enum ExecRefusal {
     Short,
 }
 
-/// Why a process did not end: memory spells no clear list of blocks, or no second one where the end needs it, or the
-/// resized list would not be clear. Nothing has changed (DOS error 7, "Memory control blocks destroyed").
+/// Why a process did not end: memory spells no clear list of blocks; or, where its blocks are to be freed in a list of
+/// upper memory too, no such list; or the list with its block resized (31h) would not be clear. Nothing has changed
+/// (DOS error 7, "Memory control blocks destroyed").
 #[derive(Clone, Copy, Debug, PartialEq, Eq, Error)]
 #[error("arena destroyed")]
 pub struct ArenaDestroyed;

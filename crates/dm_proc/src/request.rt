@@ -66,7 +66,8 @@ pub(crate) fn asked_program<'a>(
     }
 }
 
-/// The far pointer at an offset of the parameter block at ES:BX: its offset, then its segment. Offsets wrap.
+/// The far pointer to the command tail or a file control block, at byte `at` of the parameter block at ES:BX: its
+/// offset word, then its segment word. Offsets wrap.
 fn pointer_at(cpu: &Cpu, space: &Space, at: u16) -> FarPointer
     requires { at < 0x100 }
     ensures { result ≡ Rattle.dm_proc.specs.Request.pointer_at cpu.now space.now.memory at }
@@ -77,8 +78,8 @@ fn pointer_at(cpu: &Cpu, space: &Space, at: u16) -> FarPointer
     }
 }
 
-/// The command tail at a far pointer: the first byte is its length, where more than 126 counts as 126; the rest
-/// follows. Offsets wrap.
+/// The command tail at a far pointer: the first byte is the tail's length, where more than 126 counts as 126; its bytes
+/// follow. Offsets wrap.
 #[tactic(auto, unfolding(crate::specs::Request::tail_at))]
 fn tail_at(space: &Space, pointer: FarPointer) -> ArrayVec<u8, 126>
     ensures { result.items ≡ Rattle.dm_proc.specs.Request.tail_at space.now.memory pointer }

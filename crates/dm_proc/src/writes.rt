@@ -1,5 +1,6 @@
-//! Writing bytes to guest memory from a segment upwards. Such a block may be longer than 64 KiB;
-//! segments wrap. What is written to ROM, or where there is no memory, is lost.
+//! Writing bytes to guest memory from a segment upwards, at the start of a process, for an overlay, and for the vectors
+//! that an end restores. A block here is the run of bytes that is written, which may be longer than 64 KiB; segments
+//! wrap. What is written to ROM, or where there is no memory, is lost.
 ghost use Rattle.std.specs.Prelude.{◌≡◌, ◌+◌, ◌<◌, ◌≤◌, length, take};
 ghost use Rattle.dm_proc.specs.Writes.{apply, block, block_address, upwards};
 ghost use Rattle.dm_space.specs.Memory.{poke};
@@ -37,8 +38,8 @@ pub(crate) fn write_bytes(space: &mut Space, segment: u16, bytes: &[u8])
     write_from(space, segment, 0, bytes);
 }
 
-/// Writes the first `count` bytes of the scratch part to the block at a segment. The scratch part
-/// stays.
+/// Writes the first `count` bytes of the scratch part, which no guest address shows, to the block at a segment. The
+/// scratch part stays.
 pub(crate) fn write_scratch(space: &mut Space, segment: u16, count: usize)
     requires { count ≤ 0x200000 }
     ensures { space.new ≡ record space.old { memory = apply (block space.old.memory.a20 segment (take count space.old.scratch)) space.old.memory } }

@@ -7,8 +7,8 @@ use Rattle.dm_state.specs.State.{State, Answer, go, interrupt_returned}
 use Rattle.dm_services.specs.Characters.{with_al, echo_character, direct_character, read_character}
 use Rattle.dm_services.specs.Lines.{read_line}
 
--- 0Ch, by the number in AL: performs that function if it is 01h, 06h, 07h, 08h or 0Ah, which stops the machine where it
--- does by itself; else AL = 0 and the call returns
+-- 0Ch, by the number in AL: performs that function if it is 01h, 06h, 07h, 08h or 0Ah, and stops the machine where that
+-- function does; else AL = 0 and the call returns
 abbrev pub read_by : State → ℕ → Answer
 read_by s function =
     if function == 0x01 then echo_character s else

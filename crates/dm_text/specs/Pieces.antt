@@ -77,8 +77,8 @@ is_name (b ∷ w) = list_all is_in_names (b ∷ w)
 abbrev pub is_mark : ℕ → Bool
 is_mark b = (b == 32) || (b == 43) || (b == 44) || (b == 58) || (b == 91) || (b == 93)
 
--- no name or number stands right after another, each name is digits and capital letters, and each sign is one of
--- these six. `behind` says whether a name or number stands right before the pieces
+-- no name or number stands right after another, each name is digits and capital letters, and each sign is one of the
+-- six of `is_mark`. `behind` says whether a name or number stands right before the pieces
 abbrev pub parted : Bool → List Piece → Bool
 parted behind [] = true
 parted true (name w ∷ ps) = false

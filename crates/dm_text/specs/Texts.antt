@@ -77,8 +77,8 @@ abbrev pub width_word : Width → List ℕ
 width_word Byte = codes "BYTE"
 width_word Word = codes "WORD"
 
--- the size word of an action: NEAR for a jump or call by memory, none for a far one, which has FAR in its name; for
--- others s
+-- the size word of an action: NEAR for a jump or call by memory, none for a far one, which has FAR in its name; for any
+-- other mnemonic s
 abbrev pub jump_pieces : Mnemonic → List Piece → List Piece
 jump_pieces op.CallFar s = []
 jump_pieces op.JmpFar s = []
@@ -120,7 +120,7 @@ behind s _ ps = s ∷ ps
 abbrev pub second_pieces : Action → ℕ → List Piece
 second_pieces a next = behind comma a.second (operand_pieces a next a.second)
 
--- both operands: the first after a space, the second after a comma; nothing without a first one
+-- both operands of an action: the first after a space, the second after a comma; nothing without a first operand
 abbrev pub operands_pieces : Action → ℕ → List Piece
 operands_pieces a next = behind space a.first (operand_pieces a next a.first ++ second_pieces a next)
 

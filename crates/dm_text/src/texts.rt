@@ -178,7 +178,7 @@ fn put_second(line: &mut Line, action: &Action, next: u16)
     }
 }
 
-/// Appends a space and the operands; nothing without a first one.
+/// Appends a space and the operands of an action; nothing without a first operand.
 #[tactic(auto, using(crate::proofs::Pieces::appended))]
 fn put_operands(line: &mut Line, action: &Action, next: u16)
     requires { length line.old + 40 ≤ 64 }
@@ -270,9 +270,9 @@ fn put_prefixes(line: &mut Line, prefixes: Prefixes)
     line.put(repeat_word(prefixes.repeat));
 }
 
-/// Sets `line` to the text of an instruction, in at most 64 bytes: the line of an assembler for it,
-/// with no label, comment or line end. `next` is the offset of the next instruction, from which the
-/// targets of jumps and calls count.
+/// Sets `line` to the text of an instruction, in at most 64 bytes, in place of what it held: the
+/// line of an assembler for the instruction, with no label, comment or line end. `next` is the offset
+/// of the next instruction, from which the targets of jumps and calls count.
 ///
 /// Prefix words come first (the segment's, LOCK, REP or REPNE), then the mnemonic, then the
 /// operands with a comma between them; XCHG AX,AX is written NOP. Numbers are hexadecimal, two

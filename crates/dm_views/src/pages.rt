@@ -13,8 +13,8 @@ use std::alloc::AllocError;
 /// The number of handles of expanded memory (0 to 63).
 const HANDLES: u16 = 64;
 
-/// Appends the line of a handle of expanded memory in use: its number, how many pages it has, and the eight bytes of its
-/// name, all in hexadecimal.
+/// Appends the line of a handle of expanded memory in use: its number, how many pages it has, and the eight bytes of
+/// its name, all in hexadecimal.
 fn put_holding(out: &mut Vec<u8>, number: u16, holding: &Holding) -> Result<(), AllocError>
     ensures { OnOk result (out.new.items ≡ out.old.items ++ holding_text number holding.now) }
 {

@@ -46,7 +46,7 @@ width_word width.Byte = Byte
 width_word width.Word = Word
 
 -- the size word before a memory operand: NEAR for a jump or call by memory, none for a far one, which has FAR in its
--- name; for others s
+-- name; for any other mnemonic s
 abbrev pub jump_word : Mnemonic → Size → Size
 jump_word op.CallFar s = Absent
 jump_word op.JmpFar s = Absent

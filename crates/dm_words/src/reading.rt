@@ -29,7 +29,7 @@ pub enum Way {
 /// The ways, in the order in which they are tried.
 static WAYS: [Way; 4] = [Way::AsByte, Way::AsWord, Way::AsTarget, Way::AsOne];
 
-/// The operand in the first way, `AsByte`; None in the others.
+/// An operand that can be taken in one way only: the operand itself in the first way, `AsByte`; None in any other way.
 fn first(way: Way, operand: Operand) -> Option<Operand>
     ensures { result ≡ first_way way operand }
 {

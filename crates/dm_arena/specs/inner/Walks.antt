@@ -42,7 +42,7 @@ pub record IsJoining (upper : Bool) (S : Memory) (L : List Header) (e : Entry) (
   pub within : (g : ℕ) → HasHeader K g → HasHeader L g
 
 -- a search of the joined list of L for a header at the place p stands at segment h, with the headers K left: the
--- joined list has one exactly if the rest has one
+-- joined list of L has one exactly if that of K has one
 pub record IsLooking (upper : Bool) (S : Memory) (L : List Header) (p : Place) (h : ℕ) (K : List Header) : Type 0 where
   pub spelled : IsSpelledFrom S h K
   pub forth : Occupies S (join upper L) p → Occupies S (join upper K) p
@@ -55,12 +55,13 @@ pub record IsLookingOutside (S : Memory) (L : List Header) (low high : ℕ) (p :
   pub forth : OccupiesOutside S L low high p → OccupiesOutside S K low high p
   pub back : OccupiesOutside S K low high p → OccupiesOutside S L low high p
 
--- T spells the joined list of L from segment start on, and is S but for its headers
+-- T spells the joined list of L from segment start on, and is S but for the headers of the joined list
 pub record IsJoined (upper : Bool) (S : Memory) (start : ℕ) (L : List Header) (T : Memory) : Type 0 where
   pub spells : Spells T start (join upper L)
   pub differs : DiffersInHeaders S (join upper L) T
 
--- while the list L is joined in place: the headers `done` are written, and those of K are left from segment h on
+-- while the list L is joined in place, from S to T so far: the headers `done` are written, and those of K are left from
+-- segment h on
 pub record IsJoiningAll (upper : Bool) (S : Memory) (start : ℕ) (L : List Header) (T : Memory) (h : ℕ) (done K : List Header) : Type 0 where
   pub rest : Spells T h K
   pub spells : Spells T start (done ++ K)
@@ -93,7 +94,7 @@ abbrev pub better : Bool → Strategy → ℕ → Option Header → Header → O
 better upper strategy n None c = cond (fits upper strategy n c) (Some c) None
 better upper strategy n (Some b) c = cond (fits upper strategy n c && prefers strategy c b) (Some c) (Some b)
 
--- the block that a search takes from L, where `best` is the best of those before; None if no block fits
+-- the block that a search takes from L, where `best` is the best of the blocks before; None if no block fits
 abbrev pub pick : Bool → Strategy → ℕ → Option Header → List Header → Option Header
 pick upper strategy n best [] = best
 pick upper strategy n best (c ∷ L) = pick upper strategy n (better upper strategy n best c) L
@@ -145,7 +146,7 @@ pub record Placing (upper : Bool) (S : Memory) (start : ℕ) (C : List Header) :
   pub fills : Fills block.segment C (next block)
   pub clear : IsClear S (before ++ (C ++ after))
 
--- g is e with the free blocks R, the first of K, taken in; the headers Q are left
+-- while 4Ah makes a block larger: g is e with the free blocks R, the first of K, taken in; the headers Q are left
 pub record IsGrown (upper : Bool) (S : Memory) (e : Entry) (K : List Header) (g : Entry) (R Q : List Header) : Type 0 where
   pub is : K ≡ R ++ Q
   pub free : AllFree upper R
@@ -158,15 +159,16 @@ pub record IsGrowable (S : Memory) (e : Entry) (K : List Header) : Type 0 where
   pub last : e.last ≡ is_nil K
   pub rest : Spells S (next e.header) K
 
--- while an owner's blocks are freed in the list L: those of P are, and the headers K are left from segment h on
+-- while an owner's blocks are freed in the list L, from S to T so far: those of P are, and the headers K are left from
+-- segment h on
 pub record IsReleasing (S : Memory) (start : ℕ) (owner : ℕ) (L : List Header) (T : Memory) (h : ℕ) (P K : List Header) : Type 0 where
   pub rest : Spells T h K
   pub spells : Spells T start (released owner P ++ K)
   pub is : L ≡ P ++ K
   pub differs : DiffersInHeaders S (released owner P) T
 
--- the result of a search for the block that begins at the segment: None if there is none, or if it is the link block;
--- else its entry
+-- the result of a search, for 49h and 4Ah, for the block that begins at the segment: None if there is none, or if it is
+-- the link block; else its entry
 abbrev pub FindsOther : Bool → Memory → ℕ → ℕ → Option Entry → Type 0
 FindsOther upper S start segment None = (L : List Header) → IsSpelledFrom S start L → IsNoBlock upper L segment
 FindsOther upper S start segment (Some e) =

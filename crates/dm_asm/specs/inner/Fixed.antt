@@ -39,7 +39,8 @@ pub record AreFixed (i : Instruction) (words : Words) : Type 0 where
 abbrev pub IsFixed : Item → List ℕ → Type 0
 IsFixed item code = (labels : List Label) (at : ℕ) → Codes labels at item code
 
--- the first n bytes are those of the statement x, which are the same wherever it stands; `rest` are the others
+-- the first n of the kept `bytes` are those of the statement x, which are the same wherever it stands; `rest` are the
+-- kept bytes after them
 pub record IsKnown (x : Sized) (n : ℕ) (bytes rest : List ℕ) : Type 0 where
   pub code : List ℕ
   pub is : IsFixed x.statement.item code
@@ -54,7 +55,7 @@ AreKnown (x ∷ xs) [] bytes = ⊥
 AreKnown (x ∷ xs) (line.Open ∷ ls) bytes = AreKnown xs ls bytes
 AreKnown (x ∷ xs) (line.Known n ∷ ls) bytes = (rest : List ℕ) × IsKnown x n bytes rest × AreKnown xs ls rest
 
--- from old to new, a statement with this item is added to what is kept
+-- from old to new, a statement with this item is added at the end of what is kept, with its bytes or as `Open`
 abbrev pub Keeps : Known → Known → Item → Type 0
 Keeps old new item = (xs : List Sized) (x : Sized) → x.statement.item ≡ item → AreKnown xs old.lines.items old.bytes.items → AreKnown (xs ++ x ∷ []) new.lines.items new.bytes.items
 

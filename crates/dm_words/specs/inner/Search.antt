@@ -19,7 +19,7 @@ use Rattle.dm_words.specs.Words.{word_before, word_written}
 abbrev pub ways : List Way
 ways = AsByte ∷ AsWord ∷ AsTarget ∷ AsOne ∷ []
 
--- an operand that can be taken in one way only: it is taken in the first
+-- an operand that can be taken in one way only: the operand itself in the first way, `AsByte`; None in any other way
 abbrev pub first_way : Way → Operand → Option Operand
 first_way AsByte o = Some o
 first_way _ o = None
@@ -30,12 +30,12 @@ memory_as AsByte a = Some (operand.Memory width.Byte a)
 memory_as AsWord a = Some (operand.Memory width.Word a)
 memory_as _ a = None
 
--- the byte value, if the number can be a byte
+-- the byte value, if the number can be a byte; otherwise None
 abbrev pub byte_as : Option ℕ → Option Operand
 byte_as None = None
 byte_as (Some n) = Some (operand.ByteValue n)
 
--- the word value, if the number can be a word
+-- the word value, if the number can be a word; otherwise None
 abbrev pub word_as : Option ℕ → Option Operand
 word_as None = None
 word_as (Some n) = Some (operand.WordValue n)
