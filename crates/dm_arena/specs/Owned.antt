@@ -15,7 +15,7 @@ use Rattle.dm_arena.specs.Blocks.{cut_low, merge}
 abbrev pub is_link_block : Bool → ℕ → Bool
 is_link_block upper segment = upper && (segment == 0xA000)
 
--- S spells the clear list `list`, in which `block` begins at the segment and isn't the link block
+-- for 49h: S spells the clear list `list`, in which `block` begins at the segment and isn't the link block
 pub record BlockAt (upper : Bool) (S : Memory) (start : ℕ) (segment : ℕ) : Type 0 where
   pub list : List Header
   pub before : List Header

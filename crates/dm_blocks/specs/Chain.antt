@@ -18,7 +18,7 @@ first_header = 0x100
 abbrev pub link_header : ℕ
 link_header = 0x9FFF
 
--- the word at the linear address a, low byte first
+-- the word of a header at the linear address a, low byte first
 abbrev pub word : Memory → ℕ → ℕ
 word S a = peek S a + 256 * peek S (a + 1)
 

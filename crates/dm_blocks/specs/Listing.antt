@@ -36,8 +36,7 @@ pub record Leads (S : Memory) (F : List Header) (start : ℕ) (P : List Header) 
   pub clear : IsClear S (F ++ P)
   pub apart : AreApart F P
 
--- e is the header at segment t after the headers P; with it they still are clear together with F, and share no
--- segment with F
+-- e is the header at segment t after the headers P; P and e are clear together with F, and share no segment with F
 pub record Follows (S : Memory) (F P : List Header) (t : ℕ) (e : Entry) : Type 0 where
   pub at : e.header.segment ≡ t
   pub header : IsHeader S e.header (signature_byte e.last)

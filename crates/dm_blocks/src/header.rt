@@ -65,7 +65,7 @@ impl Entry {
     }
 }
 
-/// The byte at an offset, below 16, of the paragraph at a segment.
+/// The byte of a header at an offset, below 16, of the paragraph at a segment.
 fn byte_of(space: &Space, segment: u16, offset: u16) -> u8
     requires { offset < 16 }
     ensures { result ≡ peek space.now.memory (16 * segment + offset) }
@@ -73,7 +73,7 @@ fn byte_of(space: &Space, segment: u16, offset: u16) -> u8
     space.peek(segment, offset)
 }
 
-/// The word at an offset, below 15, of the paragraph at a segment, low byte first.
+/// The word of a header, low byte first, at an offset, below 15, of the paragraph at a segment.
 fn word_of(space: &Space, segment: u16, offset: u16) -> u16
     requires { offset < 15 }
     ensures word { result ≡ word space.now.memory (16 * segment + offset) }

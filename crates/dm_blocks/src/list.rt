@@ -16,7 +16,8 @@ pub const FIRST: u16 = 0x100;
 /// The segment of the link block's header, from which the second list is spelled.
 pub const LINK: u16 = 0x9FFF;
 
-/// Reads the header at a segment from which memory spells a list.
+/// Reads the header at a segment from which memory spells a list: a step of a walk over a list that is known to be
+/// whole.
 pub fn entry_at(space: &Space, segment: u16) -> Entry
     requires { (L : List Header) × IsSpelledFrom space.now.memory segment L }
     ensures there { result.header.segment ≡ segment }
@@ -29,8 +30,8 @@ pub fn entry_at(space: &Space, segment: u16) -> Entry
     entry
 }
 
-/// Goes on with a walk to its end: returns the walk past its last header; None if the list is
-/// broken.
+/// Goes on with a walk to its end, to tell whether its list is whole and clear: returns the walk past its last header;
+/// None if the list is broken.
 fn tell_all(headers: Headers<'_>) -> Option<Headers<'_>>
     requires { (t : ℕ) × (headers.at ≡ Some t) × (t ≤ 0xFFFF) }
     ensures { HasToldAll headers.entry result }
@@ -68,8 +69,8 @@ pub fn has_second(space: &Space) -> bool
     tell_all(first.walk_second()).is_some()
 }
 
-/// The header whose block begins at a segment, None if the first list has no such block. The
-/// segment is the block's own, not that of its header.
+/// The header whose block begins at a segment, for functions 49h, 4Ah and 31h and for `is_linked`; None if the first
+/// list has no such block. The segment is the block's own, not that of its header.
 pub fn find(space: &Space, segment: u16) -> Option<Entry>
     requires { (L : List Header) × IsSpelledFrom space.now.memory first_header L }
     ensures found { FindsBlock space.now.memory first_header segment result }
@@ -116,8 +117,8 @@ pub fn before_link(space: &Space) -> Option<Entry>
     }
 }
 
-/// Moves a cursor over the first list to the first header at the segment or above, and returns it;
-/// None if there is none, or if the cursor was None.
+/// Moves a cursor over the first list, for a walk over the second, to the first header at the segment or above, and
+/// returns it; None if the first list has no such header, or if the cursor was None.
 pub(crate) fn catch_up(space: &Space, cursor: Option<u16>, segment: u16) -> Option<u16>
     requires { (K : List Header) × AreLeft space.now.memory cursor K }
     ensures { (F : List Header) → IsCursor space.now.memory F cursor segment → IsCursor space.now.memory F result segment × HasCaughtUp result segment }

@@ -63,7 +63,7 @@ pub fn walk(space: &Space) -> Headers<'_>
     }
 }
 
-/// Whether the cursor over the first list stands at a segment; false if it is None.
+/// Whether the cursor over the first list, `beside` of a walk, stands at a segment; false if it is None.
 fn stands_at(cursor: Option<u16>, segment: u16) -> bool
     ensures { MatchBool result (cursor ≡ Some segment) (cursor ≢ Some segment) }
 {
@@ -74,8 +74,8 @@ fn stands_at(cursor: Option<u16>, segment: u16) -> bool
 }
 
 impl<'a> Headers<'a> {
-    /// Returns the next header, or that the list has ended or is destroyed. At the end, and at a
-    /// header that breaks the list, the walk stays and returns the same again.
+    /// Returns the next header, and moves the walk past it; or returns that the list has ended or is destroyed. Then
+    /// the walk stays, and each further step returns the same. The space is only read.
     pub fn advance(&mut self) -> Step
         ensures memory { self.new.memory ≡ self.old.memory }
         ensures second { self.new.second ≡ self.old.second }

@@ -24,7 +24,7 @@ pub(crate) struct Seen {
     marks: [bool; FRAME],
 }
 
-/// Whether a window that shows `shown`, or nothing, shows the block.
+/// Whether a window that shows `shown`, or nothing, shows the block of the pool.
 fn is_shown(shown: Option<Block>, block: Block) -> bool
     ensures { result ≡ Marks.is_shown shown block }
 {
@@ -34,7 +34,7 @@ fn is_shown(shown: Option<Block>, block: Block) -> bool
     }
 }
 
-/// The index of the first window that shows the block; the number of windows if none does.
+/// The index of the first window that shows the block of the pool; the number of windows if none does.
 fn first_showing(windows: &[Option<Block>], block: Block) -> usize
     ensures value { result ≡ Marks.first_showing windows.now block }
     ensures within { result ≤ length windows.now }
@@ -51,7 +51,7 @@ fn first_showing(windows: &[Option<Block>], block: Block) -> usize
     }
 }
 
-/// The index of the mark for a byte of a block: its paragraph in the first window that shows the
+/// The index of the mark for a byte of a block of the pool: the byte's paragraph in the first window that shows the
 /// block. The offset is in bytes.
 fn slot_of(space: &Space, block: Block, offset: usize) -> usize
     ensures { result ≡ Marks.slot space.now.memory block offset }
@@ -82,8 +82,8 @@ impl Seen {
     }
 
     /// Returns true if a header may stand at a segment: memory keeps what is written there, and no
-    /// header met before has the same place. Then its mark is set, if it is in the frame; with
-    /// false nothing changes.
+    /// header met before has the same place. Then the segment's mark is set, if it is in the frame, and the other marks
+    /// stay; with false nothing changes.
     pub(crate) fn admit(&mut self, space: &Space, segment: u16) -> bool
         ensures { Admits space.now.memory segment self.old.marks result self.new.marks }
     {

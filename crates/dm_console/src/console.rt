@@ -36,8 +36,8 @@ impl Console {
         }
     }
 
-    /// Makes the room at least `bytes`; larger room stays. It allocates nothing where the room is
-    /// large enough already.
+    /// Makes the room at least `bytes`; larger room stays, and so do input and output. It allocates nothing where the
+    /// room is large enough already.
     ///
     /// # Errors
     ///
@@ -61,7 +61,7 @@ impl Console {
         self.room
     }
 
-    /// Appends a byte to the output. It uses one byte of the room, and allocates nothing.
+    /// Appends a byte to the output. It uses one byte of the room, and allocates nothing. The input stays.
     pub fn put(&mut self, byte: u8)
         requires { 0 < self.old.room }
         ensures { self.new ≡ record self.old { output = self.old.output ++ byte ∷ []; room = self.old.room - 1 } }
@@ -70,7 +70,8 @@ impl Console {
         self.room -= 1;
     }
 
-    /// Reads the next byte of the input; None at its end. The output stays.
+    /// Takes the next byte from the input, and returns it; None at its end, where nothing changes. Output and room
+    /// stay.
     pub fn next(&mut self) -> Option<u8>
         ensures byte { result ≡ slice_get self.old.input 0 }
         ensures after { self.new ≡ record self.old { input = drop 1 self.old.input } }
@@ -87,8 +88,8 @@ impl Console {
         &self.input.as_slice()[self.taken..]
     }
 
-    /// Skips the next `count` bytes of the input, which has at least that many left. The output
-    /// stays.
+    /// Skips the next `count` bytes of the input, which has at least that many left. Output and room
+    /// stay.
     pub fn consume(&mut self, count: usize)
         requires { count ≤ length self.old.input }
         ensures { self.new ≡ record self.old { input = drop count self.old.input } }

@@ -43,8 +43,8 @@ fn on_nothing(displacement: u16) -> Address
     }
 }
 
-/// The memory operand that the mod and r/m fields name, if they name one, and the bytes after its displacement. None
-/// where bytes of the displacement are missing.
+/// The memory operand that the mod and r/m fields name, if they name one, and the bytes after its displacement; `bytes`
+/// begins after the mod r/m byte. None where bytes of the displacement are missing.
 #[tactic(auto, unfolding(crate::specs::inner::Reading::memory_at))]
 fn memory_of(mode: u8, rm: u8, bytes: &[u8]) -> Option<(Option<Address>, &[u8])>
     requires { rm < 8 }
@@ -68,7 +68,8 @@ fn memory_of(mode: u8, rm: u8, bytes: &[u8]) -> Option<(Option<Address>, &[u8])>
     }
 }
 
-/// The fields of the mod r/m byte with the displacement, and the bytes after them. None where bytes are missing.
+/// The fields of the mod r/m byte that `bytes` begins with, with the displacement, and the bytes after both. None where
+/// bytes are missing.
 #[tactic(auto, unfolding(crate::specs::inner::Reading::fields_at))]
 pub fn fields_of(bytes: &[u8]) -> Option<(Fields, &[u8])>
     ensures reads { seen result ≡ fields_at bytes.now }
@@ -97,8 +98,8 @@ fn place(width: Width, fields: Fields) -> Operand
     }
 }
 
-/// The operand of the kind, where the mod r/m byte has these fields, and the bytes after it. None where bytes are
-/// missing, or where the kind is memory and the fields name a register.
+/// The operand of the kind, where the mod r/m byte has these fields, and the bytes after it; `bytes` begins where the
+/// operand's own bytes would. None where bytes are missing, or where the kind is memory and the fields name a register.
 #[tactic(auto, unfolding(crate::specs::inner::Reading::operand_at))]
 pub fn operand_of(kind: OperandKind, fields: Fields, bytes: &[u8]) -> Option<(Operand, &[u8])>
     requires register { fields.register < 8 }

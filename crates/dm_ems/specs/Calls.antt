@@ -16,7 +16,8 @@ abbrev pub left : {A : Type 0} → Expanded → Result (A × Expanded) Status �
 left x (Ok w) = w.1
 left x (Err e) = x
 
--- f of the value, or the error e where there is none
+-- how a call goes on with a value that it needs, such as a handle's entry: f of the value, or the error e where there
+-- is none
 abbrev pub need : {A B : Type 0} → Option A → Status → (A → Result B Status) → Result B Status
 need None e f = Err e
 need (Some v) e f = f v

@@ -1,5 +1,5 @@
 -- Handles and their pages (LIM EMS 4.0, functions 3, 4, 6, 12 and 13; INT 67h functions 42h, 43h, 45h, 4Bh and 4Ch).
--- Errors are tried in the order in which they are written.
+-- Errors are tried in the order in which they are written; an error changes neither tables nor memory.
 use Rattle.std.specs.Prelude.{ℕ, nat_lt, ◌==◌, is_some, count_by, if◌then◌else◌, Some, None, Result, Ok, Err}
 use Rattle.dm_ems.specs.declared.status.Status.{Status}
 use Rattle.dm_ems.specs.declared.status.Status.TheVariants.{NoPages, NoHandleLeft, OverTotal, OverFree, UnknownHandle, ContextSaved}

@@ -1,5 +1,5 @@
 -- The windows of the frame (LIM EMS 4.0, functions 5, 8 and 9; INT 67h functions 44h, 47h and 48h). Errors are tried
--- in the order in which they are written.
+-- in the order in which they are written; an error changes neither tables nor memory.
 use Rattle.std.specs.Prelude.{ℕ, nat_le, ◌==◌, is_some, if◌then◌else◌, slice_get, Option, Some, None, Result, Ok, Err}
 use Rattle.dm_space.specs.Memory.{with_window}
 use Rattle.dm_ems.specs.declared.status.Status.{Status}
@@ -7,12 +7,12 @@ use Rattle.dm_ems.specs.declared.status.Status.TheVariants.{UnknownHandle, NoSuc
 use Rattle.dm_ems.specs.Tables.{Expanded, blocks_of, with_windows}
 use Rattle.dm_ems.specs.Calls.{need, slot, with_slot, with_memory}
 
--- the window, 0 to 3, shows a block of the pool, or nothing; the tables stay
+-- the window, 0 to 3, shows a block of the pool, or nothing; the other windows, and the tables, stay
 abbrev pub showing : Expanded → ℕ → Option ℕ → Expanded
 showing x window block = with_memory x (with_window x.memory window block)
 
--- 44h: a window shows a logical page of a handle, or nothing with page FFFFh; the tables stay. An error if there is no
--- such handle, window (0 to 3) or page
+-- 44h: a window shows a logical page of a handle, or nothing with page FFFFh; the other windows, and the tables, stay.
+-- An error if there is no such handle, window (0 to 3) or page
 unfoldable pub map_page : Expanded → ℕ → ℕ → ℕ → Result (Unit {0} × Expanded) Status
 map_page x window page handle =
     need (slot x handle) UnknownHandle (λ s.

@@ -1,5 +1,5 @@
 -- Lists of handles, and their names (LIM EMS 4.0, functions 14, 20 and 21; INT 67h functions 4Dh, 53h and 54h).
--- Errors are tried in the order in which they are written.
+-- Errors are tried in the order in which they are written; an error changes neither tables nor memory.
 use Rattle.std.specs.Prelude.{suc, zero, ℕ, ◌/◌, ◌%◌, Bool, false, nat_eq, position, if◌then◌else◌, List, [], ◌∷◌, ◌++◌, slice_set, Option, Some, None, Result, Ok, Err}
 use Rattle.std.specs.Cmp.Lexicographic.{pointwise}
 use Rattle.std.specs.List.{list_any}
@@ -12,11 +12,11 @@ use Rattle.dm_ems.specs.Tables.{Tables, Expanded, page_count, no_name}
 use Rattle.dm_ems.specs.Calls.{need, slot, with_slot, with_memory}
 use Rattle.dm_ems.specs.Handles.{in_use}
 
--- a word as two bytes, low byte first
+-- a word of a list, of the frame or of a map as two bytes, low byte first
 abbrev pub word_bytes : ℕ → List ℕ
 word_bytes w = w % 256 ∷ w / 256 ∷ []
 
--- the lists f 0, f 1 and so on, n of them, one after the other
+-- the entries of handles 0 to n - 1, one after the other: the lists f 0, f 1 and so on, n of them
 abbrev pub in_turn : (ℕ → List ℕ) → ℕ → List ℕ
 in_turn f zero = []
 in_turn f (suc n) = in_turn f n ++ f n
@@ -67,13 +67,14 @@ has_name name (Some s) = pointwise nat_eq s.name name
 unfoldable pub is_name_of_other : Tables → ℕ → List ℕ → Bool
 is_name_of_other ems handle name = if is_no_name name then false else list_any (has_name name) (slice_set ems.handles handle None)
 
--- 53h, AL = 0: the eight bytes of a handle's name are written at segment:offset; an error where it is not in use
+-- 53h, AL = 0: the eight bytes of a handle's name are written at segment:offset; the tables stay. An error where the
+-- handle is not in use
 unfoldable pub get_name : Expanded → ℕ → ℕ → ℕ → Result (Unit {0} × Expanded) Status
 get_name x handle segment offset =
     need (slot x handle) UnknownHandle (λ s. Ok (tt, writing x segment offset s.name))
 
--- 53h, AL = 1: a handle gets the eight bytes at segment:offset as its name, eight zeros for none; memory stays. An
--- error where the handle is not in use, or another has the name
+-- 53h, AL = 1: a handle gets the eight bytes at segment:offset as its name, eight zeros for none; its pages and saved
+-- windows, and memory, stay. An error where the handle is not in use, or another has the name
 unfoldable pub set_name : Expanded → ℕ → ℕ → ℕ → Result (Unit {0} × Expanded) Status
 set_name x handle segment offset =
     need (slot x handle) UnknownHandle (λ s.

@@ -79,7 +79,7 @@ appended x handle (suc n) = appended_page (appended x handle n) handle
 
 -- ---- removing a page
 
--- the memory with these blocks shown by the four windows
+-- the memory with these blocks, or nothing, shown by the four windows; the blocks' bytes stay
 abbrev pub with_windows : Memory → List (Option ℕ) → Memory
 with_windows m windows = record m { windows = windows }
 
@@ -120,6 +120,6 @@ abbrev pub forgotten_all : Expanded → List ℕ → Expanded
 forgotten_all x [] = x
 forgotten_all x (block ∷ blocks) = forgotten_all (forgotten x block) blocks
 
--- a handle keeps its first `count` pages, and the others are removed
+-- a handle, which stays in use, keeps its first `count` pages, and its others are removed as in `forgotten`
 unfoldable pub cut : Expanded → ℕ → ℕ → Expanded
 cut x handle count = forgotten_all x (drop count (blocks_of x.ems handle))

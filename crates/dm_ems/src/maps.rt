@@ -19,7 +19,8 @@ const WINDOWS: u8 = 4;
 const NO_PAGE: u16 = 0xFFFF;
 
 impl Ems {
-    /// 44h: makes a window, 0 to 3, show a logical page of a handle, or nothing with page FFFFh. The tables stay.
+    /// 44h: makes a window, 0 to 3, show a logical page of a handle, or nothing with page FFFFh. The other windows, and
+    /// the tables, stay.
     ///
     /// # Errors
     ///
@@ -56,7 +57,7 @@ impl Ems {
         }
     }
 
-    /// 47h: saves, under a handle, what the four windows show.
+    /// 47h: saves, under a handle, what the four windows show. The windows stay.
     ///
     /// # Errors
     ///

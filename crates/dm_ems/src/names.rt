@@ -16,7 +16,7 @@ use dm_space::Space;
 /// The entries of all 64 handles in a list of handles, as bytes: at most ten for each.
 type Entries = ArrayVec<u8, 640>;
 
-/// Appends a word, low byte first.
+/// Appends a word to an entry of the list, low byte first.
 fn put_word(entries: &mut Entries, value: u16)
     requires { array_vec_len entries.old + 2 ≤ 640 }
     ensures items { entries.new.items ≡ entries.old.items ++ word_bytes value }
@@ -27,7 +27,7 @@ fn put_word(entries: &mut Entries, value: u16)
     entries.push(high);
 }
 
-/// Appends the eight bytes of a name.
+/// Appends the eight bytes of a name to an entry of the list.
 fn put_name(entries: &mut Entries, name: &[u8; 8])
     requires { array_vec_len entries.old + 8 ≤ 640 }
     ensures items { entries.new.items ≡ entries.old.items ++ name.now }
@@ -37,7 +37,7 @@ fn put_name(entries: &mut Entries, name: &[u8; 8])
     let _ = entries.try_extend_from_slice(name);
 }
 
-/// The eight bytes at segment:offset; offsets wrap.
+/// The name that a call gives: the eight bytes at segment:offset; offsets wrap.
 fn name_at(space: &Space, segment: u16, offset: u16) -> [u8; 8]
     ensures { result ≡ eight_after space.now.memory segment offset }
 {
@@ -200,7 +200,8 @@ impl Ems {
         Ok(())
     }
 
-    /// 53h, AL = 1: gives a handle the name that stands at segment:offset; eight zeros remove its name.
+    /// 53h, AL = 1: gives a handle the name that stands at segment:offset; eight zeros remove its name. Its pages and
+    /// saved windows stay.
     ///
     /// # Errors
     ///

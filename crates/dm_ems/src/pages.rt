@@ -33,7 +33,7 @@ fn unmap(space: &mut Space, block: Block)
     set_windows(space, windows);
 }
 
-/// The blocks after the first `count`; none if there are not more.
+/// A handle's blocks after the first `count`, which `cut` removes; none if there are not more.
 fn behind(blocks: &[Block], count: usize) -> &[Block]
     ensures { result.now ≡ drop count blocks.now }
 {
@@ -89,7 +89,7 @@ impl Ems {
     }
 
     /// Removes the pages of a handle after its first `count`: from all windows and all saved windows too, and their
-    /// blocks from the pool.
+    /// blocks from the pool. The handle stays in use, even with no page.
     #[tactic(auto, unfolding(crate::specs::Tables::cut))]
     pub fn cut(&mut self, space: &mut Space, handle: u16, count: usize)
         requires { IsConsistent (expanded self.old space.old.memory) }

@@ -17,7 +17,7 @@ pub struct Holding {
     pub name: [u8; 8],
 }
 
-/// How many of these pages belong to a handle.
+/// How many of these pages belong to a handle: the logical number of its next page.
 fn count_of(pages: &[Page], handle: u16) -> usize
     ensures count { result ≡ count_by (is_of handle) pages.now }
     ensures few { result ≤ length pages.now }

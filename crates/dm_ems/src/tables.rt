@@ -1,5 +1,5 @@
 //! The tables of expanded memory: handles in use, and their pages (LIM EMS 4.0, section 2). A page is a block of the
-//! pool.
+//! pool; functions 45h and 51h remove it, and then no window shows it, saved windows neither.
 
 ghost use Rattle.std.specs.Prelude.{◌≡◌, ◌<◌, ◌≤◌, ◌+◌, ◌^◌, map, slice_index_or, slice_set, slice_get, is_some, count_by, position, is_none, remove, length, IfSome, None, ◌++◌, ◌∷◌, []};
 ghost use Rattle.dm_ems.specs.Tables.{new_tables, blocks_of, page_count, free_handle, unmapped_slot, unmapped, unmapped_saved, is_block};
@@ -166,7 +166,8 @@ impl Ems {
         &self.handles
     }
 
-    /// Sets the entry of a handle, below 64; with None it is no longer in use. Its pages stay.
+    /// Sets the entry of a handle, below 64; with None the handle is no longer in use. Other entries, and all pages,
+    /// stay.
     pub(crate) fn set_slot(&mut self, handle: u16, slot: Option<Handle>)
         requires { handle < 64 }
         ensures { self.new ≡ record self.old { handles = slice_set self.old.handles handle slot } }
@@ -256,7 +257,7 @@ impl Ems {
         first_of(self.pages.as_slice(), block)
     }
 
-    /// Removes the page at an index from the list. Windows, and the block, stay.
+    /// Removes the page at an index from the list of all pages. Windows, saved ones too, and the page's block stay.
     pub(crate) fn remove(&mut self, at: usize)
         requires { at < length self.old.pages }
         ensures { self.new ≡ record self.old { pages = remove self.old.pages at } }
@@ -264,7 +265,7 @@ impl Ems {
         self.pages.remove(at);
     }
 
-    /// Makes the saved windows of all handles no longer show a block.
+    /// Makes the saved windows of all handles no longer show a block. Names and pages stay.
     pub(crate) fn unmap_saved(&mut self, block: Block)
         ensures { self.new ≡ record self.old { handles = map (unmapped_slot block) self.old.handles } }
     {

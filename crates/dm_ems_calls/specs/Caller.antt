@@ -19,7 +19,7 @@ pub record Caller : Type 0 where
 abbrev pub caller : Cpu → Tables → Memory → Caller
 caller cpu ems memory = record { cpu = cpu; x = expanded ems memory }
 
--- the registers with this status in AH
+-- the registers with this status in AH; the others stay
 abbrev pub with_status : Cpu → ℕ → Cpu
 with_status c status = with_byte c Ah status
 
@@ -47,6 +47,7 @@ abbrev pub settled_with_status : {A : Type 0} → Cpu → Result A Status → (A
 settled_with_status cpu (Ok v) set = set v
 settled_with_status cpu (Err e) set = refused cpu e
 
--- the state after a call: registers as in `settled`, and the tables and memory that the call leaves
+-- the state after a call: registers as in `settled`, and the tables and memory that the call leaves, which an error
+-- does not change
 abbrev pub after_call : {A : Type 0} → Caller → Result (A × Expanded) Status → (A → Cpu) → Caller
 after_call c r set = record { cpu = settled c.cpu (answer r) set; x = left c.x r }

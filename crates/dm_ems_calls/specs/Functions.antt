@@ -39,7 +39,7 @@ function_of number =
 unfoldable pub no_function : Cpu → Cpu
 no_function cpu = with_status cpu 0x84
 
--- the state after a call of a function; 40h (Get Status) only sets AH to 0
+-- the registers, tables and memory after a call of a function; 40h (Get Status) only sets AH to 0
 abbrev pub call : Caller → Function → Caller
 call c Status = on_cpu c (succeeded c.cpu)
 call c Frame = on_cpu c (tell_frame c.cpu)
@@ -62,6 +62,6 @@ call c Regions = regions c
 call c Mappable = mappable c
 call c Unknown = on_cpu c (no_function c.cpu)
 
--- the state after INT 67h: after the function that AH selects
+-- the registers, tables and memory after INT 67h: after the function that AH selects
 abbrev pub dispatched : Caller → Caller
 dispatched c = call c (function_of (byte_of c.cpu Ah))

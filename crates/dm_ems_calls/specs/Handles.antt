@@ -40,7 +40,7 @@ list_pages c =
     let told = lists.list_pages c.x c.cpu.es c.cpu.di in
     record { cpu = succeeded (record c.cpu { bx = told.0 }); x = told.1 }
 
--- the status byte of an optional error: 0 if there is none
+-- the status byte of 51h for a handle in use: that of the error, 0 if there is none
 abbrev pub status_of : Option Status → ℕ
 status_of None = 0
 status_of (Some e) = code_of e

@@ -9,7 +9,7 @@ use Rattle.dm_ems_move.specs.Maps as maps
 use Rattle.dm_ems_move.specs.Many as many
 use Rattle.dm_ems_calls.specs.Caller.{Caller, after_call}
 
--- 44h: window AL shows logical page BX of the handle in DX, or nothing for page FFFFh
+-- 44h: window AL shows logical page BX of the handle in DX, or nothing for page FFFFh; the other windows stay
 unfoldable pub map_page : Caller → Caller
 map_page c = after_call c (rows.map_page c.x (byte_of c.cpu Al) c.cpu.bx c.cpu.dx) (λ done. c.cpu)
 
@@ -21,7 +21,7 @@ save_map c = after_call c (rows.save_map c.x c.cpu.dx) (λ done. c.cpu)
 unfoldable pub restore_map : Caller → Caller
 restore_map c = after_call c (rows.restore_map c.x c.cpu.dx) (λ done. c.cpu)
 
--- the registers with a number in AL, if there is one
+-- the registers after 4Eh, but for AH: AL is the size of a map where the call returns it, else all stay
 abbrev pub numbered : Cpu → Option ℕ → Cpu
 numbered cpu None = cpu
 numbered cpu (Some n) = with_byte cpu Al n
@@ -33,6 +33,6 @@ unfoldable pub whole_map : Caller → Caller
 whole_map c = after_call c (maps.whole_map c.x (byte_of c.cpu Al) c.cpu.es c.cpu.di c.cpu.ds c.cpu.si) (numbered c.cpu)
 
 -- 50h: windows show pages of the handle in DX, or nothing, as CX pairs at DS:SI say, which name windows by number
--- (AL = 0) or by segment (AL = 1); status 8Fh for another value of AL
+-- (AL = 0) or by segment (AL = 1); the other windows stay. Status 8Fh for another value of AL
 unfoldable pub map_many : Caller → Caller
 map_many c = after_call c (many.map_many c.x (byte_of c.cpu Al) c.cpu.dx c.cpu.cx c.cpu.ds c.cpu.si) (λ done. c.cpu)

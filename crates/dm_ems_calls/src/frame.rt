@@ -1,4 +1,5 @@
 //! The driver's version and the page frame (LIM EMS 4.0, functions 2, 7 and 25; INT 67h functions 41h, 46h and 58h).
+//! Other registers than those named stay.
 ghost use Rattle.std.specs.Prelude.{◌≡◌};
 ghost use Rattle.dm_ems_calls.specs.Caller.{caller};
 ghost use Rattle.dm_ems_calls.specs.Frame.{tell_frame, tell_version, list_frame, count_windows, mappable};

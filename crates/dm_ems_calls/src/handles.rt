@@ -1,5 +1,6 @@
 //! Handles and their pages (LIM EMS 4.0, functions 3, 4, 6, 12, 13, 14 and 18; INT 67h functions 42h, 43h, 45h, 4Bh
-//! to 4Dh and 51h). Each function sets AH to the status, 0 for success. An error sets AH alone, except in 51h.
+//! to 4Dh and 51h). Each function sets AH to the status, 0 for success; an error sets AH alone, except in 51h, and
+//! leaves tables and memory. Other registers than those named stay.
 ghost use Rattle.std.specs.Prelude.{◌≡◌};
 ghost use Rattle.dm_ems.specs.Tables.{expanded};
 ghost use Rattle.dm_ems.specs.Consistent.{IsConsistent};
@@ -21,7 +22,7 @@ pub(crate) fn tell_pages(cpu: &mut Cpu, ems: &Ems, space: &Space)
     succeed(cpu);
 }
 
-/// 43h: allocates a new handle with BX pages, and sets DX to it.
+/// 43h: allocates a new handle with BX pages of zeros, and sets DX to its number.
 #[tactic(auto, unfolding(crate::specs::Handles::allocate))]
 pub(crate) fn allocate(cpu: &mut Cpu, ems: &mut Ems, space: &mut Space)
     ensures { caller cpu.new ems.new space.new.memory ≡ allocate (caller cpu.old ems.old space.old.memory) }

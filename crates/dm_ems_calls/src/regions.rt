@@ -1,6 +1,6 @@
 //! Regions of memory that are moved or exchanged (LIM EMS 4.0, function 24; INT 67h function 57h); they overlap where
-//! they share a byte of memory or ROM. Each function sets AH to the status, 0 for success; the other registers stay.
-//! The scratch part of the space may be overwritten.
+//! they share a byte of memory or ROM. Each function sets AH to the status, 0 for success; the other registers stay. An
+//! error changes no byte of memory. The scratch part of the space may be overwritten.
 ghost use Rattle.std.specs.Prelude.{◌≡◌};
 ghost use Rattle.dm_ems.specs.Tables.{expanded};
 ghost use Rattle.dm_ems.specs.Consistent.{IsConsistent};
@@ -24,7 +24,8 @@ fn move_region(cpu: &mut Cpu, ems: &Ems, space: &mut Space)
     settle_move(cpu, res);
 }
 
-/// 57h, AL = 1: exchanges the bytes of the two regions that the structure at DS:SI describes; AH is 0 or the error.
+/// 57h, AL = 1: exchanges the bytes of the two regions that the structure at DS:SI describes; AH is 0 or the error,
+/// which is one also where they overlap.
 #[tactic(auto, unfolding(crate::specs::Regions::exchange_region))]
 fn exchange_region(cpu: &mut Cpu, ems: &Ems, space: &mut Space)
     requires { IsConsistent (expanded ems.now space.old.memory) }

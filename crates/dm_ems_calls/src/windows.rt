@@ -1,5 +1,6 @@
 //! The windows of the frame (LIM EMS 4.0, functions 5, 8, 9, 15 and 17; INT 67h functions 44h, 47h, 48h, 4Eh and
-//! 50h). Each function sets AH to the status, 0 for success. An error sets AH alone.
+//! 50h). Each function sets AH to the status, 0 for success; an error sets AH alone, and leaves tables and memory.
+//! Other registers than those named stay.
 ghost use Rattle.std.specs.Prelude.{◌≡◌};
 ghost use Rattle.dm_ems.specs.Tables.{expanded};
 ghost use Rattle.dm_ems.specs.Consistent.{IsConsistent};
@@ -12,7 +13,7 @@ use dm_ems::Ems;
 use dm_ins::ByteRegister;
 use dm_space::Space;
 
-/// 44h: makes window AL show logical page BX of the handle in DX, or nothing for page FFFFh.
+/// 44h: makes window AL show logical page BX of the handle in DX, or nothing for page FFFFh; the other windows stay.
 #[tactic(auto, unfolding(crate::specs::Windows::map_page))]
 pub(crate) fn map_page(cpu: &mut Cpu, ems: &Ems, space: &mut Space)
     requires { IsConsistent (expanded ems.now space.old.memory) }
@@ -55,7 +56,7 @@ pub(crate) fn whole_map(cpu: &mut Cpu, ems: &Ems, space: &mut Space)
 }
 
 /// 50h: makes windows show pages of the handle in DX, or nothing, as CX pairs at DS:SI say, which name windows by
-/// number (AL = 0) or by segment (AL = 1); status 8Fh for another value of AL.
+/// number (AL = 0) or by segment (AL = 1); the other windows stay. Status 8Fh for another value of AL.
 #[tactic(auto, unfolding(crate::specs::Windows::map_many))]
 pub(crate) fn map_many(cpu: &mut Cpu, ems: &Ems, space: &mut Space)
     requires { IsConsistent (expanded ems.now space.old.memory) }

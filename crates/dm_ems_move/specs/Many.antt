@@ -33,7 +33,8 @@ after_pairs m blocks by_segment segment offset (suc n) =
     (paired blocks by_segment (word_after m segment offset (4 * n)) (word_after m segment offset (4 * n + 2)))
 
 -- 50h: windows, named by numbers (mode 0) or by segments (mode 1), show pages of a handle, as `count` pairs at
--- segment:offset say; the tables stay. An error for another mode, a handle that is not in use, or the first bad pair
+-- segment:offset say; a window that no pair names, and the tables, stay. An error, which changes nothing, for another
+-- mode, a handle that is not in use, or the first bad pair
 unfoldable pub map_many : Expanded → ℕ → ℕ → ℕ → ℕ → ℕ → Result (Unit {0} × Expanded) Status
 map_many x mode handle count segment offset =
     if nat_lt 1 mode then Err NoSubfunction else

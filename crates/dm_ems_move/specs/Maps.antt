@@ -33,7 +33,7 @@ map_entries pages (window ∷ windows) = map_entry (numbers pages window) ++ map
 
 -- ---- from bytes to windows
 
--- f of the value; None where there is none
+-- how the reading of a map goes on with a value: f of the value; None where there is none
 abbrev pub when : {A B : Type 0} → Option A → (A → Option B) → Option B
 when None f = None
 when (Some v) f = f v
@@ -68,9 +68,10 @@ showing_all x windows = with_memory x (with_windows x.memory windows)
 abbrev pub with_map : Expanded → ℕ → ℕ → Expanded
 with_map x segment offset = writing x segment offset (map_entries x.ems.pages x.memory.windows)
 
--- 4Eh: mode 0 writes the map at the first address, 1 sets the windows from the map at the second, 2 writes it and then
--- sets them from the second map, which is read before the write, and 3 returns the size of a map in bytes. The tables
--- stay. A map with a bad entry is an error, and another mode
+-- 4Eh: mode 0 writes the map of the windows at the first address, 1 sets the windows from the map at the second, 2
+-- writes at the first and then sets the windows from the second map, which is read before the write, and 3 returns the
+-- size of a map in bytes. The tables stay. A map with a bad entry is an error, and so is another mode; an error changes
+-- nothing
 unfoldable pub whole_map : Expanded → ℕ → ℕ → ℕ → ℕ → ℕ → Result (Option ℕ × Expanded) Status
 whole_map x mode to_segment to_offset from_segment from_offset =
     if mode == 0 then Ok (None, with_map x to_segment to_offset) else

@@ -11,8 +11,8 @@ use Rattle.dm_ems_move.specs.declared.reallocation.Reallocated.{Reallocated}
 abbrev pub reallocated : ℕ → Option Status → Reallocated
 reallocated pages refused = record { pages = pages; refused = refused }
 
--- a handle gets n pages: the ones after the first n are removed, or pages of zeros are added, each as by
--- `appended_page`
+-- a handle gets n pages: those after its first n are removed, from all windows and saved windows too, or pages of zeros
+-- are added after those that it has, each as by `appended_page`
 abbrev pub with_count : Expanded → ℕ → ℕ → Expanded
 with_count x handle n =
     if nat_lt n (page_count x.ems handle) then cut x handle n else appended x handle (n - page_count x.ems handle)

@@ -87,7 +87,7 @@ fn after_pairs(
 
 /// 50h: makes windows show logical pages of a handle: `count` pairs of two words stand at segment:offset, a logical
 /// page (FFFFh for none) and a window, which mode 0 names by its number and mode 1 by its segment. Where pairs name
-/// one window, the last of them counts.
+/// one window, the last of them counts; a window that none names stays.
 ///
 /// # Errors
 ///

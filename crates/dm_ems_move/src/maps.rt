@@ -24,7 +24,7 @@ const NONE: (u16, u16) = (0xFFFF, 0xFFFF);
 /// The bytes of a map.
 type Bytes = ArrayVec<u8, 16>;
 
-/// The index of the page with this block; None if there is none.
+/// The index of the page with this block in the list of all pages; None if no page has it.
 fn place_of(pages: &[Page], block: Block) -> Option<usize>
     ensures first { result ≡ position (is_block block) pages.now }
     ensures there { IfSome result (λ k. k < length pages.now) }
@@ -32,7 +32,7 @@ fn place_of(pages: &[Page], block: Block) -> Option<usize>
     pages.iter().position(|page| page.block == block)
 }
 
-/// How many of these pages belong to a handle.
+/// How many of these pages belong to a handle: the logical number of its next page.
 fn count_of(pages: &[Page], handle: u16) -> usize
     ensures count { result ≡ count_by (is_of handle) pages.now }
     ensures few { result ≤ length pages.now }
@@ -135,9 +135,10 @@ fn write_map(ems: &Ems, space: &mut Space, segment: u16, offset: u16)
 }
 
 /// 4Eh: the map of the frame, sixteen bytes: for each window the handle and the logical page that it shows, two
-/// words, or FFFFh twice where it shows nothing. Mode 0 writes it at the first address, mode 1 makes the windows show
-/// what the map at the second address says, mode 2 reads the second map, writes the first of what the windows show so
-/// far, and then sets them, and mode 3 only returns the size of a map in bytes.
+/// words, or FFFFh twice where it shows nothing. Mode 0 writes the map at the first address, mode 1 makes the windows
+/// show what the map at the second address says, mode 2 reads the map at the second address, writes that of what the
+/// windows show so far at the first, and then sets them as the one read says, and mode 3 only returns the size of a map
+/// in bytes and changes nothing.
 ///
 /// # Errors
 ///

@@ -39,7 +39,8 @@ fn set_double(width: Width, cpu: &mut Cpu, value: u32)
 }
 
 /// Does MUL or IMUL: sets AX to the product of AL and a byte, or DX and AX to that of AX and a word. CF and OF are set
-/// where the upper half is significant, else cleared; the other flags stay.
+/// where the product's upper half is not 0 (MUL) or not all the lower half's sign (IMUL), else cleared; the other flags
+/// stay.
 #[inline(never)]
 #[tactic(auto, unfolding(crate::specs::Products::multiplied))]
 pub(crate) fn multiply(cpu: &mut Cpu, space: &Space, ins: &Ins, sign: Sign)
@@ -55,7 +56,7 @@ pub(crate) fn multiply(cpu: &mut Cpu, space: &Space, ins: &Ins, sign: Sign)
     cpu.flags = flags;
 }
 
-/// Sets AL to a quotient (DIV, IDIV) and AH to its remainder, or AX and DX.
+/// Sets AL to a quotient (DIV, IDIV) and AH to its remainder, or by a word AX and DX. The flags stay.
 #[tactic(auto, unfolding(crate::specs::Products::with_division))]
 fn set_division(width: Width, cpu: &mut Cpu, division: Division)
     requires quotient { division.quotient < size width }

@@ -87,7 +87,7 @@ fn number(width: Width, operand: Operand) -> Option<u8>
     }
 }
 
-/// Whether the widths are the same.
+/// Whether the widths of a row's memory operand and of a given one are the same.
 fn is_as_wide(a: Width, b: Width) -> bool
     ensures { result ≡ same_width a b }
 {
@@ -104,7 +104,8 @@ pub fn has_no_base(base: Base) -> bool
     matches!(base, Base::Direct)
 }
 
-/// The demand for the byte that extends by sign to the word, None if there is no such byte.
+/// The demand for the byte that extends by sign to the word, an immediate or a short jump's displacement; None if there
+/// is no such byte.
 fn signed(n: u16) -> Option<Demand>
     ensures { result ≡ as_signed n }
 {

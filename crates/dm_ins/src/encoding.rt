@@ -37,7 +37,7 @@ fn put_prefixes(out: &mut ArrayVec<u8, 16>, prefixes: Prefixes)
     }
 }
 
-/// Appends the bytes of the action.
+/// Appends the bytes of the action, which come after the prefixes.
 fn append(out: &mut ArrayVec<u8, 16>, bytes: &RowBytes)
     requires { array_vec_len out.old + 12 ≤ 16 }
     ensures { out.new.items ≡ out.old.items ++ bytes.now.items }

@@ -43,7 +43,7 @@ fn rm_field(base: Base) -> u8
     }
 }
 
-/// Appends a word, its low byte first.
+/// Appends a word of a displacement or of an operand, its low byte first.
 fn put_word(out: &mut RowBytes, n: u16)
     requires { array_vec_len out.old + 2 ≤ 12 }
     ensures items { out.new.items ≡ out.old.items ++ word_bytes n }
@@ -148,8 +148,9 @@ fn first_place(a: Option<RegisterOrMemory>, b: Option<RegisterOrMemory>) -> Opti
     }
 }
 
-/// Appends what comes after the first byte: a mod r/m byte with its displacement if there are a reg field and a place,
-/// else the second byte of a row that fixes it, else nothing.
+/// Appends what comes between the first byte and the operands' bytes: a mod r/m byte with its displacement if there are
+/// a reg field (`register`) and a register or memory operand (`place`), else the second byte of a row that fixes it,
+/// else nothing.
 fn put_behind(
     out: &mut RowBytes,
     register: Option<u8>,

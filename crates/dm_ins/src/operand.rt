@@ -188,7 +188,7 @@ pub enum Operand {
     FarTarget(u16, u16),
 }
 
-/// A byte extended by sign to a word.
+/// A byte extended by sign to a word (CBW, displacements, immediate bytes of word operands).
 pub fn extend(byte: u8) -> u16
     ensures { result ≡ sign_extended byte }
 {

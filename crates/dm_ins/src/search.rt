@@ -68,7 +68,7 @@ fn is_before(a: &RowBytes, b: &RowBytes) -> bool
     }
 }
 
-/// Whether the mnemonics are the same.
+/// Whether the mnemonics of a row and of an action are the same.
 fn is_same(a: Mnemonic, b: Mnemonic) -> bool
     ensures { IsTrue result ↔ (a ≡ b) }
 {

@@ -5,11 +5,11 @@ use Rattle.dm_load.specs.declared.format.Kind.{Kind}
 use Rattle.dm_load.specs.declared.format.Kind.TheVariants.{Com, Mz}
 use Rattle.dm_load.specs.declared.format.FarPointer.{FarPointer}
 
--- the little-endian word at offset k
+-- the little-endian word at offset k of a file or an image
 abbrev pub word : List ℕ → ℕ → ℕ
 word bytes k = slice_index bytes k + 256 * slice_index bytes (k + 1)
 
--- the bytes with the little-endian word at offset k set to v
+-- the bytes of an image with the little-endian word at offset k set to v, as a relocation does; the other bytes stay
 abbrev pub with_word : List ℕ → ℕ → ℕ → List ℕ
 with_word bytes k v = slice_set (slice_set bytes k (v % 256)) (k + 1) (v / 256)
 
@@ -99,6 +99,6 @@ relocated_by (suc k) file start =
     let before = relocated_by k file start in
     with_word before (target file k) ((word before (target file k) + start) % 65536)
 
--- the image with all relocations made for the start segment
+-- the image with all relocations made: each adds the segment `start` to its word
 abbrev pub relocated : List ℕ → ℕ → List ℕ
 relocated file start = relocated_by (relocations file) file start

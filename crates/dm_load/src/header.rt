@@ -22,7 +22,8 @@ pub(crate) fn word(bytes: &[u8], at: usize) -> u16
     LittleEndian::read_u16(&bytes[at..])
 }
 
-/// Adds `by` to the little-endian word at an offset, modulo 65,536; the other bytes stay.
+/// Makes a relocation: adds `by` to the little-endian word at an offset of an image, modulo 65,536; the other bytes
+/// stay.
 pub(crate) fn add_to_word(bytes: &mut [u8], at: usize, by: u16)
     requires { at + 2 ≤ length bytes.old }
     ensures { bytes.new ≡ with_word bytes.old at ((Rattle.dm_load.specs.Image.word bytes.old at + by) % 65536) }

@@ -109,7 +109,7 @@ impl<'a> Image<'a> {
         word(self.file, 0x0C)
     }
 
-    /// Fills `bytes` with the image, relocated to a start segment: each relocation, in the order of
+    /// Fills `bytes` with the image, relocated by the segment `start`: each relocation, in the order of
     /// the table, adds the segment to a word, modulo 65,536. The slice has the length of the image,
     /// or 110000h bytes if the image is longer: no relocation changes a word after these.
     pub fn relocated(&self, start: u16, bytes: &mut [u8])

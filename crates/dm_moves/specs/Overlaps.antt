@@ -26,7 +26,7 @@ abbrev pub any_below : ℕ → (ℕ → Bool) → Bool
 any_below zero f = false
 any_below (suc n) f = any_below n f || f n
 
--- f holds for some number below n with some number below l
+-- f holds for some number below n with some number below l, such as those of bytes of two spans
 abbrev pub any_two : ℕ → ℕ → (ℕ → ℕ → Bool) → Bool
 any_two n l f = any_below n (λ i. any_below l (f i))
 

@@ -19,7 +19,7 @@ pub(crate) fn run_len(at: usize, left: usize) -> usize
 }
 
 /// Copies `len` bytes of a span, from its byte `k` on, into the scratch bytes from `at` on. The bytes lie between two
-/// multiples of 4000h. The memory stays.
+/// multiples of 4000h. The memory and the other scratch bytes stay.
 fn read_run(space: &mut Space, span: &Span, k: usize, at: usize, len: usize)
     requires inside { IsInside space.old.memory span.now (k + len) }
     requires some { 0 < len }
@@ -54,7 +54,8 @@ fn write_run(space: &mut Space, span: &Span, k: usize, at: usize, len: usize)
     }
 }
 
-/// Copies the first `len` bytes of a span into the scratch bytes from `at` on. The memory stays.
+/// Copies the first `len` bytes of a span into the scratch bytes from `at` on. The memory and the other scratch bytes
+/// stay.
 fn read(space: &mut Space, span: &Span, at: usize, len: usize)
     requires inside { IsInside space.old.memory span.now len }
     requires scratch { at + len ≤ 0x200000 }
@@ -116,8 +117,8 @@ pub fn move_blocks(space: &mut Space, from: &Span, to: &Span, len: usize)
     space.move_bytes(source, from.at(0), destination, to.at(0), len);
 }
 
-/// Exchanges the first `len` bytes of two spans (INT 67h function 57h, AL = 1): those of both are read into the scratch
-/// bytes, and then each is written upwards where the other was, to `to` first. What is written to ROM, or where there
+/// Exchanges the first `len` bytes of two spans (INT 67h function 57h, AL = 1): the bytes of both are read into the
+/// scratch bytes, and then written upwards to the other span, to `to` first. What is written to ROM, or where there
 /// is no memory, is lost. Nothing is promised of the scratch bytes afterwards.
 pub fn exchange_bytes(space: &mut Space, from: &Span, to: &Span, len: usize)
     requires from { IsInside space.old.memory from.now len }

@@ -1,5 +1,5 @@
 -- Extended memory blocks (XMS 3.0, functions 08h to 0Ah and 0Ch to 0Fh). Errors are tried in the order in which they
--- are written. A block of n KiB is a block of n units of the pool.
+-- are written; an error changes nothing. A block of n KiB is a block of n units of the pool.
 use Rattle.std.specs.Prelude.{ℕ, ◌+◌, ◌-◌, ◌*◌, min, nat_lt, ◌==◌, is_none, count_by, position, get_or, if◌then◌else◌, Option, Some, None, Result, Ok, Err}
 use Rattle.dm_pool.specs.declared.extent.Extent.{Extent}
 use Rattle.dm_pool.specs.Blocks.{Blocks, taken, without, resized}
@@ -25,7 +25,7 @@ all_free x = free_units (gaps x.memory.blocks.places x.memory.blocks.units)
 unfoldable pub free_memory : Extended → Result FreeMemory Status
 free_memory x = if largest_gap x == 0 then Err NoMemory else Ok (record { largest = min 0xFFFF (largest_gap x); total = min 0xFFFF (all_free x) })
 
--- the state with other tables and with other blocks in the pool
+-- the state with other tables and with other blocks in the pool; RAM, windows and A20 stay
 abbrev pub leaving : Extended → Tables → Blocks → Extended
 leaving x xms blocks = record { xms = xms; memory = with_blocks x.memory blocks }
 

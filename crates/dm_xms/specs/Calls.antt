@@ -15,7 +15,8 @@ abbrev pub left : {A S E : Type 0} → S → Result (A × S) E → S
 left x (Ok w) = w.1
 left x (Err e) = x
 
--- f of the value, or the error e where there is none
+-- how a call goes on with a value that it needs, such as a handle's entry: f of the value, or the error e where there
+-- is none
 abbrev pub need : {A B E : Type 0} → Option A → E → (A → Result B E) → Result B E
 need None e f = Err e
 need (Some v) e f = f v
@@ -25,6 +26,7 @@ need (Some v) e f = f v
 abbrev pub slot : Tables → ℕ → Option Handle
 slot xms handle = if handle == 0 then None else slice_index_or xms.handles (handle - 1) None
 
--- the tables with another entry for this handle, which is 1 to 64; None if it is no longer in use
+-- the tables with another entry for this handle, which is 1 to 64; None if it is no longer in use. The other entries
+-- stay
 abbrev pub with_slot : Tables → ℕ → Option Handle → Tables
 with_slot xms handle s = record xms { handles = slice_set xms.handles (handle - 1) s }

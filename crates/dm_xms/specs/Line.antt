@@ -10,7 +10,8 @@ use Rattle.dm_xms.specs.Tables.{Extended}
 abbrev pub is_on : Bool → ℕ → Bool
 is_on global local = global || not (local == 0)
 
--- the state with this global switch and local count, and A20 on or off as they say; the rest stays
+-- the state with this global switch and local count, and A20 on or off as they say; the other tables, and all other of
+-- memory, stay
 abbrev pub switched : Extended → Bool → ℕ → Extended
 switched x global local = record { xms = record x.xms { global = global; local = local }; memory = with_a20 x.memory (is_on global local) }
 
@@ -18,7 +19,7 @@ switched x global local = record { xms = record x.xms { global = global; local =
 unfoldable pub enable_globally : Extended → Extended
 enable_globally x = switched x true x.xms.local
 
--- 04h: the global switch is turned off. An error if the local count keeps A20 on, though the switch is off
+-- 04h: the global switch is turned off, and A20 too if the local count is 0; else an error, though the switch is off
 unfoldable pub disable_globally : Extended → (Result (Unit {0}) Status × Extended)
 disable_globally x = (if x.xms.local == 0 then Ok tt else Err LineStillOn, switched x false x.xms.local)
 
@@ -26,8 +27,8 @@ disable_globally x = (if x.xms.local == 0 then Ok tt else Err LineStillOn, switc
 unfoldable pub enable_locally : Extended → Result (Unit {0} × Extended) Status
 enable_locally x = if x.xms.local == 0xFFFF then Err LineError else Ok (tt, switched x x.xms.global (x.xms.local + 1))
 
--- 06h: the local count goes down by one; at 0 an error, and nothing changes. An error too if A20 stays on, though the
--- count has changed
+-- 06h: the local count goes down by one, and A20 is off if the count is then 0 and the global switch is off; else an
+-- error, though the count has changed. At 0 an error, and nothing changes
 unfoldable pub disable_locally : Extended → (Result (Unit {0}) Status × Extended)
 disable_locally x =
     if x.xms.local == 0 then (Err LineError, x) else

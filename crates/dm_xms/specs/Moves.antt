@@ -1,5 +1,5 @@
--- Moves of extended memory (XMS 3.0, function 0Bh). Errors are tried in the order in which they are written. A side
--- is the source or the destination.
+-- Moves of extended memory (XMS 3.0, function 0Bh). Errors are tried in the order in which they are written; an error
+-- changes nothing. A side is the source or the destination.
 use Rattle.std.specs.Prelude.{ℕ, ◌+◌, ◌*◌, ◌/◌, ◌%◌, nat_lt, ◌==◌, ◌||◌, if◌then◌else◌, [], ◌∷◌, Result, Ok, Err}
 use Rattle.dm_space.specs.Memory.{Memory}
 use Rattle.dm_moves.specs.Buffers.{word_after}
@@ -18,7 +18,7 @@ abbrev pub and_then : {A B E : Type 0} → Result A E → (A → Result B E) →
 and_then (Ok v) f = f v
 and_then (Err e) f = Err e
 
--- the double word k bytes after segment:offset; offsets wrap
+-- the double word of a move's structure that stands k bytes after segment:offset; offsets wrap
 abbrev pub double_after : Memory → ℕ → ℕ → ℕ → ℕ
 double_after m segment offset k = word_after m segment offset k + 65536 * word_after m segment offset (k + 2)
 

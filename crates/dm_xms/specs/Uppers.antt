@@ -1,5 +1,5 @@
 -- Upper memory blocks (XMS 3.0, functions 10h to 12h): paragraphs from segment D000h to DFFFh. They lie in RAM, not
--- in the pool, and have no headers in memory.
+-- in the pool, and have no headers in memory: a call changes their table alone, and one that fails not even that.
 use Rattle.std.specs.Prelude.{ℕ, ◌+◌, ◌-◌, max, Bool, nat_lt, ◌==◌, ◌||◌, if◌then◌else◌, List, length, map, position, count_by, insert, remove, slice_get, slice_set, Option, Some, None, Result, Ok, Err}
 use Rattle.dm_pool.specs.declared.extent.Extent.{Extent}
 use Rattle.dm_pool.specs.Gaps.{gaps, largest, lowest}
@@ -17,7 +17,7 @@ first_segment = 0xD000
 abbrev pub all_paragraphs : ℕ
 all_paragraphs = 0x1000
 
--- the number of paragraphs, where 0 counts as 1
+-- the number of paragraphs that 10h or 12h asks for, where 0 counts as 1
 abbrev pub at_least_one : ℕ → ℕ
 at_least_one n = max 1 n
 
@@ -75,7 +75,7 @@ release_upper xms segment =
     need (position (begins_at segment) xms.uppers) refusal.Unknown (λ k.
     Ok (tt, with_uppers xms (remove xms.uppers k)))
 
--- the segment where the next block begins; E000h, the end of upper memory, if there is none
+-- the segment where the block after one that 12h resizes begins; E000h, the end of upper memory, if there is none
 abbrev pub begin_or_end : Option Upper → ℕ
 begin_or_end None = first_segment + all_paragraphs
 begin_or_end (Some u) = u.segment

@@ -38,7 +38,7 @@ impl Xms {
         self.switch(space, true, local);
     }
 
-    /// 04h: turns the global switch off.
+    /// 04h: turns the global switch off, and A20 too if the local count is 0.
     ///
     /// # Errors
     ///

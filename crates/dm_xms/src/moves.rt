@@ -42,7 +42,7 @@ pub struct Side {
     pub end: usize,
 }
 
-/// The double word `places` bytes after segment:offset; offsets wrap.
+/// The double word of a move's structure that stands `places` bytes after segment:offset; offsets wrap.
 fn double_after(space: &Space, segment: u16, offset: u16, places: usize) -> u32
     requires { places < 0x1000 }
     ensures { result ≡ double_after space.now.memory segment offset places }

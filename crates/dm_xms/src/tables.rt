@@ -98,7 +98,7 @@ impl Xms {
         if at < HANDLES { self.handles[at] } else { None }
     }
 
-    /// Sets the entry of a handle, 1 to 64; with None it is no longer in use. The pool stays.
+    /// Sets the entry of a handle, 1 to 64; with None the handle is no longer in use. Other entries stay.
     pub(crate) fn set_handle(&mut self, handle: u16, slot: Option<Handle>)
         requires { (0 < handle) × (handle - 1 < 64) }
         ensures { self.new ≡ record self.old { handles = slice_set self.old.handles (handle - 1) slot } }

@@ -89,7 +89,7 @@ fn lowest_from(from: u16, uppers: &[Upper], paragraphs: u16) -> Option<u16>
     }
 }
 
-/// The number of blocks that begin below a segment.
+/// The number of blocks that begin below a segment: the index in the table at which 10h inserts a block there.
 fn count_below(uppers: &[Upper], segment: u16) -> usize
     ensures count { result ≡ count_by (is_below segment) uppers.now }
     ensures few { result ≤ length uppers.now }
@@ -100,7 +100,7 @@ fn count_below(uppers: &[Upper], segment: u16) -> usize
         .count()
 }
 
-/// The index of the block that begins at a segment; None if none does.
+/// The index of the block that begins at a segment, for 11h and 12h; None if none does.
 fn first_at(uppers: &[Upper], segment: u16) -> Option<usize>
     ensures first { result ≡ position (begins_at segment) uppers.now }
     ensures there { IfSome result (λ k. k < length uppers.now) }
@@ -108,7 +108,7 @@ fn first_at(uppers: &[Upper], segment: u16) -> Option<usize>
     uppers.iter().position(|upper| upper.segment == segment)
 }
 
-/// Replaces the block at an index; the others stay.
+/// Replaces the block at an index, as 12h resizes it; the other blocks stay.
 fn set_at(uppers: &mut ArrayVec<Upper, 64>, at: usize, upper: Upper)
     requires { at < length uppers.old.items }
     ensures { uppers.new.items ≡ slice_set uppers.old.items at upper }
@@ -187,7 +187,8 @@ impl Xms {
         Ok(())
     }
 
-    /// The segment where the block after block `at` of upper memory begins; the end of upper memory if there is none.
+    /// The segment where the block after block `at` of upper memory begins, up to which 12h can make block `at` larger;
+    /// the end of upper memory if there is none.
     fn end_of_room(&self, at: usize) -> u16
         requires { at < length self.now.uppers }
         ensures { result ≡ begin_or_end (slice_get self.now.uppers (at + 1)) }

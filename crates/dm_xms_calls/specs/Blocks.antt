@@ -1,5 +1,6 @@
 -- Extended memory blocks (XMS 3.0, functions 08h to 0Fh). Success sets AX to 1, except in 08h. An error sets AX to 0
--- and BL to its code, in 08h also DX to 0; then the other registers, the tables and memory stay.
+-- and BL to its code, in 08h also DX to 0; after an error the other registers, the tables and memory stay, after
+-- success the registers that are not named.
 use Rattle.std.specs.Prelude.{ℕ, ◌+◌, ◌*◌, ◌/◌, ◌%◌, Result, Ok, Err}
 use Rattle.dm_ins.specs.declared.operand.ByteRegister.TheVariants.{Bl}
 use Rattle.dm_cpu.specs.declared.cpu.Cpu.{Cpu}
@@ -23,7 +24,7 @@ with_free cpu (Err e) = with_byte (record cpu { ax = 0; dx = 0 }) Bl (code_of e)
 unfoldable pub tell_free : Caller → Caller
 tell_free c = on_cpu c (with_free c.cpu (rows.free_memory c.x))
 
--- 09h: a new block of DX KiB is allocated, and DX becomes its handle
+-- 09h: a new block of DX KiB, all zeros, is allocated, and DX becomes its handle
 unfoldable pub allocate : Caller → Caller
 allocate c = after_call c (rows.allocate c.x c.cpu.dx) (λ handle. record c.cpu { dx = handle })
 
@@ -35,7 +36,7 @@ deallocate c = after_call c (rows.deallocate c.x c.cpu.dx) (λ done. c.cpu)
 unfoldable pub move_memory : Caller → Caller
 move_memory c = after_call c (moves.move_memory c.x c.cpu.ds c.cpu.si) (λ done. c.cpu)
 
--- the registers with a linear address in DX:BX, its high word in DX
+-- the registers with a linear address in DX:BX, its high word in DX, as 0Ch returns it; the others stay
 abbrev pub with_address : Cpu → ℕ → Cpu
 with_address cpu address = record cpu { dx = address / 65536 % 65536; bx = address % 65536 }
 
@@ -58,6 +59,7 @@ with_information cpu i = record cpu { bx = i.locks * 256 + i.free; dx = i.kib }
 unfoldable pub tell_information : Caller → Caller
 tell_information c = on_cpu c (settled c.cpu (rows.information c.x.xms c.cpu.dx) (with_information c.cpu))
 
--- 0Fh: the size of the block of the handle in DX becomes BX KiB
+-- 0Fh: the size of the block of the handle in DX becomes BX KiB; the block may move, its bytes up to the smaller size
+-- stay
 unfoldable pub reallocate : Caller → Caller
 reallocate c = after_call c (rows.reallocate c.x c.cpu.dx c.cpu.bx) (λ done. c.cpu)

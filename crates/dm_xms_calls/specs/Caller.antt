@@ -37,7 +37,8 @@ abbrev pub settled : {A : Type 0} → Cpu → Result A Status → (A → Cpu) �
 settled cpu (Ok v) set = succeeded (set v)
 settled cpu (Err e) set = refused cpu (code_of e)
 
--- the state after a call: registers as in `settled`, and the tables and memory that the call leaves
+-- the state after a call: registers as in `settled`, and the tables and memory that the call leaves, which an error
+-- does not change
 abbrev pub after_call : {A : Type 0} → Caller → Result (A × Extended) Status → (A → Cpu) → Caller
 after_call c r set = record { cpu = settled c.cpu (answer r) set; x = left c.x r }
 

@@ -38,7 +38,8 @@ function_of number =
 unfoldable pub no_function : Cpu → Cpu
 no_function cpu = refused cpu 0x80
 
--- the state after a call of a function. `upper` is whether upper memory belongs to the arena of DOS
+-- the registers, tables and memory after a call of a function. `upper` is whether upper memory belongs to the arena of
+-- DOS
 abbrev pub call : Bool → Caller → Function → Caller
 call upper c Version = on_cpu c (tell_version c.cpu)
 call upper c TakeArea = take_area c
@@ -61,6 +62,6 @@ call upper c ReleaseUpper = uppers.release upper c
 call upper c ResizeUpper = uppers.resize upper c
 call upper c Unknown = on_cpu c (no_function c.cpu)
 
--- the state after a call of the driver: after the function that AH selects
+-- the registers, tables and memory after a call of the driver: after the function that AH selects
 abbrev pub dispatched : Bool → Caller → Caller
 dispatched upper c = call upper c (function_of (byte_of c.cpu Ah))

@@ -1,6 +1,6 @@
 -- Upper memory blocks (XMS 3.0, functions 10h to 12h). Success sets AX to 1; an error sets AX to 0 and BL to its code.
 -- Where upper memory belongs to the arena of DOS (`upper`), the driver has none: 10h fails with B1h and sets DX to 0,
--- 11h and 12h fail with B2h.
+-- 11h and 12h fail with B2h. Registers that are not named stay; so does memory, and after an error so do the tables.
 use Rattle.std.specs.Prelude.{Bool, if◌then◌else◌, Result, Ok, Err}
 use Rattle.dm_cpu.specs.declared.cpu.Cpu.{Cpu}
 use Rattle.dm_xms.specs.declared.tables.Upper.{Upper}

@@ -1,4 +1,4 @@
-//! The driver's version and the high memory area (XMS 3.0, functions 00h to 02h).
+//! The driver's version and the high memory area (XMS 3.0, functions 00h to 02h). Registers that are not named stay.
 ghost use Rattle.std.specs.Prelude.{◌≡◌};
 ghost use Rattle.dm_xms_calls.specs.Caller.{caller};
 ghost use Rattle.dm_xms_calls.specs.Area.{tell_version, take_area, release_area};

@@ -1,5 +1,5 @@
 //! Address line A20 (XMS 3.0, functions 03h to 07h). Functions 03h to 06h set AX to 1, or after an error AX to 0 and BL
-//! to its code.
+//! to its code. The other registers stay.
 ghost use Rattle.std.specs.Prelude.{◌≡◌};
 ghost use Rattle.dm_xms_calls.specs.Caller.{caller};
 ghost use Rattle.dm_xms_calls.specs.Line.{enable_globally, disable_globally, enable_locally, disable_locally, tell_line};

@@ -51,7 +51,7 @@ abbrev pub is_direct : Base → Bool
 is_direct Direct = true
 is_direct _ = false
 
--- the widths are the same
+-- the widths of a row's memory operand and of a given one are the same
 abbrev pub same_width : Width → Width → Bool
 same_width Byte Byte = true
 same_width Word Word = true
@@ -75,7 +75,8 @@ asks_register n = record { register = Some n; place = None; tail = data_is.Nothi
 abbrev pub asks_place : RegisterOrMemory → Demand
 asks_place p = record { register = None; place = Some p; tail = data_is.Nothing }
 
--- the demand of a word that is a byte extended by sign: this byte; None for another word
+-- the demand of a word, an immediate or a short jump's displacement, that is a byte extended by sign: this byte; None
+-- for another word
 abbrev pub as_signed : ℕ → Option Demand
 as_signed n = if sign_extended (n % 256) == n then Some (asks_data (data_is.Byte (n % 256))) else None
 
@@ -142,7 +143,7 @@ unfoldable pub fields_bytes : ℕ → RegisterOrMemory → List ℕ
 fields_bytes r (place.Register n) = (192 + (8 * r + n)) ∷ []
 fields_bytes r (place.Memory a) = memory_bytes r a
 
--- the first value if there is one, else the second
+-- the first value if there is one, else the second (of reg fields, and of register or memory operands)
 abbrev pub either : {A : Type 0} → Option A → Option A → Option A
 either None b = b
 either (Some x) b = Some x
@@ -152,8 +153,8 @@ abbrev pub second_bytes : Option ℕ → List ℕ
 second_bytes None = []
 second_bytes (Some c) = c ∷ []
 
--- the bytes between the first one and the data: the mod r/m byte and its displacement if both fields are asked for,
--- else the second byte of a row that fixes it, else none
+-- the bytes between the first one and the operands' own: the mod r/m byte and its displacement if a reg field and a
+-- register or memory operand are asked for, else the second byte of a row that fixes it, else none
 abbrev pub behind_bytes : Option ℕ → Option RegisterOrMemory → Option ℕ → List ℕ
 behind_bytes (Some r) (Some p) c = fields_bytes r p
 behind_bytes (Some r) None c = second_bytes c
