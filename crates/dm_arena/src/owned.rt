@@ -82,8 +82,8 @@ fn grow(space: &Space, entry: Entry, upper: bool) -> Entry
 /// 4Ah and 31h).
 ///
 /// The block first takes in the run of free blocks after it, then it is cut to n as by first fit: the low end keeps its
-/// owner, what is left is free. Bytes 0 to 4 of its header and of the free part's are all that changes. `upper` says
-/// whether upper memory belongs to the arena.
+/// owner, what is left is free. Bytes 0 to 4 of the block's header and of the free part's are all that changes. `upper`
+/// says whether upper memory belongs to the arena.
 ///
 /// # Errors
 ///

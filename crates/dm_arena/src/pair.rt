@@ -125,9 +125,8 @@ fn are_clear(space: &Space, first: Cut, second: Cut, upper: bool) -> bool
 /// `most` paragraphs and the largest free block. Nothing is written.
 ///
 /// Both blocks are chosen by the strategy, as by an allocation of each in turn, once runs of free blocks are joined.
-/// `upper`
-/// says whether upper memory belongs to the arena: then the strategy's area counts where the list is linked, for the
-/// second block also where the first one makes the link block's header.
+/// `upper` says whether upper memory belongs to the arena: then the strategy's area counts where the list is linked,
+/// for the second block also where the first one makes the link block's header.
 ///
 /// # Errors
 ///

@@ -150,8 +150,8 @@ pub(crate) fn may_split(
 }
 
 /// Whether the header `new`, if there is one, may stand beside the headers of the list from segment
-/// `first` on whose segments are at most `low` or at least `high`; the headers between are part of the resized block
-/// (4Ah and 31h).
+/// `first` on whose segments are at most `low` or at least `high`; the headers between are those of the free blocks
+/// that the resized block takes in (4Ah and 31h).
 pub(crate) fn may_split_outside(
     space: &Space,
     first: u16,

@@ -1,5 +1,5 @@
 //! The tables of expanded memory: handles in use, and their pages (LIM EMS 4.0, section 2). A page is a block of the
-//! pool; functions 45h and 51h remove it, and then no window shows it, saved windows neither.
+//! pool; functions 45h and 51h remove it, and then no window shows it, not even a saved one.
 
 ghost use Rattle.std.specs.Prelude.{◌≡◌, ◌<◌, ◌≤◌, ◌+◌, ◌^◌, map, slice_index_or, slice_set, slice_get, is_some, count_by, position, is_none, remove, length, IfSome, None, ◌++◌, ◌∷◌, []};
 ghost use Rattle.dm_ems.specs.Tables.{new_tables, blocks_of, page_count, free_handle, unmapped_slot, unmapped, unmapped_saved, is_block};

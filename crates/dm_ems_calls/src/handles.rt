@@ -1,6 +1,6 @@
 //! Handles and their pages (LIM EMS 4.0, functions 3, 4, 6, 12, 13, 14 and 18; INT 67h functions 42h, 43h, 45h, 4Bh
 //! to 4Dh and 51h). Each function sets AH to the status, 0 for success; an error sets AH alone, except in 51h, and
-//! leaves tables and memory. Other registers than those named stay.
+//! leaves tables and memory as they are. Other registers than those named stay.
 ghost use Rattle.std.specs.Prelude.{◌≡◌};
 ghost use Rattle.dm_ems.specs.Tables.{expanded};
 ghost use Rattle.dm_ems.specs.Consistent.{IsConsistent};

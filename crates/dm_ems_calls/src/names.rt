@@ -1,6 +1,6 @@
 //! The names of handles (LIM EMS 4.0, functions 20 and 21; INT 67h functions 53h and 54h). AL selects the subfunction;
-//! each sets AH to the status, 0 for success; an error sets AH alone, and leaves tables and memory. Other registers
-//! than those named stay.
+//! each sets AH to the status, 0 for success; an error sets AH alone, and leaves tables and memory as they are. Other
+//! registers than those named stay.
 ghost use Rattle.std.specs.Prelude.{◌≡◌};
 ghost use Rattle.dm_ems_calls.specs.Caller.{caller};
 ghost use Rattle.dm_ems_calls.specs.Names.{get_name, set_name, handle_name, list_names, find_name, tell_handles, directory};

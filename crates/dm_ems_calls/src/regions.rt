@@ -24,8 +24,8 @@ fn move_region(cpu: &mut Cpu, ems: &Ems, space: &mut Space)
     settle_move(cpu, res);
 }
 
-/// 57h, AL = 1: exchanges the bytes of the two regions that the structure at DS:SI describes; AH is 0 or the error,
-/// which is one also where they overlap.
+/// 57h, AL = 1: exchanges the bytes of the two regions that the structure at DS:SI describes; AH is 0 or the error, and
+/// regions that overlap are one.
 #[tactic(auto, unfolding(crate::specs::Regions::exchange_region))]
 fn exchange_region(cpu: &mut Cpu, ems: &Ems, space: &mut Space)
     requires { IsConsistent (expanded ems.now space.old.memory) }

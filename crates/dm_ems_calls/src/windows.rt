@@ -1,6 +1,6 @@
 //! The windows of the frame (LIM EMS 4.0, functions 5, 8, 9, 15 and 17; INT 67h functions 44h, 47h, 48h, 4Eh and
-//! 50h). Each function sets AH to the status, 0 for success; an error sets AH alone, and leaves tables and memory.
-//! Other registers than those named stay.
+//! 50h). Each function sets AH to the status, 0 for success; an error sets AH alone, and leaves tables and memory as
+//! they are. Other registers than those named stay.
 ghost use Rattle.std.specs.Prelude.{◌≡◌};
 ghost use Rattle.dm_ems.specs.Tables.{expanded};
 ghost use Rattle.dm_ems.specs.Consistent.{IsConsistent};

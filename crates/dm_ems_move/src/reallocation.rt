@@ -41,10 +41,9 @@ fn append_pages(ems: &mut Ems, space: &mut Space, handle: u16, count: u16)
 
 /// 51h: gives a handle `count` pages in all, 0 included. Its first pages stay; those after `count` are freed and leave
 /// all windows and all saved windows; new pages follow those that it has, and are zeros. Only if the pool has no number
-/// left the
-/// handle gets fewer, and the result says `count` all the same; in a machine it has one (`pages_come`). Where there are
-/// not enough pages (`OverTotal`, `OverFree`, in this order), nothing has changed, and the result has the number of
-/// pages as it is, and the error.
+/// left the handle gets fewer, and the result says `count` all the same; in a machine the pool has one (`pages_come`).
+/// Where there are not enough pages (`OverTotal`, `OverFree`, in this order), nothing has changed, and the result has
+/// the number of pages as it is, and the error.
 ///
 /// # Errors
 ///

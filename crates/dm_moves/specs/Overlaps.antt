@@ -21,7 +21,7 @@ is_shared (Rom a) (Rom b) = a == b
 is_shared (Rom a) Nothing = false
 is_shared Nothing q = false
 
--- f holds for some number below n
+-- f holds for some number below n, such as that of a byte of a span
 abbrev pub any_below : ℕ → (ℕ → Bool) → Bool
 any_below zero f = false
 any_below (suc n) f = any_below n f || f n

@@ -12,11 +12,11 @@ pub record Blocks : Type 0 where
   -- by number, its bytes
   pub contents : List (List ℕ)
 
--- the pool with a block of number i at the place b, with the bytes xs
+-- the pool with a block of number i at the place b, with the bytes xs; the other blocks stay
 abbrev pub with_block : Blocks → ℕ → Extent → List ℕ → Blocks
 with_block s i b xs = record { units = s.units; places = set s.places i (Some b); contents = set s.contents i xs }
 
--- the pool with xs as the bytes of block i
+-- the pool with xs as the bytes of block i; the places, and the bytes of the other blocks, stay
 abbrev pub with_content : Blocks → ℕ → List ℕ → Blocks
 with_content s i xs = record s { contents = set s.contents i xs }
 
@@ -101,7 +101,7 @@ abbrev pub resized : Blocks → ℕ → ℕ → Option Blocks
 resized s i u = resized_from s i u (get_or s.places i None)
 
 -- the pool with `len` bytes of block i, from its byte `from` on, copied over those of block j from its byte `to` on; i
--- and j may be one block
+-- and j may be one block (Store.move_bytes)
 abbrev pub moved_bytes : Blocks → ℕ → ℕ → ℕ → ℕ → ℕ → Blocks
 moved_bytes s i from j to len = with_content s j (with_part (get_or s.contents j []) to len (part (get_or s.contents i []) from len))
 

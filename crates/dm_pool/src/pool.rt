@@ -46,8 +46,9 @@ fn retell(table: &mut Table, bytes: &mut [u8])
 }
 
 /// Takes a block of `units` units, all zeros, in the lowest gap that holds them, or at unit 0 for no unit: enters it
-/// into the table, clears its bytes and writes the free list anew. Returns its number, the lowest that was free. None
-/// where no gap holds its units, or where all 576 numbers are taken; then nothing has changed.
+/// into the table, clears its bytes and writes the free list anew; the other blocks stay. Returns its number, the
+/// lowest that was free. None where no gap holds its units, or where all 576 numbers are taken; then nothing has
+/// changed.
 pub(crate) fn take(table: &mut Table, bytes: &mut [u8], units: usize) -> Option<usize>
     requires { IsToldIn table.old bytes.old }
     ensures told { IsToldIn table.new bytes.new }

@@ -45,7 +45,7 @@ pub(crate) fn run_at(bytes: &[u8], unit: usize) -> FreeRun
     }
 }
 
-/// Writes a number into the four bytes from `at` on, low byte first. The other bytes stay.
+/// Writes a number of a free run into the four bytes of the pool from `at` on, low byte first. The other bytes stay.
 fn write_word(bytes: &mut [u8], at: usize, value: u32)
     requires { at + 4 ≤ length bytes.old }
     ensures value { double_word bytes.new at ≡ value }

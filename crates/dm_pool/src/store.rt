@@ -151,7 +151,7 @@ impl Store {
         self.region.part(0, LOW)
     }
 
-    /// The 110000h bytes of low memory, by linear address, lent to be written.
+    /// The 110000h bytes of low memory, by linear address, lent to be written. All other bytes stay.
     #[inline(always)]
     pub fn low_mut(&mut self) -> &mut [u8]
         ensures* writes_back { sem 𝓛 (LendsLow self.entry result) }
@@ -169,7 +169,7 @@ impl Store {
         self.region.part(LOW, SCRATCH)
     }
 
-    /// The 200000h scratch bytes, lent to be written.
+    /// The 200000h scratch bytes, lent to be written. All other bytes stay.
     pub fn scratch_mut(&mut self) -> &mut [u8]
         ensures* writes_back { sem 𝓛 (LendsScratch self.entry result) }
         ensures value { result.now ≡ self.old.scratch }
@@ -214,8 +214,8 @@ impl Store {
 
     /// Gives a block another size: bytes up to the smaller size stay, and new ones are zeros. The block stays where it
     /// is if it fits there, else it moves to the lowest gap that holds it, its old place counted as taken; a block of
-    /// no unit needs no gap, and lies at unit 0. The other blocks stay as they are. False where neither holds it, and
-    /// then nothing has changed.
+    /// no unit needs no gap, and lies at unit 0. The other blocks stay as they are. False where neither its place nor a
+    /// gap holds it, and then nothing has changed.
     pub fn resize(&mut self, block: Block, units: usize) -> bool
         requires { IsLive self.old.blocks block }
         ensures { MatchBool result ((resized self.old.blocks block units ≡ Some self.new.blocks) × (self.new ≡ record self.old { blocks = self.new.blocks })) ((resized self.old.blocks block units ≡ None) × (self.new ≡ self.old)) }
@@ -255,7 +255,7 @@ impl Store {
             .part(POOL + place.base * UNIT, place.units * UNIT)
     }
 
-    /// The bytes of a block, lent to be written.
+    /// The bytes of a block, lent to be written. All other bytes stay.
     pub fn bytes_mut(&mut self, block: Block) -> &mut [u8]
         requires { IsLive self.old.blocks block }
         ensures* writes_back { sem 𝓛 (LendsBlock self.entry block result) }
@@ -268,7 +268,8 @@ impl Store {
     }
 
     /// Copies `len` bytes of a block, from its byte `from` on, to the place from byte `to` on of another block or the
-    /// same one. The two places may overlap: the bytes copied are those that stood in the first before the call.
+    /// same one. The two places may overlap: the bytes copied are those that stood in the first before the call. All
+    /// other bytes stay.
     pub fn move_bytes(
         &mut self,
         source: Block,
@@ -289,7 +290,8 @@ impl Store {
     }
 
     /// Copies `len` bytes of a part, from its byte `from` on, to the place from byte `to` on of another part or the
-    /// same one. The two places may overlap: the bytes copied are those that stood in the first before the call.
+    /// same one. The two places may overlap: the bytes copied are those that stood in the first before the call. All
+    /// other bytes stay.
     pub fn copy(&mut self, source: Part, from: usize, destination: Part, to: usize, len: usize)
         requires source { HasPart self.old source × (from + len ≤ length (part_bytes self.old source)) }
         requires destination { HasPart self.old destination × (to + len ≤ length (part_bytes self.old destination)) }
@@ -317,8 +319,8 @@ impl Store {
         runs::free_units(&self.table, self.region.part(POOL, len))
     }
 
-    /// The bytes of the pool, with its free runs. Blocks do not overlap in them, and the free bytes list the gaps,
-    /// rising, from the first run on.
+    /// The bytes of the pool, with its free runs, as a test of the free list reads them. Blocks do not overlap in these
+    /// bytes, and the free ones list the gaps, rising, from the first run on.
     pub fn free_list(&self) -> RunList<'_>
         ensures blocks { IsPool self.now.blocks.units self.now.blocks.places result.bytes.now }
         ensures based { AreBased self.now.blocks.places }

@@ -78,8 +78,8 @@ fn pointer_at(cpu: &Cpu, space: &Space, at: u16) -> FarPointer
     }
 }
 
-/// The command tail at a far pointer: the first byte is the tail's length, where more than 126 counts as 126; its bytes
-/// follow. Offsets wrap.
+/// The command tail at a far pointer: the first byte is the tail's length (more than 126 counts as 126), and the tail
+/// follows. Offsets wrap.
 #[tactic(auto, unfolding(crate::specs::Request::tail_at))]
 fn tail_at(space: &Space, pointer: FarPointer) -> ArrayVec<u8, 126>
     ensures { result.items ≡ Rattle.dm_proc.specs.Request.tail_at space.now.memory pointer }

@@ -117,8 +117,8 @@ pub(crate) fn deallocate<T, A: Allocator>(
     }
 }
 
-/// The first `len` bytes of a slice, and those from byte `other` on, lent at once to be written. The bytes between them
-/// stay as they are.
+/// The first `len` bytes of a slice, such as a part of a region, and those from byte `other` on, lent at once to be
+/// written. The bytes between the two stay as they are.
 pub fn ends_mut(bytes: &mut [u8], len: usize, other: usize) -> (&mut [u8], &mut [u8])
     requires { (len ≤ other) × (other ≤ length bytes.old) }
     ensures* writes_back { sem 𝓛 (lends_ends u8 bytes.entry len other result) }

@@ -92,8 +92,8 @@ impl Region {
         self.cells.slice_mut(base, from, len)
     }
 
-    /// Copies the `len` bytes from byte `from` on to the place from byte `to` on. The two may overlap: the bytes copied
-    /// are those that stood in the first before the call. The bytes outside the second stay.
+    /// Copies the `len` bytes from byte `from` on to the place from byte `to` on. The two places may overlap: the bytes
+    /// copied are those that stood in the first before the call. The bytes outside the second place stay.
     pub fn copy(&mut self, from: usize, to: usize, len: usize)
         requires source { from + len ≤ length self.old }
         requires destination { to + len ≤ length self.old }

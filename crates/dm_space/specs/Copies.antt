@@ -1,11 +1,11 @@
--- Bytes copied one by one upwards, between the scratch bytes and linear addresses (A20 taken as on) or a block. The
--- source, and all that is not written, stays.
+-- Bytes copied one by one upwards, between the scratch bytes and linear addresses (A20 taken as on) or a block, in a
+-- space that holds h. The source, and all that is not written, stays.
 use Rattle.std.specs.Prelude.{ℕ, zero, suc, List, [], ◌∷◌}
 use Rattle.dm_region.specs.Parts.{part, with_part}
 use Rattle.dm_pool.specs.Blocks.{with_content}
 use Rattle.dm_space.specs.Memory.{Memory, Held, peek, poke, page_bytes, with_blocks}
 
--- the values of f at the n numbers from a on
+-- the values of f at the n numbers from a on, such as the bytes that reads of n addresses return
 abbrev pub values : (ℕ → ℕ) → ℕ → ℕ → List ℕ
 values f a zero = []
 values f a (suc n) = f a ∷ values f (suc a) n

@@ -15,7 +15,7 @@ vector_offset n = if n == 0x67 then expanded_memory_offset else n * 4
 abbrev pub vector_segment : ℕ → ℕ
 vector_segment n = if n == 0x67 then expanded_memory_segment else entry_segment
 
--- byte k of the vector of interrupt n: the offset's low byte, its high byte, the segment's
+-- byte k of the vector of interrupt n: the offset's low and high byte, then the segment's low and high byte
 abbrev pub vector_byte : ℕ → ℕ → ℕ
 vector_byte n k =
     if k == 0 then vector_offset n % 256 else
@@ -31,8 +31,8 @@ start_byte a =
     if a == 0x1003 then 0xFF else
     if a == 0x1004 then 0x9E else 0
 
--- ram is low with the bytes of the start laid over its first 1005h bytes, up to the end of the first header's size; the
--- others stay
+-- ram is low with the bytes of the start laid over its first 1005h bytes, up to the end of the size in the first arena
+-- header; the other bytes stay
 pub record IsLaidOver (low ram : List ℕ) : Type 0 where
   pub size : length ram ≡ length low
   pub laid : (a : ℕ) → a < 0x1005 → slice_index ram a ≡ start_byte a

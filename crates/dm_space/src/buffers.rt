@@ -1,4 +1,4 @@
-//! Bytes written to the buffers of programs.
+//! Bytes written to the buffers of programs by functions of INT 21h and INT 67h, and to headers of a new arena.
 ghost use Rattle.std.specs.Prelude.{◌≡◌, ◌<◌, length};
 ghost use Rattle.dm_space.specs.Buffers.{with_bytes};
 

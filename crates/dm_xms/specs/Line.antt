@@ -10,8 +10,8 @@ use Rattle.dm_xms.specs.Tables.{Extended}
 abbrev pub is_on : Bool → ℕ → Bool
 is_on global local = global || not (local == 0)
 
--- the state with this global switch and local count, and A20 on or off as they say; the other tables, and all other of
--- memory, stay
+-- the state with this global switch and local count, and A20 on or off as they say; the other tables, RAM, windows and
+-- blocks stay
 abbrev pub switched : Extended → Bool → ℕ → Extended
 switched x global local = record { xms = record x.xms { global = global; local = local }; memory = with_a20 x.memory (is_on global local) }
 

@@ -1,5 +1,5 @@
 -- Upper memory blocks (XMS 3.0, functions 10h to 12h): paragraphs from segment D000h to DFFFh. They lie in RAM, not
--- in the pool, and have no headers in memory: a call changes their table alone, and one that fails not even that.
+-- in the pool, and have no headers in memory: a call changes the table of these blocks alone, and nothing if it fails.
 use Rattle.std.specs.Prelude.{ℕ, ◌+◌, ◌-◌, max, Bool, nat_lt, ◌==◌, ◌||◌, if◌then◌else◌, List, length, map, position, count_by, insert, remove, slice_get, slice_set, Option, Some, None, Result, Ok, Err}
 use Rattle.dm_pool.specs.declared.extent.Extent.{Extent}
 use Rattle.dm_pool.specs.Gaps.{gaps, largest, lowest}

@@ -1,6 +1,6 @@
 //! Upper memory blocks (XMS 3.0, functions 10h to 12h). Where upper memory belongs to the arena of DOS (`upper`), the
 //! driver has none: 10h fails with B1h and sets DX to 0, 11h and 12h fail with B2h. Each function sets AX to 1, or
-//! after an error AX to 0 and BL to its code, and then the tables stay. Registers that are not named stay, and memory.
+//! after an error AX to 0 and BL to its code, and then the tables stay. Memory, and registers that are not named, stay.
 ghost use Rattle.std.specs.Prelude.{◌≡◌};
 ghost use Rattle.dm_xms_calls.specs.Caller.{caller};
 ghost use Rattle.dm_xms_calls.specs.Uppers.{request, release, resize};
