@@ -58,7 +58,8 @@ pub fn adjust(adjustment: Adjustment, ax: u16, flags: Flags) -> (u16, Flags)
     (value, flags)
 }
 
-/// AX after an adjustment, by AX and the flags before it. AL and AH are each taken modulo 256.
+/// AX after an adjustment, by AX and the flags before it. AL and AH are each taken modulo 256; a carry or borrow out of
+/// AL is lost.
 #[tactic(auto, unfolding(crate::specs::Adjustments::adjusted_value))]
 fn adjusted_value(adjustment: Adjustment, ax: u16, flags: Flags) -> u16
     ensures { result ≡ adjusted_value adjustment ax flags }

@@ -28,8 +28,8 @@ amount_of (t.Number n ∷ []) = Some (Plus n)
 amount_of (t.Minus ∷ t.Number n ∷ []) = minus n
 amount_of _ = None
 
--- the number that is added to a label or to registers: after + a number with its sign, after - a number; 0 without
--- tokens
+-- the number that is added to a label or to registers: after + a number, with - before it or none, after - a number,
+-- which is taken away; 0 without tokens
 abbrev pub added_of : List Token → Option Amount
 added_of [] = Some (Plus 0)
 added_of (t.Plus ∷ ts) = amount_of ts

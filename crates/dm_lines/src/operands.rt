@@ -33,8 +33,8 @@ pub(crate) fn amount(tokens: &[Token]) -> Option<Amount>
     }
 }
 
-/// The number that is added to a label or to registers: after `+` a number with its sign, after `-` a number; 0
-/// without tokens.
+/// The number that is added to a label or to registers: after `+` a number, with `-` before it or none, after `-` a
+/// number, which is taken away; 0 without tokens.
 fn added(tokens: &[Token]) -> Option<Amount>
     ensures { result ≡ added_of tokens.now }
 {

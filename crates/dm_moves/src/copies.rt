@@ -7,8 +7,8 @@ ghost use Rattle.dm_moves.specs.Spans.{span_moved, spans_exchanged, IsInside};
 use crate::spans::{PAGE, Span, SpanKind};
 use dm_space::Space;
 
-/// How many of the `left` bytes from the byte `at` on come before the next multiple of 4000h: their places lie side by
-/// side.
+/// How many of the next `left` bytes of a span come before the next multiple of 4000h: their places lie side by side.
+/// `at` is where the first of them stands, as [`Span::at`] counts.
 pub(crate) fn run_len(at: usize, left: usize) -> usize
     requires { 0 < left }
     ensures some { 0 < result }
