@@ -11,8 +11,8 @@ use clap::error::ErrorKind;
 use std::alloc::{AllocError, Global};
 use std::convert::AsStr;
 
-// `clap` gives each of these arguments a value, by the words or by a default. So the readers below never return
-// their error for a missing value, and the caller reports it as a failed allocation.
+// `clap` gives each argument that is read as a `Result` a value, by the words or by a default. So its reader never
+// returns the error for a missing value, and the caller reports it as a failed allocation.
 
 /// The value of the argument `id`, a number below 2^64.
 fn number_u64(matches: &ArgMatches<'_>, id: &str) -> Result<u64, AllocError>

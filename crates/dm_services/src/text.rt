@@ -19,8 +19,8 @@ pub(crate) fn text_length(space: &Space, segment: u16, offset: u16) -> usize
     0x1_0000
 }
 
-/// Appends the text at segment:offset, which has `length` bytes, to the console's output. The console's room must be at
-/// least `length`, and decreases by `length`.
+/// 09h: appends the text at segment:offset, without its `$`, to the console's output; the text has `length` bytes. The
+/// console's room must be at least `length`, and decreases by `length`; the input stays.
 pub(crate) fn write_text(
     console: &mut Console,
     space: &Space,

@@ -1,5 +1,5 @@
 -- What a call of the extended memory driver reads and changes, and the registers that it returns (XMS 3.0: AX is 1
--- for success, except in 00h and 08h; for an error AX is 0, and BL is its code).
+-- for success, except in 00h, in 08h, and in 07h while A20 is off; for an error AX is 0, and BL is its code).
 use Rattle.std.specs.Prelude.{ℕ, Result, Ok, Err}
 use Rattle.dm_space.specs.Memory.{Memory}
 use Rattle.dm_ins.specs.declared.operand.ByteRegister.TheVariants.{Bl}
