@@ -150,7 +150,7 @@ fn words_code(labels: &Labels, values: &[Value]) -> Option<Code>
     Some(code)
 }
 
-/// Whether each label that the values of a DW name is known.
+/// Whether some line has each label that is named in the values of a DW; a value that is a number alone names none.
 fn knows_all(labels: &Labels, values: &[Value]) -> bool
     ensures { (list : List Label) → AreKept labels.now list → IsTrue result ↔ AllByRecursion (λ v. IsSome (label_place list v)) values.now }
 {

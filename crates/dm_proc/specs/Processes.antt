@@ -53,8 +53,9 @@ Plans upper m strategy count file answer n = Pairs upper m strategy (paragraphs 
 abbrev pub IsPlanned : Bool → Memory → Strategy → ℕ → List ℕ → Type 0
 IsPlanned upper m strategy count file = (pair : Planned) × IsPair upper m first_header strategy (paragraphs count) (least file) (most file) pair
 
--- why the blocks of a program cannot be allocated: `Destroyed` if memory spells no clear list of blocks, or the new
--- list would not be clear; `Short` if there is no room for both. No other error is returned
+-- the error says why the blocks for an environment of `count` bytes and for the program in `file` cannot be allocated:
+-- `Destroyed` if memory spells no clear list of blocks, or the new list would not be clear; `Short` if there is no room
+-- for both. It holds of no other error
 abbrev pub PlanRefused : Bool → Memory → Strategy → ℕ → List ℕ → ExecRefusal → Type 0
 PlanRefused upper m strategy count file Destroyed = Plans upper m strategy count file (Err arena.Destroyed) m
 PlanRefused upper m strategy count file Short = (room : ℕ) × Plans upper m strategy count file (Err (arena.Short room)) m

@@ -66,8 +66,9 @@ fn overlay(parts: &mut Parts)
     }
 }
 
-/// 4Bh: with AL = 3 loads an overlay; with AL = 0 loads and starts a child; any other AL is error 1. On an error, AX is
-/// the error code and CF is set. Counts the step; never stops the machine.
+/// 4Bh: with AL = 3 loads an overlay, and the caller goes on with CF clear; with AL = 0 loads and starts a child, and
+/// the registers are the child's; any other AL is error 1. On an error, AX is the error code, CF is set, and memory and
+/// processes stay. Counts the step; never stops the machine.
 pub(crate) fn load_program(parts: &mut Parts)
     requires { HasProgram parts.old }
     ensures loading { Loading parts.old (record { stop = None; state = parts.new }) }
