@@ -8,7 +8,7 @@ use Rattle.dm_arena.specs.declared.refusal.ArenaRefusal.{ArenaRefusal}
 use Rattle.dm_arena.specs.declared.refusal.ArenaRefusal.TheVariants.{Destroyed}
 use Rattle.dm_blocks.specs.Chain.{Becomes, IsArena, IsArenaBehind, NoArena, NoArenaBehind, first_header, is_linked, link_header, next}
 
--- function 5802h: whether the first list goes on in upper memory; `Destroyed` if S spells no clear list
+-- function 5802h: true if the first block list is linked with upper memory; `Destroyed` if S spells no clear list
 abbrev pub TellsLinked : Memory → Result Bool ArenaRefusal → Type 0
 TellsLinked S (Ok on) = (L : List Header) × IsArena S first_header L × (on ≡ is_linked L)
 TellsLinked S (Err e) = (e ≡ Destroyed) × NoArena S first_header

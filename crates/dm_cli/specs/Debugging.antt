@@ -20,8 +20,8 @@ use Rattle.dm_cli.specs.declared.fault.Fault.TheVariants.{InputTooLong, OutOfMem
 abbrev pub IsQuit : List ℕ → Type 0
 IsQuit line = (line ≡ 81 ∷ []) ⊎ (line ≡ 113 ∷ [])
 
--- the session after a line, and what is written for it: what the command prints; or why the line is refused, and then
--- the session stays
+-- what is printed for a line, and the session after it: the output of the command; or the error of a line that is
+-- rejected, which leaves the session as it is
 pub data Tells (s : Debugged) (line : List ℕ) : Debugged → List ℕ → Type 0 where
   answered : (command : Command) (t : Debugged) (text : List ℕ) → command_of line ≡ Some command → is_syntax s (Some command) ≡ false → is_full s (Some command) ≡ false → Does s command text t → Tells s line t text
   no_command : is_syntax s (command_of line) ≡ true → Tells s line s (codes "? syntax" ++ 10 ∷ [])

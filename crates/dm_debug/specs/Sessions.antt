@@ -56,8 +56,8 @@ pub data Displays (s : Debugged) : Command → List ℕ → Type 0 where
   points : Displays s c.Breakpoints (points_text s.points)
   output : Displays s c.Output s.machine.console.output
 
--- what a command prints, and the session after it: G and T change the machine, E its memory alone, B and BC the
--- breakpoints, and any other command nothing
+-- what a command prints, and the session after it: G and T change the machine, E only its memory, B and BC the
+-- breakpoints; other commands change nothing
 pub data Does (s : Debugged) : Command → List ℕ → Debugged → Type 0 where
   shows : (command : Command) (text : List ℕ) → Displays s command text → Does s command text s
   goes : (n : ℕ) (text : List ℕ) (t : State) → GoesTo s.machine n s.points text t → Does s (c.Go n) text (with_machine s t)

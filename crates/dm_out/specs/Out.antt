@@ -24,12 +24,12 @@ abbrev pub count_after_call : {A E : Type 0} → ℕ → Result A E → ℕ
 count_after_call count (Ok x) = count
 count_after_call count (Err e) = min (count + 1) most_failures
 
--- the count rose from `before` to `after` by exactly one failure, unless it was at its highest
+-- exactly one failure is counted: `after` is `before` + 1, or the highest count if `before` is
 abbrev pub HasFailed : ℕ → ℕ → Type 0
 HasFailed before after = after ≡ min (before + 1) most_failures
 
--- the bytes that the writer has taken grew, from `old` to `new`, by a first part of `bytes`, which may be none or all
--- of them; None where what it has taken is not known
+-- the bytes that the writer has taken: `new` is `old` followed by the first k bytes of `bytes`, for some k from 0 to
+-- their count; None if the bytes that it has taken are not known
 abbrev pub AppendsPart : Option (List ℕ) → Option (List ℕ) → List ℕ → Type 0
 AppendsPart old new bytes = (k : ℕ) × (k ≤ length bytes) × Appends old new (take k bytes)
 

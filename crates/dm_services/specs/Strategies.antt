@@ -83,21 +83,21 @@ abbrev pub set_to : State → Option Strategy → Answer
 set_to s None = unlisted s
 set_to s (Some strategy) = answered (record s { strategy = strategy }) s.cpu s.memory false
 
--- 58h with AL = 2, by what is found: AL is 1 if the arena is linked, else 0, and CF = 0; or AX is the error code, and
--- CF = 1. Memory stays
+-- what 58h with AL = 2 returns: AL is 1 if the block list is linked with upper memory, else 0, and CF = 0; after an
+-- error, AX is its code and CF = 1. Memory stays
 abbrev pub link_told : State → Result Bool ArenaRefusal → Answer
 link_told s (Ok on) = answered s (with_byte s.cpu Al (if on then 1 else 0)) s.memory false
 link_told s (Err e) = answered s (refused s.cpu e) s.memory true
 
--- 58h with AL = 2, where upper memory belongs to the arena: AL says whether the block list in memory goes on into it;
--- error 7 if there is no valid list
+-- 58h with AL = 2 if upper memory belongs to the arena: it returns whether the block list in memory is linked with
+-- upper memory, or error 7 if there is no valid list
 pub record TellingLink (s : State) (x : Answer) : Type 0 where
   pub result : Result Bool ArenaRefusal
   pub tells : TellsLinked s.memory result
   pub answer : x ≡ link_told s result
 
--- 58h with AL = 2; the first argument is whether upper memory belongs to the arena. If not, AL is 0 and CF = 0 whatever
--- memory holds
+-- 58h with AL = 2; the first argument is whether upper memory belongs to the arena. If not, it returns AL = 0 and
+-- CF = 0, whatever block list memory holds
 abbrev pub TellsLink : Bool → State → Answer → Type 0
 TellsLink false s x = x ≡ link_told s (Ok false)
 TellsLink true s x = TellingLink s x
