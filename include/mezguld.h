@@ -7,8 +7,9 @@
  *    nothing else that it is passed.
  *  - A `mezguld` is MEZGULD_NONE before the first call. C does not write to it and does not copy it. Where a machine was
  *    freed or never made, each call returns MEZGULD_NO_MACHINE; a copy made before the free is not recognized.
- *  - A machine stays on the thread that made it. No function is called from a signal handler, or in the forked child of a
- *    process with threads.
+ *  - No two calls on one machine overlap. They may come from several threads, if each call has ended before the next one
+ *    begins, as under a mutex. No function is called from a signal handler, or in the forked child of a process with
+ *    threads; no `longjmp` and no cancellation of a thread leaves a call.
  *  - malloc, realloc and free are those of one allocator, as of the C library.
  *
  * Each function returns a status. Where it is not MEZGULD_OK, nothing has changed and nothing was written, unless the
@@ -140,9 +141,9 @@ uint32_t mezguld_output(mezguld *machine, uint8_t *buffer, size_t room, size_t *
  * in part. */
 uint32_t mezguld_command(mezguld *machine, const uint8_t *line, size_t line_count, size_t *wanted);
 
-/* Makes at most so many steps, as mezguld_run, under the memory checker, keeps the text of its report as the answer, and
- * writes the text's count into `*wanted`. NO_MACHINE, NOT_LOADED. After OUT_OF_MEMORY any part of the run was made, none
- * or all of it included. */
+/* Makes at most so many steps, as mezguld_run, under the memory checker, keeps the text of its report, with the line about
+ * the stop, as the answer, and writes the text's count into `*wanted`. NO_MACHINE, NOT_LOADED. After OUT_OF_MEMORY any
+ * part of the run was made, none or all of it included. */
 uint32_t mezguld_check(mezguld *machine, uint64_t steps, mezguld_stopped *stopped, size_t *wanted);
 
 /* Copies the answer of the last command or checked run that had one into a buffer, and its count into `*wanted`.

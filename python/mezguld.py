@@ -10,110 +10,170 @@ r"""The proved MS-DOS machine of Mezguld, from Python.
 
 The module stands over the C library libmezguld.so (include/mezguld.h), which `tools/library` builds. It looks for the file that the environment
 variable MEZGULD_LIBRARY names, else beside itself, else in build/ of its repository. It needs nothing but the standard library.
+
+Bytes are given as `bytes` or any other object with a buffer (`bytearray`, `memoryview`). A number or a list is a `TypeError`; a number out of its
+range is a `ValueError`. Names, tails, lines of the debugger and variables may be a `str`, whose characters are bytes (Latin-1). What the library
+refuses is an `Error`.
 """
 from __future__ import annotations
 
 import ctypes
 import enum
+import operator
 import os
-from typing import Iterable, NamedTuple, Sequence
+import re
+import threading
+import time
+from typing import Any, Callable, Iterable, NamedTuple, NoReturn
 
 __all__ = [
-    "Block", "Machine", "Refused", "Registers", "Stop", "Stopped", "assemble", "disassemble",
-    "BadFormat", "BadName", "CommandSyntax", "LineRange", "LineSyntax", "LineTwice", "LineUnknown", "BreakpointsFull", "NameTwice", "NoMachine", "NotFound",
-    "NotLoaded", "OutOfMemory", "Short", "Started", "TailTooLong", "TooLarge", "TooLong", "VariablesTooLong",
+    "Block", "Blocks", "Error", "Machine", "Registers", "Stop", "Stopped", "assemble", "disassemble",
+    "BadFormat", "BadName", "BreakpointsFull", "CommandSyntax", "LineRange", "LineRefused", "LineSyntax", "LineTwice", "LineUnknown", "NameTwice",
+    "NoMachine", "NotFound", "NotLoaded", "OutOfMemory", "Short", "Started", "TailTooLong", "TooLarge", "TooLong", "VariablesTooLong",
 ]
 
 
 # ---- refusals
 
 
-class Refused(Exception):
-    """Why a call was refused. The machine is as before, unless the exception says otherwise."""
+class Error(Exception):
+    """Why a call was refused. The machine is as before, unless the exception says otherwise.
+
+    `status` is the number that include/mezguld.h gives to the refusal.
+    """
+
+    status = 0
+    text = "the library refused the call"
+
+    def __str__(self) -> str:
+        return super().__str__() or self.text
 
 
-class NoMachine(Refused):
+class NoMachine(Error):
     """The machine was closed."""
 
+    text = "the machine was closed"
 
-class OutOfMemory(Refused, MemoryError):
+
+class OutOfMemory(Error, MemoryError):
     """The host's memory was refused. A command may be done, whole or in part; a load has used the machine up; else nothing has changed."""
 
+    text = "an allocation failed"
 
-class TooLarge(Refused, ValueError):
+
+class TooLarge(Error, ValueError):
     """Over 512 pages of expanded memory, or over 15,360 KiB of extended memory."""
 
+    text = "over 512 pages of expanded memory, or over 15,360 KiB of extended memory"
 
-class VariablesTooLong(Refused, ValueError):
+
+class VariablesTooLong(Error, ValueError):
     """The variables have over 32,767 bytes with their zeros."""
 
+    text = "the variables have over 32,767 bytes with their zeros"
 
-class BadName(Refused, ValueError):
+
+class BadName(Error, ValueError):
     """A program's name is empty, has over 64 bytes, or has a zero byte."""
 
+    text = "the name is empty, has over 64 bytes, or has a zero byte"
 
-class NameTwice(Refused, ValueError):
+
+class NameTwice(Error, ValueError):
     """A program has this name already; case is ignored."""
 
+    text = "a program has this name already"
 
-class Started(Refused):
+
+class Started(Error):
     """A program was loaded, or its loading failed for good."""
 
+    text = "a program was loaded already, or its loading failed for good"
 
-class TailTooLong(Refused, ValueError):
+
+class TailTooLong(Error, ValueError):
     """A tail has over 126 bytes."""
 
+    text = "the tail has over 126 bytes"
 
-class NotFound(Refused, LookupError):
+
+class NotFound(Error, LookupError):
     """No program has this name."""
 
+    text = "no program has this name"
 
-class BadFormat(Refused, ValueError):
+
+class BadFormat(Error, ValueError):
     """The program is neither a COM file of at most 65,278 bytes nor a correct MZ file."""
 
+    text = "the program is neither a COM file of at most 65,278 bytes nor a correct MZ file"
 
-class Short(Refused):
+
+class Short(Error):
     """Conventional memory has no room for the program. The machine is used up."""
 
+    text = "conventional memory has no room for the program"
 
-class NotLoaded(Refused):
+
+class NotLoaded(Error):
     """No program is loaded."""
 
+    text = "no program is loaded"
 
-class CommandSyntax(Refused, ValueError):
+
+class CommandSyntax(Error, ValueError):
     """The line is no command of the debugger, or clears a breakpoint that is not set."""
 
+    text = "the line is no command, or clears a breakpoint that is not set"
 
-class BreakpointsFull(Refused):
+
+class BreakpointsFull(Error):
     """The line sets a seventeenth breakpoint."""
 
+    text = "sixteen breakpoints are set already"
 
-class LineRefused(Refused, ValueError):
+
+class LineRefused(Error, ValueError):
     """A line of an assembly text is wrong; `line` counts from 1."""
 
+    text = "the line is wrong"
+
     def __init__(self, line: int) -> None:
-        super().__init__(f"line {line}")
+        super().__init__(line)
         self.line = line
+
+    def __str__(self) -> str:
+        return f"line {self.line}: {self.text}"
 
 
 class LineSyntax(LineRefused):
     """The line is no statement."""
 
+    text = "no statement"
+
 
 class LineUnknown(LineRefused):
     """The line names a label that no line has."""
+
+    text = "it names a label that no line has"
 
 
 class LineRange(LineRefused):
     """A number, a label or a target on the line is out of range."""
 
+    text = "a number, a label or a target is out of range"
+
 
 class LineTwice(LineRefused):
     """The line has the label of a line before it."""
 
+    text = "a line before it has the same label"
 
-class TooLong(Refused, ValueError):
+
+class TooLong(Error, ValueError):
     """A COM program has over 65,278 bytes."""
+
+    text = "a COM program has over 65,278 bytes"
 
 
 _OK, _TOO_SMALL = 0, 4
@@ -122,11 +182,19 @@ _REFUSALS = {
     11: NotFound, 12: BadFormat, 13: Short, 14: NotLoaded, 15: CommandSyntax, 16: BreakpointsFull, 21: TooLong,
 }
 _LINES = {17: LineSyntax, 18: LineUnknown, 19: LineRange, 20: LineTwice}
+for _status, _kind in (*_REFUSALS.items(), *_LINES.items()):
+    _kind.status = _status
+del _status, _kind
 
 
 def _check(status: int) -> None:
-    if status != _OK:
+    if status == _OK:
+        return
+    if status in _REFUSALS:
         raise _REFUSALS[status]()
+    error = Error(f"the library returned {status}, which this module does not know")
+    error.status = status
+    raise error
 
 
 # ---- what calls return
@@ -153,7 +221,7 @@ class Stopped(NamedTuple):
 
 
 class Registers(NamedTuple):
-    """The registers; `flags` is the word that PUSHF stores."""
+    """The registers; `flags` is the word that PUSHF stores. They print in hexadecimal."""
 
     ax: int
     bx: int
@@ -170,15 +238,32 @@ class Registers(NamedTuple):
     ip: int
     flags: int
 
+    def __repr__(self) -> str:
+        return f"Registers({', '.join(f'{name}=0x{word:04X}' for name, word in zip(self._fields, self))})"
+
 
 class Block(NamedTuple):
     """A header of the DOS memory arena: its segment, whether it is signed `Z` as the last of its list, the owner's segment (0: free), and the
-    size in paragraphs of 16 bytes."""
+    size in paragraphs of 16 bytes. Its segments print in hexadecimal."""
 
     segment: int
     last: bool
     owner: int
     size: int
+
+    def __repr__(self) -> str:
+        return f"Block(segment=0x{self.segment:04X}, last={self.last}, owner=0x{self.owner:04X}, size={self.size})"
+
+
+class Blocks(list):
+    """A list of blocks. `destroyed` is None, or the segment of the first bad header, at which the list breaks: the blocks are those before it."""
+
+    def __init__(self, blocks: Iterable[Block] = (), destroyed: int | None = None) -> None:
+        super().__init__(blocks)
+        self.destroyed = destroyed
+
+    def __repr__(self) -> str:
+        return f"Blocks({super().__repr__()}{'' if self.destroyed is None else f', destroyed=0x{self.destroyed:04X}'})"
 
 
 # ---- the library
@@ -251,13 +336,55 @@ def _opened() -> ctypes.CDLL:
 _library = _opened()
 
 
-def _given(data: bytes | bytearray | memoryview) -> tuple[ctypes.Array, int]:
+# ---- what calls are given. (ctypes cuts a number that is too large for its type, so each is tested before.)
+
+_MOST_STEPS = 2**64 - 1
+# A segment has this many bytes.
+_MOST_BYTES = 0x10000
+
+
+def _number(number: int, most: int, what: str) -> int:
+    """A number from 0 to `most`."""
+    number = operator.index(number)
+    if not 0 <= number <= most:
+        raise ValueError(f"{what} is {number}, and not from 0 to {most}")
+    return number
+
+
+def _bytes(data: bytes | bytearray | memoryview) -> bytes:
+    return memoryview(data).tobytes()
+
+
+def _name(name: str | bytes) -> bytes:
+    return name.encode("latin-1") if isinstance(name, str) else _bytes(name)
+
+
+def _given(data: bytes) -> tuple[ctypes.Array, int]:
     """Bytes as a pointer that is not null, and their count."""
-    data = bytes(data)
     return ctypes.create_string_buffer(data, len(data) + 1), len(data)
 
 
-def _taken(call, count: int = 4096) -> bytes:
+def _variable(variable: str | bytes) -> bytes:
+    """A variable with the zero after it."""
+    text = _name(variable)
+    if not text or 0 in text:
+        raise ValueError(f"{variable!r} is no variable: it is empty, or has a zero byte")
+    return text + b"\0"
+
+
+def _environment(variables: Iterable[str | bytes]) -> bytes:
+    if isinstance(variables, (str, bytes, bytearray, memoryview)):
+        raise TypeError('variables are a list, as ["PATH=C:"]')
+    return b"".join(_variable(variable) for variable in variables)
+
+
+def _points(breakpoints: Iterable[tuple[int, int]]) -> tuple[ctypes.Array, int]:
+    """Breakpoints as an array with room for at least one, and their count."""
+    pairs = [_Point(_number(segment, 0xFFFF, "a segment"), _number(offset, 0xFFFF, "an offset")) for segment, offset in breakpoints]
+    return (_Point * (len(pairs) + 1))(*pairs), len(pairs)
+
+
+def _taken(call: Callable[..., int], count: int = 4096) -> bytes:
     """The bytes that a call writes to a buffer: `call(buffer, size, wanted)` returns its status."""
     while True:
         buffer, wanted = ctypes.create_string_buffer(count + 1), ctypes.c_size_t()
@@ -268,8 +395,69 @@ def _taken(call, count: int = 4096) -> bytes:
         count = wanted.value
 
 
-def _name(name: str | bytes) -> bytes:
-    return name.encode("latin-1") if isinstance(name, str) else bytes(name)
+# ---- long calls
+
+# A call of at most so many steps is made at once: even the slowest steps take some two milliseconds each.
+_FEW = 100
+# The steps of a slice at first and at most, and the seconds that one should take.
+_FIRST_SLICE, _LONGEST_SLICE, _SLICE_SECONDS = 1 << 14, 1 << 22, 0.04
+# The debugger's line `G` with its steps, and the steps without any.
+_GO, _GO_STEPS = re.compile(rb"[Gg](?: ([0-9A-Fa-f]{1,8}))?"), "FFFFFF"
+
+
+def _sliced(steps: int, run: Callable[[int], tuple[Any, bool]], is_over: Callable[[], bool]) -> Any:
+    """Makes a run in slices, until `is_over`: `run(count)` returns its result, and whether nothing has stopped it. A run of a steps and then one of b
+    steps are the run of a + b steps; so are runs up to breakpoints, where the first has reached none."""
+    size = _FIRST_SLICE
+    while True:
+        count, begin = min(size, steps), time.monotonic()
+        result, goes_on = run(count)
+        steps -= count
+        if not goes_on or steps == 0 or is_over():
+            return result
+        took = time.monotonic() - begin
+        if took < _SLICE_SECONDS / 2:
+            size = min(2 * size, _LONGEST_SLICE)
+        elif took > _SLICE_SECONDS:
+            size = max(int(size * _SLICE_SECONDS / took), 1)
+
+
+def _served(work: Callable[[Callable[[], bool]], Any], steps: int, left: list[threading.Event] | None = None) -> Any:
+    """What `work` returns, which may take long. Signals, as that of Ctrl-C, reach the main thread, and Python serves them between calls of C. So there the
+    work is done on another thread. Where a signal's handler raises an exception, the work is told that it is over, and ends after its slice; work without
+    slices goes on, and `left` gets the event of its end."""
+    if steps <= _FEW or threading.current_thread() is not threading.main_thread():
+        return work(lambda: False)
+    over, ended, results = threading.Event(), threading.Event(), []
+
+    def done() -> None:
+        try:
+            results.append((work(over.is_set), None))
+        except BaseException as error:  # pylint: disable=broad-except
+            results.append((None, error))
+        finally:
+            ended.set()
+
+    try:
+        try:
+            threading.Thread(target=done, name="mezguld", daemon=True).start()
+        except RuntimeError:
+            # (No thread begins while the interpreter ends.)
+            return work(lambda: False)
+        ended.wait()
+    except BaseException:
+        over.set()
+        if left is not None:
+            left.append(ended)
+        raise
+    result, error = results.pop()
+    if error is None:
+        return result
+    try:
+        raise error
+    finally:
+        # (Its traceback has this frame, which else would have it, and so keep the machine.)
+        del error
 
 
 # ---- machines
@@ -278,26 +466,41 @@ def _name(name: str | bytes) -> bytes:
 class Machine:
     """A machine: programs are added, one of them is loaded and run, and what the machine holds is read.
 
-    A machine belongs to the thread that made it. `close` frees it; so does the end of a `with` block.
+    Threads may share it: a call waits until the one before it has ended. `close` frees it, and waits too; so does the end of a `with` block. After
+    Ctrl-C in a run the machine is as after some of its steps, and can go on.
     """
 
     def __init__(
-        self, *, ems_pages: int = 64, xms_kib: int = 1024, variables: Sequence[str | bytes] = (), upper: bool = False
+        self, *, ems_pages: int = 64, xms_kib: int = 1024, variables: Iterable[str | bytes] = (), upper: bool = False
     ) -> None:
         """A machine with so many pages of expanded memory (of 16 KiB, at most 512) and so many KiB of extended memory (at most 15,360).
 
         `variables` is the environment of the first program, as `["PATH=C:"]`. With `upper` the DOS memory arena goes on in upper memory.
         `TooLarge`, `VariablesTooLong` and `OutOfMemory` are raised where no machine is made.
         """
+        ems_pages, xms_kib = operator.index(ems_pages), operator.index(xms_kib)
+        for what, size in (("ems_pages", ems_pages), ("xms_kib", xms_kib)):
+            if size < 0:
+                raise ValueError(f"{what} is {size}, and less than 0")
+            if size >= 2**32:
+                raise TooLarge()
+        upper = _number(upper, 1, "upper")
+        given, count = _given(_environment(variables))
+        # (A call within a call, as of a signal's handler between two calls of C, does not wait.)
+        self._lock = threading.RLock()
+        # The ends of checked runs that nobody waits for, and whether the machine was closed in one.
+        self._left, self._is_closed = [], False
         self._handle = _Handle()
-        if not (0 <= ems_pages < 2**32 and 0 <= xms_kib < 2**32):
-            raise TooLarge()
-        given, count = _given(b"".join(_name(variable) + b"\0" for variable in variables))
-        _check(_library.mezguld_new(self._handle, ems_pages, xms_kib, given, count, int(upper)))
+        _check(_library.mezguld_new(self._handle, ems_pages, xms_kib, given, count, upper))
 
     def close(self) -> None:
         """Frees the machine. Every later call raises `NoMachine`. To close it again does nothing."""
-        _library.mezguld_free(self._handle)
+        self._is_closed = any(not ended.is_set() for ended in self._left)
+        if self._lock.acquire(blocking=not self._is_closed):
+            try:
+                _library.mezguld_free(self._handle)
+            finally:
+                self._lock.release()
 
     def __enter__(self) -> Machine:
         return self
@@ -305,122 +508,172 @@ class Machine:
     def __exit__(self, *_: object) -> None:
         self.close()
 
-    def __del__(self) -> None:
-        if "_handle" in self.__dict__:
-            self.close()
+    def __del__(self, free: Callable[..., int] = _library.mezguld_free) -> None:
+        # Nobody else has the machine any more, so its lock is free: but in a forked child, whose parent was in a call. It is not freed there.
+        lock = self.__dict__.get("_lock")
+        if "_handle" in self.__dict__ and lock.acquire(blocking=False):
+            try:
+                free(self._handle)
+            finally:
+                lock.release()
+
+    def __reduce__(self) -> NoReturn:
+        raise TypeError("a machine cannot be copied or pickled")
+
+    def _held(self) -> threading.RLock:
+        if self._is_closed:
+            raise NoMachine()
+        return self._lock
+
+    def _call(self, function: Callable[..., int], *arguments: object) -> None:
+        with self._held():
+            _check(function(self._handle, *arguments))
+
+    def _run(self, function: Callable[..., int], steps: int, *arguments: object) -> Stopped:
+        """A run by slices, which no other call comes between."""
+
+        def run(count: int) -> tuple[Stopped, bool]:
+            stopped = _Stopped()
+            _check(function(self._handle, count, *arguments, stopped))
+            why = Stop(stopped.why)
+            return Stopped(why, stopped.code), why is Stop.STEPS
+
+        def work(is_over: Callable[[], bool]) -> Stopped:
+            with self._held():
+                return _sliced(steps, run, is_over)
+
+        return _served(work, steps)
+
+    def _kept(self, size: int) -> bytes:
+        """The answer that the machine keeps, of this size."""
+        return _taken(lambda buffer, room, length: _library.mezguld_answer(self._handle, buffer, room, length), size)
+
+    def _answered(self, line: bytes) -> bytes:
+        given, count = _given(line)
+        with self._held():
+            wanted = ctypes.c_size_t()
+            _check(_library.mezguld_command(self._handle, given, count, wanted))
+            return self._kept(wanted.value)
 
     def add(self, name: str | bytes, program: bytes) -> None:
         """Adds a program, a COM or MZ file's bytes, under a name of 1 to 64 bytes. `BadName`, `NameTwice`, `Started`, `OutOfMemory`."""
-        given, count = _given(_name(name))
-        bytes_given, bytes_count = _given(program)
-        _check(_library.mezguld_add(self._handle, given, count, bytes_given, bytes_count))
+        self._call(_library.mezguld_add, *_given(_name(name)), *_given(_bytes(program)))
 
     def load(self, name: str | bytes, tail: str | bytes = b"", input: bytes = b"") -> None:  # pylint: disable=redefined-builtin
         """Loads the program of this name, with a command tail of at most 126 bytes and the console's input.
 
         `Started`, `BadName`, `TailTooLong`, `NotFound`, `BadFormat`, `Short`, `OutOfMemory`, in this order. The last two use the machine up.
         """
-        given, count = _given(_name(name))
-        tail_given, tail_count = _given(_name(tail))
-        input_given, input_count = _given(input)
-        _check(_library.mezguld_load(self._handle, given, count, tail_given, tail_count, input_given, input_count))
+        self._call(_library.mezguld_load, *_given(_name(name)), *_given(_name(tail)), *_given(_bytes(input)))
 
     def run(self, steps: int) -> Stopped:
-        """Makes at most so many steps, from 0 to 2**64 - 1. A step is an instruction, a repetition of a string instruction, or a service. `NotLoaded`."""
-        stopped = _Stopped()
-        _check(_library.mezguld_run(self._handle, _count(steps), stopped))
-        return Stopped(Stop(stopped.why), stopped.code)
+        """Makes at most so many steps, from 0 to 2**64 - 1. A step is an instruction, a repetition of a string instruction, or a service. `NotLoaded`.
+
+        Ctrl-C ends the run after some of its steps: `KeyboardInterrupt` comes at once, and the machine can go on.
+        """
+        return self._run(_library.mezguld_run, _number(steps, _MOST_STEPS, "steps"))
 
     def run_until(self, steps: int, breakpoints: Iterable[tuple[int, int]]) -> Stopped:
         """Makes at most so many steps, and stops with `Stop.BREAKPOINT` after the first that leads to one of the breakpoints, exact pairs of CS and IP.
-        `NotLoaded`, `OutOfMemory`."""
-        pairs = [_Point(_word(segment), _word(offset)) for segment, offset in breakpoints]
-        points = (_Point * (len(pairs) + 1))(*pairs)
-        stopped = _Stopped()
-        _check(_library.mezguld_run_until(self._handle, _count(steps), points, len(pairs), stopped))
-        return Stopped(Stop(stopped.why), stopped.code)
+        Where the run begins is no breakpoint to it. `NotLoaded`; `OutOfMemory`, after which some of the steps may be made. Ctrl-C is as in `run`."""
+        return self._run(_library.mezguld_run_until, _number(steps, _MOST_STEPS, "steps"), *_points(breakpoints))
 
     @property
     def steps(self) -> int:
         """How many steps were made. `NotLoaded`."""
         steps = ctypes.c_uint64()
-        _check(_library.mezguld_steps(self._handle, steps))
+        self._call(_library.mezguld_steps, steps)
         return steps.value
 
     @property
     def registers(self) -> Registers:
         """The registers. `NotLoaded`."""
         registers = _Registers()
-        _check(_library.mezguld_registers(self._handle, registers))
+        self._call(_library.mezguld_registers, registers)
         return Registers(*(getattr(registers, name) for name in Registers._fields))
 
     def read(self, segment: int, offset: int, count: int) -> bytes:
-        """So many bytes of memory from segment:offset on; offsets wrap in their segment. FFh where there is no memory. `NotLoaded`."""
+        """So many bytes of memory, at most 65,536, from segment:offset on; offsets wrap in their segment. FFh where there is no memory. `NotLoaded`."""
+        segment, offset = _number(segment, 0xFFFF, "the segment"), _number(offset, 0xFFFF, "the offset")
+        count = _number(count, _MOST_BYTES, "the count")
         buffer = ctypes.create_string_buffer(count + 1)
-        _check(_library.mezguld_read(self._handle, _word(segment), _word(offset), buffer, count))
+        self._call(_library.mezguld_read, segment, offset, buffer, count)
         return buffer.raw[:count]
 
     def write(self, segment: int, offset: int, data: bytes) -> None:
         """Writes bytes from segment:offset on; offsets wrap in their segment. Bytes of the ROM, and where there is no memory, stay. `NotLoaded`."""
-        given, count = _given(data)
-        _check(_library.mezguld_write(self._handle, _word(segment), _word(offset), given, count))
+        segment, offset = _number(segment, 0xFFFF, "the segment"), _number(offset, 0xFFFF, "the offset")
+        self._call(_library.mezguld_write, segment, offset, *_given(_bytes(data)))
 
     def output(self) -> bytes:
         """All that the console wrote. `NotLoaded`."""
-        return _taken(lambda buffer, size, wanted: _library.mezguld_output(self._handle, buffer, size, wanted))
+        with self._held():
+            return _taken(lambda buffer, size, wanted: _library.mezguld_output(self._handle, buffer, size, wanted))
 
     def command(self, line: str | bytes) -> bytes:
-        """The answer of the debugger to a line, as `R` or `D 0103:0100`. `NotLoaded`, `CommandSyntax`, `BreakpointsFull`, `OutOfMemory`."""
-        given, count = _given(_name(line))
-        wanted = ctypes.c_size_t()
-        _check(_library.mezguld_command(self._handle, given, count, wanted))
-        return _taken(lambda buffer, size, length: _library.mezguld_answer(self._handle, buffer, size, length), wanted.value)
+        """The answer of the debugger to a line, as `R` or `D 0103:0100`. `NotLoaded`, `CommandSyntax`, `BreakpointsFull`, `OutOfMemory`. Ctrl-C in a command
+        `G` is as in `run`."""
+        text = _name(line)
+        found = _GO.fullmatch(text)
+        if found is None:
+            return self._answered(text)
+        steps = int(found[1] or _GO_STEPS, 16)
+
+        def run(count: int) -> tuple[bytes, bool]:
+            answer = self._answered(b"G %X" % count)
+            return answer, answer.startswith(b"steps\n")
+
+        def work(is_over: Callable[[], bool]) -> bytes:
+            with self._held():
+                return _sliced(steps, run, is_over)
+
+        return _served(work, steps)
 
     def check(self, steps: int) -> tuple[Stopped, str]:
-        """Makes at most so many steps, as `run`, under the memory checker, and returns the text of its report beside the stop.
+        """Makes at most so many steps, as `run`, under the memory checker, and returns the text of its report, with the line about the stop,
+        beside the stop.
 
-        `NotLoaded`; `OutOfMemory`, after which any part of the run was made.
+        `NotLoaded`; `OutOfMemory`, after which any part of the run was made. Ctrl-C comes at once, but the run is made to its end, since a report is of a
+        whole run. Later calls wait for that; `close` does not, and the machine is freed then.
         """
-        stopped, wanted = _Stopped(), ctypes.c_size_t()
-        _check(_library.mezguld_check(self._handle, _count(steps), stopped, wanted))
-        text = _taken(lambda buffer, size, length: _library.mezguld_answer(self._handle, buffer, size, length), wanted.value)
-        return Stopped(Stop(stopped.why), stopped.code), text.decode("latin-1")
+        steps = _number(steps, _MOST_STEPS, "steps")
 
-    def blocks(self) -> list[Block] | None:
+        def work(_: Callable[[], bool]) -> tuple[Stopped, str]:
+            with self._held():
+                try:
+                    stopped, wanted = _Stopped(), ctypes.c_size_t()
+                    _check(_library.mezguld_check(self._handle, steps, stopped, wanted))
+                    return Stopped(Stop(stopped.why), stopped.code), self._kept(wanted.value).decode("latin-1")
+                finally:
+                    if self._is_closed:
+                        _library.mezguld_free(self._handle)
+
+        return _served(work, steps, self._left)
+
+    def blocks(self) -> Blocks:
         """The headers of the DOS memory arena, in their order: those of the first list, then those of the list in upper memory, if there is one
-        that is not linked. None where a list is destroyed. `NotLoaded`."""
-        blocks = []
+        that is not linked. Of a destroyed list they are those before the bad header, and `destroyed` is its segment. `NotLoaded`."""
+        blocks = Blocks()
         for line in self.command("M").decode("ascii").splitlines():
             words = line.split()
             if words[0] == "destroyed":
-                return None
-            if len(words) == 4:
+                blocks.destroyed = int(words[-1], 16)
+            elif len(words) == 4:
                 segment, signature, owner, size = words
                 blocks.append(Block(int(segment, 16), signature == "Z", int(owner, 16), int(size, 16)))
         return blocks
-
-
-def _word(number: int) -> int:
-    if not 0 <= number <= 0xFFFF:
-        raise ValueError(f"{number} is no word")
-    return number
-
-
-def _count(steps: int) -> int:
-    if not 0 <= steps < 2**64:
-        raise ValueError(f"{steps} is no count of steps")
-    return steps
 
 
 # ---- the assembler
 
 
 def assemble(text: str | bytes) -> bytes:
-    """The bytes of the COM program that a text is. `LineSyntax`, `LineTwice`, `TooLong`, `LineUnknown`, `LineRange`, `OutOfMemory`."""
-    given, count = _given(_name(text))
+    """The bytes of the COM program that a text is. A `str` is encoded in UTF-8. `LineSyntax`, `LineTwice`, `TooLong`, `LineUnknown`, `LineRange`,
+    `OutOfMemory`."""
+    given, count = _given(text.encode("utf-8", "surrogatepass") if isinstance(text, str) else _bytes(text))
     line = ctypes.c_size_t()
 
-    def call(buffer, size, wanted):
+    def call(buffer: ctypes.Array, size: int, wanted: object) -> int:
         status = _library.mezguld_assemble(given, count, buffer, size, wanted, line)
         if status in _LINES:
             raise _LINES[status](line.value)
@@ -431,5 +684,5 @@ def assemble(text: str | bytes) -> bytes:
 
 def disassemble(program: bytes) -> bytes:
     """The lines of a COM program of at most 65,278 bytes, which `assemble` makes the same bytes of. `TooLong`, `OutOfMemory`."""
-    given, count = _given(program)
+    given, count = _given(_bytes(program))
     return _taken(lambda buffer, size, wanted: _library.mezguld_disassemble(given, count, buffer, size, wanted))

@@ -13,6 +13,9 @@ LETTERS = {
     "m": "mezguld *", "s": "mezguld_stopped *", "r": "mezguld_cpu *", "w": "size_t *", "q": "uint64_t *",
     "n": "size_t", "I": "uint32_t", "B": "uint32_t", "Q": "uint64_t", "H": "uint16_t",
 }
+# The exceptions of the Python module whose status has another name in the header, and the statuses that it raises nothing for: its own calls meet neither
+# a machine in use nor, at last, a buffer that is too small.
+RENAMED, UNRAISED = {"COMMAND_SYNTAX": "SYNTAX", "BREAKPOINTS_FULL": "FULL"}, ("OK", "IN_USE", "TOO_SMALL")
 EXPORT = re.compile(r'#\[unsafe\(no_mangle\)\]\s*pub extern "C" fn (\w+)\s*\(([^)]*)\)\s*(?:->\s*([\w&\[\] ]+?))?\s*(?=\bensures\b|\brequires\b|\{)')
 STRUCT = re.compile(r"#\[repr\(C\)\]\s*(?:#\[[^\]]*\]\s*)*pub struct (\w+) \{([^}]*)\}")
 CONSTANT = re.compile(r"^pub(?:\(crate\))? const (\w+): u32 = (\d+);", re.M)
@@ -138,14 +141,33 @@ def header_faults(header, exports):
     yield from compare_numbers("stop", header.stops, exports.stops)
 
 
+def status_faults(header, tables, numbers):
+    """The faults of the Python module's tables of exceptions, and of the two statuses that it names."""
+    given = {f"MEZGULD{name}": number for name, number in numbers.items()}
+    for table in ("_REFUSALS", "_LINES"):
+        for key, value in zip(tables[table].keys, tables[table].values):
+            name = upper(value.id)
+            name = f"MEZGULD_{RENAMED.get(name, name)}"
+            if name in given:
+                yield f"two statuses raise the exception of {name}"
+            given[name] = key.value
+    wanted = {f"MEZGULD_{name}": number for name, number in header.statuses.items()}
+    for name in sorted({*given, *wanted}):
+        if given.get(name) != wanted.get(name) and not (name not in given and name[len("MEZGULD_") :] in UNRAISED):
+            yield f"the status {name} is {wanted.get(name, 'missing')} in the header and {given.get(name, 'missing')} in the Python module"
+
+
 def python_faults(header):
-    """The faults of the Python module's table of parameters, of its stops and of the fields of its registers."""
-    tables, classes = {}, {}
+    """The faults of the Python module's tables of parameters and of exceptions, of its stops and of the fields of its registers."""
+    tables, classes, numbers = {}, {}, {}
     for node in ast.parse(text_of("python/mezguld.py")).body:
         if isinstance(node, ast.Assign) and isinstance(node.targets[0], ast.Name) and isinstance(node.value, ast.Dict):
             tables[node.targets[0].id] = node.value
+        elif isinstance(node, ast.Assign) and isinstance(node.targets[0], ast.Tuple) and isinstance(node.value, ast.Tuple):
+            numbers.update({name.id: it.value for name, it in zip(node.targets[0].elts, node.value.elts) if name.id in ("_OK", "_TOO_SMALL")})
         elif isinstance(node, ast.ClassDef):
             classes[node.name] = node.body
+    yield from status_faults(header, tables, numbers)
     parameters = ast.literal_eval(tables["_PARAMETERS"])
     for name in sorted({*header.functions, *parameters}):
         letters = parameters.get(name, "").replace(" ", "")

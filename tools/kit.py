@@ -1,4 +1,5 @@
 """What tools/build, tools/mutants and tools/static_library share: the kit's own modules, and proofs of crates in parallel."""
+import contextlib
 import functools
 import importlib.machinery
 import importlib.util
@@ -17,9 +18,31 @@ AHEAD = 2
 OF_KIT, OF_CRATE = ("RATTLE", "cores", "files_of", "guarded", "help_of", "lock", "text_of"), ("below", "build_static", "call", "is_built", "run", "words")
 
 
+def require():
+    """Ends the script where the kit is not in the path."""
+    if shutil.which("rt") is None:
+        script = os.path.relpath(os.path.realpath(sys.argv[0]), ROOT)
+        sys.exit(f"{script}: the command `rt` of the Rattle kit is not in the path: CONTRIBUTING.md, under \"Set up\", says where it comes from")
+
+
+def name():
+    """The kit's name, or nothing if there is none in the path."""
+    try:
+        said = subprocess.run(["rt", "version"], capture_output=True, text=True, timeout=60, check=False).stdout.split()
+    except (OSError, subprocess.TimeoutExpired):
+        return ""
+    return said[0] if said else ""
+
+
+def folder():
+    """The kit's folder."""
+    return os.path.dirname(os.path.dirname(os.path.realpath(shutil.which("rt"))))
+
+
 def load(file):
     """A Python file of the kit as a module."""
-    path = f"{os.path.dirname(os.path.realpath(shutil.which('rt') or 'rt'))}/{file}"
+    require()
+    path = f"{os.path.dirname(os.path.realpath(shutil.which('rt')))}/{file}"
     name = file.removesuffix(".py")
     loader = importlib.machinery.SourceFileLoader(name, path)
     made = importlib.util.module_from_spec(importlib.util.spec_from_loader(name, loader))
@@ -63,6 +86,43 @@ def stamp(made, crate):
 def stamp_file(library):
     """The file with the stamp of the library's sources: the kit rebuilds a library whose stamp has changed."""
     return f"{library.folder}/out/rlib/stamp"
+
+
+def is_newer(library, sources):
+    """Whether a source was written after the library was put in its place. (Its files may be older: the kit keeps what it proved.)"""
+    return max(map(os.path.getmtime, sources)) > os.path.getmtime(library.rlib)
+
+
+@contextlib.contextmanager
+def proved_below(name):
+    """Has the kit take the libraries below a crate as proved, for a while, if `rt ci` has proved them.
+
+    A command of the kit proves a library again unless crates/NAME/out/rlib holds one with a stamp, a checksum of its sources. The libraries that `rt ci` leaves
+    there have no stamp, because they hold only statements, which fit only the libraries that they were built on. Those of one run get their stamps here, and
+    lose them afterwards. A library gets none if a source of it is newer, if it has one already, because another command built it, or if it uses such a library:
+    the kit then proves it again if it must.
+    """
+    made, script = module(), os.path.relpath(os.path.realpath(sys.argv[0]), ROOT)
+    libraries = made.Crate(f"{ROOT}/crates/{name}", ROOT, {}).below()
+    missing = [library.name for library in libraries if not os.path.isdir(library.rlib)]
+    if missing:
+        sys.exit(f"{script}: {missing[0]} is not built: run `rt ci`, or `tools/build --library`")
+    changed = {it.name for it in libraries if is_newer(it, [*made.files_of(it.folder), f"{ROOT}/crates.txt"])}
+    if changed:
+        print(f"{script}: changed since `rt ci`, and proved again: {' '.join(sorted(changed))}", file=sys.stderr)
+    others = changed | {it.name for it in libraries if os.path.exists(stamp_file(it))}
+    written = []
+    try:
+        for library in libraries:
+            if others.isdisjoint(below.name for below in [library, *library.below()]):
+                with open(stamp_file(library), "w", encoding="utf-8") as file:
+                    file.write(library.stamp())
+                written.append(stamp_file(library))
+        yield
+    finally:
+        for path in written:
+            with contextlib.suppress(FileNotFoundError):
+                os.remove(path)
 
 
 def lines(made, crate):

@@ -3,7 +3,6 @@ import concurrent.futures
 import os
 import re
 import subprocess
-import sys
 
 ROOT = os.path.dirname(os.path.dirname(os.path.abspath(__file__)))
 SECONDS = 60
@@ -61,10 +60,3 @@ def tell(title, count, differing):
         print(fault if len(fault) <= 4 * COLUMNS else f"{fault[: 4 * COLUMNS]} ..")
     print(f"{title}: {count} played, {len(differing)} differ")
     return 1 if differing or not count else 0
-
-
-def program_named(words):
-    """The path of `dm` from the script's arguments."""
-    if not words or not os.access(words[0], os.X_OK):
-        sys.exit(f"usage: {os.path.relpath(sys.argv[0], ROOT)} PATH-OF-DM ..")
-    return os.path.abspath(words[0])

@@ -18,6 +18,10 @@ TRAIT = re.compile(r"^pub trait (\w+)")
 TYPE = re.compile(r"^(?:pub(?:\(crate\))? )?(struct|enum) (\w+)")
 
 
+# The crates of the kit whose definitions this repository's definitions name.
+OF_KIT = ("clap",)
+
+
 def text_of(path):
     with open(f"{ROOT}/{path}", encoding="utf-8") as file:
         return file.read()
@@ -67,24 +71,31 @@ class Contract:
 
 
 class Specs:
-    """The definitions by their keys, the contracts, and the head comment of each file."""
+    """The definitions by their keys, the contracts, and the head comment of each file. With the path of the kit's crates, also the definitions of those of them
+    that definitions here name."""
 
-    def __init__(self):
+    def __init__(self, kit=None):
+        self.places = {crate: f"{kit}/{crate}" for crate in OF_KIT} if kit else {}
+        # Names that a file of the kit passes on, and those that they stand for.
+        self.passed_on = {}
         self.definitions, self.contracts, self.heads, self.imports, self.groups = {}, [], {}, {}, {}
         self.files, self.abouts, self.values = {}, {}, set()
         for crate, group in crate_names():
             self.groups[crate] = group
             self.read_specs(crate)
             self.read_sources(crate)
+        for crate in self.places:
+            self.read_specs(crate)
         self.resolve()
 
     def read_specs(self, crate):
-        for at, folders, names in sorted(os.walk(f"{ROOT}/crates/{crate}/specs")):
+        top = f"{self.places.get(crate, f'{ROOT}/crates/{crate}')}/specs"
+        for at, folders, names in sorted(os.walk(top)):
             folders.sort()
             for name in sorted(names):
                 path = os.path.relpath(f"{at}/{name}", ROOT)
                 if name.endswith(".antt") and name != "Lib.antt":
-                    module = os.path.relpath(path, f"crates/{crate}/specs")[: -len(".antt")].replace("/", ".")
+                    module = os.path.relpath(f"{at}/{name}", top)[: -len(".antt")].replace("/", ".")
                     self.read_file(crate, module, path)
 
     def read_file(self, crate, module, path):
@@ -97,6 +108,8 @@ class Specs:
             used, begun = USE.match(line), BEGINS.match(line)
             if used:
                 imports.update(imported(used))
+                if line.startswith("pub "):
+                    self.passed_on.update({f"{crate}.{module}.{name}": type_path(it.split(".")) for name, it in imported(used).items()})
             elif line.startswith("  -- ") and is_inside:
                 # (The comment of a field.)
                 current.lines.append(line)
@@ -226,6 +239,7 @@ class Specs:
         found = []
         for word in WORD.findall(re.sub(r'"[^"]*"', "", text)):
             for path in self.paths(crate, module, imports, word):
+                path = self.passed_on.get(path, path)
                 if path in self.definitions:
                     found.append(path)
                     break

@@ -30,7 +30,7 @@ class Blocks(unittest.TestCase):
     def test_the_list_stays_whole(self) -> None:
         while self.machine.run(100).why is Stop.STEPS:
             blocks = self.machine.blocks()
-            self.assertIsNotNone(blocks)
+            self.assertIsNone(blocks.destroyed)
             self.assertEqual([block.last for block in blocks], [False] * (len(blocks) - 1) + [True])
 
     def test_nothing_is_left_allocated(self) -> None:

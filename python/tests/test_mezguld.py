@@ -1,9 +1,19 @@
 """Tests of the module `mezguld` over the built library. From the top: `python3 -m unittest discover -s python/tests -t python`."""
+import copy
+import ctypes
+import gc
 import os
+import pickle
+import signal
 import sys
+import threading
+import time
 import unittest
+import weakref
+from unittest import mock
 
-sys.path.insert(0, os.path.dirname(os.path.dirname(os.path.abspath(__file__))))
+ROOT = os.path.dirname(os.path.dirname(os.path.dirname(os.path.abspath(__file__))))
+sys.path.insert(0, os.path.join(ROOT, "python"))
 import mezguld  # noqa: E402
 from mezguld import Block, Machine, Stop, Stopped  # noqa: E402
 
@@ -11,6 +21,11 @@ from mezguld import Block, Machine, Stop, Stopped  # noqa: E402
 ECHO = "next: MOV AH,8\nINT 21h\nMOV DL,AL\nMOV AH,2\nINT 21h\nJMP next\n"
 # Ends with code 7.
 END = "MOV AX,4C07h\nINT 21h\n"
+# Goes on for ever, with a repetition, a call of DOS and a line of output in each turn.
+TURNS = "next: MOV CX,5\nMOV DI,2000h\nREP STOSB\nINC BX\nMOV AH,30h\nINT 21h\nMOV DL,BL\nMOV AH,2\nINT 21h\nJMP next\n"
+# Goes on for ever, and writes nothing.
+LOOP = "next: INC BX\nJMP next\n"
+MOST = 2**64 - 1
 
 
 def started(text: str, **options: object) -> Machine:
@@ -77,8 +92,19 @@ class Memory(unittest.TestCase):
             blocks = machine.blocks()
             self.assertEqual(blocks[0], Block(0x0100, False, blocks[1].owner, 1))
             self.assertTrue(blocks[-1].last)
+            self.assertIsNone(blocks.destroyed)
+            machine.write(0x0102, 0, b"?")
+            self.assertEqual(machine.blocks(), blocks[:1])
+            self.assertEqual(machine.blocks().destroyed, 0x0102)
             machine.write(0x0100, 0, b"?")
-            self.assertIsNone(machine.blocks())
+            self.assertEqual((machine.blocks(), machine.blocks().destroyed), ([], 0x0100))
+            self.assertEqual(repr(machine.blocks()), "Blocks([], destroyed=0x0100)")
+
+    def test_segments_print_in_hexadecimal(self) -> None:
+        with started(END) as machine:
+            self.assertEqual(repr(machine.blocks()[0]), "Block(segment=0x0100, last=False, owner=0x0103, size=1)")
+            self.assertEqual(str(machine.registers)[:31], "Registers(ax=0x0000, bx=0x0000,")
+            self.assertIn("sp=0xFFFE", f"{machine.registers}")
 
 
 class Commands(unittest.TestCase):
@@ -136,8 +162,10 @@ class Refusals(unittest.TestCase):
         machine = started(END)
         machine.close()
         machine.close()
-        for call in (lambda: machine.run(1), lambda: machine.steps, machine.output, machine.blocks, lambda: machine.add("A", b"")):
-            self.assertRaises(mezguld.NoMachine, call)
+        for name, call in CALLS.items():
+            with self.subTest(name):
+                self.assertRaises(mezguld.NoMachine, call, machine)
+                self.assertRaisesRegex(mezguld.Error, "^the machine was closed$", call, machine)
 
     def test_texts(self) -> None:
         with self.assertRaises(mezguld.LineSyntax) as caught:
@@ -149,7 +177,504 @@ class Refusals(unittest.TestCase):
         self.assertRaises(ValueError, started(END).read, 65_536, 0, 1)
 
 
+# A call of each method and property of a machine but `close`. Each can be made over a loaded machine.
+CALLS = {
+    "run": lambda machine: machine.run(3),
+    "run_until": lambda machine: machine.run_until(3, [(1, 2)]),
+    "check": lambda machine: machine.check(3),
+    "steps": lambda machine: machine.steps,
+    "registers": lambda machine: machine.registers,
+    "read": lambda machine: machine.read(0x0100, 0, 16),
+    "write": lambda machine: machine.write(0x3000, 0, b"12345"),
+    "output": lambda machine: machine.output(),
+    "command": lambda machine: machine.command("R"),
+    "command G": lambda machine: machine.command("G 3"),
+    "blocks": lambda machine: machine.blocks(),
+    "add": lambda machine: machine.add("LATE.COM", b"x"),
+    "load": lambda machine: machine.load("MAIN.COM"),
+}
+
+
+class Errors(unittest.TestCase):
+    KINDS = {**mezguld._REFUSALS, **mezguld._LINES}
+
+    def test_each_has_its_status_and_a_text(self) -> None:
+        for status, kind in self.KINDS.items():
+            error = kind(5) if status in mezguld._LINES else kind()
+            with self.subTest(kind.__name__):
+                self.assertIsInstance(error, mezguld.Error)
+                self.assertEqual(error.status, status)
+                self.assertGreater(len(str(error)), 8)
+                self.assertIn(kind.__name__, mezguld.__all__)
+                again = pickle.loads(pickle.dumps(error))
+                self.assertEqual((type(again), str(again), again.status), (kind, str(error), status))
+
+    def test_all_names_are_there(self) -> None:
+        public = {name for name, it in vars(mezguld).items() if isinstance(it, type) and issubclass(it, Exception)}
+        self.assertEqual(public - set(mezguld.__all__), set())
+        self.assertEqual([name for name in mezguld.__all__ if not hasattr(mezguld, name)], [])
+
+    def test_an_unknown_status_is_an_error(self) -> None:
+        with self.assertRaises(mezguld.Error) as caught:
+            mezguld._check(99)
+        self.assertEqual((type(caught.exception), caught.exception.status), (mezguld.Error, 99))
+        self.assertIn("99", str(caught.exception))
+
+    def test_a_caught_one_has_them(self) -> None:
+        with self.assertRaises(mezguld.Error) as caught:
+            Machine().run(1)
+        self.assertEqual((caught.exception.status, str(caught.exception)), (14, "no program is loaded"))
+        with self.assertRaises(mezguld.LineRefused) as caught:
+            mezguld.assemble("NOP\nJMP away\n")
+        self.assertEqual((caught.exception.status, str(caught.exception)), (18, "line 2: it names a label that no line has"))
+
+
+class NoCalls:
+    """A library that nothing may call."""
+
+    def __getattr__(self, name: str) -> object:
+        def call(*_: object) -> int:
+            raise AssertionError(f"{name} was called")
+
+        return call
+
+
+class WrongArguments(unittest.TestCase):
+    """What is no argument is refused before any call of C."""
+
+    # Neither a count nor a word; of wrong type; neither bytes nor a text; not even a text.
+    NUMBERS = (-1, 2**64, -(2**63), 2**200)
+    NO_NUMBERS = (1.0, "1", b"1", None, [1], float("nan"))
+    NO_BYTES = (144, 0, -1, True, 1.5, None, [1, 2], (1,), {1}, object())
+
+    def refuses(self, kinds: object, call: object, *arguments: object) -> None:
+        with self.subTest(repr(arguments)), mock.patch.object(mezguld, "_library", NoCalls()):
+            self.assertRaises(kinds, call, *arguments)
+
+    def test_sizes(self) -> None:
+        for name in ("ems_pages", "xms_kib"):
+            for number in self.NUMBERS:
+                self.refuses(ValueError, lambda number: Machine(**{name: number}), number)
+            for other in self.NO_NUMBERS:
+                self.refuses(TypeError, lambda other: Machine(**{name: other}), other)
+        for number in (2, -1, 2**32, 2**64):
+            self.refuses(ValueError, lambda number: Machine(upper=number), number)
+        for other in self.NO_NUMBERS:
+            self.refuses(TypeError, lambda other: Machine(upper=other), other)
+        for number in (513, 2**32 - 1, 2**32, 2**80):
+            self.assertRaises(mezguld.TooLarge, Machine, ems_pages=number)
+
+    def test_variables(self) -> None:
+        for other in ("PATH=C:", "", b"PATH=C:", b"", bytearray(b"A=B"), 5, None, [5], [None], ["A=B", 1], [["A=B"]]):
+            self.refuses(TypeError, lambda other: Machine(variables=other), other)
+        for other in ([""], ["A=B", b""], ["A=B\0C=D"], ["\u1234"]):
+            self.refuses(ValueError, lambda other: Machine(variables=other), other)
+        Machine(variables=(it for it in ("A=B", b"C=D", bytearray(b"E=F")))).close()
+
+    def test_steps(self) -> None:
+        with started(END) as machine:
+            for call in (machine.run, machine.check, lambda steps: machine.run_until(steps, [])):
+                for number in self.NUMBERS:
+                    self.refuses(ValueError, call, number)
+                for other in self.NO_NUMBERS:
+                    self.refuses(TypeError, call, other)
+            self.assertEqual(machine.steps, 0)
+            self.assertEqual(machine.run(MOST), Stopped(Stop.EXITED, 7))
+
+    def test_addresses(self) -> None:
+        with started(END) as machine:
+            for number in (-1, 0x10000, 2**16 + 5, 2**64, -(2**64)):
+                self.refuses(ValueError, machine.read, number, 0, 1)
+                self.refuses(ValueError, machine.read, 0, number, 1)
+                self.refuses(ValueError, machine.write, number, 0, b"x")
+                self.refuses(ValueError, machine.write, 0, number, b"x")
+                self.refuses(ValueError, machine.run_until, 5, [(0, 0), (number, 0)])
+                self.refuses(ValueError, machine.run_until, 5, [(0, number)])
+            for other in self.NO_NUMBERS:
+                self.refuses(TypeError, machine.read, other, 0, 1)
+                self.refuses(TypeError, machine.read, 0, other, 1)
+                self.refuses(TypeError, machine.write, other, 0, b"x")
+                self.refuses(TypeError, machine.write, 0, other, b"x")
+                self.refuses(TypeError, machine.run_until, 5, [(other, 0)])
+                self.refuses(TypeError, machine.run_until, 5, [(0, other)])
+            for other in (5, None, [5], [None], 1.5):
+                self.refuses(TypeError, machine.run_until, 5, other)
+            for other in ([(1,)], [(1, 2, 3)], [()], ["123"]):
+                self.refuses(ValueError, machine.run_until, 5, other)
+            self.refuses(TypeError, machine.run_until, 5, ["12"])
+
+    def test_counts(self) -> None:
+        with started(END) as machine:
+            for number in (-1, -(2**64), 65_537, 2**31, 2**62, 2**64 - 1, 2**64, 2**200):
+                self.refuses(ValueError, machine.read, 0, 0, number)
+            for other in self.NO_NUMBERS:
+                self.refuses(TypeError, machine.read, 0, 0, other)
+            self.assertEqual(len(machine.read(0x0100, 5, 65_536)), 65_536)
+
+    def test_bytes(self) -> None:
+        machine = Machine()
+        machine.add("MAIN.COM", b"\xf4")
+        for other in (*self.NO_BYTES, "text", ""):
+            self.refuses(TypeError, machine.add, "A", other)
+            self.refuses(TypeError, machine.load, "MAIN.COM", "", other)
+            self.refuses(TypeError, machine.write, 0x100, 0, other)
+            self.refuses(TypeError, mezguld.disassemble, other)
+        for other in self.NO_BYTES:
+            self.refuses(TypeError, machine.add, other, b"")
+            self.refuses(TypeError, machine.load, other)
+            self.refuses(TypeError, machine.load, "MAIN.COM", other)
+            self.refuses(TypeError, machine.command, other)
+            self.refuses(TypeError, mezguld.assemble, other)
+        for call in (lambda text: machine.add(text, b""), machine.load, lambda text: machine.load("MAIN.COM", text), machine.command):
+            self.refuses(ValueError, call, "\u1234")
+        machine.load("MAIN.COM")
+
+    def test_what_has_a_buffer_is_bytes(self) -> None:
+        with started(END) as machine:
+            for data in (b"\x90\x91", bytearray(b"\x90\x91"), memoryview(b"\x90?\x91?")[::2], (ctypes.c_ubyte * 2)(0x90, 0x91)):
+                machine.write(0x3000, 0, bytes(2))
+                machine.write(0x3000, 0, data)
+                self.assertEqual(machine.read(0x3000, 0, 3), b"\x90\x91\x00")
+
+    def test_a_machine_is_not_copied(self) -> None:
+        with started(END) as machine:
+            for call in (copy.copy, copy.deepcopy, pickle.dumps):
+                self.assertRaises(TypeError, call, machine)
+            self.assertEqual(machine.run(100).why, Stop.EXITED)
+
+
+def in_threads(*calls: object) -> list:
+    """What the calls return, each made on a thread of its own: results and exceptions."""
+    results = [None] * len(calls)
+
+    def one(at: int) -> None:
+        try:
+            results[at] = calls[at]()
+        except BaseException as error:  # pylint: disable=broad-except
+            results[at] = error
+
+    threads = [threading.Thread(target=one, args=(at,)) for at in range(len(calls))]
+    for thread in threads:
+        thread.start()
+    for thread in threads:
+        thread.join()
+    return results
+
+
+class Threads(unittest.TestCase):
+    STEPS = 20_000_000
+
+    def test_each_call_waits_for_a_run(self) -> None:
+        for name, call in CALLS.items():
+            with self.subTest(name), started(LOOP) as machine, started(LOOP) as plain:
+                plain.run(self.STEPS)
+                wanted = in_threads(lambda: call(plain))[0]
+                begun = threading.Event()
+
+                def later() -> object:
+                    begun.wait()
+                    time.sleep(0.01)
+                    return call(machine)
+
+                def run() -> Stopped:
+                    begun.set()
+                    return machine.run(self.STEPS)
+
+                stopped, *found = in_threads(run, later)
+                self.assertEqual(stopped, Stopped(Stop.STEPS, 0))
+                self.assertEqual([repr(it) for it in found], [repr(wanted)])
+
+    def test_four_threads_at_each_call(self) -> None:
+        for name, call in CALLS.items():
+            with self.subTest(name), started(LOOP) as machine:
+
+                def often() -> list:
+                    return [in_threads(lambda: call(machine))[0] if turn == 0 else self.tried(call, machine) for turn in range(100)]
+
+                for results in in_threads(often, often, often, often):
+                    self.assertIsInstance(results, list)
+                    for result in results:
+                        self.assertNotIsInstance(result, mezguld.NoMachine)
+                        self.assertTrue(not isinstance(result, BaseException) or isinstance(result, mezguld.Started), repr(result))
+                if name in ("run", "run_until", "check", "command G"):
+                    self.assertEqual(machine.steps, 4 * 100 * 3)
+
+    def tried(self, call: object, machine: Machine) -> object:
+        try:
+            return call(machine)
+        except mezguld.Error as error:
+            return error
+
+    def test_calls_of_all_kinds_together(self) -> None:
+        with started(LOOP) as machine:
+
+            def mixed(first: int) -> None:
+                calls = [*CALLS.values()]
+                for turn in range(200):
+                    self.tried(calls[(first + turn) % len(calls)], machine)
+
+            self.assertEqual(in_threads(*(lambda first=first: mixed(3 * first) for first in range(4))), [None] * 4)
+            self.assertEqual(machine.command("R").count(b"="), 14)
+
+    def test_a_command_keeps_its_answer(self) -> None:
+        with started(LOOP) as machine:
+            answers = {line: machine.command(line) for line in ("M", "D 0103:0100", "U 0103:0100", "X")}
+
+            def asked(line: str) -> set:
+                return {machine.command(line) for _ in range(300)}
+
+            self.assertEqual(in_threads(*(lambda line=line: asked(line) for line in answers)), [{answer} for answer in answers.values()])
+
+    def test_close_waits(self) -> None:
+        for name in ("run", "run_until", "check", "command G"):
+            machine = started(LOOP)
+            calls = {
+                "run": lambda: machine.run(self.STEPS).why, "run_until": lambda: machine.run_until(self.STEPS, []).why,
+                "check": lambda: machine.check(1_000_000)[0].why, "command G": lambda: machine.command("G 1000000")[:5],
+            }
+            begun = threading.Event()
+
+            def close() -> None:
+                begun.wait()
+                time.sleep(0.01)
+                machine.close()
+
+            def run() -> object:
+                begun.set()
+                return calls[name]()
+
+            with self.subTest(name):
+                self.assertIn(in_threads(run, close)[0], (Stop.STEPS, b"steps"))
+                self.assertRaises(mezguld.NoMachine, machine.run, 1)
+
+    def test_close_by_four_threads(self) -> None:
+        for _ in range(20):
+            machine = started(END)
+            self.assertEqual(in_threads(*[machine.close] * 4), [None] * 4)
+
+    def test_garbage_is_collected_on_another_thread(self) -> None:
+        class Owner:
+            """Something in a circle, which only the collector frees."""
+
+        def make() -> None:
+            owner = Owner()
+            owner.owner, owner.machine = owner, started(END)
+
+        gc.collect()
+        with started(LOOP) as machine:
+            for _ in range(10):
+                in_threads(make)
+            self.assertEqual(in_threads(lambda: machine.run(self.STEPS).why, gc.collect, gc.collect)[0], Stop.STEPS)
+            self.assertEqual(machine.steps, self.STEPS)
+
+    def test_a_refused_run_keeps_no_machine(self) -> None:
+        gc.collect()
+        gc.disable()
+        try:
+            for call in (lambda machine: machine.run(1_000_000), lambda machine: machine.command("G 1000000"), lambda machine: machine.check(1_000_000)):
+                machine = Machine()
+                self.assertRaises(mezguld.NotLoaded, call, machine)
+                lost = weakref.ref(machine)
+                del machine
+                self.assertIsNone(lost())
+        finally:
+            gc.enable()
+
+    @unittest.skipUnless(hasattr(os, "fork"), "no fork")
+    def test_a_forked_child_does_not_wait_for_a_lost_thread(self) -> None:
+        machine = started(LOOP)
+        running = threading.Thread(target=lambda: machine.run(4 * self.STEPS))
+        running.start()
+        time.sleep(0.01)
+        child = os.fork()
+        if child == 0:
+            signal.alarm(20)
+            machine.__del__()
+            os._exit(0)
+        self.assertEqual(os.waitpid(child, 0)[1], 0)
+        running.join()
+        self.assertEqual(machine.steps, 4 * self.STEPS)
+
+
+class Slices(unittest.TestCase):
+    """A run in slices of whatever size is the run."""
+
+    SIZES = (1, 2, 3, 7, 16, 64)
+
+    def sliced(self, size: int) -> object:
+        return mock.patch.multiple(mezguld, _FIRST_SLICE=size, _LONGEST_SLICE=size)
+
+    def seen(self, machine: Machine) -> tuple:
+        return machine.steps, machine.registers, machine.output(), machine.read(0x0103, 0, 0x10000)
+
+    def test_runs(self) -> None:
+        for text, most in ((TURNS, 60), (END, 6), ("HLT\n", 2), (ECHO, 30), ("DB 0Fh\n", 2)):
+            for steps in range(most):
+                with started(text, input=b"ab") as whole:
+                    wanted = whole.run(steps), self.seen(whole)
+                for size in self.SIZES:
+                    with self.subTest(text=text, steps=steps, size=size), self.sliced(size), started(text, input=b"ab") as machine:
+                        self.assertEqual((machine.run(steps), self.seen(machine)), wanted)
+
+    def test_runs_to_breakpoints(self) -> None:
+        offsets = [*range(0x100, 0x11C)]
+        sets = [[(0x0103, offset)] for offset in offsets] + [[(0xF000, 0x84)], [(0x0103, offset) for offset in offsets], [(0x0104, 0xF0)], []]
+        for points in sets:
+            for turns in (1, 3):
+                for steps in (0, 1, 2, 5, 23, 40):
+                    with started(TURNS) as whole:
+                        wanted = [whole.run_until(steps, points) for _ in range(turns)], self.seen(whole)
+                    for size in (1, 2, 5):
+                        with self.subTest(points=points, steps=steps, size=size), self.sliced(size), started(TURNS) as machine:
+                            self.assertEqual(([machine.run_until(steps, points) for _ in range(turns)], self.seen(machine)), wanted)
+
+    def test_the_command_g(self) -> None:
+        odd = ["G 00000001", "G FFFFFFFFF", "G 5 5", "G x", " G 2"]
+        for lines in (["G"], ["g 5", "G 0"], ["B 0103:010A", "G", "G 3", "G"], ["B 0103:0100", "G 1", "G 64", "G"], odd):
+            for text in (TURNS, END):
+                answers = []
+                for size in (1 << 30, 1, 2, 5, 1000):
+                    with self.sliced(size), mock.patch.object(mezguld, "_GO_STEPS", "200"), started(text) as machine:
+                        # (The first goes to the library whole.)
+                        call = machine._answered if size == 1 << 30 else machine.command
+                        shown = [line.replace("G", "G 200") if line == "G" else line for line in lines] if size == 1 << 30 else lines
+                        answers.append(([self.answered(call, line) for line in shown], self.seen(machine)))
+                self.assertEqual(answers[1:], answers[:1] * 4)
+
+    def answered(self, call: object, line: str) -> object:
+        try:
+            return call(line.encode())
+        except mezguld.Error as error:
+            return repr(error)
+
+    def test_slices_grow_and_shrink(self) -> None:
+        counts = []
+
+        def run(count: int) -> tuple:
+            counts.append(count)
+            time.sleep(0.2 if len(counts) in (5, 6) else 0)
+            return None, True
+
+        mezguld._sliced(40_000_000, run, lambda: False)
+        self.assertEqual(sum(counts), 40_000_000)
+        self.assertEqual(counts[:5], [mezguld._FIRST_SLICE << at for at in range(5)])
+        self.assertLess(counts[6], counts[5] / 3)
+
+
+class Interrupts(unittest.TestCase):
+    """Ctrl-C is served within a quarter of a second."""
+
+    # These steps take some seconds.
+    CHECKED = 100_000_000
+
+    def interrupted(self, call: object) -> None:
+        sent = []
+
+        def send() -> None:
+            time.sleep(0.3)
+            sent.append(time.monotonic())
+            os.kill(os.getpid(), signal.SIGINT)
+
+        sender, ends = threading.Thread(target=send), []
+        sender.start()
+        with self.assertRaises(KeyboardInterrupt):
+            call()
+            ends.append(time.monotonic())
+            sender.join()
+        self.assertLess(time.monotonic() - sent[0], 0.25)
+        self.assertEqual(ends, [], "the call ended before Ctrl-C came")
+        sender.join()
+
+    def test_runs(self) -> None:
+        with started(LOOP) as machine:
+            self.interrupted(lambda: machine.run(MOST))
+            # It stands after some of its steps, and goes on.
+            steps = machine.steps
+            self.assertGreater(steps, 0)
+            time.sleep(0.1)
+            self.assertEqual(machine.steps, steps)
+            self.interrupted(lambda: machine.run_until(MOST, [(0, 0)]))
+            self.interrupted(lambda: machine.command("G FFFFFFFF"))
+            self.assertEqual(machine.run(5), Stopped(Stop.STEPS, 0))
+            with started(LOOP) as other:
+                other.run(machine.steps)
+                self.assertEqual(other.registers, machine.registers)
+
+    def test_a_checked_run(self) -> None:
+        with started(LOOP) as machine:
+            self.interrupted(lambda: machine.check(self.CHECKED))
+            # It is made to its end, and the next call waits for that.
+            self.assertEqual(machine.steps, self.CHECKED)
+            self.assertEqual(machine.check(5)[0], Stopped(Stop.STEPS, 0))
+
+    def test_the_end_of_a_with_block(self) -> None:
+        for call in (lambda machine: machine.run(MOST), lambda machine: machine.check(self.CHECKED), lambda machine: machine.command("G FFFFFFFF")):
+            machines = []
+
+            def whole() -> None:
+                with started(LOOP) as machine:
+                    machines.append(machine)
+                    call(machine)
+
+            self.interrupted(whole)
+            begin = time.monotonic()
+            self.assertRaises(mezguld.NoMachine, machines[0].run, 5)
+            self.assertLess(time.monotonic() - begin, 0.25)
+            for ended in machines[0]._left:
+                ended.wait()
+            self.assertEqual(machines[0]._handle.mark, 0)
+
+    def test_slow_steps(self) -> None:
+        """Some fast steps, and then calls that each go through a list of thousands of blocks."""
+        text = (
+            "MOV SP,400h\nMOV BX,50h\nMOV AH,4Ah\nINT 21h\nMOV CX,0FFFFh\nnext: LOOP next\n"
+            "more: MOV AH,48h\nMOV BX,1\nINT 21h\nJNC more\nagain: MOV AH,48h\nINT 21h\nJMP again\n"
+        )
+        with started(text) as machine:
+            self.interrupted(lambda: machine.run(MOST))
+
+    def test_a_call_that_waits(self) -> None:
+        with started(LOOP) as machine:
+            over = threading.Event()
+
+            def run() -> None:
+                while not over.is_set():
+                    machine.run(mezguld._FEW)
+
+            with machine._lock:
+                holder = threading.Thread(target=run)
+                holder.start()
+                self.interrupted(lambda: in_time(machine))
+            over.set()
+            holder.join()
+
+    def test_other_exceptions_of_signals(self) -> None:
+        class Late(Exception):
+            """Time is over."""
+
+        def handler(*_: object) -> None:
+            raise Late
+
+        old = signal.signal(signal.SIGALRM, handler)
+        try:
+            with started(LOOP) as machine:
+                signal.setitimer(signal.ITIMER_REAL, 0.1)
+                self.assertRaises(Late, machine.run, MOST)
+        finally:
+            signal.signal(signal.SIGALRM, old)
+
+
+def in_time(machine: Machine) -> None:
+    """A run on the main thread, whose thread waits for the machine."""
+    machine.run(MOST)
+
+
 class Texts(unittest.TestCase):
+    def test_any_text(self) -> None:
+        self.assertEqual(mezguld.assemble("NOP ; \u1234 \U0001F600 \udc80 \x00\n"), b"\x90")
+        self.assertEqual(mezguld.assemble("DB '\u00e9'\n"), "\u00e9".encode())
+        self.assertEqual(mezguld.assemble(bytearray(b"NOP\n")), b"\x90")
+
     def test_a_listing_assembles(self) -> None:
         program = bytes(range(256)) * 16
         self.assertEqual(mezguld.assemble(mezguld.disassemble(program)), program)

@@ -17,9 +17,9 @@ mod sums;
 mod width;
 
 pub use adjustments::{Adjustment, adjust};
-pub use bitwise::{LogicOperation, logic, logic_in_place};
+pub use bitwise::{LogicOperation, logic};
 pub use flags::Flags;
 pub use products::{Division, Sign, div, mul};
-pub use shifts::{ShiftOperation, shift, shift_by_one};
-pub use sums::{add, add_in_place, sub, sub_in_place};
+pub use shifts::{ShiftOperation, shift};
+pub use sums::{add, sub};
 pub use width::Width;

@@ -3,7 +3,7 @@
 //! Source: Intel 8086 Family User's Manual, section 2.7, Arithmetic Instructions, Arithmetic Data
 //! Formats.
 ghost use Rattle.std.specs.Prelude.{◌≡◌, ◌<◌, pos, ◌-ℤ◌, ◌≤ℤ◌, ◌<ℤ◌, ◌≤◌, unsigned_abs};
-ghost use Rattle.dm_alu.specs.Width.{size, half, is_negative, signed, leaves_range};
+ghost use Rattle.dm_alu.specs.Width.{size, half, is_negative, signed};
 
 /// Whether an operation works on bytes or on words.
 #[derive(Clone, Copy, Debug, PartialEq, Eq)]
@@ -59,16 +59,5 @@ impl Width {
         } else {
             i32::from(value)
         }
-    }
-
-    /// Whether no value of the width stands for the signed number, as where a sum or difference
-    /// overflows: for a byte it is at least 128 or below -128, for a word at least 32,768 or below
-    /// -32,768.
-    #[tactic(auto, unfolding(crate::specs::Width::leaves_range))]
-    pub(crate) fn leaves_range(self, number: i32) -> bool
-        ensures { result ≡ leaves_range self number }
-    {
-        let half = i32::from(self.half());
-        number >= half || number < -half
     }
 }

@@ -1,8 +1,14 @@
 -- How an export ends: with a handle that holds no machine, with success or a refusal, and with a buffer that C passes.
 use Rattle.std.specs.Prelude.{◌≡◌, ℕ, ◌<◌, ◌≤◌, List, ◌++◌, length, drop, Option, Some, None}
+use denote.RawPtr.{null_ptr}
 use Rattle.dm_host.specs.declared.refusal.Refusal.{Refusal}
 use Rattle.dm_host.specs.Hosts.{Hosted}
+use Rattle.dm_c.specs.declared.handle.Handle.{Handle}
 use Rattle.dm_c.specs.Statuses.{status_of}
+
+-- the handle is as C's `MEZGULD_NONE`: it holds no machine, and both its pointer and its mark are 0
+abbrev pub IsNone : Handle → Type 0
+IsNone h = (h.inside.value ≡ None) × (h.inside.at ≡ null_ptr) × (h.mark ≡ 0)
 
 -- a call on a handle: it holds no machine (old) and none after (new), and Absent holds; or it holds a machine before
 -- and after, and Does holds of the two

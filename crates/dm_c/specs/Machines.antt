@@ -1,7 +1,8 @@
 -- What each export does with a machine: its status, what it sets, and the host h that becomes g. `before` and `after`
 -- are what C passes by reference, before the call and after it.
-use Rattle.std.specs.Prelude.{◌≡◌, ◌⊎◌, ℕ, Bool, List, [], map, length, Option, Some, None}
+use Rattle.std.specs.Prelude.{◌≡◌, ◌⊎◌, ℕ, ◌≤◌, Bool, List, [], map, length, Option, Some, None}
 use Rattle.dm_pool.specs.declared.sizes.Sizes.{Sizes}
+use Rattle.dm_pool.specs.Stored.{IsTooLarge}
 use Rattle.dm_state.specs.declared.stop.Stop.{Stop}
 use Rattle.dm_machine.specs.Run.{IsRun}
 use Rattle.dm_machine.specs.Until.{RunsUntil}
@@ -21,12 +22,13 @@ use Rattle.dm_c.specs.declared.values.Point.{Point}
 use Rattle.dm_c.specs.Statuses.{status_of, stopped_of, registers_of, point_of}
 use Rattle.dm_c.specs.Calls.{IsDoneOrRefused, Gives}
 
--- `mezguld_new`: a machine with no programs is made in a handle that holds no machine; a handle in use stays (status
--- 2), and at a refusal the handle still holds none
+-- `mezguld_new`: a machine with no programs is made in a handle that holds no machine, of at most 512 pages and 15,360
+-- KiB, and of at most 32,767 bytes of variables; a handle in use stays (status 2), and at a refusal the handle still
+-- holds none
 pub data Makes (old new : Option Hosted) (sizes : Sizes) (variables : List ℕ) (upper : Bool) (status : ℕ) : Type 0 where
   in_use : (h : Hosted) → old ≡ Some h → new ≡ Some h → status ≡ 2 → Makes old new sizes variables upper status
   made : old ≡ None → new ≡ Some (new_host (record { sizes = sizes; variables = variables; upper = upper; programs = [] })) → status ≡ 0
-      → Makes old new sizes variables upper status
+      → (IsTooLarge sizes → ⊥) × (length variables ≤ 0x7FFF) → Makes old new sizes variables upper status
   refused : (why : Refusal) → old ≡ None → new ≡ None → status ≡ status_of why → IsNewFault sizes variables why → Makes old new sizes variables upper status
 
 -- `mezguld_add`: a program is added; at a refusal nothing changes

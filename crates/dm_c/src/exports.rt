@@ -2,8 +2,8 @@
 //! success, otherwise why not, as `values.rt` numbers it. But for `mezguld_new` and `mezguld_free`, the status is 1 if
 //! the handle holds no machine, and nothing changes then. For all that need a loaded program, it is 14 if there is
 //! none (3 if an allocation for the points of `mezguld_run_until` fails before), and nothing changes then.
-ghost use Rattle.std.specs.Prelude.{◌≡◌, ◌<◌, None, true, false, nat_lt};
-ghost use Rattle.dm_c.specs.Calls.{IsCall};
+ghost use Rattle.std.specs.Prelude.{◌≡◌, ◌<◌, true, false, nat_lt};
+ghost use Rattle.dm_c.specs.Calls.{IsCall, IsNone};
 ghost use Rattle.dm_c.specs.Machines.{Makes, AddsTo, LoadsTo, RunsTo, RunsUntilTo, StepsTo, RegistersTo, ReadsTo, WritesTo, OutputTo, CommandsTo, ChecksTo, AnswersTo};
 
 use crate::handle::Handle;
@@ -45,12 +45,13 @@ pub extern "C" fn mezguld_new(
     }
 }
 
-/// Frees the machine of a handle, if it holds one. The handle holds none then, and the status is 0.
+/// Frees the machine of a handle, if it holds one. The handle is as `MEZGULD_NONE` then, and the status is 0.
 #[unsafe(no_mangle)]
 pub extern "C" fn mezguld_free(alloc: Global, machine: &mut Handle) -> u32
-    ensures { (result ≡ 0) × (machine.new.inside.value ≡ None) }
+    ensures { (result ≡ 0) × IsNone machine.new }
 {
     drop(machine.take(alloc));
+    *machine = Handle::none();
     OK
 }
 

@@ -1,5 +1,6 @@
 //! The handle by which C holds a machine.
 ghost use Rattle.std.specs.Prelude.{◌≡◌, Some, None, is_some, option_map};
+ghost use denote.RawPtr.{null_ptr};
 ghost use Rattle.dm_c.specs.Held.{IsMarked};
 
 use crate::inside::Inside;
@@ -20,9 +21,9 @@ pub struct Handle {
 }
 
 impl Handle {
-    /// A handle that holds no machine.
-    fn none() -> Handle
-        ensures { result.inside.value ≡ None }
+    /// A handle that holds no machine, with a null pointer and no mark, as `MEZGULD_NONE` of C.
+    pub(crate) fn none() -> Handle
+        ensures { (result.inside.value ≡ None) × (result.inside.at ≡ null_ptr) × (result.mark ≡ 0) }
     {
         Handle {
             inside: Inside::none(),

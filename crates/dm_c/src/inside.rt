@@ -1,6 +1,7 @@
 //! The pointer by which a handle holds a boxed machine.
 ghost use Rattle.std.specs.Prelude.{◌≡◌, Option, Some, None, is_some, true};
 ghost use Rattle.dm_host.specs.Hosts.{Hosted};
+ghost use denote.RawPtr.{null_ptr};
 ghost use Rattle.dm_c.specs.Held.{held, held_coded};
 
 use crate::loose::Loose;
@@ -26,7 +27,7 @@ impl Model for Inside {
 impl Inside {
     /// A null pointer: no machine.
     pub(crate) fn none() -> Inside
-        ensures { result.value ≡ None }
+        ensures { (result.value ≡ None) × (result.at ≡ null_ptr) }
     {
         Inside {
             at: ptr::null_mut(),

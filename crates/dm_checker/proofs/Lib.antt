@@ -18,3 +18,4 @@ pub mod Fetched
 pub mod Writing
 pub mod Reading
 pub mod Once
+pub mod Unserved

@@ -7,13 +7,13 @@ use Rattle.dm_blocks.specs.declared.header.Header.{Header}
 use Rattle.dm_cpu.specs.declared.cpu.Cpu.{Cpu}
 use Rattle.dm_state.specs.State.{State}
 use Rattle.dm_findings.specs.declared.calls.Call.{Call}
-use Rattle.dm_findings.specs.declared.calls.Call.TheVariants.{DivideError, Terminate, Dos, ExpandedMemory, Multiplex, ExtendedMemory}
+use Rattle.dm_findings.specs.declared.calls.Call.TheVariants.{DivideError, Terminate, Dos, ExpandedMemory, Multiplex, ExtendedMemory, Interrupt}
 use Rattle.dm_findings.specs.declared.finding.Finding.{Finding}
 use Rattle.dm_findings.specs.Calls.{call_of}
 use Rattle.dm_checker.specs.declared.acts.Before.{Before}
 use Rattle.dm_checker.specs.declared.watch.Watched.{Watched}
 use Rattle.dm_checker.specs.declared.watch.Watch.{Watch}
-use Rattle.dm_checker.specs.Calls.{is_arena, is_ending, is_starting, arranges, freed_twice, refusal_findings}
+use Rattle.dm_checker.specs.Calls.{is_arena, is_ending, is_starting, arranges, freed_twice, call_findings}
 use Rattle.dm_checker.specs.Headers.{overwritten, mapped_away}
 use Rattle.dm_checker.specs.Findings.{turned, all_overwritten, findings}
 use Rattle.dm_checker.specs.inner.Watching.{header_of, broken_at, IsWatched, IsWatch, IsSeen}
@@ -41,14 +41,14 @@ found_of c d call S T old new =
     ++ flat_map (mapped_away S T) (map header_of old.headers.items)
     ++ turned (broken_at old.broken) (broken_at new.broken)
     ++ freed_twice c d call (map header_of old.headers.items)
-    ++ refusal_findings c d call
+    ++ call_findings c d call
 
 same_found : (s t : State) (b : Before) (d : Cpu) (T : Memory) (old new : Watch) → IsBefore s b → d ≡ t.cpu → T ≡ t.memory → found_of b.cpu d b.call s.memory T old new ≡ findings s t (shown_of old) (shown_of new)
 same_found s t b d T old new h e f =
     ap₂ (λ (c : Cpu) (k : Option Call). found_of c d k s.memory T old new) h.cpu h.call
     ∙ ap₂ (λ (x : Cpu) (m : Memory). found_of s.cpu x (call_of s.cpu) s.memory m old new) e f
 
-pub looks_by : (s t : State) (b : Before) (d : Cpu) (T : Memory) (old new : Watch) (ws : List Watched) (out u v w x y : List Finding) → IsBefore s b → IsWatch s.upper s.memory old → IsWatch t.upper t.memory new → d ≡ t.cpu → T ≡ t.memory → ws ≡ old.headers.items → u ≡ out ++ all_overwritten (arranges b.cpu b.call) s.memory T (map header_of old.headers.items) → v ≡ u ++ flat_map (mapped_away s.memory T) (map header_of old.headers.items) → w ≡ v ++ turned (broken_at old.broken) (broken_at new.broken) → x ≡ w ++ freed_twice b.cpu d b.call (map header_of ws) → y ≡ x ++ refusal_findings b.cpu d b.call → Looks s t out y
+pub looks_by : (s t : State) (b : Before) (d : Cpu) (T : Memory) (old new : Watch) (ws : List Watched) (out u v w x y : List Finding) → IsBefore s b → IsWatch s.upper s.memory old → IsWatch t.upper t.memory new → d ≡ t.cpu → T ≡ t.memory → ws ≡ old.headers.items → u ≡ out ++ all_overwritten (arranges b.cpu b.call) s.memory T (map header_of old.headers.items) → v ≡ u ++ flat_map (mapped_away s.memory T) (map header_of old.headers.items) → w ≡ v ++ turned (broken_at old.broken) (broken_at new.broken) → x ≡ w ++ freed_twice b.cpu d b.call (map header_of ws) → y ≡ x ++ call_findings b.cpu d b.call → Looks s t out y
 looks_by s t b d T old new ws out u v w x y h before after e f same p q r o n =
     let freed = o ∙ ap (λ (l : List Watched). w ++ freed_twice b.cpu d b.call (map header_of l)) same in
     record {
@@ -80,21 +80,22 @@ freed_none c d (Some (Dos number)) hs e = (let off = not_freeing c number e in r
 freed_none c d (Some (ExpandedMemory number)) hs e = refl
 freed_none c d (Some Multiplex) hs e = refl
 freed_none c d (Some (ExtendedMemory number)) hs e = refl
+freed_none c d (Some (Interrupt number)) hs e = refl
 
-pub seen_looks : (s t : State) (b : Before) (d : Cpu) (w : Watch) (out y : List Finding) → IsBefore s b → IsWatch s.upper s.memory w → IsSeen t.upper t.memory w → IsWatch t.upper t.memory w → arranges b.cpu b.call ≡ false → d ≡ t.cpu → y ≡ out ++ refusal_findings b.cpu d b.call → Looks s t out y
+pub seen_looks : (s t : State) (b : Before) (d : Cpu) (w : Watch) (out y : List Finding) → IsBefore s b → IsWatch s.upper s.memory w → IsSeen t.upper t.memory w → IsWatch t.upper t.memory w → arranges b.cpu b.call ≡ false → d ≡ t.cpu → y ≡ out ++ call_findings b.cpu d b.call → Looks s t out y
 seen_looks s t b d w out y h before seen after off e r =
     let calm : arranges s.cpu (call_of s.cpu) ≡ false = ap₂ (λ (c : Cpu) (k : Option Call). arranges c k) (sym h.cpu) (sym h.call) ∙ off in
-    let same : refusal_findings b.cpu d b.call ≡ refusal_findings s.cpu t.cpu (call_of s.cpu)
-    = ap₂ (λ (c : Cpu) (k : Option Call). refusal_findings c d k) h.cpu h.call ∙ ap (λ (x : Cpu). refusal_findings s.cpu x (call_of s.cpu)) e in
+    let same : call_findings b.cpu d b.call ≡ call_findings s.cpu t.cpu (call_of s.cpu)
+    = ap₂ (λ (c : Cpu) (k : Option Call). call_findings c d k) h.cpu h.call ∙ ap (λ (x : Cpu). call_findings s.cpu x (call_of s.cpu)) e in
     let none = freed_none s.cpu t.cpu (call_of s.cpu) (map header_of w.headers.items) calm in
     record {
-      more = refusal_findings s.cpu t.cpu (call_of s.cpu);
+      more = call_findings s.cpu t.cpu (call_of s.cpu);
       is = r ∙ ap (λ (l : List Finding). out ++ l) same;
       finds = record {
         old = shown_of w;
         new = shown_of w;
         before = before.shown;
         after = after.shown;
-        is = sym (seen_findings s t w before seen ∙ ap (λ (l : List Finding). l ++ refusal_findings s.cpu t.cpu (call_of s.cpu)) none);
+        is = sym (seen_findings s t w before seen ∙ ap (λ (l : List Finding). l ++ call_findings s.cpu t.cpu (call_of s.cpu)) none);
       };
     }

@@ -16,7 +16,7 @@ use Rattle.dm_findings.specs.Calls.{call_of}
 use Rattle.dm_findings.specs.Report.{Reported}
 use Rattle.dm_checker.specs.declared.acts.Before.{Before}
 use Rattle.dm_checker.specs.declared.watch.Watch.{Watch}
-use Rattle.dm_checker.specs.Calls.{leaves, freed_twice, refusal_findings}
+use Rattle.dm_checker.specs.Calls.{leaves, freed_twice, call_findings}
 use Rattle.dm_checker.specs.Leaks.{leaks}
 use Rattle.dm_checker.specs.Findings.{IsFound, none}
 use Rattle.dm_checker.specs.Checks.{FindsAtEnd, FindsAtStop, left_behind}
@@ -77,8 +77,8 @@ seen_there s w x pages = record { setting = sym x.setting; windows = sym x.windo
 -- without a call nothing is found of a step that changes nothing
 nothing_found : (s : State) (w : Watch) → call_of s.cpu ≡ None → IsWatch s.upper s.memory w → ((k : ℕ) → IfSome (slice_index_or s.memory.windows k None) (IsPage s.memory)) → FindsAtEnd s s []
 nothing_found s w uncalled x pages =
-    let calm : freed_twice s.cpu s.cpu (call_of s.cpu) (shown_of w).headers ++ refusal_findings s.cpu s.cpu (call_of s.cpu) ≡ []
-    = ap (λ (k : Option Call). freed_twice s.cpu s.cpu k (shown_of w).headers ++ refusal_findings s.cpu s.cpu k) uncalled in
+    let calm : freed_twice s.cpu s.cpu (call_of s.cpu) (shown_of w).headers ++ call_findings s.cpu s.cpu (call_of s.cpu) ≡ []
+    = ap (λ (k : Option Call). freed_twice s.cpu s.cpu k (shown_of w).headers ++ call_findings s.cpu s.cpu k) uncalled in
     let left : [] ++ left_behind s s ≡ [] = ap (λ (k : Option Call). if leaves k then leaks s else []) uncalled in
     record {
       findings = [];
@@ -120,8 +120,8 @@ stops s t stop w r a other = record { answers = a; found = []; finds = none_at s
 
 -- ---- a step that writes no memory
 
-none_of_call : (s t : State) (hs : List Header) → call_of s.cpu ≡ None → freed_twice s.cpu t.cpu (call_of s.cpu) hs ++ refusal_findings s.cpu t.cpu (call_of s.cpu) ≡ []
-none_of_call s t hs uncalled = ap (λ (k : Option Call). freed_twice s.cpu t.cpu k hs ++ refusal_findings s.cpu t.cpu k) uncalled
+none_of_call : (s t : State) (hs : List Header) → call_of s.cpu ≡ None → freed_twice s.cpu t.cpu (call_of s.cpu) hs ++ call_findings s.cpu t.cpu (call_of s.cpu) ≡ []
+none_of_call s t hs uncalled = ap (λ (k : Option Call). freed_twice s.cpu t.cpu k hs ++ call_findings s.cpu t.cpu k) uncalled
 
 passes_on : (s t : State) (w : Watch) (r : Reported) → call_of s.cpu ≡ None → AreConsistent s → Leaves s t → Answers s None t → IsWatch s.upper s.memory w → ChecksOne s None t w r r
 passes_on s t w r uncalled linked same a x =

@@ -1,11 +1,11 @@
 -- Findings that are told with the step that they are about.
 use Rattle.std.proofs.Common.{◌≡◌, ℕ, ◌+◌, ◌<◌, List, [], ◌∷◌, ◌++◌, map, take, length, get_or, refl, sym, ◌∙◌, ap, ap₂, append-nil, append_assoc}
 use Rattle.std.proofs.lemmas.List.{take_more, map-append}
-use Rattle.dm_cpu.specs.declared.cpu.Cpu.{Cpu}
 use Rattle.dm_state.specs.State.{State}
 use Rattle.dm_findings.specs.declared.finding.Act.{Act}
 use Rattle.dm_findings.specs.declared.finding.Finding.{Finding}
 use Rattle.dm_findings.specs.declared.finding.Found.{Found}
+use Rattle.dm_findings.specs.declared.sites.Site.{Site}
 use Rattle.dm_findings.specs.Report.{Reported, report_of}
 use Rattle.dm_checker.specs.declared.acts.Before.{Before}
 use Rattle.dm_checker.specs.Findings.{IsAct, found_at, IsFound, some}
@@ -29,7 +29,7 @@ told_more f fs i d a b c less h k =
 
 -- the findings of a step, as the state before it tells them
 pub found_same : (s t : State) (b : Before) (step : ℕ) (a : Act) (fs : List Finding) → IsBefore s b → step ≡ t.steps → map (found_by b step a) fs ≡ found_at s t a fs
-found_same s t b step a fs h e = ap₂ (λ (c : Cpu) (n : ℕ). map (λ (f : Finding). record { step = n; segment = c.cs; offset = c.ip; act = a; finding = f }) fs) h.cpu e
+found_same s t b step a fs h e = ap₂ (λ (p : Site) (n : ℕ). map (λ (f : Finding). record { step = n; site = p; act = a; finding = f }) fs) h.site e
 
 -- a report that tells them
 pub record Tells (s t : State) (fs : List Finding) (old new : Reported) : Type 0 where

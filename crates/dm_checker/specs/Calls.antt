@@ -1,4 +1,5 @@
--- Which calls may change the arena, and the findings about calls: blocks freed twice and calls that failed.
+-- Which calls may change the arena, and the findings about calls: blocks freed twice, calls that failed, and division
+-- errors.
 -- Source: MS-DOS Programmer's Reference, "System Calls" (CF and AX); LIM EMS 4.0, section 3 (AH is the status); XMS 3.0
 -- (AX, and BL the error).
 use Rattle.std.specs.Prelude.{ℕ, ◌+◌, ◌==◌, ◌&&◌, ◌||◌, not, Bool, true, false, if◌then◌else◌, List, [], ◌∷◌, Option, Some, None}
@@ -7,9 +8,9 @@ use Rattle.dm_cpu.specs.declared.cpu.Cpu.{Cpu}
 use Rattle.dm_cpu.specs.Cpu.{byte_of}
 use Rattle.dm_blocks.specs.declared.header.Header.{Header}
 use Rattle.dm_findings.specs.declared.calls.Call.{Call}
-use Rattle.dm_findings.specs.declared.calls.Call.TheVariants.{DivideError, Terminate, Dos, ExpandedMemory, Multiplex, ExtendedMemory}
+use Rattle.dm_findings.specs.declared.calls.Call.TheVariants.{DivideError, Terminate, Dos, ExpandedMemory, Multiplex, ExtendedMemory, Interrupt}
 use Rattle.dm_findings.specs.declared.finding.Finding.{Finding}
-use Rattle.dm_findings.specs.declared.finding.Finding.TheVariants.{FreedTwice, Refused, Short}
+use Rattle.dm_findings.specs.declared.finding.Finding.TheVariants.{FreedTwice, Refused, NotAllocated, Short, DivisionError, NotServed}
 
 -- ---- calls that write headers
 
@@ -35,6 +36,7 @@ arranges c (Some (Dos number)) = is_arena number || is_ending number || is_start
 arranges c (Some (ExpandedMemory number)) = false
 arranges c (Some Multiplex) = false
 arranges c (Some (ExtendedMemory number)) = false
+arranges c (Some (Interrupt number)) = false
 
 -- whether a call ends a process that does not stay resident: interrupt 0, INT 20h, and functions 00h and 4Ch of INT
 -- 21h, but not 31h
@@ -46,6 +48,7 @@ leaves (Some (Dos number)) = (number == 0x00) || (number == 0x4C)
 leaves (Some (ExpandedMemory number)) = false
 leaves (Some Multiplex) = false
 leaves (Some (ExtendedMemory number)) = false
+leaves (Some (Interrupt number)) = false
 
 -- ---- a block that is freed twice
 
@@ -63,30 +66,72 @@ freed_twice c d _ headers = []
 
 -- ---- refusals, by the registers before and after a call
 
+-- the finding that a call failed with this code: an error if the call frees or resizes what is not allocated (`stray`),
+-- otherwise a note
+abbrev pub refusal : Bool → ℕ → Finding
+refusal stray code = if stray then NotAllocated code else Refused code
+
+-- whether the code of a failed function of INT 21h says that ES is no block's segment, for a block to be freed (49h) or
+-- resized (4Ah)
+abbrev pub is_stray_block : ℕ → ℕ → Bool
+is_stray_block number code = ((number == 0x49) || (number == 0x4A)) && (code == 0x09)
+
+-- whether the status of a failed function of INT 67h says that the handle whose pages are to be freed (45h) is not in
+-- use
+abbrev pub is_stray_handle : ℕ → ℕ → Bool
+is_stray_handle number status = (number == 0x45) && (status == 0x83)
+
+-- whether the code of a failed function of the extended memory driver says that there is no block to be freed: no
+-- handle with this number (0Ah), or no upper memory block at this segment (11h)
+abbrev pub is_stray_extended : ℕ → ℕ → Bool
+is_stray_extended number code = ((number == 0x0A) && (code == 0xA2)) || ((number == 0x11) && (code == 0xB2))
+
 -- the finding that a call of INT 21h failed; none if CF is clear in d. AX in d is the error code, below 256. For code 8
 -- of 48h and 4Ah, BX in c is how many paragraphs were asked for, and BX in d how many are available
 abbrev pub refused_by_dos : Cpu → Cpu → ℕ → List Finding
 refused_by_dos c d number =
     if not d.flags.carry then [] else
-    if (byte_of d Al == 8) && ((number == 0x48) || (number == 0x4A)) then Short c.bx d.bx ∷ [] else Refused (byte_of d Al) ∷ []
+    if (byte_of d Al == 8) && ((number == 0x48) || (number == 0x4A)) then Short c.bx d.bx ∷ []
+    else refusal (is_stray_block number (byte_of d Al)) (byte_of d Al) ∷ []
 
 -- the finding that a call of INT 67h failed with this status; none for 00h, success, and for 92h, which says that a
 -- move was done and its regions overlap
-abbrev pub refused_by_status : ℕ → List Finding
-refused_by_status status = if (status == 0) || (status == 0x92) then [] else Refused status ∷ []
+abbrev pub refused_by_status : ℕ → ℕ → List Finding
+refused_by_status number status = if (status == 0) || (status == 0x92) then [] else refusal (is_stray_handle number status) status ∷ []
 
 -- the finding that a call of the extended memory driver failed: AX is 0, and BL, the error code, is not; else none.
 -- (Function 07h returns 0 in both if A20 is off)
-abbrev pub refused_by_error : Cpu → List Finding
-refused_by_error d = if (d.ax == 0) && not (byte_of d Bl == 0) then Refused (byte_of d Bl) ∷ [] else []
+abbrev pub refused_by_error : ℕ → Cpu → List Finding
+refused_by_error number d = if (d.ax == 0) && not (byte_of d Bl == 0) then refusal (is_stray_extended number (byte_of d Bl)) (byte_of d Bl) ∷ [] else []
 
--- the finding that a call failed, by the registers before (c) and after it (d); none if it did not fail. Of INT 21h,
--- only functions 48h, 49h, 4Ah, 4Bh and 58h are looked at
-abbrev pub refusal_findings : Cpu → Cpu → Option Call → List Finding
-refusal_findings c d None = []
-refusal_findings c d (Some DivideError) = []
-refusal_findings c d (Some Terminate) = []
-refusal_findings c d (Some (Dos number)) = if is_arena number || (number == 0x4B) then refused_by_dos c d number else []
-refusal_findings c d (Some (ExpandedMemory number)) = refused_by_status (byte_of d Ah)
-refusal_findings c d (Some Multiplex) = []
-refusal_findings c d (Some (ExtendedMemory number)) = refused_by_error d
+-- whether the function of INT 21h with this number reads or writes the console
+abbrev pub is_console : ℕ → Bool
+is_console number =
+    (number == 0x01) || (number == 0x02) || (number == 0x06) || (number == 0x07) || (number == 0x08) || (number == 0x09)
+    || (number == 0x0A) || (number == 0x0B) || (number == 0x0C) || (number == 0x3F) || (number == 0x40)
+
+-- whether the function of INT 21h with this number sets or returns a vector, or returns the version, the exit code of a
+-- child or the present process
+abbrev pub is_system : ℕ → Bool
+is_system number = (number == 0x25) || (number == 0x30) || (number == 0x35) || (number == 0x4D) || (number == 0x51) || (number == 0x62)
+
+-- whether INT 21h serves the function with this number; a call of any other fails with code 01h
+abbrev pub is_served : ℕ → Bool
+is_served number = is_console number || is_system number || is_arena number || is_ending number || (number == 0x4B)
+
+-- whether a call of the function of INT 21h with this number is looked at for failure: 48h, 49h, 4Ah, 4Bh and 58h, and
+-- each that is not served. (Carry from a function of the console is left to the program)
+abbrev pub may_be_refused : ℕ → Bool
+may_be_refused number = is_arena number || (number == 0x4B) || not (is_served number)
+
+-- what is found of a call, by the registers before (c) and after it (d): that it failed, that it is interrupt 0, by which
+-- a division error ends the process, or an interrupt that is not served; none otherwise
+abbrev pub call_findings : Cpu → Cpu → Option Call → List Finding
+call_findings c d None = []
+call_findings c d (Some DivideError) = DivisionError ∷ []
+call_findings c d (Some Terminate) = []
+call_findings c d (Some (Dos number)) = if may_be_refused number then refused_by_dos c d number else []
+call_findings c d (Some (ExpandedMemory number)) = refused_by_status number (byte_of d Ah)
+call_findings c d (Some Multiplex) = []
+call_findings c d (Some (ExtendedMemory number)) = refused_by_error number d
+call_findings c d (Some (Interrupt number)) = NotServed ∷ []

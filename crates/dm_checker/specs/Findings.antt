@@ -16,9 +16,10 @@ use Rattle.dm_findings.specs.declared.finding.Finding.{Finding}
 use Rattle.dm_findings.specs.declared.finding.Finding.TheVariants.{Destroyed, Whole}
 use Rattle.dm_findings.specs.declared.finding.Found.{Found}
 use Rattle.dm_findings.specs.Calls.{call_of}
+use Rattle.dm_findings.specs.Sites.{site_of}
 use Rattle.dm_checker.specs.Shown.{Shown, IsShown}
 use Rattle.dm_checker.specs.Headers.{overwritten, mapped_away}
-use Rattle.dm_checker.specs.Calls.{arranges, freed_twice, refusal_findings}
+use Rattle.dm_checker.specs.Calls.{arranges, freed_twice, call_findings}
 
 -- the finding that the arena was whole and is destroyed, or was destroyed and is whole, by where its list breaks before
 -- and after a step (None: nowhere); none if it was and is whole, or was and is destroyed
@@ -41,7 +42,7 @@ findings s t old new =
     ++ flat_map (mapped_away s.memory t.memory) old.headers
     ++ turned old.broken new.broken
     ++ freed_twice s.cpu t.cpu (call_of s.cpu) old.headers
-    ++ refusal_findings s.cpu t.cpu (call_of s.cpu)
+    ++ call_findings s.cpu t.cpu (call_of s.cpu)
 
 -- `found` is what is found of the step from s to t
 pub record Finds (s t : State) (found : List Finding) : Type 0 where
@@ -59,9 +60,9 @@ pub data IsAct (s : State) (a : Act) : Type 0 where
   instructed : (i : Ins) (length : ℕ) → call_of s.cpu ≡ None → BeginsWith (fetched s.memory s.cpu) i length → a ≡ act.Instruction i (up s.cpu.ip length) → IsAct s a
 
 -- the findings with their step from s to t, which performs a: its number (the machine's count of steps after it), and
--- CS:IP before it
+-- where in its code the program performs it: an instruction at CS:IP, a call at its caller
 abbrev pub found_at : State → State → Act → List Finding → List Found
-found_at s t a = map (λ f. record { step = t.steps; segment = s.cpu.cs; offset = s.cpu.ip; act = a; finding = f })
+found_at s t a = map (λ f. record { step = t.steps; site = site_of s.memory s.cpu; act = a; finding = f })
 
 -- `found` is the findings fs with their step from s to t; the empty list if there are none
 pub data IsFound (s t : State) (fs : List Finding) (found : List Found) : Type 0 where

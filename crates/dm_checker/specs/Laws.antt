@@ -1,10 +1,15 @@
 -- Laws of checked runs (`check`).
-use Rattle.std.specs.Prelude.{◌≡◌, ◌≢◌, ℕ, List}
+use Rattle.std.specs.Prelude.{◌≡◌, ◌≢◌, ℕ, false, List, [], ◌∷◌, Some, None}
 use Rattle.dm_state.specs.declared.stop.Stop.{Stop}
 use Rattle.dm_state.specs.declared.stop.Stop.TheVariants.{Memory as NoMemory}
 use Rattle.dm_state.specs.State.{State}
+use Rattle.dm_machine.specs.Step.{MakesStep}
 use Rattle.dm_machine.specs.Run.{IsRun}
+use Rattle.dm_findings.specs.declared.calls.Call.TheVariants.{Dos}
+use Rattle.dm_findings.specs.declared.finding.Finding.TheVariants.{Refused}
 use Rattle.dm_findings.specs.declared.finding.Found.{Found}
+use Rattle.dm_findings.specs.Calls.{call_of}
+use Rattle.dm_checker.specs.Calls.{is_served, call_findings}
 use Rattle.dm_checker.specs.Checks.{Checks}
 
 -- a checked run is a run: the same steps, stop and state
@@ -17,3 +22,9 @@ abbrev pub CheckHasOneReport : Type 0
 CheckHasOneReport =
     (s t u : State) (n : ℕ) (a b : Stop) (fs gs : List Found) → Checks s n a t fs → Checks s n b u gs →
     a ≢ NoMemory → b ≢ NoMemory → (a ≡ b) × (t ≡ u) × (fs ≡ gs)
+
+-- a call of a function of INT 21h that is not served is always found, with code 01h, in the step that performs it
+abbrev pub UnservedCallsAreFound : Type 0
+UnservedCallsAreFound =
+    (s t : State) (number : ℕ) → call_of s.cpu ≡ Some (Dos number) → is_served number ≡ false →
+    MakesStep s (record { stop = None; state = t }) → call_findings s.cpu t.cpu (call_of s.cpu) ≡ Refused 1 ∷ []

@@ -9,16 +9,17 @@ ghost use Rattle.dm_checker.specs.inner.Steps.{IsBefore, IsUnlisted};
 
 use dm_cpu::Cpu;
 use dm_decode::decode;
-use dm_findings::{Act, Call, call_of};
+use dm_findings::{Act, Call, Site, call_of, site_of};
 use dm_machine::Machine;
 use dm_space::Space;
 
-/// What the checker keeps of the state before a step: the registers, the call that the step performs, if any, and the
-/// sixteen bytes from CS:IP on.
+/// What the checker keeps of the state before a step: the registers, the call that the step performs, if any, where in
+/// its code the program performs it, and the sixteen bytes from CS:IP on.
 #[derive(Clone, Copy)]
 pub(crate) struct Before {
     pub(crate) cpu: Cpu,
     pub(crate) call: Option<Call>,
+    pub(crate) site: Site,
     pub(crate) bytes: [u8; 16],
 }
 
@@ -58,10 +59,13 @@ impl Before {
         ensures { IsBefore machine.now result }
     {
         let cpu = machine.cpu();
+        let space = machine.space();
+        let call = call_of(&cpu);
         Before {
             cpu,
-            call: call_of(&cpu),
-            bytes: fetch(&cpu, machine.space()),
+            call,
+            site: site_of(&cpu, space, call),
+            bytes: fetch(&cpu, space),
         }
     }
 

@@ -14,4 +14,4 @@ mod watch;
 mod writes;
 
 pub use checks::check;
-pub use laws::{a_check_has_one_report, a_checked_run_is_a_run};
+pub use laws::{a_check_has_one_report, a_checked_run_is_a_run, unserved_calls_are_found};

@@ -17,7 +17,7 @@ ghost use Rattle.dm_checker.specs.inner.Watching.{IsWatch, broken_at};
 ghost use Rattle.dm_checker.specs.inner.Steps.{IsBefore, Looks, ReportsMore, found_by, ChecksOne};
 
 use crate::acts::Before;
-use crate::calls::{arranges, leaves, put_freed_twice, put_refused};
+use crate::calls::{arranges, leaves, put_freed_twice, put_of_call};
 use crate::headers::{put_all_mapped_away, put_all_overwritten};
 use crate::leaks::put_leaks;
 use crate::put::put;
@@ -64,7 +64,7 @@ fn look_anew(
     put_all_mapped_away(out, space, &old.windows, &old.headers)?;
     put_turned(out, &old.broken, &new.broken)?;
     put_freed_twice(out, &before.cpu, &after, before.call, &old.headers)?;
-    put_refused(out, &before.cpu, &after, before.call)
+    put_of_call(out, &before.cpu, &after, before.call)
 }
 
 /// Appends to `out` what is found of a step. `kept`, the arena as it was read before the step, becomes the arena after
@@ -81,7 +81,7 @@ fn look(
     ensures watch { OnOk result (IsWatch machine.now.upper machine.now.memory kept.new) }
 {
     if !arranges(&before.cpu, before.call) && kept.is_seen(machine) {
-        return put_refused(out, &before.cpu, &machine.cpu(), before.call);
+        return put_of_call(out, &before.cpu, &machine.cpu(), before.call);
     }
     let new = read_arena(alloc, machine)?;
     look_anew(out, before, kept, &new, machine)?;
@@ -89,8 +89,8 @@ fn look(
     Ok(())
 }
 
-/// Adds the findings of a step to the report, each with the step's number, CS:IP before the step, and what the step
-/// performed. An `Err` is a failed allocation.
+/// Adds the findings of a step to the report, each with the step's number, where in its code the program performed the
+/// step, and what the step performed. An `Err` is a failed allocation.
 fn tell(
     report: &mut Report,
     before: &Before,
@@ -103,8 +103,7 @@ fn tell(
     for finding in found {
         report.add(Found {
             step,
-            segment: before.cpu.cs,
-            offset: before.cpu.ip,
+            site: before.site,
             act,
             finding: *finding,
         })?;

@@ -12,7 +12,6 @@ module _ (files : List ℕ → Option (List ℕ)) (typed : Option (List ℕ)) (o
   -- after a fault nothing is said of standard error
   faulty : (error_after later : Stream) (fault : Fault) → Checks files typed o before after failed_before failed_after error_before error_after (Err fault)
       → Checks files typed o before after failed_before failed_after error_before later (Err fault)
-  faulty error_after later fault (partly_written m t stop report f started run reported part failed is) = partly_written m t stop report fault started run reported part failed is
   faulty error_after later fault (no_memory kept same) = no_memory kept same
   faulty error_after later fault (not_started f why kept same) = not_started fault why kept same
 
@@ -28,6 +27,6 @@ pub check_of_run : (files : List ℕ → Option (List ℕ)) (typed : Option (Lis
     → ChecksRun m o.steps before after failed_before failed_after error_before error_after r → Checks files typed o before after failed_before failed_after error_before error_after r
 check_of_run files typed o m started b a f g e h _ (run_checked t stop report status run is_report whole none printed is) =
     checked m t stop report status started run is_report whole none printed is
-check_of_run files typed o m started b a f g e h _ (output_cut t stop report fault run is_report part failed is) =
-    partly_written m t stop report fault started run is_report part failed is
+check_of_run files typed o m started b a f g e h _ (output_cut t stop report middle status run is_report part failed printed told status_is) =
+    partly_written m t stop report middle status started run is_report part failed printed told status_is
 check_of_run files typed o m started b a f g e h _ (no_report kept same) = no_memory kept same

@@ -8,3 +8,4 @@ pub mod Ends
 pub mod Checked
 pub mod Ran
 pub mod Printed
+pub mod Unread

@@ -1,5 +1,5 @@
 -- What `dm check` does: a run with a report of its findings on standard error.
-use Rattle.std.specs.Prelude.{ℕ, ◌≡◌, ◌++◌, nat_lt, if◌then◌else◌, List, Option, Some, Result, Ok, Err, codes}
+use Rattle.std.specs.Prelude.{ℕ, ◌≡◌, ◌++◌, nat_lt, if◌then◌else◌, List, [], ◌∷◌, Option, Some, Result, Ok, Err, codes}
 use Rattle.std.specs.Io.KnownBytes.{Appends, Keeps}
 use Rattle.dm_options.specs.declared.command_line.MachineOptions.{MachineOptions}
 use Rattle.dm_out.specs.Out.{AppendsPart, HasFailed}
@@ -8,11 +8,11 @@ use Rattle.dm_state.specs.State.{State}
 use Rattle.dm_machine.specs.Run.{IsRun}
 use Rattle.dm_findings.specs.Report.{Reported}
 use Rattle.dm_reports.specs.Reports.{report_text}
+use Rattle.dm_reports.specs.Stops.{stopped_line}
 use Rattle.dm_checker.specs.Checks.{IsReport}
 use Rattle.dm_cli.specs.declared.fault.Fault.{Fault}
 use Rattle.dm_cli.specs.declared.fault.Fault.TheVariants.{OutOfMemory}
-use Rattle.dm_cli.specs.Faults.{IsWriteFault}
-use Rattle.dm_cli.specs.Messages.{Stream, Prints, stop_text}
+use Rattle.dm_cli.specs.Messages.{Stream, Prints}
 use Rattle.dm_cli.specs.Starting.{IsStartedBy, IsStartFault}
 use Rattle.dm_cli.specs.Statuses.{stop_status}
 
@@ -20,16 +20,26 @@ use Rattle.dm_cli.specs.Statuses.{stop_status}
 abbrev pub checked_status : Reported → Stop → ℕ
 checked_status report stop = if nat_lt 0 report.errors then 124 else stop_status stop
 
+-- the exit status of a checked run whose output was not written whole: 124 if there is an error; otherwise that of a
+-- fault
+abbrev pub unwritten_status : Reported → ℕ
+unwritten_status report = if nat_lt 0 report.errors then 124 else 126
+
+-- the line of the fault that standard output was not written
+abbrev pub unwritten_line : List ℕ
+unwritten_line = codes "dm: cannot write standard output" ++ 10 ∷ []
+
 -- `dm check`: the machine runs as for `dm run`. The result is the exit status, after the whole output was written to
--- standard output and the report with the line about the stop was printed on standard error; or a fault. If a write of
--- the output failed, a first part of the output was written; with any other fault nothing was, and no write failed
+-- standard output and the report with the line about the stop was printed on standard error; or after a write of the
+-- output failed, a first part of it was written, and the same was printed on standard error, and then the line of the
+-- fault (`middle` is standard error between the two). Otherwise it is a fault: nothing was written, and no write failed
 pub data Checks (files : List ℕ → Option (List ℕ)) (typed : Option (List ℕ)) (o : MachineOptions) (before after : Option (List ℕ)) (failed_before failed_after : ℕ) (error_before error_after : Stream) : Result ℕ Fault → Type 0 where
   checked : (m t : State) (stop : Stop) (report : Reported) (status : ℕ) → IsStartedBy files typed o m → IsRun m o.steps stop t → IsReport m o.steps stop t report
-      → Appends before after t.console.output → failed_after ≡ failed_before → Prints (report_text report ++ stop_text stop) error_before error_after → status ≡ checked_status report stop
+      → Appends before after t.console.output → failed_after ≡ failed_before → Prints (report_text report ++ stopped_line stop t.memory t.cpu) error_before error_after → status ≡ checked_status report stop
       → Checks files typed o before after failed_before failed_after error_before error_after (Ok status)
-  partly_written : (m t : State) (stop : Stop) (report : Reported) (fault : Fault) → IsStartedBy files typed o m → IsRun m o.steps stop t → IsReport m o.steps stop t report
-      → AppendsPart before after t.console.output → HasFailed failed_before failed_after → IsWriteFault fault
-      → Checks files typed o before after failed_before failed_after error_before error_after (Err fault)
+  partly_written : (m t : State) (stop : Stop) (report : Reported) (middle : Stream) (status : ℕ) → IsStartedBy files typed o m → IsRun m o.steps stop t → IsReport m o.steps stop t report
+      → AppendsPart before after t.console.output → HasFailed failed_before failed_after → Prints (report_text report ++ stopped_line stop t.memory t.cpu) error_before middle
+      → Prints unwritten_line middle error_after → status ≡ unwritten_status report → Checks files typed o before after failed_before failed_after error_before error_after (Ok status)
   no_memory : Keeps before after → failed_after ≡ failed_before → Checks files typed o before after failed_before failed_after error_before error_after (Err OutOfMemory)
   not_started : (fault : Fault) → IsStartFault files typed (Some (codes "standard input")) o fault → Keeps before after → failed_after ≡ failed_before
       → Checks files typed o before after failed_before failed_after error_before error_after (Err fault)

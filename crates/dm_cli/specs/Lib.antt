@@ -1,5 +1,6 @@
 pub mod Faults
 pub mod Names
+pub mod Reads
 pub mod Statuses
 pub mod Stores
 pub mod Saving

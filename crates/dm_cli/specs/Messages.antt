@@ -7,7 +7,7 @@ use Rattle.dm_cli.specs.Faults.{fault_line}
 use Rattle.dm_state.specs.declared.stop.Stop.{Stop}
 use Rattle.dm_state.specs.declared.stop.Stop.TheVariants.{Steps, Exited, Halted, Unlisted, InputEnded, Destroyed, Memory}
 
--- the line about a stop, as `dm run` and `dm check` print it; no text for an exit
+-- the line about a stop, as `dm run` prints it; no text for an exit
 abbrev pub stop_text : Stop → List ℕ
 stop_text Steps = codes "stopped: steps" ++ 10 ∷ []
 stop_text (Exited code) = []

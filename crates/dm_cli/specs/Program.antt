@@ -20,6 +20,7 @@ use Rattle.dm_cli.specs.Assembling.{Assembles, Disassembles}
 use Rattle.dm_cli.specs.Checking.{Checks, check_status}
 use Rattle.dm_cli.specs.Debugging.{Debugs}
 use Rattle.dm_cli.specs.Faults.{IsWriteFault, fault_line}
+use Rattle.dm_cli.specs.Reads.{ReadsFiles, fault_if}
 use Rattle.dm_cli.specs.Messages.{Stream, Prints, Reports, outcome_text}
 use Rattle.dm_cli.specs.Starting.{IsStartedBy, IsStartFault}
 use Rattle.dm_cli.specs.Statuses.{status_of, status_after}
@@ -39,8 +40,8 @@ pub data Runs (files : List ℕ → Option (List ℕ)) (typed : Option (List ℕ
 -- ---- the program
 
 -- what `dm` finds at its start: the bytes of files by their paths and of standard input, what standard output has
--- taken, and which files were written, each where it is known; how many writes and flushes of standard output and how
--- many saves of files have failed; and standard error
+-- taken, and which files were written, each where it is known; how many writes and flushes of standard output, saves of
+-- files and reads of files have failed; and standard error
 pub record Given : Type 0 where
   pub files : List ℕ → Option (List ℕ)
   pub typed : Option (List ℕ)
@@ -48,17 +49,19 @@ pub record Given : Type 0 where
   pub failures : ℕ
   pub saved : Option (List (List ℕ × List ℕ))
   pub failed_saves : ℕ
+  pub unread : ℕ
   -- standard error
   pub messages : Stream
 
 -- what `dm` leaves at its end: what standard output has taken and which files were written, each where it is known; how
--- many writes and flushes of standard output and how many saves of files have failed; standard error; and the exit
--- status
+-- many writes and flushes of standard output, saves of files and reads of files have failed; standard error; and the
+-- exit status
 pub record Left : Type 0 where
   pub output : Option (List ℕ)
   pub failures : ℕ
   pub saved : Option (List (List ℕ × List ℕ))
   pub failed_saves : ℕ
+  pub unread : ℕ
   pub messages : Stream
   pub status : ℕ
 
@@ -71,6 +74,10 @@ pub record IsParsed (words : List Text) (o : Options) : Type 0 where
 abbrev pub IsSilent : Given → Left → Type 0
 IsSilent g l = Keeps g.output l.output × (l.failures ≡ g.failures)
 
+-- no read of a file fails
+abbrev pub ReadsAll : Given → Left → Type 0
+ReadsAll g l = l.unread ≡ g.unread
+
 -- no file is written, and no save of a file fails
 abbrev pub SavesNothing : Given → Left → Type 0
 SavesNothing g l = (l.saved ≡ g.saved) × (l.failed_saves ≡ g.failed_saves)
@@ -79,18 +86,18 @@ SavesNothing g l = (l.saved ≡ g.saved) × (l.failed_saves ≡ g.failed_saves)
 -- `clap`'s text on standard error, of which nothing is said here; a correct line does what its command does; and an
 -- allocation may fail while the words are read
 pub data Does (g : Given) (words : List Text) (l : Left) : Type 0 where
-  usage : fault_of dm_app words ≢ [] → IsSilent g l → SavesNothing g l → l.status ≡ 2 → Does g words l
-  no_memory : Prints (fault_line OutOfMemory) g.messages l.messages → IsSilent g l → SavesNothing g l → l.status ≡ 126 → Does g words l
+  usage : fault_of dm_app words ≢ [] → IsSilent g l → ReadsAll g l → SavesNothing g l → l.status ≡ 2 → Does g words l
+  no_memory : Prints (fault_line OutOfMemory) g.messages l.messages → IsSilent g l → ReadsAll g l → SavesNothing g l → l.status ≡ 126 → Does g words l
   runs : (o : MachineOptions) (outcome : Result Stop Fault) → IsParsed words (command.Run o) → Runs g.files g.typed o g.output l.output g.failures l.failures outcome
-      → Prints (outcome_text outcome) g.messages l.messages → SavesNothing g l → l.status ≡ status_of outcome → Does g words l
+      → Prints (outcome_text outcome) g.messages l.messages → SavesNothing g l → ReadsFiles g.unread l.unread (fault_if outcome) → l.status ≡ status_of outcome → Does g words l
   checks : (o : MachineOptions) (outcome : Result ℕ Fault) → IsParsed words (command.Check o) → Checks g.files g.typed o g.output l.output g.failures l.failures g.messages l.messages outcome
-      → IfErr outcome (λ fault. Prints (fault_line fault) g.messages l.messages) → SavesNothing g l → l.status ≡ check_status outcome → Does g words l
+      → IfErr outcome (λ fault. Prints (fault_line fault) g.messages l.messages) → SavesNothing g l → ReadsFiles g.unread l.unread (fault_if outcome) → l.status ≡ check_status outcome → Does g words l
   debugs : (o : DebugOptions) (end : Option Fault) → IsParsed words (command.Debug o) → Debugs g.files g.typed o g.output l.output g.failures l.failures end
-      → Reports g.messages l.messages end → SavesNothing g l → l.status ≡ status_after end → Does g words l
+      → Reports g.messages l.messages end → SavesNothing g l → ReadsFiles g.unread l.unread end → l.status ≡ status_after end → Does g words l
   assembles : (o : AsmOptions) (end : Option Fault) → IsParsed words (command.Asm o) → Assembles g.files o g.saved l.saved g.failed_saves l.failed_saves end
-      → Reports g.messages l.messages end → IsSilent g l → l.status ≡ status_after end → Does g words l
+      → Reports g.messages l.messages end → IsSilent g l → ReadsFiles g.unread l.unread end → l.status ≡ status_after end → Does g words l
   disassembles : (path : Bor (List ℕ)) (end : Option Fault) → IsParsed words (command.Disasm path) → Disassembles g.files path.now g.output l.output g.failures l.failures end
-      → Reports g.messages l.messages end → SavesNothing g l → l.status ≡ status_after end → Does g words l
+      → Reports g.messages l.messages end → SavesNothing g l → ReadsFiles g.unread l.unread end → l.status ≡ status_after end → Does g words l
 
 -- the exit status is one that `dm` can have with these words, over files and streams of which nothing is known
 pub record EndsWith (words : List Text) (status : ℕ) : Type 0 where

@@ -1,6 +1,7 @@
 //! `dm asm` and `dm disasm`: from a file's text to bytes, and from a file's bytes to text.
 ghost use Rattle.std.specs.Prelude.{◌≡◌, IfErr, IfOk};
 ghost use Rattle.dm_cli.specs.Assembling.{Assembles, Disassembles, IsAsmFault, IsAssembled, IsDisasmFault, IsDisassembled};
+ghost use Rattle.dm_cli.specs.Reads.{IsKept, ReadsFiles, fault_if};
 ghost use Rattle.dm_cli.specs.inner.Statuses.{end_of};
 
 use crate::fault::Fault;
@@ -18,11 +19,13 @@ const MOST_PROGRAM_BYTES: usize = 65_278;
 /// `OutOfMemory`.
 fn assembled<'a, F: Storage>(
     alloc: Global,
-    storage: &F,
+    storage: &mut F,
     path: &'a str,
 ) -> Result<Vec<u8>, Fault<'a>>
-    ensures bytes { IfOk result (λ bytes. IsAssembled (F.contents storage.now path.now) bytes.items) }
-    ensures fault { IfErr result (IsAsmFault (F.contents storage.now path.now) path.now) }
+    ensures bytes { IfOk result (λ bytes. IsAssembled (F.contents storage.old path.now) bytes.items) }
+    ensures fault { IfErr result (IsAsmFault (F.contents storage.old path.now) path.now) }
+    ensures reads { ReadsFiles (F.unread storage.old) (F.unread storage.new) (fault_if result) }
+    ensures kept { IsKept (F.contents storage.old) (F.contents storage.new) (F.saved storage.old) (F.saved storage.new) (F.failures storage.old) (F.failures storage.new) }
 {
     let text = read_file(alloc, storage, path)?;
     let bytes = assemble(alloc, text.as_slice())?;
@@ -33,11 +36,13 @@ fn assembled<'a, F: Storage>(
 /// `OutOfMemory`.
 fn disassembled<'a, F: Storage>(
     alloc: Global,
-    storage: &F,
+    storage: &mut F,
     path: &'a str,
 ) -> Result<Vec<u8>, Fault<'a>>
-    ensures lines { IfOk result (λ text. IsDisassembled (F.contents storage.now path.now) text.items) }
-    ensures fault { IfErr result (IsDisasmFault (F.contents storage.now path.now) path.now) }
+    ensures lines { IfOk result (λ text. IsDisassembled (F.contents storage.old path.now) text.items) }
+    ensures fault { IfErr result (IsDisasmFault (F.contents storage.old path.now) path.now) }
+    ensures reads { ReadsFiles (F.unread storage.old) (F.unread storage.new) (fault_if result) }
+    ensures kept { IsKept (F.contents storage.old) (F.contents storage.new) (F.saved storage.old) (F.saved storage.new) (F.failures storage.old) (F.failures storage.new) }
 {
     let bytes = read_file(alloc, storage, path)?;
     if bytes.len() > MOST_PROGRAM_BYTES {
@@ -56,7 +61,8 @@ pub(crate) fn asm<'a, F: Storage>(
     storage: &mut F,
     options: &AsmOptions<'a>,
 ) -> Result<(), Fault<'a>>
-    ensures { Assembles (F.contents storage.old) options.now (F.saved storage.old) (F.saved storage.new) (F.failures storage.old) (F.failures storage.new) (end_of result) }
+    ensures does { Assembles (F.contents storage.old) options.now (F.saved storage.old) (F.saved storage.new) (F.failures storage.old) (F.failures storage.new) (end_of result) }
+    ensures reads { ReadsFiles (F.unread storage.old) (F.unread storage.new) (end_of result) }
 {
     let bytes = assembled(alloc, storage, options.input)?;
     match storage.save(options.output, bytes.as_slice()) {
@@ -69,12 +75,14 @@ pub(crate) fn asm<'a, F: Storage>(
 /// failed, after a first part of the text or none; with any other fault, nothing is written.
 pub(crate) fn disasm<'a, F: Storage, W: Out>(
     alloc: Global,
-    storage: &F,
+    storage: &mut F,
     path: &'a str,
     out: &mut W,
 ) -> Result<(), Fault<'a>>
-    ensures { Disassembles (F.contents storage.now) path.now (W.taken out.old) (W.taken out.new)
+    ensures does { Disassembles (F.contents storage.old) path.now (W.taken out.old) (W.taken out.new)
         (W.failures out.old) (W.failures out.new) (end_of result) }
+    ensures reads { ReadsFiles (F.unread storage.old) (F.unread storage.new) (end_of result) }
+    ensures kept { IsKept (F.contents storage.old) (F.contents storage.new) (F.saved storage.old) (F.saved storage.new) (F.failures storage.old) (F.failures storage.new) }
 {
     let text = disassembled(alloc, storage, path)?;
     match write_all(out, text.as_slice()) {

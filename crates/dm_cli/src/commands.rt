@@ -4,6 +4,7 @@ ghost use Rattle.dm_cli.specs.Checking.{check_status};
 ghost use Rattle.dm_cli.specs.Faults.{fault_line};
 ghost use Rattle.dm_cli.specs.Messages.{Prints, Reports, outcome_text};
 ghost use Rattle.dm_cli.specs.Program.{Does, Runs};
+ghost use Rattle.dm_cli.specs.Reads.{IsKept, ReadsFiles, TellsOfNoFile, fault_if};
 ghost use Rattle.dm_cli.specs.Statuses.{status_after, status_of, stop_status};
 ghost use Rattle.dm_cli.specs.inner.Program.{RunsMachine};
 ghost use Rattle.dm_cli.specs.inner.Statuses.{end_of};
@@ -25,7 +26,7 @@ use std::convert::AsStr;
 use std::io::{Read, Write};
 
 /// The exit status at a fault.
-const FAULT: u8 = 126;
+pub(crate) const FAULT: u8 = 126;
 
 /// The exit status of a run that stopped before the program ended.
 const STOPPED: u8 = 125;
@@ -41,7 +42,8 @@ fn run_machine<W: Out>(
     out: &mut W,
 ) -> Result<Stop, Fault<'static>>
     requires { HasProgram machine.old }
-    ensures { RunsMachine machine.old steps (W.taken out.old) (W.taken out.new) (W.failures out.old) (W.failures out.new) result }
+    ensures does { RunsMachine machine.old steps (W.taken out.old) (W.taken out.new) (W.failures out.old) (W.failures out.new) result }
+    ensures reads { TellsOfNoFile (fault_if result) }
 {
     match run_program(machine, steps, out) {
         Ok(stop) => Ok(stop),
@@ -53,12 +55,14 @@ fn run_machine<W: Out>(
 /// not printed yet.
 fn run<'a, F: Storage, I: Read + Drop, W: Out>(
     alloc: Global,
-    storage: &F,
+    storage: &mut F,
     options: &MachineOptions<'a>,
     input: I,
     out: &mut W,
 ) -> Result<Stop, Fault<'a>>
-    ensures { Runs (F.contents storage.now) (I.remaining input) options.now (W.taken out.old) (W.taken out.new) (W.failures out.old) (W.failures out.new) result }
+    ensures does { Runs (F.contents storage.old) (I.remaining input) options.now (W.taken out.old) (W.taken out.new) (W.failures out.old) (W.failures out.new) result }
+    ensures reads { ReadsFiles (F.unread storage.old) (F.unread storage.new) (fault_if result) }
+    ensures kept { IsKept (F.contents storage.old) (F.contents storage.new) (F.saved storage.old) (F.saved storage.new) (F.failures storage.old) (F.failures storage.new) }
 {
     let mut machine = loaded(alloc, storage, options, input)?;
     run_machine(&mut machine, options.steps, out)
@@ -100,8 +104,8 @@ fn report<E: Out>(outcome: Result<Stop, Fault<'_>>, error: &mut E) -> u8
     }
 }
 
-/// Prints the fault of a `dm check` on `error`, if there is one, and returns the exit status: that of the checked run,
-/// or 126 at a fault, also if the fault cannot be printed.
+/// Prints the fault of a `dm check` on `error`, if there is one that is not printed yet, and returns the exit status:
+/// that of the checked run, or 126 at a fault, also if the fault cannot be printed.
 fn concluded<E: Out>(outcome: Result<u8, Fault<'_>>, error: &mut E) -> u8
     ensures status { result ≡ check_status outcome.entry }
     ensures ok { OnOk outcome.entry (error.new ≡ error.old) }
@@ -138,7 +142,9 @@ fn told<E: Out>(outcome: Result<(), Fault<'_>>, error: &mut E) -> u8
 ///
 /// `dm check` runs the program as `dm run` does, prints a report of its errors in the use of memory, and notes, on
 /// standard error, then the line of `stopped: ` unless the program has ended, and exits with status 124 if there is an
-/// error, whatever the stop; otherwise with the status of `dm run`. Its faults are those of `dm run`.
+/// error, whatever the stop; otherwise with the status of `dm run`. Its faults are those of `dm run`. If standard
+/// output cannot be written, it prints all of this and then the fault, and the status is 124 if there is an error,
+/// otherwise 126.
 ///
 /// `dm debug` exits with status 0, also where the program has ended, or reports a fault with status 126, in the same
 /// order: the console's input is the file of `--input`, and none without it. The commands are read after `short`, a
@@ -168,6 +174,7 @@ pub fn dm_main<S: AsStr, F: Storage, I: Read + Drop, W: Out, E: Out>(
           failures = W.failures out.old;
           saved = F.saved storage.old;
           failed_saves = F.failures storage.old;
+          unread = F.unread storage.old;
           messages = record { bytes = E.taken error.old; failures = E.failures error.old };
         })
         (map S.text words.now)
@@ -176,6 +183,7 @@ pub fn dm_main<S: AsStr, F: Storage, I: Read + Drop, W: Out, E: Out>(
           failures = W.failures out.new;
           saved = F.saved storage.new;
           failed_saves = F.failures storage.new;
+          unread = F.unread storage.new;
           messages = record { bytes = E.taken error.new; failures = E.failures error.new };
           status = result;
         }) }

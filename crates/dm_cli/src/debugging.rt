@@ -3,6 +3,7 @@ ghost use Rattle.std.specs.Prelude.{◌≡◌, ◌<◌, ◌≤◌, ◌⊎◌, �
 ghost use Rattle.std.specs.Io.BufRead.{ends_with_byte, strip_last};
 ghost use Rattle.std.specs.Io.KnownBytes.{Appends};
 ghost use Rattle.dm_out.specs.Out.{AppendsPart, HasFailed};
+ghost use Rattle.dm_cli.specs.Reads.{IsKept, ReadsFiles};
 ghost use Rattle.dm_cli.specs.inner.Statuses.{end_of};
 ghost use Rattle.dm_cli.specs.Debugging.{Debugs, IsConversation, IsQuit};
 ghost use Rattle.dm_cli.specs.inner.Debugging.{ConversesWith, IsAnsweredBy, IsUnanswered, Reads};
@@ -181,12 +182,14 @@ fn converse_with<I: Read + Drop, W: Out>(
 /// is the first one of the start, or the one that ended the session; it is not printed yet.
 pub(crate) fn debug<'a, F: Storage, I: Read + Drop, W: Out>(
     alloc: Global,
-    storage: &F,
+    storage: &mut F,
     options: &DebugOptions<'a>,
     commands: I,
     out: &mut W,
 ) -> Result<(), Fault<'a>>
-    ensures { Debugs (F.contents storage.now) (I.remaining commands) options.now (W.taken out.old) (W.taken out.new) (W.failures out.old) (W.failures out.new) (end_of result) }
+    ensures does { Debugs (F.contents storage.old) (I.remaining commands) options.now (W.taken out.old) (W.taken out.new) (W.failures out.old) (W.failures out.new) (end_of result) }
+    ensures reads { ReadsFiles (F.unread storage.old) (F.unread storage.new) (end_of result) }
+    ensures kept { IsKept (F.contents storage.old) (F.contents storage.new) (F.saved storage.old) (F.saved storage.new) (F.failures storage.old) (F.failures storage.new) }
 {
     let machine = loaded_for_debug(alloc, storage, options)?;
     let mut session = Session::new(machine);

@@ -1,13 +1,15 @@
 //! Reading whole files and standard input, and writing whole files.
-ghost use Rattle.std.specs.Prelude.{◌≡◌, ◌⊎◌, ℕ, List, Option, Some, None, IfErr, IfOk, IfSome, OnErr, OnOk};
+ghost use Rattle.std.specs.Prelude.{◌≡◌, ◌≢◌, ◌⊎◌, ℕ, List, Option, Some, None, IfErr, IfOk, IfSome, OnErr, OnOk, take};
+ghost use Rattle.std.specs.IoError.{error_kind};
 ghost use Rattle.dm_out.specs.Out.{count_after_call};
 ghost use Rattle.dm_cli.specs.Saving.{Saves};
+ghost use Rattle.dm_cli.specs.Reads.{IsKept, ReadsFiles, fault_if};
 ghost use Rattle.dm_cli.specs.Faults.{IsUnread, IsUnwritten};
 ghost use Rattle.dm_cli.specs.Stores.{IsInputFault, IsRead};
 
 use crate::fault::Fault;
 use std::alloc::Global;
-use std::io::Read;
+use std::io::{ErrorKind, Read};
 use std::marker::Model;
 use std::rt::Files;
 use std::{fs, io};
@@ -15,13 +17,10 @@ use std::{fs, io};
 /// The largest number of bytes that a file or standard input may have: 16 MiB.
 pub(crate) const MOST_BYTES: usize = 16 * 1024 * 1024;
 
-/// Where files are opened and written by their paths.
+/// Where files are read and written by their paths.
 ///
-/// It counts the saves that failed; at 2^64 - 1 the count stays.
+/// It counts the saves that failed, and the reads, each with the opening of its file; at 2^64 - 1 a count stays.
 pub trait Storage {
-    /// An open file.
-    type File: Read + Drop;
-
     // The bytes of the file at a path, where the storage knows them.
     ghost contents: { Self → List ℕ → Option (List ℕ) } = { λ _ _. None };
 
@@ -31,78 +30,113 @@ pub trait Storage {
     // How many saves failed.
     ghost failures: { Self → ℕ };
 
+    // How many reads of files failed, the opening of a file among them.
+    ghost unread: { Self → ℕ };
+
     /// Writes a file whole, in place of what it held. What the file holds after an error is not said.
     fn save(&mut self, path: &str, bytes: &[u8]) -> io::Result<()>
         ensures saved { OnOk result (Saves (saved self.old) (saved self.new) path.now bytes.now) }
         ensures refused { OnErr result (saved self.new ≡ saved self.old) }
-        ensures failures { failures self.new ≡ count_after_call (failures self.old) result };
+        ensures failures { failures self.new ≡ count_after_call (failures self.old) result }
+        ensures unread { unread self.new ≡ unread self.old };
 
-    /// Opens a file for reading.
-    fn open(&self, path: &str) -> io::Result<Self::File>
-        ensures contents { IfOk result (λ file. IfSome (contents self.now path.now) (λ xs. Self.File.remaining file ≡ Some xs)) };
+    /// Opens a file, and reads its bytes up to its end, but `most` of them at most.
+    fn read(&mut self, alloc: Global, path: &str, most: usize) -> io::Result<Vec<u8>>
+        ensures bytes { IfOk result (λ v. IfSome (contents self.old path.now) (λ xs. v.items ≡ take most xs)) }
+        ensures unread { unread self.new ≡ count_after_call (unread self.old) result }
+        ensures kept { IsKept (contents self.old) (contents self.new) (saved self.old) (saved self.new) (failures self.old) (failures self.new) };
 }
 
-/// The files of the operating system, together with the count of the saves that failed.
+/// The files of the operating system, together with the counts of the saves and the reads that failed.
 ///
-/// A contract sees the count.
+/// A contract sees the counts, that of the saves first.
 #[derive(Drop)]
 pub struct System<'a, R> {
     runtime: &'a R,
-    count: u64,
+    failures: u64,
+    unread: u64,
 }
 
 impl<'a, R> Model for System<'a, R> {
-    ghost Value = { ℕ };
+    ghost use Rattle.std.specs.Prelude.{ℕ};
 
-    ghost view = { λ s. s.count };
+    ghost Value = { ℕ × ℕ };
+
+    ghost view = { λ s. (s.failures, s.unread) };
 }
 
 impl<'a, R> System<'a, R> {
-    /// The files of the operating system, as `runtime` reaches them, with no failed save counted.
+    /// The files of the operating system, as `runtime` reaches them, with no failed save or read counted.
     pub fn new(runtime: &'a R) -> System<'a, R>
-        ensures { result ≡ 0 }
+        ensures { result ≡ (0, 0) }
     {
-        System { runtime, count: 0 }
+        System {
+            runtime,
+            failures: 0,
+            unread: 0,
+        }
     }
 }
 
-impl<R: Files> Storage for System<'_, R> {
-    type File = R::File;
+/// The first `most` bytes of the file at `path`, through `runtime`.
+fn first_bytes<R: Files>(
+    runtime: &R,
+    alloc: Global,
+    path: &str,
+    most: usize,
+) -> io::Result<Vec<u8>> {
+    let file = fs::open(runtime, path)?;
+    let mut bytes = Vec::new(alloc);
+    file.take(most as u64).read_to_end(&mut bytes)?;
+    Ok(bytes)
+}
 
-    ghost failures = { λ s. s };
+impl<R: Files> Storage for System<'_, R> {
+    ghost failures = { λ s. s.0 };
+
+    ghost unread = { λ s. s.1 };
 
     /// Writes the file at `path` whole, through `runtime`, and counts a failure.
     fn save(&mut self, path: &str, bytes: &[u8]) -> io::Result<()> {
         let outcome = fs::write(self.runtime, path, bytes);
         if outcome.is_err() {
-            self.count = self.count.saturating_add(1);
+            self.failures = self.failures.saturating_add(1);
         }
         outcome
     }
 
-    /// Opens the file at `path` for reading, through `runtime`. A failure is not counted.
-    fn open(&self, path: &str) -> io::Result<R::File> {
-        fs::open(self.runtime, path)
+    /// Reads the file at `path`, through `runtime`, and counts a failure.
+    fn read(&mut self, alloc: Global, path: &str, most: usize) -> io::Result<Vec<u8>> {
+        let outcome = first_bytes(self.runtime, alloc, path, most);
+        if outcome.is_err() {
+            self.unread = self.unread.saturating_add(1);
+        }
+        outcome
     }
 }
 
-/// The fault for an input of this name that could not be opened or read: `OutOfMemory`, or `CannotRead` for any other
-/// error.
+/// The fault for an input of this name that could not be opened or read: `OutOfMemory` if the error is of this kind,
+/// otherwise `CannotRead`.
 pub(crate) fn read_fault<'a>(error: &io::Error, name: &'a str) -> Fault<'a>
-    ensures { IsUnread name.now result ⊎ (result ≡ Fault.OutOfMemory) }
+    ensures fault { IsUnread name.now result ⊎ (result ≡ Fault.OutOfMemory) }
+    ensures memory { error_kind error.now ≡ ErrorKind.OutOfMemory → result ≡ Fault.OutOfMemory }
+    ensures other { error_kind error.now ≢ ErrorKind.OutOfMemory → IsUnread name.now result }
 {
     match error.kind() {
-        io::ErrorKind::OutOfMemory => Fault::OutOfMemory,
+        ErrorKind::OutOfMemory => Fault::OutOfMemory,
         _ => Fault::CannotRead(name),
     }
 }
 
-/// The fault for a file of this name that could not be written: `OutOfMemory`, or `CannotWrite` for any other error.
+/// The fault for a file of this name that could not be written: `OutOfMemory` if the error is of this kind, otherwise
+/// `CannotWrite`.
 pub(crate) fn write_fault<'a>(error: &io::Error, name: &'a str) -> Fault<'a>
-    ensures { IsUnwritten name.now result ⊎ (result ≡ Fault.OutOfMemory) }
+    ensures fault { IsUnwritten name.now result ⊎ (result ≡ Fault.OutOfMemory) }
+    ensures memory { error_kind error.now ≡ ErrorKind.OutOfMemory → result ≡ Fault.OutOfMemory }
+    ensures other { error_kind error.now ≢ ErrorKind.OutOfMemory → IsUnwritten name.now result }
 {
     match error.kind() {
-        io::ErrorKind::OutOfMemory => Fault::OutOfMemory,
+        ErrorKind::OutOfMemory => Fault::OutOfMemory,
         _ => Fault::CannotWrite(name),
     }
 }
@@ -132,14 +166,21 @@ pub(crate) fn read_whole<'a, R: Read + Drop>(
 /// `CannotRead` if it could not be opened or read, `InputTooLong` if there are more bytes, `OutOfMemory`.
 pub(crate) fn read_file<'a, F: Storage>(
     alloc: Global,
-    storage: &F,
+    storage: &mut F,
     path: &'a str,
 ) -> Result<Vec<u8>, Fault<'a>>
-    ensures bytes { IfOk result (λ v. IsRead (F.contents storage.now path.now) v.items) }
-    ensures fault { IfErr result (IsInputFault (F.contents storage.now path.now) path.now) }
+    ensures bytes { IfOk result (λ v. IsRead (F.contents storage.old path.now) v.items) }
+    ensures fault { IfErr result (IsInputFault (F.contents storage.old path.now) path.now) }
+    ensures reads { ReadsFiles (F.unread storage.old) (F.unread storage.new) (fault_if result) }
+    ensures kept { IsKept (F.contents storage.old) (F.contents storage.new) (F.saved storage.old) (F.saved storage.new) (F.failures storage.old) (F.failures storage.new) }
 {
-    match storage.open(path) {
-        Ok(file) => read_whole(alloc, file, path),
+    match storage.read(alloc, path, MOST_BYTES + 1) {
+        Ok(bytes) => {
+            if bytes.len() > MOST_BYTES {
+                return Err(Fault::InputTooLong);
+            }
+            Ok(bytes)
+        }
         Err(error) => Err(read_fault(&error, path)),
     }
 }

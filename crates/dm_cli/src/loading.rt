@@ -1,5 +1,6 @@
 //! The machine that `dm run`, `dm check` and `dm debug` begin with, with the first file loaded.
 ghost use Rattle.std.specs.Prelude.{◌≡◌, Some, IfErr, IfOk, IsSomeAnd, OnOk, codes, map, option_map};
+ghost use Rattle.dm_cli.specs.Reads.{IsKept, ReadsFiles, TellsOfNoFile, fault_if};
 ghost use Rattle.dm_cli.specs.inner.Starting.{IsFirstFault, IsFirstLoaded};
 ghost use Rattle.dm_cli.specs.Starting.{IsFileFault, IsMachineFault, IsStartFault, IsStartedBy, paths_of, sizes_of, typed_in};
 ghost use Rattle.dm_cli.specs.Stores.{AddsFile, IsBegun, IsFaultOf, IsInputFault, IsRead, Stores, bytes_if_any};
@@ -19,12 +20,14 @@ const MOST_TAIL_BYTES: usize = 126;
 /// Reads the file at `path` and adds it to the store, under the last part of its path. On a fault, nothing is added.
 fn add_file<'a, F: Storage>(
     alloc: Global,
-    storage: &F,
+    storage: &mut F,
     programs: &mut Programs,
     path: &'a str,
 ) -> Result<(), Fault<'a>>
-    ensures ok { OnOk result (AddsFile (F.contents storage.now path.now) programs.old path.now programs.new) }
-    ensures fault { IfErr result (IsFaultOf (F.contents storage.now path.now) programs.old path.now) }
+    ensures ok { OnOk result (AddsFile (F.contents storage.old path.now) programs.old path.now programs.new) }
+    ensures fault { IfErr result (IsFaultOf (F.contents storage.old path.now) programs.old path.now) }
+    ensures reads { ReadsFiles (F.unread storage.old) (F.unread storage.new) (fault_if result) }
+    ensures kept { IsKept (F.contents storage.old) (F.contents storage.new) (F.saved storage.old) (F.saved storage.new) (F.failures storage.old) (F.failures storage.new) }
 {
     if !names_file(path) {
         return Err(Fault::CannotRead(path));
@@ -40,11 +43,13 @@ fn add_file<'a, F: Storage>(
 /// A store of the files at `paths`, each under the last part of its path; or the first fault of a file, in their order.
 fn read_programs<'a, F: Storage>(
     alloc: Global,
-    storage: &F,
+    storage: &mut F,
     paths: &[&'a str],
 ) -> Result<Programs, Fault<'a>>
-    ensures store { IfOk result (λ store. Stores (F.contents storage.now) (map (λ path. path.now) paths.now) store) }
-    ensures fault { IfErr result (IsFileFault (F.contents storage.now) (map (λ path. path.now) paths.now)) }
+    ensures store { IfOk result (λ store. Stores (F.contents storage.old) (map (λ path. path.now) paths.now) store) }
+    ensures fault { IfErr result (IsFileFault (F.contents storage.old) (map (λ path. path.now) paths.now)) }
+    ensures reads { ReadsFiles (F.unread storage.old) (F.unread storage.new) (fault_if result) }
+    ensures kept { IsKept (F.contents storage.old) (F.contents storage.new) (F.saved storage.old) (F.saved storage.new) (F.failures storage.old) (F.failures storage.new) }
 {
     let mut programs = Programs::new(alloc);
     for path in paths {
@@ -60,6 +65,7 @@ fn load_first<'a>(machine: &mut Machine, options: &MachineOptions<'a>) -> Result
     ensures ok { OnOk result (IsFirstLoaded machine.old (paths_of options.now) options.now.tail.now machine.new) }
     ensures fault { IfErr result (IsFirstFault machine.old options.now) }
     ensures loaded { OnOk result (HasProgram machine.new) }
+    ensures reads { IfErr result (λ e. TellsOfNoFile (Some e)) }
 {
     let tail = options.tail.as_bytes();
     if tail.len() > MOST_TAIL_BYTES {
@@ -81,6 +87,7 @@ fn begun<'a>(
     ensures begun { IfOk result (IsBegun programs input.items (sizes_of options.now) options.now.upper (paths_of options.now) options.now.tail.now) }
     ensures fault { IfErr result (IsMachineFault programs input.items options.now) }
     ensures loaded { IfOk result (λ machine. HasProgram machine) }
+    ensures reads { IfErr result (λ e. TellsOfNoFile (Some e)) }
 {
     let config = Config {
         sizes: Sizes {
@@ -99,13 +106,15 @@ fn begun<'a>(
 /// first fault: of the files, of the input, of the machine.
 pub(crate) fn loaded<'a, F: Storage, I: Read + Drop>(
     alloc: Global,
-    storage: &F,
+    storage: &mut F,
     options: &MachineOptions<'a>,
     input: I,
 ) -> Result<Machine, Fault<'a>>
-    ensures started { IfOk result (IsStartedBy (F.contents storage.now) (I.remaining input) options.now) }
-    ensures fault { IfErr result (IsStartFault (F.contents storage.now) (I.remaining input) (Some (codes "standard input")) options.now) }
+    ensures started { IfOk result (IsStartedBy (F.contents storage.old) (I.remaining input) options.now) }
+    ensures fault { IfErr result (IsStartFault (F.contents storage.old) (I.remaining input) (Some (codes "standard input")) options.now) }
     ensures loaded { IfOk result (λ machine. HasProgram machine) }
+    ensures reads { ReadsFiles (F.unread storage.old) (F.unread storage.new) (fault_if result) }
+    ensures kept { IsKept (F.contents storage.old) (F.contents storage.new) (F.saved storage.old) (F.saved storage.new) (F.failures storage.old) (F.failures storage.new) }
 {
     let programs = read_programs(alloc, storage, options.files.as_slice())?;
     let input = read_whole(alloc, input, "standard input")?;
@@ -115,12 +124,14 @@ pub(crate) fn loaded<'a, F: Storage, I: Read + Drop>(
 /// The bytes of the file at `path`, with the faults of `read_file`; no bytes for None.
 fn read_if_any<'a, F: Storage>(
     alloc: Global,
-    storage: &F,
+    storage: &mut F,
     path: Option<&'a str>,
 ) -> Result<Vec<u8>, Fault<'a>>
-    ensures bytes { IfOk result (λ v. IsRead (bytes_if_any (F.contents storage.now) (option_map (λ path. path.now) path.entry)) v.items) }
+    ensures bytes { IfOk result (λ v. IsRead (bytes_if_any (F.contents storage.old) (option_map (λ path. path.now) path.entry)) v.items) }
     ensures fault { IfErr result (λ e. IsSomeAnd (option_map (λ path. path.now) path.entry)
-        (λ name. IsInputFault (bytes_if_any (F.contents storage.now) (Some name)) name e)) }
+        (λ name. IsInputFault (bytes_if_any (F.contents storage.old) (Some name)) name e)) }
+    ensures reads { ReadsFiles (F.unread storage.old) (F.unread storage.new) (fault_if result) }
+    ensures kept { IsKept (F.contents storage.old) (F.contents storage.new) (F.saved storage.old) (F.saved storage.new) (F.failures storage.old) (F.failures storage.new) }
 {
     match path {
         Some(path) => read_file(alloc, storage, path),
@@ -132,13 +143,15 @@ fn read_if_any<'a, F: Storage>(
 /// Or the first fault: of the files, of the input, of the machine.
 pub(crate) fn loaded_for_debug<'a, F: Storage>(
     alloc: Global,
-    storage: &F,
+    storage: &mut F,
     options: &DebugOptions<'a>,
 ) -> Result<Machine, Fault<'a>>
-    ensures started { IfOk result (IsStartedBy (F.contents storage.now) (typed_in (F.contents storage.now) options.now) options.now.machine) }
-    ensures fault { IfErr result (IsStartFault (F.contents storage.now) (typed_in (F.contents storage.now) options.now)
+    ensures started { IfOk result (IsStartedBy (F.contents storage.old) (typed_in (F.contents storage.old) options.now) options.now.machine) }
+    ensures fault { IfErr result (IsStartFault (F.contents storage.old) (typed_in (F.contents storage.old) options.now)
         (option_map (λ path. path.now) options.now.input) options.now.machine) }
     ensures loaded { IfOk result (λ machine. HasProgram machine) }
+    ensures reads { ReadsFiles (F.unread storage.old) (F.unread storage.new) (fault_if result) }
+    ensures kept { IsKept (F.contents storage.old) (F.contents storage.new) (F.saved storage.old) (F.saved storage.new) (F.failures storage.old) (F.failures storage.new) }
 {
     let programs = read_programs(alloc, storage, options.machine.files.as_slice())?;
     let input = read_if_any(alloc, storage, options.input)?;

@@ -39,7 +39,7 @@ impl<E: Out> Write for Messages<'_, E> {
     }
 }
 
-/// The line about a stop, as `dm run` and `dm check` print it; empty for an exit.
+/// The line about a stop, as `dm run` prints it; empty for an exit.
 pub(crate) fn stop_line(stop: Stop) -> &'static [u8]
     ensures { result.now ≡ stop_text stop }
 {

@@ -1,3 +1,4 @@
 mod Bytes
 mod Results
 pub mod Unseen
+mod Segments

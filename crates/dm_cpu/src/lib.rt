@@ -9,10 +9,13 @@
 mod cpu;
 mod effective_address;
 mod halves;
+pub mod memory;
 mod named;
 pub mod operands;
+mod places;
 mod registers;
 mod result_flags;
+mod returns;
 pub mod stack;
 pub mod values;
 
@@ -20,5 +23,6 @@ pub use cpu::Cpu;
 pub use dm_alu::Flags;
 pub use effective_address::EffectiveAddress;
 pub use halves::Half;
+pub use places::{AnyPlace, Source, Target, Value};
 pub use registers::Registers;
-pub use stack::{far_return, interrupt_return};
+pub use returns::{far_return, interrupt_return};

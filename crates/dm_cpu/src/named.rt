@@ -115,35 +115,11 @@ impl Registers {
         self.set_word(WordRegister::Di, value);
     }
 
-    /// The value of ES.
-    #[inline(always)]
-    pub fn es(&self) -> u16
-        ensures { result ≡ self.now.es }
-    {
-        self.segments[0]
-    }
-
     /// The value of CS.
     #[inline(always)]
     pub fn cs(&self) -> u16
         ensures { result ≡ self.now.cs }
     {
         self.segments[1]
-    }
-
-    /// The value of SS.
-    #[inline(always)]
-    pub fn ss(&self) -> u16
-        ensures { result ≡ self.now.ss }
-    {
-        self.segments[2]
-    }
-
-    /// The value of DS.
-    #[inline(always)]
-    pub fn ds(&self) -> u16
-        ensures { result ≡ self.now.ds }
-    {
-        self.segments[3]
     }
 }

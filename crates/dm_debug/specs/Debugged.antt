@@ -6,5 +6,5 @@ use Rattle.dm_machine.specs.declared.until.Breakpoint.{Breakpoint}
 -- a debugging session: the state of its machine, and its breakpoints
 pub record Debugged : Type 0 where
   pub machine : State
-  -- in the order of setting
+  -- in the order of setting, no two at one segment and offset
   pub points : List Breakpoint

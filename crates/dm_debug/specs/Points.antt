@@ -1,5 +1,5 @@
 -- The breakpoints of a debugging session, in the order of setting.
-use Rattle.std.specs.Prelude.{ℕ, Bool, ◌&&◌, ◌==◌, List, [], ◌∷◌, ◌++◌, position, remove, is_some, Option, Some, None}
+use Rattle.std.specs.Prelude.{◌≢◌, ℕ, Bool, false, ◌&&◌, ◌==◌, nat_le, if◌then◌else◌, List, [], ◌∷◌, ◌++◌, length, position, remove, is_some, AllPairs, Option, Some, None}
 use Rattle.std.specs.List.{flat_map}
 use Rattle.dm_command.specs.declared.command.LogicalAddress.{LogicalAddress}
 use Rattle.dm_machine.specs.declared.until.Breakpoint.{Breakpoint}
@@ -16,6 +16,14 @@ is_point a p = p.offset == a.offset && p.segment == a.segment
 -- whether a breakpoint is set at the address
 abbrev pub is_set : List Breakpoint → LogicalAddress → Bool
 is_set points a = is_some (position (is_point a) points)
+
+-- no two of the breakpoints are at one segment and offset
+abbrev pub AreDistinct : List Breakpoint → Type 0
+AreDistinct points = AllPairs (λ p q. p ≢ q) points
+
+-- whether a breakpoint at the address would be a seventeenth: none is set there, and sixteen are
+abbrev pub is_seventeenth : List Breakpoint → LogicalAddress → Bool
+is_seventeenth points a = if is_set points a then false else nat_le 16 (length points)
 
 -- the breakpoints after B, by the index in the list of the breakpoint at the address: with one more at the end if none
 -- is there (None), else the list stays

@@ -1,6 +1,6 @@
 -- Debugging sessions: what each command changes and prints, and which lines are refused.
 -- Source: MS-DOS User's Reference, "DEBUG". The forms, breakpoints and listings beyond it are this machine's own.
-use Rattle.std.specs.Prelude.{◌≡◌, ℕ, Bool, true, false, not, nat_le, if◌then◌else◌, List, [], ◌∷◌, ◌++◌, length, codes, Option, Some, None}
+use Rattle.std.specs.Prelude.{◌≡◌, ℕ, Bool, true, false, not, List, [], ◌∷◌, ◌++◌, codes, Option, Some, None}
 use Rattle.std.specs.Io.KnownBytes.{Appends}
 use Rattle.dm_out.specs.Out.{AppendsPart}
 use Rattle.dm_space.specs.Buffers.{with_bytes}
@@ -19,7 +19,7 @@ use Rattle.dm_views.specs.Arena.{IsArenaText}
 use Rattle.dm_views.specs.Pages.{pages_text}
 use Rattle.dm_views.specs.Extended.{extended_text}
 use Rattle.dm_debug.specs.Debugged.{Debugged}
-use Rattle.dm_debug.specs.Points.{is_set, with_point, without_point, points_text}
+use Rattle.dm_debug.specs.Points.{is_set, is_seventeenth, with_point, without_point, points_text}
 use Rattle.dm_debug.specs.Runs.{GoesTo, IsTrace, TracesPart}
 
 -- the session over a machine with no breakpoints
@@ -82,7 +82,7 @@ clears_none s _ = false
 
 -- whether the command is B for a breakpoint that is not set, while sixteen others are
 abbrev pub is_over : Debugged → Command → Bool
-is_over s (c.Break a) = if is_set s.points a then false else nat_le 16 (length s.points)
+is_over s (c.Break a) = is_seventeenth s.points a
 is_over s _ = false
 
 -- whether the line is no command (None), or clears a breakpoint that is not set

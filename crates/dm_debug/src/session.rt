@@ -12,10 +12,9 @@ ghost use Rattle.dm_debug.specs.Points.{with_point, without_point};
 ghost use Rattle.dm_debug.specs.Sessions.{new_session, done, with_machine, with_points, with_entered, Does, DoesPart, clears_none, is_over, is_syntax, is_full, IsAnswered, IsCutOff, IsPartlyWritten};
 
 use crate::listings::{arena, dump, extended, output, pages, put_machine, unassemble};
-use crate::points::{MOST, Points, place_of, point_at, put_points};
+use crate::points::{Points, put_points};
 use crate::refusal::CommandRefusal;
 use crate::runs::{enter, go, trace};
-use arrayvec::ArrayVec;
 use dm_command::{Bytes, Command, LogicalAddress, read_command};
 use dm_machine::{Breakpoint, Machine, Out, Stop};
 use dm_out::write_all;
@@ -25,7 +24,7 @@ use std::marker::Model;
 /// The line that B, BC and E print.
 const DONE: &[u8] = b"ok\n";
 
-/// A machine that is debugged, and its breakpoints: at most sixteen exact pairs of CS and IP.
+/// A machine that is debugged, and its breakpoints: at most sixteen exact pairs of CS and IP, all different.
 ///
 /// Contracts see the machine's state and the list of breakpoints, in the order of setting. A program is loaded.
 #[derive(Drop)]
@@ -40,9 +39,9 @@ impl Model for Session {
 
     ghost Value = { Debugged };
 
-    ghost view = { λ s. record { machine = s.machine; points = s.points.items } };
+    ghost view = { λ s. record { machine = s.machine; points = s.points } };
 
-    ghost invariant = { λ s. IsDebugged (record { machine = s.machine; points = s.points.items }) };
+    ghost invariant = { λ s. IsDebugged (record { machine = s.machine; points = s.points }) };
 }
 
 impl Session {
@@ -53,21 +52,21 @@ impl Session {
     {
         Session {
             machine,
-            points: ArrayVec::new(),
+            points: Points::new(),
         }
     }
 
     /// A session over a machine on which a program is loaded, with these breakpoints.
     pub fn from_parts(machine: Machine, points: Points) -> Session
         requires { HasProgram machine }
-        ensures { result ≡ record { machine = machine; points = points.items } }
+        ensures { result ≡ record { machine = machine; points = points } }
     {
         Session { machine, points }
     }
 
     /// The machine, on which a program is loaded, and the breakpoints.
     pub fn into_parts(self) -> (Machine, Points)
-        ensures parts { self ≡ record { machine = result.0; points = result.1.items } }
+        ensures parts { self ≡ record { machine = result.0; points = result.1 } }
         ensures loaded { HasProgram result.0 }
     {
         (self.machine, self.points)
@@ -106,19 +105,12 @@ impl Session {
         enter(&mut self.machine, segment, offset, bytes);
     }
 
-    /// Whether a breakpoint is set at the address: this segment and this offset exactly.
-    fn is_set(&self, address: LogicalAddress) -> bool
-        ensures { result ≡ Rattle.dm_debug.specs.Points.is_set self.now.points address }
-    {
-        place_of(self.points.as_slice(), address).is_some()
-    }
-
     /// Whether the command is BC for a breakpoint that is not set.
     fn clears_none(&self, command: &Command) -> bool
         ensures { result ≡ clears_none self.now command.now }
     {
         match command {
-            Command::Clear(address) => !self.is_set(*address),
+            Command::Clear(address) => !self.points.is_set(*address),
             _ => false,
         }
     }
@@ -128,7 +120,7 @@ impl Session {
         ensures { result ≡ is_over self.now command.now }
     {
         match command {
-            Command::Break(address) => !self.is_set(*address) && MOST <= self.points.len(),
+            Command::Break(address) => self.points.is_seventeenth(*address),
             _ => false,
         }
     }
@@ -139,18 +131,14 @@ impl Session {
         requires { is_over self.old (Break address) ≡ false }
         ensures { self.new ≡ with_points self.old (with_point self.old.points address) }
     {
-        if let None = place_of(self.points.as_slice(), address) {
-            self.points.push(point_at(address));
-        }
+        self.points.set(address);
     }
 
     /// Removes a breakpoint from the session's list; if it is not set, the list stays. The machine stays.
     fn clear(&mut self, address: LogicalAddress)
         ensures { self.new ≡ with_points self.old (without_point self.old.points address) }
     {
-        if let Some(at) = place_of(self.points.as_slice(), address) {
-            self.points.remove(at);
-        }
+        self.points.clear(address);
     }
 
     /// B: sets a breakpoint, unless it is set already, and appends the line `ok` to `text`. An `Err` is a failed

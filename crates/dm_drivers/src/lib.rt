@@ -7,4 +7,4 @@ mod laws;
 mod multiplex;
 
 pub use drivers::drive;
-pub use laws::{drivers_keep, pages_come};
+pub use laws::{block_comes, drivers_keep, pages_come};

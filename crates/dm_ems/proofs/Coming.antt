@@ -1,31 +1,29 @@
 -- Pages that are promised come.
-use Rattle.std.proofs.Common.{◌≡◌, ◌≢◌, ℕ, zero, suc, ◌+◌, ◌-◌, ◌<◌, ◌≤◌, ◌==◌, Bool, true, false, cond, List, [], ◌∷◌, ◌++◌, Option, Some, None, length, get_or, set, take, refl, sym, ◌∙◌, ap, subst, arith, inl, inr, length-append}
-use Rattle.std.specs.Prelude.{Result, Ok, Err, All, nat_lt, min, is_some, is_none, count_by, position}
-use Rattle.std.proofs.lemmas.Bool.{cases_lt}
+use Rattle.std.proofs.Common.{◌≡◌, ◌≢◌, ℕ, zero, suc, ◌+◌, ◌-◌, ◌<◌, ◌≤◌, ◌==◌, Bool, true, false, cond, List, [], ◌∷◌, ◌++◌, Option, Some, None, length, get_or, take, refl, sym, ◌∙◌, ap, subst, arith, length-append}
+use Rattle.std.specs.Prelude.{Result, Ok, Err, All, nat_lt, min, is_some, is_none, count_by}
 use Rattle.std.proofs.lemmas.Bool.Decides.{nat_tests}
 use Rattle.std.proofs.lemmas.Option.{none-some}
 use Rattle.std.proofs.lemmas.List.{append_assoc, append-nil}
 use Rattle.std.proofs.lemmas.List.Quantifiers.{position-Some}
 use Rattle.std.proofs.lemmas.List.Sums.{sum_by-cons}
 use Rattle.dm_pool.specs.declared.extent.Extent.{Extent}
-use Rattle.dm_pool.specs.Blocks.{Blocks, IsLive, zeros, taken}
+use Rattle.dm_pool.specs.Blocks.{Blocks, IsLive, taken}
 use Rattle.dm_pool.specs.Gaps.{gaps, count_fitting}
 use Rattle.dm_pool.specs.Laws.{free_numbers}
 use Rattle.dm_pool.proofs.Coming.{comes, taken_leaves}
-use Rattle.dm_space.specs.Memory.{page_bytes}
 use Rattle.dm_ems.specs.declared.status.Status.{Status}
 use Rattle.dm_ems.specs.declared.status.Status.TheVariants.{NoPages, NoHandleLeft, OverTotal, OverFree}
 use Rattle.dm_ems.specs.declared.tables.Handle.{Handle}
-use Rattle.dm_ems.specs.Tables.{Expanded, blank, with_page, appended_page, appended, blocks_of, page_count, unallocated, free_handle}
-use Rattle.dm_ems.specs.Consistent.{handle_at, IsUsed, IsConsistent, HasNumbers}
+use Rattle.dm_ems.specs.Tables.{Expanded, blank, with_page, appended_page, appended, blocks_of, unallocated, free_handle}
+use Rattle.dm_ems.specs.Consistent.{IsUsed, IsConsistent, HasNumbers}
 use Rattle.dm_ems.specs.Calls.{need, with_slot}
 use Rattle.dm_ems.specs.Handles.{allocate}
 use Rattle.dm_ems.specs.Coming.{IsNewPage, HasPages}
 use Rattle.dm_ems.specs.Laws.{PagesCome}
-use Rattle.dm_ems.proofs.Consistent.{consistent_append, appended_handles}
+use Rattle.dm_ems.proofs.Consistent.{consistent_append, appended_handles, appended_room}
 use Rattle.dm_ems.proofs.NewBlock.{taken_new}
 use Rattle.dm_ems.proofs.HandleBlocks.{blocks_pushed, count_blocks, none_in}
-use Rattle.dm_ems.proofs.Keeping.{opened, opened_used}
+use Rattle.dm_ems.proofs.Keeping.{opened, opened_used, has_room}
 
 -- ---- pages behind those of a handle
 
@@ -85,8 +83,8 @@ page_came : (y : Expanded) (h : ℕ) (p : ℕ × Blocks) → taken y.memory.bloc
 unfolding appended_page
 page_came y h p e = ap (with_page y h) e
 
-pub grows : (x : Expanded) (h n : ℕ) → IsConsistent x → IsUsed x.ems.handles h → n ≤ free_numbers x.memory.blocks → n ≤ fitting x → Grows x (appended x h n) h n
-grows x h zero l u more fits = record {
+pub grows : (x : Expanded) (h n : ℕ) → IsConsistent x → IsUsed x.ems.handles h → n ≤ free_numbers x.memory.blocks → n ≤ fitting x → length x.ems.pages + n ≤ x.ems.total → Grows x (appended x h n) h n
+grows x h zero l u more fits room = record {
   new = [];
   count = refl;
   blocks = sym (append-nil (blocks_of x.ems h));
@@ -96,13 +94,13 @@ grows x h zero l u more fits = record {
   numbers = omega arith;
   left = omega arith;
 }
-grows x h (suc n) l u more fits =
+grows x h (suc n) l u more fits room =
     let y = appended x h n in
-    let g = grows x h n l u (omega (arith, more)) (omega (arith, fits)) in
+    let g = grows x h n l u (omega (arith, more)) (omega (arith, fits)) (omega (arith, room)) in
     let numbers = g.numbers in let left = g.left in
     let new = comes y.memory.blocks 16 g.consistency.based (omega arith) (omega (arith, numbers, more)) (omega (arith, left, fits)) in
     let used = subst (λ (hs : List (Option Handle)). IsUsed hs h) (sym (appended_handles x h n)) u in
-    grows_one x y (appended_page y h) h n new.0.0 new.0.1 g used new.1 (page_came y h new.0 new.1) (consistent_append y h used g.consistency)
+    grows_one x y (appended_page y h) h n new.0.0 new.0.1 g used new.1 (page_came y h new.0 new.1) (consistent_append y h used (appended_room x h n room) g.consistency)
 
 -- ---- numbers
 
@@ -121,12 +119,12 @@ not_less : (a b : ℕ) → nat_lt a b ≡ false → b ≤ a
 not_less a b e = grind (arith, nat_tests, e)
 
 -- so many pages may come: there is a number for each, and a place
-pub may_come : (x : Expanded) (n : ℕ) → IsConsistent x → HasNumbers x → nat_lt (unallocated x) n ≡ false → (n ≤ free_numbers x.memory.blocks) × (n ≤ fitting x)
+pub may_come : (x : Expanded) (n : ℕ) → IsConsistent x → HasNumbers x → nat_lt (unallocated x) n ≡ false → (n ≤ free_numbers x.memory.blocks) × (n ≤ fitting x) × (length x.ems.pages + n ≤ x.ems.total)
 may_come x n l few e =
     let le : n ≤ min (fitting x) (x.ems.total - length x.ems.pages) = not_less (unallocated x) n e in
     let sum = free_or_not x.memory.blocks.places in
     let all = l.places in let total = l.total in
-    (omega (arith, le, sum, all, total, few), omega (arith, le))
+    (omega (arith, le, sum, all, total, few), omega (arith, le), has_room x n l e)
 
 -- ---- a new handle
 
@@ -163,7 +161,7 @@ given : (x : Expanded) (n h : ℕ) → IsConsistent x → HasNumbers x → free_
 given x n h l few e f =
     let z = with_slot x h (Some blank) in
     let may = may_come x n l few f in
-    let g = grows z h n (opened x h l) (opened_used x h e) may.0 may.1 in
+    let g = grows z h n (opened x h l) (opened_used x h e) may.0 may.1 may.2 in
     let y = appended z h n in
     let none = unused x h l e in
     let all : blocks_of y.ems h ≡ g.new = g.blocks ∙ ap (λ l. l ++ g.new) none in

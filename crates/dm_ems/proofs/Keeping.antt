@@ -1,6 +1,7 @@
 -- Each call keeps the tables and the memory consistent.
-use Rattle.std.proofs.Common.{◌≡◌, ℕ, zero, suc, Bool, true, false, cond, List, [], ◌∷◌, Option, Some, None, length, get_or, set, refl, sym, ◌∙◌, ap, subst, replicate, arith}
-use Rattle.std.specs.Prelude.{Result, Ok, Err, ◌==◌, nat_lt, nat_le, is_some, is_none, IfSome, IsSome, slice_get}
+use Rattle.std.proofs.Common.{◌≡◌, ℕ, zero, suc, ◌+◌, ◌-◌, ◌≤◌, Bool, true, false, cond, List, [], ◌∷◌, Option, Some, None, length, get_or, set, refl, sym, ◌∙◌, ap, subst, replicate, arith}
+use Rattle.std.specs.Prelude.{Result, Ok, Err, ◌==◌, nat_lt, nat_le, min, is_some, is_none, IfSome, slice_get}
+use Rattle.std.proofs.lemmas.Bool.Decides.{nat_tests}
 use Rattle.std.proofs.lemmas.List.{get_or-set_same}
 use Rattle.std.proofs.lemmas.List.Quantifiers.{position-Some}
 use Rattle.std.proofs.lemmas.Option.{none-some}
@@ -8,6 +9,7 @@ use Rattle.std.proofs.lemmas.List.{length-replicate}
 use Rattle.dm_pool.specs.declared.extent.Extent.{Extent}
 use Rattle.dm_pool.specs.Blocks.{no_blocks}
 use Rattle.dm_pool.specs.FreeList.{AreBased}
+use Rattle.dm_pool.specs.Gaps.{gaps, count_fitting}
 use Rattle.dm_pool.proofs.Blocks.{no_place}
 use Rattle.dm_space.specs.Memory.{Memory, IsPage, no_windows}
 use Rattle.dm_space.specs.Places.{IsShaped}
@@ -17,7 +19,7 @@ use Rattle.dm_ems.specs.declared.status.Status.TheVariants.{NoPages, NoHandleLef
 use Rattle.dm_ems.specs.declared.tables.Handle.{Handle}
 use Rattle.dm_ems.specs.declared.tables.Page.{Page}
 use Rattle.dm_ems.specs.Tables.{Expanded, blank, appended, cut, unallocated, free_handle, blocks_of, with_windows}
-use Rattle.dm_ems.specs.Consistent.{block_at, handle_at, IsUsed, IsOwned, ShowsPages, SavesPages, IsConsistent}
+use Rattle.dm_ems.specs.Consistent.{block_at, IsUsed, IsOwned, ShowsPages, SavesPages, IsConsistent}
 use Rattle.dm_ems.specs.Calls.{left, need, slot, with_slot, with_memory}
 use Rattle.dm_ems.specs.Handles.{allocate, deallocate}
 use Rattle.dm_ems.specs.Maps.{map_page, save_map, restore_map, showing}
@@ -36,6 +38,10 @@ pub if_keeps : {A : Type 0} (x : Expanded) (b : Bool) (r s : Result (A × Expand
 if_keeps x true r s p q = p
 if_keeps x false r s p q = q
 
+pub else_keeps : {A : Type 0} (x : Expanded) (b : Bool) (r s : Result (A × Expanded) Status) → Keeps x r → (b ≡ false → Keeps x s) → Keeps x (cond b r s)
+else_keeps x true r s p q = p
+else_keeps x false r s p q = q refl
+
 pub need_keeps : {A B : Type 0} (x : Expanded) (o : Option A) (e : Status) (f : A → Result (B × Expanded) Status) → IsConsistent x → ((v : A) → o ≡ Some v → Keeps x (f v)) → Keeps x (need o e f)
 need_keeps x None e f l h = record { kept = l }
 need_keeps x (Some v) e f l h = h v refl
@@ -52,14 +58,23 @@ opened x h l = consistent_slot x h (Some blank) l tt (λ k lt e. refl)
 pub opened_used : (x : Expanded) (h : ℕ) → free_handle x.ems ≡ Some h → IsUsed (with_slot x h (Some blank)).ems.handles h
 opened_used x h e = let at = position-Some is_none x.ems.handles h None e in ap is_some (get_or-set_same x.ems.handles h (Some blank) None at.0)
 
+-- the machine has as many pages more as can be allocated
+pub has_room : (x : Expanded) (n : ℕ) → IsConsistent x → nat_lt (unallocated x) n ≡ false → length x.ems.pages + n ≤ x.ems.total
+has_room x n l e =
+    let fit = count_fitting 16 (gaps x.memory.blocks.places x.memory.blocks.units) in
+    let le : n ≤ min fit (x.ems.total - length x.ems.pages) = not_less (unallocated x) n e in omega (arith, le, l.few)
+  where
+    not_less : (a b : ℕ) → nat_lt a b ≡ false → b ≤ a
+    not_less a b e = grind (arith, nat_tests, e)
+
 allocate_keeps : (x : Expanded) (n : ℕ) → IsConsistent x → Keeps x (allocate x n)
 unfolding allocate
 allocate_keeps x n l =
     if_keeps x (n == 0) (Err NoPages) _ (refused x NoPages l)
     (need_keeps x (free_handle x.ems) NoHandleLeft _ l (λ h e.
     if_keeps x (nat_lt x.ems.total n) (Err OverTotal) _ (refused x OverTotal l)
-    (if_keeps x (nat_lt (unallocated x) n) (Err OverFree) (Ok (h, appended (with_slot x h (Some blank)) h n)) (refused x OverFree l)
-    (record { kept = consistent_appended (with_slot x h (Some blank)) h n (opened_used x h e) (opened x h l) }))))
+    (else_keeps x (nat_lt (unallocated x) n) (Err OverFree) (Ok (h, appended (with_slot x h (Some blank)) h n)) (refused x OverFree l)
+    (λ f. record { kept = consistent_appended (with_slot x h (Some blank)) h n (opened_used x h e) (has_room x n l f) (opened x h l) }))))
 
 freed_slot : (ps : List Page) (b : Bool) → SavesPages ps (cond b (Some blank) None)
 freed_slot ps true = tt
@@ -83,7 +98,7 @@ window_set ps (x ∷ ws) (suc k) w h p zero = h 0
 window_set ps (x ∷ ws) (suc k) w h p (suc j) = window_set ps ws k w (λ i. h (suc i)) p j
 
 pub with_shown : (x : Expanded) (windows : List (Option ℕ)) → IsConsistent x → ShowsPages x.ems.pages windows → IsConsistent (with_memory x (with_windows x.memory windows))
-with_shown x windows l h = record { places = l.places; contents = l.contents; based = l.based; total = l.total; used = l.used; owned = l.owned; apart = l.apart; shown = h; saved = l.saved }
+with_shown x windows l h = record { places = l.places; contents = l.contents; based = l.based; total = l.total; few = l.few; used = l.used; owned = l.owned; apart = l.apart; shown = h; saved = l.saved }
 
 map_keeps : (x : Expanded) (window page h : ℕ) → IsConsistent x → Keeps x (map_page x window page h)
 unfolding map_page
@@ -154,6 +169,7 @@ writes_keep x m s l = record {
   contents = s.page_count ∙ l.contents;
   based = subst AreBased (sym s.places) l.based;
   total = l.total;
+  few = l.few;
   used = l.used;
   owned = λ k h. page_kept x.memory m (block_at x.ems.pages k) s (l.owned k h);
   apart = l.apart;
@@ -193,6 +209,7 @@ start_consistent total units low few = record {
   contents = (sizes units).1;
   based = none_based units;
   total = few;
+  few = omega arith;
   used = λ k h. absurd (omega (arith, h));
   owned = λ k h. absurd (omega (arith, h));
   apart = λ i j d p q. absurd (omega (arith, q));

@@ -37,13 +37,15 @@ abbrev pub SavesPages : List Page → Option Handle → Type 0
 SavesPages pages None = Unit {0}
 SavesPages pages (Some handle) = IfSome handle.saved (ShowsPages pages)
 
--- the tables of expanded memory and the memory are consistent: the pool's table has its size, each page belongs to a
--- handle in use and has a block of 16 KiB of its own, and windows and saved windows show pages alone
+-- the tables of expanded memory and the memory are consistent: the pool's table has its size, there are no more pages
+-- than the machine has, each page belongs to a handle in use and has a block of 16 KiB of its own, and windows and saved
+-- windows show pages alone
 pub record IsConsistent (x : Expanded) : Type 0 where
   pub places : length x.memory.blocks.places ≡ 576
   pub contents : length x.memory.blocks.contents ≡ 576
   pub based : AreBased x.memory.blocks.places
   pub total : x.ems.total ≤ 512
+  pub few : length x.ems.pages ≤ x.ems.total
   pub used : (k : ℕ) → k < length x.ems.pages → IsUsed x.ems.handles (handle_at x.ems.pages k)
   pub owned : (k : ℕ) → k < length x.ems.pages → IsPage x.memory (block_at x.ems.pages k)
   pub apart : AllPairs HasOtherBlock x.ems.pages

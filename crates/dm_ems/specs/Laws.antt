@@ -2,7 +2,7 @@
 -- 44h, 45h, 47h, 48h and 53h with AL = 1, and while a program or another call only writes bytes to memory. They keep
 -- the blocks that are not pages. And a new handle gets all the pages that it asks for. (dm_ems_move has those of 4Eh,
 -- 50h, 51h and 57h.)
-use Rattle.std.specs.Prelude.{ℕ, ◌≤◌, ◌≡◌, List, Ok}
+use Rattle.std.specs.Prelude.{ℕ, ◌<◌, ◌≤◌, ◌≡◌, List, length, Ok}
 use Rattle.dm_pool.specs.Blocks.{no_blocks}
 use Rattle.dm_space.specs.Memory.{Memory, of_ram}
 use Rattle.dm_space.specs.Places.{IsShaped}
@@ -21,7 +21,7 @@ abbrev pub StartIsConsistent : Type 0
 StartIsConsistent = (total units : ℕ) (low : List ℕ) → total ≤ 512 → IsConsistent (expanded (new_tables total) (of_ram low (no_blocks units)))
 
 -- each of these calls leaves tables and memory consistent if they are so before it, and so do the two steps of
--- reallocation (51h), `appended_page` for a handle in use, and `cut`
+-- reallocation (51h), `appended_page` for a handle in use where the machine has one more page, and `cut`
 pub record CallsKeepConsistency : Type 0 where
   pub allocating : (x : Expanded) (n : ℕ) → IsConsistent x → IsConsistent (left x (allocate x n))
   pub deallocating : (x : Expanded) (handle : ℕ) → IsConsistent x → IsConsistent (left x (deallocate x handle))
@@ -29,7 +29,7 @@ pub record CallsKeepConsistency : Type 0 where
   pub saving : (x : Expanded) (handle : ℕ) → IsConsistent x → IsConsistent (left x (save_map x handle))
   pub restoring : (x : Expanded) (handle : ℕ) → IsConsistent x → IsConsistent (left x (restore_map x handle))
   pub naming : (x : Expanded) (handle segment offset : ℕ) → IsConsistent x → IsConsistent (left x (set_name x handle segment offset))
-  pub appending : (x : Expanded) (handle : ℕ) → IsUsed x.ems.handles handle → IsConsistent x → IsConsistent (appended_page x handle)
+  pub appending : (x : Expanded) (handle : ℕ) → IsUsed x.ems.handles handle → length x.ems.pages < x.ems.total → IsConsistent x → IsConsistent (appended_page x handle)
   pub cutting : (x : Expanded) (handle count : ℕ) → IsConsistent x → IsConsistent (cut x handle count)
 
 -- tables and memory stay consistent when a program writes to memory: with the same tables and any memory of the same

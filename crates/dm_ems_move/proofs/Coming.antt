@@ -50,7 +50,7 @@ more x h n l few u le e =
     let m = n - page_count x.ems h in
     let bs = blocks_of x.ems h in
     let may = may_come x m l few e in
-    let g = grows x h m l u may.0 may.1 in
+    let g = grows x h m l u may.0 may.1 may.2 in
     let long = count_blocks x.ems h in
     let sum : length (bs ++ g.new) ≡ n = omega (arith, length-append bs g.new, g.count, long, le) in
     record {

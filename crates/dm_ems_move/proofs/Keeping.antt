@@ -1,5 +1,5 @@
 -- Each call keeps the tables and the memory consistent.
-use Rattle.std.proofs.Common.{◌≡◌, ℕ, ◌-◌, Bool, true, false, cond, Some, None, refl, ap}
+use Rattle.std.proofs.Common.{◌≡◌, ℕ, ◌+◌, ◌-◌, ◌≤◌, length, Bool, true, false, cond, Some, None, refl, ap}
 use Rattle.std.specs.Prelude.{Result, Ok, Err, ◌==◌, nat_lt, is_some}
 use Rattle.dm_ems.specs.declared.status.Status.{Status}
 use Rattle.dm_ems.specs.declared.status.Status.TheVariants.{OverTotal, OverFree, UnknownHandle, NoSubfunction, BadMap, KindsOverlap, TooLong, ExchangeOverlaps}
@@ -12,7 +12,7 @@ use Rattle.dm_moves.specs.Spans.{Span}
 use Rattle.dm_moves.specs.Overlaps.{overlap}
 use Rattle.dm_moves.proofs.Shapes.{moves_keep as moves_keep_map}
 use Rattle.dm_ems.proofs.Consistent.{consistent_cut, consistent_appended}
-use Rattle.dm_ems.proofs.Keeping.{Keeps, if_keeps, need_keeps, refused, with_shown, writes_keep}
+use Rattle.dm_ems.proofs.Keeping.{Keeps, if_keeps, else_keeps, need_keeps, has_room, refused, with_shown, writes_keep}
 use Rattle.dm_ems_move.specs.Steps.{and_then}
 use Rattle.dm_ems_move.specs.Reallocation.{reallocate, reallocated, with_count}
 use Rattle.dm_ems_move.specs.Many.{map_many, after_pairs}
@@ -32,17 +32,17 @@ if_consistent : (b : Bool) (y z : Expanded) → IsConsistent y → IsConsistent 
 if_consistent true y z p q = p
 if_consistent false y z p q = q
 
-count_consistent : (x : Expanded) (h n : ℕ) → IsUsed x.ems.handles h → IsConsistent x → IsConsistent (with_count x h n)
-count_consistent x h n u l =
-    if_consistent (nat_lt n (page_count x.ems h)) (cut x h n) (appended x h (n - page_count x.ems h)) (consistent_cut x h n l) (consistent_appended x h (n - page_count x.ems h) u l)
+count_consistent : (x : Expanded) (h n : ℕ) → IsUsed x.ems.handles h → length x.ems.pages + (n - page_count x.ems h) ≤ x.ems.total → IsConsistent x → IsConsistent (with_count x h n)
+count_consistent x h n u room l =
+    if_consistent (nat_lt n (page_count x.ems h)) (cut x h n) (appended x h (n - page_count x.ems h)) (consistent_cut x h n l) (consistent_appended x h (n - page_count x.ems h) u room l)
 
 reallocate_keeps : (x : Expanded) (h n : ℕ) → IsConsistent x → Keeps x (reallocate x h n)
 unfolding reallocate
 reallocate_keeps x h n l =
     need_keeps x (slot x h) UnknownHandle _ l (λ s e.
     if_keeps x (nat_lt x.ems.total n) (Ok (reallocated (page_count x.ems h) (Some OverTotal), x)) _ (record { kept = l })
-    (if_keeps x (nat_lt (unallocated x) (n - page_count x.ems h)) (Ok (reallocated (page_count x.ems h) (Some OverFree), x)) (Ok (reallocated n None, with_count x h n)) (record { kept = l })
-    (record { kept = count_consistent x h n (ap is_some e) l })))
+    (else_keeps x (nat_lt (unallocated x) (n - page_count x.ems h)) (Ok (reallocated (page_count x.ems h) (Some OverFree), x)) (Ok (reallocated n None, with_count x h n)) (record { kept = l })
+    (λ f. record { kept = count_consistent x h n (ap is_some e) (has_room x (n - page_count x.ems h) l f) l })))
 
 -- ---- windows
 

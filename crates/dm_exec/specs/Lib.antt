@@ -11,4 +11,5 @@ pub mod Control
 pub mod Effect
 pub mod Unseen
 pub mod Map
+pub mod Pairs
 pub mod inner

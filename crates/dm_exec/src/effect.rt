@@ -6,7 +6,7 @@ ghost use Rattle.dm_exec.specs.Operation.{operation_of};
 
 use crate::operation::{Operation, operation_of};
 use crate::{adjustments, arithmetic, control, jumps, moves, products, shifts, stack, strings};
-use dm_cpu::Cpu;
+use dm_cpu::{Cpu, Registers};
 use dm_ins::{Ins, Mnemonic};
 use dm_space::Space;
 
@@ -23,7 +23,7 @@ pub enum Next {
 /// instruction says; HLT sets IP back to `start`. The function of the family is called as the last step, so that no
 /// value need be kept over the call.
 #[inline(never)]
-fn perform(cpu: &mut Cpu, space: &mut Space, ins: &Ins, start: u16)
+fn perform(cpu: &mut Registers, space: &mut Space, ins: &Ins, start: u16)
     ensures { guest cpu.new space.new.memory ≡ act (guest cpu.old space.old.memory) ins.now.prefixes start (operation_of ins.now.action.mnemonic) ins.now.action.first ins.now.action.second }
 {
     match operation_of(ins.action.mnemonic) {
@@ -33,18 +33,27 @@ fn perform(cpu: &mut Cpu, space: &mut Space, ins: &Ins, start: u16)
         Operation::Shift(operation) => shifts::act(cpu, space, ins, operation),
         Operation::Multiply(sign) => products::multiply(cpu, space, ins, sign),
         Operation::Divide(sign) => products::divide(cpu, space, ins, sign),
-        Operation::Adjust(adjustment) => adjustments::act(cpu, adjustment),
+        Operation::Adjust(adjustment) => adjustments::adjust_accumulator(cpu, adjustment),
         Operation::JumpIf(condition, wanted) => jumps::jump_if(cpu, space, ins, condition, wanted),
         Operation::Loop(operation) => jumps::act_on_count(cpu, space, ins, operation),
-        Operation::Transfer(operation) => jumps::act(cpu, space, ins, operation),
+        Operation::Transfer(operation) => jumps::transfer(cpu, space, ins, operation),
         Operation::Interrupt(operation) => stack::act_on_interrupt(cpu, space, ins, operation),
         Operation::String(operation, width) => {
-            strings::act(cpu, space, ins, start, operation, width)
+            strings::act_on_string(cpu, space, ins, start, operation, width)
         }
-        Operation::Flag(operation) => control::act(cpu, operation),
+        Operation::Flag(operation) => control::change_flag(cpu, operation),
         Operation::Nothing => {}
-        Operation::Halt => cpu.ip = start,
+        Operation::Halt => cpu.set_ip(start),
     }
+}
+
+/// Does an instruction that begins at `start`, with IP past it already: changes registers, flags and memory as the
+/// instruction says, IP included; HLT sets IP back to `start`.
+#[inline(always)]
+pub fn execute(cpu: &mut Registers, space: &mut Space, ins: &Ins, start: u16)
+    ensures { guest cpu.new space.new.memory ≡ act (guest cpu.old space.old.memory) ins.now.prefixes start (operation_of ins.now.action.mnemonic) ins.now.action.first ins.now.action.second }
+{
+    perform(cpu, space, ins, start);
 }
 
 /// Does the instruction of `len` bytes that stands at CS:IP (Intel 8086 Family User's Manual, section 2.7): registers,
@@ -62,7 +71,9 @@ pub fn exec(cpu: &mut Cpu, space: &mut Space, ins: &Ins, len: u8) -> Next
         return Next::Halt;
     }
     let start = cpu.ip;
-    cpu.ip = start.wrapping_add(len as u16);
-    perform(cpu, space, ins, start);
+    let mut registers = Registers::from_cpu(cpu);
+    registers.set_ip(start.wrapping_add(len as u16));
+    perform(&mut registers, space, ins, start);
+    *cpu = registers.to_cpu();
     Next::Go
 }

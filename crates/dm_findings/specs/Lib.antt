@@ -1,3 +1,6 @@
 pub mod Calls
 pub mod Findings
+pub mod Repeats
 pub mod Report
+pub mod Sites
+pub mod inner

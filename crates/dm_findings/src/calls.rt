@@ -2,11 +2,11 @@
 //! XMS 3.0).
 
 ghost use Rattle.std.specs.Prelude.{◌≡◌};
-ghost use Rattle.dm_findings.specs.Calls.{of_service, of_driver, call_of};
+ghost use Rattle.dm_findings.specs.Calls.{of_service, of_driver, bare_call, call_of};
 
 use dm_cpu::Cpu;
 use dm_ins::ByteRegister;
-use dm_space::entry_points::{Driver, EntryPoint, Service, entry_point_at};
+use dm_space::entry_points::{Driver, ENTRY_SEGMENT, EntryPoint, Service, entry_point_at};
 
 /// A call of a service or a driver. The number of a function is what the call has in AH.
 #[derive(Clone, Copy, Debug, PartialEq, Eq)]
@@ -23,6 +23,8 @@ pub enum Call {
     Multiplex,
     /// A far call of the extended memory driver, the function of this number.
     ExtendedMemory(u8),
+    /// The interrupt of this number, which nothing serves: its vector leads to an IRET of the ROM.
+    Interrupt(u8),
 }
 
 /// The call of a service, by these registers: for INT 21h, the function in AH.
@@ -47,8 +49,19 @@ fn of_driver(cpu: &Cpu, driver: Driver) -> Call
     }
 }
 
-/// The call that the next step performs: that of the service or driver whose entry point is CS:IP. None if an
-/// instruction comes next.
+/// The call where CS:IP is no entry point: that of an interrupt that nothing serves, to whose IRET, at F000:4n for
+/// interrupt n, the ROM leads; otherwise None.
+fn bare_call(cpu: &Cpu) -> Option<Call>
+    ensures { result ≡ bare_call cpu.now }
+{
+    if cpu.cs == ENTRY_SEGMENT && cpu.ip < 0x400 && cpu.ip % 4 == 0 {
+        return Some(Call::Interrupt((cpu.ip / 4) as u8));
+    }
+    None
+}
+
+/// The call that the next step performs: that of the service or driver whose entry point is CS:IP, or of an interrupt
+/// that nothing serves and whose return is at CS:IP. None if another instruction comes next.
 #[tactic(auto, unfolding(crate::specs::Calls::call_of))]
 pub fn call_of(cpu: &Cpu) -> Option<Call>
     ensures { result ≡ call_of cpu.now }
@@ -56,6 +69,6 @@ pub fn call_of(cpu: &Cpu) -> Option<Call>
     match entry_point_at(cpu.cs, cpu.ip) {
         Some(EntryPoint::Service(service)) => Some(of_service(cpu, service)),
         Some(EntryPoint::Driver(driver)) => Some(of_driver(cpu, driver)),
-        None => None,
+        None => bare_call(cpu),
     }
 }

@@ -4,6 +4,7 @@ ghost use Rattle.std.specs.Prelude.{◌≡◌};
 ghost use Rattle.dm_findings.specs.Findings.{is_error};
 
 use crate::calls::Call;
+use crate::sites::Site;
 use dm_ins::Ins;
 
 /// Bytes 0 to 4 of an arena header (MS-DOS Programmer's Reference, "Arena header").
@@ -31,6 +32,12 @@ pub enum Finding {
     FreedTwice(u16),
     /// The call failed with this error code.
     Refused(u8),
+    /// The call frees or resizes a block or a handle that is not allocated, and failed with this error code.
+    NotAllocated(u8),
+    /// A division without a quotient ended the process, by interrupt 0.
+    DivisionError,
+    /// The interrupt is not served: its handler only returns.
+    NotServed,
     /// The call failed for lack of memory: how many paragraphs it asked for, and the largest number possible.
     Short(u16, u16),
     /// Left allocated: a handle of expanded memory, and how many pages it has.
@@ -50,12 +57,14 @@ pub enum Finding {
 }
 
 impl Finding {
-    /// Whether the finding is an error. A failed call, and a block list that is valid again, are notes.
+    /// Whether the finding is an error. A block list that is valid again is a note, and so are an interrupt that is
+    /// not served, and a failed call, unless it frees or resizes what is not allocated.
     pub fn is_error(&self) -> bool
         ensures { result ≡ is_error self.now }
     {
         match self {
-            Finding::Whole | Finding::Refused(_) | Finding::Short(_, _) => false,
+            Finding::Whole | Finding::NotServed => false,
+            Finding::Refused(_) | Finding::Short(_, _) => false,
             _ => true,
         }
     }
@@ -75,9 +84,8 @@ pub enum Act {
 pub struct Found {
     /// The number of the step: the machine's count of steps after it. The first step of a machine is number 1.
     pub step: u64,
-    /// CS and IP before the step.
-    pub segment: u16,
-    pub offset: u16,
+    /// Where in its code the program performed it.
+    pub site: Site,
     pub act: Act,
     pub finding: Finding,
 }

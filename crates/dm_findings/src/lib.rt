@@ -4,8 +4,11 @@
 
 mod calls;
 mod finding;
+mod repeats;
 mod report;
+mod sites;
 
 pub use calls::{Call, call_of};
 pub use finding::{Act, Contents, Finding, Found};
-pub use report::Report;
+pub use report::{Listed, Report};
+pub use sites::{Site, site_of};

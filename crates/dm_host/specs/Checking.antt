@@ -1,9 +1,10 @@
 -- Runs of a host's machine under the memory checker, and their reports.
-use Rattle.std.specs.Prelude.{◌≡◌, ℕ, List, None}
+use Rattle.std.specs.Prelude.{◌≡◌, ◌++◌, ℕ, List, None}
 use Rattle.dm_state.specs.declared.stop.Stop.{Stop}
 use Rattle.dm_machine.specs.Run.{IsRun}
 use Rattle.dm_findings.specs.Report.{Reported}
 use Rattle.dm_reports.specs.Reports.{report_text}
+use Rattle.dm_reports.specs.Stops.{stopped_line}
 use Rattle.dm_checker.specs.Checks.{IsReport, RunsPart}
 use Rattle.dm_debug.specs.Debugged.{Debugged}
 use Rattle.dm_host.specs.declared.refusal.Refusal.{Refusal}
@@ -11,13 +12,13 @@ use Rattle.dm_host.specs.declared.refusal.Refusal.TheVariants.{NotLoaded, Memory
 use Rattle.dm_host.specs.declared.host.Stage.TheVariants.{Loaded}
 use Rattle.dm_host.specs.Hosts.{Hosted, with_stage, machine_of}
 
--- a checked run of at most n steps leads from session s to t, with this stop and this text of its report; the
--- breakpoints stay
+-- a checked run of at most n steps leads from session s to t, with this stop and this text, of its report and the line
+-- about the stop; the breakpoints stay
 pub record IsChecked (s : Debugged) (n : ℕ) (stop : Stop) (text : List ℕ) (t : Debugged) : Type 0 where
   pub report : Reported
   pub run : IsRun s.machine n stop t.machine
   pub reported : IsReport s.machine n stop t.machine report
-  pub told : text ≡ report_text report
+  pub told : text ≡ report_text report ++ stopped_line stop t.machine.memory t.machine.cpu
   pub points : t.points ≡ s.points
 
 -- a run of some number of steps, from 0 to n, leads from session s to t; the breakpoints stay
@@ -25,7 +26,8 @@ pub record IsPartlyChecked (s : Debugged) (n : ℕ) (t : Debugged) : Type 0 wher
   pub part : RunsPart s.machine n t.machine
   pub points : t.points ≡ s.points
 
--- a checked run of at most n steps leads from host h to g, whose answer is the text of the report
+-- a checked run of at most n steps leads from host h to g, whose answer is the text of the report with the
+-- line about the stop
 pub record Checks (h : Hosted) (n : ℕ) (stop : Stop) (g : Hosted) : Type 0 where
   pub before : Debugged
   pub after : Debugged

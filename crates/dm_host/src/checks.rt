@@ -1,6 +1,7 @@
 //! Runs of a host's machine under the memory checker.
 ghost use Rattle.std.specs.Prelude.{◌≡◌, ◌++◌, [], IfOk, IfErr, OnOk, option_map};
 ghost use Rattle.dm_reports.specs.Reports.{report_text};
+ghost use Rattle.dm_reports.specs.Stops.{stopped_line};
 ghost use Rattle.dm_host.specs.Checking.{Checks, IsUnchecked};
 ghost use Rattle.dm_host.specs.inner.Checking.{ChecksTo};
 
@@ -9,21 +10,28 @@ use crate::refusal::Refusal;
 use dm_checker::check;
 use dm_debug::Session;
 use dm_findings::Report;
-use dm_machine::Stop;
-use dm_reports::put_report;
+use dm_machine::{Machine, Stop};
+use dm_reports::{put_report, put_stop};
 use std::alloc::{AllocError, Global};
 
-/// The text of a report, as `dm check` prints it. An `Err` is a failed allocation.
-fn text_of(alloc: Global, report: &Report) -> Result<Vec<u8>, AllocError>
-    ensures { IfOk result (λ text. text.items ≡ report_text report.now) }
+/// The text of a report and the line about the stop of a machine, as `dm check` prints them. An `Err` is a failed
+/// allocation.
+fn text_of(
+    alloc: Global,
+    report: &Report,
+    stop: Stop,
+    machine: &Machine,
+) -> Result<Vec<u8>, AllocError>
+    ensures { IfOk result (λ text. text.items ≡ report_text report.now ++ stopped_line stop machine.now.memory machine.now.cpu) }
 {
     let mut text = Vec::new(alloc);
     put_report(&mut text, report)?;
+    put_stop(&mut text, stop, &machine.cpu(), machine.space())?;
     Ok(text)
 }
 
 /// Makes at most `n` steps of the session's machine under the checker, and returns the session with the stop and the
-/// text of the report; None in their place if an allocation failed, after none, some or all of the steps. The
+/// text of the report with the line about the stop; None in their place if an allocation failed, after none, some or all of the steps. The
 /// breakpoints of the session do not count, and stay.
 fn checked(alloc: Global, session: Session, n: u64) -> (Session, Option<(Stop, Vec<u8>)>)
     ensures { ChecksTo session n (option_map (λ r. (r.0, r.1.items)) result.1) result.0 }
@@ -32,7 +40,7 @@ fn checked(alloc: Global, session: Session, n: u64) -> (Session, Option<(Stop, V
     let Ok((stop, report)) = check(alloc, &mut machine, n) else {
         return (Session::from_parts(machine, points), None);
     };
-    let text = text_of(alloc, &report);
+    let text = text_of(alloc, &report, stop, &machine);
     let session = Session::from_parts(machine, points);
     match text {
         Ok(text) => (session, Some((stop, text))),
@@ -41,8 +49,8 @@ fn checked(alloc: Global, session: Session, n: u64) -> (Session, Option<(Stop, V
 }
 
 impl Host {
-    /// Makes at most `n` steps under the memory checker, as `run` does without it, and keeps the text of the report as
-    /// the answer. Returns the stop.
+    /// Makes at most `n` steps under the memory checker, as `run` does without it, and keeps the text of the report, with
+    /// the line about the stop, as the answer. Returns the stop.
     ///
     /// # Errors
     ///

@@ -1,6 +1,6 @@
 //! Reading the words of a command line.
 ghost use Rattle.std.specs.Prelude.{◌≡◌, [], Some, IfOk, IfErr, IsSomeAnd, OnOk, codes, map, option_map};
-ghost use Rattle.clap.specs.Words.{all_of, fault_of, first_of, found_of, one_of, rows_of, subcommand_of, subcommand_rows_of};
+ghost use Rattle.clap.specs.Words.{all_of, fault_of, first_of, found_of, kind_of, one_of, rows_of, subcommand_of, subcommand_rows_of};
 ghost use Rattle.dm_options.specs.Arguments.{dm_app};
 ghost use Rattle.dm_options.specs.Options.{Explains, HasAsmOptions, HasDebugOptions, HasMachineOptions, HasNumber, HasOptions, IsGiven};
 
@@ -170,7 +170,9 @@ pub fn options<'a, S: AsStr>(alloc: Global, words: &'a [S]) -> Result<Options<'a
 /// # Errors
 ///
 /// `AllocError` if an allocation failed.
-pub fn not_unicode(alloc: Global) -> Result<clap::Error, AllocError> {
+pub fn not_unicode(alloc: Global) -> Result<clap::Error, AllocError>
+    ensures { IfOk result (λ e. kind_of e ≡ ErrorKind.ValueValidation) }
+{
     let mut command = dm_command(alloc)?;
     command.error(
         ErrorKind::ValueValidation,

@@ -2,6 +2,7 @@
 use Rattle.std.proofs.Common.{◌≡◌, ℕ, zero, suc, ◌+◌, ◌-◌, ◌≤◌, List, [], ◌∷◌, ◌++◌, length, take, drop, refl, sym, ap, ◌∙◌, arith}
 use Rattle.std.specs.List.{copy_within}
 use Rattle.std.proofs.lemmas.List.{drop-drop, append_assoc, append-nil}
+use Rattle.std.proofs.Math.Seq.{take-add}
 use lib.Seq.{paste}
 use borrow.Rule.Slice.PartMut.{put_mid}
 use Rattle.dm_region.specs.Parts.{part, with_part}
@@ -94,3 +95,8 @@ rewritten (x ∷ xs) d (suc P) N t M (suc K) e le in' =
 -- to write within a part is to write the part as it is then
 pub part_rewritten : (xs d : List ℕ) (P N t M : ℕ) → t + M ≤ N → P + N ≤ length xs → with_part xs (P + t) M d ≡ with_part xs P N (with_part (part xs P N) t M d)
 part_rewritten xs d P N t M le in' = rewritten xs d P N t M (P + t + M) refl le in'
+
+-- three parts that follow each other from the first byte on are one part
+pub parts_joined : (xs : List ℕ) (a b n : ℕ) → part xs 0 (a + b + n) ≡ part xs 0 a ++ (part xs a b ++ part xs (a + b) n)
+parts_joined xs a b n =
+    take-add (a + b) n xs ∙ ap (λ l. l ++ take n (drop (a + b) xs)) (take-add a b xs) ∙ append_assoc (take a xs) (take b (drop a xs)) (take n (drop (a + b) xs))

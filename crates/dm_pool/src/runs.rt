@@ -22,6 +22,8 @@ pub struct RunList<'a> {
     pub bytes: &'a [u8],
     /// The unit where the first run begins; FFFFFFFFh where there is none.
     pub first: u32,
+    /// All bytes of the store, in its one region: the low bytes, the scratch bytes, and those of the pool.
+    pub region: &'a [u8],
 }
 
 /// The first eight bytes of a run of free units.

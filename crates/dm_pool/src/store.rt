@@ -1,5 +1,5 @@
 //! The bytes of a machine, in one region: low memory by linear address, scratch bytes, and a pool of units of 1 KiB.
-ghost use Rattle.std.specs.Prelude.{◌≡◌, ◌↔◌, IsTrue, ◌+◌, ◌*◌, ◌^◌, ◌<◌, ◌≤◌, Some, None, [], get_or, length, IfOk, IfSome, IsErrOf, MatchOption};
+ghost use Rattle.std.specs.Prelude.{◌≡◌, ◌↔◌, IsTrue, ◌+◌, ◌*◌, ◌^◌, ◌<◌, ◌≤◌, Some, None, [], ◌++◌, get_or, length, IfOk, IfSome, IsErrOf, MatchOption};
 ghost use Rattle.std.specs.Borrow.{sem};
 ghost use Rattle.std.specs.Bool.{MatchBool};
 ghost use Rattle.dm_pool.specs.Blocks.{no_blocks, taken, resized, without, moved_bytes, contents_of, IsAt, IsLive, IsPool};
@@ -320,8 +320,11 @@ impl Store {
     }
 
     /// The bytes of the pool, with its free runs, as a test of the free list reads them. Blocks do not overlap in these
-    /// bytes, and the free ones list the gaps, rising, from the first run on.
+    /// bytes, and the free ones list the gaps, rising, from the first run on. The pool's bytes follow the low bytes and
+    /// the scratch bytes in one region.
     pub fn free_list(&self) -> RunList<'_>
+        ensures region { result.region.now ≡ self.now.low ++ (self.now.scratch ++ result.bytes.now) }
+        ensures sizes { (length self.now.low ≡ 0x110000) × (length self.now.scratch ≡ 0x200000) }
         ensures blocks { IsPool self.now.blocks.units self.now.blocks.places result.bytes.now }
         ensures based { AreBased self.now.blocks.places }
         ensures contents { contents_of self.now.blocks.places result.bytes.now ≡ self.now.blocks.contents }
@@ -332,6 +335,7 @@ impl Store {
         RunList {
             bytes: self.region.part(POOL, len),
             first: self.table.first(),
+            region: self.region.part(0, POOL + len),
         }
     }
 

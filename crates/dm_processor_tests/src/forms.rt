@@ -164,7 +164,6 @@ REP MOVSW   | F3 A5 | CX=0000                                   |";
 pub(crate) const FORMED: [&str; 6] = [MOVES, WORDS, BYTES, JUMPS, STACK, STRINGS];
 
 /// Definitions: dm_cpu EffectiveAddress first_of second_of segment_by own_segment
-/// Definitions: dm_effects Strings loaded stored copied repeated counted
 /// Definitions: dm_forms Forms IsForm HasAction action_of override_of two
 #[test]
 fn instructions_with_forms(rt: HostRuntime) -> Result<(), Fail> {

@@ -19,6 +19,11 @@ const COPY: &[u8] = b"\xB4\x01\xCD\x21\xEB\xFA";
 /// Frees its own block twice, and ends with code 0. MOV AH,49h; INT 21h; MOV AH,49h; INT 21h; MOV AX,4C00h; INT 21h
 const TWICE: &[u8] = b"\xB4\x49\xCD\x21\xB4\x49\xCD\x21\xB8\x00\x4C\xCD\x21";
 
+/// Prints `hi`, frees its own block twice, and ends with code 0. The 20 bytes before `hi$` are MOV AH,9; MOV DX,0114h;
+/// INT 21h; MOV AH,49h; INT 21h; MOV AH,49h; INT 21h; MOV AX,4C00h; INT 21h
+const HELLO_TWICE: &[u8] =
+    b"\xB4\x09\xBA\x14\x01\xCD\x21\xB4\x49\xCD\x21\xB4\x49\xCD\x21\xB8\x00\x4C\xCD\x21hi$";
+
 /// Requests more memory than there is, and ends with code 7. MOV AH,48h; MOV BX,0FFFFh; INT 21h; MOV AX,4C07h; INT 21h
 const ASK: &[u8] = b"\xB4\x48\xBB\xFF\xFF\xCD\x21\xB8\x07\x4C\xCD\x21";
 
@@ -42,7 +47,7 @@ const REFUSED: [(&str, ErrorKind); 2] = [
 type Row<'a> = (&'a str, u8, &'a [u8], &'a [u8], &'a str);
 
 /// The existing files.
-fn known_files() -> [(&'static str, Source<'static>); 13] {
+fn known_files() -> [(&'static str, Source<'static>); 14] {
     let cut = ErrorKind::BrokenPipe;
     let short = ErrorKind::OutOfMemory;
     [
@@ -50,6 +55,7 @@ fn known_files() -> [(&'static str, Source<'static>); 13] {
         ("hi.asm", just(TEXT)),
         ("copy.com", just(COPY)),
         ("twice.com", just(TWICE)),
+        ("hi2.com", just(HELLO_TWICE)),
         ("ask.com", just(ASK)),
         ("wreck.com", just(WRECK)),
         ("d/", just(HELLO)),
@@ -90,12 +96,12 @@ const RUNS: [Row; 4] = [
 
 /// The report for a block that is freed twice.
 const FREED_TWICE: &str = "\
-error: step 6, F000:0084 INT 21h function 49h (Free Allocated Memory): block at 0103 freed twice
+error: step 6, 0103:0106 INT 21h function 49h (Free Allocated Memory): block at 0103 freed twice
 errors: 1, notes: 0
 ";
 
 /// Checked runs: without a finding, at any stop; with an error, with a note, and with an instruction that destroys
-/// the arena. Faults before a run and faults of its output are reported as for `dm run`.
+/// the arena. Faults before a run are reported as for `dm run`.
 const CHECKS: [Row; 10] = [
     ("dm check hi.com", 0, b"", b"hi", "errors: 0, notes: 0\n"),
     (
@@ -103,14 +109,14 @@ const CHECKS: [Row; 10] = [
         125,
         b"",
         b"hi",
-        "errors: 0, notes: 0\nstopped: steps\n",
+        "errors: 0, notes: 0\nstopped: steps at 0103:010A: INT 21h function 4Ch (End Program)\n",
     ),
     (
         "dm check copy.com",
         125,
         b"",
         b"typed",
-        "errors: 0, notes: 0\nstopped: input ended\n",
+        "errors: 0, notes: 0\nstopped: input ended at 0103:0102: INT 21h function 01h (Read Keyboard with Echo)\n",
     ),
     ("dm check twice.com", 124, b"", b"", FREED_TWICE),
     (
@@ -118,7 +124,7 @@ const CHECKS: [Row; 10] = [
         125,
         b"",
         b"",
-        "errors: 0, notes: 0\nstopped: steps\n",
+        "errors: 0, notes: 0\nstopped: steps at 0103:0106: INT 21h function 49h (Free Allocated Memory)\n",
     ),
     (
         "dm check --steps=6 twice.com",
@@ -126,9 +132,9 @@ const CHECKS: [Row; 10] = [
         b"",
         b"",
         "\
-error: step 6, F000:0084 INT 21h function 49h (Free Allocated Memory): block at 0103 freed twice
+error: step 6, 0103:0106 INT 21h function 49h (Free Allocated Memory): block at 0103 freed twice
 errors: 1, notes: 0
-stopped: steps
+stopped: steps at 0103:0108
 ",
     ),
     (
@@ -137,8 +143,8 @@ stopped: steps
         b"",
         b"",
         "\
-note: step 4, F000:0084 INT 21h function 48h (Allocate Memory): refused with code 08h: FFFFh paragraphs wanted, \
-0000h available
+note: step 4, 0103:0105 INT 21h function 48h (Allocate Memory): refused with code 08h, not enough memory: \
+65535 paragraphs wanted, 0 available
 errors: 0, notes: 1
 ",
     ),
@@ -151,7 +157,7 @@ errors: 0, notes: 1
 error: step 4, 0103:0105 MOV [00000h],AL: header at 0102 overwritten: 5A 0103 9EFD became 02 0103 9EFD
 error: step 4, 0103:0105 MOV [00000h],AL: arena destroyed at 0102
 errors: 2, notes: 0
-stopped: destroyed
+stopped: destroyed at 0103:010B: INT 21h function 4Ch (End Program)
 ",
     ),
     ("dm check d/", 126, b"", b"", "dm: cannot read d/\n"),
@@ -385,6 +391,42 @@ fn a_long_input_is_copied(rt: HostRuntime) -> Result<(), Fail> {
     tells(&rt, rt.alloc(), filled(b"typed", 100_000), row)
 }
 
+/// A read that fails is counted, and so is a file that cannot be opened. A path that names no file is not opened.
+///
+/// Definitions: dm_cli Reads ReadsFiles TellsOfAFile TellsOfNoFile
+#[test]
+fn counts_failing_reads(rt: HostRuntime) -> Result<(), Fail> {
+    for (line, status, unread) in [
+        ("dm run hi.com", 0, 0),
+        ("dm run hi.com no.com", 126, 1),
+        ("dm run hi.com cut.com no.com", 126, 1),
+        ("dm run hi.com short.com no.com", 126, 1),
+        ("dm run hi.com d/", 126, 0),
+        ("dm check no.com", 126, 1),
+        ("dm debug hi.com --input=cut.com", 126, 1),
+        ("dm asm no.asm out.com", 126, 1),
+        ("dm disasm hi.com", 0, 0),
+        ("dm disasm cut.com", 126, 1),
+    ] {
+        let words: Vec<&str> = line.split(' ').collect(rt.alloc())?;
+        let words = words.as_slice();
+        let known = known_files();
+        let mut files = new_files(rt.alloc(), &known, &REFUSED);
+        let (mut out, mut error) = (Vec::new(rt.alloc()), Vec::new(rt.alloc()));
+        let got = dm_main(
+            rt.alloc(),
+            &mut files,
+            words,
+            just(b"Q\n"),
+            &mut Sink::new(&mut out),
+            &mut Sink::new(&mut error),
+        );
+        same_of(&rt, line, "status", got, status);
+        same_of(&rt, line, "unread", files.unread, unread);
+    }
+    Ok(())
+}
+
 /// A command line whose standard output fails, or takes nothing, after this many writes of one byte.
 fn fails(
     rt: &impl Abort,
@@ -418,10 +460,19 @@ fn fails(
     Ok(())
 }
 
+/// The report of `hi2.com`, and the fault of its output.
+const TWICE_UNWRITTEN: &str = "\
+error: step 10, 0103:010D INT 21h function 49h (Free Allocated Memory): block at 0103 freed twice
+errors: 1, notes: 0
+dm: cannot write standard output
+";
+
 /// Definitions: dm_out Out HasFailed AppendsPart
+/// Definitions: dm_cli Checking unwritten_status
 #[test]
 fn tells_failing_writes(rt: HostRuntime) -> Result<(), Fail> {
     let failed = "dm: cannot write standard output\n";
+    let checked = "errors: 0, notes: 0\ndm: cannot write standard output\n";
     for (line, left, wanted) in [
         ("dm run hi.com", 0, (126, "", failed)),
         ("dm run hi.com", 1, (126, "h", failed)),
@@ -436,8 +487,19 @@ fn tells_failing_writes(rt: HostRuntime) -> Result<(), Fail> {
             2,
             (125, "hi", "stopped: steps\n"),
         ),
-        // and no report is printed
-        ("dm check hi.com", 1, (126, "h", failed)),
+        // and a report is printed all the same
+        ("dm check hi.com", 0, (126, "", checked)),
+        ("dm check hi.com", 1, (126, "h", checked)),
+        ("dm check hi2.com", 1, (124, "h", TWICE_UNWRITTEN)),
+        (
+            "dm check --steps=6 hi.com",
+            1,
+            (
+                126,
+                "h",
+                "errors: 0, notes: 0\nstopped: steps at 0103:010A: INT 21h function 4Ch (End Program)\ndm: cannot write standard output\n",
+            ),
+        ),
         ("dm check hi.com", 2, (0, "hi", "errors: 0, notes: 0\n")),
         ("dm debug hi.com", 0, (126, "", failed)),
         ("dm debug hi.com", 7, (126, "0100 M ", failed)),

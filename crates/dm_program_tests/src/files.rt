@@ -71,6 +71,8 @@ pub(crate) struct Files<'a> {
     pub(crate) saved: Vec<u8>,
     /// The number of files that were not written.
     pub(crate) failures: u64,
+    /// The number of files that were not opened, or not read to their end.
+    pub(crate) unread: u64,
 }
 
 /// Files, none of which has been written yet.
@@ -84,6 +86,7 @@ pub(crate) fn new_files<'a>(
         refused,
         saved: Vec::new(alloc),
         failures: 0,
+        unread: 0,
     }
 }
 
@@ -105,10 +108,32 @@ fn note(saved: &mut Vec<u8>, path: &str, bytes: &[u8]) -> io::Result<()> {
     Ok(())
 }
 
-impl<'a> Storage for Files<'a> {
-    type File = Source<'a>;
+/// The file at a path, or why it is not opened.
+fn opened<'a>(
+    known: &[(&str, Source<'a>)],
+    refused: &[(&str, ErrorKind)],
+    path: &str,
+) -> io::Result<Source<'a>> {
+    for (name, source) in known {
+        if *name == path {
+            return Ok(*source);
+        }
+    }
+    let kind = refusal(refused, path).unwrap_or(ErrorKind::NotFound);
+    Err(io::Error::from(kind))
+}
 
+/// The first `most` bytes of a file.
+fn first_bytes(alloc: Global, file: io::Result<Source<'_>>, most: usize) -> io::Result<Vec<u8>> {
+    let mut bytes = Vec::new(alloc);
+    file?.take(most as u64).read_to_end(&mut bytes)?;
+    Ok(bytes)
+}
+
+impl<'a> Storage for Files<'a> {
     ghost failures = { λ f. f.failures };
+
+    ghost unread = { λ f. f.unread };
 
     fn save(&mut self, path: &str, bytes: &[u8]) -> io::Result<()> {
         let outcome = match refusal(self.refused, path) {
@@ -121,14 +146,12 @@ impl<'a> Storage for Files<'a> {
         outcome
     }
 
-    fn open(&self, path: &str) -> io::Result<Source<'a>> {
-        for (known, source) in self.known {
-            if *known == path {
-                return Ok(*source);
-            }
+    fn read(&mut self, alloc: Global, path: &str, most: usize) -> io::Result<Vec<u8>> {
+        let outcome = first_bytes(alloc, opened(self.known, self.refused, path), most);
+        if outcome.is_err() {
+            self.unread = self.unread.saturating_add(1);
         }
-        let kind = refusal(self.refused, path).unwrap_or(ErrorKind::NotFound);
-        Err(io::Error::from(kind))
+        outcome
     }
 }
 

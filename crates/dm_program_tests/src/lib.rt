@@ -14,6 +14,8 @@ mod files;
 #[cfg(test)]
 mod machines;
 #[cfg(test)]
+mod points;
+#[cfg(test)]
 mod runs;
 #[cfg(test)]
 mod sessions;

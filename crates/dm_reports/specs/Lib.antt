@@ -1,3 +1,5 @@
+pub mod Meanings
 pub mod Names
 pub mod Texts
 pub mod Reports
+pub mod Stops

@@ -3,7 +3,7 @@
 use Rattle.std.specs.Prelude.{ℕ, ◌==◌, if◌then◌else◌, List, [], ◌++◌, codes}
 use Rattle.dm_views.specs.Digits.{two_digits}
 use Rattle.dm_findings.specs.declared.calls.Call.{Call}
-use Rattle.dm_findings.specs.declared.calls.Call.TheVariants.{DivideError, Terminate, Dos, ExpandedMemory, Multiplex, ExtendedMemory}
+use Rattle.dm_findings.specs.declared.calls.Call.TheVariants.{DivideError, Terminate, Dos, ExpandedMemory, Multiplex, ExtendedMemory, Interrupt}
 
 -- the name of a function of INT 21h in parentheses, after a space; empty for a number that is not served
 abbrev pub dos_name : ℕ → List ℕ
@@ -90,3 +90,4 @@ call_text (Dos number) = codes "INT 21h function " ++ two_digits number ++ codes
 call_text (ExpandedMemory number) = codes "INT 67h function " ++ two_digits number ++ codes "h" ++ expanded_name number
 call_text Multiplex = codes "INT 2Fh"
 call_text (ExtendedMemory number) = codes "XMS function " ++ two_digits number ++ codes "h" ++ extended_name number
+call_text (Interrupt number) = codes "INT " ++ two_digits number ++ codes "h"

@@ -1,10 +1,29 @@
 -- The text of the report of `dm check`. The form is this machine's own.
-use Rattle.std.specs.Prelude.{ℕ, List, [], ◌∷◌, ◌++◌, codes, decimal}
+use Rattle.std.specs.Prelude.{ℕ, ◌==◌, if◌then◌else◌, List, [], ◌∷◌, ◌++◌, codes, decimal}
 use Rattle.std.specs.List.{flat_map}
+use Rattle.dm_findings.specs.declared.report.Listed.{Listed}
 use Rattle.dm_findings.specs.Report.{Reported}
-use Rattle.dm_reports.specs.Texts.{found_line}
+use Rattle.dm_reports.specs.Texts.{counted, found_line, repeated_line}
 
--- the text of a report: a line for each finding that it keeps, in their order, then a line with the numbers of all
--- errors and notes
+-- the line of a finding that the report lists
+abbrev pub listed_line : Listed → List ℕ
+listed_line l = found_line l.found
+
+-- the line about the repetitions of a finding that the report lists; none if there are none
+abbrev pub again_line : Listed → List ℕ
+again_line l = if l.more == 0 then [] else repeated_line l
+
+-- the line about findings that are left out: how many they are
+abbrev pub left_out_line : ℕ → List ℕ
+left_out_line n = codes "not listed: " ++ counted n (codes "finding") ++ 10 ∷ []
+
+-- the line about the findings that the report leaves out; none if there are none
+abbrev pub unlisted_line : ℕ → List ℕ
+unlisted_line n = if n == 0 then [] else left_out_line n
+
+-- the text of a report: a line for each finding that it lists, in their order; a line for each of them that is repeated;
+-- a line about those that it leaves out, if there are any; and a line with the numbers of all errors and notes
 unfoldable pub report_text : Reported → List ℕ
-report_text r = flat_map found_line r.kept ++ codes "errors: " ++ decimal r.errors ++ codes ", notes: " ++ decimal r.notes ++ 10 ∷ []
+report_text r =
+    flat_map listed_line r.listed ++ flat_map again_line r.listed ++ unlisted_line r.unlisted
+    ++ codes "errors: " ++ decimal r.errors ++ codes ", notes: " ++ decimal r.notes ++ 10 ∷ []

@@ -1,14 +1,18 @@
 -- The texts of findings in the report of `dm check`. The form is this machine's own.
-use Rattle.std.specs.Prelude.{ℕ, Bool, if◌then◌else◌, List, [], ◌∷◌, ◌++◌, codes, decimal}
+use Rattle.std.specs.Prelude.{ℕ, ◌==◌, Bool, if◌then◌else◌, List, [], ◌∷◌, ◌++◌, codes, decimal}
 use Rattle.dm_text.specs.Texts.{text_of}
 use Rattle.dm_views.specs.Digits.{two_digits, four_digits, address_text}
 use Rattle.dm_findings.specs.declared.finding.Contents.{Contents}
 use Rattle.dm_findings.specs.declared.finding.Act.{Act}
 use Rattle.dm_findings.specs.declared.finding.Act.TheVariants as act
 use Rattle.dm_findings.specs.declared.finding.Finding.{Finding}
-use Rattle.dm_findings.specs.declared.finding.Finding.TheVariants.{Overwritten, MappedAway, Destroyed, Whole, FreedTwice, Refused, Short, PagesKept, MapKept, WindowKept, BlockKept, UpperKept, AreaKept, LineKept}
+use Rattle.dm_findings.specs.declared.finding.Finding.TheVariants.{Overwritten, MappedAway, Destroyed, Whole, FreedTwice, Refused, NotAllocated, DivisionError, NotServed, Short, PagesKept, MapKept, WindowKept, BlockKept, UpperKept, AreaKept, LineKept}
 use Rattle.dm_findings.specs.declared.finding.Found.{Found}
+use Rattle.dm_findings.specs.declared.report.Listed.{Listed}
+use Rattle.dm_findings.specs.declared.sites.Site.{Site}
+use Rattle.dm_findings.specs.declared.sites.Site.TheVariants.{At, Before}
 use Rattle.dm_findings.specs.Findings.{is_error}
+use Rattle.dm_reports.specs.Meanings.{meaning_text}
 use Rattle.dm_reports.specs.Names.{call_text}
 
 -- signature, owner and size of an arena header, in two, four and four hexadecimal digits with spaces between
@@ -19,22 +23,41 @@ contents_text c = two_digits c.signature ++ codes " " ++ four_digits c.owner ++ 
 abbrev pub lock_text : Bool → List ℕ
 lock_text locked = if locked then codes ", locked" else []
 
--- what was found, in words, without the step
-abbrev pub finding_text : Finding → List ℕ
-finding_text (Overwritten at old new) = codes "header at " ++ four_digits at ++ codes " overwritten: " ++ contents_text old ++ codes " became " ++ contents_text new
-finding_text (MappedAway at) = codes "header at " ++ four_digits at ++ codes " mapped away"
-finding_text (Destroyed at) = codes "arena destroyed at " ++ four_digits at
-finding_text Whole = codes "arena whole again"
-finding_text (FreedTwice at) = codes "block at " ++ four_digits at ++ codes " freed twice"
-finding_text (Refused code) = codes "refused with code " ++ two_digits code ++ codes "h"
-finding_text (Short asked largest) = codes "refused with code 08h: " ++ four_digits asked ++ codes "h paragraphs wanted, " ++ four_digits largest ++ codes "h available"
-finding_text (PagesKept handle pages) = codes "EMS handle " ++ decimal handle ++ codes ": " ++ decimal pages ++ codes " pages not freed"
-finding_text (MapKept handle) = codes "EMS handle " ++ decimal handle ++ codes ": map not restored"
-finding_text (WindowKept window) = codes "window " ++ decimal window ++ codes " still mapped"
-finding_text (BlockKept handle kib locked) = codes "XMS handle " ++ decimal handle ++ codes ": " ++ decimal kib ++ codes " KiB not freed" ++ lock_text locked
-finding_text (UpperKept at) = codes "upper block at " ++ four_digits at ++ codes " not freed"
-finding_text AreaKept = codes "HMA not released"
-finding_text LineKept = codes "A20 left on"
+-- the end of a word for n things: nothing for one, otherwise an s
+abbrev pub ending_text : ℕ → List ℕ
+ending_text n = if n == 1 then [] else codes "s"
+
+-- a number of things in decimal, and what they are, by the word for one of them
+abbrev pub counted : ℕ → List ℕ → List ℕ
+counted n word = decimal n ++ codes " " ++ word ++ ending_text n
+
+-- that a call failed, with the code and its meaning
+abbrev pub refusal_text : Act → ℕ → List ℕ
+refusal_text a code = codes "refused with code " ++ two_digits code ++ codes "h" ++ meaning_text a code
+
+-- that a call failed for lack of memory: how many paragraphs it asked for, and the largest number available
+abbrev pub short_text : ℕ → ℕ → List ℕ
+short_text asked largest = codes "refused with code 08h, not enough memory: " ++ counted asked (codes "paragraph") ++ codes " wanted, " ++ decimal largest ++ codes " available"
+
+-- what was found in a step that performed a, in words
+abbrev pub finding_text : Act → Finding → List ℕ
+finding_text a (Overwritten at old new) = codes "header at " ++ four_digits at ++ codes " overwritten: " ++ contents_text old ++ codes " became " ++ contents_text new
+finding_text a (MappedAway at) = codes "header at " ++ four_digits at ++ codes " mapped away"
+finding_text a (Destroyed at) = codes "arena destroyed at " ++ four_digits at
+finding_text a Whole = codes "arena whole again"
+finding_text a (FreedTwice at) = codes "block at " ++ four_digits at ++ codes " freed twice"
+finding_text a (Refused code) = refusal_text a code
+finding_text a (NotAllocated code) = refusal_text a code
+finding_text a DivisionError = codes "division error ended the process"
+finding_text a NotServed = codes "not served"
+finding_text a (Short asked largest) = short_text asked largest
+finding_text a (PagesKept handle pages) = codes "EMS handle " ++ decimal handle ++ codes ": " ++ counted pages (codes "page") ++ codes " not freed"
+finding_text a (MapKept handle) = codes "EMS handle " ++ decimal handle ++ codes ": map not restored"
+finding_text a (WindowKept window) = codes "window " ++ decimal window ++ codes " still mapped"
+finding_text a (BlockKept handle kib locked) = codes "XMS handle " ++ decimal handle ++ codes ": " ++ decimal kib ++ codes " KiB not freed" ++ lock_text locked
+finding_text a (UpperKept at) = codes "upper block at " ++ four_digits at ++ codes " not freed"
+finding_text a AreaKept = codes "HMA not released"
+finding_text a LineKept = codes "A20 left on"
 
 -- the text of what was performed in the step: a call, or an instruction
 abbrev pub act_text : Act → List ℕ
@@ -45,9 +68,22 @@ act_text (act.Instruction i next) = text_of i next
 abbrev pub kind_text : Bool → List ℕ
 kind_text error = if error then codes "error" else codes "note"
 
--- the line of a finding: error or note, the step's number, CS:IP before the step, the call or instruction, and what was
--- found
+-- where in its code the program performed the step: the address of the instruction or of the INT; with `before`, the
+-- return address of a call that was made otherwise
+abbrev pub site_text : Site → List ℕ
+site_text (At segment offset) = address_text segment offset
+site_text (Before segment offset) = codes "before " ++ address_text segment offset
+
+-- what was found and where: the step's number, where in its code the program performed it, the call or instruction, and
+-- what was found
+unfoldable pub found_text : Found → List ℕ
+found_text f =
+    codes "step " ++ decimal f.step ++ codes ", " ++ site_text f.site ++ codes " " ++ act_text f.act ++ codes ": " ++ finding_text f.act f.finding
+
+-- the line of a finding: error or note, and what was found and where
 unfoldable pub found_line : Found → List ℕ
-found_line f =
-    kind_text (is_error f.finding) ++ codes ": step " ++ decimal f.step ++ codes ", " ++ address_text f.segment f.offset ++ codes " "
-    ++ act_text f.act ++ codes ": " ++ finding_text f.finding ++ 10 ∷ []
+found_line f = kind_text (is_error f.finding) ++ codes ": " ++ found_text f ++ 10 ∷ []
+
+-- the line about the repetitions of a finding: how many they are, and the step of the last
+unfoldable pub repeated_line : Listed → List ℕ
+repeated_line l = codes "again: " ++ found_text l.found ++ codes ": " ++ decimal l.more ++ codes " more, the last at step " ++ decimal l.last ++ 10 ∷ []

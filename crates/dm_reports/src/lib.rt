@@ -4,10 +4,13 @@
 //! allocation: what stood in `out` before the call still does, and a first part of the text may follow it.
 #![tactic(auto)]
 
+mod meanings;
 mod names;
 mod reports;
+mod stops;
 mod texts;
 
 pub use names::put_call;
 pub use reports::put_report;
+pub use stops::put_stop;
 pub use texts::put_found;

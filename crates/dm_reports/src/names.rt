@@ -134,5 +134,10 @@ pub fn put_call(out: &mut Vec<u8>, call: Call) -> Result<(), AllocError>
             out.extend_from_slice(b"XMS function ")?;
             put_function(out, number, extended_name(number))
         }
+        Call::Interrupt(number) => {
+            out.extend_from_slice(b"INT ")?;
+            out.extend_from_slice(&byte_digits(number))?;
+            out.extend_from_slice(b"h")
+        }
     }
 }

@@ -1,26 +1,65 @@
 //! The text of the report of `dm check`. Each function appends its text to `out`; an `Err` is a failed allocation.
 
-ghost use Rattle.std.specs.Prelude.{◌≡◌, ◌++◌, OnOk, take};
+ghost use Rattle.std.specs.Prelude.{◌≡◌, ◌++◌, OnOk};
 ghost use Rattle.std.specs.List.{flat_map};
-ghost use Rattle.dm_reports.specs.Texts.{found_line};
-ghost use Rattle.dm_reports.specs.Reports.{report_text};
+ghost use Rattle.dm_reports.specs.Reports.{listed_line, again_line, left_out_line, unlisted_line, report_text};
 
-use crate::texts::{put_found, put_number};
-use dm_findings::{Found, Report};
+use crate::texts::{put_counted, put_found, put_number, put_repeated};
+use dm_findings::{Listed, Report};
 use std::alloc::AllocError;
 
-/// Appends a line for each finding, in their order.
-fn put_all(out: &mut Vec<u8>, findings: &[Found]) -> Result<(), AllocError>
-    ensures { OnOk result (out.new.items ≡ out.old.items ++ flat_map found_line findings.now) }
+/// Appends a line for each finding that is listed, in their order.
+fn put_all(out: &mut Vec<u8>, lines: &[Listed]) -> Result<(), AllocError>
+    ensures { OnOk result (out.new.items ≡ out.old.items ++ flat_map listed_line lines.now) }
 {
-    for found in findings {
-        put_found(out, found)?;
+    for line in lines {
+        put_found(out, &line.found)?;
     }
     Ok(())
 }
 
-/// Appends the text of a report: a line for each finding that it keeps, in the order in which they happened, then a
-/// line with the numbers of all errors and notes.
+/// Appends the line about the repetitions of a finding, if it is repeated.
+fn put_again(out: &mut Vec<u8>, line: &Listed) -> Result<(), AllocError>
+    ensures { OnOk result (out.new.items ≡ out.old.items ++ again_line line.now) }
+{
+    if line.more == 0 {
+        return Ok(());
+    }
+    put_repeated(out, line)
+}
+
+/// Appends a line about each finding that is repeated, in their order.
+fn put_all_again(out: &mut Vec<u8>, lines: &[Listed]) -> Result<(), AllocError>
+    ensures { OnOk result (out.new.items ≡ out.old.items ++ flat_map again_line lines.now) }
+{
+    for line in lines {
+        put_again(out, line)?;
+    }
+    Ok(())
+}
+
+/// Appends the line about findings that are left out: how many they are.
+fn put_left_out(out: &mut Vec<u8>, unlisted: u64) -> Result<(), AllocError>
+    ensures { OnOk result (out.new.items ≡ out.old.items ++ left_out_line unlisted) }
+{
+    out.extend_from_slice(b"not listed: ")?;
+    put_counted(out, unlisted, b"finding")?;
+    out.extend_from_slice(b"\n")
+}
+
+/// Appends the line about the findings that are left out, if there are any.
+fn put_unlisted(out: &mut Vec<u8>, unlisted: u64) -> Result<(), AllocError>
+    ensures { OnOk result (out.new.items ≡ out.old.items ++ unlisted_line unlisted) }
+{
+    if unlisted == 0 {
+        return Ok(());
+    }
+    put_left_out(out, unlisted)
+}
+
+/// Appends the text of a report: a line for each finding that it lists, in the order in which they happened; a line for
+/// each of them that is repeated; a line about those that it leaves out, if there are any; and a line with the numbers
+/// of all errors and notes.
 ///
 /// # Errors
 ///
@@ -29,7 +68,9 @@ fn put_all(out: &mut Vec<u8>, findings: &[Found]) -> Result<(), AllocError>
 pub fn put_report(out: &mut Vec<u8>, report: &Report) -> Result<(), AllocError>
     ensures { OnOk result (out.new.items ≡ out.old.items ++ report_text report.now) }
 {
-    put_all(out, report.kept())?;
+    put_all(out, report.listed())?;
+    put_all_again(out, report.listed())?;
+    put_unlisted(out, report.unlisted())?;
     out.extend_from_slice(b"errors: ")?;
     put_number(out, report.errors())?;
     out.extend_from_slice(b", notes: ")?;

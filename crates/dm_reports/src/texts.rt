@@ -5,10 +5,11 @@ ghost use Rattle.std.specs.Prelude.{◌≡◌, ◌++◌, OnOk, codes, decimal};
 ghost use Rattle.dm_findings.specs.Findings.{is_error};
 ghost use Rattle.dm_text.specs.Texts.{text_of};
 ghost use Rattle.dm_views.specs.Digits.{two_digits, four_digits};
-ghost use Rattle.dm_reports.specs.Texts.{act_text, contents_text, finding_text, found_line, kind_text, lock_text};
+ghost use Rattle.dm_reports.specs.Texts.{act_text, contents_text, counted, ending_text, finding_text, found_line, found_text, kind_text, lock_text, refusal_text, repeated_line, short_text, site_text};
 
+use crate::meanings::meaning_of;
 use crate::names::put_call;
-use dm_findings::{Act, Contents, Finding, Found};
+use dm_findings::{Act, Contents, Finding, Found, Listed, Site};
 use dm_ins::Ins;
 use dm_text::{Line, text};
 use dm_views::{byte_digits, put_address, word_digits};
@@ -72,29 +73,43 @@ fn put_overwritten(
     put_contents(out, new)
 }
 
+/// The end of a word for `n` things: nothing for one, otherwise an `s`.
+fn ending_of(n: u64) -> &'static [u8]
+    ensures { result.now ≡ ending_text n }
+{
+    if n == 1 { b"" } else { b"s" }
+}
+
+/// Appends a number of things in decimal, and what they are, by the word for one of them.
+pub(crate) fn put_counted(out: &mut Vec<u8>, n: u64, word: &[u8]) -> Result<(), AllocError>
+    ensures { OnOk result (out.new.items ≡ out.old.items ++ counted n word.now) }
+{
+    put_number(out, n)?;
+    out.extend_from_slice(b" ")?;
+    out.extend_from_slice(word)?;
+    out.extend_from_slice(ending_of(n))
+}
+
 /// Appends that a call failed with code 08h, not enough memory: how many paragraphs it asked for, and the largest
 /// number available.
 fn put_short(out: &mut Vec<u8>, asked: u16, largest: u16) -> Result<(), AllocError>
-    ensures { OnOk result (out.new.items ≡ out.old.items
-        ++ (codes "refused with code 08h: " ++ four_digits asked ++ codes "h paragraphs wanted, " ++ four_digits largest ++ codes "h available")) }
+    ensures { OnOk result (out.new.items ≡ out.old.items ++ short_text asked largest) }
 {
-    put_segment(
-        out,
-        b"refused with code 08h: ",
-        asked,
-        b"h paragraphs wanted, ",
-    )?;
-    out.extend_from_slice(&word_digits(largest))?;
-    out.extend_from_slice(b"h available")
+    out.extend_from_slice(b"refused with code 08h, not enough memory: ")?;
+    put_counted(out, asked as u64, b"paragraph")?;
+    out.extend_from_slice(b" wanted, ")?;
+    put_number(out, largest as u64)?;
+    out.extend_from_slice(b" available")
 }
 
-/// Appends that a call failed with an error code.
-fn put_refused(out: &mut Vec<u8>, code: u8) -> Result<(), AllocError>
-    ensures { OnOk result (out.new.items ≡ out.old.items ++ (codes "refused with code " ++ two_digits code ++ codes "h")) }
+/// Appends that a call failed: the error code, and its meaning.
+fn put_refused(out: &mut Vec<u8>, act: &Act, code: u8) -> Result<(), AllocError>
+    ensures { OnOk result (out.new.items ≡ out.old.items ++ refusal_text act.now code) }
 {
     out.extend_from_slice(b"refused with code ")?;
     out.extend_from_slice(&byte_digits(code))?;
-    out.extend_from_slice(b"h")
+    out.extend_from_slice(b"h")?;
+    out.extend_from_slice(meaning_of(act, code))
 }
 
 /// What follows the size of a block of extended memory: `, locked` if it is locked, otherwise nothing.
@@ -118,15 +133,16 @@ fn put_block_kept(out: &mut Vec<u8>, handle: u16, kib: u16, locked: bool) -> Res
 /// Appends that the pages of a handle of expanded memory were not freed: how many they are.
 fn put_pages_kept(out: &mut Vec<u8>, handle: u16, pages: u16) -> Result<(), AllocError>
     ensures { OnOk result (out.new.items ≡ out.old.items
-        ++ (codes "EMS handle " ++ decimal handle ++ codes ": " ++ decimal pages ++ codes " pages not freed")) }
+        ++ (codes "EMS handle " ++ decimal handle ++ codes ": " ++ counted pages (codes "page") ++ codes " not freed")) }
 {
     put_count(out, b"EMS handle ", handle, b": ")?;
-    put_count(out, b"", pages, b" pages not freed")
+    put_counted(out, pages as u64, b"page")?;
+    out.extend_from_slice(b" not freed")
 }
 
-/// Appends what was found, in words, without the step.
-fn put_finding(out: &mut Vec<u8>, finding: &Finding) -> Result<(), AllocError>
-    ensures { OnOk result (out.new.items ≡ out.old.items ++ finding_text finding.now) }
+/// Appends what was found in a step that performed `act`, in words.
+fn put_finding(out: &mut Vec<u8>, act: &Act, finding: &Finding) -> Result<(), AllocError>
+    ensures { OnOk result (out.new.items ≡ out.old.items ++ finding_text act.now finding.now) }
 {
     match finding {
         Finding::Overwritten(at, old, new) => put_overwritten(out, *at, *old, *new),
@@ -134,7 +150,9 @@ fn put_finding(out: &mut Vec<u8>, finding: &Finding) -> Result<(), AllocError>
         Finding::Destroyed(at) => put_segment(out, b"arena destroyed at ", *at, b""),
         Finding::Whole => out.extend_from_slice(b"arena whole again"),
         Finding::FreedTwice(at) => put_segment(out, b"block at ", *at, b" freed twice"),
-        Finding::Refused(code) => put_refused(out, *code),
+        Finding::Refused(code) | Finding::NotAllocated(code) => put_refused(out, act, *code),
+        Finding::DivisionError => out.extend_from_slice(b"division error ended the process"),
+        Finding::NotServed => out.extend_from_slice(b"not served"),
         Finding::Short(asked, largest) => put_short(out, *asked, *largest),
         Finding::PagesKept(handle, pages) => put_pages_kept(out, *handle, *pages),
         Finding::MapKept(handle) => put_count(out, b"EMS handle ", *handle, b": map not restored"),
@@ -176,8 +194,38 @@ fn kind_of(finding: &Finding) -> &'static [u8]
     }
 }
 
-/// Appends the line of a finding: error or note, the number of its step, CS:IP before the step, the call or
+/// Appends where in its code the program performed the step: the address of the instruction or of the INT; with
+/// `before`, the return address of a call that was made otherwise.
+fn put_site(out: &mut Vec<u8>, site: Site) -> Result<(), AllocError>
+    ensures { OnOk result (out.new.items ≡ out.old.items ++ site_text site) }
+{
+    match site {
+        Site::At(segment, offset) => put_address(out, segment, offset),
+        Site::Before(segment, offset) => {
+            out.extend_from_slice(b"before ")?;
+            put_address(out, segment, offset)
+        }
+    }
+}
+
+/// Appends what was found and where: the number of its step, where in its code the program performed it, the call or
 /// instruction, and what was found.
+#[tactic(auto, unfolding(crate::specs::Texts::found_text))]
+fn put_text(out: &mut Vec<u8>, found: &Found) -> Result<(), AllocError>
+    ensures { OnOk result (out.new.items ≡ out.old.items ++ found_text found.now) }
+{
+    out.extend_from_slice(b"step ")?;
+    put_number(out, found.step)?;
+    out.extend_from_slice(b", ")?;
+    put_site(out, found.site)?;
+    out.extend_from_slice(b" ")?;
+    put_act(out, &found.act)?;
+    out.extend_from_slice(b": ")?;
+    put_finding(out, &found.act, &found.finding)
+}
+
+/// Appends the line of a finding: error or note, the number of its step, where in its code the program performed it,
+/// the call or instruction, and what was found.
 ///
 /// # Errors
 ///
@@ -187,13 +235,21 @@ pub fn put_found(out: &mut Vec<u8>, found: &Found) -> Result<(), AllocError>
     ensures { OnOk result (out.new.items ≡ out.old.items ++ found_line found.now) }
 {
     out.extend_from_slice(kind_of(&found.finding))?;
-    out.extend_from_slice(b": step ")?;
-    put_number(out, found.step)?;
-    out.extend_from_slice(b", ")?;
-    put_address(out, found.segment, found.offset)?;
-    out.extend_from_slice(b" ")?;
-    put_act(out, &found.act)?;
     out.extend_from_slice(b": ")?;
-    put_finding(out, &found.finding)?;
+    put_text(out, found)?;
+    out.extend_from_slice(b"\n")
+}
+
+/// Appends the line about the repetitions of a finding: how many they are, and the step of the last.
+#[tactic(auto, unfolding(crate::specs::Texts::repeated_line))]
+pub(crate) fn put_repeated(out: &mut Vec<u8>, listed: &Listed) -> Result<(), AllocError>
+    ensures { OnOk result (out.new.items ≡ out.old.items ++ repeated_line listed.now) }
+{
+    out.extend_from_slice(b"again: ")?;
+    put_text(out, &listed.found)?;
+    out.extend_from_slice(b": ")?;
+    put_number(out, listed.more)?;
+    out.extend_from_slice(b" more, the last at step ")?;
+    put_number(out, listed.last)?;
     out.extend_from_slice(b"\n")
 }

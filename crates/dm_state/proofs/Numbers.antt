@@ -1,18 +1,21 @@
--- There is a number for each page that may come: all other blocks are those of handles of extended memory, 64 at most.
+-- There is a number for each page and each block that may come: all blocks are pages, 512 at most, or those of handles
+-- of extended memory, 64 at most.
 use Rattle.std.proofs.Common.{◌≡◌, ◌≢◌, ℕ, zero, suc, ◌+◌, ◌-◌, ◌<◌, ◌≤◌, Bool, true, false, cond, List, [], ◌∷◌, Option, Some, None, length, get_or, set, refl, sym, ◌∙◌, ap, subst, inl, inr, ◌⊎◌, arith}
 use Rattle.std.specs.Prelude.{nat_lt, is_some, count_by}
 use Rattle.std.proofs.lemmas.Bool.{cases_lt, lt-ltb, le-ltb}
 use Rattle.std.proofs.lemmas.List.{get_or-set_other}
-use Rattle.std.proofs.lemmas.List.Sums.{sum_by-cons}
-use Rattle.std.proofs.lemmas.Option.{none-some}
+use Rattle.std.proofs.lemmas.List.Sums.{sum_by-cons, count_by-le-length}
+use Rattle.std.proofs.lemmas.Option.{none-some, same_Some}
 use Rattle.dm_pool.specs.declared.extent.Extent.{Extent}
 use Rattle.dm_pool.proofs.FreeRuns.{below_length}
 use Rattle.dm_ems.specs.declared.tables.Page.{Page}
 use Rattle.dm_ems.specs.Tables.{expanded}
-use Rattle.dm_ems.specs.Consistent.{block_at, IsOwned, HasNumbers}
+use Rattle.dm_ems.specs.Consistent as expanded_memory
+use Rattle.dm_ems.specs.Consistent.{block_at, IsOwned}
 use Rattle.dm_xms.specs.declared.tables.Handle.{Handle}
 use Rattle.dm_xms.specs.Consistent.{handle_at}
-use Rattle.dm_xms.proofs.Consistent.{there_at}
+use Rattle.dm_xms.specs.Tables.{extended}
+use Rattle.dm_xms.specs.Coming as extended_memory
 use Rattle.dm_state.specs.State.{State, IsHandled, AreConsistent}
 
 -- ---- blocks whose numbers are n numbers are n at most
@@ -62,30 +65,55 @@ covered (suc m) at ps h =
 
 -- ---- the blocks of pages, and behind them those of handles
 
-abbrev block_or : Option Handle → ℕ
-block_or None = 0
-block_or (Some h) = h.block
+used : List (Option Handle) → List ℕ
+used [] = []
+used (None ∷ hs) = used hs
+used (Some h ∷ hs) = h.block ∷ used hs
+
+used_length : (hs : List (Option Handle)) → length (used hs) ≡ count_by is_some hs
+unfolding used
+used_length [] = refl
+used_length (None ∷ hs) = let rest = used_length hs in omega (arith, sum_by-cons (λ (o : Option Handle). cond (is_some o) 1 0) None hs, rest)
+used_length (Some h ∷ hs) = let rest = used_length hs in omega (arith, sum_by-cons (λ (o : Option Handle). cond (is_some o) 1 0) (Some h) hs, rest)
+
+in_used : (hs : List (Option Handle)) (k : ℕ) (h : Handle) → handle_at hs k ≡ Some h → (j : ℕ) × (j < length (used hs)) × (get_or (used hs) j 0 ≡ h.block)
+unfolding used
+in_used [] k h e = absurd (none-some h e)
+in_used (None ∷ hs) zero h e = absurd (none-some h e)
+in_used (None ∷ hs) (suc k) h e = in_used hs k h e
+in_used (Some g ∷ hs) zero h e = (0, omega arith, ap (λ (s : Handle). s.block) (same_Some g h e))
+in_used (Some g ∷ hs) (suc k) h e = let r = in_used hs k h e in let lt = r.1 in (suc r.0, omega (arith, lt), r.2)
 
 abbrev owner : List Page → List (Option Handle) → ℕ → ℕ
-owner ps hs k = cond (nat_lt k (length ps)) (block_at ps k) (block_or (handle_at hs (k - length ps)))
+owner ps hs k = cond (nat_lt k (length ps)) (block_at ps k) (get_or (used hs) (k - length ps) 0)
 
-page_owner : (ps : List Page) (hs : List (Option Handle)) (b : ℕ) → IsOwned ps b → (k : ℕ) × (k < length ps + 64) × (owner ps hs k ≡ b)
-page_owner ps hs b o = let lt = o.1 in (o.0, omega (arith, lt), ap (λ t. cond t (block_at ps o.0) (block_or (handle_at hs (o.0 - length ps)))) (lt-ltb o.0 (length ps) lt) ∙ o.2)
+page_owner : (ps : List Page) (hs : List (Option Handle)) (b : ℕ) → IsOwned ps b → (k : ℕ) × (k < length ps + length (used hs)) × (owner ps hs k ≡ b)
+page_owner ps hs b o = let lt = o.1 in (o.0, omega (arith, lt), ap (λ t. cond t (block_at ps o.0) (get_or (used hs) (o.0 - length ps) 0)) (lt-ltb o.0 (length ps) lt) ∙ o.2)
 
-handle_owner : (ps : List Page) (hs : List (Option Handle)) (b : ℕ) → length hs ≡ 64 → IsHandled hs b → (k : ℕ) × (k < length ps + 64) × (owner ps hs k ≡ b)
-handle_owner ps hs b all h =
-    let k = length ps + h.0 in
-    let short = there_at hs h.0 h.1 h.2 in
-    let back : k - length ps ≡ h.0 = omega arith in (
+handle_owner : (ps : List Page) (hs : List (Option Handle)) (b : ℕ) → IsHandled hs b → (k : ℕ) × (k < length ps + length (used hs)) × (owner ps hs k ≡ b)
+handle_owner ps hs b h =
+    let r = in_used hs h.0 h.1 h.2 in
+    let lt = r.1 in
+    let k = length ps + r.0 in
+    let back : k - length ps ≡ r.0 = omega arith in (
       k,
-      omega (arith, short, all),
-      ap (λ t. cond t (block_at ps k) (block_or (handle_at hs (k - length ps)))) (le-ltb k (length ps) (omega arith)) ∙ ap (λ j. block_or (handle_at hs j)) back ∙ ap block_or h.2 ∙ h.3,
+      omega (arith, lt),
+      ap (λ t. cond t (block_at ps k) (get_or (used hs) (k - length ps) 0)) (le-ltb k (length ps) (omega arith)) ∙ ap (λ j. get_or (used hs) j 0) back ∙ r.2 ∙ h.3,
     )
 
-pub numbers : (s : State) → AreConsistent s → HasNumbers (expanded s.ems s.memory)
-numbers s l = covered (length s.ems.pages + 64) (owner s.ems.pages s.xms.handles) s.memory.blocks.places (λ i b e.
+-- there are as many blocks as pages and handles in use at most
+all_blocks : (s : State) → AreConsistent s → count_by is_some s.memory.blocks.places ≤ length s.ems.pages + count_by is_some s.xms.handles
+all_blocks s l =
+    let most = covered (length s.ems.pages + length (used s.xms.handles)) (owner s.ems.pages s.xms.handles) s.memory.blocks.places (λ i b e.
     let short : i < 576 = omega (arith, below_length s.memory.blocks.places i b e, l.ems.places) in
     elim (l.whole i (short, (b, e))) [
       | inl o ↦ page_owner s.ems.pages s.xms.handles i o
-      | inr h ↦ handle_owner s.ems.pages s.xms.handles i l.xms.handles h
-    ])
+      | inr h ↦ handle_owner s.ems.pages s.xms.handles i h
+    ]) in
+    omega (arith, most, used_length s.xms.handles)
+
+pub page_numbers : (s : State) → AreConsistent s → expanded_memory.HasNumbers (expanded s.ems s.memory)
+page_numbers s l = omega (arith, all_blocks s l, count_by-le-length is_some s.xms.handles, l.xms.handles)
+
+pub block_numbers : (s : State) → AreConsistent s → extended_memory.HasNumbers (extended s.xms s.memory)
+block_numbers s l = omega (arith, all_blocks s l, l.ems.few, l.ems.total)

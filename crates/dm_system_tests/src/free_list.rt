@@ -93,3 +93,27 @@ fn free_bytes_tell_the_gaps(rt: HostRuntime) -> Result<(), Fail> {
     same(&rt, "unit 3", base_of(&store, one), Some(3));
     Ok(())
 }
+
+fn put_first(bytes: &mut [u8], value: u8) {
+    if let [first, ..] = bytes {
+        *first = value;
+    }
+}
+
+/// Definitions: dm_pool Stored Stored
+#[test]
+fn all_bytes_are_one_region(rt: HostRuntime) -> Result<(), Fail> {
+    let sizes = Sizes {
+        ems_pages: 0,
+        xms_kib: 4,
+    };
+    let mut store = Store::new(rt.alloc(), sizes)?;
+    put_first(store.low_mut(), 1);
+    put_first(store.scratch_mut(), 2);
+    let region = store.free_list().region;
+    same(&rt, "all bytes", region.len(), 0x31_1000);
+    same(&rt, "low bytes first", region.first().copied(), Some(1));
+    same(&rt, "then scratch", region.get(0x11_0000).copied(), Some(2));
+    same(&rt, "then 4 units", region.get(0x31_0000).copied(), Some(4));
+    Ok(())
+}

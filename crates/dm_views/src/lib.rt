@@ -2,8 +2,7 @@
 //! memory.
 //!
 //! Each function `put_..` appends a text to `out`. Digits are hexadecimal, in upper case, and each line ends with a
-//! line feed (0Ah). An `Err` is a failed allocation: what stood in `out` before the call still does, and part of the
-//! text may follow it.
+//! line feed (0Ah). An `Err` is a failed allocation; what `out` then holds is not known.
 #![tactic(auto)]
 
 mod arena;

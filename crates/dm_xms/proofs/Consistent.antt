@@ -18,7 +18,7 @@ use Rattle.dm_space.specs.Unseen.{shows}
 use Rattle.dm_xms.specs.declared.status.Status.{Status}
 use Rattle.dm_xms.specs.declared.tables.Handle.{Handle}
 use Rattle.dm_xms.specs.Tables.{Tables, Extended, extended}
-use Rattle.dm_xms.specs.Calls.{left, need, slot}
+use Rattle.dm_xms.specs.Calls.{left, need, slot, with_slot}
 use Rattle.dm_xms.specs.declared.status.Status.TheVariants.{LineError, AreaTaken, AreaNotTaken, LineStillOn, NoMemory, NoHandleLeft, UnknownHandle, UnknownSource, PastSource, UnknownDestination, PastDestination, BadLength, NotLocked, Locked, TooManyLocks}
 use Rattle.dm_xms.specs.Area.{take_area, release_area}
 use Rattle.dm_xms.specs.declared.tables.Upper.{Upper}
@@ -29,7 +29,7 @@ use Rattle.dm_moves.specs.Spans as regions
 use Rattle.dm_moves.proofs.Shapes.{moves_keep}
 use Rattle.dm_xms.specs.declared.moves.Side.{Side}
 use Rattle.dm_xms.specs.Moves.{and_then, double_after, described, side, move_between, move_memory}
-use Rattle.dm_xms.specs.Blocks.{allocate, deallocate, lock, unlock, reallocate}
+use Rattle.dm_xms.specs.Blocks.{leaving, allocate, deallocate, lock, unlock, reallocate}
 use Rattle.dm_xms.specs.Laws.{StartIsConsistent, CallsKeepConsistency, WritesKeepConsistency}
 use Rattle.dm_xms.specs.Consistent.{IsExtended, HasOther, handle_at, IsConsistent}
 
@@ -244,7 +244,7 @@ pub record IsNew (s : Blocks) (u i : ℕ) (t : Blocks) : Type 0 where
   pub within : i < length s.places
   pub place : Extent
   pub at : get_or t.places i None ≡ Some place
-  pub size : i < length s.contents → length (get_or t.contents i []) ≡ u * 1024
+  pub bytes : i < length s.contents → get_or t.contents i [] ≡ zeros u
   pub changed : IsChanged s t i
 
 new_block : (s : Blocks) (u i : ℕ) (b : Extent) → (i < length s.places) × (get_or s.places i None ≡ None) → IsNew s u i (with_block s i b (zeros u))
@@ -253,7 +253,7 @@ new_block s u i b v = record {
   within = v.0;
   place = b;
   at = get_or-set_same s.places i (Some b) None v.0;
-  size = λ h. ap length (get_or-set_same s.contents i (zeros u) [] h) ∙ length-replicate (u * 1024) 0;
+  bytes = get_or-set_same s.contents i (zeros u) [];
   changed = changed_block s i (Some b) (zeros u);
 }
 
@@ -286,7 +286,7 @@ comes x k kib i t l within based n =
         refl,
         record {
           live = (omega (arith, n.within, l.places), (n.place, n.at));
-          size = n.size (omega (arith, n.within, l.places, l.contents)) ∙ omega arith;
+          size = ap length (n.bytes (omega (arith, n.within, l.places, l.contents))) ∙ length-replicate (kib * 1024) 0 ∙ omega arith;
           hidden = hidden;
         },
       );
@@ -294,16 +294,21 @@ comes x k kib i t l within based n =
       based = based;
     }
 
-allocate_keeps : (x : Extended) (kib : ℕ) → IsConsistent x → Keeps x (allocate x kib)
-unfolding allocate
-allocate_keeps x kib l =
-    need_keeps x (position is_none x.xms.handles) NoHandleLeft _ l (λ k at.
-    need_keeps x (taken x.memory.blocks kib) NoMemory _ l (λ p is.
+-- a free handle and a new block are consistent with the rest
+pub allocated : (x : Extended) (kib k : ℕ) (p : ℕ × Blocks) → IsConsistent x → position is_none x.xms.handles ≡ Some k → taken x.memory.blocks kib ≡ Some p
+    → IsConsistent (leaving x (with_slot x.xms (k + 1) (Some (record { block = p.0; kib = kib; locks = 0 }))) p.1)
+allocated x kib k p l at is =
     let h : Option Handle = Some (record { block = p.0; kib = kib; locks = 0 }) in
     let there = position-Some is_none x.xms.handles k None at in
     let same : k ≡ k + 1 - 1 = omega arith in
     let made : IsConsistent (turned x k h p.1) = turn_consistent x k p.0 h p.1 l (comes x k kib p.0 p.1 l there.0 (taken_based x.memory.blocks kib p.0 p.1 is l.based) (taken_new x.memory.blocks kib p.0 p.1 is)) in
-    record { kept = subst (λ j. IsConsistent (turned x j h p.1)) same made }))
+    subst (λ j. IsConsistent (turned x j h p.1)) same made
+
+allocate_keeps : (x : Extended) (kib : ℕ) → IsConsistent x → Keeps x (allocate x kib)
+unfolding allocate
+allocate_keeps x kib l =
+    need_keeps x (position is_none x.xms.handles) NoHandleLeft _ l (λ k at.
+    need_keeps x (taken x.memory.blocks kib) NoMemory _ l (λ p is. record { kept = allocated x kib k p l at is }))
 
 -- ---- a block goes
 

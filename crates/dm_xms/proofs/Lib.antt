@@ -4,3 +4,4 @@ pub mod Rising
 pub mod Consistent
 pub mod Leaving
 pub mod Sides
+pub mod Coming

@@ -1,6 +1,6 @@
 -- Laws of the extended memory driver: tables and memory are consistent at the start, and stay so through each call that
--- changes them (01h to 06h, 09h to 0Dh, 0Fh to 12h) and while a program writes. And these calls keep the windows, and
--- the blocks that belong to no handle.
+-- changes them (01h to 06h, 09h to 0Dh, 0Fh to 12h) and while a program writes. These calls keep the windows, and the
+-- blocks that belong to no handle. And 09h gives each block that a gap holds.
 use Rattle.std.specs.Prelude.{ℕ, List}
 use Rattle.dm_pool.specs.Blocks.{no_blocks}
 use Rattle.dm_space.specs.Memory.{Memory, of_ram}
@@ -8,6 +8,7 @@ use Rattle.dm_space.specs.Places.{IsShaped}
 use Rattle.dm_xms.specs.Tables.{Extended, extended, new_tables}
 use Rattle.dm_xms.specs.Consistent.{IsConsistent}
 use Rattle.dm_xms.specs.Outside.{LeavesOutside}
+use Rattle.dm_xms.specs.Coming.{HasNumbers, Gives}
 use Rattle.dm_xms.specs.Calls.{left}
 use Rattle.dm_xms.specs.Area.{take_area, release_area}
 use Rattle.dm_xms.specs.Uppers.{request_upper, release_upper, resize_upper}
@@ -60,3 +61,8 @@ pub record CallsLeaveOutside : Type 0 where
   pub requesting : (x : Extended) (paragraphs : ℕ) → LeavesOutside x (extended (left x.xms (request_upper x.xms paragraphs)) x.memory)
   pub releasing : (x : Extended) (segment : ℕ) → LeavesOutside x (extended (left x.xms (release_upper x.xms segment)) x.memory)
   pub resizing : (x : Extended) (segment paragraphs : ℕ) → LeavesOutside x (extended (left x.xms (resize_upper x.xms segment paragraphs)) x.memory)
+
+-- if tables and memory are consistent, and at most 512 blocks belong to no handle, 09h gives a handle with a new block
+-- of zeros, except where each handle is in use, or no gap holds the block
+abbrev pub BlockComes : Type 0
+BlockComes = (x : Extended) (kib : ℕ) → IsConsistent x → HasNumbers x → Gives x kib (allocate x kib)

@@ -8,5 +8,6 @@ pub mod Uppers
 pub mod Moves
 pub mod Consistent
 pub mod Outside
+pub mod Coming
 pub mod Laws
 pub mod inner

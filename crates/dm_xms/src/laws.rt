@@ -1,7 +1,7 @@
 //! Laws of the calls of `Xms` and of writes to memory, as the contracts of functions that do nothing: tables and memory
-//! stay consistent, and the calls keep what is outside of extended memory.
+//! stay consistent, the calls keep what is outside of extended memory, and 09h gives each block that a gap holds.
 
-ghost use Rattle.dm_xms.specs.Laws.{StartIsConsistent, CallsKeepConsistency, WritesKeepConsistency, CallsLeaveOutside};
+ghost use Rattle.dm_xms.specs.Laws.{StartIsConsistent, CallsKeepConsistency, WritesKeepConsistency, CallsLeaveOutside, BlockComes};
 
 /// The laws that the tables of extended memory and the memory are consistent in a new machine, and after each call if
 /// they were before it: each handle in use has a block of its own, as large as its entry says, that no window shows,
@@ -22,4 +22,12 @@ pub fn writes_keep_consistency()
 /// says nothing. It does nothing when called.
 pub fn calls_leave_outside()
     ensures { CallsLeaveOutside }
+{}
+
+/// The law that 09h gives the block that it is asked for: where tables and memory are consistent, and at most 512
+/// blocks belong to no handle, the call returns a handle that was not in use, with a new block of that size, all zeros;
+/// or `NoHandleLeft` where each handle is in use, or `NoMemory` where each gap of the pool is smaller. So the pool never
+/// lacks a number. It does nothing when called.
+pub fn block_comes()
+    ensures { BlockComes }
 {}

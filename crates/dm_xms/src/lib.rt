@@ -14,7 +14,7 @@ mod tables;
 mod uppers;
 
 pub use blocks::{FreeMemory, HandleInformation};
-pub use laws::{calls_keep_consistency, calls_leave_outside, writes_keep_consistency};
+pub use laws::{block_comes, calls_keep_consistency, calls_leave_outside, writes_keep_consistency};
 pub use moves::Description;
 pub use status::Status;
 pub use tables::{Handle, Upper, Xms};

@@ -10,6 +10,7 @@ use Rattle.dm_findings.specs.declared.finding.Act.{Act}
 use Rattle.dm_findings.specs.declared.finding.Finding.{Finding}
 use Rattle.dm_findings.specs.declared.finding.Found.{Found}
 use Rattle.dm_findings.specs.Calls.{call_of}
+use Rattle.dm_findings.specs.Sites.{site_of}
 use Rattle.dm_findings.specs.Report.{Reported, report_of}
 use Rattle.dm_checker.specs.declared.acts.Before.{Before}
 use Rattle.dm_checker.specs.declared.watch.Watch.{Watch}
@@ -17,10 +18,12 @@ use Rattle.dm_checker.specs.Findings.{Finds}
 use Rattle.dm_checker.specs.Checks.{FindsAt, FindsAtStop}
 use Rattle.dm_checker.specs.inner.Watching.{IsWatch}
 
--- b is what the checker keeps of the state s before a step: the registers, the call and the bytes at CS:IP
+-- b is what the checker keeps of the state s before a step: the registers, the call, where in its code the program
+-- performs it, and the bytes at CS:IP
 pub record IsBefore (s : State) (b : Before) : Type 0 where
   pub cpu : b.cpu ≡ s.cpu
   pub call : b.call ≡ call_of s.cpu
+  pub site : b.site ≡ site_of s.memory s.cpu
   pub bytes : b.bytes ≡ fetched s.memory s.cpu
 
 -- the step from s performs no call, and the bytes at CS:IP are no instruction
@@ -28,9 +31,9 @@ pub record IsUnlisted (s : State) : Type 0 where
   pub call : call_of s.cpu ≡ None
   pub none : (i : Ins) (length : ℕ) → BeginsWith (fetched s.memory s.cpu) i length → ⊥
 
--- a finding with its step: the step's number, CS:IP before it, and what it performed
+-- a finding with its step: the step's number, where in its code the program performed it, and what it performed
 abbrev pub found_by : Before → ℕ → Act → Finding → Found
-found_by b step a f = record { step = step; segment = b.cpu.cs; offset = b.cpu.ip; act = a; finding = f }
+found_by b step a f = record { step = step; site = b.site; act = a; finding = f }
 
 -- the report `new` is the report `old` with the findings `more` added
 abbrev pub ReportsMore : Reported → Reported → List Found → Type 0

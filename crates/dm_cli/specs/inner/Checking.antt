@@ -7,20 +7,21 @@ use Rattle.dm_state.specs.State.{State}
 use Rattle.dm_machine.specs.Run.{IsRun}
 use Rattle.dm_findings.specs.Report.{Reported}
 use Rattle.dm_reports.specs.Reports.{report_text}
+use Rattle.dm_reports.specs.Stops.{stopped_line}
 use Rattle.dm_checker.specs.Checks.{IsReport}
 use Rattle.dm_cli.specs.declared.fault.Fault.{Fault}
 use Rattle.dm_cli.specs.declared.fault.Fault.TheVariants.{OutOfMemory}
-use Rattle.dm_cli.specs.Faults.{IsWriteFault}
-use Rattle.dm_cli.specs.Messages.{Stream, Prints, stop_text}
-use Rattle.dm_cli.specs.Checking.{checked_status}
+use Rattle.dm_cli.specs.Messages.{Stream, Prints}
+use Rattle.dm_cli.specs.Checking.{checked_status, unwritten_status, unwritten_line}
 
--- `dm check` once its machine m is loaded: the exit status, after the output and the report were written; or a fault: a
--- write of the output failed, after a first part; or an allocation failed, and nothing was written
+-- `dm check` once its machine m is loaded: the exit status, after the output and the report were written; or after a
+-- write of the output failed, after a first part, and the report and then the fault were printed; or an allocation
+-- failed, and nothing was written
 pub data ChecksRun (m : State) (steps : ℕ) (before after : Option (List ℕ)) (failed_before failed_after : ℕ) (error_before error_after : Stream) : Result ℕ Fault → Type 0 where
   run_checked : (t : State) (stop : Stop) (report : Reported) (status : ℕ) → IsRun m steps stop t → IsReport m steps stop t report
-      → Appends before after t.console.output → failed_after ≡ failed_before → Prints (report_text report ++ stop_text stop) error_before error_after → status ≡ checked_status report stop
+      → Appends before after t.console.output → failed_after ≡ failed_before → Prints (report_text report ++ stopped_line stop t.memory t.cpu) error_before error_after → status ≡ checked_status report stop
       → ChecksRun m steps before after failed_before failed_after error_before error_after (Ok status)
-  output_cut : (t : State) (stop : Stop) (report : Reported) (fault : Fault) → IsRun m steps stop t → IsReport m steps stop t report
-      → AppendsPart before after t.console.output → HasFailed failed_before failed_after → IsWriteFault fault
-      → ChecksRun m steps before after failed_before failed_after error_before error_after (Err fault)
+  output_cut : (t : State) (stop : Stop) (report : Reported) (middle : Stream) (status : ℕ) → IsRun m steps stop t → IsReport m steps stop t report
+      → AppendsPart before after t.console.output → HasFailed failed_before failed_after → Prints (report_text report ++ stopped_line stop t.memory t.cpu) error_before middle
+      → Prints unwritten_line middle error_after → status ≡ unwritten_status report → ChecksRun m steps before after failed_before failed_after error_before error_after (Ok status)
   no_report : Keeps before after → failed_after ≡ failed_before → ChecksRun m steps before after failed_before failed_after error_before error_after (Err OutOfMemory)

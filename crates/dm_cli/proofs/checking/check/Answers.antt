@@ -3,6 +3,8 @@ use Rattle.std.proofs.KnownBytes.{Keeps-refl}
 use Rattle.std.proofs.lemmas.Result.{err_from_is_err_and}
 use Rattle.dm_cli.specs.Checking.{not_started}
 use Rattle.dm_cli.proofs.Checked.{check_of_run}
+use Rattle.dm_cli.specs.Reads.{all_read}
+use Rattle.dm_cli.proofs.Unread.{read_ok}
 use Rattle.dm_cli.proofs.checking.check.Goals as goal
 
 pub returns-in_err-machine-clause-does : goal.returns-in_err-machine-clause-does
@@ -12,3 +14,10 @@ returns-in_err-machine-clause-does g c =
 
 pub returns-clause-does : goal.returns-clause-does
 returns-clause-does g c = check_of_run _ _ _ _ c.in_ok-machine.ensures.started _ _ _ _ _ _ _ c.check_machine.ensures.does
+
+pub returns-in_err-machine-clause-reads : goal.returns-in_err-machine-clause-reads
+returns-in_err-machine-clause-reads g c =
+    let p = err_from_is_err_and c.from_residual.result c.from_residual.ensures.1 in rw (p.1, p.2) c.in_err-machine.ensures.reads
+
+pub returns-clause-reads : goal.returns-clause-reads
+returns-clause-reads g c = all_read (read_ok _ _ c.in_ok-machine.ensures.reads) c.check_machine.ensures.reads

@@ -17,3 +17,7 @@ returns-in_err-load_first-clause-fault c =
     let p = err_from_is_err_and c.from_residual-in_err-load_first.result c.from_residual-in_err-load_first.ensures.1 in
     rw (p.1, p.2) (fault_of_first _ _ _ _ _ (not_too_large _ _ c.in_ok-machine.ensures.too_large) (rw (c.new.ensures.items) at c.in_ok-machine.ensures.ok)
     c.in_err-load_first.ensures.fault)
+
+pub returns-in_err-load_first-clause-reads : goal.returns-in_err-load_first-clause-reads
+returns-in_err-load_first-clause-reads c =
+    let p = err_from_is_err_and c.from_residual-in_err-load_first.result c.from_residual-in_err-load_first.ensures.1 in rw (p.1, p.2) c.in_err-load_first.ensures.reads

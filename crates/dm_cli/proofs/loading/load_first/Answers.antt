@@ -3,6 +3,7 @@ use Rattle.std.proofs.lemmas.Result.{err_from_is_err_and}
 use Rattle.dm_cli.specs.inner.Starting.{tail_is_long, no_first, first_refused}
 use Rattle.dm_cli.proofs.Begins.{none_first, error_of_none, bad_name, load_refused}
 use Rattle.dm_cli.proofs.Starts.{first_of}
+use Rattle.dm_cli.proofs.Unread.{name_tells}
 use Rattle.dm_cli.proofs.loading.load_first.Goals as goal
 
 pub returns-clause-ok : goal.returns-clause-ok
@@ -46,3 +47,7 @@ returns-in_err-load-clause-fault c =
     (load_refused _ _ _ (λ e. rw c.in_ok-program_name.ensures.name.0 at (c.in_err-load.ensures.not_found.0 (ap Err e)))
     (λ e. rw c.in_ok-program_name.ensures.name.0 at (c.in_err-load.ensures.bad_format.0 (ap Err e)))
     (λ e. rw c.in_ok-program_name.ensures.name.0 at (c.in_err-load.ensures.short.0 (ap Err e)))))
+
+pub returns-in_err-program_name-clause-reads : goal.returns-in_err-program_name-clause-reads
+returns-in_err-program_name-clause-reads c =
+    let p = err_from_is_err_and c.from_residual-in_err-program_name.result c.from_residual-in_err-program_name.ensures.1 in rw (p.1, p.2) (name_tells _ _ c.in_err-program_name.ensures.fault)

@@ -1,0 +1,120 @@
+//! When a finding repeats an earlier one.
+
+ghost use Rattle.std.specs.Prelude.{◌≡◌};
+ghost use Rattle.dm_findings.specs.Repeats.{kind_of, subject_of, is_same_site, callee_of, number_of, is_same_act, is_repeated};
+
+use crate::calls::Call;
+use crate::finding::{Act, Finding, Found};
+use crate::sites::Site;
+
+/// Which kind of finding it is: its place among the kinds, from 0.
+fn kind_of(finding: &Finding) -> u8
+    ensures { result ≡ kind_of finding.now }
+{
+    match finding {
+        Finding::Overwritten(_, _, _) => 0,
+        Finding::MappedAway(_) => 1,
+        Finding::Destroyed(_) => 2,
+        Finding::Whole => 3,
+        Finding::FreedTwice(_) => 4,
+        Finding::Refused(_) => 5,
+        Finding::NotAllocated(_) => 6,
+        Finding::DivisionError => 7,
+        Finding::Short(_, _) => 8,
+        Finding::PagesKept(_, _) => 9,
+        Finding::MapKept(_) => 10,
+        Finding::WindowKept(_) => 11,
+        Finding::BlockKept(_, _, _) => 12,
+        Finding::UpperKept(_) => 13,
+        Finding::AreaKept => 14,
+        Finding::LineKept => 15,
+        Finding::NotServed => 16,
+    }
+}
+
+/// What a finding is about: the segment of a header or a block, a handle, a window, or an error code; 0 for a kind that
+/// has none of them.
+fn subject_of(finding: &Finding) -> u16
+    ensures { result ≡ subject_of finding.now }
+{
+    match finding {
+        Finding::Overwritten(at, _, _) => *at,
+        Finding::MappedAway(at) => *at,
+        Finding::Destroyed(at) => *at,
+        Finding::FreedTwice(at) => *at,
+        Finding::Refused(code) => *code as u16,
+        Finding::NotAllocated(code) => *code as u16,
+        Finding::PagesKept(handle, _) => *handle,
+        Finding::MapKept(handle) => *handle,
+        Finding::WindowKept(window) => *window as u16,
+        Finding::BlockKept(handle, _, _) => *handle,
+        Finding::UpperKept(at) => *at,
+        _ => 0,
+    }
+}
+
+/// Whether two places are the same.
+fn is_same_site(first: Site, second: Site) -> bool
+    ensures { result ≡ is_same_site first second }
+{
+    match (first, second) {
+        (Site::At(s, o), Site::At(t, p)) => s == t && o == p,
+        (Site::Before(s, o), Site::Before(t, p)) => s == t && o == p,
+        (Site::At(_, _), Site::Before(_, _)) => false,
+        (Site::Before(_, _), Site::At(_, _)) => false,
+    }
+}
+
+/// What is called: the place of the service, driver or interrupt among the calls, from 0.
+fn callee_of(call: Call) -> u8
+    ensures { result ≡ callee_of call }
+{
+    match call {
+        Call::DivideError => 0,
+        Call::Terminate => 1,
+        Call::Dos(_) => 2,
+        Call::ExpandedMemory(_) => 3,
+        Call::Multiplex => 4,
+        Call::ExtendedMemory(_) => 5,
+        Call::Interrupt(_) => 6,
+    }
+}
+
+/// The number of the function that is called, or of an interrupt that is not served; 0 for a call that has none.
+fn number_of(call: Call) -> u8
+    ensures { result ≡ number_of call }
+{
+    match call {
+        Call::Dos(number) => number,
+        Call::ExpandedMemory(number) => number,
+        Call::ExtendedMemory(number) => number,
+        Call::Interrupt(number) => number,
+        _ => 0,
+    }
+}
+
+/// Whether the same was performed, if it was at the same place: a call of the same function, or an instruction of the
+/// same length.
+fn is_same_act(first: &Act, second: &Act) -> bool
+    ensures { result ≡ is_same_act first.now second.now }
+{
+    match (first, second) {
+        (Act::Call(c), Act::Call(d)) => {
+            callee_of(*c) == callee_of(*d) && number_of(*c) == number_of(*d)
+        }
+        (Act::Instruction(_, next), Act::Instruction(_, other)) => *next == *other,
+        (Act::Call(_), Act::Instruction(_, _)) => false,
+        (Act::Instruction(_, _), Act::Call(_)) => false,
+    }
+}
+
+/// Whether `later` repeats `first`: it is of the same kind and about the same thing, and was found where the program
+/// performed the same.
+pub(crate) fn is_repeated(first: &Found, later: &Found) -> bool
+    ensures { result ≡ is_repeated first.now later.now }
+{
+    kind_of(&first.finding) == kind_of(&later.finding)
+        && subject_of(&first.finding) == subject_of(&later.finding)
+        && is_same_site(first.site, later.site)
+        && is_same_act(&first.act, &later.act)
+}

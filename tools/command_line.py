@@ -1,0 +1,74 @@
+"""The command lines of the scripts that a person calls: `--help` says what a script does, its arguments and an example; a wrong line is refused with one
+sentence and status 2."""
+import argparse
+import os
+import re
+import sys
+
+ROOT = os.path.dirname(os.path.dirname(os.path.abspath(__file__)))
+
+
+class Parser(argparse.ArgumentParser):
+    """A parser of a script's command line, by the script's own comment and an example."""
+
+    def __init__(self, about, example, **more):
+        super().__init__(
+            prog=more.pop("prog", os.path.relpath(os.path.realpath(sys.argv[0]), ROOT)), description=about.strip(), epilog=f"example: {example}",
+            formatter_class=argparse.RawDescriptionHelpFormatter, allow_abbrev=False, **more,
+        )
+
+    def error(self, message):
+        self.exit(2, f"{self.prog}: {message}; {self.prog} --help tells more\n")
+
+
+def program(path):
+    """The path of a program, as an argument."""
+    if not os.path.exists(path):
+        raise argparse.ArgumentTypeError(f"there is no file {path}")
+    if os.path.isdir(path) or not os.access(path, os.X_OK):
+        raise argparse.ArgumentTypeError(f"{path} is no program")
+    return os.path.abspath(path)
+
+
+def file(path):
+    """The path of a file that exists, as an argument."""
+    if not os.path.exists(path):
+        raise argparse.ArgumentTypeError(f"there is no file {path}")
+    if os.path.isdir(path):
+        raise argparse.ArgumentTypeError(f"{path} is a folder")
+    if not os.access(path, os.R_OK):
+        raise argparse.ArgumentTypeError(f"{path} cannot be read")
+    return path
+
+
+def new_file(path):
+    """The path of a file that is to be written, as an argument."""
+    folder = os.path.dirname(os.path.abspath(path))
+    if not os.path.isdir(folder):
+        raise argparse.ArgumentTypeError(f"there is no folder {folder}")
+    if os.path.isdir(path):
+        raise argparse.ArgumentTypeError(f"{path} is a folder")
+    if not os.access(path if os.path.exists(path) else folder, os.W_OK):
+        raise argparse.ArgumentTypeError(f"{path} cannot be written")
+    return path
+
+
+def positive(text):
+    """A number from 1 on, as an argument."""
+    if not re.fullmatch(r"[1-9]\d{0,5}", text):
+        raise argparse.ArgumentTypeError(f"{text} is no number from 1 on")
+    return int(text)
+
+
+def natural(text):
+    """A number from 0 on, as an argument."""
+    if not re.fullmatch(r"\d{1,12}", text):
+        raise argparse.ArgumentTypeError(f"{text} is no number from 0 on")
+    return int(text)
+
+
+def minutes(text):
+    """A time in minutes, as an argument."""
+    if not re.fullmatch(r"\d{1,6}(?:\.\d{1,3})?", text):
+        raise argparse.ArgumentTypeError(f"{text} is no number of minutes")
+    return float(text)

@@ -1,0 +1,75 @@
+"""Tests of docs/check: each planted difference between the pages and the tree is reported, in a copy of the repository with the program that is built."""
+import os
+import shutil
+import subprocess
+import sys
+import tempfile
+import unittest
+
+ROOT = os.path.dirname(os.path.dirname(os.path.dirname(os.path.abspath(__file__))))
+sys.path.insert(0, f"{ROOT}/tools")
+import believed  # noqa: E402
+import kit  # noqa: E402
+
+PROGRAM = "crates/dm/out/dm"
+# A file, a text in it, another one in its place, and words of the fault.
+PLANTED = (
+    ("docs/proved.md", "| `libc::chdir` | sets", "| `libc::chroot` | sets", "`libc::chroot`"),
+    ("docs/proved.md", "| `libc::chdir` | sets the working directory: for a path of 4,096 bytes that ends in 0 it returns 0 or -1 | - | - |\n", "", "38"),
+    ("docs/proved.md", "`axioms=39`", "`axioms=40`", "axioms=39"),
+    ("docs/proved.md", "it changes the buffer alone | yes | - |", "it changes the buffer alone | - | - |", "calls `os::c::rattle_arg`"),
+    ("docs/proved.md", "`std` 2,366", "`std` 2,400", "`std` 2,366"),
+    ("docs/proved.md", "is known to compile some correct code wrongly", "is known to compile all code correctly", "of the kit does not say, or is not quoted"),
+    ("README.md", "39 contracts of C functions", "38 contracts of C functions", "39 contracts of C functions"),
+    ("README.md", "| 871 | 3,203 |", "| 821 | 3,034 |", "871"),
+    ("README.md", "| 1,473 | 5,709 |", "| 1,267 | 4,934 |", "1,473"),
+    ("README.md", " million steps a second of processor time", " million steps a minute of processor time", "README.md: not once"),
+    ("bench/README.md", "| `CRC.COM` | CRC-16", "| `CRC.COM` | CRC-32", "run bench/tables"),
+    ("bench/figures.json", '"CRC.COM run": ', '"CRC.COM run": 9', "run bench/tables"),
+    ("python/mezguld.py", "3: OutOfMemory, 5: TooLarge", "13: OutOfMemory, 5: TooLarge", "MEZGULD_OUT_OF_MEMORY"),
+    ("include/mezguld.h", "MEZGULD_SHORT = 13", "MEZGULD_SHORT = 3", "MEZGULD_SHORT"),
+)
+
+
+def checked(root):
+    return subprocess.run([f"{root}/docs/check"], capture_output=True, text=True, check=False).stdout
+
+
+@unittest.skipUnless(os.path.exists(f"{ROOT}/{PROGRAM}") and kit.name() == believed.KIT, "dm is not built, or it is not the kit that the figures are of")
+class Planted(unittest.TestCase):
+    @classmethod
+    def setUpClass(cls):
+        cls.holder = tempfile.TemporaryDirectory()
+        cls.copy = f"{cls.holder.name}/copy"
+        listed = subprocess.run(["git", "ls-files", "-z"], cwd=ROOT, capture_output=True, text=True, check=True).stdout.split("\0")
+        for path in [*listed, PROGRAM]:
+            if path and os.path.isfile(f"{ROOT}/{path}"):
+                os.makedirs(os.path.dirname(f"{cls.copy}/{path}"), exist_ok=True)
+                shutil.copy(f"{ROOT}/{path}", f"{cls.copy}/{path}")
+        for words in (["init", "-q"], ["add", "-A"]):
+            subprocess.run(["git", *words], cwd=cls.copy, check=True)
+
+    @classmethod
+    def tearDownClass(cls):
+        cls.holder.cleanup()
+
+    def test_the_copy_has_none(self):
+        self.assertIn("docs/check: 0 faults", checked(self.copy))
+
+    def test_each_is_reported(self):
+        for path, old, new, words in PLANTED:
+            with self.subTest(path=path, old=old, new=new):
+                with open(f"{self.copy}/{path}", encoding="utf-8") as file:
+                    text = file.read()
+                self.assertEqual(text.count(old) > 0, True)
+                with open(f"{self.copy}/{path}", "w", encoding="utf-8") as file:
+                    file.write(text.replace(old, new, 1))
+                found = checked(self.copy)
+                with open(f"{self.copy}/{path}", "w", encoding="utf-8") as file:
+                    file.write(text)
+                self.assertIn(words, found)
+                self.assertNotIn("docs/check: 0 faults", found)
+
+
+if __name__ == "__main__":
+    unittest.main()

@@ -1,0 +1,67 @@
+"""Tests of tools/header.py: each planted difference between the exports, the header and the Python module is reported. From the top:
+`python3 -m unittest discover -s tools/tests`."""
+import os
+import sys
+import unittest
+from unittest import mock
+
+sys.path.insert(0, os.path.dirname(os.path.dirname(os.path.abspath(__file__))))
+import header  # noqa: E402
+
+HEADER, MODULE = "include/mezguld.h", "python/mezguld.py"
+# A file, a text that is in it once, another one in its place, and words of the fault.
+PLANTED = (
+    (HEADER, "MEZGULD_SHORT = 13", "MEZGULD_SHORT = 23", "MEZGULD_SHORT"),
+    (HEADER, "MEZGULD_MEMORY = 6", "MEZGULD_MEMORY = 5", "MEZGULD_MEMORY"),
+    (HEADER, "uint32_t mezguld_free(mezguld *machine)", "void mezguld_free(mezguld *machine)", "mezguld_free returns"),
+    (HEADER, "uint32_t mezguld_free(mezguld *machine)", "uint32_t mezguld_drop(mezguld *machine)", "mezguld_free"),
+    (HEADER, "mezguld_steps(mezguld *machine, uint64_t *steps)", "mezguld_steps(mezguld *machine, uint32_t *steps)", "mezguld_steps"),
+    (HEADER, "uint16_t offset, uint8_t *buffer, size_t count)", "uint16_t offset, const uint8_t *buffer, size_t count)", "mezguld_read"),
+    (HEADER, "uint16_t segment, uint16_t offset, uint8_t *buffer", "uint16_t offset, uint16_t segment, uint8_t *buffer", "mezguld_read"),
+    (HEADER, "ax, bx, cx, dx, sp, bp", "ax, cx, bx, dx, sp, bp", "mezguld_cpu"),
+    (HEADER, "    uint16_t segment;\n    uint16_t offset;", "    uint16_t offset;\n    uint16_t segment;", "mezguld_point"),
+    (HEADER, "    uint32_t why;", "    uint16_t why;", "mezguld_stopped"),
+    (MODULE, "3: OutOfMemory", "13: OutOfMemory", "MEZGULD_OUT_OF_MEMORY"),
+    (MODULE, "13: Short", "3: Short", "MEZGULD_SHORT"),
+    (MODULE, "14: NotLoaded, ", "", "MEZGULD_NOT_LOADED"),
+    (MODULE, "21: TooLong,", "21: TooLarge,", "MEZGULD_TOO_LONG"),
+    (MODULE, "17: LineSyntax, 18: LineUnknown", "18: LineSyntax, 17: LineUnknown", "MEZGULD_LINE_SYNTAX"),
+    (MODULE, "20: LineTwice", "22: LineTwice", "MEZGULD_LINE_TWICE"),
+    (MODULE, "_OK, _TOO_SMALL = 0, 4", "_OK, _TOO_SMALL = 0, 5", "MEZGULD_TOO_SMALL"),
+    (MODULE, "1: NoMachine, 3:", "1: NoMachine, 2: NoMachine, 3:", "two statuses"),
+    (MODULE, "    MEMORY = 6", "    MEMORY = 7", "stops"),
+    (MODULE, "    ax: int\n    bx: int", "    bx: int\n    ax: int", "registers"),
+    (MODULE, '"m Q s w"', '"m I s w"', "mezguld_check"),
+    (MODULE, '    "mezguld_free": "m",\n', "", "mezguld_free"),
+)
+
+
+def faults_with(path, old, new):
+    """The faults where a file has another text."""
+    real = header.text_of
+    text = real(path)
+    assert text.count(old) == 1, f"{text.count(old)} times in {path}: {old}"
+    with mock.patch.object(header, "text_of", lambda name: text.replace(old, new) if name == path else real(name)):
+        return list(header.faults())
+
+
+class Planted(unittest.TestCase):
+    def test_the_tree_has_none(self):
+        self.assertEqual(list(header.faults()), [])
+
+    def test_each_is_reported(self):
+        for path, old, new, words in PLANTED:
+            with self.subTest(path=path, old=old, new=new):
+                self.assertIn(words, " ".join(faults_with(path, old, new)))
+
+    def test_exchanged_statuses(self):
+        real = header.text_of
+        text = real(MODULE).replace("3: OutOfMemory", "00: OutOfMemory").replace("13: Short", "3: Short").replace("00: OutOfMemory", "13: OutOfMemory")
+        with mock.patch.object(header, "text_of", lambda name: text if name == MODULE else real(name)):
+            found = " ".join(header.faults())
+        self.assertIn("MEZGULD_OUT_OF_MEMORY is 3 in the header and 13 in the Python module", found)
+        self.assertIn("MEZGULD_SHORT is 13 in the header and 3 in the Python module", found)
+
+
+if __name__ == "__main__":
+    unittest.main()
