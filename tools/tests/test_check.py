@@ -1,5 +1,6 @@
 """Tests of docs/check: each planted difference between the pages and the tree is reported, in a copy of the repository with the program that is built."""
 import os
+import re
 import shutil
 import subprocess
 import sys
@@ -21,13 +22,17 @@ PLANTED = (
     ("docs/proved.md", "`std` 2,366", "`std` 2,400", "`std` 2,366"),
     ("docs/proved.md", "is known to compile some correct code wrongly", "is known to compile all code correctly", "of the kit does not say, or is not quoted"),
     ("README.md", "39 contracts of C functions", "38 contracts of C functions", "39 contracts of C functions"),
-    ("README.md", "| 871 | 3,203 |", "| 821 | 3,034 |", "871"),
-    ("README.md", "| 1,473 | 5,709 |", "| 1,267 | 4,934 |", "1,473"),
     ("README.md", " million steps a second of processor time", " million steps a minute of processor time", "README.md: not once"),
     ("bench/README.md", "| `CRC.COM` | CRC-16", "| `CRC.COM` | CRC-32", "run bench/tables"),
     ("bench/figures.json", '"CRC.COM run": ', '"CRC.COM run": 9', "run bench/tables"),
     ("python/mezguld.py", "3: OutOfMemory, 5: TooLarge", "13: OutOfMemory, 5: TooLarge", "MEZGULD_OUT_OF_MEMORY"),
     ("include/mezguld.h", "MEZGULD_SHORT = 13", "MEZGULD_SHORT = 3", "MEZGULD_SHORT"),
+)
+# A file and the text before a figure: another figure in its place is reported with the true one.
+FIGURES = (
+    ("README.md", "with its laws (`dm_machine`) | "),
+    ("README.md", "the program (`dm_main`), with `clap`'s | "),
+    ("README.md", "all public functions | "),
 )
 
 
@@ -61,14 +66,27 @@ class Planted(unittest.TestCase):
             with self.subTest(path=path, old=old, new=new):
                 with open(f"{self.copy}/{path}", encoding="utf-8") as file:
                     text = file.read()
-                self.assertEqual(text.count(old) > 0, True)
-                with open(f"{self.copy}/{path}", "w", encoding="utf-8") as file:
-                    file.write(text.replace(old, new, 1))
-                found = checked(self.copy)
-                with open(f"{self.copy}/{path}", "w", encoding="utf-8") as file:
-                    file.write(text)
-                self.assertIn(words, found)
-                self.assertNotIn("docs/check: 0 faults", found)
+                self.assertIn(old, text)
+                self.is_reported(path, text, text.replace(old, new, 1), words)
+
+    def test_each_figure_is_compared(self):
+        for path, before in FIGURES:
+            with self.subTest(path=path, before=before):
+                with open(f"{self.copy}/{path}", encoding="utf-8") as file:
+                    text = file.read()
+                figure = re.search(re.escape(before) + r"([\d,]+)", text)
+                self.assertIsNotNone(figure)
+                self.is_reported(path, text, f"{text[: figure.start(1)]}17{text[figure.end(1) :]}", figure[1])
+
+    def is_reported(self, path, text, planted, words):
+        """With `planted` in place of `text` in the file `path`, docs/check prints a fault with `words`."""
+        with open(f"{self.copy}/{path}", "w", encoding="utf-8") as file:
+            file.write(planted)
+        found = checked(self.copy)
+        with open(f"{self.copy}/{path}", "w", encoding="utf-8") as file:
+            file.write(text)
+        self.assertIn(words, found)
+        self.assertNotIn("docs/check: 0 faults", found)
 
 
 if __name__ == "__main__":

@@ -40,7 +40,7 @@ fn words_of(rt: &HostRuntime) -> io::Result<Vec<String>> {
 fn end(rt: &HostRuntime, words: io::Result<Vec<String>>) -> ExitCode
     ensures words { IfOk words (λ v. EndsWith (map string_bytes v.items) (exit_status result)) }
     ensures memory { IfErr words (λ e. error_kind e ≡ ErrorKind.OutOfMemory → exit_status result ≡ 126) }
-    ensures not_unicode { IfErr words (λ e. (exit_status result ≡ 2) ⊎ (exit_status result ≡ 126)) }
+    ensures other { IfErr words (λ e. (exit_status result ≡ 2) ⊎ (exit_status result ≡ 126)) }
 {
     match words {
         Ok(words) => call(rt, words.as_slice()),

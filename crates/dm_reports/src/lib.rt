@@ -1,7 +1,7 @@
 //! The texts of the report of `dm check`.
 //!
 //! Each function `put_..` appends a text to `out`. Each line ends with a line feed (0Ah). An `Err` is a failed
-//! allocation: what stood in `out` before the call still does, and a first part of the text may follow it.
+//! allocation; nothing is promised of what `out` holds then.
 #![tactic(auto)]
 
 mod meanings;
