@@ -14,11 +14,11 @@ use Rattle.dm_cpu.specs.Guest.{Guest, at_ip, up}
 use Rattle.dm_cpu.specs.Operands.{with_operand}
 use Rattle.dm_cpu.specs.Stack.{interrupt_return, far_returned}
 use Rattle.dm_exec.specs.Operation.{operation_of}
-use Rattle.dm_exec.specs.Stack.{popped_into, flags_popped, stack_effect, interrupt_effect}
+use Rattle.dm_operations.specs.Stack.{popped_into, flags_popped, stack_effect, interrupt_effect}
 use Rattle.dm_exec.specs.Moves.{moved, exchanged, pointer_loaded, input, move_effect}
-use Rattle.dm_exec.specs.Arithmetic.{sum_into, difference_into, compared, logic_into, tested, incremented, decremented, negated, complemented, arithmetic}
-use Rattle.dm_exec.specs.Shifts.{shifted}
-use Rattle.dm_exec.specs.Products.{multiplied}
+use Rattle.dm_operations.specs.Arithmetic.{sum_into, difference_into, compared, logic_into, tested, incremented, decremented, negated, complemented, arithmetic}
+use Rattle.dm_operations.specs.Shifts.{shifted}
+use Rattle.dm_operations.specs.Products.{multiplied}
 use Rattle.dm_exec.specs.Jumps.{jumped, jumped_where, jumped_if, looped, far_jumped, returned, transferred}
 use Rattle.dm_exec.specs.Strings.{once, string_effect}
 use Rattle.dm_exec.specs.Effect.{act, effect}

@@ -16,28 +16,28 @@ use Rattle.dm_exec.specs.declared.operation.Operation.{Operation}
 use Rattle.dm_exec.specs.declared.operation.Operation.TheVariants as is
 use Rattle.dm_exec.specs.declared.operation.MoveOperation.{MoveOperation}
 use Rattle.dm_exec.specs.declared.operation.MoveOperation.TheVariants as moves
-use Rattle.dm_exec.specs.declared.operation.StackOperation.{StackOperation}
-use Rattle.dm_exec.specs.declared.operation.StackOperation.TheVariants.{Push, Pop, PushFlags, PopFlags}
-use Rattle.dm_exec.specs.declared.operation.ArithmeticOperation.{ArithmeticOperation}
-use Rattle.dm_exec.specs.declared.operation.ArithmeticOperation.TheVariants.{Add, AddWithCarry, Subtract, SubtractWithBorrow, Compare, Logic, Test, Increment, Decrement, Negate, Complement}
+use Rattle.dm_operations.specs.declared.stack.StackOperation.{StackOperation}
+use Rattle.dm_operations.specs.declared.stack.StackOperation.TheVariants.{Push, Pop, PushFlags, PopFlags}
+use Rattle.dm_operations.specs.declared.arithmetic.ArithmeticOperation.{ArithmeticOperation}
+use Rattle.dm_operations.specs.declared.arithmetic.ArithmeticOperation.TheVariants.{Add, AddWithCarry, Subtract, SubtractWithBorrow, Compare, Logic, Test, Increment, Decrement, Negate, Complement}
 use Rattle.dm_exec.specs.declared.operation.Condition.{Condition}
 use Rattle.dm_exec.specs.declared.operation.LoopOperation.{LoopOperation}
 use Rattle.dm_exec.specs.declared.operation.TransferOperation.{TransferOperation}
 use Rattle.dm_exec.specs.declared.operation.TransferOperation.TheVariants as transfer
 use Rattle.dm_exec.specs.declared.operation.TransferOperation.TheVariants.{Jump, FarJump, Call, FarCall, FarReturn}
-use Rattle.dm_exec.specs.declared.operation.InterruptOperation.{InterruptOperation}
-use Rattle.dm_exec.specs.declared.operation.InterruptOperation.TheVariants as interrupts
-use Rattle.dm_exec.specs.declared.operation.InterruptOperation.TheVariants.{Numbered, Breakpoint, OnOverflow}
+use Rattle.dm_operations.specs.declared.stack.InterruptOperation.{InterruptOperation}
+use Rattle.dm_operations.specs.declared.stack.InterruptOperation.TheVariants as interrupts
+use Rattle.dm_operations.specs.declared.stack.InterruptOperation.TheVariants.{Numbered, Breakpoint, OnOverflow}
 use Rattle.dm_exec.specs.declared.operation.StringOperation.{StringOperation}
 use Rattle.dm_exec.specs.declared.operation.StringOperation.TheVariants as string
 use Rattle.dm_cpu.specs.Guest.{Guest, at_ip, up, on_cpu}
 use Rattle.dm_exec.specs.Operation.{operation_of}
 use Rattle.dm_cpu.specs.Stack.{popped, top}
-use Rattle.dm_exec.specs.Stack.{through_vector, interrupt, pushed_value, popped_into, flags_popped, stack_effect, interrupt_effect}
+use Rattle.dm_operations.specs.Stack.{through_vector, interrupt, pushed_value, popped_into, flags_popped, stack_effect, interrupt_effect}
 use Rattle.dm_exec.specs.Moves.{moved, exchanged, pointer_loaded, translated, input, move_effect}
-use Rattle.dm_exec.specs.Arithmetic.{sum_into, difference_into, compared, logic_into, tested, incremented, decremented, negated, complemented, arithmetic}
-use Rattle.dm_exec.specs.Shifts.{shifted}
-use Rattle.dm_exec.specs.Products.{multiplied, after_division, divided}
+use Rattle.dm_operations.specs.Arithmetic.{sum_into, difference_into, compared, logic_into, tested, incremented, decremented, negated, complemented, arithmetic}
+use Rattle.dm_operations.specs.Shifts.{shifted}
+use Rattle.dm_operations.specs.Products.{multiplied, after_division, divided}
 use Rattle.dm_exec.specs.Jumps.{target_of, jumped, jumped_where, jumped_if, counted_down, looped, far_jumped, called, far_called, returned, transferred}
 use Rattle.dm_exec.specs.Strings.{source, destination, once, counted, string_effect}
 use Rattle.dm_exec.specs.Effect.{act, effect}

@@ -1,15 +1,9 @@
 pub mod Operation
 pub mod Moves
-pub mod Stack
-pub mod Arithmetic
-pub mod Shifts
-pub mod Products
-pub mod Adjustments
 pub mod Jumps
 pub mod Strings
 pub mod Control
 pub mod Effect
 pub mod Unseen
 pub mod Map
-pub mod Pairs
 pub mod inner

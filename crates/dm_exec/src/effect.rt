@@ -5,9 +5,10 @@ ghost use Rattle.dm_exec.specs.Effect.{act, effect, next_of};
 ghost use Rattle.dm_exec.specs.Operation.{operation_of};
 
 use crate::operation::{Operation, operation_of};
-use crate::{adjustments, arithmetic, control, jumps, moves, products, shifts, stack, strings};
+use crate::{control, jumps, moves, strings};
 use dm_cpu::{Cpu, Registers};
 use dm_ins::{Ins, Mnemonic};
+use dm_operations::{adjustments, arithmetic, products, shifts, stack};
 use dm_space::Space;
 
 /// What the processor does after an instruction.

@@ -42,22 +42,22 @@ RETF               | CB             | SP=FFFF 3000:FFFF=78 3000:0000=56 3000:000
 RETF 0004          | CA 04 00       | SP=FFFD 3000:FFFD=5678 3000:FFFF=BC 3000:0000=9A | SP=0005 CS=9ABC IP=5678";
 
 /// Definitions: dm_alu Products quotient_of signed_division signed_double
-/// Definitions: dm_exec Products multiplied divided after_division double_of with_double with_division
+/// Definitions: dm_operations Products multiplied divided after_division double_of with_double with_division
 #[test]
 fn largest_quotients(rt: HostRuntime) -> Result<(), Fail> {
     check(&rt, rt.alloc(), LARGEST_QUOTIENTS)
 }
 
 /// Definitions: dm_alu Shifts flags_after_shift flags_of_move overflow_after_move second_bit differ
-/// Definitions: dm_exec Shifts shifted
+/// Definitions: dm_operations Shifts shifted
 #[test]
 fn shifts_by_a_count_of_1_set_overflow(rt: HostRuntime) -> Result<(), Fail> {
     check(&rt, rt.alloc(), COUNT_OF_1)
 }
 
 /// Definitions: dm_cpu Stack push top popped
-/// Definitions: dm_exec Stack stack_effect pushed_value popped_into flags_popped interrupt_effect interrupt
-/// Definitions: dm_exec Stack through_vector
+/// Definitions: dm_operations Stack stack_effect pushed_value popped_into flags_popped interrupt_effect interrupt
+/// Definitions: dm_operations Stack through_vector
 /// Definitions: dm_exec Jumps transferred far_jumped called far_called returned
 #[test]
 fn stacks_go_over_the_end_of_their_segment(rt: HostRuntime) -> Result<(), Fail> {

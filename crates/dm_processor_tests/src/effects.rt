@@ -686,13 +686,13 @@ fn instructions_with_no_effect(rt: HostRuntime) -> Result<(), Fail> {
 }
 
 /// Definitions: dm_alu Flags flags_word flags_of bit_is_one; dm_cpu Stack push top popped
-/// Definitions: dm_exec Stack stack_effect pushed_value popped_into flags_popped
+/// Definitions: dm_operations Stack stack_effect pushed_value popped_into flags_popped
 #[test]
 fn stack_grows_down_by_words(rt: HostRuntime) -> Result<(), Fail> {
     check(&rt, rt.alloc(), STACK)
 }
 
-/// Definitions: dm_cpu Stack interrupt_return; dm_exec Stack interrupt_effect interrupt through_vector
+/// Definitions: dm_cpu Stack interrupt_return; dm_operations Stack interrupt_effect interrupt through_vector
 #[test]
 fn interrupts_push_three_words_and_return(rt: HostRuntime) -> Result<(), Fail> {
     check(&rt, rt.alloc(), INTERRUPTS)
@@ -701,24 +701,24 @@ fn interrupts_push_three_words_and_return(rt: HostRuntime) -> Result<(), Fail> {
 /// Definitions: dm_alu Width leaves_range; dm_alu Flags after_result even_parity
 /// Definitions: dm_alu Sums sum_value flags_after_sum sum_overflows
 /// Definitions: dm_cpu Values width_of value_in read_in written_in accumulator with_accumulator
-/// Definitions: dm_exec Arithmetic arithmetic sum_into difference_into compared logic_into tested incremented
-/// Definitions: dm_exec Arithmetic decremented negated complemented
+/// Definitions: dm_operations Arithmetic arithmetic sum_into difference_into compared logic_into tested incremented
+/// Definitions: dm_operations Arithmetic decremented negated complemented
 #[test]
 fn sums(rt: HostRuntime) -> Result<(), Fail> {
     check(&rt, rt.alloc(), SUMS)
 }
 
 /// Definitions: dm_alu Width leaves_range; dm_alu Sums difference_value flags_after_difference difference_overflows
-/// Definitions: dm_exec Arithmetic arithmetic sum_into difference_into compared logic_into tested incremented
-/// Definitions: dm_exec Arithmetic decremented negated complemented
+/// Definitions: dm_operations Arithmetic arithmetic sum_into difference_into compared logic_into tested incremented
+/// Definitions: dm_operations Arithmetic decremented negated complemented
 #[test]
 fn differences(rt: HostRuntime) -> Result<(), Fail> {
     check(&rt, rt.alloc(), DIFFERENCES)
 }
 
 /// Definitions: dm_alu Bitwise logic_value flags_after_logic
-/// Definitions: dm_exec Arithmetic arithmetic sum_into difference_into compared logic_into tested incremented
-/// Definitions: dm_exec Arithmetic decremented negated complemented
+/// Definitions: dm_operations Arithmetic arithmetic sum_into difference_into compared logic_into tested incremented
+/// Definitions: dm_operations Arithmetic decremented negated complemented
 #[test]
 fn logic_clears_carry_and_keeps_adjust(rt: HostRuntime) -> Result<(), Fail> {
     check(&rt, rt.alloc(), BITWISE)
@@ -726,7 +726,7 @@ fn logic_clears_carry_and_keeps_adjust(rt: HostRuntime) -> Result<(), Fail> {
 
 /// Definitions: dm_alu Shifts shift_value shifted moves one_move to_left to_right flags_after_shift flags_of_move
 /// Definitions: dm_alu Shifts overflow_after_move second_bit differ
-/// Definitions: dm_exec Shifts shifted
+/// Definitions: dm_operations Shifts shifted
 #[test]
 fn shifts_and_rotates(rt: HostRuntime) -> Result<(), Fail> {
     check(&rt, rt.alloc(), SHIFTS)
@@ -734,20 +734,20 @@ fn shifts_and_rotates(rt: HostRuntime) -> Result<(), Fail> {
 
 /// Definitions: dm_alu Products product_value twos_complement flags_after_product upper_is_significant
 /// Definitions: dm_cpu Values width_of value_in read_in written_in accumulator with_accumulator
-/// Definitions: dm_exec Products multiplied divided after_division double_of with_double with_division
+/// Definitions: dm_operations Products multiplied divided after_division double_of with_double with_division
 #[test]
 fn products(rt: HostRuntime) -> Result<(), Fail> {
     check(&rt, rt.alloc(), PRODUCTS)
 }
 
 /// Definitions: dm_alu Products quotient_of signed_division signed_double
-/// Definitions: dm_exec Products multiplied divided after_division double_of with_double with_division
+/// Definitions: dm_operations Products multiplied divided after_division double_of with_double with_division
 #[test]
 fn quotients_and_division_errors(rt: HostRuntime) -> Result<(), Fail> {
     check(&rt, rt.alloc(), QUOTIENTS)
 }
 
-/// Definitions: dm_exec Adjustments adjusted
+/// Definitions: dm_operations Adjustments adjusted
 #[test]
 fn adjustments_of_the_accumulator(rt: HostRuntime) -> Result<(), Fail> {
     check(&rt, rt.alloc(), ADJUSTMENTS)

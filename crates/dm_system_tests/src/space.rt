@@ -180,7 +180,7 @@ fn the_high_area_goes_round_while_a20_is_off(rt: HostRuntime) -> Result<(), Fail
 
 /// Definitions: dm_space Memory linear peek16 poke16; dm_cpu Guest up down at_ip on_cpu with_flags
 /// Definitions: dm_cpu Operands value_of with_operand with_result address_of far_segment_of
-/// Definitions: dm_cpu Stack push top popped; dm_exec Stack stack_effect pushed_value popped_into flags_popped
+/// Definitions: dm_cpu Stack push top popped; dm_operations Stack stack_effect pushed_value popped_into flags_popped
 #[test]
 fn word_wraps_at_segment_end(rt: HostRuntime) -> Result<(), Fail> {
     let mut space = new_space(rt.alloc())?;

@@ -1,6 +1,6 @@
 //! AAA, AAS, DAA, DAS, AAM and AAD.
 ghost use Rattle.std.specs.Prelude.{◌≡◌};
-ghost use Rattle.dm_exec.specs.Adjustments.{adjusted};
+ghost use Rattle.dm_operations.specs.Adjustments.{adjusted};
 
 use dm_alu::{Adjustment, adjust};
 use dm_cpu::Registers;

@@ -4,7 +4,7 @@ ghost use Rattle.dm_alu.specs.Width.{size};
 ghost use Rattle.dm_alu.specs.Products.{product_value, flags_after_product, quotient_of};
 ghost use Rattle.dm_cpu.specs.Guest.{guest};
 ghost use Rattle.dm_cpu.specs.Values.{accumulator};
-ghost use Rattle.dm_exec.specs.Products.{double_of, with_double, multiplied, with_division, after_division, divided};
+ghost use Rattle.dm_operations.specs.Products.{double_of, with_double, multiplied, with_division, after_division, divided};
 
 use crate::stack;
 use dm_alu::{Division, Sign, Width, div, mul};
@@ -63,7 +63,7 @@ pub(crate) fn multiply_by(width: Width, cpu: &mut Registers, sign: Sign, right: 
 /// Does MUL or IMUL by the first operand.
 #[inline(never)]
 #[tactic(auto, unfolding(crate::specs::Products::multiplied))]
-pub(crate) fn multiply(cpu: &mut Registers, space: &Space, ins: &Ins, sign: Sign)
+pub fn multiply(cpu: &mut Registers, space: &Space, ins: &Ins, sign: Sign)
     ensures { guest cpu.new space.now.memory ≡ multiplied (guest cpu.old space.now.memory) ins.now.prefixes.segment sign ins.now.action.first }
 {
     let operand = &ins.action.first;
@@ -114,7 +114,7 @@ pub(crate) fn divide_by(
 /// Does DIV or IDIV by the first operand.
 #[inline(never)]
 #[tactic(auto, unfolding(crate::specs::Products::divided))]
-pub(crate) fn divide(cpu: &mut Registers, space: &mut Space, ins: &Ins, sign: Sign)
+pub fn divide(cpu: &mut Registers, space: &mut Space, ins: &Ins, sign: Sign)
     ensures { guest cpu.new space.new.memory ≡ divided (guest cpu.old space.old.memory) ins.now.prefixes.segment sign ins.now.action.first }
 {
     let operand = &ins.action.first;

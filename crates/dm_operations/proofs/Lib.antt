@@ -1,0 +1,3 @@
+mod Carries
+mod Signs
+mod ByWidth

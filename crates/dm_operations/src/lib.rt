@@ -1,0 +1,25 @@
+//! Operations on operands: arithmetic, bit manipulation, the stack and interrupts. Each stands once, over any width and
+//! any places where it has them. Which instruction does which of them, `dm_exec` says.
+#![tactic(auto)]
+
+pub mod adjustments;
+pub mod arithmetic;
+mod numbers;
+mod pairs;
+pub mod products;
+pub mod shifts;
+pub mod stack;
+
+pub use adjustments::adjust_accumulator;
+pub use arithmetic::ArithmeticOperation;
+pub use numbers::Number;
+pub use pairs::{
+    Addition, AdditionWithCarry, Comparison, Complement, Decrement, Dividing, Increment, Joining,
+    Multiplication, Negation, Pair, PairOperation, Place, PlaceOperation, Shifting, Subtraction,
+    SubtractionWithBorrow, Testing, on_pair, on_place,
+};
+pub use shifts::{shift_left_once, shift_right_once};
+pub use stack::{
+    InterruptOperation, StackOperation, act_on_interrupt, pop_flags, pop_to, push_flags,
+    push_register,
+};
