@@ -30,9 +30,10 @@ PLANTED = (
 )
 # A file and the text before a figure: another figure in its place is reported with the true one.
 FIGURES = (
-    ("README.md", "with its laws (`dm_machine`) | "),
-    ("README.md", "the program (`dm_main`), with `clap`'s | "),
-    ("README.md", "all public functions | "),
+    ("README.md", "To be believed: that "),
+    ("docs/proved.md", "for all public functions "),
+    ("docs/proved.md", "beside the contract of `dm_main` itself, "),
+    ("docs/proved.md", "the host and its stack | "),
 )
 
 
