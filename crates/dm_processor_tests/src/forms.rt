@@ -41,6 +41,8 @@ OR CX,AX       | 09 C1       |                                        | CX=3366 
 OR CX,[BX]     | 0B 0F       | 2000:7788=0001                         | CX=3345
 XOR AX,AX      | 31 C0       | FL=FFD7                                | AX=0000 FL=F756
 XOR AX,1021    | 35 21 10    |                                        | AX=0103 FL=F006
+TEST AX,CX     | 85 C8       |                                        | FL=F006
+TEST AX,AX     | 85 C0       | AX=8000 FL=FFD7                        | FL=F796
 # INC and DEC keep the carry.
 INC AX         | 40          | AX=00FF                                | AX=0100 FL=F016
 INC DI         | 47          |                                        | DI=0401
@@ -77,7 +79,9 @@ OR AL,80             | 0C 80          |                | AX=11A2 FL=F082
 XOR AL,FF            | 34 FF          |                | AX=11DD FL=F086
 XOR AH,BL            | 30 DC          |                | AX=9922 FL=F086
 XOR AH,[SI]          | 32 24          | 2000:0300=01   | AX=1022
-XOR AH,SS:[SI]       | 36 32 24       | 3000:0300=11   | AX=0022 FL=F046";
+XOR AH,SS:[SI]       | 36 32 24       | 3000:0300=11   | AX=0022 FL=F046
+TEST AL,AH           | 84 E0          |                | FL=F046
+TEST BL,BL           | 84 DB          | FL=FFD7        | FL=F796";
 
 /// Jumps backwards, taken and not. Displacements are extended by sign; IP wraps.
 const JUMPS: &str = "\
