@@ -4,7 +4,7 @@ ghost use Rattle.std.specs.Prelude.{◌≡◌};
 
 use std::marker::Model;
 
-/// What a packet carries, with its escapes undone. Contracts see the list of bytes.
+/// Bytes that a packet carries: all of them, or those that some part of them spells. Contracts see the list of bytes.
 #[derive(Drop)]
 pub struct Payload {
     bytes: Vec<u8>,
@@ -20,7 +20,7 @@ impl Model for Payload {
 
 impl Payload {
     /// The payload of these bytes.
-    pub(crate) fn new(bytes: Vec<u8>) -> Payload
+    pub fn new(bytes: Vec<u8>) -> Payload
         ensures { result ≡ bytes.items }
     {
         Payload { bytes }

@@ -21,6 +21,8 @@ mod packets;
 #[cfg(test)]
 mod regions;
 #[cfg(test)]
+mod requests;
+#[cfg(test)]
 mod rows;
 #[cfg(test)]
 mod space;
