@@ -11,4 +11,5 @@ mod reading;
 mod words;
 
 pub use command::{Bytes, Command, LogicalAddress};
+pub use numbers::read_number;
 pub use reading::read_command;

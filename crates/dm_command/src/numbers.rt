@@ -27,7 +27,7 @@ fn digit(byte: u8) -> Option<u8>
 
 /// The number that a word of one to eight hexadecimal digits spells; None for any other word.
 #[tactic(auto, unfolding(crate::specs::Numbers::number_of))]
-pub(crate) fn read_number(word: &[u8]) -> Option<u32>
+pub fn read_number(word: &[u8]) -> Option<u32>
     ensures { result ≡ number_of word.now }
 {
     if word.is_empty() || DIGITS < word.len() {

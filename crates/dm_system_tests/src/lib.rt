@@ -1,5 +1,5 @@
 //! Worked rows for what surrounds the processor: regions of bytes, blocks of a pool, memory as a program sees it,
-//! room for output, the program's writers, and the lines of the debugger.
+//! room for output, the program's writers, the lines of the debugger, and the packets of another one.
 //!
 //! They are apart from the crates that they test, because a crate with tests is proved twice.
 #![tactic(auto)]
@@ -17,7 +17,11 @@ mod lines;
 #[cfg(test)]
 mod memory;
 #[cfg(test)]
+mod packets;
+#[cfg(test)]
 mod regions;
+#[cfg(test)]
+mod requests;
 #[cfg(test)]
 mod rows;
 #[cfg(test)]

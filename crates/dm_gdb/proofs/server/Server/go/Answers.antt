@@ -1,0 +1,9 @@
+use Rattle.std.proofs.Common.{ap, ◌∙◌}
+use Rattle.dm_gdb.specs.Servers.{Served}
+use Rattle.dm_gdb.proofs.Replying.{goes_as}
+use Rattle.dm_gdb.proofs.server.Server.go.Goals as goal
+
+pub returns-clause-goes : goal.returns-clause-goes
+returns-clause-goes c =
+    goes_as _ _ _ _ _ _ _ _ c.go_on.ensures.goes (c.as_slice.ensures.value ∙ ap (λ (s : Served). s.points) c.self.view_is)
+    (ap (λ (s : Served). s.session.machine) c.self.view_is)

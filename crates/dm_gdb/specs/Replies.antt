@@ -1,0 +1,39 @@
+-- Replies, and their texts.
+-- Source: GDB manual, "GDB Remote Serial Protocol", "Stop Reply Packets", "General Query Packets" and "vCont". Which stop
+-- is which signal is this server's own choice.
+use Rattle.std.specs.Prelude.{ℕ, List, [], ◌∷◌, codes}
+use Rattle.hex.specs.Hex.{encode_lower}
+use Rattle.dm_state.specs.declared.stop.Stop.{Stop}
+use Rattle.dm_state.specs.declared.stop.Stop.TheVariants as stop
+use Rattle.dm_gdb.specs.declared.replies.Reply.{Reply}
+use Rattle.dm_gdb.specs.declared.replies.Reply.TheVariants as reply
+
+-- what is replied where the steps of the program have ended for this reason
+abbrev pub stop_reply : Stop → Reply
+stop_reply stop.Steps = reply.Signal 0x0E
+stop_reply (stop.Exited code) = reply.Exited code
+stop_reply stop.Halted = reply.Signal 0x11
+stop_reply stop.Unlisted = reply.Signal 0x04
+stop_reply stop.InputEnded = reply.Signal 0x15
+stop_reply stop.Destroyed = reply.Signal 0x06
+stop_reply stop.Memory = reply.Signal 0x1E
+
+-- a letter and a number in two hexadecimal digits
+abbrev pub hex_text : ℕ → ℕ → List ℕ
+hex_text letter number = letter ∷ encode_lower (number ∷ [])
+
+-- the text of a reply, without the frame of its packet
+abbrev pub reply_text : Reply → List ℕ
+reply_text reply.Unknown = []
+reply_text reply.Done = codes "OK"
+reply_text (reply.Refused number) = hex_text 69 number
+reply_text (reply.Signal number) = hex_text 84 number
+reply_text reply.Breakpoint = codes "T05swbreak:;"
+reply_text (reply.Exited code) = hex_text 87 code
+reply_text (reply.Bytes bytes) = encode_lower bytes
+reply_text reply.Abilities = codes "PacketSize=4000;swbreak+;QStartNoAckMode+;vContSupported+"
+reply_text reply.ContinueKinds = codes "vCont;c;C;s;S;r"
+reply_text reply.CurrentThread = codes "QC1"
+reply_text reply.Threads = codes "m1"
+reply_text reply.NoMoreThreads = codes "l"
+reply_text reply.Started = codes "0"

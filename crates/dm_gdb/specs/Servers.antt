@@ -1,0 +1,158 @@
+-- A session of the protocol: what each request changes, and what is replied.
+-- Source: GDB manual, "GDB Remote Serial Protocol", "Packets", "General Query Packets" and "vCont".
+use Rattle.std.specs.Prelude.{◌≡◌, ◌<◌, ◌≤◌, ◌⊎◌, ℕ, ◌+◌, ◌-◌, ◌*◌, Bool, true, false, ◌==◌, nat_lt, if◌then◌else◌, List, [], ◌∷◌, ◌++◌, length, drop, position, remove, Option, Some, None}
+use Rattle.hex.specs.Hex.{encode_lower}
+use Rattle.dm_state.specs.declared.stop.Stop.{Stop}
+use Rattle.dm_state.specs.declared.stop.Stop.TheVariants as stop
+use Rattle.dm_state.specs.State.{State}
+use Rattle.dm_space.specs.Memory.{Memory}
+use Rattle.dm_space.specs.Buffers.{with_bytes}
+use Rattle.dm_debug.specs.Debugged.{Debugged}
+use Rattle.dm_debug.specs.Sessions.{new_session, with_machine}
+use Rattle.dm_requests.specs.declared.request.Access.{Access}
+use Rattle.dm_requests.specs.declared.request.Access.TheVariants.{Execute}
+use Rattle.dm_requests.specs.declared.request.Point.{Point}
+use Rattle.dm_requests.specs.declared.request.Request.{Request}
+use Rattle.dm_requests.specs.declared.request.Request.TheVariants as request
+use Rattle.dm_gdb.specs.declared.replies.Reply.{Reply}
+use Rattle.dm_gdb.specs.declared.replies.Reply.TheVariants as reply
+use Rattle.dm_gdb.specs.Memory.{byte_at, segment_below, readable, bytes_from}
+use Rattle.dm_gdb.specs.Registers.{has_register, register_bytes, all_registers}
+use Rattle.dm_gdb.specs.Going.{is_among, place_of, Continues}
+use Rattle.dm_gdb.specs.Replies.{stop_reply}
+
+-- the session of the debugger, the linear addresses of breakpoints, and how many bytes of the console's output were sent
+pub record Served : Type 0 where
+  pub session : Debugged
+  pub points : List ℕ
+  pub shown : ℕ
+
+-- the session over a machine, without breakpoints
+abbrev pub new_server : State → Served
+new_server m = record { session = new_session m; points = []; shown = 0 }
+
+-- the reply to a request that asks for nothing of the machine, or for nothing that this server has
+abbrev pub plain_reply : Request → Reply
+plain_reply request.Why = reply.Signal 0x05
+plain_reply request.Supported = reply.Abilities
+plain_reply request.Attached = reply.Started
+plain_reply request.CurrentThread = reply.CurrentThread
+plain_reply request.FirstThreads = reply.Threads
+plain_reply request.MoreThreads = reply.NoMoreThreads
+plain_reply request.ContinueKinds = reply.ContinueKinds
+plain_reply request.Symbols = reply.Done
+plain_reply request.StopAcknowledging = reply.Done
+plain_reply request.SetThread = reply.Done
+plain_reply request.IsAlive = reply.Done
+plain_reply request.Extended = reply.Done
+plain_reply request.Kill = reply.Done
+plain_reply request.Detach = reply.Done
+plain_reply request.Malformed = reply.Refused 0x01
+plain_reply _ = reply.Unknown
+
+-- the reply where steps ended for this reason; None at a breakpoint, or out of a range
+abbrev pub arrival_reply : List ℕ → Option Stop → State → Reply
+arrival_reply points (Some why) s = stop_reply why
+arrival_reply points None s = if is_among points (place_of s) then reply.Breakpoint else reply.Signal 0x05
+
+-- the reply where the steps of one step or of a range ended for this reason; None at a breakpoint, or out of the range
+abbrev pub step_reply : List ℕ → Option Stop → State → Reply
+step_reply points (Some stop.Steps) s = reply.Signal 0x05
+step_reply points why s = arrival_reply points why s
+
+-- the bytes of a register in hexadecimal; an error if there is none of this number
+abbrev pub register_reply : State → ℕ → Reply
+register_reply s n = if has_register n then reply.Bytes (register_bytes s n) else reply.Refused 0x01
+
+-- bytes from an address up; fewer where memory ends, and an error where there is none at the address
+abbrev pub memory_reply : Memory → ℕ → ℕ → Reply
+memory_reply m address count = if nat_lt 0x10FFEF address then reply.Refused 0x0E else reply.Bytes (bytes_from m address (readable address count))
+
+-- whether memory has these bytes from an address up
+abbrev pub reads_as : Memory → ℕ → List ℕ → Bool
+reads_as m address [] = true
+reads_as m address (b ∷ bs) = if byte_at m address == b then reads_as m (address + 1) bs else false
+
+-- the reply to a write: an error if memory does not have the bytes after it, because some of it is ROM or nothing
+abbrev pub written_reply : Memory → ℕ → List ℕ → Reply
+written_reply m address bytes = if reads_as m address bytes then reply.Done else reply.Refused 0x0E
+
+-- the memory after a write of bytes from an address up
+abbrev pub written : Memory → ℕ → List ℕ → Memory
+written m address bytes = with_bytes m (segment_below address) (address - segment_below address * 16) bytes
+
+-- the session with t as the state of its machine
+abbrev pub at_state : Served → State → Served
+at_state s t = record s { session = with_machine s.session t }
+
+-- the session after a write
+abbrev pub with_written : Served → ℕ → List ℕ → Served
+with_written s address bytes = at_state s (record s.session.machine { memory = written s.session.machine.memory address bytes })
+
+-- the breakpoints with one at an address, at the end unless it is set already
+abbrev pub with_point : List ℕ → ℕ → List ℕ
+with_point points address = if is_among points address then points else points ++ address ∷ []
+
+-- the breakpoints without the one at this place of the list; for None, all of them
+abbrev pub without_place : Option ℕ → List ℕ → List ℕ
+without_place None points = points
+without_place (Some k) points = remove points k
+
+-- the breakpoints without the one at an address, if it is set
+abbrev pub without_point : List ℕ → ℕ → List ℕ
+without_point points address = without_place (position (λ p. p == address) points) points
+
+-- whether this is the access of a breakpoint
+abbrev pub is_execute : Access → Bool
+is_execute Execute = true
+is_execute _ = false
+
+-- the reply to a request to set or remove a point of this access: empty for watchpoints, which this server does not have
+abbrev pub point_reply : Access → Reply
+point_reply access = if is_execute access then reply.Done else reply.Unknown
+
+-- the session after a request to set a point: with a breakpoint more, or as it is for a watchpoint
+abbrev pub with_inserted : Served → Point → Served
+with_inserted s point = if is_execute point.access then record s { points = with_point s.points point.address } else s
+
+-- the session after a request to remove a point: without the breakpoint, or as it is for a watchpoint
+abbrev pub with_removed : Served → Point → Served
+with_removed s point = if is_execute point.access then record s { points = without_point s.points point.address } else s
+
+-- whether the request asks for nothing of the machine, or for nothing that this server has, as steps back
+abbrev pub is_plain : Request → Bool
+is_plain request.Registers = false
+is_plain (request.Register n) = false
+is_plain (request.Memory address count) = false
+is_plain (request.SetMemory address bytes) = false
+is_plain (request.Insert point) = false
+is_plain (request.Remove point) = false
+is_plain request.Step = false
+is_plain request.Continue = false
+is_plain (request.Range start end) = false
+is_plain _ = true
+
+-- what is replied to a request, and the session after it; a way to go on makes at most `most` steps
+pub data Replies (s : Served) (most : ℕ) : Request → Reply → Served → Type 0 where
+  plain : (r : Request) → is_plain r ≡ true → Replies s most r (plain_reply r) s
+  registers : Replies s most request.Registers (reply.Bytes (all_registers s.session.machine)) s
+  register : (n : ℕ) → Replies s most (request.Register n) (register_reply s.session.machine n) s
+  memory : (address count : ℕ) → Replies s most (request.Memory address count) (memory_reply s.session.machine.memory address count) s
+  writes : (address : ℕ) (bytes : List ℕ) → address ≤ 0x10FFEF → address + length bytes ≤ 0x10FFF0
+      → Replies s most (request.SetMemory address bytes) (written_reply (written s.session.machine.memory address bytes) address bytes) (with_written s address bytes)
+  out_of_reach : (address : ℕ) (bytes : List ℕ) → (0x10FFEF < address) ⊎ (0x10FFF0 < address + length bytes) → Replies s most (request.SetMemory address bytes) (reply.Refused 0x0E) s
+  inserts : (point : Point) → Replies s most (request.Insert point) (point_reply point.access) (with_inserted s point)
+  removes : (point : Point) → Replies s most (request.Remove point) (point_reply point.access) (with_removed s point)
+  steps : (why : Option Stop) (t : State) → Continues s.points None s.session.machine 1 why t → Replies s most request.Step (step_reply s.points why t) (at_state s t)
+  continues : (why : Option Stop) (t : State) → Continues s.points None s.session.machine most why t → Replies s most request.Continue (arrival_reply s.points why t) (at_state s t)
+  ranges : (start end : ℕ) (why : Option Stop) (t : State) → Continues s.points (Some (record { start = start; end = end })) s.session.machine most why t
+      → Replies s most (request.Range start end) (step_reply s.points why t) (at_state s t)
+
+-- the packet of console output that was not sent yet: `O` and the bytes in hexadecimal
+abbrev pub console_text : Served → List ℕ
+console_text s = 79 ∷ encode_lower (drop s.shown s.session.machine.console.output)
+
+-- output that was not sent yet is appended as a packet, and counts as sent; or there is none, and nothing changes
+abbrev pub PutsConsole : Served → List ℕ → Bool → List ℕ → Served → Type 0
+PutsConsole s before true after t = (s.shown < length s.session.machine.console.output) × (after ≡ before ++ console_text s) × (t ≡ record s { shown = length s.session.machine.console.output })
+PutsConsole s before false after t = (length s.session.machine.console.output ≤ s.shown) × (after ≡ before) × (t ≡ s)

@@ -1,0 +1,15 @@
+//! A session of GDB's remote serial protocol: what each request changes, and what is replied.
+//!
+//! Source: the GDB manual, appendix "GDB Remote Serial Protocol". Addresses are linear: segment * 16 + offset.
+#![tactic(auto)]
+
+mod answers;
+mod digits;
+mod going;
+mod memory;
+mod registers;
+mod replies;
+mod server;
+
+pub use replies::{Reply, put_reply};
+pub use server::Server;

@@ -1,0 +1,293 @@
+//! A session of the protocol: a machine, its breakpoints, and what each request changes and is replied.
+
+ghost use Rattle.std.specs.Prelude.{◌≡◌, ◌≤◌, ◌<◌, ◌+◌, ◌==◌, ℕ, OnOk, OnErr, IfOk, IfSome, length, position};
+ghost use Rattle.dm_state.specs.State.{HasProgram};
+ghost use Rattle.dm_gdb.specs.Going.{Continues};
+ghost use Rattle.dm_gdb.specs.Servers.{PutsConsole, Replies, arrival_reply, at_state, is_execute, new_server, plain_reply, point_reply, step_reply, with_inserted, with_point, with_removed, with_written, without_point, written, written_reply};
+
+use crate::answers::{memory_reply, reads_as, register_reply};
+use crate::digits::put_hex;
+use crate::going::{Span, go_on, is_among, place_of};
+use crate::memory::{LAST, segment_below};
+use crate::registers::all_registers;
+use crate::replies::{BAD, NO_MEMORY, Reply, stop_reply};
+use dm_debug::Session;
+use dm_machine::{Machine, Stop};
+use dm_packets::Payload;
+use dm_requests::{Access, Point, Request};
+use std::alloc::{AllocError, Global};
+use std::marker::Model;
+
+/// A machine that is debugged over the protocol: with its breakpoints, by linear addresses, and how much of the console's
+/// output the debugger was sent.
+///
+/// Contracts see the session of the debugger, the addresses, and how many bytes of output were sent.
+#[derive(Drop)]
+pub struct Server {
+    alloc: Global,
+    session: Session,
+    points: Vec<u32>,
+    shown: usize,
+}
+
+impl Model for Server {
+    ghost use Rattle.dm_gdb.specs.Servers.{Served};
+
+    ghost Value = { Served };
+
+    ghost view = { λ s. record { session = s.session; points = s.points.items; shown = s.shown } };
+}
+
+/// The reply to a request that asks for nothing of the machine, or for nothing that this server has.
+fn plain_reply(request: &Request) -> Reply
+    ensures { result ≡ plain_reply request.now }
+{
+    match request {
+        Request::Why => Reply::Signal(0x05),
+        Request::Supported => Reply::Abilities,
+        Request::Attached => Reply::Started,
+        Request::CurrentThread => Reply::CurrentThread,
+        Request::FirstThreads => Reply::Threads,
+        Request::MoreThreads => Reply::NoMoreThreads,
+        Request::ContinueKinds => Reply::ContinueKinds,
+        Request::Symbols => Reply::Done,
+        Request::StopAcknowledging => Reply::Done,
+        Request::SetThread => Reply::Done,
+        Request::IsAlive => Reply::Done,
+        Request::Extended => Reply::Done,
+        Request::Kill => Reply::Done,
+        Request::Detach => Reply::Done,
+        Request::Malformed => Reply::Refused(BAD),
+        _ => Reply::Unknown,
+    }
+}
+
+/// The reply where steps ended: at the machine's breakpoint, behind a range, or for another reason.
+fn arrival_reply(points: &[u32], stop: Option<Stop>, machine: &Machine) -> Reply
+    ensures { result ≡ arrival_reply points.now stop machine.now }
+{
+    match stop {
+        Some(stop) => stop_reply(stop),
+        None => {
+            if is_among(points, place_of(machine)) {
+                Reply::Breakpoint
+            } else {
+                Reply::Signal(0x05)
+            }
+        }
+    }
+}
+
+/// The reply where the steps of one step or of a range ended: no more steps are a step that was made.
+fn step_reply(points: &[u32], stop: Option<Stop>, machine: &Machine) -> Reply
+    ensures { result ≡ step_reply points.now stop machine.now }
+{
+    match stop {
+        Some(Stop::Steps) => Reply::Signal(0x05),
+        _ => arrival_reply(points, stop, machine),
+    }
+}
+
+/// The index of an address among these; None if it is not among them.
+fn place_among(points: &[u32], address: u32) -> Option<usize>
+    ensures first { result ≡ position (λ p. p == address) points.now }
+    ensures there { IfSome result (λ k. k < length points.now) }
+{
+    points.iter().position(|point| *point == address)
+}
+
+/// Whether this is the access of a breakpoint.
+fn is_execute(access: Access) -> bool
+    ensures { result ≡ is_execute access }
+{
+    match access {
+        Access::Execute => true,
+        _ => false,
+    }
+}
+
+impl Server {
+    /// A session over a machine on which a program is loaded, without breakpoints.
+    pub fn new(alloc: Global, machine: Machine) -> Server
+        requires { HasProgram machine }
+        ensures { result ≡ new_server machine }
+    {
+        Server {
+            alloc,
+            session: Session::new(machine),
+            points: Vec::new(alloc),
+            shown: 0,
+        }
+    }
+
+    /// The machine.
+    pub fn machine(&self) -> &Machine
+        ensures { result.now ≡ self.now.session.machine }
+    {
+        self.session.machine()
+    }
+
+    /// Sets a breakpoint, unless it is set. An `Err` is a failed allocation, and nothing has changed.
+    fn set(&mut self, address: u32) -> Result<(), AllocError>
+        ensures ok { OnOk result (self.new ≡ record self.old { points = with_point self.old.points address }) }
+        ensures err { OnErr result (self.new ≡ self.old) }
+    {
+        if !is_among(self.points.as_slice(), address) {
+            self.points.push(address)?;
+        }
+        Ok(())
+    }
+
+    /// Removes a breakpoint, if it is set.
+    fn clear(&mut self, address: u32)
+        ensures { self.new ≡ record self.old { points = without_point self.old.points address } }
+    {
+        if let Some(at) = place_among(self.points.as_slice(), address) {
+            self.points.remove(at);
+        }
+    }
+
+    /// Writes bytes from an address up, which end at FFFF:FFFF or before, and returns the reply.
+    fn write(&mut self, address: u32, bytes: &[u8]) -> Reply
+        requires there { address ≤ 0x10FFEF }
+        requires ends { address + length bytes.now ≤ 0x10FFF0 }
+        ensures after { self.new ≡ with_written self.old address bytes.now }
+        ensures reply { result ≡ written_reply (written self.old.session.machine.memory address bytes.now) address bytes.now }
+    {
+        let segment = segment_below(address);
+        self.session
+            .write(segment, (address - segment as u32 * 16) as u16, bytes);
+        if reads_as(self.session.machine().space(), address, bytes) {
+            Reply::Done
+        } else {
+            Reply::Refused(NO_MEMORY)
+        }
+    }
+
+    /// Makes at most `most` steps, but none after one that led to a breakpoint or out of the range: None then, else why the
+    /// steps ended. Nothing but the machine changes.
+    fn go(&mut self, most: u64, span: Option<Span>) -> Option<Stop>
+        ensures goes { Continues self.old.points span self.old.session.machine most result self.new.session.machine }
+        ensures same { self.new ≡ at_state self.old self.new.session.machine }
+    {
+        go_on(&mut self.session, most, span, self.points.as_slice())
+    }
+
+    /// `Z`: sets a breakpoint; the reply is empty for watchpoints, which this server does not have. An `Err` is a failed
+    /// allocation, and nothing has changed.
+    fn insert(&mut self, point: Point) -> Result<Reply, AllocError>
+        ensures ok { OnOk result (self.new ≡ with_inserted self.old point) }
+        ensures reply { IfOk result (λ r. r ≡ point_reply point.access) }
+        ensures err { OnErr result (self.new ≡ self.old) }
+    {
+        if !is_execute(point.access) {
+            return Ok(Reply::Unknown);
+        }
+        self.set(point.address)?;
+        Ok(Reply::Done)
+    }
+
+    /// `z`: removes a breakpoint; the reply is empty for watchpoints, which this server does not have.
+    fn remove(&mut self, point: Point) -> Reply
+        ensures after { self.new ≡ with_removed self.old point }
+        ensures reply { result ≡ point_reply point.access }
+    {
+        if !is_execute(point.access) {
+            return Reply::Unknown;
+        }
+        self.clear(point.address);
+        Reply::Done
+    }
+
+    /// `M`: writes bytes, and returns the reply; nothing is written if they would end behind FFFF:FFFF.
+    fn set_memory(&mut self, address: u32, bytes: &[u8]) -> Reply
+        ensures { (most : ℕ) → Replies self.old most (Request.SetMemory address bytes.now) result self.new }
+    {
+        if LAST < address {
+            return Reply::Refused(NO_MEMORY);
+        }
+        if (LAST + 1 - address) as usize >= bytes.len() {
+            self.write(address, bytes)
+        } else {
+            Reply::Refused(NO_MEMORY)
+        }
+    }
+
+    /// Executes a request, and returns what is replied. A way to go on makes at most `most` steps. A breakpoint is at a
+    /// linear address, whatever the segment; a step that leads to one is replied as a breakpoint, in `s` too. The bytes of
+    /// `M` to ROM, or where there is no memory, are lost, and the others are written. Memory is read and written as a
+    /// program would through the highest segment below the address.
+    ///
+    /// # Errors
+    ///
+    /// `AllocError`, and nothing has changed.
+    pub fn answer(&mut self, request: &Request, most: u64) -> Result<Reply, AllocError>
+        ensures ok { IfOk result (λ r. Replies self.old most request.now r self.new) }
+        ensures err { OnErr result (self.new ≡ self.old) }
+    {
+        match request {
+            Request::Registers => {
+                let bytes = all_registers(self.alloc, self.session.machine())?;
+                Ok(Reply::Bytes(Payload::new(bytes)))
+            }
+            Request::Register(number) => {
+                register_reply(self.alloc, self.session.machine(), *number)
+            }
+            Request::Memory(address, count) => {
+                memory_reply(self.alloc, self.session.machine().space(), *address, *count)
+            }
+            Request::SetMemory(address, bytes) => Ok(self.set_memory(*address, bytes.as_slice())),
+            Request::Insert(point) => self.insert(*point),
+            Request::Remove(point) => Ok(self.remove(*point)),
+            Request::Step => Ok(self.step()),
+            Request::Continue => Ok(self.continue_to(most)),
+            Request::Range(start, end) => Ok(self.step_through(*start, *end, most)),
+            _ => Ok(plain_reply(request)),
+        }
+    }
+
+    /// `s`: one step, or why there was none.
+    fn step(&mut self) -> Reply
+        ensures { (most : ℕ) → Replies self.old most Request.Step result self.new }
+    {
+        let stop = self.go(1, None);
+        step_reply(self.points.as_slice(), stop, self.session.machine())
+    }
+
+    /// `c`: at most `most` steps, up to a breakpoint or a stop.
+    fn continue_to(&mut self, most: u64) -> Reply
+        ensures { Replies self.old most Request.Continue result self.new }
+    {
+        let stop = self.go(most, None);
+        arrival_reply(self.points.as_slice(), stop, self.session.machine())
+    }
+
+    /// `vCont;r`: at most `most` steps, up to a breakpoint, the end of the range or a stop.
+    fn step_through(&mut self, start: u32, end: u32, most: u64) -> Reply
+        ensures { Replies self.old most (Request.Range start end) result self.new }
+    {
+        let stop = self.go(most, Some(Span { start, end }));
+        step_reply(self.points.as_slice(), stop, self.session.machine())
+    }
+
+    /// Appends the packet of console output that the debugger was not sent yet, `O` and the bytes in two digits each, and
+    /// counts it as sent; appends nothing if there is none. Returns whether there was some.
+    ///
+    /// # Errors
+    ///
+    /// `AllocError`, and nothing counts as sent; a first part of the text may have been appended.
+    pub fn put_console(&mut self, out: &mut Vec<u8>) -> Result<bool, AllocError>
+        ensures ok { IfOk result (λ some. PutsConsole self.old out.old.items some out.new.items self.new) }
+        ensures err { OnErr result (self.new ≡ self.old) }
+    {
+        let output = self.session.machine().output();
+        let count = output.len();
+        if count <= self.shown {
+            return Ok(false);
+        }
+        out.extend_from_slice(b"O")?;
+        put_hex(self.alloc, out, &output[self.shown..])?;
+        self.shown = count;
+        Ok(true)
+    }
+}

@@ -1,0 +1,4 @@
+pub mod Sums
+pub mod Escaping
+pub mod Streaming
+pub mod Framing

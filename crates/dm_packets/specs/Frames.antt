@@ -1,0 +1,14 @@
+-- The bytes of a packet as it is sent.
+-- Source: GDB manual, "GDB Remote Serial Protocol", "Overview".
+use Rattle.std.specs.Prelude.{ℕ, List, [], ◌∷◌, ◌++◌}
+use Rattle.hex.specs.Hex.{encode_lower}
+use Rattle.dm_packets.specs.Checks.{checksum_of}
+use Rattle.dm_packets.specs.Escapes.{escaped}
+
+-- a packet with this content: `$`, the content, `#`, and the checksum of the content in two hexadecimal digits
+abbrev pub frame_around : List ℕ → List ℕ
+frame_around content = 36 ∷ content ++ 35 ∷ encode_lower (checksum_of content ∷ [])
+
+-- the packet that carries these bytes
+abbrev pub frame_of : List ℕ → List ℕ
+frame_of payload = frame_around (escaped payload)

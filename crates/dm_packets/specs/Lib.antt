@@ -1,0 +1,8 @@
+pub mod Checks
+pub mod Escapes
+pub mod Frames
+pub mod Reading
+pub mod Streams
+pub mod Links
+pub mod Laws
+pub mod inner

@@ -1,0 +1,12 @@
+//! The requests of GDB's remote serial protocol: what a packet's bytes ask for.
+//!
+//! Source: the GDB manual, appendix "GDB Remote Serial Protocol", sections "Packets", "General Query Packets" and "vCont".
+#![tactic(auto)]
+
+mod arguments;
+mod names;
+mod reading;
+mod request;
+
+pub use reading::read_request;
+pub use request::{Access, Point, Request};
