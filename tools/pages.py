@@ -313,12 +313,12 @@ def zsh_option(name, option):
 
 def zsh_completion(program):
     """The text of the completion for zsh."""
-    text = [f"#compdef dm\n# Completion of dm for zsh, made from its help (Mezguld {versions.version()}).\n", "local -a commands", "commands=("]
+    text = [f"#compdef dm\n# Completion of dm for zsh, made from its help (Mezguld {versions.version()}).\n", "local -a subcommands", "subcommands=("]
     text += [f"    '{name}:{quoted(about)}'" for name, about in program.top.commands.items()]
     text += [")", "if ((CURRENT == 2)); then"]
-    text += [f"    _arguments {' '.join(zsh_option('', it) for it in program.top.options)} && return", "    _describe command commands", "    return", "fi"]
-    text += ["local command=$words[2]", "shift words", "((CURRENT--))", "case $command in"]
+    text += [f"    _arguments {' '.join(zsh_option('', it) for it in program.top.options)} && return", "    _describe command subcommands", "    return", "fi"]
+    text += ["local subcommand=$words[2]", "shift words", "((CURRENT--))", "case $subcommand in"]
     for name, command in program.commands.items():
         words = [*(zsh_option(name, it) for it in command.options), *(zsh_argument(name, it) for it in command.arguments)]
         text += [f"    {name})", "        _arguments \\", " \\\n".join(f"            {word}" for word in words), "        ;;"]
-    return "\n".join([*text, "    help) _describe command commands ;;", "esac"]) + "\n"
+    return "\n".join([*text, "    help) _describe command subcommands ;;", "esac"]) + "\n"
