@@ -315,8 +315,9 @@ def zsh_completion(program):
     """The text of the completion for zsh."""
     text = [f"#compdef dm\n# Completion of dm for zsh, made from its help (Mezguld {versions.version()}).\n", "local -a subcommands", "subcommands=("]
     text += [f"    '{name}:{quoted(about)}'" for name, about in program.top.commands.items()]
-    text += [")", "if ((CURRENT == 2)); then"]
-    text += [f"    _arguments {' '.join(zsh_option('', it) for it in program.top.options)} && return", "    _describe command subcommands", "    return", "fi"]
+    text += [")", "if ((CURRENT == 2)); then", "    if [[ $words[2] == -* ]]; then"]
+    text += [f"        _arguments {' '.join(zsh_option('', it) for it in program.top.options)}"]
+    text += ["    else", "        _describe command subcommands", "    fi", "    return", "fi"]
     text += ["local subcommand=$words[2]", "shift words", "((CURRENT--))", "case $subcommand in"]
     for name, command in program.commands.items():
         words = [*(zsh_option(name, it) for it in command.options), *(zsh_argument(name, it) for it in command.arguments)]
