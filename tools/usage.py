@@ -1,7 +1,7 @@
 """The commands and options of `dm` as its own help gives them, and the tables of docs/manual.md: what man pages and completions are made from.
 
-`dm --help` and `dm COMMAND --help` are the one table of commands, arguments, options, defaults and limits; the manual's tables have what help does not say: exit
-statuses, stops, faults, the debugger's commands. `faults` compares the two where both say the same thing.
+`dm --help` and `dm COMMAND --help` are the one table of commands, arguments, options, defaults and limits; the manual's tables have what help does not say:
+exit statuses, stops, faults, the debugger's commands. `faults` compares the two where both say the same thing.
 """
 import os
 import re

@@ -77,7 +77,8 @@ class Told(unittest.TestCase):
         example = re.search(r"\n\n((?:    .*\n|\n)+)", mezguld.__doc__ or "")
         self.assertIsNotNone(example)
         code = "\n".join(line[4:] for line in example[1].split("\n")) if example else ""
-        ran = subprocess.run([sys.executable, "-c", code], env={**os.environ, "PYTHONPATH": os.path.dirname(PACKAGE)}, capture_output=True, timeout=60, check=False)
+        environment = {**os.environ, "PYTHONPATH": os.path.dirname(PACKAGE)}
+        ran = subprocess.run([sys.executable, "-c", code], env=environment, capture_output=True, timeout=60, check=False)
         self.assertEqual((ran.returncode, ran.stdout), (0, b"b'!'\n"))
 
 

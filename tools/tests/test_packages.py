@@ -1,5 +1,5 @@
-"""Tests of the modules behind the packages: each planted difference between versions, or between help and the manual, is reported, and a list of an installation
-that is none is refused. From the top: `python3 -m unittest discover -s tools/tests`."""
+"""Tests of the modules behind the packages: each planted difference between versions, or between help and the manual, is reported, and a list of an
+installation that is none is refused. From the top: `python3 -m unittest discover -s tools/tests`."""
 import contextlib
 import importlib.machinery
 import importlib.util
