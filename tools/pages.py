@@ -293,8 +293,9 @@ def quoted(text):
 
 
 def zsh_files(ends):
-    pattern = globs(ends)
-    return f'_files -g "({pattern})"' if pattern else "_files"
+    # (zsh takes a last pair of parentheses without a bar for something else.)
+    pattern = f"({globs(ends)})" if len(ends) > 1 else globs(ends)
+    return f'_files -g "{pattern}"' if pattern else "_files"
 
 
 def zsh_argument(name, argument):
