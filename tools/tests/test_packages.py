@@ -32,7 +32,7 @@ Does something
 Usage: dm run [OPTIONS] <FILES>...
 
 Arguments:
-  <FILES>...  The program
+  <FILES>...  The program; at most 16 MiB
 
 Options:
       --ems <PAGES>   Pages; at most 512 [default: 64]
@@ -61,11 +61,21 @@ Example: dm run X.COM"""
 HELPS = (
     ("[default: 64]", "[default: 65]", "the default of --ems is 64, and 65"),
     ("at most 15360", "at most 15361", "the range of --xms"),
+    ("at most 16 MiB", "at most 17 MiB", "no limit is 17 MiB"),
     ("      --upper         Upper memory\n", "", "the option --upper is not in the help"),
     ("      --upper ", "      --lower ", "the option --lower is not in the table"),
     ("--steps <N>", "--steps <M>", "the usage of dm run"),
     ("Example: dm run X.COM", "", "no example"),
     ("  -h, --help ", "  -h --help ", "has the line"),
+)
+# A text of the manual, another one in its place, and words of the fault.
+MANUALS = (
+    ("| 13 | `SHORT` |", "| 12 | `SHORT` |", "the status SHORT is 12, and 13"),
+    ("| 2 | `IN_USE` |", "| 2 | `USED` |", "the status IN_USE is missing"),
+    ("| 17 to 20 | `LINE_SYNTAX`, `LINE_UNKNOWN`", "| 17 to 20 | `LINE_UNKNOWN`, `LINE_SYNTAX`", "the status LINE_SYNTAX is 18"),
+    ("| 7 | `BREAKPOINT` |", "| 8 | `BREAKPOINT` |", "the stop BREAKPOINT is 8"),
+    ("| `--ems` | pages of 16 KiB | 64 |", "| `--ems` | pages of 16 KiB | 63 |", "the default of --ems is 63"),
+    ("    dm run [--steps N] ", "    dm run ", "the usage of dm run"),
 )
 
 
@@ -112,6 +122,14 @@ class Help(unittest.TestCase):
             with self.subTest(old=old, new=new):
                 self.assertEqual(HELP.count(old), 1)
                 self.assertIn(words, faults_of_help(HELP.replace(old, new)))
+
+    def test_each_difference_of_the_manual_is_reported(self):
+        text = usage.text_of(usage.MANUAL)
+        for old, new, words in MANUALS:
+            with self.subTest(old=old, new=new):
+                self.assertEqual(text.count(old), 1)
+                with mock.patch.object(usage, "text_of", lambda _, new=text.replace(old, new): new):
+                    self.assertIn(words, faults_of_help(HELP))
 
     def test_no_program(self):
         self.assertIn("does not run", " ".join(usage.faults("/no-such-program")))
