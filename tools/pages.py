@@ -226,12 +226,14 @@ def globs(ends, separator="|"):
 BASH = """\
 # Completion of dm for bash, made from its help (Mezguld {version}).
 _dm_files() {{
-    local IFS=$'\\n'
+    # The word as a file's name: without a quote that is open, and without backslashes.
+    local word=${{current#[\\"\\']}}
+    word=${{word//\\\\/}}
     compopt -o filenames 2>/dev/null
     if [ -n "$1" ]; then
-        COMPREPLY=($(shopt -s extglob; compgen -f -X "!@($1)" -- "$current"; compgen -d -- "$current"))
+        mapfile -t COMPREPLY < <(shopt -s extglob; compgen -f -X "!@($1)" -- "$word"; compgen -d -- "$word")
     else
-        COMPREPLY=($(compgen -f -- "$current"))
+        mapfile -t COMPREPLY < <(compgen -f -- "$word")
     fi
 }}
 
