@@ -21,6 +21,12 @@
 #include <stddef.h>
 #include <stdint.h>
 
+/* The version, which `dm --version` prints too. A library with another first number has other functions. */
+#define MEZGULD_VERSION "1.0.0"
+#define MEZGULD_VERSION_MAJOR 1
+#define MEZGULD_VERSION_MINOR 0
+#define MEZGULD_VERSION_PATCH 0
+
 #ifdef __cplusplus
 extern "C" {
 #endif

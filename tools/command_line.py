@@ -53,6 +53,19 @@ def new_file(path):
     return path
 
 
+def new_folder(path):
+    """The path of a folder, or of one that is to be made, as an argument."""
+    whole = os.path.abspath(path)
+    if os.path.lexists(whole) and not os.path.isdir(whole):
+        raise argparse.ArgumentTypeError(f"{path} is no folder")
+    above = whole if os.path.isdir(whole) else os.path.dirname(whole)
+    if not os.path.isdir(above):
+        raise argparse.ArgumentTypeError(f"there is no folder {above}")
+    if not os.access(above, os.W_OK | os.X_OK):
+        raise argparse.ArgumentTypeError(f"{above} cannot be written")
+    return whole
+
+
 def positive(text):
     """A number from 1 on, as an argument."""
     if not re.fullmatch(r"[1-9]\d{0,5}", text):

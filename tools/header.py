@@ -1,4 +1,4 @@
-"""Compares include/mezguld.h with the exports of crates/dm_c, and python/mezguld.py with the header."""
+"""Compares include/mezguld.h with the exports of crates/dm_c, and python/mezguld/__init__.py with the header."""
 import ast
 import glob
 import os
@@ -160,7 +160,7 @@ def status_faults(header, tables, numbers):
 def python_faults(header):
     """The faults of the Python module's tables of parameters and of exceptions, of its stops and of the fields of its registers."""
     tables, classes, numbers = {}, {}, {}
-    for node in ast.parse(text_of("python/mezguld.py")).body:
+    for node in ast.parse(text_of("python/mezguld/__init__.py")).body:
         if isinstance(node, ast.Assign) and isinstance(node.targets[0], ast.Name) and isinstance(node.value, ast.Dict):
             tables[node.targets[0].id] = node.value
         elif isinstance(node, ast.Assign) and isinstance(node.targets[0], ast.Tuple) and isinstance(node.value, ast.Tuple):
@@ -189,10 +189,10 @@ def faults():
     """Each difference, as a line."""
     header, exports = Header(), Exports()
     yield from (f"include/mezguld.h: {fault}" for fault in header_faults(header, exports))
-    yield from (f"python/mezguld.py: {fault}" for fault in python_faults(header))
+    yield from (f"python/mezguld/__init__.py: {fault}" for fault in python_faults(header))
 
 
 def words():
     """The words of the header and of the Python module, the header's names also without their prefix; and those of C and Python in documents."""
-    names = re.findall(r"[A-Za-z_]\w*", text_of("include/mezguld.h") + text_of("python/mezguld.py"))
+    names = re.findall(r"[A-Za-z_]\w*", text_of("include/mezguld.h") + text_of("python/mezguld/__init__.py"))
     return {*names, *[re.sub(r"^MEZGULD_", "", name) for name in names], "MEZGULD_", "malloc", "realloc", "free", "unittest"}

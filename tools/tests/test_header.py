@@ -8,7 +8,7 @@ from unittest import mock
 sys.path.insert(0, os.path.dirname(os.path.dirname(os.path.abspath(__file__))))
 import header  # noqa: E402
 
-HEADER, MODULE = "include/mezguld.h", "python/mezguld.py"
+HEADER, MODULE = "include/mezguld.h", "python/mezguld/__init__.py"
 # A file, a text that is in it once, another one in its place, and words of the fault.
 PLANTED = (
     (HEADER, "MEZGULD_SHORT = 13", "MEZGULD_SHORT = 23", "MEZGULD_SHORT"),

@@ -8,8 +8,9 @@ r"""The proved MS-DOS machine of Mezguld, from Python.
         stopped = machine.run(1000)
         print(machine.output())
 
-The module stands over the C library libmezguld.so (include/mezguld.h), which `tools/library` builds. It looks for the file that the environment
-variable MEZGULD_LIBRARY names, else beside itself, else in build/ of its repository. It needs nothing but the standard library.
+The package stands over the C library libmezguld.so (mezguld.h), which its wheel holds. It loads the file that the environment variable MEZGULD_LIBRARY
+names, else the one in its own folder, else that in build/ of its repository, else what the system's loader finds. It needs nothing but the standard library.
+`__version__` is the version of Mezguld, as `dm --version` prints it.
 
 Bytes are given as `bytes` or any other object with a buffer (`bytearray`, `memoryview`). A number or a list is a `TypeError`; a number out of its
 range is a `ValueError`. Names, tails, lines of the debugger and variables may be a `str`, whose characters are bytes (Latin-1). What the library
@@ -29,8 +30,10 @@ from typing import Any, Callable, Iterable, NamedTuple, NoReturn
 __all__ = [
     "Block", "Blocks", "Error", "Machine", "Registers", "Stop", "Stopped", "assemble", "disassemble",
     "BadFormat", "BadName", "BreakpointsFull", "CommandSyntax", "LineRange", "LineRefused", "LineSyntax", "LineTwice", "LineUnknown", "NameTwice",
-    "NoMachine", "NotFound", "NotLoaded", "OutOfMemory", "Short", "Started", "TailTooLong", "TooLarge", "TooLong", "VariablesTooLong",
+    "NoMachine", "NotFound", "NotLoaded", "OutOfMemory", "Short", "Started", "TailTooLong", "TooLarge", "TooLong", "VariablesTooLong", "__version__",
 ]
+
+__version__ = "1.0.0"
 
 
 # ---- refusals
@@ -289,14 +292,17 @@ _NAME = "libmezguld.so"
 
 
 def _path() -> str:
+    """The library's file, or a name that the system's loader looks for: libraries with another first number of the version have other functions."""
     named = os.environ.get("MEZGULD_LIBRARY")
     if named:
         return named
     here = os.path.dirname(os.path.abspath(__file__))
-    for folder in (here, os.path.join(os.path.dirname(here), "build")):
-        if os.path.exists(os.path.join(folder, _NAME)):
-            return os.path.join(folder, _NAME)
-    raise ImportError(f"{_NAME} is not built: run tools/library")
+    places = [here]
+    # (The package in its repository.)
+    if os.path.exists(os.path.join(os.path.dirname(here), "pyproject.toml")):
+        places.append(os.path.join(os.path.dirname(os.path.dirname(here)), "build"))
+    files = (os.path.join(folder, _NAME) for folder in places)
+    return next(filter(os.path.exists, files), f"{_NAME}.{__version__.split('.', maxsplit=1)[0]}")
 
 
 _PARAMETERS = {
@@ -325,9 +331,16 @@ _TYPES = {
 
 
 def _opened() -> ctypes.CDLL:
-    library = ctypes.CDLL(_path())
+    path = _path()
+    try:
+        library = ctypes.CDLL(path)
+    except OSError as error:
+        hint = "set MEZGULD_LIBRARY to its path, install Mezguld, or run tools/library in its repository"
+        raise ImportError(f"the library {path} cannot be loaded ({error}): {hint}") from error
     for name, parameters in _PARAMETERS.items():
-        function = getattr(library, name)
+        function = getattr(library, name, None)
+        if function is None:
+            raise ImportError(f"the library {path} is not that of Mezguld {__version__}: it has no {name}")
         function.restype = ctypes.c_uint32
         function.argtypes = [_TYPES[letter] for letter in parameters if letter != " "]
     return library
