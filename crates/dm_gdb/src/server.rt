@@ -216,7 +216,8 @@ impl Server {
     /// Executes a request, and returns what is replied. A way to go on makes at most `most` steps. A breakpoint is at a
     /// linear address, whatever the segment; a step that leads to one is replied as a breakpoint, in `s` too. The bytes of
     /// `M` to ROM, or where there is no memory, are lost, and the others are written. Memory is read and written as a
-    /// program would through the highest segment below the address.
+    /// program would through the highest segment below the address. `k` has no reply in the protocol, though one is
+    /// returned for it: the caller ends the conversation and sends nothing.
     ///
     /// # Errors
     ///

@@ -82,7 +82,10 @@ fn check_stream(rt: &impl Abort, alloc: Global, stream: &[u8], wanted: &str) -> 
     Ok(())
 }
 
-/// Definitions: dm_packets Reading Streams Checks Escapes
+/// Definitions: dm_packets Streams Holds read_from
+/// Definitions: dm_packets Reading after received lone_byte whole_packet
+/// Definitions: dm_packets Checks checksum_of is_checked
+/// Definitions: dm_packets Escapes unescaped
 #[test]
 fn streams_hold_packets(rt: HostRuntime) -> Result<(), Fail> {
     for (stream, wanted) in STREAMS {
@@ -94,7 +97,7 @@ fn streams_hold_packets(rt: HostRuntime) -> Result<(), Fail> {
 /// A packet of 4000h bytes is read, one of 4001h is too long, and the next one is read again. (The sum of 4000h times 61h
 /// is a multiple of 256.)
 ///
-/// Definitions: dm_packets Reading
+/// Definitions: dm_packets Reading one_more packet_of
 #[test]
 fn long_packets_are_refused(rt: HostRuntime) -> Result<(), Fail> {
     for (count, digits, wanted) in [
@@ -117,7 +120,8 @@ fn long_packets_are_refused(rt: HostRuntime) -> Result<(), Fail> {
     Ok(())
 }
 
-/// Definitions: dm_packets Frames Escapes Checks Links
+/// Definitions: dm_packets Frames frame_of frame_around
+/// Definitions: dm_packets Escapes escaped is_special
 #[test]
 fn packets_are_sent(rt: HostRuntime) -> Result<(), Fail> {
     let mut link = Link::new(rt.alloc());
@@ -129,7 +133,7 @@ fn packets_are_sent(rt: HostRuntime) -> Result<(), Fail> {
     Ok(())
 }
 
-/// Definitions: dm_packets Links
+/// Definitions: dm_packets Links acknowledgement receipt
 #[test]
 fn packets_are_acknowledged(rt: HostRuntime) -> Result<(), Fail> {
     let mut link = Link::new(rt.alloc());

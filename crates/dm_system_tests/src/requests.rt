@@ -185,7 +185,8 @@ fn check_payload(rt: &impl Abort, alloc: Global, payload: &[u8], wanted: &str) -
     Ok(())
 }
 
-/// Definitions: dm_requests Requests Arguments
+/// Definitions: dm_requests Requests request_of memory_of set_memory_of register_of insertion removal feature_of command_of
+/// Definitions: dm_requests Arguments cut_at two_numbers access_of point_of
 #[test]
 fn requests_have_arguments(rt: HostRuntime) -> Result<(), Fail> {
     for (payload, wanted) in NUMBERED {
@@ -194,7 +195,7 @@ fn requests_have_arguments(rt: HostRuntime) -> Result<(), Fail> {
     Ok(())
 }
 
-/// Definitions: dm_requests Requests Names
+/// Definitions: dm_requests Names named_query named_verb action_of range_of backwards lone single
 #[test]
 fn requests_have_names(rt: HostRuntime) -> Result<(), Fail> {
     for (payload, wanted) in NAMED {
