@@ -18,7 +18,7 @@ import tempfile
 from concurrent.futures import ThreadPoolExecutor
 from typing import Any, Iterator, NamedTuple
 
-from . import Machine, Stop, __version__, _library, _Point, _Registers, _Stopped, _check
+from . import Machine, Registers, Stop, __version__, _library, _Point, _Registers, _Stopped, _check
 
 __all__ = ["Options", "Program", "data", "page", "record", "write"]
 
@@ -46,8 +46,9 @@ TITLES = {DOS: "INT 21h", EXPANDED: "INT 67h", EXTENDED: "XMS"}
 # The lists that each service may change.
 LISTS = {DIVIDE: "MPX", TERMINATE: "MPX", DOS: "M", EXPANDED: "P", EXTENDED: "X"}
 CARRY = 1
-# A record of more moments than this is thinned to half of them.
-MOST_MOMENTS = 24_000
+WORDS = struct.Struct("<14H")
+# A record of more moments than this, or of more lines that change, is thinned. A page of so many has less than 4 MB.
+MOST_MOMENTS, MOST_LINES = 24_000, 100_000
 COLUMNS = ("step", "name", "caller", "process", "text", "refused", "M", "P", "X")
 ENDS = {Stop.INPUT_ENDED: "input ended"}
 FINDING = re.compile(r"(error|note): step (\d+), ((?:before )?[0-9A-F]{4}:[0-9A-F]{4}) (.*?): (.*)")
@@ -148,10 +149,10 @@ class Watched:
         _check(_library.mezguld_steps(self._handle, self._steps))
         return self._steps.value
 
-    def registers(self) -> _Registers:
-        """The registers, in a structure that the next call uses again."""
+    def registers(self) -> Registers:
+        """The registers."""
         _check(_library.mezguld_registers(self._handle, self._registers))
-        return self._registers
+        return Registers._make(WORDS.unpack(self._registers))
 
     def read(self, segment: int, offset: int, count: int) -> bytes:
         """At most 64 bytes of memory."""
@@ -173,29 +174,17 @@ class Watched:
 
 def same_front(old: bytes, new: bytes) -> int:
     """How many bytes at the front of both texts are the same."""
-    low, high = 0, min(len(old), len(new))
-    if old[:high] == new[:high]:
-        return high
-    while low < high:
-        middle = (low + high + 1) // 2
-        if old[low:middle] == new[low:middle]:
-            low = middle
-        else:
-            high = middle - 1
-    return low
+    most = min(len(old), len(new))
+    # (Numbers are compared in one step each: the lowest bit that differs is in the first byte that does.)
+    differs = int.from_bytes(old[:most], "little") ^ int.from_bytes(new[:most], "little")
+    return ((differs & -differs).bit_length() - 1) // 8 if differs else most
 
 
 def same_end(old: bytes, new: bytes) -> int:
     """How many bytes at the end of both texts are the same."""
-    low, most = 0, min(len(old), len(new))
-    high = most
-    while low < high:
-        middle = (low + high + 1) // 2
-        if old[len(old) - middle : len(old) - low] == new[len(new) - middle : len(new) - low]:
-            low = middle
-        else:
-            high = middle - 1
-    return low
+    most = min(len(old), len(new))
+    differs = int.from_bytes(old[len(old) - most :], "little") ^ int.from_bytes(new[len(new) - most :], "little")
+    return most - (differs.bit_length() + 7) // 8
 
 
 def splice_of(old: bytes, new: bytes) -> list[Any] | None:
@@ -262,12 +251,12 @@ class Recorder:
         self.moments: list[list[Any]] = []
         # The places of the moments that are never left out.
         self.must: set[int] = set()
-        self.seen, self.others, self.every = 0, 0, 1
+        self.seen, self.others, self.every, self.lines = 0, 0, 1, 0
         self.processes: list[dict[str, Any]] = []
         self.alive: list[int] = []
         # What function 48h gave and the program did not free: by segment, the caller, the step, the paragraphs, and the process.
         self.held: dict[int, tuple[str, int, int, int]] = {}
-        self.kept: dict[tuple[str, int, str], list[int]] = {}
+        self.kept: dict[tuple[str, str, str], list[int]] = {}
         self.now = 0
         self._start(shown(first))
         self.look("", "the program is loaded", "", "MPX", must=True)
@@ -290,11 +279,17 @@ class Recorder:
             self.must.add(len(self.moments))
         process = self.alive[-1] if self.alive else 0
         self.moments.append([self.now, self.number("names", name), self.number("callers", caller), process, text, refused, *splices.values()])
-        if len(self.moments) > MOST_MOMENTS + len(self.must):
-            self.thin()
+        self.lines += sum(len(it[2]) for it in splices.values() if it)
+        while self.is_long() and self.thin():
+            pass
 
-    def thin(self) -> None:
-        """Leaves out every second moment but those that must stay."""
+    def is_long(self) -> bool:
+        """Whether the record has more moments or lines than a page should."""
+        return len(self.moments) > MOST_MOMENTS or self.lines > MOST_LINES
+
+    def thin(self) -> bool:
+        """Leaves out every second moment but those that must stay. False if that leaves out little."""
+        before = len(self.moments)
         self.every *= 2
         merged, kept, must = [Merged() for _ in range(3)], [], set()
         for place, moment in enumerate(self.moments):
@@ -305,6 +300,8 @@ class Recorder:
                     must.add(len(kept))
                 kept.append([*moment[:6], *(it.taken() for it in merged)])
         self.moments, self.must = kept, must
+        self.lines = sum(len(it[2]) for moment in kept for it in moment[6:9] if it)
+        return len(kept) < before * 3 // 4
 
     # -- processes
 
@@ -325,7 +322,8 @@ class Recorder:
         """Counts blocks that their program did not free."""
         for it in segments:
             caller, step, size, process = self.held.pop(it)
-            group = self.kept.setdefault((caller, process, why), [0, 0, step, step])
+            # (The same place of the same program, in whichever process.)
+            group = self.kept.setdefault((caller, self.processes[process]["name"], why), [0, 0, step, step, process])
             group[0] += 1
             group[1] += size
             group[2], group[3] = min(group[2], step), max(group[3], step)
@@ -334,61 +332,59 @@ class Recorder:
 
     def run(self) -> dict[str, Any]:
         """Runs the program to its end, to another stop or to the limit of steps, and returns how it ended."""
-        why = Stop.STEPS
-        while why is Stop.STEPS or why is Stop.BREAKPOINT:
-            self.now = self.watched.steps
-            if self.now >= self.options.steps:
-                break
+        why, registers = Stop.STEPS, self.watched.registers()
+        while (why is Stop.STEPS or why is Stop.BREAKPOINT) and self.now < self.options.steps:
             while self.left and self.left[-1] <= self.now:
                 self.left.pop()
-            limit = min(self.left[-1] if self.left else self.options.steps, self.options.steps)
-            entry = self._entry()
-            if entry is not None:
-                why = self._service(entry)
+            entry = (registers.cs, registers.ip)
+            # (A run does not stop at a breakpoint where it begins.)
+            if entry in ENTRIES:
+                why, registers = self._service(entry, registers)
                 continue
+            limit = min(self.left[-1], self.options.steps) if self.left else self.options.steps
             why = self.watched.run_until(limit - self.now)
             self.now = self.watched.steps
+            registers = self.watched.registers()
             if why is not Stop.BREAKPOINT and self.left and self.left[-1] == self.now:
                 self._found()
         return self._ended(why)
-
-    def _entry(self) -> tuple[int, int] | None:
-        registers = self.watched.registers()
-        place = (registers.cs, registers.ip)
-        return place if place in ENTRIES else None
 
     def _found(self) -> None:
         """A moment for a finding that no call of memory has."""
         found = self.acts[self.now]
         self.look(found["site"], found["act"], found["text"], "MPX", must=True)
 
-    def _service(self, entry: tuple[int, int]) -> Stop:
-        """The step of a service, with a look after it where it may change memory's division."""
-        registers = self.watched.registers()
-        before = Before(*(getattr(registers, name) for name in Before._fields))
+    def _service(self, entry: tuple[int, int], before: Registers) -> tuple[Stop, Registers]:
+        """The step of a service, with a look after it where it may change memory's division; and the registers then."""
         function = before.ax >> 8
-        known = entry in (DIVIDE, TERMINATE) or function in NAMES[entry] and not (entry == DOS and function == 0x58 and not before.ax & 1)
-        if not known:
-            why = self.watched.run(1)
-            self.now = self.watched.steps
-            self.others += 1
-            if self.left and self.left[-1] == self.now:
-                self._found()
-            return why
-        call = Call(self.watched, entry, before)
+        is_known = entry not in NAMES or function in NAMES[entry] and (function != 0x58 or entry != DOS or before.ax & 1)
+        is_kept = (self.seen + 1) % self.every == 0
+        call = Call(self.watched, entry, before, is_kept or bool(self.left)) if is_known else None
         why = self.watched.run(1)
-        self.now = self.watched.steps
-        self.seen += 1
         after = self.watched.registers()
-        text, refused = call.result(after, why)
-        self._follow(call, after, refused, why)
-        must = call.is_ending or call.is_start(after) or bool(self.left and self.left[-1] == self.now)
-        if must or self.seen % self.every == 0:
-            lists = "MPX" if must or self.every > 1 else LISTS[entry]
-            self.look(call.caller, call.name, text, lists, refused, must and len(self.must) < MOST_MOMENTS)
-        return why
+        self.now = self.watched.steps
+        is_found = bool(self.left) and self.left[-1] == self.now
+        if call is not None:
+            self._called(call, after, why, is_found)
+        else:
+            self.others += 1
+            if is_found:
+                self._found()
+        return why, after
 
-    def _follow(self, call: Call, after: _Registers, refused: int, why: Stop) -> None:
+    def _called(self, call: Call, after: Registers, why: Stop, is_found: bool) -> None:
+        """A moment for a call, unless it is left out."""
+        self.seen += 1
+        refused = call.refused(after)
+        must = call.is_ending or is_found or call.is_start(after)
+        is_kept = must or self.seen % self.every == 0
+        text = call.result(after, why, refused) if is_kept else ""
+        self._follow(call, after, refused, why)
+        if is_kept:
+            lists = "MPX" if must or self.every > 1 else LISTS[call.entry]
+            self.look(call.caller, call.name, text, lists, refused, is_found or must and len(self.must) < MOST_MOMENTS // 4)
+
+    def _follow(self, call: Call, after: Registers, refused: int, why: Stop) -> None:
         """Keeps in mind which process runs, and what it holds."""
         before, function = call.before, call.function
         if call.is_ending:
@@ -414,42 +410,38 @@ class Recorder:
         return {"why": word, "code": None, "text": f"stopped: {word}"}
 
 
-class Before(NamedTuple):
-    """The registers before a call."""
-
-    ax: int
-    bx: int
-    cx: int
-    dx: int
-    ds: int
-    es: int
-    ss: int
-    sp: int
-
-
 class Call:
     """A call of a service, from its entry on."""
 
-    def __init__(self, watched: Watched, entry: tuple[int, int], before: Before) -> None:
+    def __init__(self, watched: Watched, entry: tuple[int, int], before: Registers, is_told: bool) -> None:
+        """Where nobody will be told of the call, its caller is read for an allocation alone."""
         self.entry, self.before, self.function = entry, before, before.ax >> 8
-        ip, cs = struct.unpack("<HH", watched.read(before.ss, before.sp, 4))
-        self.back = (cs, ip)
-        # (The interrupt's instruction has two bytes; a far call has others.)
-        is_interrupt = entry != EXTENDED and watched.read(cs, ip - 2, 1) == b"\xcd"
-        self.caller = f"{cs:04X}:{(ip - 2) & 0xFFFF:04X}" if is_interrupt else f"before {cs:04X}:{ip:04X}"
-        if entry in NAMES:
-            self.name = f"{TITLES[entry]} function {self.function:02X}h ({NAMES[entry][self.function]})"
-        else:
-            self.name = "INT 20h" if entry == TERMINATE else "interrupt 0"
-        self.is_resident = entry == DOS and self.function == 0x31
-        self.is_ending = entry in (DIVIDE, TERMINATE) or entry == DOS and self.function in (0x00, 0x31, 0x4C)
-        self.is_load = entry == DOS and self.function == 0x4B
-        self.program, self.at = "", 0
+        is_dos = entry == DOS
+        self.is_resident = is_dos and self.function == 0x31
+        self.is_ending = entry not in NAMES or is_dos and self.function in (0x00, 0x31, 0x4C)
+        self.is_load = is_dos and self.function == 0x4B
+        self.caller, self.program, self.at = "", "", 0
+        if is_told or self.is_ending or is_dos and self.function in (0x48, 0x4B):
+            self._read_caller(watched)
         if self.is_load:
             self.program = shown(watched.read(before.ds, before.dx, 64).split(b"\0")[0])
             (self.at,) = struct.unpack("<H", watched.read(before.es, before.bx, 2))
 
-    def is_start(self, after: _Registers) -> bool:
+    def _read_caller(self, watched: Watched) -> None:
+        ip, cs = struct.unpack("<HH", watched.read(self.before.ss, self.before.sp, 4))
+        self.back = (cs, ip)
+        # (The interrupt's instruction has two bytes; a far call has others.)
+        is_interrupt = self.entry != EXTENDED and watched.read(cs, ip - 2, 1) == b"\xcd"
+        self.caller = f"{cs:04X}:{(ip - 2) & 0xFFFF:04X}" if is_interrupt else f"before {cs:04X}:{ip:04X}"
+
+    @property
+    def name(self) -> str:
+        """The call in words."""
+        if self.entry in NAMES:
+            return f"{TITLES[self.entry]} function {self.function:02X}h ({NAMES[self.entry][self.function]})"
+        return "INT 20h" if self.entry == TERMINATE else "interrupt 0"
+
+    def is_start(self, after: Registers) -> bool:
         """Whether the call started a program: then it has not returned."""
         return self.is_load and not self.before.ax & 0xFF and (after.cs, after.ip) != self.back
 
@@ -461,53 +453,57 @@ class Call:
             return f"stays resident with {self.before.dx:X}h paragraphs, code {self.before.ax & 0xFF}"
         return f"ended with code {self.before.ax & 0xFF if self.function == 0x4C and self.entry == DOS else 0}"
 
-    def result(self, after: _Registers, why: Stop) -> tuple[str, int]:
-        """What the call was asked and what it gave, and the code with which it was refused, or 0."""
-        if self.is_ending:
-            return (self.how(), 0) if why in (Stop.STEPS, Stop.EXITED) else (f"{self.how()}: {why.name.lower()}", 0)
+    def refused(self, after: Registers) -> int:
+        """The code with which the call was refused, or 0."""
+        if self.is_ending or self.is_start(after):
+            return 0
         if self.entry == DOS:
-            return self._dos(after)
+            return after.ax if after.flags & CARRY else 0
         if self.entry == EXPANDED:
-            status = after.ax >> 8
-            return (f"{self._expanded(after)}: refused with code {status:02X}h", status) if status else (self._expanded(after), 0)
-        code = 0 if after.ax else (after.bx & 0xFF) or 0x80
-        return (f"{self._extended(after)}: refused with code {code:02X}h", code) if code else (self._extended(after), 0)
+            return after.ax >> 8
+        return 0 if after.ax else (after.bx & 0xFF) or 0x80
 
-    def _dos(self, after: _Registers) -> tuple[str, int]:
+    def result(self, after: Registers, why: Stop, code: int) -> str:
+        """What the call was asked and what it gave."""
+        if self.is_ending:
+            return self.how() if why in (Stop.STEPS, Stop.EXITED) else f"{self.how()}: {why.name.lower()}"
+        texts = {DOS: self._dos, EXPANDED: self._expanded, EXTENDED: self._extended}
+        text = texts[self.entry](after, code)
+        if not code:
+            return text
+        largest = f", largest {after.bx:X}h" if self.entry == DOS and self.function in (0x48, 0x4A) and code == 8 else ""
+        return f"{text}{': ' if text else ''}refused with code {code:02X}h{largest}"
+
+    def _dos(self, after: Registers, code: int) -> str:
         before, function = self.before, self.function
-        is_started = self.is_start(after)
-        code = after.ax if after.flags & CARRY and not is_started else 0
-        refused = f": refused with code {code:02X}h" if code else ""
-        if function in (0x48, 0x4A) and code == 8:
-            refused += f", largest {after.bx:X}h"
-        asked = {
-            0x48: f"{before.bx:X}h paragraphs" + ("" if code else f": block at {after.ax:04X}"),
-            0x49: f"block at {before.es:04X}",
-            0x4A: f"block at {before.es:04X} to {before.bx:X}h paragraphs",
-            0x4B: f"overlay {self.program} at {self.at:04X}" if before.ax & 0xFF == 3 else f"starts {self.program}",
-            0x58: f"{'link of upper memory' if before.ax & 2 else 'strategy'} {before.bx:02X}h",
-        }
-        return asked[function] + refused, code
+        if function == 0x48:
+            return f"{before.bx:X}h paragraphs" + ("" if code else f": block at {after.ax:04X}")
+        if function == 0x49:
+            return f"block at {before.es:04X}"
+        if function == 0x4A:
+            return f"block at {before.es:04X} to {before.bx:X}h paragraphs"
+        if function == 0x4B:
+            return f"overlay {self.program} at {self.at:04X}" if before.ax & 0xFF == 3 else f"starts {self.program}"
+        return f"{'link of upper memory' if before.ax & 2 else 'strategy'} {before.bx:02X}h"
 
-    def _expanded(self, after: _Registers) -> str:
+    def _expanded(self, after: Registers, code: int) -> str:
         before, handle = self.before, f"handle {self.before.dx}"
-        page = "none" if before.bx == 0xFFFF else f"page {before.bx} of {handle}"
-        texts = {
-            0x43: f"{before.bx} pages" + ("" if after.ax >> 8 else f": handle {after.dx}"), 0x44: f"window {before.ax & 0xFF}: {page}",
-            0x4E: "page map", 0x50: f"{before.cx} windows: {handle}", 0x51: f"{handle} to {before.bx} pages",
-        }
-        return texts.get(self.function, handle)
+        if self.function == 0x43:
+            return f"{before.bx} pages" + ("" if code else f": handle {after.dx}")
+        if self.function == 0x44:
+            return f"window {before.ax & 0xFF}: " + ("no page" if before.bx == 0xFFFF else f"page {before.bx} of {handle}")
+        return {0x4E: "page map", 0x50: f"{before.cx} windows: {handle}", 0x51: f"{handle} to {before.bx} pages"}.get(self.function, handle)
 
-    def _extended(self, after: _Registers) -> str:
-        before, function, is_done = self.before, self.function, after.ax != 0
+    def _extended(self, after: Registers, code: int) -> str:
+        before, function = self.before, self.function
         if function <= 0x06:
             return ""
         if function == 0x09:
-            return f"{before.dx} KiB" + (f": handle {after.dx}" if is_done else "")
+            return f"{before.dx} KiB" + ("" if code else f": handle {after.dx}")
         if function == 0x0F:
             return f"handle {before.dx} to {before.bx} KiB"
         if function == 0x10:
-            return f"{before.dx:X}h paragraphs" + (f": block at {after.bx:04X}" if is_done else "")
+            return f"{before.dx:X}h paragraphs" + ("" if code else f": block at {after.bx:04X}")
         if function == 0x12:
             return f"block at {before.dx:04X} to {before.bx:X}h paragraphs"
         return f"block at {before.dx:04X}" if function == 0x11 else f"handle {before.dx}"
@@ -580,8 +576,8 @@ def data(
         "calls": {"seen": recorder.seen, "others": recorder.others, "shown": kept, "every": every, "rule": rule if every > 1 else None},
         "processes": recorder.processes,
         "kept": [
-            {"caller": caller, "process": process, "why": why[word], "is_leak": word != "resident", "blocks": count, "paragraphs": size, "first": first, "last": last}
-            for (caller, process, word), (count, size, first, last) in sorted(recorder.kept.items(), key=lambda it: -it[1][1])
+            {"caller": caller, "process": process, "why": why[word], "is_leak": word == "process ended", "blocks": count, "paragraphs": size, "first": first, "last": last}
+            for (caller, _, word), (count, size, first, last, process) in sorted(recorder.kept.items(), key=lambda it: -it[1][1])
         ],
         "names": list(recorder.numbers["names"]), "callers": list(recorder.numbers["callers"]),
         "columns": COLUMNS, "moments": [short(it) for it in recorder.moments],
