@@ -562,8 +562,8 @@ def data(
 ) -> dict[str, Any]:
     """The data of a page, which docs/picture.md describes."""
     every, kept = recorder.every, len(recorder.moments)
-    rule = f"Of {recorder.seen:,} calls, each {every}th is shown, and besides each at which the checker found something, a program starts or one ends."
-    rule += " What lived only between two of these is not shown."
+    rule = f"Of {recorder.seen:,} calls about memory, one in {every:,} is shown, and besides these each at which the checker found something or a program"
+    rule += " starts or ends. What lived only between two of the shown ones is left out. The list of what was not freed counts all calls."
     why = {"process ended": "freed by the end of the process", "resident": "kept by a resident program", "run stopped": "allocated when the run stopped"}
     return {
         "format": FORMAT, "version": __version__,
