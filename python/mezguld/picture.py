@@ -522,7 +522,7 @@ def command_of(options: Options, files: list[str], input_file: str | None) -> st
     words += ["--upper"] * options.upper + ([f"--tail={shown(options.tail)}"] if options.tail else [])
     words += ["--input", input_file] if input_file is not None else []
     files = [shown(os.fsencode(it)) for it in files]
-    line = shlex.join([*words, *(["--"] if any(it.startswith("-") for it in files) else []), *files])
+    line = " ".join(map(shlex.quote, [*words, *(["--"] if any(it.startswith("-") for it in files) else []), *files]))
     return line if input_file is not None or options.input else f"{line} </dev/null"
 
 
