@@ -268,8 +268,8 @@ class Recorder:
         numbers = self.numbers[table]
         return numbers.setdefault(text, len(numbers))
 
-    def look(self, caller: str, name: str, text: str, lists: str, refused: int = 0, must: bool = False) -> None:
-        """Adds a moment: the lists as they are now, where these may have changed."""
+    def look(self, caller: str, name: str, text: str, lists: str, refused: int = 0, must: bool = False, process: int | None = None) -> None:
+        """Adds a moment: the lists as they are now, where these may have changed. The process is that which runs, if none is given."""
         splices: dict[str, list[Any] | None] = dict.fromkeys("MPX")
         for it in lists:
             new = self.watched.listed(it)
@@ -277,11 +277,15 @@ class Recorder:
             self.texts[it] = new
         if must:
             self.must.add(len(self.moments))
-        process = self.alive[-1] if self.alive else 0
+        process = self.running() if process is None else process
         self.moments.append([self.now, self.number("names", name), self.number("callers", caller), process, text, refused, *splices.values()])
         self.lines += sum(len(it[2]) for it in splices.values() if it)
         while self.is_long() and self.thin():
             pass
+
+    def running(self) -> int:
+        """The place of the process that runs; after its end, of the first one."""
+        return self.alive[-1] if self.alive else 0
 
     def is_long(self) -> bool:
         """Whether the record has more moments or lines than a page should."""
@@ -379,10 +383,11 @@ class Recorder:
         must = call.is_ending or is_found or call.is_start(after)
         is_kept = must or self.seen % self.every == 0
         text = call.result(after, why, refused) if is_kept else ""
+        process = self.running()
         self._follow(call, after, refused, why)
         if is_kept:
             lists = "MPX" if must or self.every > 1 else LISTS[call.entry]
-            self.look(call.caller, call.name, text, lists, refused, is_found or must and len(self.must) < MOST_MOMENTS // 4)
+            self.look(call.caller, call.name, text, lists, refused, is_found or must and len(self.must) < MOST_MOMENTS // 4, process)
 
     def _follow(self, call: Call, after: Registers, refused: int, why: Stop) -> None:
         """Keeps in mind which process runs, and what it holds."""
@@ -394,7 +399,7 @@ class Recorder:
             self._start(call.program, after.ds)
         elif call.entry == DOS and not refused:
             if function == 0x48:
-                self.held[after.ax] = (call.caller, self.now, before.bx, self.alive[-1] if self.alive else 0)
+                self.held[after.ax] = (call.caller, self.now, before.bx, self.running())
             elif function == 0x49:
                 self.held.pop(before.es, None)
             elif function == 0x4A and before.es in self.held:

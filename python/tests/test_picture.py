@@ -95,6 +95,8 @@ class Records(unittest.TestCase):
             ("CHILDREN.COM", None, "ended with code 0"), ("CHILD.COM", 0, "ended with code 3"), ("LEAF.COM", 1, "ended with code 5"),
             ("CHILD.COM", 0, "ended with code 3"), ("LEAF.COM", 3, "ended with code 5"),
         ])
+        starts = [(row[3], row[4]) for row in data["moments"] if data["names"][row[1]].startswith(("INT 21h function 4B", "INT 21h function 4C"))]
+        self.assertEqual(starts[:5], [(0, "starts CHILD.COM"), (1, "starts LEAF.COM"), (2, "ended with code 5"), (1, "ended with code 3"), (0, "starts CHILD.COM")])
         data = picture.record(programs_of(["resident", "tsr"]), Options(upper=True))
         self.assertEqual(data["processes"][1]["how"], "stays resident with 20h paragraphs, code 0")
         self.assertEqual([it["why"] for it in data["kept"]], ["kept by a resident program"])
