@@ -349,7 +349,7 @@ class Recorder:
             why = self.watched.run_until(limit - self.now)
             self.now = self.watched.steps
             registers = self.watched.registers()
-            if why is not Stop.BREAKPOINT and self.left and self.left[-1] == self.now:
+            if self.left and self.left[-1] == self.now:
                 self._found()
         return self._ended(why)
 

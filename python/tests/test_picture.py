@@ -79,6 +79,14 @@ class Records(unittest.TestCase):
         self.assertTrue({it["step"] for it in data["findings"]} <= {row[0] for row in data["moments"]})
         self.assertEqual(data["run"]["end"], {"why": "destroyed", "code": None, "text": "stopped: destroyed"})
 
+    def test_interrupt_whose_stack_is_a_header(self) -> None:
+        # (The finding is at the step of the INT, which leads to a service at once.)
+        programs = one("MOV AX,100h\nMOV SS,AX\nMOV SP,26h\nMOV AH,30h\nINT 21h\nHLT\n")
+        data = picture.record(programs)
+        self.assertEqual(data["findings"][0]["step"], 5)
+        self.assertIn(5, [row[0] for row in data["moments"]])
+        self.assert_lists(data, programs, Options())
+
     def test_repeated_findings(self) -> None:
         data = picture.record(one("MOV CX,5\nnext: MOV AH,49h\nMOV BX,1234h\nMOV ES,BX\nINT 21h\nLOOP next\nMOV AX,4C00h\nINT 21h\n"))
         (found,) = data["findings"]
