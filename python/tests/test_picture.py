@@ -1,4 +1,6 @@
 """Tests of `python -m mezguld picture` without a browser. From the top: `python3 -m unittest discover -s python/tests -t python`."""
+from __future__ import annotations
+
 import io
 import json
 import os
