@@ -226,12 +226,14 @@ def globs(ends, separator="|"):
 BASH = """\
 # Completion of dm for bash, made from its help (Mezguld {version}).
 _dm_files() {{
-    local IFS=$'\\n'
+    # The word as a file's name: without a quote that is open, and without backslashes.
+    local word=${{current#[\\"\\']}}
+    word=${{word//\\\\/}}
     compopt -o filenames 2>/dev/null
     if [ -n "$1" ]; then
-        COMPREPLY=($(shopt -s extglob; compgen -f -X "!@($1)" -- "$current"; compgen -d -- "$current"))
+        mapfile -t COMPREPLY < <(shopt -s extglob; compgen -f -X "!@($1)" -- "$word"; compgen -d -- "$word")
     else
-        COMPREPLY=($(compgen -f -- "$current"))
+        mapfile -t COMPREPLY < <(compgen -f -- "$word")
     fi
 }}
 
@@ -293,8 +295,9 @@ def quoted(text):
 
 
 def zsh_files(ends):
-    pattern = globs(ends)
-    return f'_files -g "({pattern})"' if pattern else "_files"
+    # (zsh takes a last pair of parentheses without a bar for something else.)
+    pattern = f"({globs(ends)})" if len(ends) > 1 else globs(ends)
+    return f'_files -g "{pattern}"' if pattern else "_files"
 
 
 def zsh_argument(name, argument):
@@ -315,8 +318,9 @@ def zsh_completion(program):
     """The text of the completion for zsh."""
     text = [f"#compdef dm\n# Completion of dm for zsh, made from its help (Mezguld {versions.version()}).\n", "local -a subcommands", "subcommands=("]
     text += [f"    '{name}:{quoted(about)}'" for name, about in program.top.commands.items()]
-    text += [")", "if ((CURRENT == 2)); then"]
-    text += [f"    _arguments {' '.join(zsh_option('', it) for it in program.top.options)} && return", "    _describe command subcommands", "    return", "fi"]
+    text += [")", "if ((CURRENT == 2)); then", "    if [[ $words[2] == -* ]]; then"]
+    text += [f"        _arguments {' '.join(zsh_option('', it) for it in program.top.options)}"]
+    text += ["    else", "        _describe command subcommands", "    fi", "    return", "fi"]
     text += ["local subcommand=$words[2]", "shift words", "((CURRENT--))", "case $subcommand in"]
     for name, command in program.commands.items():
         words = [*(zsh_option(name, it) for it in command.options), *(zsh_argument(name, it) for it in command.arguments)]

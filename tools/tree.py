@@ -163,4 +163,4 @@ def files(layout):
 
 
 # Why there are no files, as a script tells it.
-REASONS = (NotBuilt, shared_library.NotLinked, usage.Unreadable, versions.Unreadable, OSError)
+REASONS = (NotBuilt, shared_library.NotLinked, usage.Unreadable, versions.Unreadable, OSError, subprocess.CalledProcessError)

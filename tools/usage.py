@@ -1,11 +1,13 @@
 """The commands and options of `dm` as its own help gives them, and the tables of docs/manual.md: what man pages and completions are made from.
 
-`dm --help` and `dm COMMAND --help` are the one table of commands, arguments, options, defaults and limits; the manual's tables have what help does not say: exit
-statuses, stops, faults, the debugger's commands. `faults` compares the two where both say the same thing.
+`dm --help` and `dm COMMAND --help` are the one table of commands, arguments, options, defaults and limits; the manual's tables have what help does not say:
+exit statuses, stops, faults, the debugger's commands. `faults` compares the two where both say the same thing.
 """
 import os
 import re
 import subprocess
+
+import header
 
 ROOT = os.path.dirname(os.path.dirname(os.path.realpath(__file__)))
 MANUAL = "docs/manual.md"
@@ -165,11 +167,33 @@ def usage_faults(usage):
             yield f"the usage of dm {name} is `{given}`, and `{' '.join(word for word, _ in command.synopsis())}` in its help"
 
 
+def limit_faults(usage):
+    """The faults of the manual's table of limits against what help says of arguments."""
+    table = " ".join(plain(cell) for row in tables("Commands and options")[1] for cell in row).replace(",", "")
+    for command in usage.commands.values():
+        for limit in (it for argument in command.arguments for it in re.findall(r"at most (\d+ \w+)", argument.text)):
+            if not re.search(rf"\b{limit}\b", table):
+                yield f"no limit is {limit}, as the help of {command.name} says"
+
+
+def status_faults(what, heading, given):
+    """The faults of a table of the manual, of numbers and names, against those of the header."""
+    found = {}
+    for first, *cells in tables(heading)[-1][1:]:
+        low, _, high = first.partition(" to ")
+        found.update(zip(re.findall(r"`(\w+)`", cells[0]), range(int(low), int(high or low) + 1)))
+    for name in sorted({*found, *given}):
+        if found.get(name) != given.get(name):
+            yield f"the {what} {name} is {found.get(name, 'missing')}, and {given.get(name, 'missing')} in the header"
+
+
 def faults(program):
-    """Each difference between help and the manual, as a line."""
+    """Each difference between help and the manual, or between the header and the manual, as a line."""
     try:
         usage = Usage(program)
-        found = [*option_faults(usage), *usage_faults(usage)]
+        declared = header.Header()
+        found = [*option_faults(usage), *usage_faults(usage), *limit_faults(usage)]
+        found += [*status_faults("status", "Statuses and exceptions", declared.statuses), *status_faults("stop", "Calls", declared.stops)]
     except Unreadable as why:
         found = [str(why)]
     yield from (fault if fault.startswith(MANUAL) else f"{MANUAL}: {fault}" for fault in found)

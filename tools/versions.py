@@ -4,7 +4,6 @@
 have the same. Pages of manuals, packages and file names are made from it.
 """
 import datetime
-import glob
 import os
 import re
 import subprocess
@@ -72,13 +71,6 @@ def header_faults(wanted):
             yield f"include/mezguld.h: MEZGULD_VERSION_{name} is not {number}"
 
 
-def package_faults(wanted):
-    """The faults of the packages in dist/, if there are any."""
-    for path in (path for pattern in PACKAGES for path in glob.glob(f"{ROOT}/dist/{pattern}")):
-        if not re.match(rf"mezguld[-_]{re.escape(wanted)}[-_]", os.path.basename(path)):
-            yield f"dist/{os.path.basename(path)} is not of version {wanted}"
-
-
 def faults(program=None):
     """Each difference, as a line; `program` is a built `dm`, whose version is compared too."""
     try:
@@ -89,6 +81,5 @@ def faults(program=None):
         return
     yield from (f"{path}: the version is {one}, and not {wanted}" for path, one in given if one != wanted)
     yield from header_faults(wanted)
-    yield from package_faults(wanted)
     if program:
         yield from program_faults(program, wanted)
