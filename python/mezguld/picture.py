@@ -47,8 +47,9 @@ TITLES = {DOS: "INT 21h", EXPANDED: "INT 67h", EXTENDED: "XMS"}
 LISTS = {DIVIDE: "MPX", TERMINATE: "MPX", DOS: "M", EXPANDED: "P", EXTENDED: "X"}
 CARRY = 1
 WORDS = struct.Struct("<14H")
-# A record of more moments than this, or of more lines that change, is thinned. A page of so many has less than 4 MB.
-MOST_MOMENTS, MOST_LINES = 24_000, 100_000
+# A record of more moments than this, or of more bytes as JSON (reckoned), is thinned: so a page has less than 4 MB.
+MOST_MOMENTS, MOST_SIZE = 24_000, 3_700_000
+STOPS = tuple(sorted(Stop, key=lambda it: it.value))
 COLUMNS = ("step", "name", "caller", "process", "text", "refused", "M", "P", "X")
 ENDS = {Stop.INPUT_ENDED: "input ended"}
 FINDING = re.compile(r"(error|note): step (\d+), ((?:before )?[0-9A-F]{4}:[0-9A-F]{4}) (.*?): (.*)")
@@ -131,12 +132,12 @@ class Watched:
     def run(self, steps: int) -> Stop:
         """At most so many steps."""
         _check(_library.mezguld_run(self._handle, steps, self._stopped))
-        return Stop(self._stopped.why)
+        return STOPS[self._stopped.why]
 
     def run_until(self, steps: int) -> Stop:
         """At most so many steps, up to the entry of a service."""
         _check(_library.mezguld_run_until(self._handle, steps, self._points, len(ENTRIES), self._stopped))
-        return Stop(self._stopped.why)
+        return STOPS[self._stopped.why]
 
     @property
     def code(self) -> int:
@@ -239,6 +240,11 @@ class Merged:
 # ---- the record
 
 
+def size_of(moment: list[Any]) -> int:
+    """About how many bytes a moment has as JSON: a line has at most 32 characters, most have 16."""
+    return 40 + len(moment[4]) + sum(10 + sum(len(line) + 3 for line in splice[2]) for splice in moment[6:9] if splice)
+
+
 class Recorder:
     """The moments of a run, the processes, and what programs did not free."""
 
@@ -251,7 +257,7 @@ class Recorder:
         self.moments: list[list[Any]] = []
         # The places of the moments that are never left out.
         self.must: set[int] = set()
-        self.seen, self.others, self.every, self.lines = 0, 0, 1, 0
+        self.seen, self.others, self.every, self.size = 0, 0, 1, 0
         self.processes: list[dict[str, Any]] = []
         self.alive: list[int] = []
         # What function 48h gave and the program did not free: by segment, the caller, the step, the paragraphs, and the process.
@@ -279,7 +285,7 @@ class Recorder:
             self.must.add(len(self.moments))
         process = self.running() if process is None else process
         self.moments.append([self.now, self.number("names", name), self.number("callers", caller), process, text, refused, *splices.values()])
-        self.lines += sum(len(it[2]) for it in splices.values() if it)
+        self.size += size_of(self.moments[-1])
         while self.is_long() and self.thin():
             pass
 
@@ -288,8 +294,8 @@ class Recorder:
         return self.alive[-1] if self.alive else 0
 
     def is_long(self) -> bool:
-        """Whether the record has more moments or lines than a page should."""
-        return len(self.moments) > MOST_MOMENTS or self.lines > MOST_LINES
+        """Whether the record has more moments or bytes than a page should."""
+        return len(self.moments) > MOST_MOMENTS or self.size > MOST_SIZE
 
     def thin(self) -> bool:
         """Leaves out every second moment but those that must stay. False if that leaves out little."""
@@ -304,7 +310,7 @@ class Recorder:
                     must.add(len(kept))
                 kept.append([*moment[:6], *(it.taken() for it in merged)])
         self.moments, self.must = kept, must
-        self.lines = sum(len(it[2]) for moment in kept for it in moment[6:9] if it)
+        self.size = sum(map(size_of, kept))
         return len(kept) < before * 3 // 4
 
     # -- processes
@@ -366,7 +372,8 @@ class Recorder:
         call = Call(self.watched, entry, before, is_kept or bool(self.left)) if is_known else None
         why = self.watched.run(1)
         after = self.watched.registers()
-        self.now = self.watched.steps
+        # (A service that could not act is no step.)
+        self.now += why is Stop.STEPS or why is Stop.EXITED
         is_found = bool(self.left) and self.left[-1] == self.now
         if call is not None:
             self._called(call, after, why, is_found)

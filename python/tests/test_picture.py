@@ -153,7 +153,7 @@ class Records(unittest.TestCase):
         self.assertIn("is shown", data["calls"]["rule"])
         self.assert_lists(data, one(TURNS), options)
         programs = programs_of(["leak"])
-        with mock.patch.object(picture, "MOST_LINES", 40):
+        with mock.patch.object(picture, "MOST_SIZE", 4000):
             data = picture.record(programs)
         self.assert_lists(data, programs, Options())
         self.assertEqual((data["kept"][0]["blocks"], data["calls"]["seen"]), (40, 122))
