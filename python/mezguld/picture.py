@@ -241,8 +241,12 @@ class Merged:
 
 
 def size_of(moment: list[Any]) -> int:
-    """About how many bytes a moment has as JSON: a line has at most 32 characters, most have 16."""
-    return 40 + len(moment[4]) + sum(10 + sum(len(line) + 3 for line in splice[2]) for splice in moment[6:9] if splice)
+    """About how many bytes a moment has as JSON, by the usual length of a line of each list."""
+    size = 40 + len(moment[4])
+    for splice, line in zip(moment[6:9], (20, 30, 26)):
+        if splice:
+            size += 10 + line * len(splice[2])
+    return size
 
 
 class Recorder:
