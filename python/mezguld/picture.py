@@ -43,6 +43,7 @@ NAMES = {
     },
 }
 TITLES = {DOS: "INT 21h", EXPANDED: "INT 67h", EXTENDED: "XMS"}
+CALLS = {entry: {number: f"{TITLES[entry]} function {number:02X}h ({name})" for number, name in names.items()} for entry, names in NAMES.items()}
 # The lists that each service may change.
 LISTS = {DIVIDE: "MPX", TERMINATE: "MPX", DOS: "M", EXPANDED: "P", EXTENDED: "X"}
 CARRY = 1
@@ -280,15 +281,16 @@ class Recorder:
 
     def look(self, caller: str, name: str, text: str, lists: str, refused: int = 0, must: bool = False, process: int | None = None) -> None:
         """Adds a moment: the lists as they are now, where these may have changed. The process is that which runs, if none is given."""
-        splices: dict[str, list[Any] | None] = dict.fromkeys("MPX")
+        splices: list[list[Any] | None] = [None, None, None]
         for it in lists:
             new = self.watched.listed(it)
-            splices[it] = splice_of(self.texts[it], new)
-            self.texts[it] = new
+            if new != self.texts[it]:
+                splices["MPX".index(it)] = splice_of(self.texts[it], new)
+                self.texts[it] = new
         if must:
             self.must.add(len(self.moments))
         process = self.running() if process is None else process
-        self.moments.append([self.now, self.number("names", name), self.number("callers", caller), process, text, refused, *splices.values()])
+        self.moments.append([self.now, self.number("names", name), self.number("callers", caller), process, text, refused, *splices])
         self.size += size_of(self.moments[-1])
         while self.is_long() and self.thin():
             pass
@@ -454,7 +456,7 @@ class Call:
     def name(self) -> str:
         """The call in words."""
         if self.entry in NAMES:
-            return f"{TITLES[self.entry]} function {self.function:02X}h ({NAMES[self.entry][self.function]})"
+            return CALLS[self.entry][self.function]
         return "INT 20h" if self.entry == TERMINATE else "interrupt 0"
 
     def is_start(self, after: Registers) -> bool:
