@@ -2,6 +2,8 @@
 from __future__ import annotations
 
 import argparse
+import contextlib
+import errno
 import os
 import re
 import sys
@@ -70,6 +72,19 @@ def programs_of(paths: list[str]) -> list[picture.Program]:
     return programs
 
 
+def say(text: str) -> None:
+    """Writes a text to standard output. `OSError`, after which nothing more is written there."""
+    if sys.stdout is None:
+        raise OSError(errno.EBADF, os.strerror(errno.EBADF))
+    try:
+        sys.stdout.buffer.write(text.encode("utf-8"))
+        sys.stdout.buffer.flush()
+    except OSError:
+        # (Else the interpreter tries it again at its end.)
+        os.dup2(os.open(os.devnull, os.O_WRONLY), 1)
+        raise
+
+
 def made(work: Callable[[], Any]) -> Any:
     """What `work` returns, which is done on another thread, so that Ctrl-C ends the command at once."""
     results: list[Any] = []
@@ -103,8 +118,7 @@ def draw(options: argparse.Namespace) -> int:
     output = options.output or ("memory.json" if options.json else "memory.html")
     try:
         if output == "-":
-            sys.stdout.write(text)
-            sys.stdout.flush()
+            say(text)
             return 0
         picture.write(text, output)
     except (OSError, ValueError) as error:
@@ -112,7 +126,9 @@ def draw(options: argparse.Namespace) -> int:
         raise Fault(f"cannot write {'standard output' if output == '-' else shown(output)} ({why})") from error
     errors = sum(1 + it["more"] for it in found["findings"] if it["kind"] == "error")
     notes = sum(1 + it["more"] for it in found["findings"] if it["kind"] == "note")
-    print(f"{shown(output)}: {found['calls']['seen']} calls, errors: {errors}, notes: {notes}, {found['run']['end']['text']}")
+    # (The file is there, whether or not anybody reads this line.)
+    with contextlib.suppress(OSError):
+        say(f"{shown(output)}: {found['calls']['seen']} calls, errors: {errors}, notes: {notes}, {found['run']['end']['text']}\n")
     return 0
 
 

@@ -266,6 +266,17 @@ class Commands(unittest.TestCase):
             with self.subTest(word):
                 self.assert_refused(126, word, "picture", *words)
 
+    def test_nobody_reads_standard_output(self) -> None:
+        for words, status, told in ((["-o", "a.html"], 0, b""), (["-o", "-"], 126, b"mezguld: cannot write standard output (Broken pipe)\n")):
+            reader, writer = os.pipe()
+            os.close(reader)
+            how: dict[str, Any] = {"cwd": self.folder.name, "stdin": subprocess.DEVNULL, "stdout": writer, "stderr": subprocess.PIPE, "check": False}
+            environment = {**os.environ, "PYTHONPATH": os.path.join(ROOT, "python")}
+            ran = subprocess.run([sys.executable, "-m", "mezguld", "picture", "leak.com", *words], env=environment, **how)
+            os.close(writer)
+            self.assertEqual((ran.returncode, ran.stderr), (status, told))
+        self.assertIn("a.html", os.listdir(self.folder.name))
+
     def test_nothing_half_written(self) -> None:
         path = os.path.join(self.folder.name, "old.html")
         with open(path, "w", encoding="ascii") as file:
