@@ -59,7 +59,7 @@ def entries(library):
     folder = f"mezguld-{version()}.dist-info"
     tags = tag(library).split("-")
     wheel = ["Wheel-Version: 1.0", "Generator: mezguld_wheel", "Root-Is-Purelib: false", *[f"Tag: py3-none-{it}" for it in tags[2].split(".")]]
-    found = {f"mezguld/{name}": text_of(os.path.join(PACKAGE, name)).encode() for name in os.listdir(PACKAGE) if name.endswith((".py", ".typed"))}
+    found = {f"mezguld/{name}": text_of(os.path.join(PACKAGE, name)).encode() for name in os.listdir(PACKAGE) if name.endswith((".py", ".typed", ".html"))}
     found["mezguld/libmezguld.so"] = library
     found[f"{folder}/METADATA"] = metadata().encode()
     found[f"{folder}/WHEEL"] = ("\n".join(wheel) + "\n").encode()

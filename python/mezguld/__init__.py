@@ -23,6 +23,7 @@ import enum
 import operator
 import os
 import re
+import sys
 import threading
 import time
 from typing import Any, Callable, Iterable, NamedTuple, NoReturn
@@ -346,7 +347,13 @@ def _opened() -> ctypes.CDLL:
     return library
 
 
-_library = _opened()
+try:
+    _library = _opened()
+except ImportError as _error:
+    # (The interpreter looks for the module of `python -m mezguld`: a person reads this.)
+    if sys.argv[:1] == ["-m"]:
+        sys.exit(f"mezguld: {_error}")
+    raise
 
 
 # ---- what calls are given. (ctypes cuts a number that is too large for its type, so each is tested before.)

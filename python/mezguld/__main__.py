@@ -1,0 +1,174 @@
+"""The commands of the package: `python -m mezguld COMMAND`."""
+from __future__ import annotations
+
+import argparse
+import contextlib
+import errno
+import os
+import re
+import sys
+import threading
+from typing import Any, Callable, NoReturn
+
+from . import BadFormat, Error, NameTwice, OutOfMemory, Short, TailTooLong, TooLarge, __version__, picture
+
+# The most bytes of a file and of the input, and of a file's name.
+MOST_BYTES, MOST_NAME = 16 << 20, 64
+FAULTS = {NameTwice: "name twice", TooLarge: "too large", TailTooLong: "tail too long", BadFormat: "bad format", Short: "short", OutOfMemory: "out of memory"}
+
+
+class Fault(Exception):
+    """Why there is no result, in one sentence."""
+
+
+class Parser(argparse.ArgumentParser):
+    """A parser that refuses a wrong command line with one sentence and status 2."""
+
+    def error(self, message: str) -> NoReturn:
+        self.exit(2, f"{self.prog}: {message}; {self.prog} --help tells more\n".encode("ascii", "backslashreplace").decode("ascii"))
+
+
+def number(text: str) -> int:
+    """A number of the command line, decimal, below 2**64."""
+    if not re.fullmatch(r"\+?[0-9]{1,20}", text) or int(text) >= 2**64:
+        raise argparse.ArgumentTypeError(f"{text!r} is no number from 0 to 2^64 - 1")
+    return int(text)
+
+
+def shown(path: str) -> str:
+    """A path as it is told."""
+    return picture.shown(os.fsencode(path))
+
+
+def bytes_of(path: str) -> bytes:
+    """The bytes of a file, or of standard input for an empty path."""
+    told = shown(path) if path else "standard input"
+    try:
+        if not path:
+            data = sys.stdin.buffer.read(MOST_BYTES + 1) if sys.stdin is not None else b""
+        else:
+            with open(path, "rb") as file:
+                data = file.read(MOST_BYTES + 1)
+    except (OSError, ValueError) as error:
+        raise Fault(f"cannot read {told}") from error
+    if len(data) > MOST_BYTES:
+        raise Fault(f"input too long: {told} has more than 16 MiB")
+    return data
+
+
+def programs_of(paths: list[str]) -> list[picture.Program]:
+    """The programs at these paths, by the last part of each."""
+    programs: list[picture.Program] = []
+    for path in paths:
+        name = os.fsencode(path).rsplit(b"/", 1)[-1]
+        if not name:
+            raise Fault(f"cannot read {shown(path)}")
+        content = bytes_of(path)
+        if len(name) > MOST_NAME:
+            raise Fault(f"name too long: {shown(path)}")
+        if any(name.lower() == it.name.lower() for it in programs):
+            raise Fault(f"name twice: {shown(path)}")
+        programs.append(picture.Program(name, content))
+    return programs
+
+
+def say(text: str) -> None:
+    """Writes a text to standard output. `OSError`, after which nothing more is written there."""
+    if sys.stdout is None:
+        raise OSError(errno.EBADF, os.strerror(errno.EBADF))
+    try:
+        sys.stdout.buffer.write(text.encode("utf-8"))
+        sys.stdout.buffer.flush()
+    except OSError:
+        # (Else the interpreter tries it again at its end.)
+        os.dup2(os.open(os.devnull, os.O_WRONLY), 1)
+        raise
+
+
+def made(work: Callable[[], Any]) -> Any:
+    """What `work` returns, which is done on another thread, so that Ctrl-C ends the command at once."""
+    results: list[Any] = []
+
+    def done() -> None:
+        try:
+            results.append((work(), None))
+        except BaseException as error:  # pylint: disable=broad-except
+            results.append((None, error))
+
+    thread = threading.Thread(target=done, daemon=True)
+    thread.start()
+    while thread.is_alive():
+        thread.join(0.2)
+    result, error = results.pop()
+    if error is not None:
+        raise error
+    return result
+
+
+def draw(options: argparse.Namespace) -> int:
+    """The command `picture`."""
+    programs = programs_of(options.files)
+    console = bytes_of(options.input or "")
+    run = picture.Options(options.steps, options.ems, options.xms, options.upper, os.fsencode(options.tail), console)
+    try:
+        found = made(lambda: picture.record(programs, run, files=options.files, input_file=options.input))
+    except Error as error:
+        raise Fault(FAULTS.get(type(error), str(error))) from error
+    text = picture.text_of(found) + "\n" if options.json else picture.page(found)
+    output = options.output or ("memory.json" if options.json else "memory.html")
+    try:
+        if output == "-":
+            say(text)
+            return 0
+        picture.write(text, output)
+    except (OSError, ValueError) as error:
+        why = getattr(error, "strerror", None) or str(error)
+        raise Fault(f"cannot write {'standard output' if output == '-' else shown(output)} ({why})") from error
+    errors = sum(1 + it["more"] for it in found["findings"] if it["kind"] == "error")
+    notes = sum(1 + it["more"] for it in found["findings"] if it["kind"] == "note")
+    # (The file is there, whether or not anybody reads this line.)
+    with contextlib.suppress(OSError):
+        say(f"{shown(output)}: {found['calls']['seen']} calls, errors: {errors}, notes: {notes}, {found['run']['end']['text']}\n")
+    return 0
+
+
+def arguments() -> Parser:
+    """The parser of the command line. A command is a function of the options that returns the exit status."""
+    parser = Parser(prog="python -m mezguld", description="The proved MS-DOS machine of Mezguld, from the command line.", allow_abbrev=False)
+    parser.add_argument("--version", action="version", version=f"mezguld {__version__}")
+    commands = parser.add_subparsers(metavar="COMMAND", required=True)
+    about = "draws a page that shows what a program did with memory"
+    command = commands.add_parser(
+        "picture", help=about, allow_abbrev=False, description=f"Runs a program as `dm check` does, and {about}: one HTML file, for any browser.",
+        epilog="example: python -m mezguld picture leaks.com -o memory.html </dev/null",
+    )
+    command.add_argument("--steps", type=number, default=picture.Options().steps, metavar="N", help="stop after so many steps (100000000)")
+    command.add_argument("--ems", type=number, default=64, metavar="PAGES", help="pages of expanded memory, of 16 KiB (64)")
+    command.add_argument("--xms", type=number, default=1024, metavar="KIB", help="KiB of extended memory (1024)")
+    command.add_argument("--upper", action="store_true", help="DOS has upper memory, segments D000h to DFFFh")
+    command.add_argument("--tail", default="", metavar="TEXT", help="the command tail; it begins with a space")
+    command.add_argument("--input", metavar="FILE", help="the file with the console's input (standard input)")
+    command.add_argument("--json", action="store_true", help="write the page's data alone, as JSON")
+    command.add_argument("-o", "--output", metavar="FILE", help="the file to write (memory.html, or memory.json); - is standard output")
+    command.add_argument("files", nargs="+", metavar="FILE", help="the program, and those that it can start")
+    command.set_defaults(does=draw)
+    return parser
+
+
+def main() -> int:
+    """Does the command of the command line, and returns the exit status: 2 for a wrong line, 126 for a fault."""
+    options = arguments().parse_args()
+    try:
+        return options.does(options)
+    except Fault as fault:
+        print(f"mezguld: {fault}", file=sys.stderr)
+        return 126
+    except KeyboardInterrupt:
+        print("mezguld: interrupted", file=sys.stderr)
+        # (A run that goes on would keep the process.)
+        sys.stderr.flush()
+        os._exit(130)
+
+
+if __name__ == "__main__":
+    sys.exit(main())
