@@ -77,7 +77,7 @@ class Planted(unittest.TestCase):
             with self.subTest(path=path, before=before):
                 with open(f"{self.copy}/{path}", encoding="utf-8") as file:
                     text = file.read()
-                figure = re.search(re.escape(before) + r"([\d,]+)", text)
+                figure = re.search(re.escape(before).replace(r"\ ", r"\s+") + r"([\d,]+)", text)
                 self.assertIsNotNone(figure)
                 self.is_reported(path, text, f"{text[: figure.start(1)]}17{text[figure.end(1) :]}", figure[1])
 
