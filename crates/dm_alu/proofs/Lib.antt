@@ -2,3 +2,4 @@ pub mod Bits
 pub mod Quotients
 pub mod RoundTrip
 pub mod Overflows
+pub mod Rotations

@@ -5,3 +5,4 @@ pub mod Products
 pub mod Shifts
 pub mod Sums
 pub mod Width
+pub mod inner

@@ -1,3 +1,4 @@
 mod Carries
 mod Signs
 mod ByWidth
+pub mod Unshifted
