@@ -1,5 +1,5 @@
 //! The console: input that is read byte by byte, and output that is kept in memory.
-ghost use Rattle.std.specs.Prelude.{◌≡◌, ◌+◌, ◌-◌, ◌≤◌, ◌<◌, ◌++◌, [], ◌∷◌, IsOk, OnOk, OnErr, drop, length, max, slice_get, vec_len, vec_capacity};
+ghost use Rattle.std.specs.Prelude.{◌≡◌, ◌+◌, ◌-◌, ◌≤◌, ◌<◌, ◌++◌, [], ◌∷◌, IfOk, IsOk, OnOk, OnErr, drop, length, max, slice_get, vec_len, vec_capacity};
 ghost use Rattle.dm_console.specs.Streams.{Streams};
 
 use std::alloc::{AllocError, Global};
@@ -34,6 +34,25 @@ impl Console {
             output: Vec::new(alloc),
             room: 0,
         }
+    }
+
+    /// Another console with the same input, output and room.
+    ///
+    /// # Errors
+    ///
+    /// `AllocError` if an allocation fails.
+    pub fn duplicate(&self, alloc: Global) -> Result<Console, AllocError>
+        ensures { IfOk result (λ console. console ≡ self.now) }
+    {
+        let input = Vec::from_slice(alloc, self.input())?;
+        let mut output = Vec::from_slice(alloc, self.output())?;
+        output.reserve(self.room)?;
+        Ok(Console {
+            input,
+            taken: 0,
+            output,
+            room: self.room,
+        })
     }
 
     /// Makes the room at least `bytes`; larger room stays, and so do input and output. It allocates nothing where the

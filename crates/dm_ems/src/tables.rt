@@ -53,6 +53,15 @@ impl Model for Ems {
     ghost invariant = { λ e. IsTables (record { total = e.total; handles = e.handles; pages = e.pages.items }) };
 }
 
+/// The same pages in the same order.
+fn same_pages(pages: &ArrayVec<Page, 512>) -> ArrayVec<Page, 512>
+    ensures { result.items ≡ pages.now.items }
+{
+    let mut same = ArrayVec::new();
+    let _ = same.try_extend_from_slice(pages);
+    same
+}
+
 /// What a window shows once a block is removed: nothing, if it showed that block.
 fn unmapped(shown: Option<Block>, block: Block) -> Option<Block>
     ensures { result ≡ unmapped block shown }
@@ -135,6 +144,19 @@ impl Ems {
             total,
             handles,
             pages: ArrayVec::new(),
+        }
+    }
+
+    /// The same tables once more.
+    pub fn duplicate(&self) -> Ems
+        ensures { result ≡ self.now }
+    {
+        let mut handles = [None; HANDLES];
+        handles.copy_from_slice(&self.handles);
+        Ems {
+            total: self.total,
+            handles,
+            pages: same_pages(&self.pages),
         }
     }
 

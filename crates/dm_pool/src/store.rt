@@ -142,6 +142,20 @@ impl Store {
         }
     }
 
+    /// Another store that holds the same, in an allocation of its own.
+    ///
+    /// # Errors
+    ///
+    /// `AllocError` if the allocation fails.
+    pub fn duplicate(&self, alloc: Global) -> Result<Store, AllocError>
+        ensures { IfOk result (λ store. store ≡ self.now) }
+    {
+        Ok(Store {
+            region: self.region.duplicate(alloc)?,
+            table: self.table.duplicate(),
+        })
+    }
+
     /// The 110000h bytes of low memory, by linear address.
     #[inline(always)]
     pub fn low(&self) -> &[u8]

@@ -133,6 +133,15 @@ fn order_out(
     }
 }
 
+/// The same numbers in the same order.
+fn same_order(order: &ArrayVec<u16, SLOTS>) -> ArrayVec<u16, SLOTS>
+    ensures { result.items ≡ order.now.items }
+{
+    let mut same = ArrayVec::new();
+    let _ = same.try_extend_from_slice(order);
+    same
+}
+
 impl Table {
     /// A table with no block for a pool of `units` units; where the first free run begins is not set yet.
     pub(crate) fn new(units: usize) -> Table
@@ -140,6 +149,18 @@ impl Table {
         ensures { result ≡ no_layout units }
     {
         no_blocks(units)
+    }
+
+    /// Another table with the same blocks, the same order, and the same first free run.
+    pub(crate) fn duplicate(&self) -> Table
+        ensures { result ≡ self.now }
+    {
+        Table {
+            units: self.units,
+            places: self.places,
+            order: same_order(&self.order),
+            first: self.first,
+        }
     }
 
     /// Does nothing; proofs take from its contract what holds of every table.

@@ -26,6 +26,15 @@ impl Model for Procs {
     ghost view = { λ s. record { present = s.present; parents = s.parents.items; code = s.code } };
 }
 
+/// The same parents in the same order.
+fn same_parents(parents: &ArrayVec<Parent, 15>) -> ArrayVec<Parent, 15>
+    ensures { result.items ≡ parents.now.items }
+{
+    let mut same = ArrayVec::new();
+    let _ = same.try_extend_from_slice(parents);
+    same
+}
+
 impl Procs {
     /// The processes before the first program: none is loaded, and none has ended.
     pub fn new() -> Procs
@@ -35,6 +44,17 @@ impl Procs {
             present: 0,
             parents: ArrayVec::new(),
             code: 0,
+        }
+    }
+
+    /// The same processes once more.
+    pub fn duplicate(&self) -> Procs
+        ensures { result ≡ self.now }
+    {
+        Procs {
+            present: self.present,
+            parents: same_parents(&self.parents),
+            code: self.code,
         }
     }
 

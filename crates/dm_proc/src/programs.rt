@@ -1,9 +1,9 @@
 //! The store of programs: named files, whose names are compared with ASCII case ignored.
-ghost use Rattle.std.specs.Prelude.{◌≡◌, ◌++◌, ◌↔◌, ◌≤◌, ◌<◌, List, [], ◌∷◌, ℕ, true, OnOk, OnErr, IsErrOf, length, map, option_map};
+ghost use Rattle.std.specs.Prelude.{◌≡◌, ◌++◌, ◌↔◌, ◌≤◌, ◌<◌, List, [], ◌∷◌, ℕ, true, IfOk, OnOk, OnErr, IsErrOf, length, map, option_map};
 ghost use Rattle.std.specs.Str.{str_eq_ignore_ascii_case};
 ghost use Rattle.dm_proc.specs.Programs.{has_name, program_of, IsName};
 
-use std::alloc::Global;
+use std::alloc::{AllocError, Global};
 use std::marker::Model;
 use thiserror::Error;
 
@@ -23,6 +23,18 @@ pub enum AddError {
 struct Program {
     name: Vec<u8>,
     bytes: Vec<u8>,
+}
+
+impl Program {
+    /// Another program with the same name and bytes. `AllocError` if an allocation fails.
+    fn duplicate(&self, alloc: Global) -> Result<Program, AllocError>
+        ensures { IfOk result (λ program. (program.name.items ≡ self.now.name.items) × (program.bytes.items ≡ self.now.bytes.items)) }
+    {
+        Ok(Program {
+            name: Vec::from_slice(alloc, self.name.as_slice())?,
+            bytes: Vec::from_slice(alloc, self.bytes.as_slice())?,
+        })
+    }
 }
 
 /// Named program files. Contracts see the list of names and bytes.
@@ -52,6 +64,21 @@ impl Programs {
         Programs {
             programs: Vec::new(alloc),
         }
+    }
+
+    /// Another store with the same programs in the same order.
+    ///
+    /// # Errors
+    ///
+    /// `AllocError` if an allocation fails.
+    pub fn duplicate(&self, alloc: Global) -> Result<Programs, AllocError>
+        ensures { IfOk result (λ store. store ≡ self.now) }
+    {
+        let mut programs = Vec::new(alloc);
+        for program in &self.programs {
+            programs.push(program.duplicate(alloc)?)?;
+        }
+        Ok(Programs { programs })
     }
 
     /// The bytes of the program with this name, ASCII case ignored; None if the store has none.

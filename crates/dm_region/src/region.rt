@@ -50,6 +50,25 @@ fn zeros(alloc: Global, len: usize) -> Result<Region, AllocError>
     })
 }
 
+/// Allocates a region with these bytes; they are `MOST_BYTES` or less. `AllocError` if `alloc` has no memory.
+fn filled(alloc: Global, bytes: &[u8]) -> Result<Region, AllocError>
+    requires { length bytes.now ≤ MOST_BYTES }
+    ensures { IfOk result (λ region. region ≡ bytes.now) }
+{
+    let len = bytes.len();
+    let (base, mut cells, deed) = allocate(&alloc, len)?;
+    for i in 0..len {
+        cells.write(base, i, bytes[i]);
+    }
+    Ok(Region {
+        base,
+        len,
+        cells,
+        deed,
+        alloc,
+    })
+}
+
 impl Region {
     /// A region of `len` zeros; `len` may be 0.
     ///
@@ -63,6 +82,17 @@ impl Region {
             return Err(AllocError);
         }
         zeros(alloc, len)
+    }
+
+    /// Another region with the same bytes, in an allocation of its own.
+    ///
+    /// # Errors
+    ///
+    /// `AllocError` if the allocation fails.
+    pub fn duplicate(&self, alloc: Global) -> Result<Region, AllocError>
+        ensures { IfOk result (λ region. region ≡ self.now) }
+    {
+        filled(alloc, self.part(0, self.len))
     }
 
     /// How many bytes the region has.

@@ -1,5 +1,5 @@
 //! The parts of a machine: what instructions, services and drivers read and change.
-ghost use Rattle.std.specs.Prelude.{◌≡◌};
+ghost use Rattle.std.specs.Prelude.{◌≡◌, IfOk};
 ghost use Rattle.dm_state.specs.State.{go, interrupt_returned, far_returned};
 
 use dm_arena::Strategy;
@@ -10,6 +10,7 @@ use dm_pool::Sizes;
 use dm_proc::{Procs, Programs};
 use dm_space::Space;
 use dm_xms::Xms;
+use std::alloc::{AllocError, Global};
 use std::marker::Model;
 
 /// The parts of a machine, on which instructions and services act.
@@ -74,6 +75,35 @@ impl Model for Parts {
 }
 
 impl Parts {
+    /// The parts of another machine in the same state, which share nothing with these.
+    ///
+    /// # Errors
+    ///
+    /// `AllocError` if an allocation fails.
+    pub fn duplicate(&self, alloc: Global) -> Result<Parts, AllocError>
+        ensures { IfOk result (λ parts. parts ≡ self.now) }
+    {
+        let space = self.space.duplicate(alloc)?;
+        let console = self.console.duplicate(alloc)?;
+        let programs = self.programs.duplicate(alloc)?;
+        let variables = Vec::from_slice(alloc, self.variables.as_slice())?;
+        Ok(Parts {
+            cpu: self.cpu,
+            space,
+            ems: self.ems.duplicate(),
+            xms: self.xms.duplicate(),
+            console,
+            procs: self.procs.duplicate(),
+            strategy: self.strategy,
+            exited: self.exited,
+            steps: self.steps,
+            programs,
+            variables,
+            sizes: self.sizes,
+            upper: self.upper,
+        })
+    }
+
     /// Adds 1 to the count of steps; at 2^64 - 1 the count stays.
     pub fn count(&mut self)
         ensures { self.new ≡ (go self.old).state }

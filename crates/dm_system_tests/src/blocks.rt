@@ -156,6 +156,33 @@ fn play(rt: &impl Abort, taken: &mut Taken, step: Step) {
     keep(rt, taken);
 }
 
+/// Four units, of which the block was freed, lie below a block of two; both stores then go on apart.
+#[test]
+fn a_duplicate_has_blocks_of_its_own(rt: HostRuntime) -> Result<(), Fail> {
+    let mut store = made(rt.alloc(), 0, 16)?;
+    let first = store.take(4).ok_or("no room")?;
+    let second = store.take(2).ok_or("no room")?;
+    fill(&mut store, second, 7);
+    if store.has(first) {
+        store.give(first);
+    }
+    let mut twin = store.duplicate(rt.alloc())?;
+    same(&rt, "free", (twin.free(), twin.largest()), (14, 10));
+    same(&rt, "bytes", is_sound(&twin, second, 2048, 7), true);
+    let third = twin.take(3).ok_or("no room")?;
+    same(&rt, "place", place_of(&twin, third), (Some(0), 3072));
+    fill(&mut twin, second, 9);
+    same(&rt, "free in the duplicate", twin.free(), 11);
+    same(&rt, "free in the original", store.free(), 14);
+    same(
+        &rt,
+        "bytes of the original",
+        is_sound(&store, second, 2048, 7),
+        true,
+    );
+    Ok(())
+}
+
 /// Definitions: dm_pool Blocks Blocks IsAt IsLive no_blocks taken placed zeros without resized new_base at_base fitted
 /// Definitions: dm_pool Gaps is_clear is_free lowest first_empty gaps Run largest free_units count_fitting
 /// Definitions: dm_pool FreeList AreBased

@@ -27,6 +27,21 @@ fn regions_begin_as_zeros(rt: HostRuntime) -> Result<(), Fail> {
 }
 
 #[test]
+fn a_duplicate_has_bytes_of_its_own(rt: HostRuntime) -> Result<(), Fail> {
+    let mut region = letters(rt.alloc())?;
+    let mut twin = region.duplicate(rt.alloc())?;
+    same(&rt, "length", twin.len(), 10);
+    same(&rt, "bytes", twin.part(0, 10), b"abcdefghij".as_slice());
+    twin.part_mut(0, 1).fill(b'x');
+    region.part_mut(9, 1).fill(b'y');
+    same(&rt, "twin", twin.part(0, 10), b"xbcdefghij".as_slice());
+    same(&rt, "region", region.part(0, 10), b"abcdefghiy".as_slice());
+    let empty = Region::new(rt.alloc(), 0)?.duplicate(rt.alloc())?;
+    same(&rt, "length of an empty one", empty.len(), 0);
+    Ok(())
+}
+
+#[test]
 fn an_empty_region_lends_empty_parts(rt: HostRuntime) -> Result<(), Fail> {
     let mut region = Region::new(rt.alloc(), 0)?;
     region.part_mut(0, 0).fill(b'x');

@@ -33,6 +33,22 @@ fn first_byte(space: &Space, block: Block) -> Option<u8> {
 }
 
 #[test]
+fn a_duplicate_has_bytes_and_a20_of_its_own(rt: HostRuntime) -> Result<(), Fail> {
+    let mut space = new_space(rt.alloc())?;
+    space.set_a20(true);
+    space.poke(0x2000, 5, 0x11);
+    let mut twin = space.duplicate(rt.alloc())?;
+    same(&rt, "A20", twin.a20(), true);
+    same(&rt, "byte", twin.peek(0x2000, 5), 0x11);
+    twin.set_a20(false);
+    twin.poke(0x2000, 5, 0x22);
+    same(&rt, "A20 of the original", space.a20(), true);
+    same(&rt, "byte of the original", space.peek(0x2000, 5), 0x11);
+    same(&rt, "byte of the duplicate", twin.peek(0x2000, 5), 0x22);
+    Ok(())
+}
+
+#[test]
 fn memory_starts_over_a_used_store(rt: HostRuntime) -> Result<(), Fail> {
     let sizes = Sizes {
         ems_pages: 2,

@@ -71,7 +71,31 @@ fn first_free(slots: &[Option<Handle>]) -> Option<usize>
     slots.iter().position(|slot| slot.is_none())
 }
 
+/// The same upper memory blocks in the same order.
+fn same_uppers(uppers: &ArrayVec<Upper, 64>) -> ArrayVec<Upper, 64>
+    ensures { result.items ≡ uppers.now.items }
+{
+    let mut same = ArrayVec::new();
+    let _ = same.try_extend_from_slice(uppers);
+    same
+}
+
 impl Xms {
+    /// The same tables once more.
+    pub fn duplicate(&self) -> Xms
+        ensures { result ≡ self.now }
+    {
+        let mut handles = [None; HANDLES];
+        handles.copy_from_slice(&self.handles);
+        Xms {
+            handles,
+            area: self.area,
+            global: self.global,
+            local: self.local,
+            uppers: same_uppers(&self.uppers),
+        }
+    }
+
     /// The tables of a new machine: no handle is in use, the high memory area and upper memory are free, and A20 is
     /// off.
     pub fn new() -> Xms
