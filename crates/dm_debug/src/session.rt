@@ -16,7 +16,7 @@ use crate::points::{Points, put_points};
 use crate::refusal::CommandRefusal;
 use crate::runs::{enter, go, trace};
 use dm_command::{Bytes, Command, LogicalAddress, read_command};
-use dm_machine::{Breakpoint, Machine, Out, Stop};
+use dm_machine::{Breakpoint, Cpu, Machine, Out, Stop};
 use dm_out::write_all;
 use std::alloc::{AllocError, Global};
 use std::marker::Model;
@@ -103,6 +103,13 @@ impl Session {
         ensures { self.new ≡ with_machine self.old (record self.old.machine { memory = with_bytes self.old.machine.memory segment offset bytes.now }) }
     {
         enter(&mut self.machine, segment, offset, bytes);
+    }
+
+    /// Sets the registers and flags of the machine; nothing else changes.
+    pub fn set_registers(&mut self, registers: Cpu)
+        ensures { self.new ≡ with_machine self.old (record self.old.machine { cpu = registers }) }
+    {
+        self.machine.set_registers(registers);
     }
 
     /// Whether the command is BC for a breakpoint that is not set.

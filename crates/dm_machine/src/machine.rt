@@ -225,6 +225,14 @@ impl Machine {
         self.parts.space.poke(segment, offset, value);
     }
 
+    /// Sets the registers and flags; nothing else changes. A program must be loaded.
+    pub fn set_registers(&mut self, registers: Cpu)
+        requires { HasProgram self.old }
+        ensures { self.new ≡ record self.old { cpu = registers } }
+    {
+        self.parts.cpu = registers;
+    }
+
     /// Makes the room, how many more bytes of output can be written without an allocation, at least `bytes`. It
     /// allocates nothing if the room is large enough already.
     ///

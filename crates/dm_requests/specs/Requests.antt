@@ -46,6 +46,30 @@ register_with (Some number) = request.Register number
 abbrev pub register_of : List ℕ → Request
 register_of bytes = register_with (number_of bytes)
 
+-- `P`, by its number and its bytes; None if they were not spelled
+abbrev pub set_register_with : Option ℕ → Option (List ℕ) → Request
+set_register_with None bytes = request.Malformed
+set_register_with (Some number) None = request.Malformed
+set_register_with (Some number) (Some bytes) = request.SetRegister number bytes
+
+-- `P`, by what stands before and after its equals sign
+abbrev pub set_register_in : Option (List ℕ × List ℕ) → Request
+set_register_in None = request.Malformed
+set_register_in (Some parts) = set_register_with (number_of parts.0) (if_good (decode_of parts.1))
+
+-- `P N=BYTES`, without its `P`
+abbrev pub set_register_of : List ℕ → Request
+set_register_of bytes = set_register_in (cut_at 61 [] bytes)
+
+-- `G`, by its bytes; None if they are no pairs of digits
+abbrev pub set_registers_with : Option (List ℕ) → Request
+set_registers_with None = request.Malformed
+set_registers_with (Some bytes) = request.SetRegisters bytes
+
+-- `G BYTES`, without its `G`
+abbrev pub set_registers_of : List ℕ → Request
+set_registers_of digits = set_registers_with (if_good (decode_of digits))
+
 -- `Z`, by its breakpoint or watchpoint
 abbrev pub insertion_with : Option Point → Request
 insertion_with None = request.Malformed
@@ -102,6 +126,8 @@ lettered b bytes =
     if b == 109 then memory_of bytes
     else if b == 77 then set_memory_of bytes
     else if b == 112 then register_of bytes
+    else if b == 80 then set_register_of bytes
+    else if b == 71 then set_registers_of bytes
     else if b == 90 then insertion bytes
     else if b == 122 then removal bytes
     else if b == 113 then query_of bytes

@@ -1,7 +1,7 @@
 //! Reading what a packet carries as a request.
 
 ghost use Rattle.std.specs.Prelude.{◌≡◌, IfOk};
-ghost use Rattle.dm_requests.specs.Requests.{set_bytes, memory_of, set_memory_of, register_of, insertion, removal, feature_of, command_of, query_of, request_of};
+ghost use Rattle.dm_requests.specs.Requests.{set_bytes, memory_of, set_memory_of, register_of, set_register_with, set_register_of, set_registers_of, insertion, removal, feature_of, command_of, query_of, request_of};
 
 use crate::arguments::{after_prefix, cut_at, point_of, two_numbers, unhex};
 use crate::names::{named_query, named_verb, single};
@@ -56,6 +56,40 @@ fn register(bytes: &[u8]) -> Request
     match read_number(bytes) {
         Some(number) => Request::Register(number),
         None => Request::Malformed,
+    }
+}
+
+/// The request to set a register; malformed if its number or its bytes were not spelled.
+fn register_to(number: Option<u32>, bytes: Option<Payload>) -> Request
+    ensures { result ≡ set_register_with number bytes }
+{
+    let Some(number) = number else {
+        return Request::Malformed;
+    };
+    match bytes {
+        Some(bytes) => Request::SetRegister(number, bytes),
+        None => Request::Malformed,
+    }
+}
+
+/// `P N=BYTES`. An `Err` is a failed allocation.
+fn set_register(alloc: Global, bytes: &[u8]) -> Result<Request, AllocError>
+    ensures { IfOk result (λ r. r ≡ set_register_of bytes.now) }
+{
+    let Some((number, digits)) = cut_at(b'=', bytes) else {
+        return Ok(Request::Malformed);
+    };
+    let value = unhex(alloc, digits)?;
+    Ok(register_to(read_number(number), value))
+}
+
+/// `G BYTES`. An `Err` is a failed allocation.
+fn set_registers(alloc: Global, digits: &[u8]) -> Result<Request, AllocError>
+    ensures { IfOk result (λ r. r ≡ set_registers_of digits.now) }
+{
+    match unhex(alloc, digits)? {
+        Some(bytes) => Ok(Request::SetRegisters(bytes)),
+        None => Ok(Request::Malformed),
     }
 }
 
@@ -118,7 +152,7 @@ fn query(alloc: Global, bytes: &[u8]) -> Result<Request, AllocError>
 ///
 /// # Errors
 ///
-/// `AllocError` if there is no memory for the bytes of `M` or the text of `qRcmd`.
+/// `AllocError` if there is no memory for the bytes of `M`, `P` or `G`, or the text of `qRcmd`.
 pub fn read_request(alloc: Global, payload: &[u8]) -> Result<Request, AllocError>
     ensures { IfOk result (λ r. r ≡ request_of payload.now) }
 {
@@ -127,6 +161,8 @@ pub fn read_request(alloc: Global, payload: &[u8]) -> Result<Request, AllocError
         [b'm', rest @ ..] => Ok(memory(rest)),
         [b'M', rest @ ..] => set_memory(alloc, rest),
         [b'p', rest @ ..] => Ok(register(rest)),
+        [b'P', rest @ ..] => set_register(alloc, rest),
+        [b'G', rest @ ..] => set_registers(alloc, rest),
         [b'Z', rest @ ..] => Ok(insertion(rest)),
         [b'z', rest @ ..] => Ok(removal(rest)),
         [b'q', rest @ ..] => query(alloc, rest),

@@ -34,6 +34,10 @@ pub enum Request {
     Registers,
     /// `p N`: the register with this number.
     Register(u32),
+    /// `P N=BYTES`: sets the register with this number to the bytes, the lowest first.
+    SetRegister(u32, Payload),
+    /// `G BYTES`: sets all registers to the bytes, in the order of their numbers.
+    SetRegisters(Payload),
     /// `m ADDRESS,COUNT`: this number of bytes from a linear address up.
     Memory(u32, u32),
     /// `M ADDRESS,COUNT:BYTES`: writes the bytes from a linear address up; the count is theirs.

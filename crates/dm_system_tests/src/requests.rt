@@ -9,7 +9,7 @@ use std::process::Abort;
 use std::test::Fail;
 
 /// Registers, memory, breakpoints and commands.
-const NUMBERED: [(&[u8], &str); 34] = [
+const NUMBERED: [(&[u8], &str); 43] = [
     (b"p0", "register 0"),
     (b"pa", "register 10"),
     (b"pFFFFFFFF", "register 4294967295"),
@@ -31,6 +31,15 @@ const NUMBERED: [(&[u8], &str); 34] = [
     (b"M1030,1:b", "malformed"),
     (b"M1030,1:xx", "malformed"),
     (b"M1030,1", "malformed"),
+    (b"P0=34120000", "register 0 to 34120000"),
+    (b"P20=0001", "register 32 to 0001"),
+    (b"P0=", "register 0 to "),
+    (b"P0", "malformed"),
+    (b"P=00", "malformed"),
+    (b"P0=0", "malformed"),
+    (b"G0102", "registers to 0102"),
+    (b"G", "registers to "),
+    (b"G0x", "malformed"),
     (b"Z0,1130,1", "insert Execute 4400 1"),
     (b"Z1,1130,1", "insert Execute 4400 1"),
     (b"Z2,1130,2", "insert Write 4400 2"),
@@ -47,15 +56,13 @@ const NUMBERED: [(&[u8], &str); 34] = [
 ];
 
 /// Requests without arguments, and those whose arguments do not count; a row is what it is read as.
-const NAMED: [(&[u8], &str); 48] = [
+const NAMED: [(&[u8], &str); 46] = [
     (b"", "unknown"),
     (b"?", "why"),
     (b"??", "unknown"),
     (b"!", "extended"),
     (b"g", "registers"),
     (b"gg", "unknown"),
-    (b"G00", "unknown"),
-    (b"P0=00", "unknown"),
     (b"X0,0:", "unknown"),
     (b"s", "step"),
     (b"s1130", "unknown"),
@@ -156,6 +163,14 @@ fn put(text: &mut String, request: &Request) -> Result<(), Fail> {
         Request::Memory(address, count) => write!(text, "memory {address} {count}")?,
         Request::Range(start, end) => write!(text, "range {start} {end}")?,
         Request::Features(offset, count) => write!(text, "features {offset} {count}")?,
+        Request::SetRegister(number, bytes) => {
+            write!(text, "register {number} to ")?;
+            put_digits(text, bytes)?;
+        }
+        Request::SetRegisters(bytes) => {
+            text.push_str("registers to ")?;
+            put_digits(text, bytes)?;
+        }
         Request::SetMemory(address, bytes) => {
             write!(text, "write {address} ")?;
             put_digits(text, bytes)?;
@@ -185,7 +200,7 @@ fn check_payload(rt: &impl Abort, alloc: Global, payload: &[u8], wanted: &str) -
     Ok(())
 }
 
-/// Definitions: dm_requests Requests request_of memory_of set_memory_of register_of insertion removal feature_of command_of
+/// Definitions: dm_requests Requests request_of memory_of set_memory_of register_of set_register_of set_registers_of insertion removal feature_of command_of
 /// Definitions: dm_requests Arguments cut_at two_numbers access_of point_of
 #[test]
 fn requests_have_arguments(rt: HostRuntime) -> Result<(), Fail> {
