@@ -1,7 +1,7 @@
 -- The memory of a real-mode machine: what stands at each linear address.
 -- Intel 8086 Family User's Manual, "Memory": segments, linear addresses, words with the low byte first.
 -- The map from A0000h up is this machine's own. Pages of expanded memory (LIM EMS 4.0) are blocks of a pool.
-use Rattle.std.specs.Prelude.{◌≡◌, ℕ, ◌+◌, ◌-◌, ◌*◌, ◌/◌, ◌%◌, ◌<◌, Bool, false, nat_lt, if◌then◌else◌, List, [], ◌∷◌, length, slice_index, slice_index_or, slice_set, Option, Some, None, IfSome}
+use Rattle.std.specs.Prelude.{◌≡◌, ℕ, ◌+◌, ◌-◌, ◌*◌, ◌/◌, ◌%◌, ◌<◌, ◌≤◌, ◌⊎◌, Bool, false, nat_lt, if◌then◌else◌, List, [], ◌∷◌, length, slice_index, slice_index_or, slice_set, Option, Some, None, IfSome}
 use Rattle.dm_pool.specs.Blocks.{Blocks, IsLive, with_content}
 use Rattle.dm_space.specs.declared.place.Place.{Place}
 use Rattle.dm_space.specs.declared.place.Place.TheVariants.{Low, Page, Rom, Nothing}
@@ -38,6 +38,10 @@ place m a =
     if nat_lt a 0xF0000 then shown (slice_index_or m.windows ((a - 0xE0000) / 0x4000) None) ((a - 0xE0000) % 0x4000) else
     if nat_lt a 0x100000 then Rom (a - 0xF0000) else
     if nat_lt a 0x10FFF0 then Low a else Nothing
+
+-- RAM below the frame, where an address is its own place: conventional memory and the video memory, and upper memory
+abbrev pub InRam : ℕ → Type 0
+InRam a = (a < 0xC0000) ⊎ ((0xD0000 ≤ a) × (a < 0xE0000))
 
 -- the bytes of a block of the pool, which may be a page of expanded memory; none if there is no such block
 abbrev pub page_bytes : Memory → ℕ → List ℕ
