@@ -5,8 +5,7 @@ use Rattle.dm_region.proofs.region.filled.Goals as goal
 
 pub write-requires : goal.write-requires
 write-requires c =
-    let xs = c.args.bytes.now in let i = c.loop-i.i in let n = length xs in let more = c.loop-i-test.true in
-    (
+    let xs = c.args.bytes.now in let i = c.loop-i.i in let n = length xs in let more = c.loop-i-test.true in (
       sym (c.loop-i.invariant.at ∙ c.in_ok-base.ensures.0),
       omega (arith, ap length c.loop-i.invariant.slots, copy_length xs i (n - i) (omega arith)),
       ap (λ l. get_or l i None) c.loop-i.invariant.slots ∙ copy_empty xs i (n - i) (omega arith),
