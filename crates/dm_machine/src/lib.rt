@@ -1,6 +1,7 @@
 //! The machine: load, step and run, and their laws.
 #![tactic(auto)]
 
+mod copy;
 mod decode_cache;
 mod laws;
 mod loading;
