@@ -8,13 +8,10 @@ import collections
 import random
 import re
 import subprocess
-import sys
 import tempfile
 
-import command_line
 import opcodes
-
-sys.path.insert(0, f"{command_line.ROOT}/python")
+import stage
 
 ORIGIN, SLOT, MOST = 0x100, 16, 3000
 # Where the cases stand: a segment without anything else.
@@ -99,9 +96,7 @@ class Texts:
     """What the debugger shows for bytes."""
 
     def __init__(self):
-        import mezguld  # pylint: disable=import-outside-toplevel
-
-        self.machine = mezguld.Machine()
+        self.machine = stage.library().Machine()
         self.machine.add("P.COM", b"\x90")
         self.machine.load("P.COM")
 

@@ -2,7 +2,6 @@
 
 Both have the low 640 KiB of memory alike. A state is a dictionary of the fourteen registers, `flags` being the word that PUSHF stores.
 """
-import os
 import struct
 import sys
 
@@ -20,13 +19,20 @@ FLAGS, ALWAYS = 0xFD5, 0xF002
 SEGMENT, ORIGIN, STACK = 0x0103, 0x0100, 0x0400
 
 
+def library():
+    """The module `mezguld`, which needs the built library."""
+    try:
+        import mezguld  # pylint: disable=import-outside-toplevel
+    except ImportError as error:
+        sys.exit(f"tools/peers: {error}")
+    return mezguld
+
+
 class Ours:
     """A machine of Mezguld. Its registers are set by instructions: the library sets none."""
 
     def __init__(self):
-        import mezguld  # pylint: disable=import-outside-toplevel
-
-        self.mezguld = mezguld
+        self.mezguld = library()
         self.machine = None
         self.begin()
 

@@ -593,26 +593,44 @@ def _checked(programs: list[Program], options: Options) -> str:
         return machine.check(options.steps)[1]
 
 
-def _traced(programs: list[Program], options: Options, findings: list[dict[str, Any]]) -> tuple[Recorder, dict[str, Any], int]:
+class Progress:
+    """How far a record is, for another thread."""
+
+    def __init__(self) -> None:
+        self.what, self.recorder = "", None
+
+    def __str__(self) -> str:
+        recorder: Recorder | None = self.recorder
+        if recorder is None:
+            return self.what
+        return f"{self.what}: {recorder.now:,} of at most {recorder.options.steps:,} steps, {recorder.seen:,} calls about memory"
+
+
+def _traced(programs: list[Program], options: Options, findings: list[dict[str, Any]], progress: Progress) -> tuple[Recorder, dict[str, Any], int]:
     """The record of a run with looks at its calls and at the steps of findings, how it ended, and its steps."""
     with loaded(programs, options) as machine:
-        recorder = Recorder(Watched(machine), findings, options, programs[0].name)
+        progress.what = "second run" if findings else "first run"
+        recorder = progress.recorder = Recorder(Watched(machine), findings, options, programs[0].name)
         return recorder, recorder.run(), machine.steps
 
 
-def record(programs: list[Program], options: Options = Options(), *, files: list[str] | None = None, input_file: str | None = None) -> dict[str, Any]:
-    """Runs the first program, which can start the others, and returns all that docs/picture.md describes.
+def record(
+    programs: list[Program], options: Options = Options(), *, files: list[str] | None = None, input_file: str | None = None, progress: Progress | None = None
+) -> dict[str, Any]:
+    """Runs the first program, which can start the others, and returns all that docs/picture.md describes. `progress` says meanwhile how far it is.
 
     The errors are those of `Machine`, `Machine.add` and `Machine.load`.
     """
+    progress = Progress() if progress is None else progress
     with ThreadPoolExecutor(1) as pool:
         checked = pool.submit(_checked, programs, options)
-        traced = _traced(programs, options, [])
+        traced = _traced(programs, options, [], progress)
+        progress.what, progress.recorder = "checked run", None
         report = checked.result()
     findings = findings_of(report)
     if findings:
         # (Their steps are looked at too.)
-        traced = _traced(programs, options, findings)
+        traced = _traced(programs, options, findings, progress)
     recorder, end, steps = traced
     return data(recorder, programs, options, report, findings, end, steps, command_of(options, files or [shown(it.name) for it in programs], input_file))
 
