@@ -101,6 +101,11 @@ typedef struct mezguld_point {
 uint32_t mezguld_new(mezguld *machine, uint32_t ems_pages, uint32_t xms_kib, const uint8_t *variables,
                      size_t variables_count, uint32_t upper);
 
+/* Makes a second machine in the state of the first one, in `*copy`, which is MEZGULD_NONE before: with the same programs,
+ * breakpoints and answer. The two share nothing, and each is freed. A copy costs what its memory costs.
+ * NO_MACHINE (then `*copy` is not looked at), IN_USE, OUT_OF_MEMORY. */
+uint32_t mezguld_copy(mezguld *machine, mezguld *copy);
+
 /* Frees the machine, if there is one; then `*machine` is MEZGULD_NONE. The status is always OK. */
 uint32_t mezguld_free(mezguld *machine);
 

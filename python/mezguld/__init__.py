@@ -308,6 +308,7 @@ def _path() -> str:
 
 _PARAMETERS = {
     "mezguld_new": "m II pn B",
+    "mezguld_copy": "m m",
     "mezguld_add": "m pn pn",
     "mezguld_load": "m pn pn pn",
     "mezguld_run": "m Q s",
@@ -487,7 +488,7 @@ class Machine:
     """A machine: programs are added, one of them is loaded and run, and what the machine holds is read.
 
     Threads may share it: a call waits until the one before it has ended. `close` frees it, and waits too; so does the end of a `with` block. After
-    Ctrl-C in a run the machine is as after some of its steps, and can go on.
+    Ctrl-C in a run the machine is as after some of its steps, and can go on. `copy.copy` makes a second machine in the same state, as a snapshot.
     """
 
     def __init__(
@@ -537,8 +538,22 @@ class Machine:
             finally:
                 lock.release()
 
+    def __copy__(self) -> Machine:
+        """A second machine in the same state: `copy.copy(machine)`. It has the same programs and breakpoints, and the two share nothing: what one does, the
+        other does not see. `OutOfMemory`."""
+        machine = object.__new__(type(self))
+        machine.__dict__.update({name: value for name, value in self.__dict__.items() if name != "_handle"})
+        machine._lock, machine._left, machine._is_closed = threading.RLock(), [], False
+        handle = _Handle()
+        self._call(_library.mezguld_copy, handle)
+        machine._handle = handle
+        return machine
+
+    def __deepcopy__(self, _: object) -> Machine:
+        return self.__copy__()
+
     def __reduce__(self) -> NoReturn:
-        raise TypeError("a machine cannot be copied or pickled")
+        raise TypeError("a machine cannot be pickled; copy.copy copies it")
 
     def _held(self) -> threading.RLock:
         if self._is_closed:

@@ -8,12 +8,15 @@ import os
 import re
 import sys
 import threading
+import time
 from typing import Any, Callable, NoReturn
 
 from . import BadFormat, Error, NameTwice, OutOfMemory, Short, TailTooLong, TooLarge, __version__, picture
 
 # The most bytes of a file and of the input, and of a file's name.
 MOST_BYTES, MOST_NAME = 16 << 20, 64
+# The seconds before the first line about the progress, and at most between two of them.
+FIRST_PAUSE, LAST_PAUSE = 5.0, 60.0
 FAULTS = {NameTwice: "name twice", TooLarge: "too large", TailTooLong: "tail too long", BadFormat: "bad format", Short: "short", OutOfMemory: "out of memory"}
 
 
@@ -85,8 +88,15 @@ def say(text: str) -> None:
         raise
 
 
-def made(work: Callable[[], Any]) -> Any:
-    """What `work` returns, which is done on another thread, so that Ctrl-C ends the command at once."""
+def tell(text: str) -> None:
+    """Writes a line to standard error, if anybody takes it."""
+    if sys.stderr is not None:
+        with contextlib.suppress(OSError, ValueError):
+            print(f"mezguld: {text}", file=sys.stderr, flush=True)
+
+
+def made(work: Callable[[], Any], progress: object) -> Any:
+    """What `work` returns, which is done on another thread, so that Ctrl-C ends the command at once. Where it takes long, its progress is told."""
     results: list[Any] = []
 
     def done() -> None:
@@ -97,8 +107,13 @@ def made(work: Callable[[], Any]) -> Any:
 
     thread = threading.Thread(target=done, daemon=True)
     thread.start()
+    # (After five seconds, and then after twice as long each time, up to a minute.)
+    begin, pause = time.monotonic(), FIRST_PAUSE
     while thread.is_alive():
         thread.join(0.2)
+        if thread.is_alive() and time.monotonic() - begin > pause:
+            tell(str(progress))
+            begin, pause = time.monotonic(), min(2 * pause, LAST_PAUSE)
     result, error = results.pop()
     if error is not None:
         raise error
@@ -111,7 +126,8 @@ def draw(options: argparse.Namespace) -> int:
     console = bytes_of(options.input or "")
     run = picture.Options(options.steps, options.ems, options.xms, options.upper, os.fsencode(options.tail), console)
     try:
-        found = made(lambda: picture.record(programs, run, files=options.files, input_file=options.input))
+        progress = picture.Progress()
+        found = made(lambda: picture.record(programs, run, files=options.files, input_file=options.input, progress=progress), progress)
     except Error as error:
         raise Fault(FAULTS.get(type(error), str(error))) from error
     text = picture.text_of(found) + "\n" if options.json else picture.page(found)

@@ -16,9 +16,9 @@ import stat
 import struct
 import tempfile
 from concurrent.futures import ThreadPoolExecutor
-from typing import Any, Iterator, NamedTuple
+from typing import Any, Callable, Iterator, NamedTuple
 
-from . import Machine, Registers, Stop, __version__, _library, _Point, _Registers, _Stopped, _check
+from . import Machine, Registers, Stop, __version__, _library, _PARAMETERS, _Point, _Registers, _Stopped, _check
 
 __all__ = ["Options", "Program", "data", "page", "record", "write"]
 
@@ -26,6 +26,8 @@ FORMAT = 1
 # The entries of the services: a program that calls one is there before the service acts.
 DIVIDE, TERMINATE, DOS, EXPANDED, EXTENDED = (0xF000, 0x0000), (0xF000, 0x0080), (0xF000, 0x0084), (0xF100, 0x0020), (0xF000, 0x0400)
 ENTRIES = (DIVIDE, TERMINATE, DOS, EXPANDED, EXTENDED)
+# (Of equal pairs the one above, so that pairs are compared by `is`.)
+AT_ENTRIES = {entry: entry for entry in ENTRIES}
 NAMES = {
     DOS: {
         0x00: "Terminate Program", 0x31: "Keep Program", 0x48: "Allocate Memory", 0x49: "Free Allocated Memory", 0x4A: "Set Memory Block Size",
@@ -47,7 +49,9 @@ CALLS = {entry: {number: f"{TITLES[entry]} function {number:02X}h ({name})" for 
 # The lists that each service may change.
 LISTS = {DIVIDE: "MPX", TERMINATE: "MPX", DOS: "M", EXPANDED: "P", EXTENDED: "X"}
 CARRY = 1
-WORDS = struct.Struct("<14H")
+# The places of the lists in a moment.
+PLACES = {"M": 6, "P": 7, "X": 8}
+UNPACKED, PAIR = struct.Struct("<14H").unpack, struct.Struct("<HH").unpack_from
 # A record of more moments than this, or of more bytes as JSON (reckoned), is thinned: so a page has less than 4 MB.
 MOST_MOMENTS, MOST_SIZE = 24_000, 3_700_000
 STOPS = tuple(sorted(Stop, key=lambda it: it.value))
@@ -118,56 +122,94 @@ def findings_of(report: str) -> list[dict[str, Any]]:
 # ---- a machine that is looked at often
 
 
+def by_address(name: str) -> Callable[..., int]:
+    """A function of the library to which pointers are given as numbers, which takes half the time."""
+    function = _library[name]
+    function.restype = ctypes.c_uint32
+    function.argtypes = [{"I": ctypes.c_uint32, "Q": ctypes.c_uint64, "H": ctypes.c_uint16, "n": ctypes.c_size_t}.get(it, ctypes.c_void_p) for it in _PARAMETERS[name] if it != " "]
+    return function
+
+
 class Watched:
-    """A machine, by calls of the library that take little time: what they are given is made once. Only one thread uses it."""
+    """A machine, by calls of the library that take little time: what they are given is made once, and calls that follow one another are made together.
+    Only one thread uses it."""
 
     def __init__(self, machine: Machine) -> None:
         self.machine = machine
-        self._handle = machine._handle  # pylint: disable=protected-access
-        self._points, self._stopped = (_Point * len(ENTRIES))(*ENTRIES), _Stopped()
-        self._registers, self._steps, self._wanted = _Registers(), ctypes.c_uint64(), ctypes.c_size_t()
-        self._few = ctypes.create_string_buffer(64)
-        self._room = ctypes.create_string_buffer(1 << 16)
-        self._lines = {name: ctypes.create_string_buffer(name.encode("ascii")) for name in "MPX"}
+        points, self._stopped, self._registers = (_Point * len(ENTRIES))(*ENTRIES), _Stopped(), _Registers()
+        self._steps, self._wanted, self._few = ctypes.c_uint64(), ctypes.c_size_t(), ctypes.create_string_buffer(64)
+        self._room, self._size = ctypes.create_string_buffer(1 << 16), 1 << 16
+        lines = {name: ctypes.create_string_buffer(name.encode("ascii")) for name in "MPX"}
+        # (What is pointed to lives as long as the addresses.)
+        self._kept = (points, lines)
+        at = ctypes.addressof
+        self._points, self._lines = at(points), {name: at(line) for name, line in lines.items()}
+        self._handle = at(machine._handle)  # pylint: disable=protected-access
+        self._places = at(self._stopped), at(self._registers), at(self._steps), at(self._wanted), at(self._few)
+        self._calls = tuple(by_address(f"mezguld_{name}") for name in ("run", "run_until", "steps", "registers", "read", "command", "answer"))
+        # The texts of callers, by the address after the call and whether an interrupt's instruction is before it.
+        self._callers: dict[tuple[int, int, bool], str] = {}
 
-    def run(self, steps: int) -> Stop:
-        """At most so many steps."""
-        _check(_library.mezguld_run(self._handle, steps, self._stopped))
-        return STOPS[self._stopped.why]
+    def step(self) -> tuple[Stop, Registers]:
+        """One step; why the run stopped, and the registers then."""
+        handle, (stopped, registers, _, _, _), calls = self._handle, self._places, self._calls
+        status = calls[0](handle, 1, stopped) or calls[3](handle, registers)
+        if status:
+            _check(status)
+        return STOPS[self._stopped.why], tuple.__new__(Registers, UNPACKED(self._registers))
 
-    def run_until(self, steps: int) -> Stop:
-        """At most so many steps, up to the entry of a service."""
-        _check(_library.mezguld_run_until(self._handle, steps, self._points, len(ENTRIES), self._stopped))
-        return STOPS[self._stopped.why]
+    def run_until(self, steps: int) -> tuple[Stop, int, Registers]:
+        """At most so many steps, up to the entry of a service; why the run stopped, and the steps so far and the registers then."""
+        handle, (stopped, registers, made, _, _), calls = self._handle, self._places, self._calls
+        status = calls[1](handle, steps, self._points, len(ENTRIES), stopped) or calls[2](handle, made) or calls[3](handle, registers)
+        if status:
+            _check(status)
+        return STOPS[self._stopped.why], self._steps.value, tuple.__new__(Registers, UNPACKED(self._registers))
 
     @property
     def code(self) -> int:
         """The exit code of the last run."""
         return self._stopped.code
 
-    @property
-    def steps(self) -> int:
-        """The steps so far."""
-        _check(_library.mezguld_steps(self._handle, self._steps))
-        return self._steps.value
-
     def registers(self) -> Registers:
         """The registers."""
-        _check(_library.mezguld_registers(self._handle, self._registers))
-        return Registers._make(WORDS.unpack(self._registers))
+        _check(self._calls[3](self._handle, self._places[1]))
+        return Registers._make(UNPACKED(self._registers))
 
     def read(self, segment: int, offset: int, count: int) -> bytes:
         """At most 64 bytes of memory."""
-        _check(_library.mezguld_read(self._handle, segment, offset & 0xFFFF, self._few, count))
+        _check(self._calls[4](self._handle, segment, offset & 0xFFFF, self._places[4], count))
         return self._few.raw[:count]
+
+    def caller(self, before: Registers, is_interrupt: bool) -> tuple[tuple[int, int], str]:
+        """The address after a call, which the stack has, and the caller as a text: the instruction of the interrupt, if it was one."""
+        handle, few, read, at = self._handle, self._few, self._calls[4], self._places[4]
+        status = read(handle, before.ss, before.sp, at, 4)
+        ip, cs = PAIR(few)
+        # (The interrupt's instruction has two bytes; a far call has others.)
+        if is_interrupt:
+            status = status or read(handle, cs, (ip - 2) & 0xFFFF, at, 1)
+            is_interrupt = few[0] == b"\xcd"
+        if status:
+            _check(status)
+        text = self._callers.get((cs, ip, is_interrupt))
+        if text is None:
+            text = f"{cs:04X}:{(ip - 2) & 0xFFFF:04X}" if is_interrupt else f"before {cs:04X}:{ip:04X}"
+            self._callers[cs, ip, is_interrupt] = text
+        return (cs, ip), text
 
     def listed(self, name: str) -> bytes:
         """The text of the list `M`, `P` or `X`."""
-        _check(_library.mezguld_command(self._handle, self._lines[name], 1, self._wanted))
+        handle, wanted = self._handle, self._places[3]
+        status = self._calls[5](handle, self._lines[name], 1, wanted)
+        if status:
+            _check(status)
         size = self._wanted.value
-        if size > len(self._room):
-            self._room = ctypes.create_string_buffer(2 * size)
-        _check(_library.mezguld_answer(self._handle, self._room, len(self._room), self._wanted))
+        if size > self._size:
+            self._room, self._size = ctypes.create_string_buffer(2 * size), 2 * size
+        status = self._calls[6](handle, ctypes.addressof(self._room), self._size, wanted)
+        if status:
+            _check(status)
         return ctypes.string_at(self._room, size)
 
 
@@ -178,14 +220,16 @@ def same_front(old: bytes, new: bytes) -> int:
     """How many bytes at the front of both texts are the same."""
     most = min(len(old), len(new))
     # (Numbers are compared in one step each: the lowest bit that differs is in the first byte that does.)
-    differs = int.from_bytes(old[:most], "little") ^ int.from_bytes(new[:most], "little")
+    number = int.from_bytes
+    differs = number(old[:most], "little") ^ number(new[:most], "little")
     return ((differs & -differs).bit_length() - 1) // 8 if differs else most
 
 
 def same_end(old: bytes, new: bytes) -> int:
     """How many bytes at the end of both texts are the same."""
     most = min(len(old), len(new))
-    differs = int.from_bytes(old[len(old) - most :], "little") ^ int.from_bytes(new[len(new) - most :], "little")
+    number = int.from_bytes
+    differs = number(old[len(old) - most :], "little") ^ number(new[len(new) - most :], "little")
     return most - (differs.bit_length() + 7) // 8
 
 
@@ -243,10 +287,14 @@ class Merged:
 
 def size_of(moment: list[Any]) -> int:
     """About how many bytes a moment has as JSON, by the usual length of a line of each list."""
-    size = 40 + len(moment[4])
-    for splice, line in zip(moment[6:9], (20, 30, 26)):
-        if splice:
-            size += 10 + line * len(splice[2])
+    _, _, _, _, text, _, blocks, pages, extended = moment
+    size = 40 + len(text)
+    if blocks:
+        size += 10 + 20 * len(blocks[2])
+    if pages:
+        size += 10 + 30 * len(pages[2])
+    if extended:
+        size += 10 + 26 * len(extended[2])
     return size
 
 
@@ -263,6 +311,8 @@ class Recorder:
         # The places of the moments that are never left out.
         self.must: set[int] = set()
         self.seen, self.others, self.every, self.size = 0, 0, 1, 0
+        # The lists that calls which were left out may have changed.
+        self.stale: set[str] = set()
         self.processes: list[dict[str, Any]] = []
         self.alive: list[int] = []
         # What function 48h gave and the program did not free: by segment, the caller, the step, the paragraphs, and the process.
@@ -274,34 +324,28 @@ class Recorder:
 
     # -- names and moments
 
-    def number(self, table: str, text: str) -> int:
-        """The place of a text in a table of texts."""
-        numbers = self.numbers[table]
-        return numbers.setdefault(text, len(numbers))
-
     def look(self, caller: str, name: str, text: str, lists: str, refused: int = 0, must: bool = False, process: int | None = None) -> None:
         """Adds a moment: the lists as they are now, where these may have changed. The process is that which runs, if none is given."""
-        splices: list[list[Any] | None] = [None, None, None]
+        texts, listed = self.texts, self.watched.listed
+        process = self.running() if process is None else process
+        names, callers = self.numbers["names"], self.numbers["callers"]
+        # (A text's number is its place in the table.)
+        moment = [self.now, names.setdefault(name, len(names)), callers.setdefault(caller, len(callers)), process, text, refused, None, None, None]
         for it in lists:
-            new = self.watched.listed(it)
-            if new != self.texts[it]:
-                splices["MPX".index(it)] = splice_of(self.texts[it], new)
-                self.texts[it] = new
+            old, new = texts[it], listed(it)
+            if new != old:
+                moment[PLACES[it]] = splice_of(old, new)
+                texts[it] = new
         if must:
             self.must.add(len(self.moments))
-        process = self.running() if process is None else process
-        self.moments.append([self.now, self.number("names", name), self.number("callers", caller), process, text, refused, *splices])
-        self.size += size_of(self.moments[-1])
-        while self.is_long() and self.thin():
+        self.moments.append(moment)
+        self.size += size_of(moment)
+        while (len(self.moments) > MOST_MOMENTS or self.size > MOST_SIZE) and self.thin():
             pass
 
     def running(self) -> int:
         """The place of the process that runs; after its end, of the first one."""
         return self.alive[-1] if self.alive else 0
-
-    def is_long(self) -> bool:
-        """Whether the record has more moments or bytes than a page should."""
-        return len(self.moments) > MOST_MOMENTS or self.size > MOST_SIZE
 
     def thin(self) -> bool:
         """Leaves out every second moment but those that must stay. False if that leaves out little."""
@@ -352,15 +396,13 @@ class Recorder:
         while (why is Stop.STEPS or why is Stop.BREAKPOINT) and self.now < self.options.steps:
             while self.left and self.left[-1] <= self.now:
                 self.left.pop()
-            entry = (registers.cs, registers.ip)
+            entry = AT_ENTRIES.get((registers.cs, registers.ip))
             # (A run does not stop at a breakpoint where it begins.)
-            if entry in ENTRIES:
+            if entry is not None:
                 why, registers = self._service(entry, registers)
                 continue
             limit = min(self.left[-1], self.options.steps) if self.left else self.options.steps
-            why = self.watched.run_until(limit - self.now)
-            self.now = self.watched.steps
-            registers = self.watched.registers()
+            why, self.now, registers = self.watched.run_until(limit - self.now)
             if self.left and self.left[-1] == self.now:
                 self._found()
         return self._ended(why)
@@ -373,11 +415,11 @@ class Recorder:
     def _service(self, entry: tuple[int, int], before: Registers) -> tuple[Stop, Registers]:
         """The step of a service, with a look after it where it may change memory's division; and the registers then."""
         function = before.ax >> 8
-        is_known = entry not in NAMES or function in NAMES[entry] and (function != 0x58 or entry != DOS or before.ax & 1)
+        names = NAMES.get(entry)
+        is_known = names is None or function in names and (function != 0x58 or entry is not DOS or before.ax & 1)
         is_kept = (self.seen + 1) % self.every == 0
         call = Call(self.watched, entry, before, is_kept or bool(self.left)) if is_known else None
-        why = self.watched.run(1)
-        after = self.watched.registers()
+        why, after = self.watched.step()
         # (A service that could not act is no step.)
         self.now += why is Stop.STEPS or why is Stop.EXITED
         is_found = bool(self.left) and self.left[-1] == self.now
@@ -392,15 +434,23 @@ class Recorder:
     def _called(self, call: Call, after: Registers, why: Stop, is_found: bool) -> None:
         """A moment for a call, unless it is left out."""
         self.seen += 1
+        call.is_start = call.has_started(after)
         refused = call.refused(after)
-        must = call.is_ending or is_found or call.is_start(after)
+        must = call.is_ending or is_found or call.is_start
         is_kept = must or self.seen % self.every == 0
         text = call.result(after, why, refused) if is_kept else ""
         process = self.running()
         self._follow(call, after, refused, why)
-        if is_kept:
-            lists = "MPX" if must or self.every > 1 else LISTS[call.entry]
-            self.look(call.caller, call.name, text, lists, refused, is_found or must and len(self.must) < MOST_MOMENTS // 4, process)
+        lists = LISTS[call.entry]
+        if not is_kept:
+            self.stale.update(lists)
+            return
+        if must:
+            lists = "MPX"
+        elif self.stale:
+            lists = "".join(it for it in "MPX" if it in self.stale or it in lists)
+        self.stale.clear()
+        self.look(call.caller, call.name, text, lists, refused, is_found or must and len(self.must) < MOST_MOMENTS // 4, process)
 
     def _follow(self, call: Call, after: Registers, refused: int, why: Stop) -> None:
         """Keeps in mind which process runs, and what it holds."""
@@ -408,9 +458,9 @@ class Recorder:
         if call.is_ending:
             if why in (Stop.STEPS, Stop.EXITED):
                 self._end(call.how(), call.is_resident)
-        elif call.is_start(after):
+        elif call.is_start:
             self._start(call.program, after.ds)
-        elif call.entry == DOS and not refused:
+        elif call.entry is DOS and not refused:
             if function == 0x48:
                 self.held[after.ax] = (call.caller, self.now, before.bx, self.running())
             elif function == 0x49:
@@ -434,23 +484,17 @@ class Call:
     def __init__(self, watched: Watched, entry: tuple[int, int], before: Registers, is_told: bool) -> None:
         """Where nobody will be told of the call, its caller is read for an allocation alone."""
         self.entry, self.before, self.function = entry, before, before.ax >> 8
-        is_dos = entry == DOS
+        is_dos = entry is DOS
         self.is_resident = is_dos and self.function == 0x31
         self.is_ending = entry not in NAMES or is_dos and self.function in (0x00, 0x31, 0x4C)
         self.is_load = is_dos and self.function == 0x4B
-        self.caller, self.program, self.at = "", "", 0
+        # (Whether the call started a program is known after it.)
+        self.caller, self.program, self.at, self.is_start = "", "", 0, False
         if is_told or self.is_ending or is_dos and self.function in (0x48, 0x4B):
-            self._read_caller(watched)
+            self.back, self.caller = watched.caller(before, entry != EXTENDED)
         if self.is_load:
             self.program = shown(watched.read(before.ds, before.dx, 64).split(b"\0")[0])
             (self.at,) = struct.unpack("<H", watched.read(before.es, before.bx, 2))
-
-    def _read_caller(self, watched: Watched) -> None:
-        ip, cs = struct.unpack("<HH", watched.read(self.before.ss, self.before.sp, 4))
-        self.back = (cs, ip)
-        # (The interrupt's instruction has two bytes; a far call has others.)
-        is_interrupt = self.entry != EXTENDED and watched.read(cs, ip - 2, 1) == b"\xcd"
-        self.caller = f"{cs:04X}:{(ip - 2) & 0xFFFF:04X}" if is_interrupt else f"before {cs:04X}:{ip:04X}"
 
     @property
     def name(self) -> str:
@@ -459,7 +503,7 @@ class Call:
             return CALLS[self.entry][self.function]
         return "INT 20h" if self.entry == TERMINATE else "interrupt 0"
 
-    def is_start(self, after: Registers) -> bool:
+    def has_started(self, after: Registers) -> bool:
         """Whether the call started a program: then it has not returned."""
         return self.is_load and not self.before.ax & 0xFF and (after.cs, after.ip) != self.back
 
@@ -473,11 +517,11 @@ class Call:
 
     def refused(self, after: Registers) -> int:
         """The code with which the call was refused, or 0."""
-        if self.is_ending or self.is_start(after):
+        if self.is_ending or self.is_start:
             return 0
-        if self.entry == DOS:
+        if self.entry is DOS:
             return after.ax if after.flags & CARRY else 0
-        if self.entry == EXPANDED:
+        if self.entry is EXPANDED:
             return after.ax >> 8
         return 0 if after.ax else (after.bx & 0xFF) or 0x80
 
@@ -485,8 +529,7 @@ class Call:
         """What the call was asked and what it gave."""
         if self.is_ending:
             return self.how() if why in (Stop.STEPS, Stop.EXITED) else f"{self.how()}: {why.name.lower()}"
-        texts = {DOS: self._dos, EXPANDED: self._expanded, EXTENDED: self._extended}
-        text = texts[self.entry](after, code)
+        text = (self._dos if self.entry is DOS else self._expanded if self.entry is EXPANDED else self._extended)(after, code)
         if not code:
             return text
         largest = f", largest {after.bx:X}h" if self.entry == DOS and self.function in (0x48, 0x4A) and code == 8 else ""
@@ -550,26 +593,44 @@ def _checked(programs: list[Program], options: Options) -> str:
         return machine.check(options.steps)[1]
 
 
-def _traced(programs: list[Program], options: Options, findings: list[dict[str, Any]]) -> tuple[Recorder, dict[str, Any], int]:
+class Progress:
+    """How far a record is, for another thread."""
+
+    def __init__(self) -> None:
+        self.what, self.recorder = "", None
+
+    def __str__(self) -> str:
+        recorder: Recorder | None = self.recorder
+        if recorder is None:
+            return self.what
+        return f"{self.what}: {recorder.now:,} of at most {recorder.options.steps:,} steps, {recorder.seen:,} calls about memory"
+
+
+def _traced(programs: list[Program], options: Options, findings: list[dict[str, Any]], progress: Progress) -> tuple[Recorder, dict[str, Any], int]:
     """The record of a run with looks at its calls and at the steps of findings, how it ended, and its steps."""
     with loaded(programs, options) as machine:
-        recorder = Recorder(Watched(machine), findings, options, programs[0].name)
+        progress.what = "second run" if findings else "first run"
+        recorder = progress.recorder = Recorder(Watched(machine), findings, options, programs[0].name)
         return recorder, recorder.run(), machine.steps
 
 
-def record(programs: list[Program], options: Options = Options(), *, files: list[str] | None = None, input_file: str | None = None) -> dict[str, Any]:
-    """Runs the first program, which can start the others, and returns all that docs/picture.md describes.
+def record(
+    programs: list[Program], options: Options = Options(), *, files: list[str] | None = None, input_file: str | None = None, progress: Progress | None = None
+) -> dict[str, Any]:
+    """Runs the first program, which can start the others, and returns all that docs/picture.md describes. `progress` says meanwhile how far it is.
 
     The errors are those of `Machine`, `Machine.add` and `Machine.load`.
     """
+    progress = Progress() if progress is None else progress
     with ThreadPoolExecutor(1) as pool:
         checked = pool.submit(_checked, programs, options)
-        traced = _traced(programs, options, [])
+        traced = _traced(programs, options, [], progress)
+        progress.what, progress.recorder = "checked run", None
         report = checked.result()
     findings = findings_of(report)
     if findings:
         # (Their steps are looked at too.)
-        traced = _traced(programs, options, findings)
+        traced = _traced(programs, options, findings, progress)
     recorder, end, steps = traced
     return data(recorder, programs, options, report, findings, end, steps, command_of(options, files or [shown(it.name) for it in programs], input_file))
 

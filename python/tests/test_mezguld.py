@@ -336,11 +336,76 @@ class WrongArguments(unittest.TestCase):
                 machine.write(0x3000, 0, data)
                 self.assertEqual(machine.read(0x3000, 0, 3), b"\x90\x91\x00")
 
-    def test_a_machine_is_not_copied(self) -> None:
+    def test_a_machine_is_not_pickled(self) -> None:
         with started(END) as machine:
-            for call in (copy.copy, copy.deepcopy, pickle.dumps):
-                self.assertRaises(TypeError, call, machine)
+            self.assertRaises(TypeError, pickle.dumps, machine)
             self.assertEqual(machine.run(100).why, Stop.EXITED)
+
+
+class Copies(unittest.TestCase):
+    def test_a_copy_goes_on_as_its_original(self) -> None:
+        with started(ECHO, input=b"abcdef") as machine:
+            for steps in (0, 1, 7, 20, 1000):
+                machine.run(steps)
+                for call in (copy.copy, copy.deepcopy):
+                    with call(machine) as other:
+                        self.assertEqual((other.registers, other.steps, other.output()), (machine.registers, machine.steps, machine.output()))
+                        self.assertEqual(other.run(10_000).why, Stop.INPUT_ENDED)
+                        self.assertEqual(other.output(), b"abcdef")
+            self.assertEqual(machine.run(10_000).why, Stop.INPUT_ENDED)
+
+    def test_neither_sees_what_the_other_does(self) -> None:
+        with started(ECHO, input=b"abc") as machine, copy.copy(machine) as other:
+            machine.write(0x3000, 5, b"one")
+            other.write(0x3000, 5, b"two")
+            other.run(10_000)
+            self.assertEqual((machine.read(0x3000, 5, 3), other.read(0x3000, 5, 3)), (b"one", b"two"))
+            self.assertEqual((machine.steps, machine.output(), other.output()), (0, b"", b"abc"))
+
+    def test_a_copy_outlives_its_original(self) -> None:
+        machine = started(END)
+        other = copy.copy(machine)
+        machine.close()
+        self.assertRaises(mezguld.NoMachine, copy.copy, machine)
+        self.assertEqual(other.run(100), Stopped(Stop.EXITED, 7))
+        other.close()
+        self.assertRaises(mezguld.NoMachine, other.run, 1)
+
+    def test_what_a_machine_has_before_it_runs(self) -> None:
+        with Machine(ems_pages=3, xms_kib=7, variables=["A=B"]) as machine:
+            machine.add("MAIN.COM", mezguld.assemble(END))
+            with copy.copy(machine) as other:
+                other.add("OTHER.COM", mezguld.assemble(END))
+                other.load("MAIN.COM")
+                self.assertEqual(other.run(100), Stopped(Stop.EXITED, 7))
+            self.assertRaises(mezguld.NotLoaded, machine.run, 1)
+            self.assertRaises(mezguld.NotFound, machine.load, "OTHER.COM")
+            machine.load("MAIN.COM")
+
+    def test_breakpoints_and_attributes_are_copied(self) -> None:
+        class Named(Machine):
+            name = "of the class"
+
+        machine = Named()
+        machine.name = "its own"
+        machine.add("MAIN.COM", mezguld.assemble(END))
+        machine.load("MAIN.COM")
+        machine.command("B 0103:0103")
+        other = copy.copy(machine)
+        self.assertEqual((type(other), other.name), (Named, "its own"))
+        machine.command("BC 0103:0103")
+        self.assertEqual(other.command("BL"), b"0103:0103\n")
+        self.assertEqual(machine.command("BL"), b"")
+
+    def test_a_loop_of_snapshots(self) -> None:
+        # (Each round begins where the snapshot was taken.)
+        with started(ECHO, input=b"ab") as machine:
+            machine.run(5)
+            for _ in range(50):
+                with copy.copy(machine) as other:
+                    other.run(1000)
+                    self.assertEqual(other.output(), b"ab")
+            self.assertEqual(machine.steps, 5)
 
 
 def in_threads(*calls: object) -> list:

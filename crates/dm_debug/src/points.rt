@@ -67,6 +67,16 @@ impl Points {
         }
     }
 
+    /// The same breakpoints once more.
+    pub fn duplicate(&self) -> Points
+        ensures { result ≡ self.now }
+    {
+        let mut list = ArrayVec::new();
+        // There is room for them.
+        let _ = list.try_extend_from_slice(&self.list);
+        Points { list }
+    }
+
     /// The breakpoints. No two are at one segment and offset.
     pub fn as_slice(&self) -> &[Breakpoint]
         ensures value { result.now ≡ self.now }

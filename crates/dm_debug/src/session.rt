@@ -1,6 +1,6 @@
 //! A debugging session: a machine, its breakpoints, and the commands that are executed from lines of text.
 
-ghost use Rattle.std.specs.Prelude.{◌≡◌, ◌++◌, ◌↔◌, ◌⊎◌, [], true, false, OnOk, OnErr, IsErrOf};
+ghost use Rattle.std.specs.Prelude.{◌≡◌, ◌++◌, ◌↔◌, ◌⊎◌, [], true, false, IfOk, OnOk, OnErr, IsErrOf};
 ghost use Rattle.dm_space.specs.Buffers.{with_bytes};
 ghost use Rattle.dm_state.specs.State.{HasProgram};
 ghost use Rattle.dm_out.specs.Out.{HasFailed};
@@ -62,6 +62,19 @@ impl Session {
         ensures { result ≡ record { machine = machine; points = points } }
     {
         Session { machine, points }
+    }
+
+    /// Another session, over a copy of the machine and with the same breakpoints.
+    ///
+    /// # Errors
+    ///
+    /// `AllocError` if an allocation fails.
+    pub fn copy(&self, alloc: Global) -> Result<Session, AllocError>
+        ensures { IfOk result (λ session. session ≡ self.now) }
+    {
+        let machine = self.machine.copy(alloc)?;
+        let points = self.points.duplicate();
+        Ok(Session { machine, points })
     }
 
     /// The machine, on which a program is loaded, and the breakpoints.

@@ -5,6 +5,7 @@
 mod answer;
 mod checks;
 mod commands;
+mod copy;
 mod host;
 mod loading;
 mod memory;

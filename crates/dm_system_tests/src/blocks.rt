@@ -156,6 +156,13 @@ fn play(rt: &impl Abort, taken: &mut Taken, step: Step) {
     keep(rt, taken);
 }
 
+/// Frees a block, if it is there.
+fn give_back(store: &mut Store, block: Block) {
+    if store.has(block) {
+        store.give(block);
+    }
+}
+
 /// Four units, of which the block was freed, lie below a block of two; both stores then go on apart.
 #[test]
 fn a_duplicate_has_blocks_of_its_own(rt: HostRuntime) -> Result<(), Fail> {
@@ -163,9 +170,7 @@ fn a_duplicate_has_blocks_of_its_own(rt: HostRuntime) -> Result<(), Fail> {
     let first = store.take(4).ok_or("no room")?;
     let second = store.take(2).ok_or("no room")?;
     fill(&mut store, second, 7);
-    if store.has(first) {
-        store.give(first);
-    }
+    give_back(&mut store, first);
     let mut twin = store.duplicate(rt.alloc())?;
     same(&rt, "free", (twin.free(), twin.largest()), (14, 10));
     same(&rt, "bytes", is_sound(&twin, second, 2048, 7), true);

@@ -1,0 +1,325 @@
+"""Each row of the instruction table in random states against Unicorn. `tools/peers unicorn` calls this with Debian's Python: CASES SEED JOBS ROW.."""
+import collections
+import multiprocessing
+import random
+import sys
+
+import opcodes
+import stage
+from stage import AUXILIARY, CARRY, FLAGS, INTERRUPT, MEMORY, OVERFLOW, PARITY, SIGN, TRAP, WORDS, ZERO
+
+# So many cases stand between two comparisons of all memory.
+BATCH = 100
+ARITHMETIC = CARRY | PARITY | AUXILIARY | ZERO | SIGN | OVERFLOW
+# The flags that an instruction leaves undefined (Intel 8086 Family User's Manual, table 2-21, "Instruction set reference data").
+UNDEFINED = {
+    "AAA": OVERFLOW | SIGN | ZERO | PARITY, "AAS": OVERFLOW | SIGN | ZERO | PARITY, "AAD": OVERFLOW | AUXILIARY | CARRY, "AAM": OVERFLOW | AUXILIARY | CARRY,
+    "DAA": OVERFLOW, "DAS": OVERFLOW, "AND": AUXILIARY, "OR": AUXILIARY, "XOR": AUXILIARY, "TEST": AUXILIARY,
+    "MUL": SIGN | ZERO | AUXILIARY | PARITY, "IMUL": SIGN | ZERO | AUXILIARY | PARITY, "DIV": ARITHMETIC, "IDIV": ARITHMETIC,
+    "SHL": AUXILIARY, "SHR": AUXILIARY, "SAR": AUXILIARY,
+}
+SHIFTS = (0xD2, 0xD3)
+# The segments of a case: with any offset the address stays in conventional memory, above the code that sets the registers.
+LOWEST, HIGHEST = 0x1000, 0x8FFF
+BASE = 16 * LOWEST
+# Each interrupt leads to a place of its own below the cases.
+VECTORS = b"".join((4 * number + 0x100).to_bytes(2, "little") + (0x0800).to_bytes(2, "little") for number in range(256))
+# What no other machine is needed for: HLT stops, and WAIT and ESC do nothing.
+ALONE = {"ESC", "WAIT", "HLT"}
+
+
+class Case:
+    """An instruction, and the state before it."""
+
+    def __init__(self, row, numbers):
+        self.row = row
+        self.state = {name: numbers.randrange(0x10000) for name in WORDS}
+        for name in ("cs", "ds", "es", "ss"):
+            self.state[name] = numbers.randrange(LOWEST, HIGHEST + 1)
+        # Numbers at the borders are frequent, and so are those that make a division possible.
+        for name in ("ax", "bx", "cx", "dx", "si", "di", "bp"):
+            if numbers.randrange(4) == 0:
+                self.state[name] = numbers.choice((0, 1, 2, 7, 8, 0xFF, 0x80, 0x7F, 0x7FFF, 0x8000, 0xFFFF, 0x0009, 0x0909))
+        if row.mnemonic in ("DIV", "IDIV") and numbers.randrange(2):
+            self.state["dx"] = numbers.randrange(16) if numbers.randrange(2) else 0xFFFF - numbers.randrange(16)
+        self.state["ip"] = numbers.randrange(0x100, 0xFF00)
+        self.state["flags"] = numbers.randrange(0x1000) & FLAGS & ~TRAP | stage.ALWAYS
+        self.is_repeated = row.first in opcodes.STRINGS and numbers.randrange(2) == 0
+        prefixes = []
+        if self.is_repeated:
+            self.state["cx"] = numbers.randrange(40)
+            prefixes.append(numbers.choice((opcodes.REP, opcodes.REPNE)))
+        if (row.is_modrm or row.first in opcodes.WITHOUT_MODRM) and numbers.randrange(4) == 0:
+            prefixes.append(numbers.choice(opcodes.SEGMENTS))
+        numbers.shuffle(prefixes)
+        body = opcodes.instruction(row, numbers)
+        # The byte of the mod and r/m fields, if there is one.
+        self.modrm = body[1] if row.is_modrm else None
+        self.code = bytes(prefixes) + body
+        # (A shift of CX or CL takes no count above 31: it would be changed by the parts of the shift.)
+        if row.first in SHIFTS and (numbers.randrange(2) or self.modrm >= 0xC0 and self.modrm & 7 == 1):
+            self.state["cx"] = self.state["cx"] & 0xFF00 | numbers.randrange(32)
+
+    @property
+    def place(self):
+        """The linear address of the instruction."""
+        return 16 * self.state["cs"] + self.state["ip"]
+
+    @property
+    def count(self):
+        """The count in CL."""
+        return self.state["cx"] & 0xFF
+
+    @property
+    def after(self):
+        """The offset after the instruction."""
+        return (self.state["ip"] + len(self.code)) & 0xFFFF
+
+    @property
+    def undefined(self):
+        """The flags that the instruction leaves undefined."""
+        flags = UNDEFINED.get(self.row.mnemonic, 0)
+        if self.row.first in SHIFTS:
+            flags = 0 if self.count == 0 else flags if self.count == 1 else flags | OVERFLOW
+        return flags
+
+    def __str__(self):
+        return f"{self.row.name}: {self.code.hex(' ')} with " + " ".join(f"{name}={value:04X}" for name, value in self.state.items())
+
+
+def word(number):
+    """A word as memory has it."""
+    return (number & 0xFFFF).to_bytes(2, "little")
+
+
+def interrupted(case, number, read):
+    """The state after an interrupt, and the three words that it pushed, the last one first."""
+    state = dict(case.state)
+    state["sp"] = (state["sp"] - 6) & 0xFFFF
+    state["flags"] &= ~(INTERRUPT | TRAP)
+    state["ip"], state["cs"] = (int.from_bytes(read(4 * number + at, 2), "little") for at in (0, 2))
+    return state, (case.after, case.state["cs"], case.state["flags"])
+
+
+class Comparison:
+    """Both machines, and what differed so far."""
+
+    def __init__(self, numbers):
+        self.ours, self.theirs = stage.Ours(), stage.Unicorn()
+        self.known, self.faults, self.cases = collections.Counter(), [], 0
+        self.memory = numbers.randbytes(MEMORY - BASE)
+        self.begin()
+
+    def begin(self):
+        """Both machines with the memory that is kept."""
+        self.ours.begin()
+        self.ours.write(0, VECTORS)
+        self.ours.write(BASE, self.memory)
+        self.theirs.write(0, VECTORS)
+        self.theirs.write(BASE, self.memory)
+        self.theirs.machine.ctl_remove_cache(0, MEMORY)
+
+    def restart(self):
+        """A new machine of ours, where the old one is out of reach: its memory stays."""
+        memory = self.ours.read(BASE, MEMORY - BASE)
+        self.ours.begin()
+        self.ours.write(0, VECTORS)
+        self.ours.write(BASE, memory)
+
+    def write(self, linear, data):
+        """Writes bytes to both memories."""
+        self.ours.write(linear, data)
+        self.theirs.write(linear, data)
+
+    def run(self, case):
+        """Makes the case in both machines, and compares the registers."""
+        self.cases += 1
+        self.write(case.place, case.code)
+        self.ours.set(case.state)
+        why = self.ours.step()
+        for _ in range(case.state["cx"] if case.is_repeated else 0):
+            now = self.ours.state()
+            if (now["cs"], now["ip"]) != (case.state["cs"], case.state["ip"]):
+                break
+            self.ours.step()
+        found = self.ours.state()
+        known, wanted, mask = self.wanted(case, found)
+        if why != ("HALTED" if case.row.mnemonic == "HLT" else "STEPS"):
+            self.fault(case, f"stopped: {why}")
+        for name in WORDS:
+            bits = FLAGS & ~mask if name == "flags" else 0xFFFF
+            if (found[name] ^ wanted[name]) & bits:
+                if self.crosses(case):
+                    self.known["an operand across the end of its segment"] += 1
+                    self.level(case)
+                else:
+                    self.fault(case, f"{name} is {found[name]:04X}, and {wanted[name]:04X} there")
+                break
+        if known:
+            self.known[known] += 1
+        if not self.leave(found):
+            self.restart()
+
+    def leave(self, found):
+        """Makes our machine go back to the code that sets the registers. False where it cannot."""
+        linear = 16 * found["cs"] + found["ip"]
+        if linear + 5 > MEMORY or found["ip"] > 0xFFFB or linear < 0x400:
+            return False
+        jump = b"\xEA" + word(stage.ORIGIN) + word(stage.SEGMENT)
+        self.ours.write(linear, jump)
+        if linear + 5 > BASE:
+            self.theirs.write(linear, jump)
+        self.ours.step()
+        return True
+
+    def wanted(self, case, found):
+        """The state that ours should have: by Unicorn, or by the manual's rule where Unicorn is a newer processor. The name of such a difference comes first,
+        and last the flags that are not compared."""
+        mnemonic = case.row.mnemonic
+        if mnemonic in ALONE:
+            return "", {**case.state, "ip": case.state["ip"] if mnemonic == "HLT" else case.after}, 0
+        theirs, interrupt = self.their(case)
+        if interrupt is not None and interrupt != 1:
+            return self.by_interrupt(case, interrupt, "")
+        if mnemonic == "IDIV" and found["sp"] != case.state["sp"]:
+            if theirs["ax"] & (0xFF if case.row.first == 0xF6 else 0xFFFF) in (0x80, 0x8000):
+                return self.by_interrupt(case, 0, "IDIV: the quotient -128 or -32,768 is a division error")
+        if mnemonic in ("AAA", "AAS") and theirs["ax"] != found["ax"]:
+            low, step = case.state["ax"] & 0xFF, 0x100 if mnemonic == "AAA" else -0x100
+            if (low > 0xF9 if step > 0 else low < 6) and (found["ax"] + step) & 0xFFFF == theirs["ax"]:
+                return f"{mnemonic}: no carry out of AL", {**theirs, "ax": found["ax"]}, case.undefined
+        if mnemonic == "DAS" and theirs["flags"] & CARRY and not found["flags"] & CARRY and case.state["ax"] & 0xFF < 6 and not case.state["flags"] & CARRY:
+            return "DAS: no carry for a borrow out of the low digit", {**theirs, "flags": theirs["flags"] & ~CARRY}, case.undefined
+        return self.pushed(case), theirs, case.undefined
+
+    def by_interrupt(self, case, number, known):
+        """The state after an interrupt by the manual's rule; what is pushed is compared, and written to Unicorn's memory."""
+        state, words = interrupted(case, number, self.ours.read)
+        for at, value in enumerate(words):
+            self.push(case, (state["sp"] + 2 * at) & 0xFFFF, value)
+        return known, state, 0
+
+    def push(self, case, offset, value):
+        """Compares a word of our stack, and writes it to Unicorn's memory."""
+        for at, byte in ((offset, value & 0xFF), ((offset + 1) & 0xFFFF, value >> 8)):
+            linear = 16 * case.state["ss"] + at
+            found = self.ours.read(linear, 1)
+            if found[0] != byte:
+                self.fault(case, f"the byte at {linear:05X} of the stack is {found[0]:02X}, and should be {byte:02X}")
+            self.theirs.write(linear, found)
+
+    def pushed(self, case):
+        """What PUSH SP and PUSHF store, where that is known to differ: its name, if so."""
+        row, top = case.row, (case.state["sp"] - 2) & 0xFFFF
+        if row.first == 0x54 or row.first == 0xFF and row.reg == 6 and case.modrm & 0xC7 == 0xC4:
+            self.push(case, top, top)
+            return "PUSH SP: the new value is stored"
+        if row.mnemonic == "PUSHF":
+            self.push(case, top, case.state["flags"])
+            return "PUSHF: bits 12 to 15 are ones"
+        return ""
+
+    def their(self, case):
+        """The registers after the instruction in Unicorn, and the interrupt that it raised."""
+        size, state = len(case.code), dict(case.state)
+        self.theirs.machine.ctl_remove_cache(case.place, case.place + size)
+        left = case.count if case.row.first in SHIFTS else 0
+        # (Newer processors take the lowest five bits of the count: so the shift is made in parts of at most 31.)
+        while left > 31:
+            self.theirs.set({**state, "cx": state["cx"] & 0xFF00 | 31})
+            self.theirs.step(case.state, size)
+            state = {**self.theirs.state(), "ip": case.state["ip"]}
+            left -= 31
+        if case.row.first in SHIFTS:
+            state["cx"] = state["cx"] & 0xFF00 | left
+        self.theirs.set(state)
+        interrupt = self.theirs.step(case.state, size, 0 if case.is_repeated else 1)
+        after = self.theirs.state()
+        if case.row.first in SHIFTS and case.count > 31:
+            after["cx"] = after["cx"] & 0xFF00 | case.count
+        return after, interrupt
+
+    def crosses(self, case):
+        """Whether Unicorn reads or writes behind the end of a segment, where the 8086 goes on at its begin. (Its memory is made that of ours afterwards.)"""
+        hook = self.theirs.watch()
+        self.theirs.machine.ctl_remove_cache(case.place, case.place + len(case.code))
+        self.theirs.set(case.state)
+        self.theirs.step(case.state, len(case.code), 0 if case.is_repeated else 1)
+        self.theirs.machine.hook_del(hook)
+        bases = [16 * case.state[name] for name in ("ds", "es", "ss", "cs")]
+        return any(0xFFFF <= address + size - 1 - base <= 0x10003 and address + size - base > 0x10000 for address, size in self.theirs.accesses for base in bases)
+
+    def level(self, _):
+        """Makes Unicorn's memory that of ours."""
+        self.theirs.write(BASE, self.ours.read(BASE, MEMORY - BASE))
+        self.theirs.machine.ctl_remove_cache(0, MEMORY)
+
+    def fault(self, case, text):
+        """Keeps what is wrong with a case."""
+        self.faults.append(f"{case}: {text}")
+
+    def is_alike(self):
+        """Whether both memories are alike."""
+        return self.ours.read(BASE, MEMORY - BASE) == self.theirs.read(BASE, MEMORY - BASE)
+
+    def batch(self, cases):
+        """Makes cases, and compares memory after them; where it differs, after each of them once more."""
+        for case in cases:
+            self.run(case)
+        if not self.is_alike():
+            self.one_by_one(cases)
+        self.memory = self.ours.read(BASE, MEMORY - BASE)
+
+    def one_by_one(self, cases):
+        """Makes the cases again from the memory before them, and compares it after each."""
+        known, faults, made = self.known.copy(), list(self.faults), self.cases
+        self.begin()
+        for case in cases:
+            self.run(case)
+            if not self.is_alike():
+                if self.crosses(case):
+                    known["an operand across the end of its segment"] += 1
+                else:
+                    ours, theirs = self.ours.read(BASE, MEMORY - BASE), self.theirs.read(BASE, MEMORY - BASE)
+                    at = next(at for at, (one, other) in enumerate(zip(ours, theirs)) if one != other)
+                    faults.append(f"{case}: the byte at {BASE + at:05X} is {ours[at]:02X}, and {theirs[at]:02X} there")
+                self.level(case)
+        self.known, self.faults, self.cases = known, faults, made
+
+
+def compare(given):
+    """The cases of one row: what is known to differ, and the faults."""
+    place, cases, seed = given
+    row = opcodes.ROWS[place]
+    numbers = random.Random(f"{seed} {row.name}")
+    comparison = Comparison(numbers)
+    for begin in range(0, cases, BATCH):
+        comparison.batch([Case(row, numbers) for _ in range(min(BATCH, cases - begin))])
+    return row.name, comparison.cases, comparison.known, comparison.faults
+
+
+def main():
+    cases, seed, jobs = (int(text) for text in sys.argv[1:4])
+    names = {text.upper() for text in sys.argv[4:]}
+    places = [place for place, row in enumerate(opcodes.ROWS) if not names or {row.name.split()[0], f"{row.first:02X}"} & names]
+    if not places:
+        sys.exit("tools/peers: no row of the table has this first byte")
+    made, known, wrong = 0, collections.Counter(), 0
+    with multiprocessing.Pool(jobs) as pool:
+        for name, count, others, faults in pool.imap(compare, [(place, cases, seed) for place in places]):
+            made += count
+            known += others
+            wrong += len(faults)
+            for fault in faults[:5]:
+                print(fault)
+            if len(faults) > 5:
+                print(f"{name}: {len(faults) - 5} more")
+            sys.stdout.flush()
+    for name, count in sorted(known.items()):
+        print(f"known: {name}: {count}")
+    print(f"{len(places)} rows, {made} cases, {sum(known.values())} with a known difference, {wrong} others")
+    return 1 if wrong else 0
+
+
+if __name__ == "__main__":
+    sys.exit(main())
