@@ -24,6 +24,8 @@ LOWEST, HIGHEST = 0x1000, 0x8FFF
 BASE = 16 * LOWEST
 # Each interrupt leads to a place of its own below the cases.
 VECTORS = b"".join((4 * number + 0x100).to_bytes(2, "little") + (0x0800).to_bytes(2, "little") for number in range(256))
+# What may raise an interrupt. Else an instruction leads to where our machine is after it.
+RAISING = {"DIV", "IDIV", "INT", "INT3", "INTO"}
 # What no other machine is needed for: HLT stops, and WAIT and ESC do nothing.
 ALONE = {"ESC", "WAIT", "HLT"}
 
@@ -132,7 +134,7 @@ class Comparison:
         self.theirs.write(linear, data)
 
     def run(self, case):
-        """Makes the case in both machines, and compares the registers."""
+        """Makes the case in both machines, and compares the registers. Returns those of ours."""
         self.cases += 1
         self.write(case.place, case.code)
         self.ours.set(case.state)
@@ -149,9 +151,9 @@ class Comparison:
         for name in WORDS:
             bits = FLAGS & ~mask if name == "flags" else 0xFFFF
             if (found[name] ^ wanted[name]) & bits:
-                if self.crosses(case):
+                if self.crosses(case, found):
                     self.known["an operand across the end of its segment"] += 1
-                    self.level(case)
+                    self.level()
                 else:
                     self.fault(case, f"{name} is {found[name]:04X}, and {wanted[name]:04X} there")
                 break
@@ -159,6 +161,7 @@ class Comparison:
             self.known[known] += 1
         if not self.leave(found):
             self.restart()
+        return found
 
     def leave(self, found):
         """Makes our machine go back to the code that sets the registers. False where it cannot."""
@@ -178,7 +181,7 @@ class Comparison:
         mnemonic = case.row.mnemonic
         if mnemonic in ALONE:
             return "", {**case.state, "ip": case.state["ip"] if mnemonic == "HLT" else case.after}, 0
-        theirs, interrupt = self.their(case)
+        theirs, interrupt = self.their(case, self.until(case, found))
         if interrupt is not None and interrupt != 1:
             return self.by_interrupt(case, interrupt, "")
         if mnemonic == "IDIV" and found["sp"] != case.state["sp"]:
@@ -219,7 +222,14 @@ class Comparison:
             return "PUSHF: bits 12 to 15 are ones"
         return ""
 
-    def their(self, case):
+    @staticmethod
+    def until(case, found):
+        """Where the case should lead."""
+        if case.row.mnemonic in RAISING:
+            return 16 * case.state["cs"] + case.after
+        return 16 * found["cs"] + found["ip"]
+
+    def their(self, case, until):
         """The registers after the instruction in Unicorn, and the interrupt that it raised."""
         size, state = len(case.code), dict(case.state)
         self.theirs.machine.ctl_remove_cache(case.place, case.place + size)
@@ -227,29 +237,29 @@ class Comparison:
         # (Newer processors take the lowest five bits of the count: so the shift is made in parts of at most 31.)
         while left > 31:
             self.theirs.set({**state, "cx": state["cx"] & 0xFF00 | 31})
-            self.theirs.step(case.state, size)
+            self.theirs.step(case.state, until)
             state = {**self.theirs.state(), "ip": case.state["ip"]}
             left -= 31
         if case.row.first in SHIFTS:
             state["cx"] = state["cx"] & 0xFF00 | left
         self.theirs.set(state)
-        interrupt = self.theirs.step(case.state, size, 0 if case.is_repeated else 1)
+        interrupt = self.theirs.step(case.state, until, 0 if case.is_repeated else 1)
         after = self.theirs.state()
         if case.row.first in SHIFTS and case.count > 31:
             after["cx"] = after["cx"] & 0xFF00 | case.count
         return after, interrupt
 
-    def crosses(self, case):
+    def crosses(self, case, found):
         """Whether Unicorn reads or writes behind the end of a segment, where the 8086 goes on at its begin. (Its memory is made that of ours afterwards.)"""
         hook = self.theirs.watch()
         self.theirs.machine.ctl_remove_cache(case.place, case.place + len(case.code))
         self.theirs.set(case.state)
-        self.theirs.step(case.state, len(case.code), 0 if case.is_repeated else 1)
+        self.theirs.step(case.state, self.until(case, found), 0 if case.is_repeated else 1)
         self.theirs.machine.hook_del(hook)
         bases = [16 * case.state[name] for name in ("ds", "es", "ss", "cs")]
         return any(0xFFFF <= address + size - 1 - base <= 0x10003 and address + size - base > 0x10000 for address, size in self.theirs.accesses for base in bases)
 
-    def level(self, _):
+    def level(self):
         """Makes Unicorn's memory that of ours."""
         self.theirs.write(BASE, self.ours.read(BASE, MEMORY - BASE))
         self.theirs.machine.ctl_remove_cache(0, MEMORY)
@@ -275,15 +285,15 @@ class Comparison:
         known, faults, made = self.known.copy(), list(self.faults), self.cases
         self.begin()
         for case in cases:
-            self.run(case)
+            found = self.run(case)
             if not self.is_alike():
-                if self.crosses(case):
+                if self.crosses(case, found):
                     known["an operand across the end of its segment"] += 1
                 else:
                     ours, theirs = self.ours.read(BASE, MEMORY - BASE), self.theirs.read(BASE, MEMORY - BASE)
                     at = next(at for at, (one, other) in enumerate(zip(ours, theirs)) if one != other)
                     faults.append(f"{case}: the byte at {BASE + at:05X} is {ours[at]:02X}, and {theirs[at]:02X} there")
-                self.level(case)
+                self.level()
         self.known, self.faults, self.cases = known, faults, made
 
 

@@ -121,11 +121,12 @@ class Unicorn:
         for number, name in zip(self.names, WORDS):
             self.machine.reg_write(number, state[name] & FLAGS | 2 if name == "flags" else state[name])
 
-    def step(self, state, size, count=1):
-        """Makes an instruction of this size, whose registers were set, with its repetitions where `count` is 0. Returns the interrupt that it raised."""
+    def step(self, state, until, count=1):
+        """Makes an instruction, whose registers were set, with its repetitions where `count` is 0. It should lead to the linear address `until`, from which on
+        nothing is translated: Unicorn does not bear all bytes. Returns the interrupt that it raised."""
         self.interrupt = None
         begin = 16 * state["cs"] + state["ip"]
-        self.machine.emu_start(begin, begin + size if count == 0 else 0xFFFFFFFF, 0, count)
+        self.machine.emu_start(begin, 0xFFFFFFFF if until == begin else until, 0, count)
         return self.interrupt
 
     def state(self):

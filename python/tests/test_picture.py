@@ -8,8 +8,9 @@ import random
 import subprocess
 import sys
 import tempfile
+import time
 import unittest
-from contextlib import redirect_stdout
+from contextlib import redirect_stderr, redirect_stdout
 from typing import Any
 from unittest import mock
 
@@ -290,6 +291,17 @@ class Commands(unittest.TestCase):
         mask = os.umask(0)
         os.umask(mask)
         self.assertEqual(os.stat(path).st_mode & 0o777, 0o666 & ~mask)
+
+    def test_progress_is_told_where_it_takes_long(self) -> None:
+        with mock.patch.multiple(command, FIRST_PAUSE=0.1, LAST_PAUSE=0.1), redirect_stderr(io.StringIO()) as told:
+            self.assertEqual(command.made(lambda: time.sleep(1.1) or 7, "first run"), 7)
+        self.assertEqual(set(told.getvalue().splitlines()), {"mezguld: first run"})
+        with redirect_stderr(io.StringIO()) as told:
+            self.assertEqual(command.made(lambda: 7, "first run"), 7)
+        self.assertEqual(told.getvalue(), "")
+        progress = picture.Progress()
+        picture.record(programs_of(["overrun"]), progress=progress)
+        self.assertRegex(str(progress), r"second run: [\d,]+ of at most 100,000,000 steps, [\d,]+ calls about memory")
 
     def test_help(self) -> None:
         status, out, told = self.called("picture", "--help")

@@ -31,6 +31,13 @@ pub data Makes (old new : Option Hosted) (sizes : Sizes) (variables : List ℕ) 
       → (IsTooLarge sizes → ⊥) × (length variables ≤ 0x7FFF) → Makes old new sizes variables upper status
   refused : (why : Refusal) → old ≡ None → new ≡ None → status ≡ status_of why → IsNewFault sizes variables why → Makes old new sizes variables upper status
 
+-- `mezguld_copy`: a second machine, the same as h, is made in a handle that holds none; a handle in use stays (status
+-- 2), and where an allocation failed (status 3) the handle still holds none
+pub data CopiesTo (h : Hosted) (old new : Option Hosted) (status : ℕ) : Type 0 where
+  occupied : (other : Hosted) → old ≡ Some other → new ≡ Some other → status ≡ 2 → CopiesTo h old new status
+  copied : old ≡ None → new ≡ Some h → status ≡ 0 → CopiesTo h old new status
+  no_memory : old ≡ None → new ≡ None → status ≡ 3 → CopiesTo h old new status
+
 -- `mezguld_add`: a program is added; at a refusal nothing changes
 abbrev pub AddsTo : Hosted → List ℕ → List ℕ → ℕ → Hosted → Type 0
 AddsTo h name program status g = IsDoneOrRefused status (Adds h name program g) (λ why. IsUnadded h name why × (g ≡ h))

@@ -4,7 +4,7 @@
 //! none (3 if an allocation for the points of `mezguld_run_until` fails before), and nothing changes then.
 ghost use Rattle.std.specs.Prelude.{◌≡◌, ◌<◌, true, false, nat_lt};
 ghost use Rattle.dm_c.specs.Calls.{IsCall, IsNone};
-ghost use Rattle.dm_c.specs.Machines.{Makes, AddsTo, LoadsTo, RunsTo, RunsUntilTo, StepsTo, RegistersTo, ReadsTo, WritesTo, OutputTo, CommandsTo, ChecksTo, AnswersTo};
+ghost use Rattle.dm_c.specs.Machines.{Makes, CopiesTo, AddsTo, LoadsTo, RunsTo, RunsUntilTo, StepsTo, RegistersTo, ReadsTo, WritesTo, OutputTo, CommandsTo, ChecksTo, AnswersTo};
 
 use crate::handle::Handle;
 use crate::machines;
@@ -43,6 +43,21 @@ pub extern "C" fn mezguld_new(
         }
         Err(_) => OUT_OF_MEMORY,
     }
+}
+
+/// Makes a second machine in the state of the first one, in a handle that holds no machine: with the same programs,
+/// breakpoints and answer. Nothing changes unless the status is 0; the status is 2 if the handle of the copy holds a
+/// machine.
+#[unsafe(no_mangle)]
+pub extern "C" fn mezguld_copy(alloc: Global, machine: &mut Handle, copy: &mut Handle) -> u32
+    ensures { IsCall machine.old.inside.value machine.new.inside.value ((result ≡ 1) × (copy.new ≡ copy.old)) (λ h g. CopiesTo h copy.old.inside.value copy.new.inside.value result × (g ≡ h)) }
+{
+    let Some(host) = machine.take(alloc) else {
+        return NO_MACHINE;
+    };
+    let status = machines::copy(alloc, &host, copy);
+    machine.put(host);
+    status
 }
 
 /// Frees the machine of a handle, if it holds one. The handle is as `MEZGULD_NONE` then, and the status is 0.

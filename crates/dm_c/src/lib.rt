@@ -10,9 +10,9 @@ mod texts;
 mod values;
 
 pub use exports::{
-    mezguld_add, mezguld_answer, mezguld_check, mezguld_command, mezguld_free, mezguld_load,
-    mezguld_new, mezguld_output, mezguld_read, mezguld_registers, mezguld_run, mezguld_run_until,
-    mezguld_steps, mezguld_write,
+    mezguld_add, mezguld_answer, mezguld_check, mezguld_command, mezguld_copy, mezguld_free,
+    mezguld_load, mezguld_new, mezguld_output, mezguld_read, mezguld_registers, mezguld_run,
+    mezguld_run_until, mezguld_steps, mezguld_write,
 };
 pub use handle::Handle;
 pub use inside::Inside;

@@ -2,14 +2,36 @@
 //! returns a status, 0 or that of the refusal. What C passes by reference is set with status 0 alone, but `wanted` of
 //! `output` with status 4 too.
 ghost use Rattle.std.specs.Prelude.{◌≡◌};
-ghost use Rattle.dm_c.specs.Machines.{AddsTo, LoadsTo, RunsTo, RunsUntilTo, StepsTo, RegistersTo, ReadsTo, WritesTo, OutputTo, CommandsTo, ChecksTo};
+ghost use Rattle.dm_c.specs.Machines.{CopiesTo, AddsTo, LoadsTo, RunsTo, RunsUntilTo, StepsTo, RegistersTo, ReadsTo, WritesTo, OutputTo, CommandsTo, ChecksTo};
 
+use crate::handle::Handle;
 use crate::values::{
-    OK, OUT_OF_MEMORY, Point, Registers, Stopped, give, points_of, registers_of, status_of,
+    IN_USE, OK, OUT_OF_MEMORY, Point, Registers, Stopped, give, points_of, registers_of, status_of,
     stopped_of,
 };
 use dm_host::Host;
 use std::alloc::Global;
+
+/// Puts a copy of the host into a handle, which must hold no machine: the status is 2 if it holds one, 3 if an
+/// allocation failed, and then the handle stays.
+pub(crate) fn copy(alloc: Global, host: &Host, copy: &mut Handle) -> u32
+    ensures { CopiesTo host.now copy.old.inside.value copy.new.inside.value result }
+{
+    if copy.is_held() {
+        return IN_USE;
+    }
+    let host = match host.copy(alloc) {
+        Ok(host) => host,
+        Err(refusal) => return status_of(refusal),
+    };
+    match Box::new(alloc, host) {
+        Ok(host) => {
+            copy.put(host);
+            OK
+        }
+        Err(_) => OUT_OF_MEMORY,
+    }
+}
 
 /// Adds a program under a name; nothing changes unless the status is 0.
 pub(crate) fn add(alloc: Global, host: &mut Host, name: &[u8], program: &[u8]) -> u32

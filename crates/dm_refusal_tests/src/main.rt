@@ -25,6 +25,7 @@ fn make_calls(rt: &impl Print, alloc: Global) -> anyhow::Result<()> {
     texts::make_lines(rt, alloc)?;
     texts::read_words(rt, alloc)?;
     runs::make_machine(rt, alloc)?;
+    runs::copy_machine(rt, alloc)?;
     runs::make_room(rt, alloc)?;
     runs::keep_to_room(rt, alloc)?;
     runs::make_steps(rt, alloc)?;

@@ -49,6 +49,33 @@ pub(crate) fn make_machine(rt: &impl Print, alloc: Global) -> Result<()> {
     )
 }
 
+/// A copy of a machine that has made some steps.
+pub(crate) fn copy_machine(rt: &impl Print, alloc: Global) -> Result<()> {
+    let call = "Machine::copy";
+    let scene = Scene {
+        program: &HELLO,
+        input: b"in",
+        steps: 4,
+    };
+    let machine = machine_at(alloc, scene)?;
+    let copy = match machine.copy(alloc) {
+        Ok(copy) => copy,
+        Err(_) => {
+            tell_refused(rt, call, is_at(alloc, &machine, scene)?)?;
+            machine.copy(alloc)?
+        }
+    };
+    tell(
+        rt,
+        call,
+        if are_alike(&machine, &copy) {
+            "the same"
+        } else {
+            "others"
+        },
+    )
+}
+
 /// Reserves room for output.
 fn reserve(rt: &impl Print, alloc: Global, scene: Scene, bytes: usize) -> Result<()> {
     let call = "Machine::reserve_output";
