@@ -84,6 +84,14 @@ exits_over : (s t : State) (code : ℕ) (o : Option ℕ) → call_of s.cpu ≡ N
 exits_over s t code (Some other) none e = ap (λ (x : Answer). x.state) e
 exits_over s t code None none h = absurd (instructs_none s t code (uncalled_acts s _ none h))
 
+over_before : (s t : State) (code : ℕ) (o : Option ℕ) → call_of s.cpu ≡ None → ActsUnlessEnded s o (record { stop = Some (Exited code); state = t }) → (other : ℕ) × (o ≡ Some other)
+over_before s t code (Some other) none e = (other, refl)
+over_before s t code None none h = absurd (instructs_none s t code (uncalled_acts s _ none h))
+
+pub had_ended : (s t : State) (code : ℕ) → call_of s.cpu ≡ None → Answers s (Some (Exited code)) t → (other : ℕ) × (s.exited ≡ Some other)
+unfolding MakesStep
+had_ended s t code none h = over_before s t code s.exited none h
+
 -- the program had ended before
 pub exit_changes_nothing : (s t : State) (code : ℕ) → call_of s.cpu ≡ None → Answers s (Some (Exited code)) t → t ≡ s
 unfolding MakesStep

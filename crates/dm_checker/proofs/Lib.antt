@@ -15,7 +15,8 @@ pub mod Looking
 pub mod Stepping
 pub mod Checking
 pub mod Fetched
-pub mod Writing
+pub mod Unfound
+pub mod Clearing
 pub mod Reading
 pub mod Once
 pub mod Unserved

@@ -1,5 +1,5 @@
-use Rattle.dm_checker.proofs.Leaked.{each_none, each_more}
-use Rattle.dm_checker.proofs.leaks.put_uppers.Goals as goal
+use Rattle.dm_leaks.proofs.Leaked.{each_none, each_more}
+use Rattle.dm_leaks.proofs.leaks.put_uppers.Goals as goal
 
 pub loop-number-init : goal.loop-number-init
 loop-number-init c = each_none _ _

@@ -1,10 +1,9 @@
 //! The findings about what a program that has ended left allocated (LIM EMS 4.0, section 2; XMS 3.0). Each function
 //! `put_..` appends its findings to `out`; an `Err` is a failed allocation.
 
-ghost use Rattle.std.specs.Prelude.{◌≡◌, ◌++◌, ◌<◌, ◌+◌, None, OnOk, slice_index_or};
-ghost use Rattle.dm_checker.specs.Leaks.{pages_kept, map_kept, handle_kept, window_kept, block_kept, upper_kept, switches_kept, of_each, leaks};
+ghost use Rattle.std.specs.Prelude.{◌≡◌, ◌++◌, ◌∷◌, [], ◌<◌, ◌+◌, None, OnOk, slice_index_or};
+ghost use Rattle.dm_leaks.specs.Leaks.{pages_kept, map_kept, handle_kept, window_kept, block_kept, upper_kept, switches_kept, of_each, leaks};
 
-use crate::put::put;
 use dm_ems::{Ems, Handle};
 use dm_findings::Finding;
 use dm_machine::Machine;
@@ -15,6 +14,14 @@ use std::alloc::AllocError;
 /// The number of handles of expanded memory (0 to 63), that of handles of extended memory (1 to 64), and the largest
 /// number of upper memory blocks.
 const MOST: u16 = 64;
+
+/// Appends a finding.
+fn put(out: &mut Vec<Finding>, finding: Finding) -> Result<(), AllocError>
+    ensures { OnOk result (out.new.items ≡ out.old.items ++ finding ∷ []) }
+{
+    out.push(finding)?;
+    Ok(())
+}
 
 /// Appends that a handle of expanded memory was not freed, with the number of its pages; for handle 0 only if it has
 /// pages.
@@ -140,7 +147,7 @@ fn put_uppers(out: &mut Vec<Finding>, xms: &Xms) -> Result<(), AllocError>
 /// Appends all that the machine's program left: expanded memory and windows, extended memory, upper memory blocks, the
 /// high memory area and A20.
 #[tactic(auto, unfolding(crate::specs::Leaks::leaks))]
-pub(crate) fn put_leaks(out: &mut Vec<Finding>, machine: &Machine) -> Result<(), AllocError>
+pub fn put_leaks(out: &mut Vec<Finding>, machine: &Machine) -> Result<(), AllocError>
     ensures { OnOk result (out.new.items ≡ out.old.items ++ leaks machine.now) }
 {
     put_handles(out, machine.ems())?;

@@ -1,5 +1,5 @@
-use Rattle.dm_checker.proofs.Leaked.{each_none, each_more}
-use Rattle.dm_checker.proofs.leaks.put_windows.Goals as goal
+use Rattle.dm_leaks.proofs.Leaked.{each_none, each_more}
+use Rattle.dm_leaks.proofs.leaks.put_windows.Goals as goal
 
 pub loop-window-init : goal.loop-window-init
 loop-window-init c = each_none _ _

@@ -1,0 +1,142 @@
+//! When nothing can be found of the bytes that an instruction touches, and no header is written to: after such a step the
+//! checker need not look at memory.
+
+ghost use Rattle.std.specs.Prelude.{◌≡◌, ◌∷◌, [], IsTrue};
+ghost use Rattle.dm_touches.specs.Elements.{bytes_if, bytes_of};
+ghost use Rattle.dm_checker.specs.inner.Clear.{is_free_of, is_at, is_high, is_memory, is_read_clear, is_write_clear, are_all, IsClear};
+
+use crate::watch::{Watch, Watched};
+use dm_space::Space;
+use dm_touches::{Element, Elements, FarAddress, Touched, is_in_free};
+
+/// The first linear address of the page frame.
+const FRAME: u32 = 0xE_0000;
+
+/// The size of a window of the frame.
+const WINDOW: u32 = 0x4000;
+
+/// Whether the linear address is in the memory of the free block behind the header.
+fn is_free_of(at: u32, watched: &Watched) -> bool
+    ensures { result ≡ is_free_of at watched.now }
+{
+    is_in_free(&watched.header, at)
+}
+
+/// Whether the linear address is in the memory of the free block behind the header, or in the header's paragraph.
+fn is_at(at: u32, watched: &Watched) -> bool
+    ensures { result ≡ is_at at watched.now }
+{
+    is_free_of(at, watched) || watched.header.segment as u32 == at / 16
+}
+
+/// Whether the header is in the page frame or above it.
+fn is_high(watched: &Watched) -> bool
+    ensures { result ≡ is_high watched.now }
+{
+    watched.header.segment > 0xDFFF
+}
+
+/// Whether a write of the linear address goes to RAM below the frame or above the ROM, or to a page that a window shows
+/// while no header is in the frame.
+fn is_memory(space: &Space, headers: &[Watched], at: u32) -> bool
+    ensures { result ≡ is_memory space.now.memory headers.now at }
+{
+    if at < 0xC_0000 {
+        return true;
+    }
+    if at < 0xD_0000 {
+        return false;
+    }
+    if at < FRAME {
+        return true;
+    }
+    if at < 0xF_0000 {
+        let windows = space.windows();
+        return windows[((at - FRAME) / WINDOW) as usize].is_some() && !headers.iter().any(is_high);
+    }
+    at >= 0x10_0000 && at < 0x10_FFF0
+}
+
+/// Whether nothing is found of a read of the byte.
+fn is_read_clear(space: &Space, headers: &[Watched], byte: FarAddress) -> bool
+    ensures { result ≡ are_all (is_read_clear headers.now) space.now.memory.a20 (byte ∷ []) }
+{
+    let at = byte.linear(space.a20());
+    !headers.iter().any(|watched| is_free_of(at, watched))
+}
+
+/// Whether nothing is found of a write to the byte, and it is in no header.
+fn is_write_clear(space: &Space, headers: &[Watched], byte: FarAddress) -> bool
+    ensures { result ≡ are_all (is_write_clear space.now.memory headers.now) space.now.memory.a20 (byte ∷ []) }
+{
+    let at = byte.linear(space.a20());
+    is_memory(space, headers, at) && !headers.iter().any(|watched| is_at(at, watched))
+}
+
+/// Whether nothing is found of a read of the element.
+fn is_element_read_clear(space: &Space, headers: &[Watched], element: Option<Element>) -> bool
+    ensures { result ≡ are_all (is_read_clear headers.now) space.now.memory.a20 (bytes_if element) }
+{
+    match element {
+        None => true,
+        Some(Element::Byte(segment, offset)) => {
+            is_read_clear(space, headers, FarAddress { segment, offset })
+        }
+        Some(Element::Word(segment, offset)) => {
+            is_read_clear(space, headers, FarAddress { segment, offset })
+                && is_read_clear(space, headers, FarAddress {
+                    segment,
+                    offset: offset.wrapping_add(1),
+                })
+        }
+    }
+}
+
+/// Whether nothing is found of a write to the element, and it is in no header.
+fn is_element_write_clear(space: &Space, headers: &[Watched], element: Option<Element>) -> bool
+    ensures { result ≡ are_all (is_write_clear space.now.memory headers.now) space.now.memory.a20 (bytes_if element) }
+{
+    match element {
+        None => true,
+        Some(Element::Byte(segment, offset)) => {
+            is_write_clear(space, headers, FarAddress { segment, offset })
+        }
+        Some(Element::Word(segment, offset)) => {
+            is_write_clear(space, headers, FarAddress { segment, offset })
+                && is_write_clear(space, headers, FarAddress {
+                    segment,
+                    offset: offset.wrapping_add(1),
+                })
+        }
+    }
+}
+
+/// Whether nothing is found of reads of the elements.
+fn are_reads_clear(space: &Space, headers: &[Watched], reads: &Elements) -> bool
+    ensures { result ≡ are_all (is_read_clear headers.now) space.now.memory.a20 (bytes_of reads.now) }
+{
+    is_element_read_clear(space, headers, reads.first)
+        && is_element_read_clear(space, headers, reads.second)
+        && is_element_read_clear(space, headers, reads.third)
+}
+
+/// Whether nothing is found of writes to the elements, and they are in no header.
+fn are_writes_clear(space: &Space, headers: &[Watched], writes: &Elements) -> bool
+    ensures { result ≡ are_all (is_write_clear space.now.memory headers.now) space.now.memory.a20 (bytes_of writes.now) }
+{
+    is_element_write_clear(space, headers, writes.first)
+        && is_element_write_clear(space, headers, writes.second)
+        && is_element_write_clear(space, headers, writes.third)
+}
+
+impl Watch {
+    /// Whether nothing is found of the bytes that an instruction touches, and it writes to no header, by the arena and
+    /// memory before it. False is no statement.
+    pub(crate) fn is_clear_of(&self, touched: &Touched, space: &Space) -> bool
+        ensures { IsTrue result → IsClear space.now.memory self.now (bytes_of touched.now.reads) (bytes_of touched.now.writes) }
+    {
+        self.broken.is_none()
+            && are_reads_clear(space, &self.headers, &touched.reads)
+            && are_writes_clear(space, &self.headers, &touched.writes)
+    }
+}
