@@ -167,7 +167,8 @@ fn put_free(
 {
     out.extend_from_slice(verb)?;
     put_address(out, segment, offset)?;
-    put_segment(out, b" in the free block at ", block, b"")
+    out.extend_from_slice(b" in the free block at ")?;
+    out.extend_from_slice(&word_digits(block))
 }
 
 /// Appends that an instruction writes a byte of a window that shows no page.
@@ -177,7 +178,9 @@ fn put_lost(out: &mut Vec<u8>, window: u8, segment: u16, offset: u16) -> Result<
 {
     out.extend_from_slice(b"writes ")?;
     put_address(out, segment, offset)?;
-    put_count(out, b" in window ", window as u16, b", which shows no page")
+    out.extend_from_slice(b" in window ")?;
+    put_number(out, window as u64)?;
+    out.extend_from_slice(b", which shows no page")
 }
 
 /// Appends that an instruction writes a byte, from 5 to 15, of the header at a segment.
@@ -187,7 +190,9 @@ fn put_tail(out: &mut Vec<u8>, at: u16, byte: u8) -> Result<(), AllocError>
 {
     out.extend_from_slice(b"byte ")?;
     put_number(out, byte as u64)?;
-    put_segment(out, b" of the header at ", at, b" written")
+    out.extend_from_slice(b" of the header at ")?;
+    out.extend_from_slice(&word_digits(at))?;
+    out.extend_from_slice(b" written")
 }
 
 /// Appends that the block at a segment, which another process owned, was freed.
@@ -197,7 +202,9 @@ fn put_other_freed(out: &mut Vec<u8>, at: u16, owner: u16) -> Result<(), AllocEr
 {
     out.extend_from_slice(b"block at ")?;
     out.extend_from_slice(&word_digits(at))?;
-    put_segment(out, b" of process ", owner, b" freed")
+    out.extend_from_slice(b" of process ")?;
+    out.extend_from_slice(&word_digits(owner))?;
+    out.extend_from_slice(b" freed")
 }
 
 /// Appends that a block was not resized: to how many paragraphs.
