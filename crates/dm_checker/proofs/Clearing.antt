@@ -14,14 +14,15 @@ use Rattle.dm_space.specs.Places.{IsShaped}
 use Rattle.dm_space.specs.EightBytes.{little}
 use Rattle.dm_space.proofs.Places.{peek-place, place-windows}
 use Rattle.dm_touches.specs.declared.elements.FarAddress.{FarAddress}
-use Rattle.dm_touches.specs.Elements.{linear_of, place_of}
+use Rattle.dm_touches.specs.Elements.{linear_of, place_of, bytes_of}
 use Rattle.dm_touches.specs.Laws.{Keeps}
 use Rattle.dm_checker.specs.declared.watch.Watched.{Watched}
 use Rattle.dm_checker.specs.declared.watch.Broken.{Broken}
 use Rattle.dm_checker.specs.declared.watch.Watch.{Watch}
 use Rattle.dm_checker.specs.inner.Watching.{five_at, IsBits, IsWatched, IsBrokenIn, IsWatch, IsSeen}
-use Rattle.dm_checker.specs.inner.Clear.{is_free_of, is_at, is_high, is_memory, is_write_clear, are_all, IsClear}
-use Rattle.dm_checker.proofs.Unfound.{and_left, and_right, not_false}
+use Rattle.dm_touches.specs.declared.elements.Elements.{Elements}
+use Rattle.dm_checker.specs.inner.Clear.{is_free_of, is_at, is_high, is_memory, is_write_clear, IsClear}
+use Rattle.dm_checker.proofs.Unfound.{and_left, and_right, not_false, are_all, elements_all}
 
 -- ---- places
 
@@ -44,7 +45,7 @@ low_by w k r a b false false false false false false x = absurd (cc)
 -- only the address itself has its place in RAM
 at_low : (m : Memory) (a b : ℕ) → place m b ≡ Low a → b ≡ a
 unfolding place
-at_low m a b x = low_by _ _ _ a b _ _ _ _ _ _ x
+at_low m a b x = low_by (slice_index_or m.windows ((b - 0xE0000) / 0x4000) None) ((b - 0xE0000) % 0x4000) (b - 0xF0000) a b (nat_lt b 0xC0000) (nat_lt b 0xD0000) (nat_lt b 0xE0000) (nat_lt b 0xF0000) (nat_lt b 0x100000) (nat_lt b 0x10FFF0) x
 
 page_by : (m : Memory) (b p k : ℕ) (c d e : Bool) (q : Place) → (if c then Low b else if d then Nothing else if e then Low b else q) ≡ Page p k → e ≡ true → ⊥
 page_by m b p k true d e q x t = cc
@@ -55,27 +56,27 @@ page_by m b p k false false false q x t = absurd (false≢true t)
 -- no page is below the frame
 no_page : (m : Memory) (b p k : ℕ) → b < 0xE0000 → place m b ≡ Page p k → ⊥
 unfolding place
-no_page m b p k less x = page_by m b p k _ _ _ _ x (grind (arith, nat_tests))
+no_page m b p k less x = (let low : nat_lt b 0xE0000 ≡ true = grind (arith, nat_tests) in page_by m b p k (nat_lt b 0xC0000) (nat_lt b 0xD0000) (nat_lt b 0xE0000) _ x low)
 
 -- where a write goes of which nothing is found
 data Goes (m : Memory) (xs : List Watched) (a : ℕ) : Type 0 where
-  ram : place m a ≡ Low a → Goes m xs a
-  page : (p k : ℕ) → place m a ≡ Page p k → list_any is_high xs ≡ false → Goes m xs a
+  to_ram : place m a ≡ Low a → Goes m xs a
+  to_page : (p k : ℕ) → place m a ≡ Page p k → list_any is_high xs ≡ false → Goes m xs a
 
 page_shown : (m : Memory) (xs : List Watched) (a k : ℕ) (o : Option ℕ) → place m a ≡ shown o k → (is_some o && not (list_any is_high xs)) ≡ true → Goes m xs a
 page_shown m xs a k None x e = absurd (false≢true e)
-page_shown m xs a k (Some p) x e = page p k x (not_false _ e)
+page_shown m xs a k (Some p) x e = to_page p k x (not_false _ e)
 
 abbrev PlaceBy : Memory → ℕ → Bool → Bool → Bool → Bool → Bool → Bool → Place
 PlaceBy m a c d e f g h = if c then Low a else if d then Nothing else if e then Low a else if f then shown (slice_index_or m.windows ((a - 0xE0000) / 0x4000) None) ((a - 0xE0000) % 0x4000) else if g then Rom (a - 0xF0000) else if h then Low a else Nothing
 
 goes_by : (m : Memory) (xs : List Watched) (a : ℕ) (c d e f g h : Bool) → place m a ≡ PlaceBy m a c d e f g h → (if c then true else if d then false else if e then true else if f then is_some (slice_index_or m.windows ((a - 0xE0000) / 0x4000) None) && not (list_any is_high xs) else not g && h) ≡ true → Goes m xs a
-goes_by m xs a true d e f g h x t = ram x
+goes_by m xs a true d e f g h x t = to_ram x
 goes_by m xs a false true e f g h x t = absurd (false≢true t)
-goes_by m xs a false false true f g h x t = ram x
+goes_by m xs a false false true f g h x t = to_ram x
 goes_by m xs a false false false true g h x t = page_shown m xs a _ (slice_index_or m.windows ((a - 0xE0000) / 0x4000) None) x t
 goes_by m xs a false false false false true h x t = absurd (false≢true t)
-goes_by m xs a false false false false false true x t = ram x
+goes_by m xs a false false false false false true x t = to_ram x
 goes_by m xs a false false false false false false x t = absurd (false≢true t)
 
 goes : (m : Memory) (xs : List Watched) (a : ℕ) → is_memory m xs a ≡ true → Goes m xs a
@@ -94,8 +95,8 @@ other_paragraph h a k e less same =
     false≢true (sym e ∙ equal)
 
 apart : (m : Memory) (xs : List Watched) (x : Watched) (a k : ℕ) → (list_any is_high xs ≡ false → is_high x ≡ false) → (x.header.segment == a / 16) ≡ false → k < 5 → Goes m xs a → place m a ≢ place m (16 * x.header.segment + k)
-apart m xs x a k low other less (ram here) same = other_paragraph x.header.segment a k other less (at_low m a (16 * x.header.segment + k) (sym same ∙ here))
-apart m xs x a k low other less (page p n here none) same = no_page m (16 * x.header.segment + k) p n (not_high x.header.segment (low none) k less) (sym same ∙ here)
+apart m xs x a k low other less (to_ram here) same = other_paragraph x.header.segment a k other less (at_low m a (16 * x.header.segment + k) (sym same ∙ here))
+apart m xs x a k low other less (to_page p n here none) same = no_page m (16 * x.header.segment + k) p n (not_high x.header.segment (low none) k less) (sym same ∙ here)
 
 or_left : (a b : Bool) → (a || b) ≡ false → a ≡ false
 or_left true b e = e
@@ -118,14 +119,14 @@ left_tail xs y ys l = record {
 
 -- none of the bytes that are written is at the place of a byte of the header
 all_apart : (m : Memory) (xs : List Watched) (y : Watched) (ys : List Watched) (k : ℕ) → IsLeft xs (y ∷ ys) → k < 5 → (fs : List FarAddress) → are_all (is_write_clear m xs) m.a20 fs ≡ true → All (λ (f : FarAddress). place_of m f ≢ place m (16 * y.header.segment + k)) fs
-all_apart m xs y ys k l less [] e = All-nil _
+all_apart m xs y ys k l less [] e = All-nil (λ (g : FarAddress). place_of m g ≢ place m (16 * y.header.segment + k))
 all_apart m xs y ys k l less (f ∷ fs) e =
     let a = linear_of m.a20 f in
     let here : is_write_clear m xs a ≡ true = and_left (is_write_clear m xs a) _ e in
     let free : list_any (is_at a) xs ≡ false = not_false _ (and_right (is_memory m xs a) _ here) in
     let at : is_at a y ≡ false = or_left (is_at a y) (list_any (is_at a) ys) (l.other a free) in
     let other : (y.header.segment == a / 16) ≡ false = or_right (is_free_of a y) (y.header.segment == a / 16) at in
-    All-cons _ f fs
+    All-cons (λ (g : FarAddress). place_of m g ≢ place m (16 * y.header.segment + k)) f fs
     (apart m xs y a k (λ none. or_left (is_high y) (list_any is_high ys) (l.low none)) other less (goes m xs a (and_left (is_memory m xs a) _ here)))
     (all_apart m xs y ys k l less fs (and_right (is_write_clear m xs a) _ e))
 
@@ -171,13 +172,13 @@ broken_none : (m : Memory) (o : Option Broken) → o ≡ None → IsBrokenIn m o
 broken_none m None e = tt
 broken_none m (Some b) e = absurd (cc)
 
-pub seen_clear : (upper : Bool) (m n : Memory) (w : Watch) (rs ws : List FarAddress) → IsWatch upper m w → ((k : ℕ) → IfSome (slice_index_or m.windows k None) (IsPage m)) → Keeps m n ws → IsClear m w rs ws → IsSeen upper n w
+pub seen_clear : (upper : Bool) (m n : Memory) (w : Watch) (rs ws : Elements) → IsWatch upper m w → ((k : ℕ) → IfSome (slice_index_or m.windows k None) (IsPage m)) → Keeps m n (bytes_of ws) → IsClear m w rs ws → IsSeen upper n w
 seen_clear upper m n w rs ws x pages keeps c =
     let all : IsLeft w.headers.items w.headers.items = record { low = λ e. e; other = λ a e. e } in
     record {
       setting = sym x.setting;
       windows = keeps.shape.windows ∙ sym x.windows;
       pages = λ k. pages_kept m n keeps.shape k (pages k);
-      headers = headers_kept m n w.headers.items w.headers.items ws keeps c.writes all x.headers;
+      headers = headers_kept m n w.headers.items w.headers.items (bytes_of ws) keeps (elements_all (is_write_clear m w.headers.items) m.a20 ws c.writes) all x.headers;
       there = broken_none n w.broken c.whole;
     }

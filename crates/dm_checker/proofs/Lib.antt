@@ -15,6 +15,7 @@ pub mod Looking
 pub mod Stepping
 pub mod Checking
 pub mod Fetched
+pub mod Touching
 pub mod Unfound
 pub mod Clearing
 pub mod Reading

@@ -129,7 +129,7 @@ arranged_none : (a20 : Bool) (present : ℕ) (c d : Cpu) (call : Option Call) (o
 arranged_none a20 present c d None old new e = refl
 arranged_none a20 present c d (Some DivideError) old new e = refl
 arranged_none a20 present c d (Some Terminate) old new e = refl
-arranged_none a20 present c d (Some (Dos number)) old new e = (let off = not_arranging c number e in arranged_dos a20 present c d number old new off.0 off.1.0 off.1.1)
+arranged_none a20 present c d (Some (Dos number)) old new e = (let off = not_arranging c number e in arranged_dos a20 present c d number old new off.0 off.1 off.2)
 arranged_none a20 present c d (Some (ExpandedMemory number)) old new e = refl
 arranged_none a20 present c d (Some Multiplex) old new e = refl
 arranged_none a20 present c d (Some (ExtendedMemory number)) old new e = refl

@@ -18,6 +18,9 @@ use Rattle.dm_checker.specs.declared.acts.Before.{Before}
 use Rattle.dm_checker.specs.declared.watch.Watch.{Watch}
 use Rattle.dm_checker.specs.Calls.{leaves, freed_twice, call_findings}
 use Rattle.dm_leaks.specs.Leaks.{leaks}
+use Rattle.dm_ins.specs.declared.ins.Ins.{Ins}
+use Rattle.dm_cpu.specs.declared.cpu.Cpu.{Cpu}
+use Rattle.dm_touches.specs.declared.elements.Elements.{Elements}
 use Rattle.dm_cpu.specs.Guest.{guest}
 use Rattle.dm_exec.specs.Effect.{effect}
 use Rattle.dm_touches.specs.Elements.{bytes_of}
@@ -30,13 +33,14 @@ use Rattle.dm_checker.specs.Arranged.{arranged_by, arranged}
 use Rattle.dm_checker.specs.Findings.{findings, Finds, FindsTouched, touching, over, IsFound, none}
 use Rattle.dm_checker.specs.Checks.{FindsAtEnd, FindsAtStop, left_behind}
 use Rattle.dm_checker.specs.inner.Watching.{header_of, broken_at, shown_of, IsWatch, IsSeen}
-use Rattle.dm_checker.specs.inner.Clear.{IsPassed}
+use Rattle.dm_checker.specs.inner.Code.{IsNext}
+use Rattle.dm_checker.specs.inner.Clear.{is_read_clear, is_write_clear, IsClear, IsPassed}
 use Rattle.dm_checker.specs.inner.Steps.{IsBefore, found_by, ReportsMore, Touches, Looks, ChecksOne}
 use Rattle.dm_checker.proofs.Acting.{some_none, call_acts, had_ended, exit_changes_nothing}
 use Rattle.dm_checker.proofs.Seen.{seen_watch}
 use Rattle.dm_checker.proofs.Still.{seen_findings}
 use Rattle.dm_checker.proofs.Reading.{no_call, still_running, next_leaves}
-use Rattle.dm_checker.proofs.Unfound.{headers_clear, places_clear, memory_of, apart_of}
+use Rattle.dm_checker.proofs.Unfound.{are_all, elements_all, headers_clear, places_clear, memory_of, apart_of}
 use Rattle.dm_checker.proofs.Clearing.{seen_clear}
 use Rattle.dm_checker.proofs.Telling.{reports_none, tells}
 
@@ -167,9 +171,11 @@ clear_touched s t w p a =
     let rs = bytes_of (reads (guest s.cpu s.memory) p.ins p.length) in
     let ws = bytes_of (writes (guest s.cpu s.memory) p.ins p.length) in
     let a20 = s.memory.a20 in
+    let clear_reads : are_all (is_read_clear w.headers.items) a20 rs ≡ true = elements_all (is_read_clear w.headers.items) a20 (reads (guest s.cpu s.memory) p.ins p.length) p.clear.reads in
+    let clear_writes : are_all (is_write_clear s.memory w.headers.items) a20 ws ≡ true = elements_all (is_write_clear s.memory w.headers.items) a20 (writes (guest s.cpu s.memory) p.ins p.length) p.clear.writes in
     let headers : of_headers a20 rs ws (broken_at w.broken) (map header_of w.headers.items) ≡ []
-    = ap (λ (o : Option Broken). of_headers a20 rs ws (broken_at o) (map header_of w.headers.items)) p.clear.whole ∙ headers_clear a20 rs ws w.headers.items p.clear.reads (apart_of s.memory w.headers.items a20 ws p.clear.writes) in
-    let places : of_places s.memory ws ≡ [] = places_clear s.memory w.headers.items ws (memory_of s.memory w.headers.items a20 ws p.clear.writes) in
+    = ap (λ (o : Option Broken). of_headers a20 rs ws (broken_at o) (map header_of w.headers.items)) p.clear.whole ∙ headers_clear a20 rs ws w.headers.items clear_reads (apart_of s.memory w.headers.items a20 ws clear_writes) in
+    let places : of_places s.memory ws ≡ [] = places_clear s.memory w.headers.items ws (memory_of s.memory w.headers.items a20 ws clear_writes) in
     touching p.ins p.length (still_running s t a) (no_call s.cpu p.next.below) p.next.begins (sym (ap₂ (λ (l m : List Finding). l ++ m) headers places))
 
 -- memory still shows what was kept
@@ -192,6 +198,22 @@ clear_on free s t w r p linked a x =
       finds = record { findings = []; finds = nothing_by s t w (no_call s.cpu p.next.below) x seen (clear_touched s t w p a); told = none refl refl };
       reports = reports_none free r;
       watch = λ e. seen_watch s.upper t.upper s.memory t.memory w x seen;
+    }
+
+-- an instruction that is known, with what it touches
+pub passed_by : (s : State) (w : Watch) (c : Cpu) (m n o : Memory) (i : Ins) (k : ℕ) (rs ws : Elements) → c ≡ s.cpu → m ≡ s.memory → n ≡ s.memory → o ≡ s.memory → IsNext m c i k → rs ≡ reads (guest c n) i k → ws ≡ writes (guest c n) i k → IsClear o w rs ws → IsPassed s w
+passed_by s w c m n o i k rs ws same first second third next r v clear =
+    let N : Cpu → Memory → Type 0 = λ d l. IsNext l d i k in
+    let C : Memory → Elements → Elements → Type 0 = λ l a b. IsClear l w a b in
+    let reads_same : rs ≡ reads (guest s.cpu s.memory) i k = r ∙ ap₂ (λ (d : Cpu) (l : Memory). reads (guest d l) i k) same second in
+    let writes_same : ws ≡ writes (guest s.cpu s.memory) i k = v ∙ ap₂ (λ (d : Cpu) (l : Memory). writes (guest d l) i k) same second in
+    let there : C s.memory rs ws = subst (λ (l : Memory). C l rs ws) third clear in
+    let with_reads : C s.memory (reads (guest s.cpu s.memory) i k) ws = subst (λ (a : Elements). C s.memory a ws) reads_same there in
+    record {
+      ins = i;
+      length = k;
+      next = subst (λ (l : Memory). N s.cpu l) first (subst (λ (d : Cpu). N d m) same next);
+      clear = subst (λ (b : Elements). C s.memory (reads (guest s.cpu s.memory) i k) b) writes_same with_reads;
     }
 
 pub clear_passes : (free : Bool) (s t : State) (stop : Option Stop) (w : Watch) (r : Reported) → IsPassed s w → AreConsistent s → Answers s stop t → IsWatch s.upper s.memory w → ChecksOne free s stop t w r r

@@ -8,11 +8,16 @@ use Rattle.dm_space.specs.Memory.{Memory}
 use Rattle.dm_blocks.specs.declared.header.Header.{Header}
 use Rattle.dm_findings.specs.declared.finding.Finding.{Finding}
 use Rattle.dm_touches.specs.declared.elements.FarAddress.{FarAddress}
-use Rattle.dm_touches.specs.Elements.{linear_of}
+use Rattle.dm_touches.specs.Elements.{far, linear_of, bytes_if, bytes_of}
 use Rattle.dm_touches.specs.Found.{is_between, first_that, if_some, is_in_free, is_in_tail, free_read, free_written, tail_written, of_header, window_lost, rom_written, nothing_written, of_places}
 use Rattle.dm_checker.specs.declared.watch.Watched.{Watched}
 use Rattle.dm_checker.specs.inner.Watching.{header_of}
-use Rattle.dm_checker.specs.inner.Clear.{is_free_of, is_at, is_high, is_memory, is_read_clear, is_write_clear, are_all}
+use Rattle.dm_cpu.specs.Guest.{up}
+use Rattle.dm_touches.specs.declared.elements.Element.{Element}
+use Rattle.dm_touches.specs.declared.elements.Element.TheVariants as element
+use Rattle.dm_touches.specs.declared.elements.Elements.{Elements}
+use Rattle.dm_findings.specs.declared.finding.Finding.TheVariants.{RomWritten, NothingWritten}
+use Rattle.dm_checker.specs.inner.Clear.{is_free_of, is_at, is_high, is_memory, is_read_clear, is_write_clear, passes_if, pass}
 
 -- ---- tests
 
@@ -36,6 +41,33 @@ neither true b e = absurd (false≢true e)
 neither false b e = (refl, e)
 
 -- ---- tests of all bytes
+
+-- whether the linear addresses of all these bytes pass the test
+abbrev pub are_all : (ℕ → Bool) → Bool → List FarAddress → Bool
+are_all is a20 [] = true
+are_all is a20 (f ∷ fs) = is (linear_of a20 f) && are_all is a20 fs
+
+all_append : (is : ℕ → Bool) (a20 : Bool) (fs gs : List FarAddress) → are_all is a20 fs ≡ true → are_all is a20 gs ≡ true → are_all is a20 (fs ++ gs) ≡ true
+all_append is a20 [] gs e h = h
+all_append is a20 (f ∷ fs) gs e h = and_both (is (linear_of a20 f)) (are_all is a20 (fs ++ gs)) (and_left (is (linear_of a20 f)) (are_all is a20 fs) e) (all_append is a20 fs gs (and_right (is (linear_of a20 f)) (are_all is a20 fs) e) h)
+
+element_all : (is : ℕ → Bool) (a20 : Bool) (o : Option Element) → passes_if is a20 o ≡ true → are_all is a20 (bytes_if o) ≡ true
+element_all is a20 None e = refl
+element_all is a20 (Some (element.Byte s o)) e = and_both (is (linear_of a20 (far s o))) true e refl
+element_all is a20 (Some (element.Word s o)) e =
+    let first = is (linear_of a20 (far s o)) in
+    let second = is (linear_of a20 (far s (up o 1))) in
+    and_both first (second && true) (and_left first second e) (and_both second true (and_right first second e) refl)
+
+pub elements_all : (is : ℕ → Bool) (a20 : Bool) (e : Elements) → pass is a20 e ≡ true → are_all is a20 (bytes_of e) ≡ true
+elements_all is a20 e t =
+    let a = passes_if is a20 e.first in
+    let b = passes_if is a20 e.second in
+    let c = passes_if is a20 e.third in
+    let both = and_left (a && b) c t in
+    all_append is a20 (bytes_if e.first ++ bytes_if e.second) (bytes_if e.third)
+    (all_append is a20 (bytes_if e.first) (bytes_if e.second) (element_all is a20 e.first (and_left a b both)) (element_all is a20 e.second (and_right a b both)))
+    (element_all is a20 e.third (and_right (a && b) c t))
 
 all_weaker : (p q : ℕ → Bool) → ((a : ℕ) → p a ≡ true → q a ≡ true) → (a20 : Bool) (fs : List FarAddress) → are_all p a20 fs ≡ true → are_all q a20 fs ≡ true
 all_weaker p q w a20 [] e = refl
@@ -102,8 +134,8 @@ IsOut k a = not (is_between (0xE0000 + 0x4000 * k) (0xE0000 + 0x4000 * k + 0x400
 
 window_of_range : (k a : ℕ) → k < 4 → is_between (0xE0000 + 0x4000 * k) (0xE0000 + 0x4000 * k + 0x4000) a ≡ true → (a - 0xE0000) / 0x4000 ≡ k
 window_of_range k a small t =
-    let low : nat_lt a (0xE0000 + 0x4000 * k) ≡ false = not_false _ (and_left _ _ t) in
-    let high : nat_lt a (0xE0000 + 0x4000 * k + 0x4000) ≡ true = and_right _ _ t in
+    let low : nat_lt a (0xE0000 + 0x4000 * k) ≡ false = not_false (nat_lt a (0xE0000 + 0x4000 * k)) (and_left (not (nat_lt a (0xE0000 + 0x4000 * k))) (nat_lt a (0xE0000 + 0x4000 * k + 0x4000)) t) in
+    let high : nat_lt a (0xE0000 + 0x4000 * k + 0x4000) ≡ true = and_right (not (nat_lt a (0xE0000 + 0x4000 * k))) (nat_lt a (0xE0000 + 0x4000 * k + 0x4000)) t in
     let least : 0xE0000 + 0x4000 * k ≤ a = grind (arith, nat_tests) in
     let less : a < 0xE4000 + 0x4000 * k = grind (arith, nat_tests) in
     omega (arith, least, less)
@@ -136,8 +168,8 @@ window_clear m xs ws k small e = window_by m xs ws k _ small e refl
 
 pub places_clear : (m : Memory) (xs : List Watched) (ws : List FarAddress) → are_all (is_memory m xs) m.a20 ws ≡ true → of_places m ws ≡ []
 places_clear m xs ws e =
-    let rom : rom_written m.a20 ws ≡ [] = none_of _ _ (none_that _ m.a20 ws (all_weaker (is_memory m xs) _ (λ a t. (memory_tests m xs a t).0) m.a20 ws e)) in
-    let nothing : nothing_written m.a20 ws ≡ [] = none_of _ _ (none_that _ m.a20 ws (all_weaker (is_memory m xs) _ (λ a t. (memory_tests m xs a t).1) m.a20 ws e)) in
+    let rom : rom_written m.a20 ws ≡ [] = none_of (λ (f : FarAddress). RomWritten f.segment f.offset) _ (none_that (is_between 0xF0000 0x100000) m.a20 ws (all_weaker (is_memory m xs) _ (λ a t. (memory_tests m xs a t).0) m.a20 ws e)) in
+    let nothing : nothing_written m.a20 ws ≡ [] = none_of (λ (f : FarAddress). NothingWritten f.segment f.offset) _ (none_that (is_between 0xC0000 0xD0000) m.a20 ws (all_weaker (is_memory m xs) _ (λ a t. (memory_tests m xs a t).1) m.a20 ws e)) in
     let w0 = window_clear m xs ws 0 (omega arith) e in
     let w1 = window_clear m xs ws 1 (omega arith) e in
     let w2 = window_clear m xs ws 2 (omega arith) e in

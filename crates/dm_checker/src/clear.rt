@@ -1,9 +1,11 @@
 //! When nothing can be found of the bytes that an instruction touches, and no header is written to: after such a step the
 //! checker need not look at memory.
 
-ghost use Rattle.std.specs.Prelude.{◌≡◌, ◌∷◌, [], IsTrue};
-ghost use Rattle.dm_touches.specs.Elements.{bytes_if, bytes_of};
-ghost use Rattle.dm_checker.specs.inner.Clear.{is_free_of, is_at, is_high, is_memory, is_read_clear, is_write_clear, are_all, IsClear};
+ghost use Rattle.std.specs.Prelude.{◌≡◌, IsTrue};
+ghost use Rattle.std.specs.List.{list_any};
+ghost use Rattle.dm_cpu.specs.Guest.{up};
+ghost use Rattle.dm_touches.specs.Elements.{far, linear_of};
+ghost use Rattle.dm_checker.specs.inner.Clear.{is_free_of, is_at, is_high, is_memory, is_read_clear, is_write_clear, passes_if, pass, IsClear};
 
 use crate::watch::{Watch, Watched};
 use dm_space::Space;
@@ -36,6 +38,27 @@ fn is_high(watched: &Watched) -> bool
     watched.header.segment > 0xDFFF
 }
 
+/// Whether a header is in the page frame or above it.
+fn has_high(headers: &[Watched]) -> bool
+    ensures { result ≡ list_any is_high headers.now }
+{
+    headers.iter().any(|watched| is_high(watched))
+}
+
+/// Whether the linear address is in the memory of a free block.
+fn has_free(at: u32, headers: &[Watched]) -> bool
+    ensures { result ≡ list_any (is_free_of at) headers.now }
+{
+    headers.iter().any(|watched| is_free_of(at, watched))
+}
+
+/// Whether the linear address is in the memory of a free block, or in the paragraph of a header.
+fn has_at(at: u32, headers: &[Watched]) -> bool
+    ensures { result ≡ list_any (is_at at) headers.now }
+{
+    headers.iter().any(|watched| is_at(at, watched))
+}
+
 /// Whether a write of the linear address goes to RAM below the frame or above the ROM, or to a page that a window shows
 /// while no header is in the frame.
 fn is_memory(space: &Space, headers: &[Watched], at: u32) -> bool
@@ -52,49 +75,55 @@ fn is_memory(space: &Space, headers: &[Watched], at: u32) -> bool
     }
     if at < 0xF_0000 {
         let windows = space.windows();
-        return windows[((at - FRAME) / WINDOW) as usize].is_some() && !headers.iter().any(is_high);
+        return windows[((at - FRAME) / WINDOW) as usize].is_some() && !has_high(headers);
     }
     at >= 0x10_0000 && at < 0x10_FFF0
 }
 
 /// Whether nothing is found of a read of the byte.
-fn is_read_clear(space: &Space, headers: &[Watched], byte: FarAddress) -> bool
-    ensures { result ≡ are_all (is_read_clear headers.now) space.now.memory.a20 (byte ∷ []) }
+fn is_read_clear(a20: bool, headers: &[Watched], byte: FarAddress) -> bool
+    ensures { result ≡ is_read_clear headers.now (linear_of a20 byte) }
 {
-    let at = byte.linear(space.a20());
-    !headers.iter().any(|watched| is_free_of(at, watched))
+    !has_free(byte.linear(a20), headers)
 }
 
 /// Whether nothing is found of a write to the byte, and it is in no header.
 fn is_write_clear(space: &Space, headers: &[Watched], byte: FarAddress) -> bool
-    ensures { result ≡ are_all (is_write_clear space.now.memory headers.now) space.now.memory.a20 (byte ∷ []) }
+    ensures { result ≡ is_write_clear space.now.memory headers.now (linear_of space.now.memory.a20 byte) }
 {
     let at = byte.linear(space.a20());
-    is_memory(space, headers, at) && !headers.iter().any(|watched| is_at(at, watched))
+    is_memory(space, headers, at) && !has_at(at, headers)
+}
+
+/// The second byte of a word that begins at segment:offset.
+fn second_of(segment: u16, offset: u16) -> FarAddress
+    ensures { result ≡ far segment (up offset 1) }
+{
+    FarAddress {
+        segment,
+        offset: offset.wrapping_add(1),
+    }
 }
 
 /// Whether nothing is found of a read of the element.
-fn is_element_read_clear(space: &Space, headers: &[Watched], element: Option<Element>) -> bool
-    ensures { result ≡ are_all (is_read_clear headers.now) space.now.memory.a20 (bytes_if element) }
+fn is_element_read_clear(a20: bool, headers: &[Watched], element: Option<Element>) -> bool
+    ensures { result ≡ passes_if (is_read_clear headers.now) a20 element }
 {
     match element {
         None => true,
         Some(Element::Byte(segment, offset)) => {
-            is_read_clear(space, headers, FarAddress { segment, offset })
+            is_read_clear(a20, headers, FarAddress { segment, offset })
         }
         Some(Element::Word(segment, offset)) => {
-            is_read_clear(space, headers, FarAddress { segment, offset })
-                && is_read_clear(space, headers, FarAddress {
-                    segment,
-                    offset: offset.wrapping_add(1),
-                })
+            is_read_clear(a20, headers, FarAddress { segment, offset })
+                && is_read_clear(a20, headers, second_of(segment, offset))
         }
     }
 }
 
 /// Whether nothing is found of a write to the element, and it is in no header.
 fn is_element_write_clear(space: &Space, headers: &[Watched], element: Option<Element>) -> bool
-    ensures { result ≡ are_all (is_write_clear space.now.memory headers.now) space.now.memory.a20 (bytes_if element) }
+    ensures { result ≡ passes_if (is_write_clear space.now.memory headers.now) space.now.memory.a20 element }
 {
     match element {
         None => true,
@@ -103,26 +132,23 @@ fn is_element_write_clear(space: &Space, headers: &[Watched], element: Option<El
         }
         Some(Element::Word(segment, offset)) => {
             is_write_clear(space, headers, FarAddress { segment, offset })
-                && is_write_clear(space, headers, FarAddress {
-                    segment,
-                    offset: offset.wrapping_add(1),
-                })
+                && is_write_clear(space, headers, second_of(segment, offset))
         }
     }
 }
 
 /// Whether nothing is found of reads of the elements.
-fn are_reads_clear(space: &Space, headers: &[Watched], reads: &Elements) -> bool
-    ensures { result ≡ are_all (is_read_clear headers.now) space.now.memory.a20 (bytes_of reads.now) }
+fn are_reads_clear(a20: bool, headers: &[Watched], reads: &Elements) -> bool
+    ensures { result ≡ pass (is_read_clear headers.now) a20 reads.now }
 {
-    is_element_read_clear(space, headers, reads.first)
-        && is_element_read_clear(space, headers, reads.second)
-        && is_element_read_clear(space, headers, reads.third)
+    is_element_read_clear(a20, headers, reads.first)
+        && is_element_read_clear(a20, headers, reads.second)
+        && is_element_read_clear(a20, headers, reads.third)
 }
 
 /// Whether nothing is found of writes to the elements, and they are in no header.
 fn are_writes_clear(space: &Space, headers: &[Watched], writes: &Elements) -> bool
-    ensures { result ≡ are_all (is_write_clear space.now.memory headers.now) space.now.memory.a20 (bytes_of writes.now) }
+    ensures { result ≡ pass (is_write_clear space.now.memory headers.now) space.now.memory.a20 writes.now }
 {
     is_element_write_clear(space, headers, writes.first)
         && is_element_write_clear(space, headers, writes.second)
@@ -133,10 +159,10 @@ impl Watch {
     /// Whether nothing is found of the bytes that an instruction touches, and it writes to no header, by the arena and
     /// memory before it. False is no statement.
     pub(crate) fn is_clear_of(&self, touched: &Touched, space: &Space) -> bool
-        ensures { IsTrue result → IsClear space.now.memory self.now (bytes_of touched.now.reads) (bytes_of touched.now.writes) }
+        ensures { IsTrue result → IsClear space.now.memory self.now touched.now.reads touched.now.writes }
     {
         self.broken.is_none()
-            && are_reads_clear(space, &self.headers, &touched.reads)
+            && are_reads_clear(space.a20(), &self.headers, &touched.reads)
             && are_writes_clear(space, &self.headers, &touched.writes)
     }
 }

@@ -2,8 +2,9 @@
 //! allocation, `out` and the report may have a part of what is found. `free` is whether findings about free memory are
 //! reported.
 
-ghost use Rattle.std.specs.Prelude.{◌≡◌, ◌++◌, ◌∷◌, [], map, IfOk, OnOk, OnErr, Option, None, Some, List};
+ghost use Rattle.std.specs.Prelude.{◌≡◌, ◌++◌, ◌∷◌, ◌&&◌, not, [], map, IfOk, OnOk, OnErr, Option, None, Some, List};
 ghost use Rattle.dm_findings.specs.Calls.{call_of};
+ghost use Rattle.dm_findings.specs.Findings.{is_of_free_memory};
 ghost use Rattle.dm_findings.specs.declared.finding.Finding.{Finding};
 ghost use Rattle.dm_findings.specs.declared.finding.Found.{Found};
 ghost use Rattle.dm_state.specs.State.{HasProgram, State};
@@ -90,6 +91,13 @@ fn look(
     Ok(())
 }
 
+/// Whether a finding is left out: it is about free memory, and such findings are not reported.
+fn is_left_out(free: bool, finding: &Finding) -> bool
+    ensures { result ≡ (not free && is_of_free_memory finding.now) }
+{
+    !free && finding.is_of_free_memory()
+}
+
 /// Adds a finding of a step to the report, unless it is about free memory and such findings are not reported.
 fn tell_one(
     report: &mut Report,
@@ -98,7 +106,7 @@ fn tell_one(
 ) -> Result<(), AllocError>
     ensures { OnOk result (ReportsMore free report.old report.new (found ∷ [])) }
 {
-    if !free && found.finding.is_of_free_memory() {
+    if is_left_out(free, &found.finding) {
         return Ok(());
     }
     report.add(found)
@@ -226,18 +234,19 @@ fn look_at_step(
         None => {
             look(alloc, &mut found, &before, kept, machine)?;
             tell_step(report, free, &before, machine, &found)?;
+            Ok(None)
         }
         Some(Stop::Exited(_)) => {
             if let Some(call) = before.call {
                 check_end(alloc, &mut found, &before, call, kept, machine, report, free)?;
-            } else {
-                // The program had ended before. Nothing has changed, and each page that a window shows is there.
-                tables_and_memory_are_consistent(machine);
+                return Ok(stop);
             }
+            // The program had ended before. Nothing has changed, and each page that a window shows is there.
+            tables_and_memory_are_consistent(machine);
+            Ok(stop)
         }
-        Some(_) => {}
+        Some(_) => Ok(stop),
     }
-    Ok(stop)
 }
 
 /// Makes one step and adds what is found of it to the report; returns the stop, or None if the machine goes on. `known`

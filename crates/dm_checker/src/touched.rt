@@ -24,7 +24,7 @@ impl Before {
     fn instruction(&self) -> Option<(Ins, u8)>
         ensures { (s : State) → IsBefore s self.now → IsNextAct s result }
     {
-        if self.call.is_some() {
+        if let Some(_call) = self.call {
             return None;
         }
         decode(&self.bytes)

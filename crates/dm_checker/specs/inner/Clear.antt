@@ -1,13 +1,15 @@
 -- When nothing can be found of the bytes that an instruction touches, and it leaves the headers as they are. No definition
 -- of a finding mentions it.
-use Rattle.std.specs.Prelude.{◌≡◌, ℕ, ◌-◌, ◌/◌, ◌==◌, ◌&&◌, ◌||◌, not, nat_lt, is_some, Bool, true, false, if◌then◌else◌, List, [], ◌∷◌, slice_index_or, Option, None}
+use Rattle.std.specs.Prelude.{◌≡◌, ℕ, ◌-◌, ◌/◌, ◌==◌, ◌&&◌, ◌||◌, not, nat_lt, is_some, Bool, true, false, if◌then◌else◌, List, slice_index_or, Option, Some, None}
 use Rattle.std.specs.List.{list_any}
 use Rattle.dm_space.specs.Memory.{Memory}
-use Rattle.dm_touches.specs.declared.elements.FarAddress.{FarAddress}
 use Rattle.dm_ins.specs.declared.ins.Ins.{Ins}
-use Rattle.dm_cpu.specs.Guest.{guest}
+use Rattle.dm_cpu.specs.Guest.{guest, up}
 use Rattle.dm_state.specs.State.{State}
-use Rattle.dm_touches.specs.Elements.{linear_of, bytes_of}
+use Rattle.dm_touches.specs.declared.elements.Element.{Element}
+use Rattle.dm_touches.specs.declared.elements.Element.TheVariants.{Byte, Word}
+use Rattle.dm_touches.specs.declared.elements.Elements.{Elements}
+use Rattle.dm_touches.specs.Elements.{far, linear_of}
 use Rattle.dm_touches.specs.Touches.{reads, writes}
 use Rattle.dm_touches.specs.Found.{is_in_free}
 use Rattle.dm_checker.specs.declared.watch.Watched.{Watched}
@@ -43,16 +45,21 @@ is_read_clear ws a = not (list_any (is_free_of a) ws)
 abbrev pub is_write_clear : Memory → List Watched → ℕ → Bool
 is_write_clear m ws a = is_memory m ws a && not (list_any (is_at a) ws)
 
--- whether the linear addresses of all these bytes pass the test
-abbrev pub are_all : (ℕ → Bool) → Bool → List FarAddress → Bool
-are_all is a20 [] = true
-are_all is a20 (f ∷ fs) = is (linear_of a20 f) && are_all is a20 fs
+-- whether the linear addresses of all bytes of an element pass the test
+abbrev pub passes_if : (ℕ → Bool) → Bool → Option Element → Bool
+passes_if is a20 None = true
+passes_if is a20 (Some (Byte segment offset)) = is (linear_of a20 (far segment offset))
+passes_if is a20 (Some (Word segment offset)) = is (linear_of a20 (far segment offset)) && is (linear_of a20 (far segment (up offset 1)))
+
+-- whether the linear addresses of all bytes of the elements pass the test
+abbrev pub pass : (ℕ → Bool) → Bool → Elements → Bool
+pass is a20 e = passes_if is a20 e.first && passes_if is a20 e.second && passes_if is a20 e.third
 
 -- nothing is found of these reads and writes, and no header is written to; no list of headers breaks
-pub record IsClear (m : Memory) (w : Watch) (rs ws : List FarAddress) : Type 0 where
+pub record IsClear (m : Memory) (w : Watch) (rs ws : Elements) : Type 0 where
   pub whole : w.broken ≡ None
-  pub reads : are_all (is_read_clear w.headers.items) m.a20 rs ≡ true
-  pub writes : are_all (is_write_clear m w.headers.items) m.a20 ws ≡ true
+  pub reads : pass (is_read_clear w.headers.items) m.a20 rs ≡ true
+  pub writes : pass (is_write_clear m w.headers.items) m.a20 ws ≡ true
 
 -- the instruction at CS:IP, below the segment of services and drivers, touches only bytes of which nothing is found, and
 -- writes to no header; w is what memory shows of the arena before it
@@ -60,4 +67,4 @@ pub record IsPassed (s : State) (w : Watch) : Type 0 where
   pub ins : Ins
   pub length : ℕ
   pub next : IsNext s.memory s.cpu ins length
-  pub clear : IsClear s.memory w (bytes_of (reads (guest s.cpu s.memory) ins length)) (bytes_of (writes (guest s.cpu s.memory) ins length))
+  pub clear : IsClear s.memory w (reads (guest s.cpu s.memory) ins length) (writes (guest s.cpu s.memory) ins length)

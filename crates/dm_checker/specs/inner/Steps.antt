@@ -45,8 +45,8 @@ ReportsMore free old new more = (fs : List Found) → old ≡ report_of (reporte
 
 -- the step from s performs the instruction i of `length` bytes, unless it performs a call (None)
 pub data IsNextAct (s : State) : Option (Ins × ℕ) → Type 0 where
-  instruction : (i : Ins) (length : ℕ) → call_of s.cpu ≡ None → BeginsWith (fetched s.memory s.cpu) i length → IsNextAct s (Some (i, length))
-  other : ((i : Ins) (length : ℕ) → call_of s.cpu ≡ None → BeginsWith (fetched s.memory s.cpu) i length → ⊥) → IsNextAct s None
+  an_instruction : (i : Ins) (length : ℕ) → call_of s.cpu ≡ None → BeginsWith (fetched s.memory s.cpu) i length → IsNextAct s (Some (i, length))
+  no_instruction : ((i : Ins) (length : ℕ) → call_of s.cpu ≡ None → BeginsWith (fetched s.memory s.cpu) i length → ⊥) → IsNextAct s None
 
 -- `new` is `old` with what is found appended of the bytes that the step from s touches, if it is made; w is what memory
 -- shows of the arena before it
