@@ -16,6 +16,7 @@ pub mod Stepping
 pub mod Checking
 pub mod Fetched
 pub mod Touching
+pub mod Main
 pub mod Unfound
 pub mod Clearing
 pub mod Reading

@@ -1,11 +1,11 @@
 //! When nothing can be found of the bytes that an instruction touches, and no header is written to: after such a step the
 //! checker need not look at memory.
 
-ghost use Rattle.std.specs.Prelude.{◌≡◌, IsTrue};
+ghost use Rattle.std.specs.Prelude.{◌≡◌, IsTrue, All};
 ghost use Rattle.std.specs.List.{list_any};
 ghost use Rattle.dm_cpu.specs.Guest.{up};
 ghost use Rattle.dm_touches.specs.Elements.{far, linear_of};
-ghost use Rattle.dm_checker.specs.inner.Clear.{is_free_of, is_at, is_high, is_memory, is_read_clear, is_write_clear, passes_if, pass, IsClear};
+ghost use Rattle.dm_checker.specs.inner.Clear.{is_free_of, is_at, is_high, is_memory, is_read_clear, is_write_clear, passes_if, pass, IsApart, IsClear};
 
 use crate::watch::{Watch, Watched};
 use dm_space::Space;
@@ -81,18 +81,21 @@ fn is_memory(space: &Space, headers: &[Watched], at: u32) -> bool
 }
 
 /// Whether nothing is found of a read of the byte.
-fn is_read_clear(a20: bool, headers: &[Watched], byte: FarAddress) -> bool
-    ensures { result ≡ is_read_clear headers.now (linear_of a20 byte) }
+fn is_read_clear(a20: bool, kept: &Watch, byte: FarAddress) -> bool
+    requires { All (IsApart kept.now.main) kept.now.headers.items }
+    ensures { result ≡ is_read_clear kept.now.headers.items (linear_of a20 byte) }
 {
-    !has_free(byte.linear(a20), headers)
+    let at = byte.linear(a20);
+    kept.main.has(at) || !has_free(at, &kept.headers)
 }
 
 /// Whether nothing is found of a write to the byte, and it is in no header.
-fn is_write_clear(space: &Space, headers: &[Watched], byte: FarAddress) -> bool
-    ensures { result ≡ is_write_clear space.now.memory headers.now (linear_of space.now.memory.a20 byte) }
+fn is_write_clear(space: &Space, kept: &Watch, byte: FarAddress) -> bool
+    requires { All (IsApart kept.now.main) kept.now.headers.items }
+    ensures { result ≡ is_write_clear space.now.memory kept.now.headers.items (linear_of space.now.memory.a20 byte) }
 {
     let at = byte.linear(space.a20());
-    is_memory(space, headers, at) && !has_at(at, headers)
+    is_memory(space, &kept.headers, at) && (kept.main.has(at) || !has_at(at, &kept.headers))
 }
 
 /// The second byte of a word that begins at segment:offset.
@@ -106,63 +109,68 @@ fn second_of(segment: u16, offset: u16) -> FarAddress
 }
 
 /// Whether nothing is found of a read of the element.
-fn is_element_read_clear(a20: bool, headers: &[Watched], element: Option<Element>) -> bool
-    ensures { result ≡ passes_if (is_read_clear headers.now) a20 element }
+fn is_element_read_clear(a20: bool, kept: &Watch, element: Option<Element>) -> bool
+    requires { All (IsApart kept.now.main) kept.now.headers.items }
+    ensures { result ≡ passes_if (is_read_clear kept.now.headers.items) a20 element }
 {
     match element {
         None => true,
         Some(Element::Byte(segment, offset)) => {
-            is_read_clear(a20, headers, FarAddress { segment, offset })
+            is_read_clear(a20, kept, FarAddress { segment, offset })
         }
         Some(Element::Word(segment, offset)) => {
-            is_read_clear(a20, headers, FarAddress { segment, offset })
-                && is_read_clear(a20, headers, second_of(segment, offset))
+            is_read_clear(a20, kept, FarAddress { segment, offset })
+                && is_read_clear(a20, kept, second_of(segment, offset))
         }
     }
 }
 
 /// Whether nothing is found of a write to the element, and it is in no header.
-fn is_element_write_clear(space: &Space, headers: &[Watched], element: Option<Element>) -> bool
-    ensures { result ≡ passes_if (is_write_clear space.now.memory headers.now) space.now.memory.a20 element }
+fn is_element_write_clear(space: &Space, kept: &Watch, element: Option<Element>) -> bool
+    requires { All (IsApart kept.now.main) kept.now.headers.items }
+    ensures { result ≡ passes_if (is_write_clear space.now.memory kept.now.headers.items) space.now.memory.a20 element }
 {
     match element {
         None => true,
         Some(Element::Byte(segment, offset)) => {
-            is_write_clear(space, headers, FarAddress { segment, offset })
+            is_write_clear(space, kept, FarAddress { segment, offset })
         }
         Some(Element::Word(segment, offset)) => {
-            is_write_clear(space, headers, FarAddress { segment, offset })
-                && is_write_clear(space, headers, second_of(segment, offset))
+            is_write_clear(space, kept, FarAddress { segment, offset })
+                && is_write_clear(space, kept, second_of(segment, offset))
         }
     }
 }
 
 /// Whether nothing is found of reads of the elements.
-fn are_reads_clear(a20: bool, headers: &[Watched], reads: &Elements) -> bool
-    ensures { result ≡ pass (is_read_clear headers.now) a20 reads.now }
+fn are_reads_clear(a20: bool, kept: &Watch, reads: &Elements) -> bool
+    requires { All (IsApart kept.now.main) kept.now.headers.items }
+    ensures { result ≡ pass (is_read_clear kept.now.headers.items) a20 reads.now }
 {
-    is_element_read_clear(a20, headers, reads.first)
-        && is_element_read_clear(a20, headers, reads.second)
-        && is_element_read_clear(a20, headers, reads.third)
+    is_element_read_clear(a20, kept, reads.first)
+        && is_element_read_clear(a20, kept, reads.second)
+        && is_element_read_clear(a20, kept, reads.third)
 }
 
 /// Whether nothing is found of writes to the elements, and they are in no header.
-fn are_writes_clear(space: &Space, headers: &[Watched], writes: &Elements) -> bool
-    ensures { result ≡ pass (is_write_clear space.now.memory headers.now) space.now.memory.a20 writes.now }
+fn are_writes_clear(space: &Space, kept: &Watch, writes: &Elements) -> bool
+    requires { All (IsApart kept.now.main) kept.now.headers.items }
+    ensures { result ≡ pass (is_write_clear space.now.memory kept.now.headers.items) space.now.memory.a20 writes.now }
 {
-    is_element_write_clear(space, headers, writes.first)
-        && is_element_write_clear(space, headers, writes.second)
-        && is_element_write_clear(space, headers, writes.third)
+    is_element_write_clear(space, kept, writes.first)
+        && is_element_write_clear(space, kept, writes.second)
+        && is_element_write_clear(space, kept, writes.third)
 }
 
 impl Watch {
     /// Whether nothing is found of the bytes that an instruction touches, and it writes to no header, by the arena and
     /// memory before it. False is no statement.
     pub(crate) fn is_clear_of(&self, touched: &Touched, space: &Space) -> bool
+        requires { All (IsApart self.now.main) self.now.headers.items }
         ensures { IsTrue result → IsClear space.now.memory self.now touched.now.reads touched.now.writes }
     {
         self.broken.is_none()
-            && are_reads_clear(space.a20(), &self.headers, &touched.reads)
-            && are_writes_clear(space, &self.headers, &touched.writes)
+            && are_reads_clear(space.a20(), self, &touched.reads)
+            && are_writes_clear(space, self, &touched.writes)
     }
 }

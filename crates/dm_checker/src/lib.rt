@@ -10,6 +10,7 @@ mod clear;
 mod code;
 mod headers;
 mod laws;
+mod main_block;
 mod put;
 mod steps;
 mod touched;

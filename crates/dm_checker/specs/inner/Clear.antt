@@ -13,6 +13,7 @@ use Rattle.dm_touches.specs.Elements.{far, linear_of}
 use Rattle.dm_touches.specs.Touches.{reads, writes}
 use Rattle.dm_touches.specs.Found.{is_in_free}
 use Rattle.dm_checker.specs.declared.watch.Watched.{Watched}
+use Rattle.dm_checker.specs.declared.main_block.Main.{Main}
 use Rattle.dm_checker.specs.declared.watch.Watch.{Watch}
 use Rattle.dm_checker.specs.inner.Code.{IsNext}
 
@@ -23,6 +24,14 @@ is_free_of a x = is_in_free x.header a
 -- whether the linear address is in that memory, or in the paragraph of the header
 abbrev pub is_at : ℕ → Watched → Bool
 is_at a x = is_free_of a x || (x.header.segment == a / 16)
+
+-- whether the linear address is one of these
+abbrev pub is_in : Main → ℕ → Bool
+is_in main a = not (nat_lt a main.first) && nat_lt a main.end
+
+-- none of the linear addresses is in the memory of the free block behind the header, or in the header's paragraph
+abbrev pub IsApart : Main → Watched → Type 0
+IsApart main x = (a : ℕ) → is_in main a ≡ true → is_at a x ≡ false
 
 -- whether the header is in the page frame or above it
 abbrev pub is_high : Watched → Bool
