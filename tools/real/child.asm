@@ -1,4 +1,5 @@
 ; Frees its environment, calls interrupt 60h, and ends with 7.
+        cpu     8086
         org     100h
         mov     es, [2Ch]
         mov     ah, 49h

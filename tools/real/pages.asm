@@ -3,6 +3,7 @@
 %ifndef BUG
 %assign BUG 0
 %endif
+        cpu     8086
         org     100h
 
 start:

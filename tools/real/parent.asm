@@ -1,4 +1,5 @@
 ; Starts the program CHILD.COM twice, reads its exit code, and keeps a handler of interrupt 60h, which the child calls.
+        cpu     8086
         org     100h
         mov     sp, 800h
         mov     ah, 4Ah
