@@ -69,7 +69,10 @@ fn put_stack_in(out: &mut Vec<Finding>, at: u32, watched: &Watched) -> Result<()
     ensures { OnOk result (out.new.items ≡ out.old.items ++ stack_in at (header_of watched.now)) }
 {
     if is_in_free(&watched.header, at) {
-        return put(out, Finding::StackFreed(watched.header.segment.wrapping_add(1)));
+        return put(
+            out,
+            Finding::StackFreed(watched.header.segment.wrapping_add(1)),
+        );
     }
     Ok(())
 }
@@ -97,7 +100,10 @@ fn put_stack_freed(
     ensures { OnOk result (out.new.items ≡ out.old.items ++ stack_freed a20 before.now after.now number (map header_of headers.now)) }
 {
     if (number == 0x49 || number == 0x4A) && !after.flags.carry {
-        let top = FarAddress { segment: before.ss, offset: before.sp };
+        let top = FarAddress {
+            segment: before.ss,
+            offset: before.sp,
+        };
         return put_each_stack(out, top.linear(a20), headers);
     }
     Ok(())

@@ -30,7 +30,10 @@ fn largest(headers: &[Watched]) -> Main {
         let size = 16 * header.size as u32;
         if header.owner != 0 && size > largest.end.saturating_sub(largest.first) {
             let first = 16 * (header.segment as u32 + 1);
-            largest = Main { first, end: first + size };
+            largest = Main {
+                first,
+                end: first + size,
+            };
         }
     }
     largest

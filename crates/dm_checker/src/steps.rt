@@ -99,11 +99,7 @@ fn is_left_out(free: bool, finding: &Finding) -> bool
 }
 
 /// Adds a finding of a step to the report, unless it is about free memory and such findings are not reported.
-fn tell_one(
-    report: &mut Report,
-    free: bool,
-    found: Found,
-) -> Result<(), AllocError>
+fn tell_one(report: &mut Report, free: bool, found: Found) -> Result<(), AllocError>
     ensures { OnOk result (ReportsMore free report.old report.new (found ∷ [])) }
 {
     if is_left_out(free, &found.finding) {
@@ -178,7 +174,14 @@ fn check_end(
     if leaves(Some(call)) {
         put_leaks(found, machine)?;
     }
-    tell(report, free, before, machine.steps(), Act::Call(call), found)
+    tell(
+        report,
+        free,
+        before,
+        machine.steps(),
+        Act::Call(call),
+        found,
+    )
 }
 
 /// Makes one step of an instruction by `Machine::run`, which uses the decode cache. Returns the stop, or None if the
@@ -238,7 +241,9 @@ fn look_at_step(
         }
         Some(Stop::Exited(_)) => {
             if let Some(call) = before.call {
-                check_end(alloc, &mut found, &before, call, kept, machine, report, free)?;
+                check_end(
+                    alloc, &mut found, &before, call, kept, machine, report, free,
+                )?;
                 return Ok(stop);
             }
             // The program had ended before. Nothing has changed, and each page that a window shows is there.

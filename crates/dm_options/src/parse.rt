@@ -5,7 +5,9 @@ ghost use Rattle.dm_options.specs.Arguments.{dm_app};
 ghost use Rattle.dm_options.specs.Options.{Explains, HasAsmOptions, HasCheckOptions, HasDebugOptions, HasMachineOptions, HasNumber, HasOptions, IsGiven};
 
 use crate::arguments::dm_command;
-use crate::command_line::{AsmOptions, CheckOptions, DebugOptions, MachineOptions, Options, OptionsError};
+use crate::command_line::{
+    AsmOptions, CheckOptions, DebugOptions, MachineOptions, Options, OptionsError,
+};
 use clap::ArgMatches;
 use clap::error::ErrorKind;
 use std::alloc::{AllocError, Global};

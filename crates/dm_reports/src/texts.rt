@@ -250,7 +250,13 @@ fn put_finding(out: &mut Vec<u8>, act: &Act, finding: &Finding) -> Result<(), Al
             put_at(out, b"writes ", *segment, *offset, b" in the ROM")
         }
         Finding::NothingWritten(segment, offset) => {
-            put_at(out, b"writes ", *segment, *offset, b", where there is no memory")
+            put_at(
+                out,
+                b"writes ",
+                *segment,
+                *offset,
+                b", where there is no memory",
+            )
         }
         Finding::TailWritten(at, byte) => put_tail(out, *at, *byte),
         Finding::OtherFreed(at, owner) => put_other_freed(out, *at, *owner),

@@ -45,7 +45,10 @@ impl Range {
             Some(Element::Byte(segment, offset)) => (FarAddress { segment, offset }, None),
             Some(Element::Word(segment, offset)) => (
                 FarAddress { segment, offset },
-                Some(FarAddress { segment, offset: offset.wrapping_add(1) }),
+                Some(FarAddress {
+                    segment,
+                    offset: offset.wrapping_add(1),
+                }),
             ),
         };
         if self.has(byte.linear(a20)) {
@@ -88,7 +91,10 @@ fn first_in_free(a20: bool, elements: &Elements, header: &Header) -> Option<FarA
         return None;
     }
     let first = 16 * (header.segment as u32 + 1);
-    let memory = Range { first, end: first + 16 * header.size as u32 };
+    let memory = Range {
+        first,
+        end: first + 16 * header.size as u32,
+    };
     memory.first_of(a20, elements)
 }
 
@@ -97,7 +103,10 @@ fn first_in_tail(a20: bool, elements: &Elements, header: &Header) -> Option<FarA
     ensures { result ≡ first_that a20 (is_in_tail header.now) (bytes_of elements.now) }
 {
     let first = 16 * header.segment as u32;
-    let tail = Range { first: first + 5, end: first + 16 };
+    let tail = Range {
+        first: first + 5,
+        end: first + 16,
+    };
     tail.first_of(a20, elements)
 }
 
@@ -139,7 +148,10 @@ fn put_lost(
         return Ok(());
     }
     let first = 0xE_0000 + 0x4000 * window as u32;
-    let frame = Range { first, end: first + 0x4000 };
+    let frame = Range {
+        first,
+        end: first + 0x4000,
+    };
     if let Some(byte) = frame.first_of(space.a20(), writes) {
         out.push(Finding::WindowLost(window, byte.segment, byte.offset))?;
     }
@@ -150,7 +162,10 @@ fn put_lost(
 fn put_rom(out: &mut Vec<Finding>, a20: bool, writes: &Elements) -> Result<(), AllocError>
     ensures { OnOk result (out.new.items ≡ out.old.items ++ rom_written a20 (bytes_of writes.now)) }
 {
-    let rom = Range { first: 0xF_0000, end: 0x10_0000 };
+    let rom = Range {
+        first: 0xF_0000,
+        end: 0x10_0000,
+    };
     if let Some(byte) = rom.first_of(a20, writes) {
         out.push(Finding::RomWritten(byte.segment, byte.offset))?;
     }
@@ -161,7 +176,10 @@ fn put_rom(out: &mut Vec<Finding>, a20: bool, writes: &Elements) -> Result<(), A
 fn put_nothing(out: &mut Vec<Finding>, a20: bool, writes: &Elements) -> Result<(), AllocError>
     ensures { OnOk result (out.new.items ≡ out.old.items ++ nothing_written a20 (bytes_of writes.now)) }
 {
-    let nothing = Range { first: 0xC_0000, end: 0xD_0000 };
+    let nothing = Range {
+        first: 0xC_0000,
+        end: 0xD_0000,
+    };
     if let Some(byte) = nothing.first_of(a20, writes) {
         out.push(Finding::NothingWritten(byte.segment, byte.offset))?;
     }

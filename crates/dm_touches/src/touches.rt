@@ -17,8 +17,10 @@ use crate::elements::{Element, Elements, Touched};
 use dm_alu::{Division, Sign, Width, div};
 use dm_cpu::{Cpu, Registers, operands, values};
 use dm_exec::StringOperation;
-use dm_ins::{Address, Base, ByteRegister, Ins, Operand, Prefixes, Repeat, SegmentRegister};
-use dm_ins::Width as OperandWidth;
+use dm_ins::{
+    Address, Base, ByteRegister, Ins, Operand, Prefixes, Repeat, SegmentRegister,
+    Width as OperandWidth,
+};
 use dm_space::Space;
 
 /// The value of an override's segment register, or `own` without one.
@@ -98,11 +100,7 @@ fn element_of(cpu: &Cpu, override_: Option<SegmentRegister>, operand: &Operand) 
 
 /// The word behind the one at an operand, the segment of a far pointer there; None if the operand is not in memory.
 #[tactic(auto, unfolding(crate::specs::Touches::word_behind))]
-fn word_behind(
-    cpu: &Cpu,
-    override_: Option<SegmentRegister>,
-    operand: &Operand,
-) -> Option<Element>
+fn word_behind(cpu: &Cpu, override_: Option<SegmentRegister>, operand: &Operand) -> Option<Element>
     ensures { result ≡ word_behind cpu.now override_ operand.now }
 {
     match *operand {
