@@ -20,7 +20,7 @@ use Rattle.dm_findings.specs.declared.finding.Act.TheVariants as act
 use Rattle.dm_findings.specs.Calls.{call_by, call_of}
 use Rattle.dm_checker.specs.declared.acts.Before.{Before}
 use Rattle.dm_checker.specs.Findings.{IsAct, called, instructed}
-use Rattle.dm_checker.specs.inner.Steps.{IsBefore, IsUnlisted}
+use Rattle.dm_checker.specs.inner.Steps.{IsBefore, IsUnlisted, IsNextAct, an_instruction, no_instruction}
 
 pub call_acts : (b : Before) (call : Call) → b.call ≡ Some call → (s : State) → IsBefore s b → IsAct s (act.Call call)
 call_acts b call e s h = called call (sym h.call ∙ e) refl
@@ -44,6 +44,19 @@ nothing_acts b o none d e s h = record {
       let y : BeginsWith b.bytes i k = subst F (sym h.bytes) x in
       some_none (i, k) (sym ((d i k).1 (y.short, y.spells)) ∙ e));
 }
+
+-- ---- the instruction that comes next
+
+pub called_next : (b : Before) (call : Call) → b.call ≡ Some call → (s : State) → IsBefore s b → IsNextAct s None
+called_next b call e s h = no_instruction (λ i k none x. some_none call (sym e ∙ h.call ∙ none))
+
+pub decoded_next : (b : Before) (o : Option (Ins × ℕ)) → b.call ≡ None → Decodes b.bytes o → (s : State) → IsBefore s b → IsNextAct s o
+decoded_next b None none d s h = no_instruction (λ i k e x. (let F : List ℕ → Type 0 = λ bytes. BeginsWith bytes i k in
+    let y : BeginsWith b.bytes i k = subst F (sym h.bytes) x in
+    some_none (i, k) (sym ((d i k).1 (y.short, y.spells)))))
+decoded_next b (Some (i, k)) none d s h =
+    let F : List ℕ → Type 0 = λ bytes. BeginsWith bytes i k in
+    an_instruction i k (sym h.call ∙ none) (subst F h.bytes (begins b.bytes (Some (i, k)) i k d refl))
 
 -- ---- steps in which nothing acts
 
@@ -83,6 +96,14 @@ instructs_none s t code (unlisted f e) = (let stop : Some (Exited code) ≡ Some
 exits_over : (s t : State) (code : ℕ) (o : Option ℕ) → call_of s.cpu ≡ None → ActsUnlessEnded s o (record { stop = Some (Exited code); state = t }) → t ≡ s
 exits_over s t code (Some other) none e = ap (λ (x : Answer). x.state) e
 exits_over s t code None none h = absurd (instructs_none s t code (uncalled_acts s _ none h))
+
+over_before : (s t : State) (code : ℕ) (o : Option ℕ) → call_of s.cpu ≡ None → ActsUnlessEnded s o (record { stop = Some (Exited code); state = t }) → (other : ℕ) × (o ≡ Some other)
+over_before s t code (Some other) none e = (other, refl)
+over_before s t code None none h = absurd (instructs_none s t code (uncalled_acts s _ none h))
+
+pub had_ended : (s t : State) (code : ℕ) → call_of s.cpu ≡ None → Answers s (Some (Exited code)) t → (other : ℕ) × (s.exited ≡ Some other)
+unfolding MakesStep
+had_ended s t code none h = over_before s t code s.exited none h
 
 -- the program had ended before
 pub exit_changes_nothing : (s t : State) (code : ℕ) → call_of s.cpu ≡ None → Answers s (Some (Exited code)) t → t ≡ s

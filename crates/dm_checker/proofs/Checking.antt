@@ -1,5 +1,5 @@
 -- Checked runs, as they are made.
-use Rattle.std.proofs.Common.{◌≡◌, ℕ, ◌+◌, ◌<◌, ◌≤◌, List, [], ◌++◌, Option, Some, None, Result, Ok, Err, refl, sym, subst, arith}
+use Rattle.std.proofs.Common.{◌≡◌, ℕ, ◌+◌, ◌<◌, ◌≤◌, inl, inr, Bool, List, [], ◌++◌, Option, Some, None, Result, Ok, Err, refl, sym, subst, arith}
 use Rattle.std.specs.Prelude.{OnErr}
 use Rattle.dm_state.specs.declared.stop.Stop.{Stop}
 use Rattle.dm_state.specs.declared.stop.Stop.TheVariants.{Exited, Steps as AllSteps}
@@ -10,9 +10,9 @@ use Rattle.dm_machine.proofs.OneRun.{none-made}
 use Rattle.dm_findings.specs.declared.finding.Found.{Found}
 use Rattle.dm_findings.specs.Report.{Reported, report_of}
 use Rattle.dm_checker.specs.declared.watch.Watch.{Watch}
-use Rattle.dm_checker.specs.Checks.{FindsIn, Checks, IsReport, RunsPart}
+use Rattle.dm_checker.specs.Checks.{FindsIn, Checks, IsReport, RunsPart, reported}
 use Rattle.dm_checker.specs.Checks as checks
-use Rattle.dm_checker.specs.inner.Steps.{ChecksOne}
+use Rattle.dm_checker.specs.inner.Steps.{ChecksOne, IsPart}
 use Rattle.dm_checker.proofs.OneCheck.{finds_goes, checked_run}
 
 -- ---- a run of no step
@@ -34,42 +34,42 @@ was_exited s t code n (cut e w) = (let less = w.fewer in absurd (omega arith))
 
 -- ---- what is promised of a checked run
 
-pub reports : (s t : State) (n : ℕ) (stop : Stop) (found : List Found) (r : Reported) → Checks s n stop t found → r ≡ report_of found → IsReport s n stop t r
-reports s t n stop found r x e = record { found = found; checks = x; is = e }
+pub reports : (s t : State) (n : ℕ) (free : Bool) (stop : Stop) (found : List Found) (r : Reported) → Checks s n stop t found → r ≡ report_of (reported free found) → IsReport s n free stop t r
+reports s t n free stop found r x e = record { found = found; checks = x; is = e }
 
-pub runs : (s t : State) (n : ℕ) (stop : Stop) (r : Reported) → IsReport s n stop t r → IsRun s n stop t
-runs s t n stop r x = checked_run s t n stop x.found x.checks
+pub runs : (s t : State) (n : ℕ) (free : Bool) (stop : Stop) (r : Reported) → IsReport s n free stop t r → IsRun s n stop t
+runs s t n free stop r x = checked_run s t n stop x.found x.checks
 
 -- ---- so many steps were made, and the report has what was found in them
 
-pub record HasChecked (s : State) (n : ℕ) (t : State) (report : Reported) : Type 0 where
+pub record HasChecked (free : Bool) (s : State) (n : ℕ) (t : State) (report : Reported) : Type 0 where
   pub running : s.exited ≡ None
   pub found : List Found
   pub finds : FindsIn s n t found
-  pub is : report ≡ report_of found
+  pub is : report ≡ report_of (reported free found)
 
-pub checked_none : (s t : State) (r : Reported) → s.exited ≡ None → t ≡ s → r ≡ report_of [] → HasChecked s 0 t r
-checked_none s t r e same is =
+pub checked_none : (free : Bool) (s t : State) (r : Reported) → s.exited ≡ None → t ≡ s → r ≡ report_of [] → HasChecked free s 0 t r
+checked_none free s t r e same is =
     let F : State → Type 0 = λ u. FindsIn s 0 u [] in
     record { running = e; found = []; finds = subst F (sym same) checks.here; is = is }
 
-pub checked_more : (s t u : State) (n : ℕ) (w : Watch) (old new : Reported) → HasChecked s n t old → ChecksOne t None u w old new → HasChecked s (n + 1) u new
-checked_more s t u n w old new h x = record {
+pub checked_more : (free : Bool) (s t u : State) (n : ℕ) (w : Watch) (old new : Reported) → HasChecked free s n t old → ChecksOne free t None u w old new → HasChecked free s (n + 1) u new
+checked_more free s t u n w old new h x = record {
   running = h.running;
   found = h.found ++ x.found;
   finds = checks.further n t u h.found x.found h.finds x.answers x.finds;
   is = x.reports h.found h.is;
 }
 
-pub checked_cut : (s t u : State) (n m : ℕ) (stop : Stop) (w : Watch) (old new : Reported) → HasChecked s n t old → n < m → ChecksOne t (Some stop) u w old new → IsReport s m stop u new
-checked_cut s t u n m stop w old new h less x = record {
+pub checked_cut : (free : Bool) (s t u : State) (n m : ℕ) (stop : Stop) (w : Watch) (old new : Reported) → HasChecked free s n t old → n < m → ChecksOne free t (Some stop) u w old new → IsReport s m free stop u new
+checked_cut free s t u n m stop w old new h less x = record {
   found = h.found ++ x.found;
   checks = checks.cut n t h.found x.found h.running less h.finds x.answers x.finds refl;
   is = x.reports h.found h.is;
 }
 
-pub checked_all : (s t : State) (n m : ℕ) (r : Reported) → HasChecked s n t r → n ≡ m → IsReport s m AllSteps t r
-checked_all s t n m r h e = record {
+pub checked_all : (free : Bool) (s t : State) (n m : ℕ) (r : Reported) → HasChecked free s n t r → n ≡ m → IsReport s m free AllSteps t r
+checked_all free s t n m r h e = record {
   found = h.found;
   checks = checks.whole h.running refl (let F : ℕ → Type 0 = λ k. FindsIn s k t h.found in subst F e h.finds);
   is = h.is;
@@ -77,20 +77,21 @@ checked_all s t n m r h e = record {
 
 -- ---- where an allocation failed
 
-pub part_made : (s t : State) (n m : ℕ) (r : Reported) → HasChecked s n t r → n ≤ m → RunsPart s m t
-part_made s t n m r h few = record { most = n; stop = AllSteps; few = few; run = run.whole h.running refl (finds_goes s t n h.found h.finds) }
+pub part_made : (free : Bool) (s t : State) (n m : ℕ) (r : Reported) → HasChecked free s n t r → n ≤ m → RunsPart s m t
+part_made free s t n m r h few = record { most = n; stop = AllSteps; few = few; run = run.whole h.running refl (finds_goes s t n h.found h.finds) }
 
-part_by : (s t u : State) (n m : ℕ) (r : Reported) (stop : Option Stop) → HasChecked s n t r → n + 1 ≤ m → Answers t stop u → RunsPart s m u
-part_by s t u n m r None h few a = record { most = n + 1; stop = AllSteps; few = few; run = run.whole h.running refl (run.further n t u (finds_goes s t n h.found h.finds) a) }
-part_by s t u n m r (Some stop) h few a = record {
+part_by : (free : Bool) (s t u : State) (n m : ℕ) (r : Reported) (stop : Option Stop) → HasChecked free s n t r → n + 1 ≤ m → Answers t stop u → RunsPart s m u
+part_by free s t u n m r None h few a = record { most = n + 1; stop = AllSteps; few = few; run = run.whole h.running refl (run.further n t u (finds_goes s t n h.found h.finds) a) }
+part_by free s t u n m r (Some stop) h few a = record {
   most = n + 1;
   stop = stop;
   few = few;
   run = run.cut h.running (record { made = n; before = t; fewer = omega arith; goes = finds_goes s t n h.found h.finds; answers = a });
 }
 
-pub part_next : (s t u : State) (n m : ℕ) (r : Reported) → HasChecked s n t r → n < m → (stop : Option Stop) × Answers t stop u → RunsPart s m u
-part_next s t u n m r h less x = part_by s t u n m r x.0 h (omega arith) x.1
+pub part_next : (free : Bool) (s t u : State) (n m : ℕ) (r : Reported) → HasChecked free s n t r → n < m → IsPart t u → RunsPart s m u
+part_next free s t u n m r h less (inl same) = subst (λ (x : State). RunsPart s m x) (sym same) (part_made free s t n m r h (omega arith))
+part_next free s t u n m r h less (inr x) = part_by free s t u n m r x.0 h (omega arith) x.1
 
 -- what holds in any case holds at an error
 pub at_err : {T E P : Type 0} (r : Result T E) → P → OnErr r P

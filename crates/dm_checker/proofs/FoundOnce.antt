@@ -1,5 +1,5 @@
 -- One list of findings is found of a step.
-use Rattle.std.proofs.Common.{◌≡◌, ℕ, ◌≤◌, List, ◌++◌, length, take, drop, Option, Some, refl, sym, ◌∙◌, ap, ap₂, arith, inl, inr}
+use Rattle.std.proofs.Common.{◌≡◌, ℕ, ◌≤◌, List, ◌++◌, length, take, drop, Option, Some, refl, sym, ◌∙◌, ap, ap₂, subst, arith, inl, inr}
 use Rattle.std.proofs.lemmas.Bool.{cases_lt}
 use Rattle.std.proofs.lemmas.List.{take-append-drop, length-take, take-take}
 use Rattle.dm_space.specs.Memory.{Memory}
@@ -7,7 +7,7 @@ use Rattle.dm_space.specs.EightBytes.{sixteen_after}
 use Rattle.dm_ins.specs.declared.ins.Ins.{Ins}
 use Rattle.dm_decode.proofs.Exact.{no_front}
 use Rattle.dm_cpu.specs.declared.cpu.Cpu.{Cpu}
-use Rattle.dm_cpu.specs.Guest.{up}
+use Rattle.dm_cpu.specs.Guest.{guest, up}
 use Rattle.dm_state.specs.declared.stop.Stop.{Stop}
 use Rattle.dm_state.specs.declared.stop.Stop.TheVariants.{Exited, Steps as AllSteps, Halted, Unlisted, InputEnded, Destroyed, Memory as NoMemory}
 use Rattle.dm_state.specs.State.{State}
@@ -21,15 +21,11 @@ use Rattle.dm_findings.specs.declared.finding.Finding.{Finding}
 use Rattle.dm_findings.specs.declared.finding.Found.{Found}
 use Rattle.dm_findings.specs.Calls.{call_of}
 use Rattle.dm_checker.specs.Shown.{Shown}
-use Rattle.dm_checker.specs.Findings.{findings, Finds, IsAct, called, instructed, found_at, IsFound, none, some}
+use Rattle.dm_touches.specs.Found.{touch_findings}
+use Rattle.dm_checker.specs.Arranged.{arranged}
+use Rattle.dm_checker.specs.Findings.{findings, Finds, FindsTouched, touching, calling, over, IsAct, called, instructed, found_at, IsFound, none, some}
 use Rattle.dm_checker.specs.Checks.{FindsAt, FindsAtEnd, FindsAtStop, left_behind}
 use Rattle.dm_checker.proofs.ShownOnce.{shown_once}
-
-pub finds_once : (s t : State) (a b : List Finding) → Finds s t a → Finds s t b → a ≡ b
-finds_once s t a b x y =
-    let old = shown_once s.upper s.memory x.old y.old x.before y.before in
-    let new = shown_once t.upper t.memory x.new y.new x.after y.after in
-    x.is ∙ ap₂ (λ (o n : Shown). findings s t o n) old new ∙ sym y.is
 
 -- ---- what acts
 
@@ -67,6 +63,29 @@ act_once s a b (instructed i k g x h) (called c e f) = absurd (some-none (call_o
 act_once s a b (instructed i k e x f) (instructed j m g y h) =
     let same = same-begins (fetched s.memory s.cpu) i j k m (length-fetched s.memory s.cpu) x y in
     f ∙ ap₂ (λ (l : Ins) (n : ℕ). act.Instruction l (up s.cpu.ip n)) same.instruction same.length_is ∙ sym h
+
+-- ---- what is touched
+
+touched_once : (s : State) (old : Shown) (a b : List Finding) → FindsTouched s old a → FindsTouched s old b → a ≡ b
+touched_once s old a b (touching i k e f x g) (touching j m h l y n) =
+    let same = same-begins (fetched s.memory s.cpu) i j k m (length-fetched s.memory s.cpu) x y in
+    g ∙ ap₂ (λ (o : Ins) (p : ℕ). touch_findings (guest s.cpu s.memory) o p old.broken old.headers) same.instruction same.length_is ∙ sym n
+touched_once s old a b (touching i k e f x g) (calling c h l) = absurd (some-none (call_of s.cpu) c h f)
+touched_once s old a b (touching i k e f x g) (over c h l) = absurd (some-none s.exited c h e)
+touched_once s old a b (calling c e f) (touching j m h l y n) = absurd (some-none (call_of s.cpu) c e l)
+touched_once s old a b (calling c e f) (calling d h l) = f ∙ sym l
+touched_once s old a b (calling c e f) (over d h l) = f ∙ sym l
+touched_once s old a b (over c e f) (touching j m h l y n) = absurd (some-none s.exited c e h)
+touched_once s old a b (over c e f) (calling d h l) = f ∙ sym l
+touched_once s old a b (over c e f) (over d h l) = f ∙ sym l
+
+pub finds_once : (s t : State) (a b : List Finding) → Finds s t a → Finds s t b → a ≡ b
+finds_once s t a b x y =
+    let old = shown_once s.upper s.memory x.old y.old x.before y.before in
+    let new = shown_once t.upper t.memory x.new y.new x.after y.after in
+    let F : Shown → Type 0 = λ o. FindsTouched s o x.touched in
+    let touched = touched_once s y.old x.touched y.touched (subst F old x.touches) y.touches in
+    x.is ∙ ap₂ (λ (o n : Shown). x.touched ++ findings s t o n ++ arranged s t o n) old new ∙ ap (λ (l : List Finding). l ++ findings s t y.old y.new ++ arranged s t y.old y.new) touched ∙ sym y.is
 
 found_once : (s t : State) (fs gs : List Finding) (a b : List Found) → fs ≡ gs → IsFound s t fs a → IsFound s t gs b → a ≡ b
 found_once s t fs gs a b same (none e f) (none g h) = f ∙ sym h

@@ -15,7 +15,10 @@ pub mod Looking
 pub mod Stepping
 pub mod Checking
 pub mod Fetched
-pub mod Writing
+pub mod Touching
+pub mod Main
+pub mod Unfound
+pub mod Clearing
 pub mod Reading
 pub mod Once
 pub mod Unserved

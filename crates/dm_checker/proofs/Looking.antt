@@ -1,5 +1,5 @@
 -- What is found of a step, as it is put behind what stood there.
-use Rattle.std.proofs.Common.{◌≡◌, ℕ, Bool, true, false, List, [], ◌++◌, map, Option, Some, None, refl, sym, ◌∙◌, ap, ap₂, subst, append-nil}
+use Rattle.std.proofs.Common.{◌≡◌, ℕ, Bool, true, false, List, [], ◌++◌, map, Option, Some, None, refl, sym, ◌∙◌, ap, ap₂, subst, append-nil, append_assoc}
 use Rattle.std.specs.Prelude.{◌==◌, ◌||◌, All}
 use Rattle.std.specs.List.{flat_map}
 use Rattle.dm_space.specs.Memory.{Memory}
@@ -15,11 +15,13 @@ use Rattle.dm_checker.specs.declared.watch.Watched.{Watched}
 use Rattle.dm_checker.specs.declared.watch.Watch.{Watch}
 use Rattle.dm_checker.specs.Calls.{is_arena, is_ending, is_starting, arranges, freed_twice, call_findings}
 use Rattle.dm_checker.specs.Headers.{overwritten, mapped_away}
-use Rattle.dm_checker.specs.Findings.{turned, all_overwritten, findings}
-use Rattle.dm_checker.specs.inner.Watching.{header_of, broken_at, IsWatched, IsWatch, IsSeen}
+use Rattle.dm_checker.specs.Shown.{Shown}
+use Rattle.dm_checker.specs.Arranged.{other_freed, stack_freed, not_resized, if_whole, arranged_by, arranged}
+use Rattle.dm_checker.specs.Findings.{turned, all_overwritten, findings, FindsTouched, Finds}
+use Rattle.dm_checker.specs.inner.Watching.{header_of, broken_at, shown_of, IsWatched, IsWatch, IsSeen}
 use Rattle.dm_checker.specs.inner.Steps.{IsBefore, Looks}
 use Rattle.dm_checker.proofs.Leaked.{five_more}
-use Rattle.dm_checker.proofs.Still.{shown_of, seen_findings}
+use Rattle.dm_checker.proofs.Still.{seen_findings}
 
 -- ---- after a look at the whole arena
 
@@ -48,13 +50,34 @@ same_found s t b d T old new h e f =
     ap₂ (λ (c : Cpu) (k : Option Call). found_of c d k s.memory T old new) h.cpu h.call
     ∙ ap₂ (λ (x : Cpu) (m : Memory). found_of s.cpu x (call_of s.cpu) s.memory m old new) e f
 
-pub looks_by : (s t : State) (b : Before) (d : Cpu) (T : Memory) (old new : Watch) (ws : List Watched) (out u v w x y : List Finding) → IsBefore s b → IsWatch s.upper s.memory old → IsWatch t.upper t.memory new → d ≡ t.cpu → T ≡ t.memory → ws ≡ old.headers.items → u ≡ out ++ all_overwritten (arranges b.cpu b.call) s.memory T (map header_of old.headers.items) → v ≡ u ++ flat_map (mapped_away s.memory T) (map header_of old.headers.items) → w ≡ v ++ turned (broken_at old.broken) (broken_at new.broken) → x ≡ w ++ freed_twice b.cpu d b.call (map header_of ws) → y ≡ x ++ call_findings b.cpu d b.call → Looks s t out y
-looks_by s t b d T old new ws out u v w x y h before after e f same p q r o n =
+-- what is found of blocks that the call freed or did not resize
+pub arranged_as : (s t : State) (b : Before) (d : Cpu) (old new : Watch) → IsBefore s b → d ≡ t.cpu → arranged_by b.a20 b.present b.cpu d b.call (shown_of old).headers (shown_of new) ≡ arranged s t (shown_of old) (shown_of new)
+arranged_as s t b d old new h e =
+    ap₂ (λ (a : Bool) (p : ℕ). arranged_by a p b.cpu d b.call (shown_of old).headers (shown_of new)) h.a20 h.present
+    ∙ ap₂ (λ (c : Cpu) (k : Option Call). arranged_by s.memory.a20 s.processes.present c d k (shown_of old).headers (shown_of new)) h.cpu h.call
+    ∙ ap (λ (x : Cpu). arranged_by s.memory.a20 s.processes.present s.cpu x (call_of s.cpu) (shown_of old).headers (shown_of new)) e
+
+-- what the step touches stands before what is found of it otherwise
+pub with_touched : (s t : State) (old new : Watch) (a b : List Finding) → IsWatch s.upper s.memory old → IsWatch t.upper t.memory new → a ≡ findings s t (shown_of old) (shown_of new) → b ≡ arranged s t (shown_of old) (shown_of new) → (touched : List Finding) → FindsTouched s (shown_of old) touched → Finds s t (touched ++ (a ++ b))
+with_touched s t old new a b before after e f touched x = record {
+  old = shown_of old;
+  new = shown_of new;
+  touched = touched;
+  before = before.shown;
+  after = after.shown;
+  touches = x;
+  is = ap₂ (λ (l m : List Finding). touched ++ (l ++ m)) e f ∙ sym (append_assoc touched (findings s t (shown_of old) (shown_of new)) (arranged s t (shown_of old) (shown_of new)));
+}
+
+pub looks_by : (s t : State) (b : Before) (d : Cpu) (T : Memory) (old new : Watch) (ws vs : List Watched) (out u v w x y z : List Finding) → IsBefore s b → IsWatch s.upper s.memory old → IsWatch t.upper t.memory new → d ≡ t.cpu → T ≡ t.memory → ws ≡ old.headers.items → u ≡ out ++ all_overwritten (arranges b.cpu b.call) s.memory T (map header_of old.headers.items) → v ≡ u ++ flat_map (mapped_away s.memory T) (map header_of old.headers.items) → w ≡ v ++ turned (broken_at old.broken) (broken_at new.broken) → vs ≡ old.headers.items → x ≡ w ++ freed_twice b.cpu d b.call (map header_of ws) → y ≡ x ++ call_findings b.cpu d b.call → z ≡ y ++ arranged_by b.a20 b.present b.cpu d b.call (map header_of vs) (shown_of new) → Looks s t old out z
+looks_by s t b d T old new ws vs out u v w x y z h before after e f same p q r others o n m =
     let freed = o ∙ ap (λ (l : List Watched). w ++ freed_twice b.cpu d b.call (map header_of l)) same in
+    let five : y ≡ out ++ findings s t (shown_of old) (shown_of new) = five_more out _ _ _ _ _ u v w x y p q r freed n ∙ ap (λ (l : List Finding). out ++ l) (same_found s t b d T old new h e f) in
+    let put : z ≡ y ++ arranged s t (shown_of old) (shown_of new) = m ∙ ap (λ (l : List Watched). y ++ arranged_by b.a20 b.present b.cpu d b.call (map header_of l) (shown_of new)) others ∙ ap (λ (l : List Finding). y ++ l) (arranged_as s t b d old new h e) in
     record {
-      more = findings s t (shown_of old) (shown_of new);
-      is = five_more out _ _ _ _ _ u v w x y p q r freed n ∙ ap (λ (l : List Finding). out ++ l) (same_found s t b d T old new h e f);
-      finds = record { old = shown_of old; new = shown_of new; before = before.shown; after = after.shown; is = refl };
+      more = findings s t (shown_of old) (shown_of new) ++ arranged s t (shown_of old) (shown_of new);
+      is = put ∙ ap (λ (l : List Finding). l ++ arranged s t (shown_of old) (shown_of new)) five ∙ append_assoc out (findings s t (shown_of old) (shown_of new)) (arranged s t (shown_of old) (shown_of new));
+      finds = with_touched s t old new _ _ before after refl refl;
     }
 
 -- ---- where memory still shows what was kept
@@ -82,20 +105,47 @@ freed_none c d (Some Multiplex) hs e = refl
 freed_none c d (Some (ExtendedMemory number)) hs e = refl
 freed_none c d (Some (Interrupt number)) hs e = refl
 
-pub seen_looks : (s t : State) (b : Before) (d : Cpu) (w : Watch) (out y : List Finding) → IsBefore s b → IsWatch s.upper s.memory w → IsSeen t.upper t.memory w → IsWatch t.upper t.memory w → arranges b.cpu b.call ≡ false → d ≡ t.cpu → y ≡ out ++ call_findings b.cpu d b.call → Looks s t out y
+-- functions that do not free, resize or keep
+not_arranging : (c : Cpu) (number : ℕ) → (is_arena number || is_ending number || is_starting c number) ≡ false → ((number == 0x49) ≡ false) × ((number == 0x4A) ≡ false) × ((number == 0x31) ≡ false)
+not_arranging c number e =
+    let both = or_left (is_arena number || is_ending number) (is_starting c number) e in
+    let arena : is_arena number ≡ false = or_left (is_arena number) (is_ending number) both in
+    let ending : is_ending number ≡ false = or_right (is_arena number) (is_ending number) both in
+    let without58 : ((number == 0x48) || (number == 0x49) || (number == 0x4A)) ≡ false = or_left _ (number == 0x58) arena in
+    (not_freeing c number e, or_right ((number == 0x48) || (number == 0x49)) (number == 0x4A) without58, or_right (number == 0x00) (number == 0x31) (or_left _ (number == 0x4C) ending))
+
+if_whole_none : (o : Option ℕ) (fs : List Finding) → fs ≡ [] → if_whole o fs ≡ []
+if_whole_none None fs e = e
+if_whole_none (Some at) fs e = refl
+
+arranged_dos : (a20 : Bool) (present : ℕ) (c d : Cpu) (number : ℕ) (old : List Header) (new : Shown) → (number == 0x49) ≡ false → (number == 0x4A) ≡ false → (number == 0x31) ≡ false → arranged_by a20 present c d (Some (Dos number)) old new ≡ []
+arranged_dos a20 present c d number old new e f g =
+    let first : other_freed present c d number old ≡ [] = rw e refl in
+    let stack : stack_freed a20 c d number new.headers ≡ [] = rw (e, f) refl in
+    let kept : not_resized present c number new.headers ≡ [] = rw g refl in
+    ap₂ (λ (l m : List Finding). l ++ m) first (if_whole_none new.broken _ (ap₂ (λ (l m : List Finding). l ++ m) stack kept))
+
+arranged_none : (a20 : Bool) (present : ℕ) (c d : Cpu) (call : Option Call) (old : List Header) (new : Shown) → arranges c call ≡ false → arranged_by a20 present c d call old new ≡ []
+arranged_none a20 present c d None old new e = refl
+arranged_none a20 present c d (Some DivideError) old new e = refl
+arranged_none a20 present c d (Some Terminate) old new e = refl
+arranged_none a20 present c d (Some (Dos number)) old new e = (let off = not_arranging c number e in arranged_dos a20 present c d number old new off.0 off.1 off.2)
+arranged_none a20 present c d (Some (ExpandedMemory number)) old new e = refl
+arranged_none a20 present c d (Some Multiplex) old new e = refl
+arranged_none a20 present c d (Some (ExtendedMemory number)) old new e = refl
+arranged_none a20 present c d (Some (Interrupt number)) old new e = refl
+
+pub seen_looks : (s t : State) (b : Before) (d : Cpu) (w : Watch) (out y : List Finding) → IsBefore s b → IsWatch s.upper s.memory w → IsSeen t.upper t.memory w → IsWatch t.upper t.memory w → arranges b.cpu b.call ≡ false → d ≡ t.cpu → y ≡ out ++ call_findings b.cpu d b.call → Looks s t w out y
 seen_looks s t b d w out y h before seen after off e r =
     let calm : arranges s.cpu (call_of s.cpu) ≡ false = ap₂ (λ (c : Cpu) (k : Option Call). arranges c k) (sym h.cpu) (sym h.call) ∙ off in
     let same : call_findings b.cpu d b.call ≡ call_findings s.cpu t.cpu (call_of s.cpu)
     = ap₂ (λ (c : Cpu) (k : Option Call). call_findings c d k) h.cpu h.call ∙ ap (λ (x : Cpu). call_findings s.cpu x (call_of s.cpu)) e in
     let none = freed_none s.cpu t.cpu (call_of s.cpu) (map header_of w.headers.items) calm in
+    let calls = call_findings s.cpu t.cpu (call_of s.cpu) in
+    let found : calls ≡ findings s t (shown_of w) (shown_of w) = sym (seen_findings s t w before seen ∙ ap (λ (l : List Finding). l ++ calls) none) in
+    let still : [] ≡ arranged s t (shown_of w) (shown_of w) = sym (arranged_none s.memory.a20 s.processes.present s.cpu t.cpu (call_of s.cpu) (shown_of w).headers (shown_of w) calm) in
     record {
-      more = call_findings s.cpu t.cpu (call_of s.cpu);
-      is = r ∙ ap (λ (l : List Finding). out ++ l) same;
-      finds = record {
-        old = shown_of w;
-        new = shown_of w;
-        before = before.shown;
-        after = after.shown;
-        is = sym (seen_findings s t w before seen ∙ ap (λ (l : List Finding). l ++ call_findings s.cpu t.cpu (call_of s.cpu)) none);
-      };
+      more = calls ++ [];
+      is = r ∙ ap (λ (l : List Finding). out ++ l) (same ∙ sym (append-nil calls));
+      finds = with_touched s t w w calls [] before after found still;
     }

@@ -17,24 +17,48 @@ use Rattle.dm_findings.specs.Report.{Reported}
 use Rattle.dm_checker.specs.declared.acts.Before.{Before}
 use Rattle.dm_checker.specs.declared.watch.Watch.{Watch}
 use Rattle.dm_checker.specs.Calls.{leaves, freed_twice, call_findings}
-use Rattle.dm_checker.specs.Leaks.{leaks}
-use Rattle.dm_checker.specs.Findings.{IsFound, none}
+use Rattle.dm_leaks.specs.Leaks.{leaks}
+use Rattle.dm_ins.specs.declared.ins.Ins.{Ins}
+use Rattle.dm_cpu.specs.declared.cpu.Cpu.{Cpu}
+use Rattle.dm_touches.specs.declared.elements.Elements.{Elements}
+use Rattle.dm_cpu.specs.Guest.{guest}
+use Rattle.dm_exec.specs.Effect.{effect}
+use Rattle.dm_touches.specs.Elements.{bytes_of}
+use Rattle.dm_touches.specs.Touches.{reads, writes}
+use Rattle.dm_touches.specs.Found.{of_headers, of_places, touch_findings}
+use Rattle.dm_touches.proofs.Written.{writes_listed}
+use Rattle.dm_checker.specs.declared.watch.Broken.{Broken}
+use Rattle.dm_checker.specs.Shown.{Shown}
+use Rattle.dm_checker.specs.Arranged.{arranged_by, arranged}
+use Rattle.dm_checker.specs.Findings.{findings, Finds, FindsTouched, touching, over, IsFound, none}
 use Rattle.dm_checker.specs.Checks.{FindsAtEnd, FindsAtStop, left_behind}
-use Rattle.dm_checker.specs.inner.Watching.{IsWatch, IsSeen}
-use Rattle.dm_checker.specs.inner.Steps.{IsBefore, found_by, ReportsMore, Looks, ChecksOne}
-use Rattle.dm_checker.proofs.Acting.{some_none, call_acts, exit_changes_nothing}
-use Rattle.dm_checker.specs.inner.Writes.{OnlyReads}
+use Rattle.dm_checker.specs.inner.Watching.{header_of, broken_at, shown_of, IsWatch, IsSeen}
+use Rattle.dm_checker.specs.inner.Code.{IsNext}
+use Rattle.dm_checker.specs.inner.Clear.{is_read_clear, is_write_clear, IsClear, IsPassed}
+use Rattle.dm_checker.specs.inner.Steps.{IsBefore, found_by, ReportsMore, Touches, Looks, ChecksOne}
+use Rattle.dm_checker.proofs.Acting.{some_none, call_acts, had_ended, exit_changes_nothing}
 use Rattle.dm_checker.proofs.Seen.{seen_watch}
-use Rattle.dm_checker.proofs.Still.{shown_of, seen_findings}
-use Rattle.dm_checker.proofs.Reading.{no_call, Leaves, reading_leaves}
+use Rattle.dm_checker.proofs.Still.{seen_findings}
+use Rattle.dm_checker.proofs.Reading.{no_call, still_running, next_leaves}
+use Rattle.dm_checker.proofs.Unfound.{are_all, elements_all, headers_clear, places_clear, memory_of, apart_of}
+use Rattle.dm_checker.proofs.Clearing.{seen_clear}
 use Rattle.dm_checker.proofs.Telling.{reports_none, tells}
-
--- what is put behind nothing is all
-put_first : (first fs more : List Finding) → first ≡ [] → fs ≡ first ++ more → fs ≡ more
-put_first first fs more e is = is ∙ ap (λ (l : List Finding). l ++ more) e
 
 found_as : (s t : State) (fs gs : List Finding) (more : List Found) → fs ≡ gs → IsFound s t fs more → IsFound s t gs more
 found_as s t fs gs more e x = (let F : List Finding → Type 0 = λ l. IsFound s t l more in subst F e x)
+
+-- ---- what is touched
+
+touched_as : (s : State) (old : Shown) (fs gs : List Finding) → fs ≡ gs → FindsTouched s old gs → FindsTouched s old fs
+touched_as s old fs gs e x = (let F : List Finding → Type 0 = λ l. FindsTouched s old l in subst F (sym e) x)
+
+-- what was put behind nothing, of a step that is made
+pub touched_going : (s t : State) (w : Watch) (empty first : List Finding) → empty ≡ [] → Touches s w empty first → Answers s None t → FindsTouched s (shown_of w) first
+touched_going s t w empty first e x a = touched_as s (shown_of w) first x.more (x.is ∙ ap (λ (l : List Finding). l ++ x.more) e) (x.going t a)
+
+-- what was put behind nothing, of a call
+pub touched_calling : (s : State) (w : Watch) (b : Before) (call : Call) (empty first : List Finding) → empty ≡ [] → Touches s w empty first → IsBefore s b → b.call ≡ Some call → FindsTouched s (shown_of w) first
+touched_calling s w b call empty first e x h is = touched_as s (shown_of w) first x.more (x.is ∙ ap (λ (l : List Finding). l ++ x.more) e) (x.calling call (sym h.call ∙ is))
 
 -- ---- the step that ends the program
 
@@ -44,45 +68,61 @@ left_all call t fs all e is = is ∙ ap (λ (b : Bool). fs ++ (if b then leaks t
 pub left_none : (call : Option Call) (t : State) (fs all : List Finding) → leaves call ≡ false → all ≡ fs → all ≡ fs ++ (if leaves call then leaks t else [])
 left_none call t fs all e is = is ∙ sym (append-nil fs) ∙ ap (λ (b : Bool). fs ++ (if b then leaks t else [])) (sym e)
 
-abbrev pub Ends : State → State → Reported → Reported → Type 0
-Ends s t old new = (more : List Found) × FindsAtEnd s t more × ReportsMore old new more
+abbrev pub Ends : Bool → State → State → Reported → Reported → Type 0
+Ends free s t old new = (more : List Found) × FindsAtEnd s t more × ReportsMore free old new more
 
-pub ends : (s t : State) (b : Before) (call : Call) (step : ℕ) (first fs all : List Finding) (old new : Reported) → b.call ≡ Some call → IsBefore s b → first ≡ [] → Looks s t first fs → all ≡ fs ++ (if leaves (Some call) then leaks t else []) → step ≡ t.steps → ReportsMore old new (map (found_by b step (act.Call call)) all) → Ends s t old new
-ends s t b call step first fs all old new e h empty x is steps r =
-    let told = tells s t b step (act.Call call) all old new h (call_acts b call e s h) steps r in
-    let same : all ≡ x.more ++ left_behind s t
-    = is ∙ ap₂ (λ (l : List Finding) (k : Option Call). l ++ (if leaves k then leaks t else [])) (put_first first fs x.more empty x.is) (sym e ∙ h.call) in
-    (told.more, record { findings = x.more; finds = x.finds; told = found_as s t all _ told.more same told.found }, told.reports)
+pub ends : (free : Bool) (s t : State) (b : Before) (call : Call) (step : ℕ) (w : Watch) (first fs all : List Finding) (old new : Reported) → b.call ≡ Some call → IsBefore s b → FindsTouched s (shown_of w) first → Looks s t w first fs → all ≡ fs ++ (if leaves (Some call) then leaks t else []) → step ≡ t.steps → ReportsMore free old new (map (found_by b step (act.Call call)) all) → Ends free s t old new
+ends free s t b call step w first fs all old new e h touched x is steps r =
+    let told = tells free s t b step (act.Call call) all old new h (call_acts b call e s h) steps r in
+    let same : all ≡ (first ++ x.more) ++ left_behind s t
+    = is ∙ ap₂ (λ (l : List Finding) (k : Option Call). l ++ (if leaves k then leaks t else [])) x.is (sym e ∙ h.call) in
+    (told.more, record { findings = first ++ x.more; finds = x.finds first touched; told = found_as s t all _ told.more same told.found }, told.reports)
 
 -- ---- any step
 
 -- the machine goes on
-pub goes_on : (s t : State) (b : Before) (w : Watch) (first fs gs : List Finding) (old new : Reported) → Answers s None t → IsBefore s b → first ≡ [] → Looks s t first fs → gs ≡ fs → (more : List Found) × IsFound s t gs more × ReportsMore old new more → IsWatch t.upper t.memory w → ChecksOne s None t w old new
-goes_on s t b w first fs gs old new a h empty x same told watch = record {
+pub goes_on : (free : Bool) (s t : State) (v w : Watch) (first fs gs : List Finding) (old new : Reported) → Answers s None t → FindsTouched s (shown_of v) first → Looks s t v first fs → gs ≡ fs → (more : List Found) × IsFound s t gs more × ReportsMore free old new more → IsWatch t.upper t.memory w → ChecksOne free s None t w old new
+goes_on free s t v w first fs gs old new a touched x same told watch = record {
   answers = a;
   found = told.0;
-  finds = record { findings = x.more; finds = x.finds; told = found_as s t gs x.more told.0 (same ∙ put_first first fs x.more empty x.is) told.1 };
+  finds = record { findings = first ++ x.more; finds = x.finds first touched; told = found_as s t gs (first ++ x.more) told.0 (same ∙ x.is) told.1 };
   reports = told.2;
   watch = λ e. watch;
 }
 
 -- the program ends
-pub exits : (s t : State) (code : ℕ) (w : Watch) (old new : Reported) → Answers s (Some (Exited code)) t → Ends s t old new → ChecksOne s (Some (Exited code)) t w old new
-exits s t code w old new a x = record { answers = a; found = x.0; finds = x.1; reports = x.2; watch = λ e. absurd (some_none (Exited code) e) }
+pub exits : (free : Bool) (s t : State) (code : ℕ) (w : Watch) (old new : Reported) → Answers s (Some (Exited code)) t → Ends free s t old new → ChecksOne free s (Some (Exited code)) t w old new
+exits free s t code w old new a x = record { answers = a; found = x.0; finds = x.1; reports = x.2; watch = λ e. absurd (some_none (Exited code) e) }
 
 -- what was kept is seen in its own memory
 seen_there : (s : State) (w : Watch) → IsWatch s.upper s.memory w → ((k : ℕ) → IfSome (slice_index_or s.memory.windows k None) (IsPage s.memory)) → IsSeen s.upper s.memory w
 seen_there s w x pages = record { setting = sym x.setting; windows = sym x.windows; pages = pages; headers = x.headers; there = x.there }
 
--- without a call nothing is found of a step that changes nothing
-nothing_found : (s : State) (w : Watch) → call_of s.cpu ≡ None → IsWatch s.upper s.memory w → ((k : ℕ) → IfSome (slice_index_or s.memory.windows k None) (IsPage s.memory)) → FindsAtEnd s s []
-nothing_found s w uncalled x pages =
-    let calm : freed_twice s.cpu s.cpu (call_of s.cpu) (shown_of w).headers ++ call_findings s.cpu s.cpu (call_of s.cpu) ≡ []
-    = ap (λ (k : Option Call). freed_twice s.cpu s.cpu k (shown_of w).headers ++ call_findings s.cpu s.cpu k) uncalled in
+-- what is found of a step without a call, of which nothing is touched and after which memory shows the same
+nothing_by : (s t : State) (w : Watch) → call_of s.cpu ≡ None → IsWatch s.upper s.memory w → IsSeen t.upper t.memory w → FindsTouched s (shown_of w) [] → Finds s t []
+nothing_by s t w uncalled x seen touched =
+    let calm : freed_twice s.cpu t.cpu (call_of s.cpu) (shown_of w).headers ++ call_findings s.cpu t.cpu (call_of s.cpu) ≡ []
+    = ap (λ (k : Option Call). freed_twice s.cpu t.cpu k (shown_of w).headers ++ call_findings s.cpu t.cpu k) uncalled in
+    let none : findings s t (shown_of w) (shown_of w) ≡ [] = seen_findings s t w x seen ∙ calm in
+    let still : arranged s t (shown_of w) (shown_of w) ≡ []
+    = ap (λ (k : Option Call). arranged_by s.memory.a20 s.processes.present s.cpu t.cpu k (shown_of w).headers (shown_of w)) uncalled in
+    record {
+      old = shown_of w;
+      new = shown_of w;
+      touched = [];
+      before = x.shown;
+      after = (seen_watch s.upper t.upper s.memory t.memory w x seen).shown;
+      touches = touched;
+      is = sym (ap₂ (λ (l m : List Finding). [] ++ l ++ m) none still);
+    }
+
+-- nothing is found once the program has ended
+nothing_found : (s : State) (w : Watch) (code : ℕ) → call_of s.cpu ≡ None → s.exited ≡ Some code → IsWatch s.upper s.memory w → ((k : ℕ) → IfSome (slice_index_or s.memory.windows k None) (IsPage s.memory)) → FindsAtEnd s s []
+nothing_found s w code uncalled ended x pages =
     let left : [] ++ left_behind s s ≡ [] = ap (λ (k : Option Call). if leaves k then leaks s else []) uncalled in
     record {
       findings = [];
-      finds = record { old = shown_of w; new = shown_of w; before = x.shown; after = x.shown; is = sym (seen_findings s s w x (seen_there s w x pages) ∙ calm) };
+      finds = nothing_by s s w uncalled x (seen_there s w x pages) (over code ended refl);
       told = none left refl;
     }
 
@@ -97,13 +137,17 @@ pages_there s x k =
     some_of (slice_index_or s.memory.windows k None) (IsOwned s.ems.pages) F (λ block o. subst F o.2 (x.ems.owned o.0 o.1)) (x.ems.shown k)
 
 -- the program had ended before
-pub was_over : (s t : State) (b : Before) (code : ℕ) (w : Watch) (r : Reported) → Answers s (Some (Exited code)) t → IsBefore s b → b.call ≡ None → IsWatch s.upper s.memory w → AreConsistent t → ChecksOne s (Some (Exited code)) t w r r
-was_over s t b code w r a h e x linked =
-    let uncalled = sym h.call ∙ e in
-    let same = exit_changes_nothing s t code uncalled a in
+over_then : (free : Bool) (s t : State) (code : ℕ) (w : Watch) (r : Reported) → Answers s (Some (Exited code)) t → call_of s.cpu ≡ None → IsWatch s.upper s.memory w → AreConsistent s → ChecksOne free s (Some (Exited code)) t w r r
+over_then free s t code w r a uncalled x linked =
     let F : State → Type 0 = λ u. FindsAtEnd s u [] in
+    let ended = had_ended s t code uncalled a in
+    exits free s t code w r r a ([], subst F (sym (exit_changes_nothing s t code uncalled a)) (nothing_found s w ended.0 uncalled ended.1 x (pages_there s linked)), reports_none free r)
+
+pub was_over : (free : Bool) (s t : State) (b : Before) (code : ℕ) (w : Watch) (r : Reported) → Answers s (Some (Exited code)) t → IsBefore s b → b.call ≡ None → IsWatch s.upper s.memory w → AreConsistent t → ChecksOne free s (Some (Exited code)) t w r r
+was_over free s t b code w r a h e x linked =
+    let uncalled = sym h.call ∙ e in
     let L : State → Type 0 = λ u. AreConsistent u in
-    exits s t code w r r a ([], subst F (sym same) (nothing_found s w uncalled x (pages_there s (subst L same linked))), reports_none r)
+    over_then free s t code w r a uncalled x (subst L (exit_changes_nothing s t code uncalled a) linked)
 
 none_at : (s t : State) (stop : Stop) → ((code : ℕ) → stop ≡ Exited code → ⊥) → FindsAtStop s stop t []
 none_at s t (Exited code) other = absurd (other code refl)
@@ -115,43 +159,69 @@ none_at s t Destroyed other = refl
 none_at s t NoMemory other = refl
 
 -- no step was made
-pub stops : (s t : State) (stop : Stop) (w : Watch) (r : Reported) → Answers s (Some stop) t → ((code : ℕ) → stop ≡ Exited code → ⊥) → ChecksOne s (Some stop) t w r r
-stops s t stop w r a other = record { answers = a; found = []; finds = none_at s t stop other; reports = reports_none r; watch = λ e. absurd (some_none stop e) }
+pub stops : (free : Bool) (s t : State) (stop : Stop) (w : Watch) (r : Reported) → Answers s (Some stop) t → ((code : ℕ) → stop ≡ Exited code → ⊥) → ChecksOne free s (Some stop) t w r r
+stops free s t stop w r a other = record { answers = a; found = []; finds = none_at s t stop other; reports = reports_none free r; watch = λ e. absurd (some_none stop e) }
 
--- ---- a step that writes no memory
+-- ---- a step of an instruction that touches nothing that matters
 
-none_of_call : (s t : State) (hs : List Header) → call_of s.cpu ≡ None → freed_twice s.cpu t.cpu (call_of s.cpu) hs ++ call_findings s.cpu t.cpu (call_of s.cpu) ≡ []
-none_of_call s t hs uncalled = ap (λ (k : Option Call). freed_twice s.cpu t.cpu k hs ++ call_findings s.cpu t.cpu k) uncalled
+-- nothing is found of what it touches
+clear_touched : (s t : State) (w : Watch) → (p : IsPassed s w) → Answers s None t → FindsTouched s (shown_of w) []
+unfolding touch_findings
+clear_touched s t w p a =
+    let rs = bytes_of (reads (guest s.cpu s.memory) p.ins p.length) in
+    let ws = bytes_of (writes (guest s.cpu s.memory) p.ins p.length) in
+    let a20 = s.memory.a20 in
+    let clear_reads : are_all (is_read_clear w.headers.items) a20 rs ≡ true = elements_all (is_read_clear w.headers.items) a20 (reads (guest s.cpu s.memory) p.ins p.length) p.clear.reads in
+    let clear_writes : are_all (is_write_clear s.memory w.headers.items) a20 ws ≡ true = elements_all (is_write_clear s.memory w.headers.items) a20 (writes (guest s.cpu s.memory) p.ins p.length) p.clear.writes in
+    let headers : of_headers a20 rs ws (broken_at w.broken) (map header_of w.headers.items) ≡ []
+    = ap (λ (o : Option Broken). of_headers a20 rs ws (broken_at o) (map header_of w.headers.items)) p.clear.whole ∙ headers_clear a20 rs ws w.headers.items clear_reads (apart_of s.memory w.headers.items a20 ws clear_writes) in
+    let places : of_places s.memory ws ≡ [] = places_clear s.memory w.headers.items ws (memory_of s.memory w.headers.items a20 ws clear_writes) in
+    touching p.ins p.length (still_running s t a) (no_call s.cpu p.next.below) p.next.begins (sym (ap₂ (λ (l m : List Finding). l ++ m) headers places))
 
-passes_on : (s t : State) (w : Watch) (r : Reported) → call_of s.cpu ≡ None → AreConsistent s → Leaves s t → Answers s None t → IsWatch s.upper s.memory w → ChecksOne s None t w r r
-passes_on s t w r uncalled linked same a x =
+-- memory still shows what was kept
+clear_seen : (s t : State) (w : Watch) → IsPassed s w → AreConsistent s → Answers s None t → IsWatch s.upper s.memory w → IsSeen t.upper t.memory w
+clear_seen s t w p linked a x =
+    let g = guest s.cpu s.memory in
+    let n : Memory = (effect g p.ins p.length).memory in
+    let left = next_leaves s t p.ins p.length p.next a in
+    let seen : IsSeen s.upper n w = seen_clear s.upper s.memory n w _ _ x (pages_there s linked) (writes_listed g p.ins p.length) p.clear in
     let G : Bool → Type 0 = λ b. IsSeen b t.memory w in
     let H : Memory → Type 0 = λ m. IsSeen s.upper m w in
-    let seen : IsSeen t.upper t.memory w = subst G (sym same.upper) (subst H (sym same.memory) (seen_there s w x (pages_there s linked))) in
-    let after = seen_watch s.upper t.upper s.memory t.memory w x seen in
+    subst G (sym left.upper) (subst H (sym left.memory) seen)
+
+clear_on : (free : Bool) (s t : State) (w : Watch) (r : Reported) → IsPassed s w → AreConsistent s → Answers s None t → IsWatch s.upper s.memory w → ChecksOne free s None t w r r
+clear_on free s t w r p linked a x =
+    let seen = clear_seen s t w p linked a x in
     record {
       answers = a;
       found = [];
-      finds = record {
-        findings = [];
-        finds = record { old = shown_of w; new = shown_of w; before = x.shown; after = after.shown; is = sym (seen_findings s t w x seen ∙ none_of_call s t _ uncalled) };
-        told = none refl refl;
-      };
-      reports = reports_none r;
-      watch = λ e. after;
+      finds = record { findings = []; finds = nothing_by s t w (no_call s.cpu p.next.below) x seen (clear_touched s t w p a); told = none refl refl };
+      reports = reports_none free r;
+      watch = λ e. seen_watch s.upper t.upper s.memory t.memory w x seen;
     }
 
-passes : (s t : State) (stop : Option Stop) (w : Watch) (r : Reported) → call_of s.cpu ≡ None → AreConsistent s → (Answers s None t → Leaves s t) → Answers s stop t → IsWatch s.upper s.memory w → ChecksOne s stop t w r r
-passes s t None w r uncalled linked leaves a x = passes_on s t w r uncalled linked (leaves a) a x
-passes s t (Some (Exited code)) w r uncalled linked leaves a x =
-    let F : State → Type 0 = λ u. FindsAtEnd s u [] in
-    exits s t code w r r a ([], subst F (sym (exit_changes_nothing s t code uncalled a)) (nothing_found s w uncalled x (pages_there s linked)), reports_none r)
-passes s t (Some AllSteps) w r uncalled linked leaves a x = stops s t AllSteps w r a (λ code e. cc)
-passes s t (Some Halted) w r uncalled linked leaves a x = stops s t Halted w r a (λ code e. cc)
-passes s t (Some Unlisted) w r uncalled linked leaves a x = stops s t Unlisted w r a (λ code e. cc)
-passes s t (Some InputEnded) w r uncalled linked leaves a x = stops s t InputEnded w r a (λ code e. cc)
-passes s t (Some Destroyed) w r uncalled linked leaves a x = stops s t Destroyed w r a (λ code e. cc)
-passes s t (Some NoMemory) w r uncalled linked leaves a x = stops s t NoMemory w r a (λ code e. cc)
+-- an instruction that is known, with what it touches
+pub passed_by : (s : State) (w : Watch) (c : Cpu) (m n o : Memory) (i : Ins) (k : ℕ) (rs ws : Elements) → c ≡ s.cpu → m ≡ s.memory → n ≡ s.memory → o ≡ s.memory → IsNext m c i k → rs ≡ reads (guest c n) i k → ws ≡ writes (guest c n) i k → IsClear o w rs ws → IsPassed s w
+passed_by s w c m n o i k rs ws same first second third next r v clear =
+    let N : Cpu → Memory → Type 0 = λ d l. IsNext l d i k in
+    let C : Memory → Elements → Elements → Type 0 = λ l a b. IsClear l w a b in
+    let reads_same : rs ≡ reads (guest s.cpu s.memory) i k = r ∙ ap₂ (λ (d : Cpu) (l : Memory). reads (guest d l) i k) same second in
+    let writes_same : ws ≡ writes (guest s.cpu s.memory) i k = v ∙ ap₂ (λ (d : Cpu) (l : Memory). writes (guest d l) i k) same second in
+    let there : C s.memory rs ws = subst (λ (l : Memory). C l rs ws) third clear in
+    let with_reads : C s.memory (reads (guest s.cpu s.memory) i k) ws = subst (λ (a : Elements). C s.memory a ws) reads_same there in
+    record {
+      ins = i;
+      length = k;
+      next = subst (λ (l : Memory). N s.cpu l) first (subst (λ (d : Cpu). N d m) same next);
+      clear = subst (λ (b : Elements). C s.memory (reads (guest s.cpu s.memory) i k) b) writes_same with_reads;
+    }
 
-pub reading_passes : (s t : State) (stop : Option Stop) (w : Watch) (r : Reported) → OnlyReads s.memory s.cpu → AreConsistent s → Answers s stop t → IsWatch s.upper s.memory w → ChecksOne s stop t w r r
-reading_passes s t stop w r reads linked a x = passes s t stop w r (no_call s.cpu reads.below) linked (reading_leaves s t reads) a x
+pub clear_passes : (free : Bool) (s t : State) (stop : Option Stop) (w : Watch) (r : Reported) → IsPassed s w → AreConsistent s → Answers s stop t → IsWatch s.upper s.memory w → ChecksOne free s stop t w r r
+clear_passes free s t None w r p linked a x = clear_on free s t w r p linked a x
+clear_passes free s t (Some (Exited code)) w r p linked a x = over_then free s t code w r a (no_call s.cpu p.next.below) x linked
+clear_passes free s t (Some AllSteps) w r p linked a x = stops free s t AllSteps w r a (λ code e. cc)
+clear_passes free s t (Some Halted) w r p linked a x = stops free s t Halted w r a (λ code e. cc)
+clear_passes free s t (Some Unlisted) w r p linked a x = stops free s t Unlisted w r a (λ code e. cc)
+clear_passes free s t (Some InputEnded) w r p linked a x = stops free s t InputEnded w r a (λ code e. cc)
+clear_passes free s t (Some Destroyed) w r p linked a x = stops free s t Destroyed w r a (λ code e. cc)
+clear_passes free s t (Some NoMemory) w r p linked a x = stops free s t NoMemory w r a (λ code e. cc)

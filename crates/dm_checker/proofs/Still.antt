@@ -5,15 +5,10 @@ use Rattle.dm_state.specs.State.{State}
 use Rattle.dm_findings.specs.declared.finding.Finding.{Finding}
 use Rattle.dm_findings.specs.Calls.{call_of}
 use Rattle.dm_checker.specs.declared.watch.Watch.{Watch}
-use Rattle.dm_checker.specs.Shown.{Shown}
 use Rattle.dm_checker.specs.Calls.{arranges, freed_twice, call_findings}
 use Rattle.dm_checker.specs.Findings.{turned, findings}
-use Rattle.dm_checker.specs.inner.Watching.{header_of, broken_at, IsWatch, IsSeen}
+use Rattle.dm_checker.specs.inner.Watching.{header_of, broken_at, shown_of, IsWatch, IsSeen}
 use Rattle.dm_checker.proofs.Seen.{seen_overwritten, seen_mapped_away}
-
--- what a watch has of the arena
-abbrev pub shown_of : Watch → Shown
-shown_of w = record { headers = map header_of w.headers.items; broken = broken_at w.broken }
 
 pub seen_turned : (o : Option ℕ) → turned o o ≡ []
 seen_turned None = refl

@@ -1,5 +1,5 @@
 -- What is found in a run, step by step, and at its end.
-use Rattle.std.specs.Prelude.{◌≡◌, ℕ, ◌+◌, ◌<◌, ◌≤◌, if◌then◌else◌, List, [], ◌++◌, Some, None}
+use Rattle.std.specs.Prelude.{◌≡◌, ℕ, ◌+◌, ◌<◌, ◌≤◌, not, Bool, true, false, if◌then◌else◌, List, [], ◌∷◌, ◌++◌, ◌&&◌, Some, None}
 use Rattle.dm_state.specs.declared.stop.Stop.{Stop}
 use Rattle.dm_state.specs.declared.stop.Stop.TheVariants.{Exited, Steps as AllSteps, Halted, Unlisted, InputEnded, Destroyed, Memory as NoMemory}
 use Rattle.dm_state.specs.State.{State}
@@ -8,9 +8,10 @@ use Rattle.dm_machine.specs.Run.{Answers, IsRun}
 use Rattle.dm_findings.specs.declared.finding.Finding.{Finding}
 use Rattle.dm_findings.specs.declared.finding.Found.{Found}
 use Rattle.dm_findings.specs.Calls.{call_of}
+use Rattle.dm_findings.specs.Findings.{is_of_free_memory}
 use Rattle.dm_findings.specs.Report.{Reported, report_of}
 use Rattle.dm_checker.specs.Calls.{leaves}
-use Rattle.dm_checker.specs.Leaks.{leaks}
+use Rattle.dm_leaks.specs.Leaks.{leaks}
 use Rattle.dm_checker.specs.Findings.{Finds, IsFound}
 
 -- `found` is what is found of a step from s to t after which the machine goes on
@@ -54,11 +55,17 @@ pub data Checks (s : State) (n : ℕ) (stop : Stop) (t : State) (found : List Fo
   whole : s.exited ≡ None → stop ≡ AllSteps → FindsIn s n t found → Checks s n stop t found
   cut : (made : ℕ) (before : State) (fs gs : List Found) → s.exited ≡ None → made < n → FindsIn s made before fs → Answers before (Some stop) t → FindsAtStop before stop t gs → found ≡ fs ++ gs → Checks s n stop t found
 
--- `report` is the report of a run of at most n steps from s, which stops for this reason and leaves t
-pub record IsReport (s : State) (n : ℕ) (stop : Stop) (t : State) (report : Reported) : Type 0 where
+-- the findings that are reported: all of them, or, unless free memory is looked at (`free`), those that are not about it
+abbrev pub reported : Bool → List Found → List Found
+reported free [] = []
+reported free (f ∷ fs) = if not free && is_of_free_memory f.finding then reported free fs else f ∷ reported free fs
+
+-- `report` is the report of a run of at most n steps from s, which stops for this reason and leaves t; `free` is whether
+-- it has findings about free memory
+pub record IsReport (s : State) (n : ℕ) (free : Bool) (stop : Stop) (t : State) (report : Reported) : Type 0 where
   pub found : List Found
   pub checks : Checks s n stop t found
-  pub is : report ≡ report_of found
+  pub is : report ≡ report_of (reported free found)
 
 -- some run of at most n steps from s leaves t
 pub record RunsPart (s : State) (n : ℕ) (t : State) : Type 0 where

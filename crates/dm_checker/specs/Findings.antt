@@ -4,7 +4,7 @@ use Rattle.std.specs.Prelude.{◌≡◌, ℕ, Bool, if◌then◌else◌, List, [
 use Rattle.std.specs.List.{flat_map}
 use Rattle.dm_space.specs.Memory.{Memory}
 use Rattle.dm_ins.specs.declared.ins.Ins.{Ins}
-use Rattle.dm_cpu.specs.Guest.{up}
+use Rattle.dm_cpu.specs.Guest.{guest, up}
 use Rattle.dm_blocks.specs.declared.header.Header.{Header}
 use Rattle.dm_state.specs.State.{State}
 use Rattle.dm_machine.specs.Step.{fetched}
@@ -19,7 +19,9 @@ use Rattle.dm_findings.specs.Calls.{call_of}
 use Rattle.dm_findings.specs.Sites.{site_of}
 use Rattle.dm_checker.specs.Shown.{Shown, IsShown}
 use Rattle.dm_checker.specs.Headers.{overwritten, mapped_away}
+use Rattle.dm_touches.specs.Found.{touch_findings}
 use Rattle.dm_checker.specs.Calls.{arranges, freed_twice, call_findings}
+use Rattle.dm_checker.specs.Arranged.{arranged}
 
 -- the finding that the arena was whole and is destroyed, or was destroyed and is whole, by where its list breaks before
 -- and after a step (None: nowhere); none if it was and is whole, or was and is destroyed
@@ -33,7 +35,14 @@ turned _ _ = []
 abbrev pub all_overwritten : Bool → Memory → Memory → List Header → List Finding
 all_overwritten may S T headers = if may then [] else flat_map (overwritten S T) headers
 
--- what is found of the step from s to t, in this order: headers overwritten and headers mapped away, both in the order
+-- what is found of the bytes that the step from s touches, by the arena that memory shows before it (`old`): something
+-- only if an instruction is performed, not where a call is (`calling`), nor once the program has ended (`over`)
+pub data FindsTouched (s : State) (old : Shown) (found : List Finding) : Type 0 where
+  touching : (i : Ins) (length : ℕ) → s.exited ≡ None → call_of s.cpu ≡ None → BeginsWith (fetched s.memory s.cpu) i length → found ≡ touch_findings (guest s.cpu s.memory) i length old.broken old.headers → FindsTouched s old found
+  calling : (call : Call) → call_of s.cpu ≡ Some call → found ≡ [] → FindsTouched s old found
+  over : (code : ℕ) → s.exited ≡ Some code → found ≡ [] → FindsTouched s old found
+
+-- what is found of the step from s to t by what it changes, in this order: headers overwritten and headers mapped away, both in the order
 -- of the list; the arena destroyed, or whole again; a block freed twice; a call that failed. `old` and `new` are what
 -- memory shows of the arena before and after the step
 abbrev pub findings : State → State → Shown → Shown → List Finding
@@ -44,13 +53,16 @@ findings s t old new =
     ++ freed_twice s.cpu t.cpu (call_of s.cpu) old.headers
     ++ call_findings s.cpu t.cpu (call_of s.cpu)
 
--- `found` is what is found of the step from s to t
+-- `found` is what is found of the step from s to t: of the bytes that it touches, of what it changes, and of blocks that
+-- its call freed or did not resize
 pub record Finds (s t : State) (found : List Finding) : Type 0 where
   pub old : Shown
   pub new : Shown
+  pub touched : List Finding
   pub before : IsShown s.upper s.memory old
   pub after : IsShown t.upper t.memory new
-  pub is : found ≡ findings s t old new
+  pub touches : FindsTouched s old touched
+  pub is : found ≡ touched ++ findings s t old new ++ arranged s t old new
 
 -- ---- what acts in a step: the call of a service or a driver, else the instruction at CS:IP
 

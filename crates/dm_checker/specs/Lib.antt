@@ -1,7 +1,7 @@
 pub mod Shown
 pub mod Headers
 pub mod Calls
-pub mod Leaks
+pub mod Arranged
 pub mod Findings
 pub mod Checks
 pub mod Laws

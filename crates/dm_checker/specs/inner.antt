@@ -1,4 +1,5 @@
 -- Definitions that private contracts and proofs alone name.
 pub mod Watching
 pub mod Steps
-pub mod Writes
+pub mod Code
+pub mod Clear

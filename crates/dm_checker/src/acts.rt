@@ -13,11 +13,13 @@ use dm_findings::{Act, Call, Site, call_of, site_of};
 use dm_machine::Machine;
 use dm_space::Space;
 
-/// What the checker keeps of the state before a step: the registers, the call that the step performs, if any, where in
-/// its code the program performs it, and the sixteen bytes from CS:IP on.
+/// What the checker keeps of the state before a step: the registers, A20, the present process, the call that the step
+/// performs, if any, where in its code the program performs it, and the sixteen bytes from CS:IP on.
 #[derive(Clone, Copy)]
 pub(crate) struct Before {
     pub(crate) cpu: Cpu,
+    pub(crate) a20: bool,
+    pub(crate) present: u16,
     pub(crate) call: Option<Call>,
     pub(crate) site: Site,
     pub(crate) bytes: [u8; 16],
@@ -63,6 +65,8 @@ impl Before {
         let call = call_of(&cpu);
         Before {
             cpu,
+            a20: space.a20(),
+            present: machine.present(),
             call,
             site: site_of(&cpu, space, call),
             bytes: fetch(&cpu, space),

@@ -5,23 +5,29 @@ ghost use Rattle.dm_state.specs.State.{HasProgram};
 ghost use Rattle.dm_machine.specs.Run.{IsRun};
 ghost use Rattle.dm_checker.specs.Checks.{IsReport, RunsPart};
 
+use crate::code::Known;
 use crate::steps::check_step;
 use crate::watch::read_arena;
-use crate::writes::Known;
 use dm_findings::Report;
 use dm_machine::{Machine, Stop};
 use std::alloc::{AllocError, Global};
 
-/// Makes at most `n` steps, as `Machine::run` does, and reports what they did to the headers of the arena, which calls
-/// failed, and, if the first program ended and does not stay resident, what it left allocated. Returns why the run
+/// Makes at most `n` steps, as `Machine::run` does, and reports what they did to the headers of the arena and to free
+/// memory, which calls failed, and, if the first program ended and does not stay resident, what it left allocated. Unless
+/// `free`, findings about free memory are left out: reads of it, writes to it, and a stack in it. Returns why the run
 /// stopped, and the report. A program must be loaded.
 ///
 /// An `Err` says that an allocation of the checker failed: the machine has made none, some or all steps of the run, and
 /// the report is lost.
-pub fn check(alloc: Global, machine: &mut Machine, n: u64) -> Result<(Stop, Report), AllocError>
+pub fn check(
+    alloc: Global,
+    machine: &mut Machine,
+    n: u64,
+    free: bool,
+) -> Result<(Stop, Report), AllocError>
     requires { HasProgram machine.old }
     ensures run { IfOk result (λ r. IsRun machine.old n r.0 machine.new) }
-    ensures report { IfOk result (λ r. IsReport machine.old n r.0 machine.new r.1) }
+    ensures report { IfOk result (λ r. IsReport machine.old n free r.0 machine.new r.1) }
     ensures err { OnErr result (RunsPart machine.old n machine.new) }
     ensures loaded { HasProgram machine.new }
 {
@@ -33,7 +39,7 @@ pub fn check(alloc: Global, machine: &mut Machine, n: u64) -> Result<(Stop, Repo
     let mut kept = read_arena(alloc, machine)?;
     let mut known = Known::new(alloc)?;
     for _ in 0..n {
-        if let Some(stop) = check_step(alloc, machine, &mut known, &mut kept, &mut report)? {
+        if let Some(stop) = check_step(alloc, machine, free, &mut known, &mut kept, &mut report)? {
             return Ok((stop, report));
         }
     }

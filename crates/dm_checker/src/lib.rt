@@ -1,17 +1,20 @@
-//! The memory checker of `dm check`: runs a machine, and reports what its program did to the headers of the arena,
-//! which calls failed, and what the program left allocated.
+//! The memory checker of `dm check`: runs a machine, and reports what its program did to the headers of the arena and to
+//! free memory, which calls failed, and what the program left allocated.
 #![tactic(auto)]
 
 mod acts;
+mod arranged;
 mod calls;
 mod checks;
+mod clear;
+mod code;
 mod headers;
 mod laws;
-mod leaks;
+mod main_block;
 mod put;
 mod steps;
+mod touched;
 mod watch;
-mod writes;
 
 pub use checks::check;
 pub use laws::{a_check_has_one_report, a_checked_run_is_a_run, unserved_calls_are_found};

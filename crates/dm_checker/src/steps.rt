@@ -1,30 +1,31 @@
 //! One checked step: the machine makes it, and what is found of it is added to the report. After an `Err`, a failed
-//! allocation, `out` and the report may have a part of what is found.
+//! allocation, `out` and the report may have a part of what is found. `free` is whether findings about free memory are
+//! reported.
 
-ghost use Rattle.std.specs.Prelude.{◌≡◌, ◌++◌, map, IfOk, OnOk, OnErr, Option, None, Some, List};
+ghost use Rattle.std.specs.Prelude.{◌≡◌, ◌++◌, ◌∷◌, ◌&&◌, not, [], map, IfOk, OnOk, OnErr, Option, None, Some, List};
 ghost use Rattle.dm_findings.specs.Calls.{call_of};
-ghost use Rattle.dm_findings.specs.Report.{Reported};
-ghost use Rattle.dm_checker.specs.declared.watch.Watch.{Watch};
-ghost use Rattle.dm_checker.specs.inner.Writes.{OnlyReads};
-ghost use Rattle.dm_state.specs.declared.stop.Stop.{Stop};
+ghost use Rattle.dm_findings.specs.Findings.{is_of_free_memory};
+ghost use Rattle.dm_findings.specs.declared.finding.Finding.{Finding};
+ghost use Rattle.dm_findings.specs.declared.finding.Found.{Found};
 ghost use Rattle.dm_state.specs.State.{HasProgram, State};
 ghost use Rattle.dm_machine.specs.Run.{Answers};
-ghost use Rattle.dm_findings.specs.declared.finding.Found.{Found};
-ghost use Rattle.dm_checker.specs.Findings.{turned, IsFound};
+ghost use Rattle.dm_checker.specs.Findings.{turned, IsFound, FindsTouched};
 ghost use Rattle.dm_checker.specs.Checks.{FindsAtEnd};
-ghost use Rattle.dm_checker.specs.Leaks.{leaks};
-ghost use Rattle.dm_checker.specs.inner.Watching.{IsWatch, broken_at};
-ghost use Rattle.dm_checker.specs.inner.Steps.{IsBefore, Looks, ReportsMore, found_by, ChecksOne};
+ghost use Rattle.dm_checker.specs.inner.Watching.{IsWatch, broken_at, shown_of};
+ghost use Rattle.dm_checker.specs.inner.Steps.{IsBefore, IsPart, Looks, ReportsMore, found_by, ChecksOne};
 
 use crate::acts::Before;
+use crate::arranged::put_arranged;
 use crate::calls::{arranges, leaves, put_freed_twice, put_of_call};
+use crate::code::Known;
 use crate::headers::{put_all_mapped_away, put_all_overwritten};
-use crate::leaks::put_leaks;
 use crate::put::put;
+use crate::touched::put_touched;
 use crate::watch::{Broken, Watch, read_arena};
-use crate::writes::Known;
 use dm_findings::{Act, Call, Finding, Found, Report};
+use dm_leaks::put_leaks;
 use dm_machine::{Machine, Stop, tables_and_memory_are_consistent};
+use dm_touches::touched;
 use std::alloc::{AllocError, Global};
 
 /// Appends to `out` that the step destroyed the arena or made it whole again, if it did, by where the arena's list
@@ -43,8 +44,8 @@ fn put_turned(
     }
 }
 
-/// Appends to `out` what is found of a step, by the arena read before it (`old`) and after it (`new`). `before` is what
-/// was kept of the state before the step, `machine` is in the state after it.
+/// Appends to `out` what is found of a step by what it changes, by the arena read before it (`old`) and after it (`new`).
+/// `before` is what was kept of the state before the step, `machine` is in the state after it.
 fn look_anew(
     out: &mut Vec<Finding>,
     before: &Before,
@@ -54,7 +55,7 @@ fn look_anew(
 ) -> Result<(), AllocError>
     requires before { (s : State) × IsBefore s before.now × IsWatch s.upper s.memory old.now }
     requires after { IsWatch machine.now.upper machine.now.memory new.now }
-    ensures { OnOk result ((s : State) → IsBefore s before.now → IsWatch s.upper s.memory old.now → Looks s machine.now out.old.items out.new.items) }
+    ensures { OnOk result ((s : State) → IsBefore s before.now → IsWatch s.upper s.memory old.now → Looks s machine.now old.now out.old.items out.new.items) }
 {
     let space = machine.space();
     let after = machine.cpu();
@@ -64,10 +65,11 @@ fn look_anew(
     put_all_mapped_away(out, space, &old.windows, &old.headers)?;
     put_turned(out, &old.broken, &new.broken)?;
     put_freed_twice(out, &before.cpu, &after, before.call, &old.headers)?;
-    put_of_call(out, &before.cpu, &after, before.call)
+    put_of_call(out, &before.cpu, &after, before.call)?;
+    put_arranged(out, before, &after, &old.headers, new)
 }
 
-/// Appends to `out` what is found of a step. `kept`, the arena as it was read before the step, becomes the arena after
+/// Appends to `out` what is found of a step by what it changes. `kept`, the arena as it was read before the step, becomes the arena after
 /// it, which is read anew only if the step may have changed it. An `Err` is a failed allocation.
 fn look(
     alloc: Global,
@@ -77,7 +79,7 @@ fn look(
     machine: &Machine,
 ) -> Result<(), AllocError>
     requires { (s : State) × IsBefore s before.now × IsWatch s.upper s.memory kept.old }
-    ensures looks { OnOk result ((s : State) → IsBefore s before.now → IsWatch s.upper s.memory kept.old → Looks s machine.now out.old.items out.new.items) }
+    ensures looks { OnOk result ((s : State) → IsBefore s before.now → IsWatch s.upper s.memory kept.old → Looks s machine.now kept.old out.old.items out.new.items) }
     ensures watch { OnOk result (IsWatch machine.now.upper machine.now.memory kept.new) }
 {
     if !arranges(&before.cpu, before.call) && kept.is_seen(machine) {
@@ -89,24 +91,43 @@ fn look(
     Ok(())
 }
 
+/// Whether a finding is left out: it is about free memory, and such findings are not reported.
+fn is_left_out(free: bool, finding: &Finding) -> bool
+    ensures { result ≡ (not free && is_of_free_memory finding.now) }
+{
+    !free && finding.is_of_free_memory()
+}
+
+/// Adds a finding of a step to the report, unless it is about free memory and such findings are not reported.
+fn tell_one(report: &mut Report, free: bool, found: Found) -> Result<(), AllocError>
+    ensures { OnOk result (ReportsMore free report.old report.new (found ∷ [])) }
+{
+    if is_left_out(free, &found.finding) {
+        return Ok(());
+    }
+    report.add(found)
+}
+
 /// Adds the findings of a step to the report, each with the step's number, where in its code the program performed the
 /// step, and what the step performed. An `Err` is a failed allocation.
 fn tell(
     report: &mut Report,
+    free: bool,
     before: &Before,
     step: u64,
     act: Act,
     found: &[Finding],
 ) -> Result<(), AllocError>
-    ensures { OnOk result (ReportsMore report.old report.new (map (found_by before.now step act) found.now)) }
+    ensures { OnOk result (ReportsMore free report.old report.new (map (found_by before.now step act) found.now)) }
 {
     for finding in found {
-        report.add(Found {
+        let found = Found {
             step,
             site: before.site,
             act,
             finding: *finding,
-        })?;
+        };
+        tell_one(report, free, found)?;
     }
     Ok(())
 }
@@ -114,12 +135,13 @@ fn tell(
 /// Adds to the report the findings of a step after which the machine goes on. An `Err` is a failed allocation.
 fn tell_step(
     report: &mut Report,
+    free: bool,
     before: &Before,
     machine: &Machine,
     found: &[Finding],
 ) -> Result<(), AllocError>
     requires { (s : State) × IsBefore s before.now × Answers s None machine.now }
-    ensures { OnOk result ((s : State) → IsBefore s before.now → (more : List Found) × IsFound s machine.now found.now more × ReportsMore report.old report.new more) }
+    ensures { OnOk result ((s : State) → IsBefore s before.now → (more : List Found) × IsFound s machine.now found.now more × ReportsMore free report.old report.new more) }
 {
     if found.is_empty() {
         return Ok(());
@@ -128,29 +150,38 @@ fn tell_step(
         // The step was made.
         unreachable!()
     };
-    tell(report, before, machine.steps(), act, found)
+    tell(report, free, before, machine.steps(), act, found)
 }
 
 /// Adds what is found of the step that ended the first program to the report: its findings, and what the program left
-/// allocated, unless it stays resident. `kept` becomes the arena after the step. An `Err` is a failed allocation.
+/// allocated, unless it stays resident. `found` has the findings of the bytes that the step touches. `kept` becomes the
+/// arena after the step. An `Err` is a failed allocation.
 fn check_end(
     alloc: Global,
+    found: &mut Vec<Finding>,
     before: &Before,
     call: Call,
     kept: &mut Watch,
     machine: &Machine,
     report: &mut Report,
+    free: bool,
 ) -> Result<(), AllocError>
     requires before { (s : State) × IsBefore s before.now × IsWatch s.upper s.memory kept.old }
     requires call { before.now.call ≡ Some call }
-    ensures { OnOk result ((s : State) → IsBefore s before.now → IsWatch s.upper s.memory kept.old → (more : List Found) × FindsAtEnd s machine.now more × ReportsMore report.old report.new more) }
+    ensures { OnOk result ((s : State) → IsBefore s before.now → IsWatch s.upper s.memory kept.old → FindsTouched s (shown_of kept.old) found.old.items → (more : List Found) × FindsAtEnd s machine.now more × ReportsMore free report.old report.new more) }
 {
-    let mut found = Vec::new(alloc);
-    look(alloc, &mut found, before, kept, machine)?;
+    look(alloc, found, before, kept, machine)?;
     if leaves(Some(call)) {
-        put_leaks(&mut found, machine)?;
+        put_leaks(found, machine)?;
     }
-    tell(report, before, machine.steps(), Act::Call(call), &found)
+    tell(
+        report,
+        free,
+        before,
+        machine.steps(),
+        Act::Call(call),
+        found,
+    )
 }
 
 /// Makes one step of an instruction by `Machine::run`, which uses the decode cache. Returns the stop, or None if the
@@ -181,56 +212,75 @@ fn make_step(machine: &mut Machine, call: Option<Call>) -> Option<Stop>
     run_once(machine)
 }
 
-/// Makes one step of an instruction that writes no memory; nothing is found of it. Returns the stop, or None if the
-/// machine goes on.
-fn pass(machine: &mut Machine) -> Option<Stop>
+/// Makes one step and adds what is found of it to the report; returns the stop, or None if the machine goes on. `kept` is
+/// the arena before the step and becomes that after it if the machine goes on. An `Err` is a failed allocation of the
+/// checker, before the step or after it.
+#[inline(never)]
+fn look_at_step(
+    alloc: Global,
+    machine: &mut Machine,
+    free: bool,
+    kept: &mut Watch,
+    report: &mut Report,
+) -> Result<Option<Stop>, AllocError>
     requires program { HasProgram machine.old }
-    requires reads { OnlyReads machine.old.memory machine.old.cpu }
-    ensures passed { (w : Watch) (r : Reported) → IsWatch machine.old.upper machine.old.memory w → ChecksOne machine.old result machine.new w r r }
+    requires watch { IsWatch machine.old.upper machine.old.memory kept.old }
+    ensures ok { IfOk result (λ stop. ChecksOne free machine.old stop machine.new kept.new report.old report.new) }
+    ensures err { OnErr result (IsPart machine.old machine.new) }
     ensures program { HasProgram machine.new }
 {
-    // Each page that a window shows is there.
-    tables_and_memory_are_consistent(machine);
-    run_once(machine)
+    let before = Before::of(machine);
+    let mut found = Vec::new(alloc);
+    put_touched(&mut found, &before, kept, machine)?;
+    let stop = make_step(machine, before.call);
+    match stop {
+        None => {
+            look(alloc, &mut found, &before, kept, machine)?;
+            tell_step(report, free, &before, machine, &found)?;
+            Ok(None)
+        }
+        Some(Stop::Exited(_)) => {
+            if let Some(call) = before.call {
+                check_end(
+                    alloc, &mut found, &before, call, kept, machine, report, free,
+                )?;
+                return Ok(stop);
+            }
+            // The program had ended before. Nothing has changed, and each page that a window shows is there.
+            tables_and_memory_are_consistent(machine);
+            Ok(stop)
+        }
+        Some(_) => Ok(stop),
+    }
 }
 
 /// Makes one step and adds what is found of it to the report; returns the stop, or None if the machine goes on. `known`
-/// is the cache of code that writes no memory, to which the code at CS:IP may be added; `kept` is the arena before the
-/// step and becomes that after it if the machine goes on. An `Err` is a failed allocation of the checker, after the
-/// step was made.
+/// is the cache of decoded code, to which the code at CS:IP may be added; `kept` is the arena before the step and becomes
+/// that after it if the machine goes on. Where nothing can be found of the instruction at CS:IP, by the bytes that it
+/// touches, memory is not looked at after the step. An `Err` is a failed allocation of the checker, before the step or
+/// after it.
 pub(crate) fn check_step(
     alloc: Global,
     machine: &mut Machine,
+    free: bool,
     known: &mut Known,
     kept: &mut Watch,
     report: &mut Report,
 ) -> Result<Option<Stop>, AllocError>
     requires program { HasProgram machine.old }
     requires watch { IsWatch machine.old.upper machine.old.memory kept.old }
-    ensures ok { IfOk result (λ stop. ChecksOne machine.old stop machine.new kept.new report.old report.new) }
-    ensures err { OnErr result ((stop : Option Stop) × Answers machine.old stop machine.new) }
+    ensures ok { IfOk result (λ stop. ChecksOne free machine.old stop machine.new kept.new report.old report.new) }
+    ensures err { OnErr result (IsPart machine.old machine.new) }
     ensures program { HasProgram machine.new }
 {
-    if known.only_reads(&machine.cpu(), machine.space()) {
-        return Ok(pass(machine));
-    }
-    let before = Before::of(machine);
-    let stop = make_step(machine, before.call);
-    match stop {
-        None => {
-            let mut found = Vec::new(alloc);
-            look(alloc, &mut found, &before, kept, machine)?;
-            tell_step(report, &before, machine, &found)?;
+    let cpu = machine.cpu();
+    if let Some((ins, len)) = known.next(&cpu, machine.space()) {
+        let touched = touched(&ins, len, &cpu, machine.space());
+        if kept.is_clear_of(&touched, machine.space()) {
+            // Each page that a window shows is there.
+            tables_and_memory_are_consistent(machine);
+            return Ok(run_once(machine));
         }
-        Some(Stop::Exited(_)) => {
-            if let Some(call) = before.call {
-                check_end(alloc, &before, call, kept, machine, report)?;
-            } else {
-                // The program had ended before. Nothing has changed, and each page that a window shows is there.
-                tables_and_memory_are_consistent(machine);
-            }
-        }
-        Some(_) => {}
     }
-    Ok(stop)
+    look_at_step(alloc, machine, free, kept, report)
 }

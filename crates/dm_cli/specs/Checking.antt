@@ -1,7 +1,7 @@
 -- What `dm check` does: a run with a report of its findings on standard error.
-use Rattle.std.specs.Prelude.{ℕ, ◌≡◌, ◌++◌, nat_lt, if◌then◌else◌, List, [], ◌∷◌, Option, Some, Result, Ok, Err, codes}
+use Rattle.std.specs.Prelude.{ℕ, ◌≡◌, ◌++◌, not, nat_lt, if◌then◌else◌, List, [], ◌∷◌, Option, Some, Result, Ok, Err, codes}
 use Rattle.std.specs.Io.KnownBytes.{Appends, Keeps}
-use Rattle.dm_options.specs.declared.command_line.MachineOptions.{MachineOptions}
+use Rattle.dm_options.specs.declared.command_line.CheckOptions.{CheckOptions}
 use Rattle.dm_out.specs.Out.{AppendsPart, HasFailed}
 use Rattle.dm_state.specs.declared.stop.Stop.{Stop}
 use Rattle.dm_state.specs.State.{State}
@@ -29,19 +29,19 @@ unwritten_status report = if nat_lt 0 report.errors then 124 else 126
 abbrev pub unwritten_line : List ℕ
 unwritten_line = codes "dm: cannot write standard output" ++ 10 ∷ []
 
--- `dm check`: the machine runs as for `dm run`. The result is the exit status, after the whole output was written to
+-- `dm check`: the machine runs as for `dm run`; findings about free memory are left out by `--no-free`. The result is the exit status, after the whole output was written to
 -- standard output and the report with the line about the stop was printed on standard error; or after a write of the
 -- output failed, a first part of it was written, and the same was printed on standard error, and then the line of the
 -- fault (`middle` is standard error between the two). Otherwise it is a fault: nothing was written, and no write failed
-pub data Checks (files : List ℕ → Option (List ℕ)) (typed : Option (List ℕ)) (o : MachineOptions) (before after : Option (List ℕ)) (failed_before failed_after : ℕ) (error_before error_after : Stream) : Result ℕ Fault → Type 0 where
-  checked : (m t : State) (stop : Stop) (report : Reported) (status : ℕ) → IsStartedBy files typed o m → IsRun m o.steps stop t → IsReport m o.steps stop t report
+pub data Checks (files : List ℕ → Option (List ℕ)) (typed : Option (List ℕ)) (o : CheckOptions) (before after : Option (List ℕ)) (failed_before failed_after : ℕ) (error_before error_after : Stream) : Result ℕ Fault → Type 0 where
+  checked : (m t : State) (stop : Stop) (report : Reported) (status : ℕ) → IsStartedBy files typed o.machine m → IsRun m o.machine.steps stop t → IsReport m o.machine.steps (not o.no_free) stop t report
       → Appends before after t.console.output → failed_after ≡ failed_before → Prints (report_text report ++ stopped_line stop t.memory t.cpu) error_before error_after → status ≡ checked_status report stop
       → Checks files typed o before after failed_before failed_after error_before error_after (Ok status)
-  partly_written : (m t : State) (stop : Stop) (report : Reported) (middle : Stream) (status : ℕ) → IsStartedBy files typed o m → IsRun m o.steps stop t → IsReport m o.steps stop t report
+  partly_written : (m t : State) (stop : Stop) (report : Reported) (middle : Stream) (status : ℕ) → IsStartedBy files typed o.machine m → IsRun m o.machine.steps stop t → IsReport m o.machine.steps (not o.no_free) stop t report
       → AppendsPart before after t.console.output → HasFailed failed_before failed_after → Prints (report_text report ++ stopped_line stop t.memory t.cpu) error_before middle
       → Prints unwritten_line middle error_after → status ≡ unwritten_status report → Checks files typed o before after failed_before failed_after error_before error_after (Ok status)
   no_memory : Keeps before after → failed_after ≡ failed_before → Checks files typed o before after failed_before failed_after error_before error_after (Err OutOfMemory)
-  not_started : (fault : Fault) → IsStartFault files typed (Some (codes "standard input")) o fault → Keeps before after → failed_after ≡ failed_before
+  not_started : (fault : Fault) → IsStartFault files typed (Some (codes "standard input")) o.machine fault → Keeps before after → failed_after ≡ failed_before
       → Checks files typed o before after failed_before failed_after error_before error_after (Err fault)
 
 -- the exit status of `dm check`: that of the checked run, or 126 at a fault

@@ -16,7 +16,7 @@ use crate::messages::{print, print_fault};
 use dm_checker::check as check_run;
 use dm_findings::Report;
 use dm_machine::{Machine, Out, Stop};
-use dm_options::command_line::MachineOptions;
+use dm_options::command_line::CheckOptions;
 use dm_out::write_all;
 use dm_reports::{put_report, put_stop};
 use std::alloc::{AllocError, Global};
@@ -59,7 +59,7 @@ fn unwritten_status(report: &Report) -> u8
     FAULT
 }
 
-/// Runs a machine for at most `steps` steps under the checker, writes its output to `out`, and prints the report and
+/// Runs a machine for at most `steps` steps under the checker, with findings about free memory or without (`free`), writes its output to `out`, and prints the report and
 /// the line about the stop on `error`. If a write of the output failed, after a first part of it or none, it prints the
 /// fault after them. Returns the exit status. `OutOfMemory` if an allocation failed, before anything is written; then
 /// nothing is printed on `error`.
@@ -67,16 +67,17 @@ fn check_machine<W: Out, E: Out>(
     alloc: Global,
     machine: &mut Machine,
     steps: u64,
+    free: bool,
     out: &mut W,
     error: &mut E,
 ) -> Result<u8, Fault<'static>>
     requires { HasProgram machine.old }
-    ensures does { ChecksRun machine.old steps (W.taken out.old) (W.taken out.new) (W.failures out.old) (W.failures out.new)
+    ensures does { ChecksRun machine.old steps free (W.taken out.old) (W.taken out.new) (W.failures out.old) (W.failures out.new)
         (record { bytes = E.taken error.old; failures = E.failures error.old }) (record { bytes = E.taken error.new; failures = E.failures error.new }) result }
     ensures silent { OnErr result (error.new ≡ error.old) }
     ensures reads { TellsOfNoFile (fault_if result) }
 {
-    let Ok((stop, report)) = check_run(alloc, machine, steps) else {
+    let Ok((stop, report)) = check_run(alloc, machine, steps, free) else {
         return Err(Fault::OutOfMemory);
     };
     let mut text = Vec::new(alloc);
@@ -100,7 +101,7 @@ fn check_machine<W: Out, E: Out>(
 pub(crate) fn check<'a, F: Storage, I: Read + Drop, W: Out, E: Out>(
     alloc: Global,
     storage: &mut F,
-    options: &MachineOptions<'a>,
+    options: &CheckOptions<'a>,
     input: I,
     out: &mut W,
     error: &mut E,
@@ -111,6 +112,7 @@ pub(crate) fn check<'a, F: Storage, I: Read + Drop, W: Out, E: Out>(
     ensures reads { ReadsFiles (F.unread storage.old) (F.unread storage.new) (fault_if result) }
     ensures kept { IsKept (F.contents storage.old) (F.contents storage.new) (F.saved storage.old) (F.saved storage.new) (F.failures storage.old) (F.failures storage.new) }
 {
-    let mut machine = loaded(alloc, storage, options, input)?;
-    check_machine(alloc, &mut machine, options.steps, out, error)
+    let steps = options.machine.steps;
+    let mut machine = loaded(alloc, storage, &options.machine, input)?;
+    check_machine(alloc, &mut machine, steps, !options.no_free, out, error)
 }

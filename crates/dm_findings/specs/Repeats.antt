@@ -1,5 +1,6 @@
 -- When a finding repeats an earlier one: it is of the same kind and about the same thing, and was found where the
--- program performed the same. The contents of headers and the numbers of pages, KiB and paragraphs may differ.
+-- program performed the same. The contents of headers, the numbers of pages, KiB and paragraphs, and the
+-- bytes that are touched may differ.
 use Rattle.std.specs.Prelude.{ℕ, ◌==◌, ◌&&◌, Bool, false}
 use Rattle.dm_findings.specs.declared.calls.Call.{Call}
 use Rattle.dm_findings.specs.declared.calls.Call.TheVariants.{DivideError, Terminate, Dos, ExpandedMemory, Multiplex, ExtendedMemory, Interrupt}
@@ -8,7 +9,7 @@ use Rattle.dm_findings.specs.declared.sites.Site.TheVariants.{At, Before}
 use Rattle.dm_findings.specs.declared.finding.Act.{Act}
 use Rattle.dm_findings.specs.declared.finding.Act.TheVariants as act
 use Rattle.dm_findings.specs.declared.finding.Finding.{Finding}
-use Rattle.dm_findings.specs.declared.finding.Finding.TheVariants.{Overwritten, MappedAway, Destroyed, Whole, FreedTwice, Refused, NotAllocated, DivisionError, NotServed, Short, PagesKept, MapKept, WindowKept, BlockKept, UpperKept, AreaKept, LineKept}
+use Rattle.dm_findings.specs.declared.finding.Finding.TheVariants.{Overwritten, MappedAway, Destroyed, Whole, FreedTwice, Refused, NotAllocated, DivisionError, NotServed, Short, PagesKept, MapKept, WindowKept, BlockKept, UpperKept, AreaKept, LineKept, FreeRead, FreeWritten, StackFreed, WindowLost, RomWritten, NothingWritten, TailWritten, OtherFreed, NotResized}
 use Rattle.dm_findings.specs.declared.finding.Found.{Found}
 
 -- ---- findings
@@ -32,6 +33,15 @@ kind_of (UpperKept at) = 13
 kind_of AreaKept = 14
 kind_of LineKept = 15
 kind_of NotServed = 16
+kind_of (FreeRead block segment offset) = 17
+kind_of (FreeWritten block segment offset) = 18
+kind_of (StackFreed block) = 19
+kind_of (WindowLost window segment offset) = 20
+kind_of (RomWritten segment offset) = 21
+kind_of (NothingWritten segment offset) = 22
+kind_of (TailWritten at byte) = 23
+kind_of (OtherFreed at owner) = 24
+kind_of (NotResized asked) = 25
 
 -- what the finding is about: the segment of a header or a block, a handle, a window, or an error code; 0 for a kind that
 -- has none of them
@@ -47,6 +57,12 @@ subject_of (MapKept handle) = handle
 subject_of (WindowKept window) = window
 subject_of (BlockKept handle kib locked) = handle
 subject_of (UpperKept at) = at
+subject_of (FreeRead block segment offset) = block
+subject_of (FreeWritten block segment offset) = block
+subject_of (StackFreed block) = block
+subject_of (WindowLost window segment offset) = window
+subject_of (TailWritten at byte) = at
+subject_of (OtherFreed at owner) = at
 subject_of _ = 0
 
 -- ---- places and acts

@@ -1,7 +1,7 @@
 //! What `dm check` can find, and at which step.
 
 ghost use Rattle.std.specs.Prelude.{◌≡◌};
-ghost use Rattle.dm_findings.specs.Findings.{is_error};
+ghost use Rattle.dm_findings.specs.Findings.{is_error, is_of_free_memory};
 
 use crate::calls::Call;
 use crate::sites::Site;
@@ -40,6 +40,27 @@ pub enum Finding {
     NotServed,
     /// The call failed for lack of memory: how many paragraphs it asked for, and the largest number possible.
     Short(u16, u16),
+    /// The instruction reads memory of the free block of the arena at this segment: the first byte that it reads there, by
+    /// segment and offset.
+    FreeRead(u16, u16, u16),
+    /// The instruction writes to memory of the free block of the arena at this segment: the first byte that it writes
+    /// there, by segment and offset.
+    FreeWritten(u16, u16, u16),
+    /// The stack that the call was made on is in the free block of the arena at this segment, since the call.
+    StackFreed(u16),
+    /// The instruction writes to a window of the frame (0 to 3) that shows no page: the first byte that it writes there,
+    /// by segment and offset.
+    WindowLost(u8, u16, u16),
+    /// The instruction writes to the ROM: the first byte that it writes there, by segment and offset.
+    RomWritten(u16, u16),
+    /// The instruction writes where there is no memory: the first byte that it writes there, by segment and offset.
+    NothingWritten(u16, u16),
+    /// The instruction writes to bytes 5 to 15 of the header at this segment: the first of them.
+    TailWritten(u16, u8),
+    /// The call freed the block of the arena at this segment, which another process owned: its segment.
+    OtherFreed(u16, u16),
+    /// The process stays resident, and its block could not be resized to so many paragraphs.
+    NotResized(u16),
     /// Left allocated: a handle of expanded memory, and how many pages it has.
     PagesKept(u16, u16),
     /// Left: the saved map of this handle of expanded memory.
@@ -57,15 +78,30 @@ pub enum Finding {
 }
 
 impl Finding {
-    /// Whether the finding is an error. A block list that is valid again is a note, and so are an interrupt that is
-    /// not served, and a failed call, unless it frees or resizes what is not allocated.
+    /// Whether the finding is an error. Notes are: a block list that is valid again; an interrupt that is not served; a
+    /// failed call, unless it frees or resizes what is not allocated; a write to the ROM, to no memory or to bytes 5 to
+    /// 15 of a header; a block freed that another process owned; a resident program's block that was not resized.
     pub fn is_error(&self) -> bool
         ensures { result ≡ is_error self.now }
     {
         match self {
             Finding::Whole | Finding::NotServed => false,
             Finding::Refused(_) | Finding::Short(_, _) => false,
+            Finding::RomWritten(_, _) | Finding::NothingWritten(_, _) => false,
+            Finding::TailWritten(_, _) => false,
+            Finding::OtherFreed(_, _) | Finding::NotResized(_) => false,
             _ => true,
+        }
+    }
+
+    /// Whether the finding is about free memory: that an instruction reads it or writes to it, or that a stack is in it.
+    pub fn is_of_free_memory(&self) -> bool
+        ensures { result ≡ is_of_free_memory self.now }
+    {
+        match self {
+            Finding::FreeRead(_, _, _) | Finding::FreeWritten(_, _, _) => true,
+            Finding::StackFreed(_) => true,
+            _ => false,
         }
     }
 }

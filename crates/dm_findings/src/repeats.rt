@@ -29,6 +29,15 @@ fn kind_of(finding: &Finding) -> u8
         Finding::AreaKept => 14,
         Finding::LineKept => 15,
         Finding::NotServed => 16,
+        Finding::FreeRead(_, _, _) => 17,
+        Finding::FreeWritten(_, _, _) => 18,
+        Finding::StackFreed(_) => 19,
+        Finding::WindowLost(_, _, _) => 20,
+        Finding::RomWritten(_, _) => 21,
+        Finding::NothingWritten(_, _) => 22,
+        Finding::TailWritten(_, _) => 23,
+        Finding::OtherFreed(_, _) => 24,
+        Finding::NotResized(_) => 25,
     }
 }
 
@@ -49,6 +58,12 @@ fn subject_of(finding: &Finding) -> u16
         Finding::WindowKept(window) => *window as u16,
         Finding::BlockKept(handle, _, _) => *handle,
         Finding::UpperKept(at) => *at,
+        Finding::FreeRead(block, _, _) => *block,
+        Finding::FreeWritten(block, _, _) => *block,
+        Finding::StackFreed(block) => *block,
+        Finding::WindowLost(window, _, _) => *window as u16,
+        Finding::TailWritten(at, _) => *at,
+        Finding::OtherFreed(at, _) => *at,
         _ => 0,
     }
 }

@@ -1,5 +1,5 @@
 -- From what the checker says of a machine to what is said of its session.
-use Rattle.std.proofs.Common.{◌≡◌, ◌++◌, ℕ, List, refl, sym, subst, arith}
+use Rattle.std.proofs.Common.{◌≡◌, ◌++◌, ℕ, true, List, refl, sym, subst, arith}
 use Rattle.dm_state.specs.declared.stop.Stop.{Stop}
 use Rattle.dm_state.specs.State.{State}
 use Rattle.dm_machine.specs.declared.until.Breakpoint.{Breakpoint}
@@ -23,7 +23,7 @@ pub as_part : (m u : State) (n : ℕ) (stop : Stop) → IsRun m n stop u → Run
 as_part m u n stop run = record { most = n; stop = stop; few = omega arith; run = run }
 
 pub whole : (s t : Debugged) (m u : State) (points : List Breakpoint) (n : ℕ) (stop : Stop) (text : List ℕ) (report : Reported) → s ≡ over m points → t ≡ over u points
-    → IsRun m n stop u → IsReport m n stop u report → text ≡ report_text report ++ stopped_line stop u.memory u.cpu → IsChecked s n stop text t
+    → IsRun m n stop u → IsReport m n true stop u report → text ≡ report_text report ++ stopped_line stop u.memory u.cpu → IsChecked s n stop text t
 whole s t m u points n stop text report before after run reported told =
     subst (λ (x : Debugged). IsChecked x n stop text t) (sym before) (subst (λ (x : Debugged). IsChecked (over m points) n stop text x) (sym after)
     (record { report = report; run = run; reported = reported; told = told; points = refl }))

@@ -1,5 +1,5 @@
 -- Runs of a host's machine under the memory checker, and their reports.
-use Rattle.std.specs.Prelude.{◌≡◌, ◌++◌, ℕ, List, None}
+use Rattle.std.specs.Prelude.{◌≡◌, ◌++◌, ℕ, true, List, None}
 use Rattle.dm_state.specs.declared.stop.Stop.{Stop}
 use Rattle.dm_machine.specs.Run.{IsRun}
 use Rattle.dm_findings.specs.Report.{Reported}
@@ -17,7 +17,7 @@ use Rattle.dm_host.specs.Hosts.{Hosted, with_stage, machine_of}
 pub record IsChecked (s : Debugged) (n : ℕ) (stop : Stop) (text : List ℕ) (t : Debugged) : Type 0 where
   pub report : Reported
   pub run : IsRun s.machine n stop t.machine
-  pub reported : IsReport s.machine n stop t.machine report
+  pub reported : IsReport s.machine n true stop t.machine report
   pub told : text ≡ report_text report ++ stopped_line stop t.machine.memory t.machine.cpu
   pub points : t.points ≡ s.points
 

@@ -37,7 +37,7 @@ fn checked(alloc: Global, session: Session, n: u64) -> (Session, Option<(Stop, V
     ensures { ChecksTo session n (option_map (λ r. (r.0, r.1.items)) result.1) result.0 }
 {
     let (mut machine, points) = session.into_parts();
-    let Ok((stop, report)) = check(alloc, &mut machine, n) else {
+    let Ok((stop, report)) = check(alloc, &mut machine, n, true) else {
         return (Session::from_parts(machine, points), None);
     };
     let text = text_of(alloc, &report, stop, &machine);

@@ -181,6 +181,13 @@ impl Machine {
         self.parts.steps
     }
 
+    /// The segment of the present process's prefix; 0 while no program is loaded.
+    pub fn present(&self) -> u16
+        ensures { result ≡ self.now.processes.present }
+    {
+        self.parts.procs.psp()
+    }
+
     /// The registers and flags.
     pub fn cpu(&self) -> Cpu
         ensures { result ≡ self.now.cpu }

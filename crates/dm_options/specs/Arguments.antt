@@ -62,9 +62,13 @@ debug_app = with_rule (with_machine_rules (new_app (codes "debug"))) input_rule
 abbrev pub path_rule : Text → Rule
 path_rule name = record (new_rule name) { value_names = 1; required = true }
 
--- `dm check`: as `dm run`
+-- `--no-free`, which has no value
+abbrev pub no_free_rule : Rule
+no_free_rule = record (new_rule (codes "no-free")) { long = Some (codes "no-free"); action = Some action.SetTrue }
+
+-- `dm check`: as `dm run`, and `--no-free`
 abbrev pub check_app : App
-check_app = with_machine_rules (new_app (codes "check"))
+check_app = with_rule (with_machine_rules (new_app (codes "check"))) no_free_rule
 
 -- `dm asm`, with the paths of the text and of the file that is written
 abbrev pub asm_app : App

@@ -5,6 +5,7 @@ use Rattle.std.specs.Str.Parse.{IsNumeral, digits_value, without_leading_plus}
 use Rattle.clap.specs.Words.{IsAmong, Kinds, Row, Text, all_of, first_of, kind_of, one_of}
 use Rattle.dm_options.specs.declared.command_line.MachineOptions.{MachineOptions}
 use Rattle.dm_options.specs.declared.command_line.DebugOptions.{DebugOptions}
+use Rattle.dm_options.specs.declared.command_line.CheckOptions.{CheckOptions}
 use Rattle.dm_options.specs.declared.command_line.AsmOptions.{AsmOptions}
 use Rattle.dm_options.specs.declared.command_line.Options.{Options}
 use Rattle.dm_options.specs.declared.command_line.Options.TheVariants as command
@@ -42,6 +43,11 @@ pub record HasDebugOptions (rows : List Row) (o : DebugOptions) : Type 0 where
   pub machine : HasMachineOptions rows o.machine
   pub input : first_of (codes "input") rows ≡ option_map (λ s. s.now) o.input
 
+-- o has the values of the options and files of `dm check`, as the rows have them
+pub record HasCheckOptions (rows : List Row) (o : CheckOptions) : Type 0 where
+  pub machine : HasMachineOptions rows o.machine
+  pub no_free : IsGiven (one_of (codes "no-free") rows) o.no_free
+
 -- o has the two paths of `dm asm`, as the rows have them
 pub record HasAsmOptions (rows : List Row) (o : AsmOptions) : Type 0 where
   pub input : first_of (codes "in") rows ≡ Some o.input.now
@@ -51,7 +57,7 @@ pub record HasAsmOptions (rows : List Row) (o : AsmOptions) : Type 0 where
 abbrev pub HasOptions : Text × List Row → Options → Type 0
 HasOptions given (command.Run o) = (given.0 ≡ codes "run") × HasMachineOptions given.1 o
 HasOptions given (command.Debug o) = (given.0 ≡ codes "debug") × HasDebugOptions given.1 o
-HasOptions given (command.Check o) = (given.0 ≡ codes "check") × HasMachineOptions given.1 o
+HasOptions given (command.Check o) = (given.0 ≡ codes "check") × HasCheckOptions given.1 o
 HasOptions given (command.Asm o) = (given.0 ≡ codes "asm") × HasAsmOptions given.1 o
 HasOptions given (command.Disasm path) = (given.0 ≡ codes "disasm") × (first_of (codes "in") given.1 ≡ Some path.now)
 

@@ -1,7 +1,7 @@
 //! The commands and arguments of `dm`, as the command-line library `clap` is given them.
 ghost use Rattle.std.specs.Prelude.{◌≡◌, IfOk, IsOk, OnOk, false};
 ghost use Rattle.clap.specs.Words.{app_of, rule_of, with_subcommand};
-ghost use Rattle.dm_options.specs.Arguments.{asm_app, check_app, debug_app, disasm_app, dm_app, ems_rule, files_rule, input_rule, path_rule, run_app, steps_rule, tail_rule, upper_rule, with_machine_rules, xms_rule};
+ghost use Rattle.dm_options.specs.Arguments.{asm_app, check_app, debug_app, disasm_app, dm_app, ems_rule, files_rule, input_rule, no_free_rule, path_rule, run_app, steps_rule, tail_rule, upper_rule, with_machine_rules, xms_rule};
 ghost use Rattle.clap.specs.declared.Command.TheViews.{out-Command as fields_of};
 
 use clap::builder::ValueParser;
@@ -136,6 +136,17 @@ fn debug_command<'a>(alloc: Global) -> Result<Command<'a>, AllocError>
     with_machine_args(alloc, command)?.arg(input_arg(alloc))
 }
 
+/// `--no-free`, which has no value.
+fn no_free_arg<'a>(alloc: Global) -> Arg<'a>
+    ensures rule { rule_of result ≡ no_free_rule }
+    ensures local { result.global ≡ false }
+{
+    Arg::new(alloc, "no-free")
+        .long("no-free")
+        .action(ArgAction::SetTrue)
+        .help("Leave out what is found about free memory: reads of it, writes to it, a stack in it")
+}
+
 /// The command `dm check`. An `Err` is a failed allocation.
 fn check_command<'a>(alloc: Global) -> Result<Command<'a>, AllocError>
     ensures app { IfOk result (λ c. app_of c ≡ check_app) }
@@ -143,10 +154,10 @@ fn check_command<'a>(alloc: Global) -> Result<Command<'a>, AllocError>
 {
     let command = Command::new(alloc, "check")
         .about(
-            "Run a program and report its errors in the use of memory: overwritten block headers, double frees, leaks",
+            "Run a program and report its errors in the use of memory: overwritten block headers, uses of free memory, double frees, leaks",
         )
         .after_help("Example: dm check PROGRAM.COM <input.txt");
-    with_machine_args(alloc, command)
+    with_machine_args(alloc, command)?.arg(no_free_arg(alloc))
 }
 
 /// A required argument that is the path of one file. `id` is the name by which the value is read back, `value_name` and

@@ -28,6 +28,15 @@ pub struct DebugOptions<'a> {
     pub input: Option<&'a str>,
 }
 
+/// The options and files of `dm check`.
+#[derive(Debug, Drop)]
+pub struct CheckOptions<'a> {
+    /// How the machine is made, and what it runs.
+    pub machine: MachineOptions<'a>,
+    /// Whether findings about free memory are left out, by `--no-free`.
+    pub no_free: bool,
+}
+
 /// The files of `dm asm`.
 #[derive(Clone, Copy, Debug)]
 pub struct AsmOptions<'a> {
@@ -45,7 +54,7 @@ pub enum Options<'a> {
     /// `dm debug`: debugs the first file.
     Debug(DebugOptions<'a>),
     /// `dm check`: runs the first file, and reports the errors in its use of memory.
-    Check(MachineOptions<'a>),
+    Check(CheckOptions<'a>),
     /// `dm asm`: assembles a text to a file.
     Asm(AsmOptions<'a>),
     /// `dm disasm`: disassembles the file at this path.

@@ -2,10 +2,12 @@
 ghost use Rattle.std.specs.Prelude.{◌≡◌, [], Some, IfOk, IfErr, IsSomeAnd, OnOk, codes, map, option_map};
 ghost use Rattle.clap.specs.Words.{all_of, fault_of, first_of, found_of, kind_of, one_of, rows_of, subcommand_of, subcommand_rows_of};
 ghost use Rattle.dm_options.specs.Arguments.{dm_app};
-ghost use Rattle.dm_options.specs.Options.{Explains, HasAsmOptions, HasDebugOptions, HasMachineOptions, HasNumber, HasOptions, IsGiven};
+ghost use Rattle.dm_options.specs.Options.{Explains, HasAsmOptions, HasCheckOptions, HasDebugOptions, HasMachineOptions, HasNumber, HasOptions, IsGiven};
 
 use crate::arguments::dm_command;
-use crate::command_line::{AsmOptions, DebugOptions, MachineOptions, Options, OptionsError};
+use crate::command_line::{
+    AsmOptions, CheckOptions, DebugOptions, MachineOptions, Options, OptionsError,
+};
 use clap::ArgMatches;
 use clap::error::ErrorKind;
 use std::alloc::{AllocError, Global};
@@ -93,6 +95,18 @@ fn debug_options<'a>(
     Ok(DebugOptions { machine, input })
 }
 
+/// The options and files of `dm check`. An `Err` is a failed allocation.
+fn check_options<'a>(
+    alloc: Global,
+    matches: &ArgMatches<'a>,
+) -> Result<CheckOptions<'a>, AllocError>
+    ensures { IfOk result (HasCheckOptions (rows_of (found_of matches.now))) }
+{
+    let machine = machine_options(alloc, matches)?;
+    let no_free = is_given(matches, "no-free");
+    Ok(CheckOptions { machine, no_free })
+}
+
 /// The two paths of `dm asm`.
 fn asm_options<'a>(matches: &ArgMatches<'a>) -> Result<AsmOptions<'a>, AllocError>
     ensures { IfOk result (HasAsmOptions (rows_of (found_of matches.now))) }
@@ -113,7 +127,7 @@ fn read_subcommand<'a>(
     match name {
         "run" => Ok(Options::Run(machine_options(alloc, matches)?)),
         "debug" => Ok(Options::Debug(debug_options(alloc, matches)?)),
-        "check" => Ok(Options::Check(machine_options(alloc, matches)?)),
+        "check" => Ok(Options::Check(check_options(alloc, matches)?)),
         "asm" => Ok(Options::Asm(asm_options(matches)?)),
         "disasm" => Ok(Options::Disasm(text_of(matches, "in")?)),
         _ => Err(AllocError),
@@ -137,7 +151,7 @@ fn found_options<'a>(alloc: Global, matches: &ArgMatches<'a>) -> Result<Options<
 /// PAGES and KIB are decimal numbers below 2^32, and there is at least one file. A number may begin with `+`. The
 /// defaults are 100000000, 64, 1024 and the empty text. A line with an option twice, or with an unknown one, is wrong.
 ///
-/// `dm check` takes the same. `dm debug` takes the same, and `--input FILE`, which may be left out. `dm asm IN OUT` and
+/// `dm check` takes the same, and `--no-free`, which may be left out. `dm debug` takes what `dm run` does, and `--input FILE`, which may be left out. `dm asm IN OUT` and
 /// `dm disasm IN` take paths alone.
 ///
 /// # Errors

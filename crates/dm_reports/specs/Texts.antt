@@ -6,7 +6,7 @@ use Rattle.dm_findings.specs.declared.finding.Contents.{Contents}
 use Rattle.dm_findings.specs.declared.finding.Act.{Act}
 use Rattle.dm_findings.specs.declared.finding.Act.TheVariants as act
 use Rattle.dm_findings.specs.declared.finding.Finding.{Finding}
-use Rattle.dm_findings.specs.declared.finding.Finding.TheVariants.{Overwritten, MappedAway, Destroyed, Whole, FreedTwice, Refused, NotAllocated, DivisionError, NotServed, Short, PagesKept, MapKept, WindowKept, BlockKept, UpperKept, AreaKept, LineKept}
+use Rattle.dm_findings.specs.declared.finding.Finding.TheVariants.{Overwritten, MappedAway, Destroyed, Whole, FreedTwice, Refused, NotAllocated, DivisionError, NotServed, Short, PagesKept, MapKept, WindowKept, BlockKept, UpperKept, AreaKept, LineKept, FreeRead, FreeWritten, StackFreed, WindowLost, RomWritten, NothingWritten, TailWritten, OtherFreed, NotResized}
 use Rattle.dm_findings.specs.declared.finding.Found.{Found}
 use Rattle.dm_findings.specs.declared.report.Listed.{Listed}
 use Rattle.dm_findings.specs.declared.sites.Site.{Site}
@@ -39,6 +39,10 @@ refusal_text a code = codes "refused with code " ++ two_digits code ++ codes "h"
 abbrev pub short_text : ℕ → ℕ → List ℕ
 short_text asked largest = codes "refused with code 08h, not enough memory: " ++ counted asked (codes "paragraph") ++ codes " wanted, " ++ decimal largest ++ codes " available"
 
+-- that an instruction reads or writes a byte of a free block: the verb, the byte, and the block's segment
+abbrev pub free_text : List ℕ → ℕ → ℕ → ℕ → List ℕ
+free_text verb block segment offset = verb ++ address_text segment offset ++ codes " in the free block at " ++ four_digits block
+
 -- what was found in a step that performed a, in words
 abbrev pub finding_text : Act → Finding → List ℕ
 finding_text a (Overwritten at old new) = codes "header at " ++ four_digits at ++ codes " overwritten: " ++ contents_text old ++ codes " became " ++ contents_text new
@@ -58,6 +62,15 @@ finding_text a (BlockKept handle kib locked) = codes "XMS handle " ++ decimal ha
 finding_text a (UpperKept at) = codes "upper block at " ++ four_digits at ++ codes " not freed"
 finding_text a AreaKept = codes "HMA not released"
 finding_text a LineKept = codes "A20 left on"
+finding_text a (FreeRead block segment offset) = free_text (codes "reads ") block segment offset
+finding_text a (FreeWritten block segment offset) = free_text (codes "writes ") block segment offset
+finding_text a (StackFreed block) = codes "the stack is in the free block at " ++ four_digits block
+finding_text a (WindowLost window segment offset) = codes "writes " ++ address_text segment offset ++ codes " in window " ++ decimal window ++ codes ", which shows no page"
+finding_text a (RomWritten segment offset) = codes "writes " ++ address_text segment offset ++ codes " in the ROM"
+finding_text a (NothingWritten segment offset) = codes "writes " ++ address_text segment offset ++ codes ", where there is no memory"
+finding_text a (TailWritten at byte) = codes "byte " ++ decimal byte ++ codes " of the header at " ++ four_digits at ++ codes " written"
+finding_text a (OtherFreed at owner) = codes "block at " ++ four_digits at ++ codes " of process " ++ four_digits owner ++ codes " freed"
+finding_text a (NotResized asked) = codes "block not resized to " ++ counted asked (codes "paragraph")
 
 -- the text of what was performed in the step: a call, or an instruction
 abbrev pub act_text : Act → List ℕ

@@ -4,8 +4,8 @@
 ghost use Rattle.std.specs.Prelude.{◌≡◌, ◌++◌, OnOk, codes, decimal};
 ghost use Rattle.dm_findings.specs.Findings.{is_error};
 ghost use Rattle.dm_text.specs.Texts.{text_of};
-ghost use Rattle.dm_views.specs.Digits.{two_digits, four_digits};
-ghost use Rattle.dm_reports.specs.Texts.{act_text, contents_text, counted, ending_text, finding_text, found_line, found_text, kind_text, lock_text, refusal_text, repeated_line, short_text, site_text};
+ghost use Rattle.dm_views.specs.Digits.{two_digits, four_digits, address_text};
+ghost use Rattle.dm_reports.specs.Texts.{act_text, contents_text, counted, ending_text, finding_text, found_line, free_text, found_text, kind_text, lock_text, refusal_text, repeated_line, short_text, site_text};
 
 use crate::meanings::meaning_of;
 use crate::names::put_call;
@@ -140,6 +140,81 @@ fn put_pages_kept(out: &mut Vec<u8>, handle: u16, pages: u16) -> Result<(), Allo
     out.extend_from_slice(b" not freed")
 }
 
+/// Appends the address of a byte between two texts.
+fn put_at(
+    out: &mut Vec<u8>,
+    before: &[u8],
+    segment: u16,
+    offset: u16,
+    after: &[u8],
+) -> Result<(), AllocError>
+    ensures { OnOk result (out.new.items ≡ out.old.items ++ (before.now ++ address_text segment offset ++ after.now)) }
+{
+    out.extend_from_slice(before)?;
+    put_address(out, segment, offset)?;
+    out.extend_from_slice(after)
+}
+
+/// Appends that an instruction reads or writes (`verb`) a byte of the free block at a segment.
+fn put_free(
+    out: &mut Vec<u8>,
+    verb: &[u8],
+    block: u16,
+    segment: u16,
+    offset: u16,
+) -> Result<(), AllocError>
+    ensures { OnOk result (out.new.items ≡ out.old.items ++ free_text verb.now block segment offset) }
+{
+    out.extend_from_slice(verb)?;
+    put_address(out, segment, offset)?;
+    out.extend_from_slice(b" in the free block at ")?;
+    out.extend_from_slice(&word_digits(block))
+}
+
+/// Appends that an instruction writes a byte of a window that shows no page.
+fn put_lost(out: &mut Vec<u8>, window: u8, segment: u16, offset: u16) -> Result<(), AllocError>
+    ensures { OnOk result (out.new.items ≡ out.old.items
+        ++ (codes "writes " ++ address_text segment offset ++ codes " in window " ++ decimal window ++ codes ", which shows no page")) }
+{
+    out.extend_from_slice(b"writes ")?;
+    put_address(out, segment, offset)?;
+    out.extend_from_slice(b" in window ")?;
+    put_number(out, window as u64)?;
+    out.extend_from_slice(b", which shows no page")
+}
+
+/// Appends that an instruction writes a byte, from 5 to 15, of the header at a segment.
+fn put_tail(out: &mut Vec<u8>, at: u16, byte: u8) -> Result<(), AllocError>
+    ensures { OnOk result (out.new.items ≡ out.old.items
+        ++ (codes "byte " ++ decimal byte ++ codes " of the header at " ++ four_digits at ++ codes " written")) }
+{
+    out.extend_from_slice(b"byte ")?;
+    put_number(out, byte as u64)?;
+    out.extend_from_slice(b" of the header at ")?;
+    out.extend_from_slice(&word_digits(at))?;
+    out.extend_from_slice(b" written")
+}
+
+/// Appends that the block at a segment, which another process owned, was freed.
+fn put_other_freed(out: &mut Vec<u8>, at: u16, owner: u16) -> Result<(), AllocError>
+    ensures { OnOk result (out.new.items ≡ out.old.items
+        ++ (codes "block at " ++ four_digits at ++ codes " of process " ++ four_digits owner ++ codes " freed")) }
+{
+    out.extend_from_slice(b"block at ")?;
+    out.extend_from_slice(&word_digits(at))?;
+    out.extend_from_slice(b" of process ")?;
+    out.extend_from_slice(&word_digits(owner))?;
+    out.extend_from_slice(b" freed")
+}
+
+/// Appends that a block was not resized: to how many paragraphs.
+fn put_not_resized(out: &mut Vec<u8>, asked: u16) -> Result<(), AllocError>
+    ensures { OnOk result (out.new.items ≡ out.old.items ++ (codes "block not resized to " ++ counted asked (codes "paragraph"))) }
+{
+    out.extend_from_slice(b"block not resized to ")?;
+    put_counted(out, asked as u64, b"paragraph")
+}
+
 /// Appends what was found in a step that performed `act`, in words.
 fn put_finding(out: &mut Vec<u8>, act: &Act, finding: &Finding) -> Result<(), AllocError>
     ensures { OnOk result (out.new.items ≡ out.old.items ++ finding_text act.now finding.now) }
@@ -161,6 +236,31 @@ fn put_finding(out: &mut Vec<u8>, act: &Act, finding: &Finding) -> Result<(), Al
         Finding::UpperKept(at) => put_segment(out, b"upper block at ", *at, b" not freed"),
         Finding::AreaKept => out.extend_from_slice(b"HMA not released"),
         Finding::LineKept => out.extend_from_slice(b"A20 left on"),
+        Finding::FreeRead(block, segment, offset) => {
+            put_free(out, b"reads ", *block, *segment, *offset)
+        }
+        Finding::FreeWritten(block, segment, offset) => {
+            put_free(out, b"writes ", *block, *segment, *offset)
+        }
+        Finding::StackFreed(block) => {
+            put_segment(out, b"the stack is in the free block at ", *block, b"")
+        }
+        Finding::WindowLost(window, segment, offset) => put_lost(out, *window, *segment, *offset),
+        Finding::RomWritten(segment, offset) => {
+            put_at(out, b"writes ", *segment, *offset, b" in the ROM")
+        }
+        Finding::NothingWritten(segment, offset) => {
+            put_at(
+                out,
+                b"writes ",
+                *segment,
+                *offset,
+                b", where there is no memory",
+            )
+        }
+        Finding::TailWritten(at, byte) => put_tail(out, *at, *byte),
+        Finding::OtherFreed(at, owner) => put_other_freed(out, *at, *owner),
+        Finding::NotResized(asked) => put_not_resized(out, *asked),
     }
 }
 

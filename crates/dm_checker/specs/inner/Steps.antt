@@ -1,11 +1,12 @@
 -- What is kept of the state before a step, and what one checked step does.
-use Rattle.std.specs.Prelude.{◌≡◌, ℕ, List, ◌++◌, Option, Some, None}
+use Rattle.std.specs.Prelude.{◌≡◌, ◌⊎◌, ℕ, Bool, List, ◌++◌, Option, Some, None}
 use Rattle.dm_ins.specs.declared.ins.Ins.{Ins}
 use Rattle.dm_state.specs.declared.stop.Stop.{Stop}
 use Rattle.dm_state.specs.State.{State}
 use Rattle.dm_machine.specs.Step.{fetched}
 use Rattle.dm_ins.specs.Ins.{BeginsWith}
 use Rattle.dm_machine.specs.Run.{Answers}
+use Rattle.dm_findings.specs.declared.calls.Call.{Call}
 use Rattle.dm_findings.specs.declared.finding.Act.{Act}
 use Rattle.dm_findings.specs.declared.finding.Finding.{Finding}
 use Rattle.dm_findings.specs.declared.finding.Found.{Found}
@@ -14,14 +15,16 @@ use Rattle.dm_findings.specs.Sites.{site_of}
 use Rattle.dm_findings.specs.Report.{Reported, report_of}
 use Rattle.dm_checker.specs.declared.acts.Before.{Before}
 use Rattle.dm_checker.specs.declared.watch.Watch.{Watch}
-use Rattle.dm_checker.specs.Findings.{Finds}
-use Rattle.dm_checker.specs.Checks.{FindsAt, FindsAtStop}
-use Rattle.dm_checker.specs.inner.Watching.{IsWatch}
+use Rattle.dm_checker.specs.Findings.{Finds, FindsTouched}
+use Rattle.dm_checker.specs.Checks.{FindsAt, FindsAtStop, reported}
+use Rattle.dm_checker.specs.inner.Watching.{IsWatch, shown_of}
 
--- b is what the checker keeps of the state s before a step: the registers, the call, where in its code the program
--- performs it, and the bytes at CS:IP
+-- b is what the checker keeps of the state s before a step: the registers, A20, the present process, the call, where in
+-- its code the program performs it, and the bytes at CS:IP
 pub record IsBefore (s : State) (b : Before) : Type 0 where
   pub cpu : b.cpu ≡ s.cpu
+  pub a20 : b.a20 ≡ s.memory.a20
+  pub present : b.present ≡ s.processes.present
   pub call : b.call ≡ call_of s.cpu
   pub site : b.site ≡ site_of s.memory s.cpu
   pub bytes : b.bytes ≡ fetched s.memory s.cpu
@@ -35,15 +38,34 @@ pub record IsUnlisted (s : State) : Type 0 where
 abbrev pub found_by : Before → ℕ → Act → Finding → Found
 found_by b step a f = record { step = step; site = b.site; act = a; finding = f }
 
--- the report `new` is the report `old` with the findings `more` added
-abbrev pub ReportsMore : Reported → Reported → List Found → Type 0
-ReportsMore old new more = (fs : List Found) → old ≡ report_of fs → new ≡ report_of (fs ++ more)
+-- the report `new` is the report `old` with the findings `more` added, or, without `free`, those that are not about free
+-- memory
+abbrev pub ReportsMore : Bool → Reported → Reported → List Found → Type 0
+ReportsMore free old new more = (fs : List Found) → old ≡ report_of (reported free fs) → new ≡ report_of (reported free (fs ++ more))
 
--- `new` is `old` with what is found of the step from s to t appended
-pub record Looks (s t : State) (old new : List Finding) : Type 0 where
+-- the step from s performs the instruction i of `length` bytes, unless it performs a call (None)
+pub data IsNextAct (s : State) : Option (Ins × ℕ) → Type 0 where
+  an_instruction : (i : Ins) (length : ℕ) → call_of s.cpu ≡ None → BeginsWith (fetched s.memory s.cpu) i length → IsNextAct s (Some (i, length))
+  no_instruction : ((i : Ins) (length : ℕ) → call_of s.cpu ≡ None → BeginsWith (fetched s.memory s.cpu) i length → ⊥) → IsNextAct s None
+
+-- `new` is `old` with what is found appended of the bytes that the step from s touches, if it is made; w is what memory
+-- shows of the arena before it
+pub record Touches (s : State) (w : Watch) (old new : List Finding) : Type 0 where
   pub more : List Finding
   pub is : new ≡ old ++ more
-  pub finds : Finds s t more
+  pub going : (t : State) → Answers s None t → FindsTouched s (shown_of w) more
+  pub calling : (call : Call) → call_of s.cpu ≡ Some call → FindsTouched s (shown_of w) more
+
+-- `new` is `old` with what is found of the step from s to t appended, but for the bytes that it touches; w is what memory
+-- shows of the arena before it
+pub record Looks (s t : State) (w : Watch) (old new : List Finding) : Type 0 where
+  pub more : List Finding
+  pub is : new ≡ old ++ more
+  pub finds : (touched : List Finding) → FindsTouched s (shown_of w) touched → Finds s t (touched ++ more)
+
+-- t is s, or what a step from s leaves
+abbrev pub IsPart : State → State → Type 0
+IsPart s t = (t ≡ s) ⊎ ((stop : Option Stop) × Answers s stop t)
 
 -- `found` is what is found of a call of `step` from s to t, whether the machine goes on (None) or stops
 abbrev pub FindsAtAny : State → Option Stop → State → List Found → Type 0
@@ -51,10 +73,11 @@ FindsAtAny s None t found = FindsAt s t found
 FindsAtAny s (Some stop) t found = FindsAtStop s stop t found
 
 -- one checked step from s to t, with this stop or None: the report `new` is `old` with the findings of the step added,
--- and if the machine goes on, w is what memory shows of the arena after the step
-pub record ChecksOne (s : State) (stop : Option Stop) (t : State) (w : Watch) (old new : Reported) : Type 0 where
+-- those about free memory only with `free`; and if the machine goes on, w is what memory shows of the arena after the
+-- step
+pub record ChecksOne (free : Bool) (s : State) (stop : Option Stop) (t : State) (w : Watch) (old new : Reported) : Type 0 where
   pub answers : Answers s stop t
   pub found : List Found
   pub finds : FindsAtAny s stop t found
-  pub reports : ReportsMore old new found
+  pub reports : ReportsMore free old new found
   pub watch : stop ≡ None → IsWatch t.upper t.memory w

@@ -10,7 +10,8 @@ use Rattle.dm_findings.specs.declared.finding.Contents.{Contents}
 use Rattle.dm_checker.specs.declared.watch.Watched.{Watched}
 use Rattle.dm_checker.specs.declared.watch.Broken.{Broken}
 use Rattle.dm_checker.specs.declared.watch.Watch.{Watch}
-use Rattle.dm_checker.specs.Shown.{IsShown, IsCut}
+use Rattle.dm_checker.specs.inner.Clear.{IsApart}
+use Rattle.dm_checker.specs.Shown.{Shown, IsShown, IsCut}
 use Rattle.dm_checker.specs.Headers.{contents, kept_at, is_there}
 
 -- ---- five bytes
@@ -52,6 +53,10 @@ broken_at (Some b) = Some b.segment
 abbrev pub IsBrokenIn : Memory → Option Broken → Type 0
 IsBrokenIn m broken = IfSome broken (λ b. IsBits m b.segment b.bits)
 
+-- what a watch has of the arena
+abbrev pub shown_of : Watch → Shown
+shown_of w = record { headers = map header_of w.headers.items; broken = broken_at w.broken }
+
 -- w is what memory m shows of the arena, and by which windows; `upper` is whether upper memory belongs to the arena
 pub record IsWatch (upper : Bool) (m : Memory) (w : Watch) : Type 0 where
   pub setting : w.upper ≡ upper
@@ -59,6 +64,7 @@ pub record IsWatch (upper : Bool) (m : Memory) (w : Watch) : Type 0 where
   pub shown : IsShown upper m (record { headers = map header_of w.headers.items; broken = broken_at w.broken })
   pub headers : All (IsWatched m) w.headers.items
   pub there : IsBrokenIn m w.broken
+  pub main : All (IsApart w.main) w.headers.items
 
 -- memory m has the windows and the bytes that are kept in w, with the same setting `upper`; and its windows show pages
 -- that are there

@@ -1,5 +1,5 @@
 -- The part of `dm check` after its machine is loaded. Private contracts and proofs alone name this.
-use Rattle.std.specs.Prelude.{ℕ, ◌≡◌, ◌++◌, List, Option, Result, Ok, Err}
+use Rattle.std.specs.Prelude.{ℕ, ◌≡◌, ◌++◌, Bool, List, Option, Result, Ok, Err}
 use Rattle.std.specs.Io.KnownBytes.{Appends, Keeps}
 use Rattle.dm_out.specs.Out.{AppendsPart, HasFailed}
 use Rattle.dm_state.specs.declared.stop.Stop.{Stop}
@@ -14,14 +14,14 @@ use Rattle.dm_cli.specs.declared.fault.Fault.TheVariants.{OutOfMemory}
 use Rattle.dm_cli.specs.Messages.{Stream, Prints}
 use Rattle.dm_cli.specs.Checking.{checked_status, unwritten_status, unwritten_line}
 
--- `dm check` once its machine m is loaded: the exit status, after the output and the report were written; or after a
+-- `dm check` once its machine m is loaded, with findings about free memory or without (`free`): the exit status, after the output and the report were written; or after a
 -- write of the output failed, after a first part, and the report and then the fault were printed; or an allocation
 -- failed, and nothing was written
-pub data ChecksRun (m : State) (steps : ℕ) (before after : Option (List ℕ)) (failed_before failed_after : ℕ) (error_before error_after : Stream) : Result ℕ Fault → Type 0 where
-  run_checked : (t : State) (stop : Stop) (report : Reported) (status : ℕ) → IsRun m steps stop t → IsReport m steps stop t report
+pub data ChecksRun (m : State) (steps : ℕ) (free : Bool) (before after : Option (List ℕ)) (failed_before failed_after : ℕ) (error_before error_after : Stream) : Result ℕ Fault → Type 0 where
+  run_checked : (t : State) (stop : Stop) (report : Reported) (status : ℕ) → IsRun m steps stop t → IsReport m steps free stop t report
       → Appends before after t.console.output → failed_after ≡ failed_before → Prints (report_text report ++ stopped_line stop t.memory t.cpu) error_before error_after → status ≡ checked_status report stop
-      → ChecksRun m steps before after failed_before failed_after error_before error_after (Ok status)
-  output_cut : (t : State) (stop : Stop) (report : Reported) (middle : Stream) (status : ℕ) → IsRun m steps stop t → IsReport m steps stop t report
+      → ChecksRun m steps free before after failed_before failed_after error_before error_after (Ok status)
+  output_cut : (t : State) (stop : Stop) (report : Reported) (middle : Stream) (status : ℕ) → IsRun m steps stop t → IsReport m steps free stop t report
       → AppendsPart before after t.console.output → HasFailed failed_before failed_after → Prints (report_text report ++ stopped_line stop t.memory t.cpu) error_before middle
-      → Prints unwritten_line middle error_after → status ≡ unwritten_status report → ChecksRun m steps before after failed_before failed_after error_before error_after (Ok status)
-  no_report : Keeps before after → failed_after ≡ failed_before → ChecksRun m steps before after failed_before failed_after error_before error_after (Err OutOfMemory)
+      → Prints unwritten_line middle error_after → status ≡ unwritten_status report → ChecksRun m steps free before after failed_before failed_after error_before error_after (Ok status)
+  no_report : Keeps before after → failed_after ≡ failed_before → ChecksRun m steps free before after failed_before failed_after error_before error_after (Err OutOfMemory)

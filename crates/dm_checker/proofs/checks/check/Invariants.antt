@@ -5,7 +5,7 @@ use Rattle.dm_checker.proofs.checks.check.Given as goal
 
 abbrev pub invariant-loop : goal.invariant-loop
 invariant-loop l = record {
-  checked : HasChecked l.fn.machine l.counter l.machine l.report;
+  checked : HasChecked l.free l.fn.machine l.counter l.machine l.report;
   watch : IsWatch l.machine.upper l.machine.memory l.kept;
   program : HasProgram l.machine;
 }

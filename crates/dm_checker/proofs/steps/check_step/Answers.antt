@@ -1,31 +1,18 @@
-use Rattle.std.proofs.Common.{◌≡◌, Option, Some, sym, ◌∙◌, ap, subst}
-use Rattle.dm_state.specs.declared.stop.Stop.{Stop}
-use Rattle.dm_state.specs.declared.stop.Stop.TheVariants.{Exited}
-use Rattle.dm_machine.specs.Run.{Answers}
-use Rattle.dm_checker.specs.inner.Steps.{ChecksOne}
-use Rattle.dm_checker.proofs.Stepping.{goes_on, was_over}
+use Rattle.std.proofs.Common.{◌<◌, subst}
+use Rattle.dm_cpu.specs.declared.cpu.Cpu.{Cpu}
+use Rattle.dm_checker.proofs.Reading.{no_call}
+use Rattle.dm_checker.proofs.Stepping.{passed_by, clear_passes}
 use Rattle.dm_checker.proofs.steps.check_step.Goals as goal
 
-pub returns-in_ok-tell_step-in-None-clause-ok : goal.returns-in_ok-tell_step-in-None-clause-ok
-returns-in_ok-tell_step-in-None-clause-ok c =
-    let s = c.args.machine.now in
-    let t = c.make_step-stop.new.machine in
-    let before = c.of-before.ensures in
-    let F : Option Stop → Type 0 = λ o. ChecksOne s o t c.look.new.kept c.args.report.now c.tell_step.new.report in
-    subst F (sym c.in-None.is)
-    (goes_on s t c.of-before.result c.look.new.kept c.new-found.result.items c.look.new.out.items c.deref.result.now c.args.report.now c.tell_step.new.report c.in-None.ensures.answers before c.new-found.ensures.items (c.in_ok-look-in-None.ensures.looks s before c.requires.watch) c.deref.ensures.value (c.in_ok-tell_step-in-None.ensures s before) c.in_ok-look-in-None.ensures.watch)
+pub run_once-requires-clause-uncalled : goal.run_once-requires-clause-uncalled
+run_once-requires-clause-uncalled c =
+    let F : Cpu → Type 0 = λ d. d.cs < 0xF000 in
+    no_call c.args.machine.now.cpu (subst F c.cpu-cpu.ensures c.in-Some.ensures.below)
 
-pub returns-in_default-clause-ok : goal.returns-in_default-clause-ok
-returns-in_default-clause-ok c =
+pub returns-then-is_clear_of-clause-ok : goal.returns-then-is_clear_of-clause-ok
+returns-then-is_clear_of-clause-ok c =
     let s = c.args.machine.now in
-    let t = c.make_step-stop.new.machine in
-    let code = c.in-Some-Exited.field-0-0 in
-    let F : Option Stop → Type 0 = λ o. ChecksOne s o t c.args.kept.now c.args.report.now c.args.report.now in
-    let A : Option Stop → Type 0 = λ o. Answers s o t in
-    let is = rw c.in-Some-Exited.is at c.in-Some-Exited.field-0-is in
-    let exited : c.make_step-stop.result ≡ Some (Exited code) = c.in-Some-Exited.is ∙ ap (λ (x : Stop). Some x) is in
-    subst F (sym exited)
-    (was_over s t c.of-before.result code c.args.kept.now c.args.report.now (subst A exited c.make_step-stop.ensures.answers) c.of-before.ensures c.in_default.is c.requires.watch c.tables_and_memory_are_consistent.ensures)
-
-pub returns-then-only_reads-clause-ok : goal.returns-then-only_reads-clause-ok
-returns-then-only_reads-clause-ok c = c.pass.ensures.passed c.args.kept.now c.args.report.now c.requires.watch
+    let w = c.args.kept.now in
+    let passed = passed_by s w c.cpu-cpu.result c.space.result.now.memory c.space-in-Some.result.now.memory c.space-in-Some-2.result.now.memory c.in-Some.ins c.in-Some.len c.touched-touched.result.reads c.touched-touched.result.writes
+    c.cpu-cpu.ensures c.space.ensures c.space-in-Some.ensures c.space-in-Some-2.ensures c.in-Some.ensures c.touched-touched.ensures.reads c.touched-touched.ensures.writes (c.is_clear_of.ensures c.if-is_clear_of.true) in
+    clear_passes c.args.free s c.run_once.new.machine c.run_once.result w c.args.report.now passed c.tables_and_memory_are_consistent.ensures c.run_once.ensures.answers c.requires.watch

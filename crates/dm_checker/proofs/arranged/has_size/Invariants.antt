@@ -1,0 +1,7 @@
+use Rattle.std.proofs.Common.{◌≡◌, map, drop}
+use Rattle.dm_checker.specs.Arranged.{has_size}
+use Rattle.dm_checker.specs.inner.Watching.{header_of}
+use Rattle.dm_checker.proofs.arranged.has_size.Given as goal
+
+abbrev pub invariant-loop-watched : goal.invariant-loop-watched
+invariant-loop-watched l = has_size l.segment l.size (map header_of l.headers) ≡ has_size l.segment l.size (map header_of (drop l.watched-index l.headers))

@@ -1,6 +1,0 @@
-use Rattle.std.proofs.Common.{◌≡◌, ◌++◌}
-use Rattle.dm_checker.specs.Leaks.{of_each, handle_kept}
-use Rattle.dm_checker.proofs.leaks.put_handles.Given as goal
-
-abbrev pub invariant-loop-handle : goal.invariant-loop-handle
-invariant-loop-handle l = l.out.items ≡ l.initial.out.items ++ of_each (handle_kept l.ems) l.handle

@@ -1,0 +1,4 @@
+pub mod Places
+pub mod Operands
+pub mod Written
+mod Firsts

@@ -1,0 +1,5 @@
+pub mod Elements
+pub mod Access
+pub mod Touches
+pub mod Found
+pub mod Laws

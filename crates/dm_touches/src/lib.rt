@@ -1,0 +1,15 @@
+//! What an instruction touches: the bytes of memory that it reads and writes, beside those that it is decoded from; and
+//! what is found of them.
+#![tactic(auto)]
+
+mod access;
+mod elements;
+mod found;
+mod laws;
+mod touches;
+
+pub use access::{Access, access_of};
+pub use elements::{Element, Elements, FarAddress, Touched};
+pub use found::{is_in_free, put_of_header, put_of_places};
+pub use laws::writes_are_listed;
+pub use touches::touched;
