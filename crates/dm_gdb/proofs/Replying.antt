@@ -1,5 +1,5 @@
 -- Replies, by what they are equal to.
-use Rattle.std.proofs.Common.{◌≡◌, ℕ, true, List, Option, Result, Ok, Err, refl, sym, ap, subst, ◌∙◌}
+use Rattle.std.proofs.Common.{◌≡◌, ◌≤◌, ◌-◌, ℕ, true, List, Option, Some, Result, Ok, Err, refl, sym, ap, subst, ◌∙◌}
 use Rattle.std.specs.Prelude.{IfOk, OnOk}
 use Rattle.dm_state.specs.declared.stop.Stop.{Stop}
 use Rattle.dm_state.specs.State.{State}
@@ -9,7 +9,12 @@ use Rattle.dm_requests.specs.declared.request.Request.TheVariants as request
 use Rattle.dm_gdb.specs.declared.going.Span.{Span}
 use Rattle.dm_gdb.specs.declared.replies.Reply.{Reply}
 use Rattle.dm_gdb.specs.Going.{Continues}
-use Rattle.dm_gdb.specs.Servers.{Served, Replies, is_plain, arrival_reply, step_reply}
+use Rattle.dm_command.specs.declared.command.Command.{Command}
+use Rattle.dm_debug.specs.Debugged.{Debugged}
+use Rattle.dm_debug.specs.Sessions.{Displays, Does, DoesPart, shows, goes, traces, sets, clears, enters, nothing, ran, traced}
+use Rattle.dm_gdb.specs.Monitor.{is_shown, step_of, stepped_reply}
+use Rattle.dm_machine.specs.Run.{IsRun}
+use Rattle.dm_gdb.specs.Servers.{Served, Replies, goes_to, is_plain, is_exit, gone, at_state, arrival_reply, step_reply}
 
 -- a reply, where request, reply and session are known to be these
 pub replies_as : (s t u : Served) (most : ℕ) (r q : Request) (told said : Reply) → Replies s most q said u → r ≡ q → told ≡ said → t ≡ u → Replies s most r told t
@@ -28,18 +33,26 @@ arrival_told told ps qs why m t h e f = h ∙ ap (λ (xs : List ℕ). arrival_re
 
 -- a request that is none of those of the machine
 pub only_these : (r : Request) → (r ≡ request.Registers → ⊥) → ((n : ℕ) → r ≡ request.Register n → ⊥) → ((a n : ℕ) → r ≡ request.Memory a n → ⊥)
-    → ((a : ℕ) (bytes : List ℕ) → r ≡ request.SetMemory a bytes → ⊥) → ((p : Point) → r ≡ request.Insert p → ⊥) → ((p : Point) → r ≡ request.Remove p → ⊥)
-    → (r ≡ request.Step → ⊥) → (r ≡ request.Continue → ⊥) → ((a b : ℕ) → r ≡ request.Range a b → ⊥) → is_plain r ≡ true
-only_these request.Registers a b c d e f g h i = absurd (a refl)
-only_these (request.Register n) a b c d e f g h i = absurd (b n refl)
-only_these (request.Memory x n) a b c d e f g h i = absurd (c x n refl)
-only_these (request.SetMemory x bytes) a b c d e f g h i = absurd (d x bytes refl)
-only_these (request.Insert p) a b c d e f g h i = absurd (e p refl)
-only_these (request.Remove p) a b c d e f g h i = absurd (f p refl)
-only_these request.Step a b c d e f g h i = absurd (g refl)
-only_these request.Continue a b c d e f g h i = absurd (h refl)
-only_these (request.Range x y) a b c d e f g h i = absurd (i x y refl)
-only_these _ a b c d e f g h i = refl
+    → ((a : ℕ) (bytes : List ℕ) → r ≡ request.SetMemory a bytes → ⊥) → ((n : ℕ) (bytes : List ℕ) → r ≡ request.SetRegister n bytes → ⊥)
+    → ((a n : ℕ) → r ≡ request.Features a n → ⊥) → ((line : List ℕ) → r ≡ request.Command line → ⊥)
+    → (r ≡ request.Offsets → ⊥) → (r ≡ request.FirstThreads → ⊥) → (r ≡ request.EndProgram → ⊥) → ((p : Point) → r ≡ request.Insert p → ⊥)
+    → ((p : Point) → r ≡ request.Remove p → ⊥) → (r ≡ request.Step → ⊥) → (r ≡ request.Continue → ⊥) → ((a b : ℕ) → r ≡ request.Range a b → ⊥) → is_plain r ≡ true
+only_these request.Registers a b c d e g h i j k l m o q u = absurd (a refl)
+only_these (request.Register n) a b c d e g h i j k l m o q u = absurd (b n refl)
+only_these (request.Memory x n) a b c d e g h i j k l m o q u = absurd (c x n refl)
+only_these (request.SetMemory x bytes) a b c d e g h i j k l m o q u = absurd (d x bytes refl)
+only_these (request.SetRegister n bytes) a b c d e g h i j k l m o q u = absurd (e n bytes refl)
+only_these (request.Features x n) a b c d e g h i j k l m o q u = absurd (g x n refl)
+only_these (request.Command line) a b c d e g h i j k l m o q u = absurd (h line refl)
+only_these request.Offsets a b c d e g h i j k l m o q u = absurd (i refl)
+only_these request.FirstThreads a b c d e g h i j k l m o q u = absurd (j refl)
+only_these request.EndProgram a b c d e g h i j k l m o q u = absurd (k refl)
+only_these (request.Insert p) a b c d e g h i j k l m o q u = absurd (l p refl)
+only_these (request.Remove p) a b c d e g h i j k l m o q u = absurd (m p refl)
+only_these request.Step a b c d e g h i j k l m o q u = absurd (o refl)
+only_these request.Continue a b c d e g h i j k l m o q u = absurd (q refl)
+only_these (request.Range x y) a b c d e g h i j k l m o q u = absurd (u x y refl)
+only_these _ a b c d e g h i j k l m o q u = refl
 
 -- steps, where breakpoints and machine are known to be these
 pub goes_as : (ps qs : List ℕ) (span : Option Span) (m s : State) (most : ℕ) (why : Option Stop) (t : State) → Continues ps span m most why t → ps ≡ qs → m ≡ s
@@ -51,3 +64,33 @@ goes_as ps qs span m s most why t h e f =
 pub if_ok_both : {A E : Type 0} → (r : Result A E) (P : Type 0) (Q R : A → Type 0) → ((x : A) → P → Q x → R x) → OnOk r P → IfOk r Q → IfOk r R
 if_ok_both (Ok x) P Q R f h k = f x h k
 if_ok_both (Err e) P Q R f h k = tt
+
+-- the session after steps, where what changed is known
+pub gone_as : (s a b : Served) (m : State) (told said : Reply) → a ≡ at_state s m → b ≡ record a { ended = is_exit told } → told ≡ said → b ≡ gone s said m
+gone_as s a b m told said e f g =
+    f ∙ ap (λ (x : Served). record x { ended = is_exit told }) e ∙ ap (λ (x : Reply). record (at_state s m) { ended = is_exit x }) g
+
+-- a command that shows something shows it, and changes nothing
+pub shown_only : (c : Command) (s t : Debugged) (text : List ℕ) → is_shown c ≡ true → Does s c text t → Displays s c text × (t ≡ s)
+shown_only c s t text h (shows _ _ displays) = (displays, refl)
+shown_only _ s t text h (goes n _ u x) = absurd cc
+shown_only _ s t text h (traces n _ u x) = absurd cc
+shown_only _ s t text h (sets a) = absurd cc
+shown_only _ s t text h (clears a) = absurd cc
+shown_only _ s t text h (enters a typed) = absurd cc
+
+-- nor if it is cut off
+pub cut_only : (c : Command) (s t : Debugged) → is_shown c ≡ true → DoesPart s c t → t ≡ s
+cut_only c s t h (nothing _) = refl
+cut_only _ s t h (ran n why u r) = absurd cc
+cut_only _ s t h (traced n u r) = absurd cc
+
+-- steps up to one that is wanted, where what is known is of the session as it was read
+pub goes_to_as : (a s : Served) (x : Debugged) (most : ℕ) (line : List ℕ) (n here : ℕ) (why : Stop) (told : Reply) → a ≡ s → step_of line ≡ Some n → here ≡ a.session.machine.steps → here ≤ n
+    → IsRun a.session.machine (n - here) why x.machine → x.points ≡ a.session.points → told ≡ stepped_reply why
+    → Replies s most (request.Command line) told (record a { session = x })
+goes_to_as a s x most line n here why told e is at le went f g =
+    subst (λ (y : Served). Replies y most (request.Command line) told (record a { session = x })) e
+    (replies_as a (record a { session = x }) (at_state a x.machine) most (request.Command line) (request.Command line) told (stepped_reply why)
+    (goes_to line n why x.machine is (subst (λ (k : ℕ). k ≤ n) at le) (subst (λ (k : ℕ). IsRun a.session.machine (n - k) why x.machine) at went)) refl g
+    (ap (λ ps. record a { session = record { machine = x.machine; points = ps } }) f))

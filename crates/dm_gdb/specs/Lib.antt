@@ -1,5 +1,10 @@
 pub mod Memory
 pub mod Registers
+pub mod Settings
+pub mod Description
 pub mod Going
+pub mod Monitor
 pub mod Replies
 pub mod Servers
+pub mod Connections
+pub mod inner

@@ -1,7 +1,8 @@
 -- Replies, and their texts.
--- Source: GDB manual, "GDB Remote Serial Protocol", "Stop Reply Packets", "General Query Packets" and "vCont". Which stop
--- is which signal is this server's own choice.
-use Rattle.std.specs.Prelude.{ℕ, List, [], ◌∷◌, codes}
+-- Source: GDB manual, "GDB Remote Serial Protocol", "Stop Reply Packets", "General Query Packets" (`qOffsets`,
+-- `qXfer`, `qRcmd`) and "vCont". Which stop is which signal, and what `qRcmd` prints, is this server's own choice.
+use Rattle.std.specs.Prelude.{ℕ, List, [], ◌∷◌, ◌++◌, codes}
+use Rattle.std.specs.Int.{to_be_bytes, w32}
 use Rattle.hex.specs.Hex.{encode_lower}
 use Rattle.dm_state.specs.declared.stop.Stop.{Stop}
 use Rattle.dm_state.specs.declared.stop.Stop.TheVariants as stop
@@ -22,6 +23,18 @@ stop_reply stop.Memory = reply.Signal 0x1E
 abbrev pub hex_text : ℕ → ℕ → List ℕ
 hex_text letter number = letter ∷ encode_lower (number ∷ [])
 
+-- a name, and the linear address of a segment in eight digits
+abbrev pub place_text : List ℕ → ℕ → List ℕ
+place_text name base = name ++ encode_lower (to_be_bytes w32 base)
+
+-- the places of data and of empty data
+unfoldable pub data_text : ℕ → List ℕ
+data_text base = place_text (codes ";Data=") base ++ place_text (codes ";Bss=") base
+
+-- the places of code, data and empty data: all are the linear address of the program's first segment
+unfoldable pub offsets_text : ℕ → List ℕ
+offsets_text base = place_text (codes "Text=") base ++ data_text base
+
 -- the text of a reply, without the frame of its packet
 abbrev pub reply_text : Reply → List ℕ
 reply_text reply.Unknown = []
@@ -31,7 +44,13 @@ reply_text (reply.Signal number) = hex_text 84 number
 reply_text reply.Breakpoint = codes "T05swbreak:;"
 reply_text (reply.Exited code) = hex_text 87 code
 reply_text (reply.Bytes bytes) = encode_lower bytes
-reply_text reply.Abilities = codes "PacketSize=4000;swbreak+;QStartNoAckMode+;vContSupported+"
+reply_text reply.Help = encode_lower (codes "monitor takes R, U, D, M, P, X, O and step N" ++ 10 ∷ [])
+reply_text reply.Passed = encode_lower (codes "this step has passed" ++ 10 ∷ [])
+reply_text reply.StoppedBefore = encode_lower (codes "the program has stopped before" ++ 10 ∷ [])
+reply_text reply.Abilities = codes "PacketSize=4000;qXfer:features:read+;swbreak+;hwbreak+;QStartNoAckMode+;vContSupported+"
+reply_text (reply.Part bytes) = 109 ∷ bytes
+reply_text (reply.Rest bytes) = 108 ∷ bytes
+reply_text (reply.Offsets base) = offsets_text base
 reply_text reply.ContinueKinds = codes "vCont;c;C;s;S;r"
 reply_text reply.CurrentThread = codes "QC1"
 reply_text reply.Threads = codes "m1"

@@ -8,7 +8,11 @@ use Rattle.dm_state.specs.State.{State}
 use Rattle.dm_space.specs.Memory.{Memory}
 use Rattle.dm_space.specs.Buffers.{with_bytes}
 use Rattle.dm_debug.specs.Debugged.{Debugged}
-use Rattle.dm_debug.specs.Sessions.{new_session, with_machine}
+use Rattle.dm_debug.specs.Sessions.{Displays, new_session, with_machine}
+use Rattle.dm_command.specs.declared.command.Command.{Command}
+use Rattle.dm_command.specs.Commands.{command_of}
+use Rattle.dm_cpu.specs.declared.cpu.Cpu.{Cpu}
+use Rattle.dm_machine.specs.Run.{IsRun}
 use Rattle.dm_requests.specs.declared.request.Access.{Access}
 use Rattle.dm_requests.specs.declared.request.Access.TheVariants.{Execute}
 use Rattle.dm_requests.specs.declared.request.Point.{Point}
@@ -18,18 +22,29 @@ use Rattle.dm_gdb.specs.declared.replies.Reply.{Reply}
 use Rattle.dm_gdb.specs.declared.replies.Reply.TheVariants as reply
 use Rattle.dm_gdb.specs.Memory.{byte_at, segment_below, readable, bytes_from}
 use Rattle.dm_gdb.specs.Registers.{has_register, register_bytes, all_registers}
+use Rattle.dm_gdb.specs.Settings.{registers_with}
+use Rattle.dm_gdb.specs.Description.{features_reply}
+use Rattle.dm_gdb.specs.Monitor.{is_shown, is_shown_line, step_of, text_reply, stepped_reply}
 use Rattle.dm_gdb.specs.Going.{is_among, place_of, Continues}
 use Rattle.dm_gdb.specs.Replies.{stop_reply}
 
--- the session of the debugger, the linear addresses of breakpoints, and how many bytes of the console's output were sent
+-- the session of the debugger, the linear addresses of breakpoints, how many bytes of the console's output were sent, the
+-- linear address of the program's first segment, and whether the program has ended, or the debugger has ended it
 pub record Served : Type 0 where
   pub session : Debugged
   pub points : List ℕ
   pub shown : ℕ
+  pub base : ℕ
+  pub ended : Bool
 
--- the session over a machine, without breakpoints
+-- the linear address of the program's first segment, by the registers with which it starts: that of the program segment
+-- prefix, where DS points, for a COM program; ten paragraphs more for an MZ program, whose image lies behind the prefix
+abbrev pub base_of : Cpu → ℕ
+base_of c = if c.cs == c.ds then c.ds * 16 else (c.ds + 0x10) * 16
+
+-- the session over a machine on which a program was loaded, without breakpoints
 abbrev pub new_server : State → Served
-new_server m = record { session = new_session m; points = []; shown = 0 }
+new_server m = record { session = new_session m; points = []; shown = 0; base = base_of m.cpu; ended = false }
 
 -- the reply to a request that asks for nothing of the machine, or for nothing that this server has
 abbrev pub plain_reply : Request → Reply
@@ -37,7 +52,6 @@ plain_reply request.Why = reply.Signal 0x05
 plain_reply request.Supported = reply.Abilities
 plain_reply request.Attached = reply.Started
 plain_reply request.CurrentThread = reply.CurrentThread
-plain_reply request.FirstThreads = reply.Threads
 plain_reply request.MoreThreads = reply.NoMoreThreads
 plain_reply request.ContinueKinds = reply.ContinueKinds
 plain_reply request.Symbols = reply.Done
@@ -119,6 +133,33 @@ with_inserted s point = if is_execute point.access then record s { points = with
 abbrev pub with_removed : Served → Point → Served
 with_removed s point = if is_execute point.access then record s { points = without_point s.points point.address } else s
 
+-- whether the reply says that the program has ended
+abbrev pub is_exit : Reply → Bool
+is_exit (reply.Exited code) = true
+is_exit _ = false
+
+-- the session after steps with this reply: with t as the state of its machine
+abbrev pub gone : Served → Reply → State → Served
+gone s told t = record s { session = with_machine s.session t; ended = is_exit told }
+
+-- the threads: one, and none once the program has ended
+abbrev pub threads_reply : Bool → Reply
+threads_reply ended = if ended then reply.NoMoreThreads else reply.Threads
+
+-- the registers with one set to bytes; None if it cannot be set to them
+abbrev pub registers_after : State → ℕ → List ℕ → Option Cpu
+registers_after m n bytes = registers_with m.memory m.cpu n bytes
+
+-- the reply where registers were set to these; an error for None
+abbrev pub setting_reply : Option Cpu → Reply
+setting_reply None = reply.Refused 0x01
+setting_reply (Some c) = reply.Done
+
+-- the session with these registers; as it is for None
+abbrev pub with_registers : Served → Option Cpu → Served
+with_registers s None = s
+with_registers s (Some c) = at_state s (record s.session.machine { cpu = c })
+
 -- whether the request asks for nothing of the machine, or for nothing that this server has, as steps back
 abbrev pub is_plain : Request → Bool
 is_plain request.Registers = false
@@ -127,6 +168,12 @@ is_plain (request.Memory address count) = false
 is_plain (request.SetMemory address bytes) = false
 is_plain (request.Insert point) = false
 is_plain (request.Remove point) = false
+is_plain (request.SetRegister n bytes) = false
+is_plain (request.Features offset count) = false
+is_plain request.Offsets = false
+is_plain (request.Command line) = false
+is_plain request.FirstThreads = false
+is_plain request.EndProgram = false
 is_plain request.Step = false
 is_plain request.Continue = false
 is_plain (request.Range start end) = false
@@ -143,10 +190,22 @@ pub data Replies (s : Served) (most : ℕ) : Request → Reply → Served → Ty
   out_of_reach : (address : ℕ) (bytes : List ℕ) → (0x10FFEF < address) ⊎ (0x10FFF0 < address + length bytes) → Replies s most (request.SetMemory address bytes) (reply.Refused 0x0E) s
   inserts : (point : Point) → Replies s most (request.Insert point) (point_reply point.access) (with_inserted s point)
   removes : (point : Point) → Replies s most (request.Remove point) (point_reply point.access) (with_removed s point)
-  steps : (why : Option Stop) (t : State) → Continues s.points None s.session.machine 1 why t → Replies s most request.Step (step_reply s.points why t) (at_state s t)
-  continues : (why : Option Stop) (t : State) → Continues s.points None s.session.machine most why t → Replies s most request.Continue (arrival_reply s.points why t) (at_state s t)
+  sets : (n : ℕ) (bytes : List ℕ) → Replies s most (request.SetRegister n bytes) (setting_reply (registers_after s.session.machine n bytes)) (with_registers s (registers_after s.session.machine n bytes))
+  describes : (offset count : ℕ) → Replies s most (request.Features offset count) (features_reply offset count) s
+  places : Replies s most request.Offsets (reply.Offsets s.base) s
+  threads : Replies s most request.FirstThreads (threads_reply s.ended) s
+  ends : Replies s most request.EndProgram reply.Done (record s { ended = true })
+  shows : (line : List ℕ) (command : Command) (text : List ℕ) → step_of line ≡ None → command_of line ≡ Some command → is_shown command ≡ true → Displays s.session command text
+      → Replies s most (request.Command line) (text_reply text) s
+  helps : (line : List ℕ) → step_of line ≡ None → is_shown_line (command_of line) ≡ false → Replies s most (request.Command line) reply.Help s
+  goes_to : (line : List ℕ) (n : ℕ) (why : Stop) (t : State) → step_of line ≡ Some n → s.session.machine.steps ≤ n → IsRun s.session.machine (n - s.session.machine.steps) why t
+      → Replies s most (request.Command line) (stepped_reply why) (at_state s t)
+  has_passed : (line : List ℕ) (n : ℕ) → step_of line ≡ Some n → n < s.session.machine.steps → Replies s most (request.Command line) reply.Passed s
+  steps : (why : Option Stop) (t : State) → Continues s.points None s.session.machine 1 why t → Replies s most request.Step (step_reply s.points why t) (gone s (step_reply s.points why t) t)
+  continues : (why : Option Stop) (t : State) → Continues s.points None s.session.machine most why t
+      → Replies s most request.Continue (arrival_reply s.points why t) (gone s (arrival_reply s.points why t) t)
   ranges : (start end : ℕ) (why : Option Stop) (t : State) → Continues s.points (Some (record { start = start; end = end })) s.session.machine most why t
-      → Replies s most (request.Range start end) (step_reply s.points why t) (at_state s t)
+      → Replies s most (request.Range start end) (step_reply s.points why t) (gone s (step_reply s.points why t) t)
 
 -- the packet of console output that was not sent yet: `O` and the bytes in hexadecimal
 abbrev pub console_text : Served → List ℕ

@@ -4,12 +4,18 @@
 #![tactic(auto)]
 
 mod answers;
+mod connection;
+mod description;
 mod digits;
 mod going;
 mod memory;
+mod monitor;
 mod registers;
 mod replies;
 mod server;
+mod settings;
+mod texts;
 
+pub use connection::Connection;
 pub use replies::{Reply, put_reply};
 pub use server::Server;

@@ -1,7 +1,7 @@
 //! Replies, and their texts.
 
-ghost use Rattle.std.specs.Prelude.{◌≡◌, ◌++◌, OnOk};
-ghost use Rattle.dm_gdb.specs.Replies.{hex_text, reply_text, stop_reply};
+ghost use Rattle.std.specs.Prelude.{◌≡◌, ◌++◌, ◌∷◌, OnOk};
+ghost use Rattle.dm_gdb.specs.Replies.{data_text, hex_text, offsets_text, place_text, reply_text, stop_reply};
 
 use crate::digits::put_hex;
 use dm_machine::Stop;
@@ -34,7 +34,19 @@ pub enum Reply {
     Exited(u8),
     /// Bytes, in two digits each.
     Bytes(Payload),
-    /// `PacketSize=4000;swbreak+;QStartNoAckMode+;vContSupported+`: what the server can do.
+    /// The text of the commands that `qRcmd` takes, in two digits a byte.
+    Help,
+    /// The text for a step that has passed, in two digits a byte.
+    Passed,
+    /// The text for a program that has stopped before the step that is wanted, in two digits a byte.
+    StoppedBefore,
+    /// `m` and bytes: a part of the description of the registers, after which there is more.
+    Part(Payload),
+    /// `l` and bytes: the last part of the description of the registers.
+    Rest(Payload),
+    /// `Text=B;Data=B;Bss=B`, B in eight digits: the linear address of the program's first segment.
+    Offsets(u32),
+    /// `PacketSize=4000;qXfer:features:read+;swbreak+;hwbreak+;QStartNoAckMode+;vContSupported+`: what the server can do.
     Abilities,
     /// `vCont;c;C;s;S;r`: the ways to go on.
     ContinueKinds,
@@ -71,6 +83,40 @@ fn put_number(alloc: Global, out: &mut Vec<u8>, letter: u8, number: u8) -> Resul
     put_hex(alloc, out, &[number])
 }
 
+/// Appends a name, and the linear address of a segment in eight digits. An `Err` is a failed allocation.
+fn put_place(alloc: Global, out: &mut Vec<u8>, name: &[u8], base: u32) -> Result<(), AllocError>
+    ensures { OnOk result (out.new.items ≡ out.old.items ++ place_text name.now base) }
+{
+    out.extend_from_slice(name)?;
+    put_hex(alloc, out, &base.to_be_bytes())
+}
+
+/// Appends the places of data and of empty data. An `Err` is a failed allocation.
+#[tactic(auto, unfolding(crate::specs::Replies::data_text))]
+fn put_data_places(alloc: Global, out: &mut Vec<u8>, base: u32) -> Result<(), AllocError>
+    ensures { OnOk result (out.new.items ≡ out.old.items ++ data_text base) }
+{
+    put_place(alloc, out, b";Data=", base)?;
+    put_place(alloc, out, b";Bss=", base)
+}
+
+/// Appends the places of code, data and empty data, which are one address. An `Err` is a failed allocation.
+#[tactic(auto, unfolding(crate::specs::Replies::offsets_text))]
+fn put_offsets(alloc: Global, out: &mut Vec<u8>, base: u32) -> Result<(), AllocError>
+    ensures { OnOk result (out.new.items ≡ out.old.items ++ offsets_text base) }
+{
+    put_place(alloc, out, b"Text=", base)?;
+    put_data_places(alloc, out, base)
+}
+
+/// Appends a letter and bytes as they are. An `Err` is a failed allocation.
+fn put_part(out: &mut Vec<u8>, letter: u8, bytes: &[u8]) -> Result<(), AllocError>
+    ensures { OnOk result (out.new.items ≡ out.old.items ++ letter ∷ bytes.now) }
+{
+    out.extend_from_slice(&[letter])?;
+    out.extend_from_slice(bytes)
+}
+
 /// Appends the text of a reply, without the frame of its packet. An `Err` is a failed allocation; a first part may have
 /// been appended.
 pub fn put_reply(alloc: Global, out: &mut Vec<u8>, reply: &Reply) -> Result<(), AllocError>
@@ -84,9 +130,15 @@ pub fn put_reply(alloc: Global, out: &mut Vec<u8>, reply: &Reply) -> Result<(), 
         Reply::Breakpoint => out.extend_from_slice(b"T05swbreak:;"),
         Reply::Exited(code) => put_number(alloc, out, b'W', *code),
         Reply::Bytes(bytes) => put_hex(alloc, out, bytes.as_slice()),
+        Reply::Help => put_hex(alloc, out, b"monitor takes R, U, D, M, P, X, O and step N\n"),
+        Reply::Passed => put_hex(alloc, out, b"this step has passed\n"),
+        Reply::StoppedBefore => put_hex(alloc, out, b"the program has stopped before\n"),
         Reply::Abilities => out.extend_from_slice(
-            b"PacketSize=4000;swbreak+;QStartNoAckMode+;vContSupported+",
+            b"PacketSize=4000;qXfer:features:read+;swbreak+;hwbreak+;QStartNoAckMode+;vContSupported+",
         ),
+        Reply::Part(bytes) => put_part(out, b'm', bytes.as_slice()),
+        Reply::Rest(bytes) => put_part(out, b'l', bytes.as_slice()),
+        Reply::Offsets(base) => put_offsets(alloc, out, *base),
         Reply::ContinueKinds => out.extend_from_slice(b"vCont;c;C;s;S;r"),
         Reply::CurrentThread => out.extend_from_slice(b"QC1"),
         Reply::Threads => out.extend_from_slice(b"m1"),

@@ -3,16 +3,18 @@
 ghost use Rattle.std.specs.Prelude.{◌≡◌, ◌≤◌, ◌<◌, ◌+◌, ◌==◌, ℕ, OnOk, OnErr, IfOk, IfSome, length, position};
 ghost use Rattle.dm_state.specs.State.{HasProgram};
 ghost use Rattle.dm_gdb.specs.Going.{Continues};
-ghost use Rattle.dm_gdb.specs.Servers.{PutsConsole, Replies, arrival_reply, at_state, is_execute, new_server, plain_reply, point_reply, step_reply, with_inserted, with_point, with_removed, with_written, without_point, written, written_reply};
+ghost use Rattle.dm_gdb.specs.Servers.{PutsConsole, Replies, arrival_reply, at_state, base_of, is_execute, is_exit, new_server, plain_reply, point_reply, setting_reply, step_reply, threads_reply, with_inserted, with_point, with_registers, with_removed, with_written, without_point, written, written_reply};
 
 use crate::answers::{memory_reply, reads_as, register_reply};
+use crate::description::features_reply;
 use crate::digits::put_hex;
 use crate::going::{Span, go_on, is_among, place_of};
 use crate::memory::{LAST, segment_below};
 use crate::registers::all_registers;
+use crate::settings::registers_with;
 use crate::replies::{BAD, NO_MEMORY, Reply, stop_reply};
 use dm_debug::Session;
-use dm_machine::{Machine, Stop};
+use dm_machine::{Cpu, Machine, Stop};
 use dm_packets::Payload;
 use dm_requests::{Access, Point, Request};
 use std::alloc::{AllocError, Global};
@@ -21,13 +23,16 @@ use std::marker::Model;
 /// A machine that is debugged over the protocol: with its breakpoints, by linear addresses, and how much of the console's
 /// output the debugger was sent.
 ///
-/// Contracts see the session of the debugger, the addresses, and how many bytes of output were sent.
+/// Contracts see the session of the debugger, the addresses, how many bytes of output were sent, the linear address of the
+/// program's first segment, and whether the program has ended.
 #[derive(Drop)]
 pub struct Server {
-    alloc: Global,
-    session: Session,
+    pub(crate) alloc: Global,
+    pub(crate) session: Session,
     points: Vec<u32>,
     shown: usize,
+    base: u32,
+    is_ended: bool,
 }
 
 impl Model for Server {
@@ -35,7 +40,7 @@ impl Model for Server {
 
     ghost Value = { Served };
 
-    ghost view = { λ s. record { session = s.session; points = s.points.items; shown = s.shown } };
+    ghost view = { λ s. record { session = s.session; points = s.points.items; shown = s.shown; base = s.base; ended = s.is_ended } };
 }
 
 /// The reply to a request that asks for nothing of the machine, or for nothing that this server has.
@@ -47,7 +52,6 @@ fn plain_reply(request: &Request) -> Reply
         Request::Supported => Reply::Abilities,
         Request::Attached => Reply::Started,
         Request::CurrentThread => Reply::CurrentThread,
-        Request::FirstThreads => Reply::Threads,
         Request::MoreThreads => Reply::NoMoreThreads,
         Request::ContinueKinds => Reply::ContinueKinds,
         Request::Symbols => Reply::Done,
@@ -106,17 +110,52 @@ fn is_execute(access: Access) -> bool
     }
 }
 
+/// The threads: one, and none once the program has ended.
+fn threads_reply(is_ended: bool) -> Reply
+    ensures { result ≡ threads_reply is_ended }
+{
+    if is_ended {
+        Reply::NoMoreThreads
+    } else {
+        Reply::Threads
+    }
+}
+
+/// Whether the reply says that the program has ended.
+fn is_exit(reply: &Reply) -> bool
+    ensures { result ≡ is_exit reply.now }
+{
+    match reply {
+        Reply::Exited(_) => true,
+        _ => false,
+    }
+}
+
+/// The linear address of a program's first segment, by the registers with which it starts.
+fn base_of(cpu: &Cpu) -> u32
+    ensures { result ≡ base_of cpu.now }
+{
+    if cpu.cs == cpu.ds {
+        cpu.ds as u32 * 16
+    } else {
+        (cpu.ds as u32 + 0x10) * 16
+    }
+}
+
 impl Server {
-    /// A session over a machine on which a program is loaded, without breakpoints.
+    /// A session over a machine on which a program was loaded and has made no step, without breakpoints.
     pub fn new(alloc: Global, machine: Machine) -> Server
         requires { HasProgram machine }
         ensures { result ≡ new_server machine }
     {
+        let base = base_of(&machine.cpu());
         Server {
             alloc,
             session: Session::new(machine),
             points: Vec::new(alloc),
             shown: 0,
+            base,
+            is_ended: false,
         }
     }
 
@@ -213,6 +252,29 @@ impl Server {
         }
     }
 
+    /// Sets the registers to these, and returns the reply; for None, an error.
+    fn set_cpu(&mut self, cpu: Option<Cpu>) -> Reply
+        ensures after { self.new ≡ with_registers self.old cpu }
+        ensures reply { result ≡ setting_reply cpu }
+    {
+        match cpu {
+            None => Reply::Refused(BAD),
+            Some(cpu) => {
+                self.session.set_registers(cpu);
+                Reply::Done
+            }
+        }
+    }
+
+    /// `P`: sets a register to bytes, and returns the reply.
+    fn set_register(&mut self, number: u32, bytes: &[u8]) -> Reply
+        ensures { (most : ℕ) → Replies self.old most (Request.SetRegister number bytes.now) result self.new }
+    {
+        let machine = self.session.machine();
+        let cpu = registers_with(machine.space(), machine.cpu(), number, bytes);
+        self.set_cpu(cpu)
+    }
+
     /// Executes a request, and returns what is replied. A way to go on makes at most `most` steps. A breakpoint is at a
     /// linear address, whatever the segment; a step that leads to one is replied as a breakpoint, in `s` too. The bytes of
     /// `M` to ROM, or where there is no memory, are lost, and the others are written. Memory is read and written as a
@@ -238,6 +300,15 @@ impl Server {
                 memory_reply(self.alloc, self.session.machine().space(), *address, *count)
             }
             Request::SetMemory(address, bytes) => Ok(self.set_memory(*address, bytes.as_slice())),
+            Request::SetRegister(number, bytes) => Ok(self.set_register(*number, bytes.as_slice())),
+            Request::Features(offset, count) => features_reply(self.alloc, *offset, *count),
+            Request::Command(line) => self.monitor(line.as_slice()),
+            Request::Offsets => Ok(Reply::Offsets(self.base)),
+            Request::FirstThreads => Ok(threads_reply(self.is_ended)),
+            Request::EndProgram => {
+                self.is_ended = true;
+                Ok(Reply::Done)
+            }
             Request::Insert(point) => self.insert(*point),
             Request::Remove(point) => Ok(self.remove(*point)),
             Request::Step => Ok(self.step()),
@@ -247,12 +318,22 @@ impl Server {
         }
     }
 
+    /// Notes whether the program has ended with this reply, and returns the reply.
+    fn noted(&mut self, reply: Reply) -> Reply
+        ensures after { self.new ≡ record self.old { ended = is_exit reply } }
+        ensures reply { result ≡ reply }
+    {
+        self.is_ended = is_exit(&reply);
+        reply
+    }
+
     /// `s`: one step, or why there was none.
     fn step(&mut self) -> Reply
         ensures { (most : ℕ) → Replies self.old most Request.Step result self.new }
     {
         let stop = self.go(1, None);
-        step_reply(self.points.as_slice(), stop, self.session.machine())
+        let reply = step_reply(self.points.as_slice(), stop, self.session.machine());
+        self.noted(reply)
     }
 
     /// `c`: at most `most` steps, up to a breakpoint or a stop.
@@ -260,7 +341,8 @@ impl Server {
         ensures { Replies self.old most Request.Continue result self.new }
     {
         let stop = self.go(most, None);
-        arrival_reply(self.points.as_slice(), stop, self.session.machine())
+        let reply = arrival_reply(self.points.as_slice(), stop, self.session.machine());
+        self.noted(reply)
     }
 
     /// `vCont;r`: at most `most` steps, up to a breakpoint, the end of the range or a stop.
@@ -268,7 +350,8 @@ impl Server {
         ensures { Replies self.old most (Request.Range start end) result self.new }
     {
         let stop = self.go(most, Some(Span { start, end }));
-        step_reply(self.points.as_slice(), stop, self.session.machine())
+        let reply = step_reply(self.points.as_slice(), stop, self.session.machine());
+        self.noted(reply)
     }
 
     /// Appends the packet of console output that the debugger was not sent yet, `O` and the bytes in two digits each, and

@@ -2,7 +2,7 @@
 //! manual, "GDB Remote Serial Protocol", "Packets", "Stop Reply Packets").
 use crate::checks::same_of;
 use crate::machines::loaded_as;
-use dm_gdb::{Server, put_reply};
+use dm_gdb::{Connection, Server, put_reply};
 use dm_requests::read_request;
 use std::alloc::Global;
 use std::process::Abort;
@@ -21,7 +21,7 @@ const LOOP: &[u8] = b"\xEB\xFE";
 type Row<'a> = (&'a str, &'a str);
 
 /// Registers and memory at the start: SP is FFFEh, so that ESP is 1030h + FFFEh.
-const START: [Row; 18] = [
+const START: [Row; 24] = [
     ("?", "T05"),
     ("p8", "30110000"),
     ("pa", "03010000"),
@@ -40,11 +40,90 @@ const START: [Row; 18] = [
     ("M10fff0,0:", "E0e"),
     ("qC", "QC1"),
     ("vMustReplyEmpty", ""),
+    ("qfThreadInfo", "m1"),
+    ("qOffsets", "Text=00001030;Data=00001030;Bss=00001030"),
+    ("qXfer:features:read:target.xml:0,8", "m<target "),
+    ("qXfer:features:read:target.xml:804,8", "m</target"),
+    ("qXfer:features:read:target.xml:804,9", "l</target>"),
+    ("qXfer:features:read:target.xml:ffffffff,ffffffff", "l"),
 ];
+
+/// Registers that are set: of AX the low word; EIP keeps CS (0103h, that is 1030h to 1102Fh) where it reaches, otherwise CS is
+/// the highest segment below; the flags are those of POPF. A20 is off, so that FFFF:FFFF is seen at 0FFEFh.
+const SETTINGS: [Row; 35] = [
+    ("P0=785634ff", "OK"),
+    ("p0", "78560000"),
+    ("P20=0500", "OK"),
+    ("p8", "35100000"),
+    ("P8=2f100100", "OK"),
+    ("pa", "03010000"),
+    ("p20", "ffff"),
+    ("P8=2f100000", "OK"),
+    ("pa", "02010000"),
+    ("p20", "0f00"),
+    ("P8=efff1000", "OK"),
+    ("pa", "ffff0000"),
+    ("p20", "ffff"),
+    ("p8", "efff0000"),
+    ("P8=efff0000", "OK"),
+    ("pa", "ffff0000"),
+    ("P8=f0ff1000", "E01"),
+    ("P8=00000000", "OK"),
+    ("pa", "00000000"),
+    ("p20", "0000"),
+    ("P4=30100000", "OK"),
+    ("pb", "03010000"),
+    ("p21", "0000"),
+    ("P21=feff", "OK"),
+    ("p4", "2e100100"),
+    ("P9=ff0f0000", "OK"),
+    ("p9", "d7ff0000"),
+    ("Pd=34120000", "OK"),
+    ("pd", "34120000"),
+    ("Pe=00000000", "E01"),
+    ("P10=00000000000000000000", "E01"),
+    ("P22=0000000000000000", "E01"),
+    ("P0=3412", "E01"),
+    ("P20=00000000", "E01"),
+    ("Gff", ""),
+];
+
+/// What `monitor` hands on: R, M, O where nothing was printed, an empty line, G, a step, a step that has passed, and one
+/// behind the end.
+const COMMANDS: [Row; 10] = [
+    (
+        "qRcmd,52",
+        "41583d303030302042583d303030302043583d303030302044583d303030302053503d464646452042503d303030302053493d303030302044493d303030300a44533d303130332045533d303130332053533d303130332043533d303130332049503d3031303020464c3d463230320a303130333a303130302042343039204d4f562041482c303039680a",
+    ),
+    (
+        "qRcmd,6d",
+        "30313030204d203031303320303030310a30313032205a203031303320394546440a656e640a",
+    ),
+    ("qRcmd,4f", "OK"),
+    (
+        "qRcmd,",
+        "6d6f6e69746f722074616b657320522c20552c20442c204d2c20502c20582c204f20616e642073746570204e0a",
+    ),
+    (
+        "qRcmd,47",
+        "6d6f6e69746f722074616b657320522c20552c20442c204d2c20502c20582c204f20616e642073746570204e0a",
+    ),
+    ("qRcmd,737465702032", "OK"),
+    ("p22", "0200000000000000"),
+    ("qRcmd,737465702031", "74686973207374657020686173207061737365640a"),
+    (
+        "qRcmd,73746570206666",
+        "7468652070726f6772616d206861732073746f70706564206265666f72650a",
+    ),
+    ("qRcmd,4F", "6869"),
+];
+
+/// The program is ended, and then there is no thread.
+const ENDED: [Row; 2] = [("vKill;1", "OK"), ("qfThreadInfo", "l")];
 
 /// A step, a breakpoint behind INT 21h, an edit of the exit code, the end, and requests after it: the machine stands at the
 /// entry point of INT 21h, F000:0084.
-const RUN: [Row; 17] = [
+const RUN: [Row; 18] = [
     ("s", "T05"),
     ("p0", "00090000"),
     ("p22", "0100000000000000"),
@@ -58,6 +137,7 @@ const RUN: [Row; 17] = [
     ("M1138,1:07", "OK"),
     ("m1137,3", "b8074c"),
     ("vCont;c", "W07"),
+    ("qfThreadInfo", "l"),
     ("s", "W07"),
     ("c", "W07"),
     ("pa", "00f00000"),
@@ -95,7 +175,8 @@ fn play(
     Ok(server)
 }
 
-/// Definitions: dm_gdb Servers Replies plain_reply register_reply memory_reply
+/// Definitions: dm_gdb Servers Replies plain_reply register_reply memory_reply base_of threads_reply
+/// Definitions: dm_gdb Description features_reply description
 /// Definitions: dm_gdb Registers register_bytes core_values
 /// Definitions: dm_gdb Memory readable byte_at
 #[test]
@@ -141,5 +222,60 @@ fn other_stops_are_signals(rt: HostRuntime) -> Result<(), Fail> {
         3,
         &[("vCont;r1130,1132", "T05"), ("p22", "0300000000000000")],
     )?;
+    Ok(())
+}
+
+/// Definitions: dm_gdb Servers registers_after setting_reply with_registers
+/// Definitions: dm_gdb Settings registers_with with_value place_for value_of
+#[test]
+fn registers_are_set(rt: HostRuntime) -> Result<(), Fail> {
+    play(&rt, rt.alloc(), HELLO, 100, &SETTINGS)?;
+    Ok(())
+}
+
+/// Definitions: dm_gdb Monitor is_shown step_of text_reply stepped_reply
+/// Definitions: dm_gdb Servers Replies
+#[test]
+fn commands_are_handed_on(rt: HostRuntime) -> Result<(), Fail> {
+    play(&rt, rt.alloc(), HELLO, 100, &COMMANDS)?;
+    play(&rt, rt.alloc(), HELLO, 100, &ENDED)?;
+    Ok(())
+}
+
+/// What a conversation sends for a stream, with at most `most` steps to a request; and whether it is over.
+fn sends(
+    rt: &impl Abort,
+    alloc: Global,
+    most: u64,
+    stream: &[u8],
+    (wanted, is_over): (&[u8], bool),
+) -> Result<(), Fail> {
+    let mut connection = Connection::new(alloc, loaded_as(alloc, b"HI.COM", HELLO, b"")?);
+    let mut sent = Vec::new(alloc);
+    for byte in stream {
+        connection.take(*byte, most, &mut sent)?;
+    }
+    same_of(rt, "a stream", "what is sent", sent.as_slice(), wanted);
+    same_of(rt, "a stream", "whether it is over", connection.is_over(), is_over);
+    Ok(())
+}
+
+/// Streams, and what is sent for them. The sums: qC is 71h + 43h = B4h, QC1 is 51h + 43h + 31h = C5h, c is 63h, O6869 is
+/// 4Fh + 36h + 38h + 36h + 39h = 12Ch, W00 is 57h + 60h = B7h, T0e is 54h + 30h + 65h = E9h, T02 is 54h + 30h + 32h = B6h.
+///
+/// Definitions: dm_gdb Connections Takes Hears Obeys replied console_packet is_kill is_detach is_quiet makes_steps
+#[test]
+fn streams_are_replied(rt: HostRuntime) -> Result<(), Fail> {
+    let alloc = rt.alloc();
+    sends(&rt, alloc, 9, b"+$qC#b4", (b"+$QC1#c5", false))?;
+    sends(&rt, alloc, 9, b"$qC#b5-", (b"-", false))?;
+    sends(&rt, alloc, 9, b"$qC#b4-", (b"+$QC1#c5$QC1#c5", false))?;
+    sends(&rt, alloc, 9, b"$c#63", (b"+$O6869#2c$W00#b7", false))?;
+    sends(&rt, alloc, 1, b"$c#63", (b"+$T0e#e9", false))?;
+    sends(&rt, alloc, 9, b"\x03$qC#b4$c#63", (b"+$QC1#c5+$T02#b6", false))?;
+    sends(&rt, alloc, 9, b"\x03$c#63$c#63", (b"+$T02#b6+$O6869#2c$W00#b7", false))?;
+    sends(&rt, alloc, 9, b"$k#6b", (b"+", true))?;
+    sends(&rt, alloc, 9, b"$D#44", (b"+$OK#9a", true))?;
+    sends(&rt, alloc, 9, b"$QStartNoAckMode#b0$qC#b5$qC#b4", (b"+$OK#9a$QC1#c5", false))?;
     Ok(())
 }

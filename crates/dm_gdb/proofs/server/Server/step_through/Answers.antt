@@ -1,11 +1,11 @@
 use Rattle.std.proofs.Common.{refl, ap, ◌∙◌}
 use Rattle.dm_gdb.specs.Servers.{Served, ranges}
-use Rattle.dm_gdb.proofs.Replying.{replies_as, step_told}
+use Rattle.dm_gdb.proofs.Replying.{replies_as, gone_as, step_told}
 use Rattle.dm_gdb.proofs.server.Server.step_through.Goals as goal
 
 pub returns : goal.returns
 returns c =
-    let told = step_told _ _ _ _ _ _ c.step_reply.ensures
+    let told = step_told _ _ _ _ _ _ c.step_reply-reply.ensures
     (c.as_slice.ensures.value ∙ ap (λ (s : Served). s.points) c.self.view_is ∙ ap (λ (s : Served). s.points) c.go-stop.ensures.same)
     (c.machine.ensures ∙ ap (λ (s : Served). s.session.machine) c.self.view_is) in
-    replies_as _ _ _ _ _ _ _ _ (ranges c.args.start c.args.end c.go-stop.result c.go-stop.new.self.session.machine c.go-stop.ensures.goes) refl told c.go-stop.ensures.same
+    replies_as _ _ _ _ _ _ _ _ (ranges c.args.start c.args.end c.go-stop.result c.go-stop.new.self.session.machine c.go-stop.ensures.goes) refl (c.noted.ensures.reply ∙ told) (gone_as c.args.self.now _ _ _ _ _ c.go-stop.ensures.same c.noted.ensures.after told)

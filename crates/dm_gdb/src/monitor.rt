@@ -1,0 +1,114 @@
+//! The debugger's own commands, which `monitor` hands on.
+
+ghost use Rattle.std.specs.Prelude.{◌≡◌, ℕ, Some, true, IfOk, OnErr};
+ghost use Rattle.dm_command.specs.Commands.{command_of};
+ghost use Rattle.dm_gdb.specs.Monitor.{is_shown, is_shown_line, step_of, stepped_reply, text_reply};
+ghost use Rattle.dm_gdb.specs.Servers.{Replies};
+ghost use Rattle.dm_gdb.specs.inner.Monitor.{ShowsLine};
+ghost use Rattle.dm_requests.specs.declared.request.Request.TheVariants as request;
+
+use crate::replies::Reply;
+use crate::server::Server;
+use crate::texts::Text;
+use dm_command::{Command, read_command, read_number};
+use dm_machine::Stop;
+use dm_packets::Payload;
+use std::alloc::{AllocError, Global};
+
+/// Whether a command shows something and changes nothing: R, U, D, M, P, X and O.
+fn is_shown(command: &Command) -> bool
+    ensures { result ≡ is_shown command.now }
+{
+    match command {
+        Command::Registers => true,
+        Command::Unassemble(_, _) => true,
+        Command::Dump(_, _) => true,
+        Command::Arena => true,
+        Command::Pages => true,
+        Command::Extended => true,
+        Command::Output => true,
+        _ => false,
+    }
+}
+
+/// Whether a line is such a command.
+fn is_shown_line(line: &[u8]) -> bool
+    ensures { result ≡ is_shown_line (command_of line.now) }
+{
+    match read_command(line) {
+        Some(command) => is_shown(&command),
+        None => false,
+    }
+}
+
+/// The number of `step N`, in hexadecimal; None for any other line.
+fn step_of(line: &[u8]) -> Option<u32>
+    ensures { result ≡ step_of line.now }
+{
+    read_number(line.strip_prefix(b"step ")?)
+}
+
+/// The reply that prints a text.
+fn text_reply(text: Vec<u8>) -> Reply
+    ensures { result ≡ text_reply text.items }
+{
+    if text.is_empty() {
+        return Reply::Done;
+    }
+    Reply::Bytes(Payload::new(text))
+}
+
+/// The reply where the steps up to the one that is wanted ended for this reason.
+fn stepped_reply(stop: Stop) -> Reply
+    ensures { result ≡ stepped_reply stop }
+{
+    match stop {
+        Stop::Steps => Reply::Done,
+        _ => Reply::StoppedBefore,
+    }
+}
+
+impl Server {
+    /// What a line prints that is a command which shows something. An `Err` is a failed allocation. Nothing changes.
+    fn show(&mut self, line: &[u8]) -> Result<Vec<u8>, AllocError>
+        requires { is_shown_line (command_of line.now) ≡ true }
+        ensures text { IfOk result (λ text. ShowsLine self.old line.now text.items) }
+        ensures same { self.new ≡ self.old }
+    {
+        let mut text = Text::new(self.alloc);
+        match self.session.command(self.alloc, line, &mut text) {
+            Ok(()) => Ok(text.into_bytes()),
+            Err(_) => Err(AllocError),
+        }
+    }
+
+    /// Makes steps up to the one with this number, and returns the reply.
+    fn go_to(&mut self, line: &[u8], number: u32) -> Reply
+        requires { step_of line.now ≡ Some number }
+        ensures { (most : ℕ) → Replies self.old most (request.Command line.now) result self.new }
+    {
+        let _line = line;
+        let here = self.session.machine().steps();
+        if (number as u64) < here {
+            return Reply::Passed;
+        }
+        let stop = self.session.run(number as u64 - here);
+        stepped_reply(stop)
+    }
+
+    /// `qRcmd`: does what the line says, and returns what is printed. An `Err` is a failed allocation, and nothing has
+    /// changed.
+    pub(crate) fn monitor(&mut self, line: &[u8]) -> Result<Reply, AllocError>
+        ensures ok { IfOk result (λ r. (most : ℕ) → Replies self.old most (request.Command line.now) r self.new) }
+        ensures err { OnErr result (self.new ≡ self.old) }
+    {
+        if let Some(number) = step_of(line) {
+            return Ok(self.go_to(line, number));
+        }
+        if !is_shown_line(line) {
+            return Ok(Reply::Help);
+        }
+        let text = self.show(line)?;
+        Ok(text_reply(text))
+    }
+}
