@@ -18,8 +18,7 @@ use Rattle.dm_gdb.specs.Servers.{Served, PutsConsole, Replies, console_text}
 pub some_console : (s t : Served) (text : List ℕ) → PutsConsole s [] true text t → (console_packet s ≡ frame_of text) × (all_shown s ≡ t)
 some_console s t text h =
     let some : nat_lt s.shown (length s.session.machine.console.output) ≡ true = grind (h.0, arith, nat_tests) in
-    let whole : max s.shown (length s.session.machine.console.output) ≡ length s.session.machine.console.output = max-eq_right (omega (arith, h.0)) in
-    (
+    let whole : max s.shown (length s.session.machine.console.output) ≡ length s.session.machine.console.output = max-eq_right (omega (arith, h.0)) in (
       ap (λ b. if b then frame_of (console_text s) else []) some ∙ ap frame_of (sym h.1),
       ap (λ n. record s { shown = n }) whole ∙ sym h.2,
     )
@@ -27,8 +26,7 @@ some_console s t text h =
 -- there was none
 pub no_console : (s t : Served) (text : List ℕ) → PutsConsole s [] false text t → (console_packet s ≡ []) × (all_shown s ≡ t)
 no_console s t text h =
-    let none : nat_lt s.shown (length s.session.machine.console.output) ≡ false = grind (h.0, arith, nat_tests) in
-    (
+    let none : nat_lt s.shown (length s.session.machine.console.output) ≡ false = grind (h.0, arith, nat_tests) in (
       ap (λ b. if b then frame_of (console_text s) else []) none,
       ap (λ n. record s { shown = n }) (max-eq_left h.0) ∙ sym h.2,
     )
@@ -50,17 +48,23 @@ killed a s most r e h = subst (λ (x : Connected). Obeys most x r [] (record a {
 pub stopped : (a s d : Connected) (most : ℕ) (r : Request) (out more : List ℕ) → a ≡ s → is_kill r ≡ false → (s.stopping && makes_steps r) ≡ true
     → more ≡ out ++ packet_of (reply.Signal 2) → d ≡ with_last (record a { stopping = false }) (packet_of (reply.Signal 2))
     → (x : List ℕ) × (more ≡ out ++ x) × Obeys most s r x d
-stopped a s d most r out more e other wanted sent is =
-    (packet_of (reply.Signal 2), sent, subst (λ (x : Connected). Obeys most s r (packet_of (reply.Signal 2)) x)
-    (sym (is ∙ ap (λ (x : Connected). with_last (record x { stopping = false }) (packet_of (reply.Signal 2))) e)) (stops other wanted))
+stopped a s d most r out more e other wanted sent is = (
+  packet_of (reply.Signal 2),
+  sent,
+  subst (λ (x : Connected). Obeys most s r (packet_of (reply.Signal 2)) x)
+      (sym (is ∙ ap (λ (x : Connected). with_last (record x { stopping = false }) (packet_of (reply.Signal 2))) e)) (stops other wanted),
+)
 
 -- a request that is answered
 pub answered : (a s d : Connected) (t : Served) (most : ℕ) (r : Request) (told : Reply) (out more : List ℕ) → a ≡ s → is_kill r ≡ false
     → (s.stopping && makes_steps r) ≡ false → Replies a.server most r told t → more ≡ out ++ (console_packet t ++ packet_of told)
     → d ≡ replied (record a { server = t }) r told t → (x : List ℕ) × (more ≡ out ++ x) × Obeys most s r x d
-answered a s d t most r told out more e other goes h sent is =
-    (console_packet t ++ packet_of told, sent, subst (λ (x : Connected). Obeys most s r (console_packet t ++ packet_of told) x)
-    (sym (is ∙ ap (λ (x : Connected). replied x r told t) e)) (answers told t other goes (subst (λ (x : Connected). Replies x.server most r told t) e h)))
+answered a s d t most r told out more e other goes h sent is = (
+  console_packet t ++ packet_of told,
+  sent,
+  subst (λ (x : Connected). Obeys most s r (console_packet t ++ packet_of told) x)
+      (sym (is ∙ ap (λ (x : Connected). replied x r told t) e)) (answers told t other goes (subst (λ (x : Connected). Replies x.server most r told t) e h)),
+)
 
 -- nothing is sent
 pub silent : (out : List ℕ) (P : List ℕ → Type 0) → P [] → (x : List ℕ) × (out ≡ out ++ x) × P x
@@ -89,9 +93,12 @@ heard_stop a s most what e is =
 -- a byte with which something is complete
 pub taken : (a s d : Connected) (m : Reading) (most byte : ℕ) (what : Received) (sent out more : List ℕ) → a ≡ s → received a.reading byte ≡ Some what → m ≡ after a.reading byte
     → more ≡ out ++ (receipt (record a { reading = m }) what ++ sent) → Hears most (record a { reading = m }) what sent d → (x : List ℕ) × (more ≡ out ++ x) × Takes most s byte x d
-taken a s d m most byte what sent out more e f g sent_is h =
-    (receipt a what ++ sent, sent_is, subst (λ (y : Connected). Takes most y byte (receipt a what ++ sent) d) e
-    (complete what sent d f (subst (λ (r : Reading). Hears most (record a { reading = r }) what sent d) g h)))
+taken a s d m most byte what sent out more e f g sent_is h = (
+  receipt a what ++ sent,
+  sent_is,
+  subst (λ (y : Connected). Takes most y byte (receipt a what ++ sent) d) e
+      (complete what sent d f (subst (λ (r : Reading). Hears most (record a { reading = r }) what sent d) g h)),
+)
 
 -- a byte with which nothing is complete
 pub kept : (a s : Connected) (m : Reading) (most byte : ℕ) → a ≡ s → received a.reading byte ≡ None → m ≡ after a.reading byte → Takes most s byte [] (record a { reading = m })

@@ -145,7 +145,12 @@ impl Connection {
 
     /// Appends the console output and the reply to a request to `out`, and does what the conversation is asked for. An `Err`
     /// is a failed allocation.
-    fn tell(&mut self, request: &Request, reply: &Reply, out: &mut Vec<u8>) -> Result<(), AllocError>
+    fn tell(
+        &mut self,
+        request: &Request,
+        reply: &Reply,
+        out: &mut Vec<u8>,
+    ) -> Result<(), AllocError>
         ensures sent { OnOk result (out.new.items ≡ out.old.items ++ (console_packet self.old.server ++ packet_of reply.now)) }
         ensures after { OnOk result (self.new ≡ replied self.old request.now reply.now self.old.server) }
     {

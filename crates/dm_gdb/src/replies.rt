@@ -130,7 +130,11 @@ pub fn put_reply(alloc: Global, out: &mut Vec<u8>, reply: &Reply) -> Result<(), 
         Reply::Breakpoint => out.extend_from_slice(b"T05swbreak:;"),
         Reply::Exited(code) => put_number(alloc, out, b'W', *code),
         Reply::Bytes(bytes) => put_hex(alloc, out, bytes.as_slice()),
-        Reply::Help => put_hex(alloc, out, b"monitor takes R, U, D, M, P, X, O and step N\n"),
+        Reply::Help => put_hex(
+            alloc,
+            out,
+            b"monitor takes R, U, D, M, P, X, O and step N\n",
+        ),
         Reply::Passed => put_hex(alloc, out, b"this step has passed\n"),
         Reply::StoppedBefore => put_hex(alloc, out, b"the program has stopped before\n"),
         Reply::Abilities => out.extend_from_slice(

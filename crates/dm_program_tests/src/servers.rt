@@ -110,7 +110,10 @@ const COMMANDS: [Row; 10] = [
     ),
     ("qRcmd,737465702032", "OK"),
     ("p22", "0200000000000000"),
-    ("qRcmd,737465702031", "74686973207374657020686173207061737365640a"),
+    (
+        "qRcmd,737465702031",
+        "74686973207374657020686173207061737365640a",
+    ),
     (
         "qRcmd,73746570206666",
         "7468652070726f6772616d206861732073746f70706564206265666f72650a",
@@ -256,7 +259,13 @@ fn sends(
         connection.take(*byte, most, &mut sent)?;
     }
     same_of(rt, "a stream", "what is sent", sent.as_slice(), wanted);
-    same_of(rt, "a stream", "whether it is over", connection.is_over(), is_over);
+    same_of(
+        rt,
+        "a stream",
+        "whether it is over",
+        connection.is_over(),
+        is_over,
+    );
     Ok(())
 }
 
@@ -272,10 +281,28 @@ fn streams_are_replied(rt: HostRuntime) -> Result<(), Fail> {
     sends(&rt, alloc, 9, b"$qC#b4-", (b"+$QC1#c5$QC1#c5", false))?;
     sends(&rt, alloc, 9, b"$c#63", (b"+$O6869#2c$W00#b7", false))?;
     sends(&rt, alloc, 1, b"$c#63", (b"+$T0e#e9", false))?;
-    sends(&rt, alloc, 9, b"\x03$qC#b4$c#63", (b"+$QC1#c5+$T02#b6", false))?;
-    sends(&rt, alloc, 9, b"\x03$c#63$c#63", (b"+$T02#b6+$O6869#2c$W00#b7", false))?;
+    sends(
+        &rt,
+        alloc,
+        9,
+        b"\x03$qC#b4$c#63",
+        (b"+$QC1#c5+$T02#b6", false),
+    )?;
+    sends(
+        &rt,
+        alloc,
+        9,
+        b"\x03$c#63$c#63",
+        (b"+$T02#b6+$O6869#2c$W00#b7", false),
+    )?;
     sends(&rt, alloc, 9, b"$k#6b", (b"+", true))?;
     sends(&rt, alloc, 9, b"$D#44", (b"+$OK#9a", true))?;
-    sends(&rt, alloc, 9, b"$QStartNoAckMode#b0$qC#b5$qC#b4", (b"+$OK#9a$QC1#c5", false))?;
+    sends(
+        &rt,
+        alloc,
+        9,
+        b"$QStartNoAckMode#b0$qC#b5$qC#b4",
+        (b"+$OK#9a$QC1#c5", false),
+    )?;
     Ok(())
 }

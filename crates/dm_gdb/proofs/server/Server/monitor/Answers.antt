@@ -12,4 +12,4 @@ pub returns-clause-ok : goal.returns-clause-ok
 returns-clause-ok c =
     let h = c.in_ok-text.ensures.text in
     λ most. replies_as _ _ _ most _ _ _ _ (shows c.args.line.now h.command c.in_ok-text.text.items (sym c.step_of.ensures ∙ c.in_default.is) h.read h.shown h.displays) refl
-        c.text_reply.ensures c.in_ok-text.ensures.same
+    c.text_reply.ensures c.in_ok-text.ensures.same
