@@ -94,6 +94,8 @@ class Unicorn:
         self.names = [getattr(x86_const, f"UC_X86_REG_{'EFLAGS' if name == 'flags' else name.upper()}") for name in WORDS]
         # The interrupt that the last instruction raised, if any, and the accesses of memory.
         self.interrupt, self.accesses = None, None
+        # (Else an interrupt would be taken for one within that before it.)
+        self.fresh = self.machine.context_save()
         self.machine.hook_add(unicorn.UC_HOOK_INTR, self._interrupted)
         for number, hook in ((x86_const.UC_X86_INS_IN, lambda uc, port, size, data: (1 << 8 * size) - 1), (x86_const.UC_X86_INS_OUT, lambda *_: None)):
             self.machine.hook_add(unicorn.UC_HOOK_INSN, hook, None, 1, 0, number)
@@ -124,6 +126,9 @@ class Unicorn:
     def step(self, state, until, count=1):
         """Makes an instruction, whose registers were set, with its repetitions where `count` is 0. It should lead to the linear address `until`, from which on
         nothing is translated: Unicorn does not bear all bytes. Returns the interrupt that it raised."""
+        if self.interrupt is not None:
+            self.machine.context_restore(self.fresh)
+            self.set(state)
         self.interrupt = None
         begin = 16 * state["cs"] + state["ip"]
         self.machine.emu_start(begin, 0xFFFFFFFF if until == begin else until, 0, count)
