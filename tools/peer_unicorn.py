@@ -24,6 +24,7 @@ LOWEST, HIGHEST = 0x1000, 0x8FFF
 BASE = 16 * LOWEST
 # Each interrupt leads to a place of its own below the cases.
 VECTORS = b"".join((4 * number + 0x100).to_bytes(2, "little") + (0x0800).to_bytes(2, "little") for number in range(256))
+RELATIVE = {*opcodes.CONDITIONS, "JMP", "CALL", "LOOP", "LOOPE", "LOOPNE", "JCXZ"}
 # What may raise an interrupt. Else an instruction leads to where our machine is after it.
 RAISING = {"DIV", "IDIV", "INT", "INT3", "INTO"}
 # What no other machine is needed for: HLT stops, and WAIT and ESC do nothing.
@@ -55,6 +56,9 @@ class Case:
             prefixes.append(numbers.choice(opcodes.SEGMENTS))
         numbers.shuffle(prefixes)
         body = opcodes.instruction(row, numbers)
+        if row.mnemonic in RELATIVE and int.from_bytes(body[1:], "little", signed=True) == -len(body):
+            # (Unicorn does not say where a jump to itself leads.)
+            body = body[:1] + bytes(len(body) - 1)
         # The byte of the mod and r/m fields, if there is one.
         self.modrm = body[1] if row.is_modrm else None
         self.code = bytes(prefixes) + body
