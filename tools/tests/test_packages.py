@@ -51,6 +51,7 @@ Usage: dm <COMMAND>
 Commands:
   run    Run a program
   debug  Debug a program
+  check  Check a program
 
 Options:
   -h, --help     Print help
@@ -89,8 +90,13 @@ def module(script):
 
 
 def faults_of_help(text):
-    """The faults where `dm run --help` prints a text, and `dm debug --help` the same with one option more."""
-    texts = {(): TOP, ("run",): text, ("debug",): text.replace("Options:\n", "Options:\n      --input <FILE>  The input\n")}
+    """The faults where `dm run --help` prints a text, and `dm debug --help` and `dm check --help` the same with one option more."""
+    texts = {
+        (): TOP,
+        ("run",): text,
+        ("debug",): text.replace("Options:\n", "Options:\n      --input <FILE>  The input\n"),
+        ("check",): text.replace("  -h, --help", "      --no-free       Leave out free memory\n  -h, --help"),
+    }
     with mock.patch.object(usage, "help_of", lambda _, *words: texts[words]):
         return " ".join(usage.faults("dm"))
 
