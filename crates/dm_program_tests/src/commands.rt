@@ -94,10 +94,15 @@ const RUNS: [Row; 4] = [
     ),
 ];
 
-/// The report for a block that is freed twice.
+/// The report for a block that is freed twice, in which the stack is: both calls leave it there, and the INT after each
+/// pushes the flags at FFFCh.
 const FREED_TWICE: &str = "\
+error: step 3, 0103:0102 INT 21h function 49h (Free Allocated Memory): the stack is in the free block at 0103
+error: step 5, 0103:0106 INT 021h: writes 0103:FFFC in the free block at 0103
 error: step 6, 0103:0106 INT 21h function 49h (Free Allocated Memory): block at 0103 freed twice
-errors: 1, notes: 0
+error: step 6, 0103:0106 INT 21h function 49h (Free Allocated Memory): the stack is in the free block at 0103
+error: step 8, 0103:010B INT 021h: writes 0103:FFFC in the free block at 0103
+errors: 5, notes: 0
 ";
 
 /// Checked runs: without a finding, at any stop; with an error, with a note, and with an instruction that destroys
@@ -120,7 +125,7 @@ const CHECKS: [Row; 10] = [
     ),
     ("dm check twice.com", 124, b"", b"", FREED_TWICE),
     (
-        "dm check --steps=5 twice.com",
+        "dm check --steps=5 --no-free twice.com",
         125,
         b"",
         b"",
@@ -132,8 +137,11 @@ const CHECKS: [Row; 10] = [
         b"",
         b"",
         "\
+error: step 3, 0103:0102 INT 21h function 49h (Free Allocated Memory): the stack is in the free block at 0103
+error: step 5, 0103:0106 INT 021h: writes 0103:FFFC in the free block at 0103
 error: step 6, 0103:0106 INT 21h function 49h (Free Allocated Memory): block at 0103 freed twice
-errors: 1, notes: 0
+error: step 6, 0103:0106 INT 21h function 49h (Free Allocated Memory): the stack is in the free block at 0103
+errors: 4, notes: 0
 stopped: steps at 0103:0108
 ",
     ),
@@ -462,8 +470,12 @@ fn fails(
 
 /// The report of `hi2.com`, and the fault of its output.
 const TWICE_UNWRITTEN: &str = "\
+error: step 7, 0103:0109 INT 21h function 49h (Free Allocated Memory): the stack is in the free block at 0103
+error: step 9, 0103:010D INT 021h: writes 0103:FFFC in the free block at 0103
 error: step 10, 0103:010D INT 21h function 49h (Free Allocated Memory): block at 0103 freed twice
-errors: 1, notes: 0
+error: step 10, 0103:010D INT 21h function 49h (Free Allocated Memory): the stack is in the free block at 0103
+error: step 12, 0103:0112 INT 021h: writes 0103:FFFC in the free block at 0103
+errors: 5, notes: 0
 dm: cannot write standard output
 ";
 
