@@ -8,6 +8,9 @@ ghost use Rattle.dm_arena.specs.inner.Walks.{IsHeaderWritten};
 use dm_blocks::Entry;
 use dm_space::Space;
 
+/// The segment up to which headers stand in RAM that needs no look at the map.
+const END: u16 = 0xC000;
+
 /// States that memory and the scratch part have their sizes, which proofs need. It changes nothing.
 fn knows_sizes(space: &Space)
     ensures held { IsHeld space.now }
@@ -26,6 +29,35 @@ fn set_byte(space: &mut Space, segment: u16, offset: u16, value: u8)
     space.poke(segment, offset, value);
 }
 
+/// Writes a byte of a header that stands below segment C000h, in RAM: at an offset, below 16, of its paragraph.
+fn set_low_byte(space: &mut Space, segment: u16, offset: u16, value: u8)
+    requires offset { offset < 16 }
+    requires low { segment < 0xC000 }
+    ensures memory { IsPoked space.old.memory (16 * segment + offset) value space.new.memory }
+    ensures scratch { space.new.scratch ≡ space.old.scratch }
+{
+    knows_sizes(space);
+    let at = segment as u32 * 16 + offset as u32;
+    space.set_low_byte(segment, offset, at, value);
+}
+
+/// Does what `write_header` does, for a header below segment C000h.
+fn write_low_header(space: &mut Space, entry: Entry)
+    requires fits { next entry.header ≤ 0xFFFF }
+    requires low { entry.header.segment < 0xC000 }
+    ensures memory { IsHeaderWritten space.old.memory entry.header (signature_byte entry.last) space.new.memory }
+    ensures scratch { space.new.scratch ≡ space.old.scratch }
+{
+    let segment = entry.header.segment;
+    let owner = entry.header.owner;
+    let size = entry.header.size;
+    set_low_byte(space, segment, 0, entry.signature());
+    set_low_byte(space, segment, 1, (owner % 256) as u8);
+    set_low_byte(space, segment, 2, (owner / 256) as u8);
+    set_low_byte(space, segment, 3, (size % 256) as u8);
+    set_low_byte(space, segment, 4, (size / 256) as u8);
+}
+
 /// Writes a header's five bytes: signature (`Z` if it is marked last, else `M`), owner and size. Nothing else changes.
 pub(crate) fn write_header(space: &mut Space, entry: Entry)
     requires { next entry.header ≤ 0xFFFF }
@@ -33,6 +65,9 @@ pub(crate) fn write_header(space: &mut Space, entry: Entry)
     ensures scratch { space.new.scratch ≡ space.old.scratch }
 {
     let segment = entry.header.segment;
+    if segment < END {
+        return write_low_header(space, entry);
+    }
     let owner = entry.header.owner;
     let size = entry.header.size;
     set_byte(space, segment, 0, entry.signature());

@@ -1,5 +1,6 @@
 pub mod Bytes
 pub mod OneHeader
+pub mod Words
 pub mod Chains
 pub mod Places
 pub mod Stands
@@ -9,3 +10,4 @@ pub mod Unique
 pub mod Cursors
 pub mod Walks
 pub mod Telling
+pub mod LowPart

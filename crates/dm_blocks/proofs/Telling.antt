@@ -113,3 +113,15 @@ second-decides S w (Some v) m s t =
 pub first-decides : (S : Memory) (w : Walking) (o : Option Walking) → w.memory ≡ S → w.second ≡ false → HasToldAll w o → MatchBool (is_some o) ((L : List Header) × IsArena S first_header L) (NoArena S first_header)
 first-decides S w None m s b = (let G : Memory → Type 0 = λ y. NoArena y first_header in subst G m (first-broken w s b))
 first-decides S w (Some v) m s t = (let G : Memory → Type 0 = λ y. (L : List Header) × IsArena y first_header L in subst G m (first-told w s t.3))
+
+-- ---- the same by whether the walk has told all
+
+pub second-told_all : (S : Memory) (w v : Walking) (b : Bool) → w.memory ≡ S → w.second ≡ true → MatchBool b (HasToldAll w (Some v)) (HasToldAll w None) →
+    MatchBool b ((L U : List Header) × IsArena S first_header L × IsArenaBehind S L link_header U) ((L : List Header) × IsArena S first_header L × NoArenaBehind S L link_header)
+second-told_all S w v true m s h = second-decides S w (Some v) m s h
+second-told_all S w v false m s h = second-decides S w None m s h
+
+pub first-told_all : (S : Memory) (w v : Walking) (b : Bool) → w.memory ≡ S → w.second ≡ false → MatchBool b (HasToldAll w (Some v)) (HasToldAll w None) →
+    MatchBool b ((L : List Header) × IsArena S first_header L) (NoArena S first_header)
+first-told_all S w v true m s h = first-decides S w (Some v) m s h
+first-told_all S w v false m s h = first-decides S w None m s h

@@ -29,7 +29,7 @@ path-spells : (S : Memory) (h : ℕ) (P : List Header) (t : ℕ) (b : Header) �
 path-spells S h [] t b p at x = (at ∙ sym p, x, tt)
 path-spells S h (q ∷ P) t b p at x = (p.0, header-mark S q _ _ (sym (signature-append P [] b)) p.1, path-spells S (next q) P t b p.2 at x)
 
-path-more : (S : Memory) (h : ℕ) (P : List Header) (t : ℕ) (b : Header) → Path S h P t → b.segment ≡ t → IsHeader S b 0x4D → Path S h (P ++ b ∷ []) (next b)
+pub path-more : (S : Memory) (h : ℕ) (P : List Header) (t : ℕ) (b : Header) → Path S h P t → b.segment ≡ t → IsHeader S b 0x4D → Path S h (P ++ b ∷ []) (next b)
 path-more S h [] t b p at x = (at ∙ sym p, x, refl)
 path-more S h (q ∷ P) t b p at x = (p.0, p.1, path-more S (next q) P t b p.2 at x)
 
@@ -53,7 +53,7 @@ path-rises : (S : Memory) (h : ℕ) (P : List Header) (t : ℕ) → Path S h P t
 path-rises S h [] t p = omega arith
 path-rises S h (q ∷ P) t p = (let y = path-rises S (next q) P t p.2 in let x = p.0 in omega arith)
 
-path-below : (S : Memory) (h : ℕ) (P : List Header) (t : ℕ) → Path S h P t → (g : ℕ) → HasHeader P g → g < t
+pub path-below : (S : Memory) (h : ℕ) (P : List Header) (t : ℕ) → Path S h P t → (g : ℕ) → HasHeader P g → g < t
 path-below S h [] t p g w = absurd w
 path-below S h (q ∷ P) t p g (inl e) = (let y = path-rises S (next q) P t p.2 in omega arith)
 path-below S h (q ∷ P) t p g (inr w) = path-below S (next q) P t p.2 g w
@@ -77,7 +77,7 @@ behind_either F P b g w = elim (has_either F (P ++ b ∷ []) g w) [
   ]
 ]
 
-told : (S : Memory) (F : List Header) (f : ℕ) (P : List Header) (t : ℕ) (e : Entry) → Leads S F f P t → MayStand S (F ++ P) t → (HasHeader F t → ⊥) → e.header.segment ≡ t → IsHeader S e.header (signature_byte e.last) → Follows S F P t e
+pub told : (S : Memory) (F : List Header) (f : ℕ) (P : List Header) (t : ℕ) (e : Entry) → Leads S F f P t → MayStand S (F ++ P) t → (HasHeader F t → ⊥) → e.header.segment ≡ t → IsHeader S e.header (signature_byte e.last) → Follows S F P t e
 told S F f P t e l may new at x = record {
   at = at;
   header = x;
@@ -110,7 +110,7 @@ stood S F f P t e l x =
           ]);
     }
 
-closes : (S : Memory) (F : List Header) (f : ℕ) (P : List Header) (t : ℕ) (e : Entry) → Leads S F f P t → Follows S F P t e → Closes S F f P e
+pub closes : (S : Memory) (F : List Header) (f : ℕ) (P : List Header) (t : ℕ) (e : Entry) → Leads S F f P t → Follows S F P t e → Closes S F f P e
 closes S F f P t e l x last = ((nonempty P e.header [], path-spells S f P t e.header l.path x.at (header-mark S e.header _ _ (ap signature_byte last) x.header)), x.clear, x.apart)
 
 bad-by : (S : Memory) (F P : List Header) (t : ℕ) (e : Entry) (r : Bool) → e.last ≡ r → ((b : Header) (L : List Header) → b.segment ≡ t → IsHeader S b (signature L) → ⊥) → Follows S F P t e → ⊥

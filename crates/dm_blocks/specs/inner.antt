@@ -1,4 +1,6 @@
 -- Definitions that private contracts and proofs alone name.
+pub mod Fields
+pub mod Low
 pub mod Marks
 pub mod Reading
 pub mod Standing

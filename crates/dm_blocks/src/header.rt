@@ -7,6 +7,7 @@ ghost use Rattle.dm_blocks.specs.Chain;
 ghost use Rattle.dm_space.specs.Memory.{peek};
 ghost use Rattle.dm_blocks.specs.Chain.{next, word, signature_byte};
 ghost use Rattle.dm_blocks.specs.Reading.{IsEntryAt};
+ghost use Rattle.dm_blocks.specs.inner.Fields.{HasFields};
 
 use crate::list::LINK;
 use dm_space::Space;
@@ -92,18 +93,61 @@ pub fn is_last(space: &Space, segment: u16) -> bool
     byte_of(space, segment, 0) == LAST
 }
 
+/// The segment of the ROM, from which on bytes are read one by one.
+const ROM: u16 = 0xF000;
+
+/// What the first five bytes of a paragraph hold if it is a header.
+#[derive(Clone, Copy)]
+struct Fields {
+    /// The signature byte.
+    signature: u8,
+    /// The owner.
+    owner: u16,
+    /// The size in paragraphs.
+    size: u16,
+}
+
+/// The fields at a segment of the ROM, byte by byte.
+#[cold]
+#[inline(never)]
+fn fields_in_rom(space: &Space, segment: u16) -> Fields
+    ensures { HasFields space.now.memory segment result }
+{
+    Fields {
+        signature: byte_of(space, segment, 0),
+        owner: word_of(space, segment, 1),
+        size: word_of(space, segment, 3),
+    }
+}
+
+/// The fields at a segment. Below the ROM they are read at once.
+fn fields_at(space: &Space, segment: u16) -> Fields
+    ensures { HasFields space.now.memory segment result }
+{
+    if segment >= ROM {
+        return fields_in_rom(space, segment);
+    }
+    let eight = space.first_bytes_anywhere(segment, 0);
+    Fields {
+        signature: (eight % 0x100) as u8,
+        owner: (eight / 0x100 % 0x1_0000) as u16,
+        size: (eight / 0x100_0000 % 0x1_0000) as u16,
+    }
+}
+
 /// Reads the header at a segment, whatever list it belongs to. None if its first byte is neither
 /// `M` nor `Z`, or if the segment after its block would be over FFFFh.
 pub fn header_at(space: &Space, segment: u16) -> Option<Entry>
     ensures { IsEntryAt space.now.memory segment result }
 {
-    let last = match byte_of(space, segment, 0) {
+    let fields = fields_at(space, segment);
+    let last = match fields.signature {
         MORE => false,
         LAST => true,
         _ => return None,
     };
-    let owner = word_of(space, segment, 1);
-    let size = word_of(space, segment, 3);
+    let owner = fields.owner;
+    let size = fields.size;
     if segment as u32 + 1 + size as u32 > 0xFFFF {
         return None;
     }

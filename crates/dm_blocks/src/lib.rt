@@ -11,6 +11,7 @@ mod header;
 mod laws;
 mod list;
 mod listing;
+mod low;
 mod seen;
 
 pub use header::{Entry, Header, header_at, is_last};

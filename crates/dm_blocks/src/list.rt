@@ -1,5 +1,5 @@
 //! Walks over the lists of headers: whether they are whole and clear, and searches for one header.
-ghost use Rattle.std.specs.Prelude.{◌≡◌, ℕ, ◌+◌, ◌≤◌, ◌<◌, List, MatchBool, MatchOption, IfSome, Some};
+ghost use Rattle.std.specs.Prelude.{◌≡◌, ℕ, ◌+◌, ◌≤◌, ◌<◌, List, MatchBool, MatchOption, None, Some};
 ghost use Rattle.dm_blocks.specs.declared.header.Header.{Header};
 ghost use Rattle.dm_blocks.specs.Chain.{first_header, link_header, next, IsArena, IsArenaBehind, NoArena, NoArenaBehind};
 ghost use Rattle.dm_blocks.specs.Chain;
@@ -8,7 +8,8 @@ ghost use Rattle.dm_blocks.specs.inner.Reading.{AreLeft, HasCaughtUp, IsCursor};
 ghost use Rattle.dm_blocks.specs.inner.Telling.{HasToldAll};
 
 use crate::header::{Entry, header_at};
-use crate::listing::{Headers, Step, walk};
+use crate::listing::{Headers, Step, walk, walk_from};
+use crate::low::{LowPart, low_part};
 use dm_space::Space;
 
 /// The segment of the first list's first header.
@@ -30,22 +31,21 @@ pub fn entry_at(space: &Space, segment: u16) -> Entry
     entry
 }
 
-/// Goes on with a walk to its end, to tell whether its list is whole and clear: returns the walk past its last header;
-/// None if the list is broken.
-fn tell_all(headers: Headers<'_>) -> Option<Headers<'_>>
-    requires { (t : ℕ) × (headers.at ≡ Some t) × (t ≤ 0xFFFF) }
-    ensures { HasToldAll headers.entry result }
+/// Goes on with a walk to its end, to tell whether its list is whole and clear. With true the walk is past the last
+/// header.
+fn tell_all(headers: &mut Headers<'_>) -> bool
+    requires { (t : ℕ) × (headers.old.at ≡ Some t) × (t ≤ 0xFFFF) }
+    ensures { MatchBool result (HasToldAll headers.old (Some headers.new)) (HasToldAll headers.old None) }
 {
-    let mut walked = headers;
     'walk: loop {
-        match walked.advance() {
+        match headers.advance() {
             Step::Told(entry) => {
                 if entry.last {
-                    return Some(walked);
+                    return true;
                 }
             }
-            Step::End => return Some(walked),
-            Step::Destroyed(_) => return None,
+            Step::End => return true,
+            Step::Destroyed(_) => return false,
         }
     }
 }
@@ -54,7 +54,11 @@ fn tell_all(headers: Headers<'_>) -> Option<Headers<'_>>
 pub fn is_arena(space: &Space) -> bool
     ensures { MatchBool result ((L : List Header) × IsArena space.now.memory first_header L) (NoArena space.now.memory first_header) }
 {
-    tell_all(walk(space)).is_some()
+    match low_part(space) {
+        LowPart::Whole => true,
+        LowPart::Destroyed => false,
+        LowPart::UpTo(segment) => tell_all(&mut walk_from(space, segment)),
+    }
 }
 
 /// Whether memory spells a second list, from the link block's header on, that shares no header with
@@ -63,10 +67,12 @@ pub fn has_second(space: &Space) -> bool
     requires { (L : List Header) × IsArena space.now.memory first_header L }
     ensures { MatchBool result ((L U : List Header) × IsArena space.now.memory first_header L × IsArenaBehind space.now.memory L link_header U) ((L : List Header) × IsArena space.now.memory first_header L × NoArenaBehind space.now.memory L link_header) }
 {
-    let Some(first) = tell_all(walk(space)) else {
+    let mut first = walk(space);
+    if !tell_all(&mut first) {
         unreachable!()
-    };
-    tell_all(first.walk_second()).is_some()
+    }
+    let mut second = first.walk_second();
+    tell_all(&mut second)
 }
 
 /// The header whose block begins at a segment, for functions 49h, 4Ah and 31h and for `is_linked`; None if the first

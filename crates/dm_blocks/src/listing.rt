@@ -1,7 +1,9 @@
 //! A listing of the arena: its headers one by one.
-ghost use Rattle.std.specs.Prelude.{◌≡◌, ◌≢◌, MatchBool, None, Some, false, true};
+ghost use Rattle.std.specs.Prelude.{◌≡◌, ◌≢◌, List, MatchBool, None, Some, false, true};
+ghost use Rattle.dm_blocks.specs.declared.header.Header.{Header};
 ghost use Rattle.dm_blocks.specs.Chain.{first_header, link_header};
 ghost use Rattle.dm_blocks.specs.Listing.{Steps};
+ghost use Rattle.dm_blocks.specs.inner.Low.{IsUpTo};
 
 use crate::header::{Entry, header_at};
 use crate::list::{FIRST, LINK, catch_up};
@@ -58,6 +60,22 @@ pub fn walk(space: &Space) -> Headers<'_>
         space,
         second: false,
         at: Some(FIRST),
+        beside: None,
+        seen: Seen::new(),
+    }
+}
+
+/// Goes on with a walk over the first list at a segment, C000h or above, to which its headers below that lead.
+pub(crate) fn walk_from(space: &Space, segment: u16) -> Headers<'_>
+    requires { (P : List Header) × IsUpTo space.now.memory P segment }
+    ensures memory { result.memory ≡ space.now.memory }
+    ensures second { result.second ≡ false }
+    ensures at { result.at ≡ Some segment }
+{
+    Headers {
+        space,
+        second: false,
+        at: Some(segment),
         beside: None,
         seen: Seen::new(),
     }

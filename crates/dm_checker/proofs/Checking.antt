@@ -1,5 +1,5 @@
 -- Checked runs, as they are made.
-use Rattle.std.proofs.Common.{◌≡◌, ℕ, ◌+◌, ◌<◌, ◌≤◌, inl, inr, Bool, List, [], ◌++◌, Option, Some, None, Result, Ok, Err, refl, sym, subst, arith}
+use Rattle.std.proofs.Common.{◌≡◌, ℕ, ◌+◌, ◌<◌, ◌≤◌, inl, inr, Bool, List, [], ◌∷◌, ◌++◌, Option, Some, None, Result, Ok, Err, refl, sym, ◌∙◌, ap, subst, append-nil, arith}
 use Rattle.std.specs.Prelude.{OnErr}
 use Rattle.dm_state.specs.declared.stop.Stop.{Stop}
 use Rattle.dm_state.specs.declared.stop.Stop.TheVariants.{Exited, Steps as AllSteps}
@@ -40,6 +40,14 @@ reports s t n free stop found r x e = record { found = found; checks = x; is = e
 pub runs : (s t : State) (n : ℕ) (free : Bool) (stop : Stop) (r : Reported) → IsReport s n free stop t r → IsRun s n stop t
 runs s t n free stop r x = checked_run s t n stop x.found x.checks
 
+nil_left : (xs ys : List Found) → xs ++ ys ≡ [] → xs ≡ []
+nil_left [] ys e = refl
+nil_left (x ∷ xs) ys e = cc
+
+nil_right : (xs ys : List Found) → xs ++ ys ≡ [] → ys ≡ []
+nil_right [] ys e = e
+nil_right (x ∷ xs) ys e = cc
+
 -- ---- so many steps were made, and the report has what was found in them
 
 pub record HasChecked (free : Bool) (s : State) (n : ℕ) (t : State) (report : Reported) : Type 0 where
@@ -60,6 +68,22 @@ checked_more free s t u n w old new h x = record {
   finds = checks.further n t u h.found x.found h.finds x.answers x.finds;
   is = x.reports h.found h.is;
 }
+
+-- steps of which nothing is found
+finds_on : (s t u : State) (n m : ℕ) (fs : List Found) (gs : List Found) → FindsIn s n t fs → FindsIn t m u gs → gs ≡ [] → FindsIn s (n + m) u fs
+finds_on s t _ n _ fs _ f checks.here e = (let same : n ≡ n + 0 = omega arith in let F : ℕ → Type 0 = λ k. FindsIn s k t fs in subst F same f)
+finds_on s t _ n _ fs _ f (checks.further m u v gs hs g step at) e =
+    let first : gs ≡ [] = nil_left gs hs e in
+    let second : hs ≡ [] = nil_right gs hs e in
+    let done : FindsIn s (n + m + 1) v (fs ++ hs) = checks.further (n + m) u v fs hs (finds_on s t u n m fs gs f g first) step at in
+    let whole : fs ++ hs ≡ fs = ap (λ (l : List Found). fs ++ l) second ∙ append-nil fs in
+    let same : n + m + 1 ≡ n + (m + 1) = omega arith in
+    let F : ℕ → Type 0 = λ k. FindsIn s k v fs in
+    let G : List Found → Type 0 = λ l. FindsIn s (n + m + 1) v l in
+    subst F same (subst G whole done)
+
+pub checked_on : (free : Bool) (s t u : State) (n m : ℕ) (r : Reported) → HasChecked free s n t r → FindsIn t m u [] → HasChecked free s (n + m) u r
+checked_on free s t u n m r h f = record { running = h.running; found = h.found; finds = finds_on s t u n m h.found [] h.finds f refl; is = h.is }
 
 pub checked_cut : (free : Bool) (s t u : State) (n m : ℕ) (stop : Stop) (w : Watch) (old new : Reported) → HasChecked free s n t old → n < m → ChecksOne free t (Some stop) u w old new → IsReport s m free stop u new
 checked_cut free s t u n m stop w old new h less x = record {

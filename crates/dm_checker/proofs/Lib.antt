@@ -16,7 +16,7 @@ pub mod Stepping
 pub mod Checking
 pub mod Fetched
 pub mod Touching
-pub mod Main
+pub mod Levels
 pub mod Unfound
 pub mod Clearing
 pub mod Reading

@@ -120,7 +120,7 @@ seen_watch before upper S T w x y =
       shown = subst F (sym (y.setting ∙ x.setting)) (shown_kept before S T shown (seen_windows before upper S T w x y) (seen_agrees before upper S T w x y) (λ at. broken_same S T w.broken at x.there y.there) x.shown);
       headers = y.headers;
       there = y.there;
-      main = x.main;
+      marked = x.marked;
     }
 
 -- ---- nothing is found

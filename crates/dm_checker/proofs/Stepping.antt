@@ -1,13 +1,17 @@
 -- One checked step.
-use Rattle.std.proofs.Common.{◌≡◌, ℕ, Bool, true, false, List, [], ◌++◌, map, Option, Some, None, refl, sym, ◌∙◌, ap, ap₂, subst, append-nil}
-use Rattle.std.specs.Prelude.{if◌then◌else◌, slice_index_or, IfSome}
+use Rattle.std.proofs.Common.{◌≡◌, ℕ, ◌+◌, Bool, true, false, List, [], ◌++◌, map, Option, Some, None, refl, sym, ◌∙◌, ap, ap₂, subst, append-nil}
+use Rattle.std.specs.Prelude.{◌&&◌, if◌then◌else◌, is_some, slice_index_or, IfSome}
 use Rattle.dm_space.specs.Memory.{Memory, IsPage}
 use Rattle.dm_blocks.specs.declared.header.Header.{Header}
 use Rattle.dm_state.specs.declared.stop.Stop.{Stop}
 use Rattle.dm_state.specs.declared.stop.Stop.TheVariants.{Exited, Steps as AllSteps, Halted, Unlisted, InputEnded, Destroyed, Memory as NoMemory}
 use Rattle.dm_ems.specs.Consistent.{IsOwned}
 use Rattle.dm_state.specs.State.{State, AreConsistent}
+use Rattle.dm_machine.specs.Step.{MakesStep}
 use Rattle.dm_machine.specs.Run.{Answers}
+use Rattle.dm_machine.specs.Unmarked.{IsUnmarked, GoesUnmarked}
+use Rattle.dm_machine.specs.Unmarked as unmarked
+use Rattle.dm_quiet.specs.Marks.{lies_below, passes_if, pass}
 use Rattle.dm_findings.specs.declared.calls.Call.{Call}
 use Rattle.dm_findings.specs.declared.finding.Act.TheVariants as act
 use Rattle.dm_findings.specs.declared.finding.Finding.{Finding}
@@ -31,16 +35,16 @@ use Rattle.dm_checker.specs.declared.watch.Broken.{Broken}
 use Rattle.dm_checker.specs.Shown.{Shown}
 use Rattle.dm_checker.specs.Arranged.{arranged_by, arranged}
 use Rattle.dm_checker.specs.Findings.{findings, Finds, FindsTouched, touching, over, IsFound, none}
-use Rattle.dm_checker.specs.Checks.{FindsAtEnd, FindsAtStop, left_behind}
+use Rattle.dm_checker.specs.Checks.{FindsAt, FindsAtEnd, FindsAtStop, FindsIn, left_behind}
+use Rattle.dm_checker.specs.Checks as checks
 use Rattle.dm_checker.specs.inner.Watching.{header_of, broken_at, shown_of, IsWatch, IsSeen}
-use Rattle.dm_checker.specs.inner.Code.{IsNext}
 use Rattle.dm_checker.specs.inner.Clear.{is_read_clear, is_write_clear, IsClear, IsPassed}
 use Rattle.dm_checker.specs.inner.Steps.{IsBefore, found_by, ReportsMore, Touches, Looks, ChecksOne}
 use Rattle.dm_checker.proofs.Acting.{some_none, call_acts, had_ended, exit_changes_nothing}
 use Rattle.dm_checker.proofs.Seen.{seen_watch}
 use Rattle.dm_checker.proofs.Still.{seen_findings}
-use Rattle.dm_checker.proofs.Reading.{no_call, still_running, next_leaves}
-use Rattle.dm_checker.proofs.Unfound.{are_all, elements_all, headers_clear, places_clear, memory_of, apart_of}
+use Rattle.dm_checker.proofs.Reading.{no_call, still_running, next_leaves, Begins, begins_of}
+use Rattle.dm_checker.proofs.Unfound.{and_left, and_right, and_both, element_more, are_all, elements_all, headers_clear, places_clear, memory_of, apart_of}
 use Rattle.dm_checker.proofs.Clearing.{seen_clear}
 use Rattle.dm_checker.proofs.Telling.{reports_none, tells}
 
@@ -176,52 +180,72 @@ clear_touched s t w p a =
     let headers : of_headers a20 rs ws (broken_at w.broken) (map header_of w.headers.items) ≡ []
     = ap (λ (o : Option Broken). of_headers a20 rs ws (broken_at o) (map header_of w.headers.items)) p.clear.whole ∙ headers_clear a20 rs ws w.headers.items clear_reads (apart_of s.memory w.headers.items a20 ws clear_writes) in
     let places : of_places s.memory ws ≡ [] = places_clear s.memory w.headers.items ws (memory_of s.memory w.headers.items a20 ws clear_writes) in
-    touching p.ins p.length (still_running s t a) (no_call s.cpu p.next.below) p.next.begins (sym (ap₂ (λ (l m : List Finding). l ++ m) headers places))
+    touching p.ins p.length (still_running s t a) (no_call s.cpu p.below) p.begins (sym (ap₂ (λ (l m : List Finding). l ++ m) headers places))
+
+-- the pages that windows show are there
+abbrev pub HasPages : State → Type 0
+HasPages s = (k : ℕ) → IfSome (slice_index_or s.memory.windows k None) (IsPage s.memory)
 
 -- memory still shows what was kept
-clear_seen : (s t : State) (w : Watch) → IsPassed s w → AreConsistent s → Answers s None t → IsWatch s.upper s.memory w → IsSeen t.upper t.memory w
-clear_seen s t w p linked a x =
+clear_seen : (s t : State) (w : Watch) → IsPassed s w → HasPages s → Answers s None t → IsWatch s.upper s.memory w → IsSeen t.upper t.memory w
+clear_seen s t w p pages a x =
     let g = guest s.cpu s.memory in
     let n : Memory = (effect g p.ins p.length).memory in
-    let left = next_leaves s t p.ins p.length p.next a in
-    let seen : IsSeen s.upper n w = seen_clear s.upper s.memory n w _ _ x (pages_there s linked) (writes_listed g p.ins p.length) p.clear in
+    let left = next_leaves s t p.ins p.length p.below p.begins a in
+    let seen : IsSeen s.upper n w = seen_clear s.upper s.memory n w _ _ x pages (writes_listed g p.ins p.length) p.clear in
     let G : Bool → Type 0 = λ b. IsSeen b t.memory w in
     let H : Memory → Type 0 = λ m. IsSeen s.upper m w in
     subst G (sym left.upper) (subst H (sym left.memory) seen)
 
-clear_on : (free : Bool) (s t : State) (w : Watch) (r : Reported) → IsPassed s w → AreConsistent s → Answers s None t → IsWatch s.upper s.memory w → ChecksOne free s None t w r r
-clear_on free s t w r p linked a x =
-    let seen = clear_seen s t w p linked a x in
+-- ---- steps of instructions that touch nothing that is marked
+
+pass_more : (p q : ℕ → Bool) → ((a : ℕ) → p a ≡ true → q a ≡ true) → (a20 : Bool) (e : Elements) → pass p a20 e ≡ true → pass q a20 e ≡ true
+pass_more p q h a20 e t =
+    let a = passes_if p a20 e.first in
+    let b = passes_if p a20 e.second in
+    let c = passes_if p a20 e.third in
+    let both = and_left (a && b) c t in
+    and_both (passes_if q a20 e.first && passes_if q a20 e.second) (passes_if q a20 e.third)
+    (and_both (passes_if q a20 e.first) (passes_if q a20 e.second) (element_more p q h a20 e.first (and_left a b both)) (element_more p q h a20 e.second (and_right a b both)))
+    (element_more p q h a20 e.third (and_right (a && b) c t))
+
+-- nothing is found of a step that touches nothing that is marked
+unmarked_passes : (s : State) (w : Watch) → w.broken ≡ None → IsWatch s.upper s.memory w → IsUnmarked w.marks s → Begins s → IsPassed s w
+unmarked_passes s w whole x u b =
+    let g = guest s.cpu s.memory in
+    let quiet = u.quiet b.ins b.length b.begins in
     record {
-      answers = a;
-      found = [];
-      finds = record { findings = []; finds = nothing_by s t w (no_call s.cpu p.next.below) x seen (clear_touched s t w p a); told = none refl refl };
-      reports = reports_none free r;
-      watch = λ e. seen_watch s.upper t.upper s.memory t.memory w x seen;
+      ins = b.ins;
+      length = b.length;
+      below = u.below;
+      begins = b.begins;
+      clear = record {
+        whole = whole;
+        reads = pass_more (lies_below w.marks 2) (is_read_clear w.headers.items) (λ a t. x.marked.reads a t) s.memory.a20 (reads g b.ins b.length) quiet.reads;
+        writes = pass_more (lies_below w.marks 1) (is_write_clear s.memory w.headers.items) (λ a t. x.marked.writes s.memory (sym x.windows) a t) s.memory.a20 (writes g b.ins b.length) quiet.writes;
+      };
     }
 
--- an instruction that is known, with what it touches
-pub passed_by : (s : State) (w : Watch) (c : Cpu) (m n o : Memory) (i : Ins) (k : ℕ) (rs ws : Elements) → c ≡ s.cpu → m ≡ s.memory → n ≡ s.memory → o ≡ s.memory → IsNext m c i k → rs ≡ reads (guest c n) i k → ws ≡ writes (guest c n) i k → IsClear o w rs ws → IsPassed s w
-passed_by s w c m n o i k rs ws same first second third next r v clear =
-    let N : Cpu → Memory → Type 0 = λ d l. IsNext l d i k in
-    let C : Memory → Elements → Elements → Type 0 = λ l a b. IsClear l w a b in
-    let reads_same : rs ≡ reads (guest s.cpu s.memory) i k = r ∙ ap₂ (λ (d : Cpu) (l : Memory). reads (guest d l) i k) same second in
-    let writes_same : ws ≡ writes (guest s.cpu s.memory) i k = v ∙ ap₂ (λ (d : Cpu) (l : Memory). writes (guest d l) i k) same second in
-    let there : C s.memory rs ws = subst (λ (l : Memory). C l rs ws) third clear in
-    let with_reads : C s.memory (reads (guest s.cpu s.memory) i k) ws = subst (λ (a : Elements). C s.memory a ws) reads_same there in
-    record {
-      ins = i;
-      length = k;
-      next = subst (λ (l : Memory). N s.cpu l) first (subst (λ (d : Cpu). N d m) same next);
-      clear = subst (λ (b : Elements). C s.memory (reads (guest s.cpu s.memory) i k) b) writes_same with_reads;
-    }
+-- so many such steps lead from s to t
+pub record Passes (s t : State) (w : Watch) (n : ℕ) : Type 0 where
+  pub finds : FindsIn s n t []
+  pub watch : IsWatch t.upper t.memory w
+  pub pages : HasPages t
 
-pub clear_passes : (free : Bool) (s t : State) (stop : Option Stop) (w : Watch) (r : Reported) → IsPassed s w → AreConsistent s → Answers s stop t → IsWatch s.upper s.memory w → ChecksOne free s stop t w r r
-clear_passes free s t None w r p linked a x = clear_on free s t w r p linked a x
-clear_passes free s t (Some (Exited code)) w r p linked a x = over_then free s t code w r a (no_call s.cpu p.next.below) x linked
-clear_passes free s t (Some AllSteps) w r p linked a x = stops free s t AllSteps w r a (λ code e. cc)
-clear_passes free s t (Some Halted) w r p linked a x = stops free s t Halted w r a (λ code e. cc)
-clear_passes free s t (Some Unlisted) w r p linked a x = stops free s t Unlisted w r a (λ code e. cc)
-clear_passes free s t (Some InputEnded) w r p linked a x = stops free s t InputEnded w r a (λ code e. cc)
-clear_passes free s t (Some Destroyed) w r p linked a x = stops free s t Destroyed w r a (λ code e. cc)
-clear_passes free s t (Some NoMemory) w r p linked a x = stops free s t NoMemory w r a (λ code e. cc)
+passes_more : (s t u : State) (w : Watch) (n : ℕ) → w.broken ≡ None → Passes s t w n → IsUnmarked w.marks t → MakesStep t (record { stop = None; state = u }) → Passes s u w (n + 1)
+passes_more s t u w n whole p x step =
+    let passed = unmarked_passes t w whole p.watch x (begins_of t u x.below step) in
+    let seen = clear_seen t u w passed p.pages step p.watch in
+    let finds : FindsAt t u [] = record { findings = []; finds = nothing_by t u w (no_call t.cpu passed.below) p.watch seen (clear_touched t u w passed step); told = none refl refl } in
+    record { finds = checks.further n t u [] [] p.finds step finds; watch = seen_watch t.upper u.upper t.memory u.memory w p.watch seen; pages = seen.pages }
+
+passes_all : (s : State) (w : Watch) (t : State) (n : ℕ) → w.broken ≡ None → IsWatch s.upper s.memory w → HasPages s → GoesUnmarked w.marks s n t → Passes s t w n
+passes_all s w _ _ whole x pages unmarked.here = record { finds = checks.here; watch = x; pages = pages }
+passes_all s w _ _ whole x pages (unmarked.further n t u g i h) = passes_more s t u w n whole (passes_all s w t n whole x pages g) i h
+
+pub passes : (s t : State) (w : Watch) (n : ℕ) → w.broken ≡ None → IsWatch s.upper s.memory w → AreConsistent s → GoesUnmarked w.marks s n t → Passes s t w n
+passes s t w n whole x linked g = passes_all s w t n whole x (pages_there s linked) g
+
+pub not_broken : {T : Type 0} (o : Option T) → is_some o ≡ false → o ≡ None
+not_broken None e = refl
+not_broken (Some x) e = cc

@@ -17,7 +17,8 @@ use Rattle.dm_touches.specs.declared.elements.Element.{Element}
 use Rattle.dm_touches.specs.declared.elements.Element.TheVariants as element
 use Rattle.dm_touches.specs.declared.elements.Elements.{Elements}
 use Rattle.dm_findings.specs.declared.finding.Finding.TheVariants.{RomWritten, NothingWritten}
-use Rattle.dm_checker.specs.inner.Clear.{is_free_of, is_at, is_high, is_memory, is_read_clear, is_write_clear, passes_if, pass}
+use Rattle.dm_quiet.specs.Marks.{passes_if, pass}
+use Rattle.dm_checker.specs.inner.Clear.{is_free_of, is_at, is_high, is_memory, is_read_clear, is_write_clear}
 
 -- ---- tests
 
@@ -29,7 +30,7 @@ pub and_right : (a b : Bool) → (a && b) ≡ true → b ≡ true
 and_right true b e = e
 and_right false b e = absurd (false≢true e)
 
-and_both : (a b : Bool) → a ≡ true → b ≡ true → (a && b) ≡ true
+pub and_both : (a b : Bool) → a ≡ true → b ≡ true → (a && b) ≡ true
 and_both a b e f = rw (e, f) refl
 
 pub not_false : (a : Bool) → not a ≡ true → a ≡ false
@@ -58,6 +59,14 @@ element_all is a20 (Some (element.Word s o)) e =
     let first = is (linear_of a20 (far s o)) in
     let second = is (linear_of a20 (far s (up o 1))) in
     and_both first (second && true) (and_left first second e) (and_both second true (and_right first second e) refl)
+
+pub element_more : (p q : ℕ → Bool) → ((a : ℕ) → p a ≡ true → q a ≡ true) → (a20 : Bool) (o : Option Element) → passes_if p a20 o ≡ true → passes_if q a20 o ≡ true
+element_more p q h a20 None t = refl
+element_more p q h a20 (Some (element.Byte s o)) t = h _ t
+element_more p q h a20 (Some (element.Word s o)) t =
+    let first = linear_of a20 (far s o) in
+    let second = linear_of a20 (far s (up o 1)) in
+    and_both (q first) (q second) (h first (and_left (p first) (p second) t)) (h second (and_right (p first) (p second) t))
 
 pub elements_all : (is : ℕ → Bool) (a20 : Bool) (e : Elements) → pass is a20 e ≡ true → are_all is a20 (bytes_of e) ≡ true
 elements_all is a20 e t =

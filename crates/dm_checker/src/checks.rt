@@ -5,8 +5,7 @@ ghost use Rattle.dm_state.specs.State.{HasProgram};
 ghost use Rattle.dm_machine.specs.Run.{IsRun};
 ghost use Rattle.dm_checker.specs.Checks.{IsReport, RunsPart};
 
-use crate::code::Known;
-use crate::steps::check_step;
+use crate::steps::{look_at_step, pass};
 use crate::watch::read_arena;
 use dm_findings::Report;
 use dm_machine::{Machine, Stop};
@@ -37,11 +36,16 @@ pub fn check(
         return Ok((Stop::Exited(code), report));
     }
     let mut kept = read_arena(alloc, machine)?;
-    let mut known = Known::new(alloc)?;
+    let mut left = n;
     for _ in 0..n {
-        if let Some(stop) = check_step(alloc, machine, free, &mut known, &mut kept, &mut report)? {
+        left -= pass(machine, &kept, left);
+        if left == 0 {
+            return Ok((Stop::Steps, report));
+        }
+        if let Some(stop) = look_at_step(alloc, machine, free, &mut kept, &mut report)? {
             return Ok((stop, report));
         }
+        left -= 1;
     }
     Ok((Stop::Steps, report))
 }

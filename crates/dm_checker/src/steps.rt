@@ -2,7 +2,7 @@
 //! allocation, `out` and the report may have a part of what is found. `free` is whether findings about free memory are
 //! reported.
 
-ghost use Rattle.std.specs.Prelude.{◌≡◌, ◌++◌, ◌∷◌, ◌&&◌, not, [], map, IfOk, OnOk, OnErr, Option, None, Some, List};
+ghost use Rattle.std.specs.Prelude.{◌≡◌, ◌≤◌, ◌++◌, ◌∷◌, ◌&&◌, not, [], map, IfOk, OnOk, OnErr, Option, None, Some, List};
 ghost use Rattle.dm_findings.specs.Calls.{call_of};
 ghost use Rattle.dm_findings.specs.Findings.{is_of_free_memory};
 ghost use Rattle.dm_findings.specs.declared.finding.Finding.{Finding};
@@ -10,14 +10,13 @@ ghost use Rattle.dm_findings.specs.declared.finding.Found.{Found};
 ghost use Rattle.dm_state.specs.State.{HasProgram, State};
 ghost use Rattle.dm_machine.specs.Run.{Answers};
 ghost use Rattle.dm_checker.specs.Findings.{turned, IsFound, FindsTouched};
-ghost use Rattle.dm_checker.specs.Checks.{FindsAtEnd};
+ghost use Rattle.dm_checker.specs.Checks.{FindsAtEnd, FindsIn};
 ghost use Rattle.dm_checker.specs.inner.Watching.{IsWatch, broken_at, shown_of};
 ghost use Rattle.dm_checker.specs.inner.Steps.{IsBefore, IsPart, Looks, ReportsMore, found_by, ChecksOne};
 
 use crate::acts::Before;
 use crate::arranged::put_arranged;
 use crate::calls::{arranges, leaves, put_freed_twice, put_of_call};
-use crate::code::Known;
 use crate::headers::{put_all_mapped_away, put_all_overwritten};
 use crate::put::put;
 use crate::touched::put_touched;
@@ -25,7 +24,6 @@ use crate::watch::{Broken, Watch, read_arena};
 use dm_findings::{Act, Call, Finding, Found, Report};
 use dm_leaks::put_leaks;
 use dm_machine::{Machine, Stop, tables_and_memory_are_consistent};
-use dm_touches::touched;
 use std::alloc::{AllocError, Global};
 
 /// Appends to `out` that the step destroyed the arena or made it whole again, if it did, by where the arena's list
@@ -216,7 +214,7 @@ fn make_step(machine: &mut Machine, call: Option<Call>) -> Option<Stop>
 /// the arena before the step and becomes that after it if the machine goes on. An `Err` is a failed allocation of the
 /// checker, before the step or after it.
 #[inline(never)]
-fn look_at_step(
+pub(crate) fn look_at_step(
     alloc: Global,
     machine: &mut Machine,
     free: bool,
@@ -254,33 +252,20 @@ fn look_at_step(
     }
 }
 
-/// Makes one step and adds what is found of it to the report; returns the stop, or None if the machine goes on. `known`
-/// is the cache of decoded code, to which the code at CS:IP may be added; `kept` is the arena before the step and becomes
-/// that after it if the machine goes on. Where nothing can be found of the instruction at CS:IP, by the bytes that it
-/// touches, memory is not looked at after the step. An `Err` is a failed allocation of the checker, before the step or
-/// after it.
-pub(crate) fn check_step(
-    alloc: Global,
-    machine: &mut Machine,
-    free: bool,
-    known: &mut Known,
-    kept: &mut Watch,
-    report: &mut Report,
-) -> Result<Option<Stop>, AllocError>
+/// Makes at most `most` steps of instructions of which nothing is found, by the bytes that they touch, and returns how
+/// many. `kept` is the arena before them, and after them.
+pub(crate) fn pass(machine: &mut Machine, kept: &Watch, most: u64) -> u64
     requires program { HasProgram machine.old }
-    requires watch { IsWatch machine.old.upper machine.old.memory kept.old }
-    ensures ok { IfOk result (λ stop. ChecksOne free machine.old stop machine.new kept.new report.old report.new) }
-    ensures err { OnErr result (IsPart machine.old machine.new) }
+    requires watch { IsWatch machine.old.upper machine.old.memory kept.now }
+    ensures found { FindsIn machine.old result machine.new [] }
+    ensures most { result ≤ most }
+    ensures watch { IsWatch machine.new.upper machine.new.memory kept.now }
     ensures program { HasProgram machine.new }
 {
-    let cpu = machine.cpu();
-    if let Some((ins, len)) = known.next(&cpu, machine.space()) {
-        let touched = touched(&ins, len, &cpu, machine.space());
-        if kept.is_clear_of(&touched, machine.space()) {
-            // Each page that a window shows is there.
-            tables_and_memory_are_consistent(machine);
-            return Ok(run_once(machine));
-        }
+    if kept.broken.is_some() {
+        return 0;
     }
-    look_at_step(alloc, machine, free, kept, report)
+    // Each page that a window shows is there.
+    tables_and_memory_are_consistent(machine);
+    machine.run_unmarked(most, &kept.marks)
 }

@@ -4,10 +4,11 @@ ghost use Rattle.std.specs.Prelude.{◌≡◌, ◌≢◌, All, false, IfOk, Matc
 ghost use Rattle.dm_blocks.specs.Listing.{start_of};
 ghost use Rattle.dm_checker.specs.inner.Watching.{IsBits, IsWatched, IsWatch, IsSeen, IsBrokenIn, Collects, CollectsSecond, CollectsAll};
 
-use crate::main_block::{Main, main_of};
+use crate::marking::marks_of;
 use dm_blocks::{Header, Headers, Step, is_linked, walk};
 use dm_machine::Machine;
 use dm_pool::Block;
+use dm_quiet::Marks;
 use dm_space::Space;
 use std::alloc::{AllocError, Global};
 
@@ -29,15 +30,14 @@ pub(crate) struct Broken {
 }
 
 /// What memory shows of the arena: the headers of its lists, where a list breaks (None: nowhere), whether upper memory
-/// belongs to the arena, and what the windows show; and, to find it at once, the memory of the largest block that is
-/// owned.
+/// belongs to the arena, and what the windows show; and marks on the memory of which something may be found.
 #[derive(Drop)]
 pub(crate) struct Watch {
     pub(crate) headers: Vec<Watched>,
     pub(crate) broken: Option<Broken>,
     pub(crate) upper: bool,
     pub(crate) windows: [Option<Block>; 4],
-    pub(crate) main: Main,
+    pub(crate) marks: Marks,
 }
 
 /// The five bytes at segment:0 as one number, the first byte lowest, read one by one.
@@ -154,13 +154,13 @@ pub(crate) fn read_arena(alloc: Global, machine: &Machine) -> Result<Watch, Allo
     let windows = space.windows();
     let mut headers = Vec::new(alloc);
     let broken = collect_all(&mut headers, space, upper)?;
-    let main = main_of(&headers);
+    let marks = marks_of(alloc, &headers, &windows)?;
     Ok(Watch {
         headers,
         broken,
         upper,
         windows,
-        main,
+        marks,
     })
 }
 

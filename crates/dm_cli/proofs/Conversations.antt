@@ -18,7 +18,7 @@ abbrev pub left_of : Option (List ℕ) → List ℕ
 left_of None = []
 left_of (Some xs) = xs
 
-left_is : (rest : Option (List ℕ)) → IfSome rest (λ xs. left_of rest ≡ xs)
+pub left_is : (rest : Option (List ℕ)) → IfSome rest (λ xs. left_of rest ≡ xs)
 left_is None = tt
 left_is (Some xs) = refl
 

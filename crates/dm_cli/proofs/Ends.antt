@@ -106,3 +106,12 @@ known_of_reader rem r t c n capacity empty inner limit kept =
     ∙ ap (take_remaining rem) inner
     ∙ ap (λ k. option_map (take k) (rem (take_inner t))) limit
     ∙ ap (λ x. option_map (take n) (rem x)) kept
+
+-- the same of a reader over another that is read to its end
+pub known_of_plain_reader : {T A : Type 0} (rem : T → Option (List ℕ)) (r : BufReader T A) (c : T) → reader_capacity r ≡ 8192 → reader_buffer r ≡ [] → reader_inner r ≡ c
+    → reader_remaining rem r ≡ rem c
+known_of_plain_reader rem r c capacity empty inner =
+    ap (λ k. if k == 0 then None else prepend_known (reader_buffer r) (rem (reader_inner r))) capacity
+    ∙ ap (λ b. prepend_known b (rem (reader_inner r))) empty
+    ∙ prepend-nil _
+    ∙ ap rem inner

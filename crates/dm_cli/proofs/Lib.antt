@@ -9,3 +9,4 @@ pub mod Checked
 pub mod Ran
 pub mod Printed
 pub mod Unread
+pub mod Served

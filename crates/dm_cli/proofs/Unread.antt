@@ -125,7 +125,7 @@ save_tells (fault.Unknown x) n h = tt
 save_tells (fault.Range x) n h = tt
 save_tells (fault.Twice x) n h = tt
 
-line_tells : (f : Fault) → IsReadFault f → TellsOfNoFile (Some f)
+pub line_tells : (f : Fault) → IsReadFault f → TellsOfNoFile (Some f)
 line_tells fault.NotFound h = tt
 line_tells fault.BadFormat h = tt
 line_tells fault.Short h = tt
@@ -143,7 +143,7 @@ line_tells (fault.Unknown x) h = tt
 line_tells (fault.Range x) h = tt
 line_tells (fault.Twice x) h = tt
 
-answer_tells : (f : Fault) → IsWriteFault f → TellsOfNoFile (Some f)
+pub answer_tells : (f : Fault) → IsWriteFault f → TellsOfNoFile (Some f)
 answer_tells fault.NotFound h = tt
 answer_tells fault.BadFormat h = tt
 answer_tells fault.Short h = tt

@@ -7,6 +7,7 @@ pub mod Saving
 pub mod Starting
 pub mod Assembling
 pub mod Debugging
+pub mod Serving
 pub mod Messages
 pub mod Checking
 pub mod Program

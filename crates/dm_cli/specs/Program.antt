@@ -23,6 +23,7 @@ use Rattle.dm_cli.specs.Debugging.{Debugs}
 use Rattle.dm_cli.specs.Faults.{IsWriteFault, fault_line}
 use Rattle.dm_cli.specs.Reads.{ReadsFiles, fault_if}
 use Rattle.dm_cli.specs.Messages.{Stream, Prints, Reports, outcome_text}
+use Rattle.dm_cli.specs.Serving.{DebugsByGdb}
 use Rattle.dm_cli.specs.Starting.{IsStartedBy, IsStartFault}
 use Rattle.dm_cli.specs.Statuses.{status_of, status_after}
 
@@ -94,6 +95,8 @@ pub data Does (g : Given) (words : List Text) (l : Left) : Type 0 where
   checks : (o : CheckOptions) (outcome : Result ℕ Fault) → IsParsed words (command.Check o) → Checks g.files g.typed o g.output l.output g.failures l.failures g.messages l.messages outcome
       → IfErr outcome (λ fault. Prints (fault_line fault) g.messages l.messages) → SavesNothing g l → ReadsFiles g.unread l.unread (fault_if outcome) → l.status ≡ check_status outcome → Does g words l
   debugs : (o : DebugOptions) (end : Option Fault) → IsParsed words (command.Debug o) → Debugs g.files g.typed o g.output l.output g.failures l.failures end
+      → Reports g.messages l.messages end → SavesNothing g l → ReadsFiles g.unread l.unread end → l.status ≡ status_after end → Does g words l
+  debugs_by_gdb : (o : DebugOptions) (end : Option Fault) → IsParsed words (command.Gdb o) → DebugsByGdb g.files g.typed o g.output l.output g.failures l.failures end
       → Reports g.messages l.messages end → SavesNothing g l → ReadsFiles g.unread l.unread end → l.status ≡ status_after end → Does g words l
   assembles : (o : AsmOptions) (end : Option Fault) → IsParsed words (command.Asm o) → Assembles g.files o g.saved l.saved g.failed_saves l.failed_saves end
       → Reports g.messages l.messages end → IsSilent g l → ReadsFiles g.unread l.unread end → l.status ≡ status_after end → Does g words l

@@ -1,4 +1,4 @@
--- The machine that `dm run`, `dm check` and `dm debug` begin with, and the first fault that keeps them from it.
+-- The machine that `dm run`, `dm check`, `dm debug` and `dm gdb` begin with, and the first fault that keeps them from it.
 use Rattle.std.specs.Prelude.{ℕ, ◌≡◌, ◌<◌, ◌≤◌, ◌++◌, List, [], ◌∷◌, Option, None, IsSomeAnd, map, option_map, length}
 use Rattle.dm_options.specs.declared.command_line.DebugOptions.{DebugOptions}
 use Rattle.dm_options.specs.declared.command_line.MachineOptions.{MachineOptions}
@@ -25,7 +25,7 @@ paths_of o = map (λ path. path.now) o.files.items
 abbrev pub IsStartedBy : (List ℕ → Option (List ℕ)) → Option (List ℕ) → MachineOptions → State → Type 0
 IsStartedBy files typed o m = IsStarted files typed (sizes_of o) o.upper (paths_of o) o.tail.now m
 
--- the console input of `dm debug`, where it is known: the file of `--input`, or nothing
+-- the console input of `dm debug` and `dm gdb`, where it is known: the file of `--input`, or nothing
 abbrev pub typed_in : (List ℕ → Option (List ℕ)) → DebugOptions → Option (List ℕ)
 typed_in files o = bytes_if_any files (option_map (λ path. path.now) o.input)
 

@@ -13,7 +13,7 @@ abbrev pub status_of : {E : Type 0} → Result Stop E → ℕ
 status_of (Ok stop) = stop_status stop
 status_of (Err _) = 126
 
--- the exit status of `dm debug`, `dm asm` and `dm disasm`: 0, or 126 at a fault
+-- the exit status of `dm debug`, `dm gdb`, `dm asm` and `dm disasm`: 0, or 126 at a fault
 abbrev pub status_after : {E : Type 0} → Option E → ℕ
 status_after None = 0
 status_after (Some _) = 126

@@ -4,5 +4,6 @@ pub mod Debugging
 pub mod Faults
 pub mod Names
 pub mod Program
+pub mod Serving
 pub mod Starting
 pub mod Statuses

@@ -18,6 +18,7 @@ use crate::files::Storage;
 use crate::loading::loaded;
 use crate::messages::{Messages, print, print_fault, stop_line};
 use crate::output::run_program;
+use crate::serving::gdb;
 use dm_machine::{Machine, Out, Stop};
 use dm_options::command_line::{MachineOptions, Options, OptionsError};
 use dm_options::{not_unicode, options};
@@ -118,7 +119,7 @@ fn concluded<E: Out>(outcome: Result<u8, Fault<'_>>, error: &mut E) -> u8
     }
 }
 
-/// Prints the fault of a `dm debug`, `dm asm` or `dm disasm` on `error`, if there is one, and returns the exit status:
+/// Prints the fault of a `dm debug`, `dm gdb`, `dm asm` or `dm disasm` on `error`, if there is one, and returns the exit status:
 /// 0, or 126 at a fault, also if the fault cannot be printed.
 fn told<E: Out>(outcome: Result<(), Fault<'_>>, error: &mut E) -> u8
     ensures status { result ≡ status_after (end_of outcome.entry) }
@@ -150,6 +151,10 @@ fn told<E: Out>(outcome: Result<(), Fault<'_>>, error: &mut E) -> u8
 /// order: the console's input is the file of `--input`, and none without it. The commands are read after `short`, a
 /// line at a time, and each is done before the next is read; where they have more than 16 MiB, `input too long`
 /// comes after the answers so far.
+///
+/// `dm gdb` speaks the remote serial protocol of GDB on standard input and output. It exits with status 0 at the end of
+/// the input, or once GDB has detached or killed the program; its faults are those of `dm debug`, in the same order. Each
+/// time that GDB lets the program go on, it makes at most the steps of `--steps`, and is then told of a signal SIGALRM.
 ///
 /// `dm asm` and `dm disasm` exit with status 0, or report a fault with status 126: `cannot read NAME` or
 /// `input too long` of the file that they read, then `too long` (over 65,278 bytes of program) or `line N: ` and
@@ -194,6 +199,7 @@ pub fn dm_main<S: AsStr, F: Storage, I: Read + Drop, W: Out, E: Out>(
             concluded(check(alloc, storage, &options, input, out, error), error)
         }
         Ok(Options::Debug(options)) => told(debug(alloc, storage, &options, input, out), error),
+        Ok(Options::Gdb(options)) => told(gdb(alloc, storage, &options, input, out), error),
         Ok(Options::Asm(options)) => told(asm(alloc, storage, &options), error),
         Ok(Options::Disasm(path)) => told(disasm(alloc, storage, path, out), error),
         Err(OptionsError::Usage(text)) => {

@@ -11,6 +11,7 @@ mod loading;
 mod messages;
 mod names;
 mod output;
+mod serving;
 
 pub use commands::{dm_main, refuse_words};
 pub use dm_options::{command_line, options};

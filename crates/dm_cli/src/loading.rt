@@ -1,4 +1,4 @@
-//! The machine that `dm run`, `dm check` and `dm debug` begin with, with the first file loaded.
+//! The machine that `dm run`, `dm check`, `dm debug` and `dm gdb` begin with, with the first file loaded.
 ghost use Rattle.std.specs.Prelude.{◌≡◌, Some, IfErr, IfOk, IsSomeAnd, OnOk, codes, map, option_map};
 ghost use Rattle.dm_cli.specs.Reads.{IsKept, ReadsFiles, TellsOfNoFile, fault_if};
 ghost use Rattle.dm_cli.specs.inner.Starting.{IsFirstFault, IsFirstLoaded};
@@ -139,7 +139,7 @@ fn read_if_any<'a, F: Storage>(
     }
 }
 
-/// The machine of `dm debug`, with the first file loaded; its console input is the file of `--input`, if there is one.
+/// The machine of `dm debug` and `dm gdb`, with the first file loaded; its console input is the file of `--input`, if there is one.
 /// Or the first fault: of the files, of the input, of the machine.
 pub(crate) fn loaded_for_debug<'a, F: Storage>(
     alloc: Global,

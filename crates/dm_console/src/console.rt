@@ -1,16 +1,17 @@
 //! The console: input that is read byte by byte, and output that is kept in memory.
-ghost use Rattle.std.specs.Prelude.{◌≡◌, ◌+◌, ◌-◌, ◌≤◌, ◌<◌, ◌++◌, [], ◌∷◌, IfOk, IsOk, OnOk, OnErr, drop, length, max, slice_get, vec_len, vec_capacity};
+ghost use Rattle.std.specs.Prelude.{◌≡◌, ◌+◌, ◌-◌, ◌≤◌, ◌<◌, ◌++◌, [], ◌∷◌, true, false, IfOk, IsOk, OnOk, OnErr, drop, length, max, slice_get, vec_len, vec_capacity};
 ghost use Rattle.dm_console.specs.Streams.{Streams};
 
 use std::alloc::{AllocError, Global};
 use std::marker::Model;
 
-/// The input that is left, and all output so far. The *room* is how many more bytes can be written
-/// without an allocation.
+/// The input that is left, whether more may come after it, and all output so far. The *room* is how many more bytes can
+/// be written without an allocation.
 #[derive(Drop)]
 pub struct Console {
     input: Vec<u8>,
     taken: usize,
+    more: bool,
     output: Vec<u8>,
     room: usize,
 }
@@ -18,25 +19,26 @@ pub struct Console {
 impl Model for Console {
     ghost Value = { Streams };
 
-    ghost view = { λ c. record { input = drop c.taken c.input.items; output = c.output.items; room = c.room } };
+    ghost view = { λ c. record { input = drop c.taken c.input.items; more = c.more; output = c.output.items; room = c.room } };
 
     ghost invariant = { λ c. (c.taken ≤ vec_len c.input) × (vec_len c.output + c.room ≤ vec_capacity c.output) };
 }
 
 impl Console {
-    /// A console with this input, no output and no room. It allocates no memory.
+    /// A console with this input, after which no more comes, no output and no room. It allocates no memory.
     pub fn new(alloc: Global, input: Vec<u8>) -> Console
-        ensures { result ≡ record { input = input.items; output = []; room = 0 } }
+        ensures { result ≡ record { input = input.items; more = false; output = []; room = 0 } }
     {
         Console {
             input,
             taken: 0,
+            more: false,
             output: Vec::new(alloc),
             room: 0,
         }
     }
 
-    /// Another console with the same input, output and room.
+    /// Another console with the same input, output and room; more input may come if it may come here.
     ///
     /// # Errors
     ///
@@ -50,6 +52,7 @@ impl Console {
         Ok(Console {
             input,
             taken: 0,
+            more: self.more,
             output,
             room: self.room,
         })
@@ -121,6 +124,32 @@ impl Console {
         ensures { result ≡ length self.now.input }
     {
         self.input.len() - self.taken
+    }
+
+    /// Whether more input may come after what is left.
+    pub fn more(&self) -> bool
+        ensures { result ≡ self.now.more }
+    {
+        self.more
+    }
+
+    /// Says whether more input may come after what is left. Input, output and room stay.
+    pub fn set_more(&mut self, more: bool)
+        ensures { self.new ≡ record self.old { more = more } }
+    {
+        self.more = more;
+    }
+
+    /// Appends bytes to the input that is left. Output and room stay, and so does whether more may come.
+    ///
+    /// # Errors
+    ///
+    /// `AllocError` if the allocation fails, and nothing has changed.
+    pub fn supply(&mut self, bytes: &[u8]) -> Result<(), AllocError>
+        ensures ok { OnOk result (self.new ≡ record self.old { input = self.old.input ++ bytes.now }) }
+        ensures err { OnErr result (self.new ≡ self.old) }
+    {
+        self.input.extend_from_slice(bytes)
     }
 
     /// All output so far.

@@ -233,8 +233,15 @@ impl Ems {
     pub fn page(&self, handle: u16, page: u16) -> Option<Block>
         ensures { result ≡ slice_get (blocks_of self.now handle) page }
     {
-        let blocks = self.blocks(handle);
-        blocks.as_slice().get(page as usize).copied()
+        let found = self
+            .pages
+            .iter()
+            .filter(|it| it.handle == handle)
+            .nth(page as usize);
+        match found {
+            Some(it) => Some(it.block),
+            None => None,
+        }
     }
 
     /// The number of pages of a handle.

@@ -32,8 +32,11 @@ need-lies : {A : Type 0} (m : Memory) (n : ℕ) (o : Option A) (e : Status) (f :
 need-lies m n None e f h = refuses m n e
 need-lies m n (Some v) e f h = h v
 
-count-blocks : (ems : Tables) (h : ℕ) → length (blocks_of ems h) ≡ page_count ems h
+pub count-blocks : (ems : Tables) (h : ℕ) → length (blocks_of ems h) ≡ page_count ems h
 count-blocks ems h = length-map (filter (is_of h) ems.pages) (λ (page : Page). page.block) ∙ length-filter (is_of h) ems.pages
+
+pub few-blocks : (ems : Tables) (h : ℕ) → length ems.pages ≤ 512 → length (blocks_of ems h) ≤ 512
+few-blocks ems h few = omega (arith, few, count-blocks ems h, count_by-le-length (is_of h) ems.pages)
 
 few-pages : (ems : Tables) (h : ℕ) → length ems.pages ≤ 512 → page_count ems h ≤ 512
 few-pages ems h few = omega (arith, few, count_by-le-length (is_of h) ems.pages)

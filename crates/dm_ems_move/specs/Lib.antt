@@ -4,3 +4,4 @@ pub mod Many
 pub mod Maps
 pub mod Laws
 pub mod RegionMoves
+pub mod inner

@@ -1,16 +1,19 @@
 //! Regions of memory that are moved or exchanged (LIM EMS 4.0, function 24; INT 67h function 57h). They overlap where
 //! they share a byte of memory or ROM; an address without memory is none.
 
-ghost use Rattle.std.specs.Prelude.{◌≡◌, ◌≤◌, ◌+◌, IfOk, OnErr};
-ghost use Rattle.dm_ems.specs.Tables.{expanded};
+ghost use Rattle.std.specs.Prelude.{◌≡◌, ◌≤◌, ◌<◌, ◌+◌, length, IfOk, OnErr};
+ghost use Rattle.dm_ems.specs.Tables.{expanded, blocks_of, page_count};
+ghost use Rattle.dm_ems_move.specs.inner.Listed.{HasBlocks};
 ghost use Rattle.dm_ems.specs.Consistent.{IsConsistent};
 ghost use Rattle.dm_ems.specs.Calls.{answer, left};
 ghost use Rattle.dm_moves.specs.Spans.{IsInside};
-ghost use Rattle.dm_ems_move.specs.RegionMoves.{length_at, conventional, expanded_region, region_of, regions_of, is_linear, are_mixed, move_between, exchange_between, move_region, exchange_region, moved_code};
+ghost use Rattle.dm_ems_move.specs.RegionMoves.{length_at, conventional, expanded_region, region_of, regions_of, described, is_linear, are_mixed, move_between, exchange_between, move_region, exchange_region, moved_code};
 
 use crate::description::{DESTINATION, Description, SOURCE, described, length_at};
+use arrayvec::ArrayVec;
 use dm_ems::{Ems, Status};
 use dm_moves::{Span, SpanKind, exchange_bytes, move_bytes, overlap};
+use dm_pool::Block;
 use dm_space::Space;
 
 /// The largest number of bytes that a call moves or exchanges: 1 MiB.
@@ -44,7 +47,7 @@ impl Moved {
 }
 
 /// The region of `len` bytes of conventional memory that is described; `PastMemory` if it ends after FFFFFh.
-fn conventional(described: Description, len: usize) -> Result<Span, Status>
+fn conventional(described: Description, len: usize) -> Result<Span<'static>, Status>
     requires { len ≤ 0x100000 }
     ensures { result ≡ conventional described len }
 {
@@ -55,10 +58,43 @@ fn conventional(described: Description, len: usize) -> Result<Span, Status>
     Ok(Span::linear(start))
 }
 
-/// The region of `len` bytes of a handle's pages that is described; `UnknownHandle`, `OffsetPastPage`, `NoSuchPage`
-/// or `PastPages`, in this order, if there is none.
-fn expanded_region(ems: &Ems, described: Description, len: usize) -> Result<Span, Status>
-    requires { len ≤ 0x100000 }
+/// The blocks of the pages of the handle that the region has which is described `k` bytes after segment:offset; none for
+/// conventional memory.
+fn blocks_at(ems: &Ems, space: &Space, segment: u16, offset: u16, k: usize) -> ArrayVec<Block, 512>
+    requires { k < 0x1000 }
+    ensures { HasBlocks ems.now (described space.now.memory segment offset k) result.items }
+{
+    let described = described(space, segment, offset, k);
+    // The proof needs that a list has at most 512 blocks, which the contract of `pages` states.
+    let _pages = ems.pages();
+    if described.kind == 0 {
+        return ArrayVec::new();
+    }
+    ems.blocks(described.handle)
+}
+
+/// The number of the pages of a handle, whose blocks are given.
+fn count_of(ems: &Ems, handle: u16, blocks: &[Block]) -> u16
+    requires blocks { blocks.now ≡ blocks_of ems.now handle }
+    requires few { length blocks.now ≤ 512 }
+    ensures count { result ≡ page_count ems.now handle }
+    ensures few { result ≤ 512 }
+{
+    let (_ems, _handle) = (ems, handle);
+    blocks.len() as u16
+}
+
+/// The region of `len` bytes of a handle's pages, whose blocks are given, that is described; `UnknownHandle`,
+/// `OffsetPastPage`, `NoSuchPage` or `PastPages`, in this order, if there is none.
+fn expanded_region<'a>(
+    ems: &Ems,
+    described: Description,
+    blocks: &'a [Block],
+    len: usize,
+) -> Result<Span<'a>, Status>
+    requires len { len ≤ 0x100000 }
+    requires blocks { blocks.now ≡ blocks_of ems.now described.handle }
+    requires few { length blocks.now ≤ 512 }
     ensures { result ≡ expanded_region ems.now described len }
 {
     if ems.slot(described.handle).is_none() {
@@ -67,7 +103,7 @@ fn expanded_region(ems: &Ems, described: Description, len: usize) -> Result<Span
     if described.offset > 0x3FFF {
         return Err(Status::OffsetPastPage);
     }
-    let pages = ems.page_count(described.handle);
+    let pages = count_of(ems, described.handle, blocks);
     if described.page >= pages {
         return Err(Status::NoSuchPage);
     }
@@ -75,14 +111,21 @@ fn expanded_region(ems: &Ems, described: Description, len: usize) -> Result<Span
     if start + len > pages as usize * PAGE {
         return Err(Status::PastPages);
     }
-    Ok(Span::pages(ems.blocks(described.handle), start))
+    Ok(Span::pages(blocks, start))
 }
 
-/// The region of `len` bytes that is described: type 0 is conventional memory, type 1 pages of a handle.
+/// The region of `len` bytes that is described: type 0 is conventional memory, type 1 pages of a handle, whose blocks
+/// are given.
 /// `UnknownKind` for another type, else the errors of the region's type.
 #[tactic(auto, unfolding(crate::specs::RegionMoves::region_of))]
-fn region_of(ems: &Ems, described: Description, len: usize) -> Result<Span, Status>
-    requires { len ≤ 0x100000 }
+fn region_of<'a>(
+    ems: &Ems,
+    described: Description,
+    blocks: &'a [Block],
+    len: usize,
+) -> Result<Span<'a>, Status>
+    requires len { len ≤ 0x100000 }
+    requires blocks { HasBlocks ems.now described blocks.now }
     ensures { result ≡ region_of ems.now described len }
 {
     if described.kind > 1 {
@@ -91,26 +134,32 @@ fn region_of(ems: &Ems, described: Description, len: usize) -> Result<Span, Stat
     if described.kind == 0 {
         conventional(described, len)
     } else {
-        expanded_region(ems, described, len)
+        expanded_region(ems, described, blocks, len)
     }
 }
 
 /// The source and the destination, of `len` bytes each, that the structure at segment:offset describes; the source's
-/// errors come first.
+/// errors come first. The blocks of the pages of each are given, where it is one of pages.
 #[tactic(auto, unfolding(crate::specs::RegionMoves::regions_of))]
-fn regions_of(
+fn regions_of<'a>(
     ems: &Ems,
     space: &Space,
     segment: u16,
     offset: u16,
     len: usize,
-) -> Result<(Span, Span), Status>
-    requires { len ≤ 0x100000 }
+    sources: &'a [Block],
+    destinations: &'a [Block],
+) -> Result<(Span<'a>, Span<'a>), Status>
+    requires len { len ≤ 0x100000 }
+    requires sources { HasBlocks ems.now (described space.now.memory segment offset 4) sources.now }
+    requires destinations { HasBlocks ems.now (described space.now.memory segment offset 11) destinations.now }
     ensures { result ≡ regions_of (expanded ems.now space.now.memory) segment offset len }
 {
-    match region_of(ems, described(space, segment, offset, SOURCE), len) {
+    let source = described(space, segment, offset, SOURCE);
+    match region_of(ems, source, sources, len) {
         Ok(from) => {
-            match region_of(ems, described(space, segment, offset, DESTINATION), len) {
+            let destination = described(space, segment, offset, DESTINATION);
+            match region_of(ems, destination, destinations, len) {
                 Ok(to) => Ok((from, to)),
                 Err(status) => Err(status),
             }
@@ -120,7 +169,7 @@ fn regions_of(
 }
 
 /// Whether a region is one of conventional memory.
-fn is_linear(region: &Span) -> bool
+fn is_linear(region: &Span<'_>) -> bool
     ensures { result ≡ is_linear region.now.kind }
 {
     match region.kind() {
@@ -131,7 +180,7 @@ fn is_linear(region: &Span) -> bool
 }
 
 /// Whether one region is of conventional memory and the other is not.
-fn are_mixed(from: &Span, to: &Span) -> bool
+fn are_mixed(from: &Span<'_>, to: &Span<'_>) -> bool
     ensures { result ≡ are_mixed from.now to.now }
 {
     if is_linear(from) {
@@ -149,8 +198,8 @@ fn move_between(
     ems: &Ems,
     space: &mut Space,
     len: usize,
-    from: &Span,
-    to: &Span,
+    from: &Span<'_>,
+    to: &Span<'_>,
 ) -> Result<Moved, Status>
     requires len { len ≤ 0x100000 }
     requires from { IsInside space.old.memory from.now len }
@@ -177,8 +226,8 @@ fn exchange_between(
     ems: &Ems,
     space: &mut Space,
     len: usize,
-    from: &Span,
-    to: &Span,
+    from: &Span<'_>,
+    to: &Span<'_>,
 ) -> Result<(), Status>
     requires len { len ≤ 0x100000 }
     requires from { IsInside space.old.memory from.now len }
@@ -230,7 +279,18 @@ pub fn move_region(ems: &Ems, space: &mut Space, segment: u16, offset: u16) -> R
     }
     // The proof needs that there are at most 512 pages, which the contract of `pages` states.
     let _pages = ems.pages();
-    match regions_of(ems, space, segment, offset, len) {
+    let sources = blocks_at(ems, space, segment, offset, SOURCE);
+    let destinations = blocks_at(ems, space, segment, offset, DESTINATION);
+    let regions = regions_of(
+        ems,
+        space,
+        segment,
+        offset,
+        len,
+        sources.as_slice(),
+        destinations.as_slice(),
+    );
+    match regions {
         Ok((from, to)) => move_between(ems, space, len, &from, &to),
         Err(status) => Err(status),
     }
@@ -266,7 +326,18 @@ pub fn exchange_region(
     }
     // The proof needs that there are at most 512 pages, which the contract of `pages` states.
     let _pages = ems.pages();
-    match regions_of(ems, space, segment, offset, len) {
+    let sources = blocks_at(ems, space, segment, offset, SOURCE);
+    let destinations = blocks_at(ems, space, segment, offset, DESTINATION);
+    let regions = regions_of(
+        ems,
+        space,
+        segment,
+        offset,
+        len,
+        sources.as_slice(),
+        destinations.as_slice(),
+    );
+    match regions {
         Ok((from, to)) => exchange_between(ems, space, len, &from, &to),
         Err(status) => Err(status),
     }

@@ -46,7 +46,8 @@ base_of c = if c.cs == c.ds then c.ds * 16 else (c.ds + 0x10) * 16
 abbrev pub new_server : State → Served
 new_server m = record { session = new_session m; points = []; shown = 0; base = base_of m.cpu; ended = false }
 
--- the reply to a request that asks for nothing of the machine, or for nothing that this server has
+-- the reply to a request that asks for nothing of the machine, or for nothing that this server has: empty, but an error where
+-- GDB would take the empty reply for leave to try another request, which has no reply (`R` in place of `vRun`)
 abbrev pub plain_reply : Request → Reply
 plain_reply request.Why = reply.Signal 0x05
 plain_reply request.Supported = reply.Abilities
@@ -62,6 +63,7 @@ plain_reply request.Extended = reply.Done
 plain_reply request.Kill = reply.Done
 plain_reply request.Detach = reply.Done
 plain_reply request.Malformed = reply.Refused 0x01
+plain_reply request.Restart = reply.Refused 0x01
 plain_reply _ = reply.Unknown
 
 -- the reply where steps ended for this reason; None at a breakpoint, or out of a range

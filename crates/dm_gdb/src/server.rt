@@ -43,7 +43,8 @@ impl Model for Server {
     ghost view = { λ s. record { session = s.session; points = s.points.items; shown = s.shown; base = s.base; ended = s.is_ended } };
 }
 
-/// The reply to a request that asks for nothing of the machine, or for nothing that this server has.
+/// The reply to a request that asks for nothing of the machine, or for nothing that this server has: empty, but an error for
+/// `vRun`, since GDB would send `R` after an empty reply, and expect no reply to that.
 fn plain_reply(request: &Request) -> Reply
     ensures { result ≡ plain_reply request.now }
 {
@@ -62,6 +63,7 @@ fn plain_reply(request: &Request) -> Reply
         Request::Kill => Reply::Done,
         Request::Detach => Reply::Done,
         Request::Malformed => Reply::Refused(BAD),
+        Request::Restart => Reply::Refused(BAD),
         _ => Reply::Unknown,
     }
 }

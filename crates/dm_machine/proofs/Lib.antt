@@ -10,5 +10,6 @@ mod NoRoom
 mod Rooms
 mod Consistency
 mod UntilLaws
+mod Passing
 mod UntilRuns
 pub mod OneUntil

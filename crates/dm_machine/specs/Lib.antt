@@ -3,4 +3,5 @@ pub mod Run
 pub mod Start
 pub mod Laws
 pub mod Until
+pub mod Unmarked
 pub mod inner

@@ -48,8 +48,8 @@ pub record IsStartWith (upper : Bool) (sizes : Sizes) (m : Memory) : Type 0 wher
   pub start : IsStart (no_blocks (units_of sizes)) plain
   pub headers : m ≡ with_headers upper plain
 
--- s is a machine as it starts: memory as in `IsStartWith`, registers 0, no handle but handle 0 of expanded memory, no
--- output, no process, the strategy first fit in all of the arena
+-- s is a machine as it starts: memory as in `IsStartWith`, registers 0, no handle but handle 0 of expanded memory, this
+-- input, after which no more comes, no output, no process, the strategy first fit in all of the arena
 pub record IsNew (sizes : Sizes) (variables : List ℕ) (upper : Bool) (programs : List (List ℕ × List ℕ)) (input : List ℕ) (s : State) : Type 0 where
   pub memory : IsStartWith upper sizes s.memory
   pub others : s ≡ record {
@@ -57,7 +57,7 @@ pub record IsNew (sizes : Sizes) (variables : List ℕ) (upper : Bool) (programs
     memory = s.memory;
     ems = new_tables sizes.ems_pages;
     xms = xms.new_tables;
-    console = record { input = input; output = []; room = 0 };
+    console = record { input = input; more = false; output = []; room = 0 };
     processes = record { present = 0; parents = []; code = 0 };
     strategy = record { fit = First; area = All };
     exited = None;

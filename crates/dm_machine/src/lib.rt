@@ -3,11 +3,13 @@
 
 mod copy;
 mod decode_cache;
+mod input;
 mod laws;
 mod loading;
 mod machine;
 mod quick;
 mod steps;
+mod unmarked;
 mod until;
 
 pub use dm_cpu::{Cpu, Flags};

@@ -20,7 +20,7 @@ pub(crate) fn run_len(at: usize, left: usize) -> usize
 
 /// Copies `len` bytes of a span, from its byte `k` on, into the scratch bytes from `at` on. The bytes lie between two
 /// multiples of 4000h. The memory and the other scratch bytes stay.
-fn read_run(space: &mut Space, span: &Span, k: usize, at: usize, len: usize)
+fn read_run(space: &mut Space, span: &Span<'_>, k: usize, at: usize, len: usize)
     requires inside { IsInside space.old.memory span.now (k + len) }
     requires some { 0 < len }
     requires run { (span.now.start + k) % 0x4000 + len ≤ 0x4000 }
@@ -38,7 +38,7 @@ fn read_run(space: &mut Space, span: &Span, k: usize, at: usize, len: usize)
 
 /// Writes `len` scratch bytes from `at` on to a span, from its byte `k` on, upwards. The bytes written lie between two
 /// multiples of 4000h. The scratch bytes stay.
-fn write_run(space: &mut Space, span: &Span, k: usize, at: usize, len: usize)
+fn write_run(space: &mut Space, span: &Span<'_>, k: usize, at: usize, len: usize)
     requires inside { IsInside space.old.memory span.now (k + len) }
     requires some { 0 < len }
     requires run { (span.now.start + k) % 0x4000 + len ≤ 0x4000 }
@@ -56,7 +56,7 @@ fn write_run(space: &mut Space, span: &Span, k: usize, at: usize, len: usize)
 
 /// Copies the first `len` bytes of a span into the scratch bytes from `at` on. The memory and the other scratch bytes
 /// stay.
-fn read(space: &mut Space, span: &Span, at: usize, len: usize)
+fn read(space: &mut Space, span: &Span<'_>, at: usize, len: usize)
     requires inside { IsInside space.old.memory span.now len }
     requires scratch { at + len ≤ 0x200000 }
     ensures { space.new ≡ read_in space.old span.now 0 at len }
@@ -71,7 +71,7 @@ fn read(space: &mut Space, span: &Span, at: usize, len: usize)
 }
 
 /// Writes `len` scratch bytes from `at` on to the first bytes of a span, upwards. The scratch bytes stay.
-fn write(space: &mut Space, at: usize, span: &Span, len: usize)
+fn write(space: &mut Space, at: usize, span: &Span<'_>, len: usize)
     requires inside { IsInside space.old.memory span.now len }
     requires scratch { at + len ≤ 0x200000 }
     ensures { space.new ≡ written_out space.old span.now 0 at len }
@@ -88,7 +88,7 @@ fn write(space: &mut Space, at: usize, span: &Span, len: usize)
 /// Copies the first `len` bytes of one span to another (INT 67h function 57h, AL = 0; XMS 3.0, function 0Bh with memory
 /// of handle 0): all are read into the scratch bytes, and then written upwards.
 /// What is written to ROM, or where there is no memory, is lost. Nothing is promised of the scratch bytes afterwards.
-pub fn move_bytes(space: &mut Space, from: &Span, to: &Span, len: usize)
+pub fn move_bytes(space: &mut Space, from: &Span<'_>, to: &Span<'_>, len: usize)
     requires from { IsInside space.old.memory from.now len }
     requires to { IsInside space.old.memory to.now len }
     requires scratch { len ≤ 0x200000 }
@@ -102,7 +102,7 @@ pub fn move_bytes(space: &mut Space, from: &Span, to: &Span, len: usize)
 /// Copies the first `len` bytes of one span to another, each of them in one block, which may be the same (XMS 3.0,
 /// function 0Bh between handles): the result is as if all were read before the first is written. The scratch bytes are
 /// not used and stay as they are, so `len` may exceed their number.
-pub fn move_blocks(space: &mut Space, from: &Span, to: &Span, len: usize)
+pub fn move_blocks(space: &mut Space, from: &Span<'_>, to: &Span<'_>, len: usize)
     requires blocks { (from.now.kind ≡ SpanKind.Single) × (to.now.kind ≡ SpanKind.Single) }
     requires from { IsInside space.old.memory from.now len }
     requires to { IsInside space.old.memory to.now len }
@@ -120,7 +120,7 @@ pub fn move_blocks(space: &mut Space, from: &Span, to: &Span, len: usize)
 /// Exchanges the first `len` bytes of two spans (INT 67h function 57h, AL = 1): the bytes of both are read into the
 /// scratch bytes, and then written upwards to the other span, to `to` first. What is written to ROM, or where there
 /// is no memory, is lost. Nothing is promised of the scratch bytes afterwards.
-pub fn exchange_bytes(space: &mut Space, from: &Span, to: &Span, len: usize)
+pub fn exchange_bytes(space: &mut Space, from: &Span<'_>, to: &Span<'_>, len: usize)
     requires from { IsInside space.old.memory from.now len }
     requires to { IsInside space.old.memory to.now len }
     requires scratch { len ≤ 0x100000 }

@@ -63,7 +63,7 @@ fn runs_meet(p: Place, n: usize, q: Place, l: usize) -> bool
 
 /// Whether the `n` places side by side from `p` on and the first `len` bytes of a span share a place that is memory or
 /// ROM.
-fn run_meets(space: &Space, p: &Place, n: usize, span: &Span, len: usize) -> bool
+fn run_meets(space: &Space, p: &Place, n: usize, span: &Span<'_>, len: usize) -> bool
     requires n { 0 < n }
     requires inside { IsInside space.now.memory span.now len }
     ensures { result ≡ any_two n len (λ i j. is_shared (shift p.now i) (place_in space.now.memory span.now j)) }
@@ -81,7 +81,7 @@ fn run_meets(space: &Space, p: &Place, n: usize, span: &Span, len: usize) -> boo
 
 /// Whether the first `len` bytes of two spans share a place that is memory or ROM.
 #[tactic(auto, unfolding(crate::specs::Overlaps::overlap))]
-pub fn overlap(space: &Space, from: &Span, to: &Span, len: usize) -> bool
+pub fn overlap(space: &Space, from: &Span<'_>, to: &Span<'_>, len: usize) -> bool
     requires from { IsInside space.now.memory from.now len }
     requires to { IsInside space.now.memory to.now len }
     ensures { result ≡ overlap space.now.memory from.now to.now len }

@@ -3,10 +3,10 @@
 ghost use Rattle.std.specs.Prelude.{◌≡◌, ◌+◌, ◌^◌, ◌<◌, ◌∷◌, []};
 ghost use Rattle.dm_moves.specs.Spans.{span, place_in, IsInside};
 
-use arrayvec::ArrayVec;
 use dm_pool::Block;
 use dm_space::{Place, Space};
 use std::marker::Model;
+use std::slice;
 
 /// How many bytes a page of expanded memory has.
 pub(crate) const PAGE: usize = 0x4000;
@@ -23,38 +23,38 @@ pub enum SpanKind {
 }
 
 /// What a span lies in, and where it begins. Its bytes are counted from there. A span has no length: each function is
-/// given the number of bytes it works on.
+/// given the number of bytes it works on. The list of its blocks is lent to it.
 #[derive(Drop)]
-pub struct Span {
+pub struct Span<'a> {
     kind: SpanKind,
     start: usize,
-    blocks: ArrayVec<Block, 512>,
+    blocks: &'a [Block],
 }
 
-impl Model for Span {
+impl<'a> Model for Span<'a> {
     ghost use Rattle.dm_moves.specs.Spans.{Span, span};
 
     ghost Value = { Span };
 
-    ghost view = { λ r. span r.kind r.start r.blocks.items };
+    ghost view = { λ r. span r.kind r.start r.blocks.now };
 }
 
-impl Span {
+impl<'a> Span<'a> {
     /// The span from a linear address on.
-    pub fn linear(address: usize) -> Span
+    pub fn linear(address: usize) -> Span<'a>
         ensures { result ≡ span SpanKind.Linear address [] }
     {
         Span {
             kind: SpanKind::Linear,
             start: address,
-            blocks: ArrayVec::new(),
+            blocks: &[],
         }
     }
 
     /// The span from byte `start` of a list of pages on. Their bytes are counted from the first page on, 4000h for each
     /// page.
-    pub fn pages(blocks: ArrayVec<Block, 512>, start: usize) -> Span
-        ensures { result ≡ span SpanKind.Pages start blocks.items }
+    pub fn pages(blocks: &'a [Block], start: usize) -> Span<'a>
+        ensures { result ≡ span SpanKind.Pages start blocks.now }
     {
         Span {
             kind: SpanKind::Pages,
@@ -64,15 +64,13 @@ impl Span {
     }
 
     /// The span from byte `start` of a block on.
-    pub fn block(block: Block, start: usize) -> Span
-        ensures { result ≡ span SpanKind.Single start (block ∷ []) }
+    pub fn block(block: &'a Block, start: usize) -> Span<'a>
+        ensures { result ≡ span SpanKind.Single start (block.now ∷ []) }
     {
-        let mut blocks = ArrayVec::new();
-        blocks.push(block);
         Span {
             kind: SpanKind::Single,
             start,
-            blocks,
+            blocks: slice::from_ref(block),
         }
     }
 
@@ -96,7 +94,7 @@ impl Span {
     pub(crate) fn blocks(&self) -> &[Block]
         ensures { result.now ≡ self.now.blocks }
     {
-        self.blocks.as_slice()
+        self.blocks
     }
 
     /// The place of byte `k` of the span, A20 taken as on.
@@ -107,8 +105,8 @@ impl Span {
         let at = self.start + k;
         match self.kind {
             SpanKind::Linear => space.place(at),
-            SpanKind::Pages => Place::Page(self.blocks.as_slice()[at / PAGE], at % PAGE),
-            SpanKind::Single => Place::Page(self.blocks.as_slice()[0], at),
+            SpanKind::Pages => Place::Page(self.blocks[at / PAGE], at % PAGE),
+            SpanKind::Single => Place::Page(self.blocks[0], at),
         }
     }
 }

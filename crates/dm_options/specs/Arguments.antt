@@ -41,7 +41,7 @@ files_rule = record (new_rule (codes "files")) {
   required = true;
 }
 
--- the command with the options and files added that `run`, `debug` and `check` share
+-- the command with the options and files added that `run`, `debug`, `check` and `gdb` share
 abbrev pub with_machine_rules : App → App
 with_machine_rules a =
     with_rule (with_rule (with_rule (with_rule (with_rule (with_rule a steps_rule) ems_rule) xms_rule) upper_rule) tail_rule) files_rule
@@ -78,11 +78,15 @@ asm_app = with_rule (with_rule (new_app (codes "asm")) (path_rule (codes "in")))
 abbrev pub disasm_app : App
 disasm_app = with_rule (new_app (codes "disasm")) (path_rule (codes "in"))
 
+-- `dm gdb`: as `dm debug`
+abbrev pub gdb_app : App
+gdb_app = with_rule (with_machine_rules (new_app (codes "gdb"))) input_rule
+
 -- `dm` before its subcommands are added; it must have one, and has `--version`
 abbrev pub named_app : App
 named_app = let empty = new_app (codes "dm") in record empty { top = record empty.top { has_version = true; subcommand_required = true } }
 
 -- `dm` with its subcommands
 unfoldable pub dm_app : App
-dm_app = with_subcommand (with_subcommand (with_subcommand (with_subcommand (with_subcommand named_app run_app.top) debug_app.top) check_app.top)
-    asm_app.top) disasm_app.top
+dm_app = with_subcommand (with_subcommand (with_subcommand (with_subcommand (with_subcommand (with_subcommand named_app run_app.top) debug_app.top) check_app.top)
+    asm_app.top) disasm_app.top) gdb_app.top

@@ -29,7 +29,7 @@ pub record IsGiven (text : Option Text) (b : Bool) : Type 0 where
   pub not_given : text ≡ Some (codes "false") → b ≡ false
   pub unknown : text ≡ None → b ≡ false
 
--- o has the values of the options and files that `dm run`, `dm check` and `dm debug` share, as the rows have them
+-- o has the values of the options and files that `dm run`, `dm check`, `dm debug` and `dm gdb` share, as the rows have them
 pub record HasMachineOptions (rows : List Row) (o : MachineOptions) : Type 0 where
   pub steps : HasNumber 64 (one_of (codes "steps") rows) o.steps
   pub ems_pages : HasNumber 32 (one_of (codes "ems") rows) o.ems_pages
@@ -38,7 +38,7 @@ pub record HasMachineOptions (rows : List Row) (o : MachineOptions) : Type 0 whe
   pub tail : first_of (codes "tail") rows ≡ Some o.tail.now
   pub files : all_of (codes "files") rows ≡ Some (map (λ s. s.now) o.files.items)
 
--- o has the values of the options and files of `dm debug`, as the rows have them
+-- o has the values of the options and files of `dm debug` and `dm gdb`, as the rows have them
 pub record HasDebugOptions (rows : List Row) (o : DebugOptions) : Type 0 where
   pub machine : HasMachineOptions rows o.machine
   pub input : first_of (codes "input") rows ≡ option_map (λ s. s.now) o.input
@@ -57,6 +57,7 @@ pub record HasAsmOptions (rows : List Row) (o : AsmOptions) : Type 0 where
 abbrev pub HasOptions : Text × List Row → Options → Type 0
 HasOptions given (command.Run o) = (given.0 ≡ codes "run") × HasMachineOptions given.1 o
 HasOptions given (command.Debug o) = (given.0 ≡ codes "debug") × HasDebugOptions given.1 o
+HasOptions given (command.Gdb o) = (given.0 ≡ codes "gdb") × HasDebugOptions given.1 o
 HasOptions given (command.Check o) = (given.0 ≡ codes "check") × HasCheckOptions given.1 o
 HasOptions given (command.Asm o) = (given.0 ≡ codes "asm") × HasAsmOptions given.1 o
 HasOptions given (command.Disasm path) = (given.0 ≡ codes "disasm") × (first_of (codes "in") given.1 ≡ Some path.now)

@@ -1,7 +1,7 @@
 //! The commands and arguments of `dm`, as the command-line library `clap` is given them.
 ghost use Rattle.std.specs.Prelude.{◌≡◌, IfOk, IsOk, OnOk, false};
 ghost use Rattle.clap.specs.Words.{app_of, rule_of, with_subcommand};
-ghost use Rattle.dm_options.specs.Arguments.{asm_app, check_app, debug_app, disasm_app, dm_app, ems_rule, files_rule, input_rule, no_free_rule, path_rule, run_app, steps_rule, tail_rule, upper_rule, with_machine_rules, xms_rule};
+ghost use Rattle.dm_options.specs.Arguments.{asm_app, check_app, debug_app, disasm_app, dm_app, ems_rule, files_rule, gdb_app, input_rule, no_free_rule, path_rule, run_app, steps_rule, tail_rule, upper_rule, with_machine_rules, xms_rule};
 ghost use Rattle.clap.specs.declared.Command.TheViews.{out-Command as fields_of};
 
 use clap::builder::ValueParser;
@@ -22,7 +22,7 @@ fn steps_arg<'a>(alloc: Global) -> Arg<'a>
         .value_parser(ValueParser::unsigned(0, 18446744073709551615))
         .default_value("100000000")
         .help(
-            "For run and check: stop after N steps (instructions, repetitions of string instructions, services)",
+            "Stop after N steps: instructions, repetitions of string instructions, services; gdb counts anew each time it goes on, debug ignores it",
         )
 }
 
@@ -87,7 +87,7 @@ fn files_arg<'a>(alloc: Global) -> Arg<'a>
         .help("The program, COM or EXE, then files that it can start; at most 16 MiB each")
 }
 
-/// Adds the options and files that `run`, `debug` and `check` share to a command. An `Err` is a failed allocation.
+/// Adds the options and files that `run`, `debug`, `check` and `gdb` share to a command. An `Err` is a failed allocation.
 fn with_machine_args<'a>(alloc: Global, command: Command<'a>) -> Result<Command<'a>, AllocError>
     ensures app { IfOk result (λ c. app_of c ≡ with_machine_rules (app_of command.entry)) }
     ensures local { (fields_of command.entry).has_globals ≡ false → IfOk result (λ c. (fields_of c).has_globals ≡ false) }
@@ -133,6 +133,19 @@ fn debug_command<'a>(alloc: Global) -> Result<Command<'a>, AllocError>
     let command = Command::new(alloc, "debug")
         .about("Debug a program: each line of standard input is a command, Q ends the session")
         .after_help("Example: printf 'R\\nU 0103:0100\\nG\\n' | dm debug PROGRAM.COM");
+    with_machine_args(alloc, command)?.arg(input_arg(alloc))
+}
+
+/// The command `dm gdb`. An `Err` is a failed allocation.
+fn gdb_command<'a>(alloc: Global) -> Result<Command<'a>, AllocError>
+    ensures app { IfOk result (λ c. app_of c ≡ gdb_app) }
+    ensures local { IfOk result (λ c. (fields_of c).has_globals ≡ false) }
+{
+    let command = Command::new(alloc, "gdb")
+        .about(
+            "Debug a program with GDB, whose remote serial protocol it speaks on standard input and output",
+        )
+        .after_help("Example: gdb -ex 'target extended-remote | dm gdb PROGRAM.COM'");
     with_machine_args(alloc, command)?.arg(input_arg(alloc))
 }
 
@@ -232,5 +245,6 @@ pub(crate) fn dm_command<'a>(alloc: Global) -> Result<Command<'a>, AllocError>
     let command = with_made(command, debug_command(alloc))?;
     let command = with_made(command, check_command(alloc))?;
     let command = with_made(command, asm_command(alloc))?;
-    with_made(command, disasm_command(alloc))
+    let command = with_made(command, disasm_command(alloc))?;
+    with_made(command, gdb_command(alloc))
 }

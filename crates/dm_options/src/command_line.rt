@@ -2,10 +2,10 @@
 
 use thiserror::Error;
 
-/// The options and files of `dm run`, `dm check` and `dm debug`: how the machine is made, and what it runs.
+/// The options and files that `dm run`, `dm check`, `dm debug` and `dm gdb` share: how the machine is made, and what it runs.
 #[derive(Debug, Drop)]
 pub struct MachineOptions<'a> {
-    /// The largest number of steps that the machine makes, from `--steps`.
+    /// The largest number of steps that the machine makes, for `dm gdb` each time that it goes on, from `--steps`.
     pub steps: u64,
     /// The pages of 16 KiB of expanded memory, from `--ems`.
     pub ems_pages: u32,
@@ -19,10 +19,10 @@ pub struct MachineOptions<'a> {
     pub files: Vec<&'a str>,
 }
 
-/// The options and files of `dm debug`.
+/// The options and files of `dm debug` and `dm gdb`.
 #[derive(Debug, Drop)]
 pub struct DebugOptions<'a> {
-    /// How the machine is made, and what it runs; its number of steps has no effect.
+    /// How the machine is made, and what it runs; for `dm debug` its number of steps has no effect.
     pub machine: MachineOptions<'a>,
     /// The path of the file that is the program's console input, from `--input`; None for no input.
     pub input: Option<&'a str>,
@@ -53,6 +53,8 @@ pub enum Options<'a> {
     Run(MachineOptions<'a>),
     /// `dm debug`: debugs the first file.
     Debug(DebugOptions<'a>),
+    /// `dm gdb`: debugs the first file over GDB's remote serial protocol.
+    Gdb(DebugOptions<'a>),
     /// `dm check`: runs the first file, and reports the errors in its use of memory.
     Check(CheckOptions<'a>),
     /// `dm asm`: assembles a text to a file.

@@ -60,7 +60,7 @@ fn files_of<'a>(alloc: Global, matches: &ArgMatches<'a>) -> Result<Vec<&'a str>,
     Ok(files)
 }
 
-/// The options and files that `dm run`, `dm check` and `dm debug` share. An `Err` is a failed allocation.
+/// The options and files that `dm run`, `dm check`, `dm debug` and `dm gdb` share. An `Err` is a failed allocation.
 fn machine_options<'a>(
     alloc: Global,
     matches: &ArgMatches<'a>,
@@ -83,7 +83,7 @@ fn machine_options<'a>(
     })
 }
 
-/// The options and files of `dm debug`. An `Err` is a failed allocation.
+/// The options and files of `dm debug` and `dm gdb`. An `Err` is a failed allocation.
 fn debug_options<'a>(
     alloc: Global,
     matches: &ArgMatches<'a>,
@@ -127,6 +127,7 @@ fn read_subcommand<'a>(
     match name {
         "run" => Ok(Options::Run(machine_options(alloc, matches)?)),
         "debug" => Ok(Options::Debug(debug_options(alloc, matches)?)),
+        "gdb" => Ok(Options::Gdb(debug_options(alloc, matches)?)),
         "check" => Ok(Options::Check(check_options(alloc, matches)?)),
         "asm" => Ok(Options::Asm(asm_options(matches)?)),
         "disasm" => Ok(Options::Disasm(text_of(matches, "in")?)),
@@ -151,7 +152,7 @@ fn found_options<'a>(alloc: Global, matches: &ArgMatches<'a>) -> Result<Options<
 /// PAGES and KIB are decimal numbers below 2^32, and there is at least one file. A number may begin with `+`. The
 /// defaults are 100000000, 64, 1024 and the empty text. A line with an option twice, or with an unknown one, is wrong.
 ///
-/// `dm check` takes the same, and `--no-free`, which may be left out. `dm debug` takes what `dm run` does, and `--input FILE`, which may be left out. `dm asm IN OUT` and
+/// `dm check` takes the same, and `--no-free`, which may be left out. `dm debug` and `dm gdb` take what `dm run` does, and `--input FILE`, which may be left out. `dm asm IN OUT` and
 /// `dm disasm IN` take paths alone.
 ///
 /// # Errors

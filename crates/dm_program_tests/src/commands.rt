@@ -389,6 +389,27 @@ fn lines_before_a_failing_read_are_answered(rt: HostRuntime) -> Result<(), Fail>
     Ok(())
 }
 
+/// The packets before the read that fails are answered, and nothing is read after the end of the conversation.
+///
+/// Definitions: dm_cli Serving Serves IsServed DebugsByGdb
+#[test]
+fn packets_before_a_failing_read_are_answered(rt: HostRuntime) -> Result<(), Fail> {
+    for (kind, told) in [
+        (ErrorKind::BrokenPipe, "dm: cannot read standard input\n"),
+        (ErrorKind::OutOfMemory, "dm: out of memory\n"),
+    ] {
+        let row: Row = ("dm gdb hi.com", 126, b"", b"+$T05#b9-", told);
+        tells(&rt, rt.alloc(), failing(b"+$?#3f$?#40$?", kind), row)?;
+    }
+    let row: Row = ("dm gdb hi.com", 0, b"", b"+", "");
+    tells(
+        &rt,
+        rt.alloc(),
+        failing(b"$k#6b", ErrorKind::BrokenPipe),
+        row,
+    )
+}
+
 /// Definitions: dm_cli Stores IsRead IsInputFault
 #[test]
 fn a_long_input_is_copied(rt: HostRuntime) -> Result<(), Fail> {
@@ -412,6 +433,8 @@ fn counts_failing_reads(rt: HostRuntime) -> Result<(), Fail> {
         ("dm run hi.com d/", 126, 0),
         ("dm check no.com", 126, 1),
         ("dm debug hi.com --input=cut.com", 126, 1),
+        ("dm gdb hi.com", 0, 0),
+        ("dm gdb hi.com --input=cut.com", 126, 1),
         ("dm asm no.asm out.com", 126, 1),
         ("dm disasm hi.com", 0, 0),
         ("dm disasm cut.com", 126, 1),

@@ -14,6 +14,7 @@ mod copies;
 #[cfg(test)]
 mod files;
 #[cfg(test)]
+#[cfg(test)]
 mod machines;
 #[cfg(test)]
 mod points;

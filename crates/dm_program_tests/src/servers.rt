@@ -21,7 +21,7 @@ const LOOP: &[u8] = b"\xEB\xFE";
 type Row<'a> = (&'a str, &'a str);
 
 /// Registers and memory at the start: SP is FFFEh, so that ESP is 1030h + FFFEh.
-const START: [Row; 24] = [
+const START: [Row; 25] = [
     ("?", "T05"),
     ("p8", "30110000"),
     ("pa", "03010000"),
@@ -40,6 +40,7 @@ const START: [Row; 24] = [
     ("M10fff0,0:", "E0e"),
     ("qC", "QC1"),
     ("vMustReplyEmpty", ""),
+    ("vRun;", "E01"),
     ("qfThreadInfo", "m1"),
     ("qOffsets", "Text=00001030;Data=00001030;Bss=00001030"),
     ("qXfer:features:read:target.xml:0,8", "m<target "),

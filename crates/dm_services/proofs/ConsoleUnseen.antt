@@ -1,5 +1,5 @@
 -- The calls on the console, in memory that is changed out of sight
-use Rattle.std.proofs.Common.{◌≡◌, ℕ, ◌==◌, List, [], ◌∷◌, take, Option, Some, None, refl, ◌∙◌, ap}
+use Rattle.std.proofs.Common.{◌≡◌, ℕ, nat_lt, ◌==◌, Bool, true, false, List, [], ◌∷◌, take, Option, Some, None, refl, ◌∙◌, ap}
 use Rattle.dm_space.specs.Memory.{Memory}
 use Rattle.dm_space.specs.Unseen.{IsUnseen}
 use Rattle.dm_cpu.specs.Cpu.{byte_of}
@@ -8,7 +8,7 @@ use Rattle.dm_state.specs.State.{State, go, interrupt_returned}
 use Rattle.dm_services.specs.Characters.{with_al, character_of, read_character, echo_of, echo_character, write_character, poll_of, poll_character, direct_character, check_input}
 use Rattle.dm_services.specs.Lines.{line_length, line_read, line_into, read_line}
 use Rattle.dm_services.specs.Flush.{flush_and_read}
-use Rattle.dm_services.specs.Handles.{bad_handle, read_from_console, read_handle, write_to_console, write_handle}
+use Rattle.dm_services.specs.Handles.{bad_handle, read_from_console, waits, read_unless, read_handle, write_to_console, write_handle}
 use Rattle.dm_services.specs.Vectors.{set_vector, get_vector}
 use Rattle.dm_services.specs.System.{tell_version, tell_process}
 use Rattle.dm_services.specs.Laws.{with_change, answer_with}
@@ -83,9 +83,13 @@ bad_handle-unseen f u s = simp (return-parts f u)
 read_from_console-unseen : (f : Memory → Memory) (u : IsUnseen f) (s : State) (xs : List ℕ) → read_from_console (with_change f s) xs ≡ answer_with f (read_from_console s xs)
 read_from_console-unseen f u s xs = simp (with_bytes-unseen f u, return-parts f u)
 
+read_unless-unseen : (f : Memory → Memory) (u : IsUnseen f) (s : State) (wait : Bool) → read_unless wait (with_change f s) ≡ answer_with f (read_unless wait s)
+read_unless-unseen f u s true = refl
+read_unless-unseen f u s false = read_from_console-unseen f u s (take s.cpu.cx s.console.input)
+
 pub read_handle-unseen : (f : Memory → Memory) (u : IsUnseen f) (s : State) → read_handle (with_change f s) ≡ answer_with f (read_handle s)
 unfolding read_handle
-read_handle-unseen f u s = choice-unseen f _ _ _ _ _ (read_from_console-unseen f u s (take s.cpu.cx s.console.input)) (bad_handle-unseen f u s)
+read_handle-unseen f u s = choice-unseen f (nat_lt s.cpu.bx 3) _ _ _ _ (read_unless-unseen f u s (waits s)) (bad_handle-unseen f u s)
 
 write_to_console-unseen : (f : Memory → Memory) (u : IsUnseen f) (s : State) → write_to_console (with_change f s) ≡ answer_with f (write_to_console s)
 write_to_console-unseen f u s = simp (bytes_from-unseen f u, return-parts f u)

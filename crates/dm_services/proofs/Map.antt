@@ -18,7 +18,7 @@ use Rattle.dm_services.specs.Text.{print}
 use Rattle.dm_services.specs.Characters.{character_of, read_character, echo_of, echo_character, write_character, poll_of, poll_character, direct_character, check_input}
 use Rattle.dm_services.specs.Lines.{line_length, line_read, line_into, read_line}
 use Rattle.dm_services.specs.Flush.{flush_and_read}
-use Rattle.dm_services.specs.Handles.{bad_handle, read_handle, write_handle}
+use Rattle.dm_services.specs.Handles.{bad_handle, waits, read_handle, write_handle}
 use Rattle.dm_services.specs.Vectors.{set_vector, get_vector}
 use Rattle.dm_services.specs.System.{tell_version, tell_process}
 use Rattle.dm_services.specs.Allocation.{allocated, settled}
@@ -116,7 +116,8 @@ bad_handle-kept s = still s _
 read_handle-kept : (s : State) → Kept s (read_handle s)
 unfolding read_handle
 read_handle-kept s =
-    choice-kept s (nat_lt s.cpu.bx 3) _ _ (return-kept s.memory _ _ (bytes-kept s.memory s.memory _ _ _ (shaped-same s.memory)), refl, refl) (bad_handle-kept s)
+    choice-kept s (nat_lt s.cpu.bx 3) _ _
+    (choice-kept s (waits s) _ _ (fixed s) (return-kept s.memory _ _ (bytes-kept s.memory s.memory _ _ _ (shaped-same s.memory)), refl, refl)) (bad_handle-kept s)
 
 write_handle-kept : (s : State) → Kept s (write_handle s)
 unfolding write_handle

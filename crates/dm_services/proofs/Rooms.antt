@@ -19,7 +19,7 @@ use Rattle.dm_services.specs.Text.{written, text_at, print}
 use Rattle.dm_services.specs.Characters.{character_of, read_character, echo_of, echo_character, write_character, poll_of, poll_character, direct_character, check_input}
 use Rattle.dm_services.specs.Lines.{line_length, line_read, line_into, read_line}
 use Rattle.dm_services.specs.Flush.{flush_and_read}
-use Rattle.dm_services.specs.Handles.{bad_handle, read_handle, write_handle}
+use Rattle.dm_services.specs.Handles.{bad_handle, waits, read_handle, write_handle}
 use Rattle.dm_services.specs.Vectors.{set_vector, get_vector}
 use Rattle.dm_services.specs.System.{tell_version, tell_process}
 use Rattle.dm_services.specs.Allocation.{allocated, settled}
@@ -112,7 +112,7 @@ bad_handle-keeps s = same _
 
 read_handle-keeps : (s : State) → Keeps s (read_handle s)
 unfolding read_handle
-read_handle-keeps s = choice-keeps s (nat_lt s.cpu.bx 3) _ _ (same _) (bad_handle-keeps s)
+read_handle-keeps s = choice-keeps s (nat_lt s.cpu.bx 3) _ _ (choice-keeps s (waits s) _ _ (same _) (same _)) (bad_handle-keeps s)
 
 write_handle-keeps : (s : State) → Keeps s (write_handle s)
 unfolding write_handle

@@ -23,9 +23,10 @@ pub record IsSent (start : Streams) (m : Memory) (s o k : ℕ) (now : Streams) :
   pub output : now.output ≡ start.output ++ bytes_from m s o k
   pub room : now.room + k ≡ start.room
   pub input : now.input ≡ start.input
+  pub more : now.more ≡ start.more
 
 pub sent-none : (c : Streams) (m : Memory) (s o : ℕ) → IsSent c m s o 0 c
-sent-none c m s o = record { output = sym (append-nil c.output); room = omega arith; input = refl }
+sent-none c m s o = record { output = sym (append-nil c.output); room = omega arith; input = refl; more = refl }
 
 pub sent-more : (start now after : Streams) (m : Memory) (s o k b : ℕ) → IsSent start m s o k now → 0 < now.room → b ≡ peek m (linear m.a20 s ((o + k) % 65536)) →
     after ≡ record now { output = now.output ++ b ∷ []; room = now.room - 1 } → IsSent start m s o (k + 1) after
@@ -35,10 +36,11 @@ sent-more start now after m s o k b w h e f =
           ∙ ap (λ (xs : List ℕ). start.output ++ xs) (ap (λ v. bytes_from m s o k ++ v ∷ []) e ∙ rw add-one (sym (bytes_from-more m s o k)));
       room = let was = w.room in omega arith;
       input = w.input;
+      more = w.more;
     }
 
 pub sent-all : (start now : Streams) (m : Memory) (s o k : ℕ) → IsSent start m s o k now → now ≡ record start { output = start.output ++ bytes_from m s o k; room = start.room - k }
 sent-all start now m s o k w =
     let was = w.room in
     let room : now.room ≡ start.room - k = omega arith in
-    λ i. record { input = w.input i; output = w.output i; room = room i }
+    λ i. record { input = w.input i; more = w.more i; output = w.output i; room = room i }

@@ -91,11 +91,12 @@ pub record IsPut (start now : Streams) (m : Memory) (s o n k : ℕ) : Type 0 whe
   pub output : now.output ++ text_within m s (o + k) (n - k) ≡ start.output ++ text_within m s o n
   pub room : now.room + k ≡ start.room
   pub input : now.input ≡ start.input
+  pub more : now.more ≡ start.more
 
 pub put-none : (c : Streams) (m : Memory) (s o n : ℕ) → IsPut c c m s o n 0
 put-none c m s o n =
     let d : n - 0 ≡ n = omega arith in let e : o + 0 ≡ o = omega arith in
-    record { read = read-none m s o n; output = rw (d, e) refl; room = omega arith; input = refl }
+    record { read = read-none m s o n; output = rw (d, e) refl; room = omega arith; input = refl; more = refl }
 
 pub put-more : (start now after : Streams) (m : Memory) (s o n k b : ℕ) → IsPut start now m s o n k → k < length (text_within m s o n) → 0 < now.room →
     b ≡ byte m s (o + k) → after ≡ record now { output = now.output ++ b ∷ []; room = now.room - 1 } → IsPut start after m s o n (k + 1)
@@ -110,6 +111,7 @@ put-more start now after m s o n k b p h r e f =
       output = append_assoc now.output (b ∷ []) _ ∙ ap (λ (xs : List ℕ). now.output ++ xs) (sym cut) ∙ p.output;
       room = let was = p.room in omega arith;
       input = p.input;
+      more = p.more;
     }
 
 pub put-all : (start now : Streams) (m : Memory) (s o n k : ℕ) → IsPut start now m s o n k → k ≡ length (text_within m s o n) →
@@ -120,4 +122,4 @@ put-all start now m s o n k p e =
     let out : now.output ≡ start.output ++ text_within m s o n = sym (append-nil now.output) ∙ ap (λ (xs : List ℕ). now.output ++ xs) (sym none) ∙ p.output in
     let was = p.room in
     let room : now.room ≡ start.room - k = omega arith in
-    λ i. record { input = p.input i; output = out i; room = room i }
+    λ i. record { input = p.input i; more = p.more i; output = out i; room = room i }

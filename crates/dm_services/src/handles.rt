@@ -3,7 +3,7 @@
 //! sets or clears CF, and counts the step.
 ghost use Rattle.std.specs.Prelude.{◌≡◌, None};
 ghost use Rattle.dm_services.specs.inner.Wanting.{OrMemory};
-ghost use Rattle.dm_services.specs.Handles.{bad_handle, read_handle, write_handle};
+ghost use Rattle.dm_services.specs.Handles.{bad_handle, read_handle, write_handle, waits};
 
 use crate::buffers::send;
 use dm_state::{Parts, Stop};
@@ -20,8 +20,16 @@ fn bad_handle(parts: &mut Parts)
     parts.count();
 }
 
+/// Whether 3Fh wants bytes that may still come: CX is above 0, no input is left, and more may come.
+fn waits(parts: &Parts) -> bool
+    ensures { result ≡ waits parts.now }
+{
+    parts.console.more() && parts.console.left() == 0 && parts.cpu.cx > 0
+}
+
 /// 3Fh: takes the next CX bytes of the console input, or all if fewer are left, and writes them from DS:DX up. AX
-/// becomes their count, 0 if no input is left; CF is clear. A handle in BX above 2 is error 6. Never stops the machine.
+/// becomes their count, 0 if no input is left; CF is clear. A handle in BX above 2 is error 6. Returns `InputEnded`, with
+/// nothing changed, if CX is above 0, no input is left, and more may come; otherwise it never stops the machine.
 #[tactic(auto, unfolding(crate::specs::Handles::read_handle))]
 pub(crate) fn read_handle(parts: &mut Parts) -> Option<Stop>
     ensures answer { OrMemory parts.old (read_handle parts.old) result parts.new }
@@ -30,6 +38,9 @@ pub(crate) fn read_handle(parts: &mut Parts) -> Option<Stop>
     if parts.cpu.bx > 2 {
         bad_handle(parts);
         return None;
+    }
+    if waits(parts) {
+        return Some(Stop::InputEnded);
     }
     let count = parts.console.left().min(parts.cpu.cx as usize);
     parts.space.write_bytes(parts.cpu.ds, parts.cpu.dx, &parts.console.input()[..count]);

@@ -35,9 +35,9 @@ pub struct Description {
 
 /// One side of a move: its region, and the end of the memory in which it lies.
 #[derive(Drop)]
-pub struct Side {
+pub struct Side<'a> {
     /// The region from its first byte on.
-    pub region: Span,
+    pub region: Span<'a>,
     /// The end of the memory in which it lies, in bytes, counted like the start of the region.
     pub end: usize,
 }
@@ -65,7 +65,7 @@ fn described(space: &Space, segment: u16, offset: u16, places: usize) -> Descrip
 }
 
 /// Whether a side lies in a block of the pool.
-fn is_single(side: &Side) -> bool
+fn is_single(side: &Side<'_>) -> bool
     ensures { result ≡ is_single side.now.region.kind }
 {
     match side.region.kind() {
@@ -82,8 +82,8 @@ fn move_between(
     xms: &Xms,
     space: &mut Space,
     len: usize,
-    from: &Side,
-    to: &Side,
+    from: &Side<'_>,
+    to: &Side<'_>,
 ) -> Result<(), Status>
     requires len { len < 2 ^ 32 }
     requires from { Reaches space.old.memory from.now }
@@ -113,7 +113,7 @@ impl Xms {
         described: Description,
         unknown: Status,
         past: Status,
-    ) -> Result<Side, Status>
+    ) -> Result<Side<'_>, Status>
         requires { IsConsistent (extended self.now space.now.memory) }
         ensures side { result ≡ side (extended self.now space.now.memory) described unknown past }
         ensures reaches { IfOk result (Reaches space.now.memory) }
@@ -124,14 +124,14 @@ impl Xms {
             let region = Span::linear(start);
             return Ok(Side { region, end: END });
         }
-        let Some(slot) = self.handle(described.handle) else {
+        let Some(slot) = self.entry(described.handle) else {
             return Err(unknown);
         };
         let end = KIB * slot.kib as usize;
         if offset > end {
             return Err(past);
         }
-        let region = Span::block(slot.block, offset);
+        let region = Span::block(&slot.block, offset);
         Ok(Side { region, end })
     }
 

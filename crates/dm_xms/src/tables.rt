@@ -2,6 +2,7 @@
 //! memory blocks.
 
 ghost use Rattle.std.specs.Prelude.{◌≡◌, ◌<◌, ◌≤◌, ◌-◌, length, slice_set, position, is_none, count_by, nat_lt, IfSome};
+ghost use Rattle.std.specs.Option.{option_map};
 ghost use Rattle.dm_xms.specs.Tables.{new_tables};
 ghost use Rattle.dm_xms.specs.Calls.{slot};
 
@@ -120,6 +121,24 @@ impl Xms {
         }
         let at = handle as usize - 1;
         if at < HANDLES { self.handles[at] } else { None }
+    }
+
+    /// The entry of a handle, lent; None where it is not in use, or is not one of 1 to 64.
+    pub(crate) fn entry(&self, handle: u16) -> Option<&Handle>
+        ensures { option_map (λ s. s.now) result ≡ slot self.now handle }
+    {
+        if handle == 0 {
+            return None;
+        }
+        let index = handle as usize - 1;
+        if index < HANDLES {
+            match &self.handles[index] {
+                Some(entry) => Some(entry),
+                None => None,
+            }
+        } else {
+            None
+        }
     }
 
     /// Sets the entry of a handle, 1 to 64; with None the handle is no longer in use. Other entries stay.

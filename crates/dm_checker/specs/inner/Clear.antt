@@ -1,21 +1,19 @@
 -- When nothing can be found of the bytes that an instruction touches, and it leaves the headers as they are. No definition
 -- of a finding mentions it.
-use Rattle.std.specs.Prelude.{◌≡◌, ℕ, ◌-◌, ◌/◌, ◌==◌, ◌&&◌, ◌||◌, not, nat_lt, is_some, Bool, true, false, if◌then◌else◌, List, slice_index_or, Option, Some, None}
+use Rattle.std.specs.Prelude.{◌≡◌, ◌<◌, ℕ, ◌-◌, ◌/◌, ◌==◌, ◌&&◌, ◌||◌, not, nat_lt, is_some, Bool, true, false, if◌then◌else◌, List, slice_index_or, Option, Some, None}
 use Rattle.std.specs.List.{list_any}
 use Rattle.dm_space.specs.Memory.{Memory}
 use Rattle.dm_ins.specs.declared.ins.Ins.{Ins}
-use Rattle.dm_cpu.specs.Guest.{guest, up}
+use Rattle.dm_ins.specs.Ins.{BeginsWith}
+use Rattle.dm_cpu.specs.Guest.{guest}
 use Rattle.dm_state.specs.State.{State}
-use Rattle.dm_touches.specs.declared.elements.Element.{Element}
-use Rattle.dm_touches.specs.declared.elements.Element.TheVariants.{Byte, Word}
+use Rattle.dm_machine.specs.Step.{fetched}
+use Rattle.dm_quiet.specs.Marks.{pass}
 use Rattle.dm_touches.specs.declared.elements.Elements.{Elements}
-use Rattle.dm_touches.specs.Elements.{far, linear_of}
 use Rattle.dm_touches.specs.Touches.{reads, writes}
 use Rattle.dm_touches.specs.Found.{is_in_free}
 use Rattle.dm_checker.specs.declared.watch.Watched.{Watched}
-use Rattle.dm_checker.specs.declared.main_block.Main.{Main}
 use Rattle.dm_checker.specs.declared.watch.Watch.{Watch}
-use Rattle.dm_checker.specs.inner.Code.{IsNext}
 
 -- whether the linear address is in the memory of the free block behind the header
 abbrev pub is_free_of : ℕ → Watched → Bool
@@ -24,14 +22,6 @@ is_free_of a x = is_in_free x.header a
 -- whether the linear address is in that memory, or in the paragraph of the header
 abbrev pub is_at : ℕ → Watched → Bool
 is_at a x = is_free_of a x || (x.header.segment == a / 16)
-
--- whether the linear address is one of these
-abbrev pub is_in : Main → ℕ → Bool
-is_in main a = not (nat_lt a main.first) && nat_lt a main.end
-
--- none of the linear addresses is in the memory of the free block behind the header, or in the header's paragraph
-abbrev pub IsApart : Main → Watched → Type 0
-IsApart main x = (a : ℕ) → is_in main a ≡ true → is_at a x ≡ false
 
 -- whether the header is in the page frame or above it
 abbrev pub is_high : Watched → Bool
@@ -54,16 +44,6 @@ is_read_clear ws a = not (list_any (is_free_of a) ws)
 abbrev pub is_write_clear : Memory → List Watched → ℕ → Bool
 is_write_clear m ws a = is_memory m ws a && not (list_any (is_at a) ws)
 
--- whether the linear addresses of all bytes of an element pass the test
-abbrev pub passes_if : (ℕ → Bool) → Bool → Option Element → Bool
-passes_if is a20 None = true
-passes_if is a20 (Some (Byte segment offset)) = is (linear_of a20 (far segment offset))
-passes_if is a20 (Some (Word segment offset)) = is (linear_of a20 (far segment offset)) && is (linear_of a20 (far segment (up offset 1)))
-
--- whether the linear addresses of all bytes of the elements pass the test
-abbrev pub pass : (ℕ → Bool) → Bool → Elements → Bool
-pass is a20 e = passes_if is a20 e.first && passes_if is a20 e.second && passes_if is a20 e.third
-
 -- nothing is found of these reads and writes, and no header is written to; no list of headers breaks
 pub record IsClear (m : Memory) (w : Watch) (rs ws : Elements) : Type 0 where
   pub whole : w.broken ≡ None
@@ -75,5 +55,6 @@ pub record IsClear (m : Memory) (w : Watch) (rs ws : Elements) : Type 0 where
 pub record IsPassed (s : State) (w : Watch) : Type 0 where
   pub ins : Ins
   pub length : ℕ
-  pub next : IsNext s.memory s.cpu ins length
+  pub below : s.cpu.cs < 0xF000
+  pub begins : BeginsWith (fetched s.memory s.cpu) ins length
   pub clear : IsClear s.memory w (reads (guest s.cpu s.memory) ins length) (writes (guest s.cpu s.memory) ins length)

@@ -10,7 +10,7 @@ use Rattle.dm_findings.specs.declared.finding.Contents.{Contents}
 use Rattle.dm_checker.specs.declared.watch.Watched.{Watched}
 use Rattle.dm_checker.specs.declared.watch.Broken.{Broken}
 use Rattle.dm_checker.specs.declared.watch.Watch.{Watch}
-use Rattle.dm_checker.specs.inner.Clear.{IsApart}
+use Rattle.dm_checker.specs.inner.Marking.{IsMarked}
 use Rattle.dm_checker.specs.Shown.{Shown, IsShown, IsCut}
 use Rattle.dm_checker.specs.Headers.{contents, kept_at, is_there}
 
@@ -64,7 +64,7 @@ pub record IsWatch (upper : Bool) (m : Memory) (w : Watch) : Type 0 where
   pub shown : IsShown upper m (record { headers = map header_of w.headers.items; broken = broken_at w.broken })
   pub headers : All (IsWatched m) w.headers.items
   pub there : IsBrokenIn m w.broken
-  pub main : All (IsApart w.main) w.headers.items
+  pub marked : IsMarked w.windows w.headers.items w.marks
 
 -- memory m has the windows and the bytes that are kept in w, with the same setting `upper`; and its windows show pages
 -- that are there

@@ -1,5 +1,5 @@
-use Rattle.dm_blocks.proofs.Telling.{first-decides}
+use Rattle.dm_blocks.proofs.Telling.{first-told_all}
 use Rattle.dm_blocks.proofs.list.is_arena.Goals as goal
 
-pub returns : goal.returns
-returns c = rw c.is_some.ensures (first-decides _ _ c.tell_all.result c.walk.ensures.memory c.walk.ensures.second c.tell_all.ensures)
+pub returns-in-UpTo : goal.returns-in-UpTo
+returns-in-UpTo c = first-told_all _ _ _ c.tell_all.result c.walk_from.ensures.memory c.walk_from.ensures.second c.tell_all.ensures

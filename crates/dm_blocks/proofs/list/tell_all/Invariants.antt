@@ -4,10 +4,10 @@ use Rattle.dm_blocks.proofs.list.tell_all.Given as goal
 
 abbrev pub invariant-walk : goal.invariant-walk
 invariant-walk l = record {
-  memory : l.walked.memory ≡ l.initial.walked.memory;
-  second : l.walked.second ≡ l.initial.walked.second;
-  stands : (t : ℕ) × (l.walked.at ≡ Some t) × (t ≤ 0xFFFF);
+  memory : l.headers.memory ≡ l.initial.headers.memory;
+  second : l.headers.second ≡ l.initial.headers.second;
+  stands : (t : ℕ) × (l.headers.at ≡ Some t) × (t ≤ 0xFFFF);
 }
 
 abbrev pub decreases-walk : goal.decreases-walk
-decreases-walk l = steps_left l.walked.at
+decreases-walk l = steps_left l.headers.at

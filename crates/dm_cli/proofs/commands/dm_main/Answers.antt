@@ -1,6 +1,6 @@
 use Rattle.std.proofs.Common.{refl}
 use Rattle.std.proofs.KnownBytes.{Keeps-refl}
-use Rattle.dm_cli.specs.Program.{runs, checks, debugs, assembles, disassembles}
+use Rattle.dm_cli.specs.Program.{runs, checks, debugs, debugs_by_gdb, assembles, disassembles}
 use Rattle.dm_cli.proofs.Checked.{reported_fault}
 use Rattle.dm_cli.proofs.Printed.{fault_printed}
 use Rattle.dm_cli.proofs.commands.dm_main.Goals as goal
@@ -20,6 +20,11 @@ pub returns-in-Ok-Debug : goal.returns-in-Ok-Debug
 returns-in-Ok-Debug g c =
     debugs _ _ (record { right = c.in-Ok-Debug.ensures.no_fault; says = rw c.in-Ok-Debug.field-0-is at c.in-Ok-Debug.ensures.ok }) (rw c.in-Ok-Debug.field-0-is at c.debug.ensures.does)
     c.told.ensures.line (c.debug.ensures.kept.saves, c.debug.ensures.kept.count) c.debug.ensures.reads c.told.ensures.status
+
+pub returns-in-Ok-Gdb : goal.returns-in-Ok-Gdb
+returns-in-Ok-Gdb g c =
+    debugs_by_gdb _ _ (record { right = c.in-Ok-Gdb.ensures.no_fault; says = rw c.in-Ok-Gdb.field-0-is at c.in-Ok-Gdb.ensures.ok }) (rw c.in-Ok-Gdb.field-0-is at c.gdb.ensures.does)
+    c.told-in-Ok-Gdb.ensures.line (c.gdb.ensures.kept.saves, c.gdb.ensures.kept.count) c.gdb.ensures.reads c.told-in-Ok-Gdb.ensures.status
 
 pub returns-in-Ok-Asm : goal.returns-in-Ok-Asm
 returns-in-Ok-Asm g c =

@@ -1,0 +1,55 @@
+-- The headers of the first list below segment C000h.
+use Rattle.std.proofs.Common.{◌≡◌, ℕ, ◌+◌, ◌*◌, ◌<◌, ◌≤◌, Bool, true, false, List, [], ◌∷◌, ◌++◌, refl, sym, ◌∙◌, ap, subst, arith}
+use Rattle.dm_space.specs.Memory.{Memory, place}
+use Rattle.dm_space.specs.declared.place.Place.TheVariants.{Low}
+use Rattle.dm_space.proofs.Places.{place-low}
+use Rattle.dm_blocks.specs.declared.header.Header.{Header}
+use Rattle.dm_blocks.specs.declared.header.Entry.{Entry}
+use Rattle.dm_blocks.specs.Chain.{HasHeader, IsArena, IsHeader, NoArena, first_header, next, signature, signature_byte}
+use Rattle.dm_blocks.specs.Listing.{Follows}
+use Rattle.dm_blocks.specs.inner.Low.{IsUpTo}
+use Rattle.dm_blocks.specs.inner.Standing.{MayStand}
+use Rattle.dm_blocks.proofs.Marking.{low-marked}
+use Rattle.dm_blocks.proofs.Stands.{low-stands}
+use Rattle.dm_blocks.proofs.Walks.{path-more, path-below, told, closes, bad-header, no_arena}
+
+-- no header is passed yet
+pub at-first : (S : Memory) → IsUpTo S [] first_header
+at-first S = record {
+  leads = record { path = refl; clear = record { writable = λ h w. absurd w; apart = λ h g w. absurd w }; apart = λ g w v. w };
+  unmarked = λ marks a. a;
+}
+
+header-mark : (S : Memory) (b : Header) (m n : ℕ) → m ≡ n → IsHeader S b m → IsHeader S b n
+header-mark S b m n e x = let F : ℕ → Type 0 = λ v. IsHeader S b v in subst F e x
+
+-- the headers P lead to segment t below C000h
+module _ (S : Memory) (P : List Header) (t : ℕ) (u : IsUpTo S P t) where
+  pub none-behind : ((b : Header) (L : List Header) → b.segment ≡ t → IsHeader S b (signature L) → ⊥) → NoArena S first_header
+  none-behind bad L a = no_arena S [] 0x100 P t u.leads (λ e. bad-header S [] P t e bad) L (a.0, a.1, λ g x y. x)
+
+  module _ (low : t < 0xC000) (e : Entry) (at : e.header.segment ≡ t) (x : IsHeader S e.header (signature_byte e.last)) where
+    ram : place S (16 * t) ≡ Low (16 * t)
+    ram = place-low S (16 * t) (omega arith)
+
+    new : HasHeader P t → ⊥
+    new w = let l = path-below S 0x100 P t u.leads.path t w in omega arith
+
+    follows : Follows S [] P t e
+    follows = told S [] 0x100 P t e u.leads (low-stands S P t (16 * t) ram new) (λ w. w) at x
+
+    pub whole : e.last ≡ true → (L : List Header) × IsArena S first_header L
+    whole last = let a = closes S [] 0x100 P t e u.leads follows last in (P ++ e.header ∷ [], (a.0, a.1))
+
+    pub one-more : e.last ≡ false → (Q : List Header) × IsUpTo S Q (next e.header)
+    one-more last = (
+      P ++ e.header ∷ [],
+      record {
+        leads = record {
+          path = path-more S 0x100 P t e.header u.leads.path at (header-mark S e.header _ _ (ap signature_byte last) x);
+          clear = follows.clear;
+          apart = follows.apart;
+        };
+        unmarked = λ marks a. low-marked S P marks t (16 * t) (u.unmarked marks a) ram e.header at;
+      },
+    )

@@ -1,0 +1,9 @@
+use Rattle.std.proofs.Common.{arith}
+use Rattle.dm_checker.proofs.Levels.{marked_keeps, marked_gives}
+use Rattle.dm_checker.proofs.marking.mark_header.Goals as goal
+
+pub returns : goal.returns
+returns c = record {
+  keeps = marked_keeps _ _ 1 1 _ _ c.mark.ensures (omega arith) (omega arith);
+  marked = marked_gives _ _ 1 1 _ _ _ c.mark.ensures (omega arith) (omega arith) (omega arith) (omega arith);
+}
