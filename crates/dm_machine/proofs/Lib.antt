@@ -11,5 +11,6 @@ mod Rooms
 mod Consistency
 mod UntilLaws
 mod Passing
+mod Nearby
 mod UntilRuns
 pub mod OneUntil

@@ -4,4 +4,5 @@ pub mod Start
 pub mod Laws
 pub mod Until
 pub mod Unmarked
+pub mod Near
 pub mod inner

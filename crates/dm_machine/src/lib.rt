@@ -7,6 +7,7 @@ mod input;
 mod laws;
 mod loading;
 mod machine;
+mod near;
 mod quick;
 mod steps;
 mod unmarked;
