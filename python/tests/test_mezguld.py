@@ -73,6 +73,101 @@ class Runs(unittest.TestCase):
             self.assertEqual(machine.registers.cx, 3)
 
 
+class Input(unittest.TestCase):
+    """Input that comes while a program runs."""
+
+    def test_a_run_waits_for_a_byte(self) -> None:
+        with started(ECHO, more=True) as machine:
+            for data in (b"a", b"bc", b"\0\xff"):
+                self.assertEqual(machine.run(10_000), Stopped(Stop.INPUT_ENDED, 0))
+                before = machine.registers
+                self.assertEqual(machine.run(10_000), Stopped(Stop.INPUT_ENDED, 0))
+                self.assertEqual((machine.registers, machine.input_left), (before, 0))
+                machine.supply(data)
+                self.assertEqual(machine.input_left, len(data))
+            machine.run(10_000)
+            self.assertEqual(machine.output(), b"abc\0\xff")
+
+    def test_in_any_pieces(self) -> None:
+        data = b"some bytes in pieces"
+        with started(ECHO, input=data) as whole:
+            whole.run(10_000)
+            for size in range(1, 7):
+                with self.subTest(size), started(ECHO, more=True) as machine:
+                    for at in range(0, len(data), size):
+                        machine.supply(data[at : at + size])
+                        machine.run(10_000)
+                    self.assertEqual((machine.output(), machine.registers, machine.steps), (whole.output(), whole.registers, whole.steps))
+
+    def test_function_3fh_waits_while_the_input_is_open(self) -> None:
+        # Reads up to eight bytes, and ends with their count.
+        text = "MOV BX,0\nMOV CX,8\nMOV DX,200h\nMOV AH,3Fh\nINT 21h\nMOV AH,4Ch\nINT 21h\n"
+        with started(text) as closed:
+            self.assertEqual(closed.run(100), Stopped(Stop.EXITED, 0))
+        with started(text, more=True) as machine:
+            self.assertEqual(machine.run(100), Stopped(Stop.INPUT_ENDED, 0))
+            other = copy.copy(machine)
+            machine.supply(b"three")
+            self.assertEqual(machine.run(100), Stopped(Stop.EXITED, 5))
+            other.close_input()
+            self.assertEqual(other.run(100), Stopped(Stop.EXITED, 0))
+            other.close()
+
+    def test_a_closed_input_takes_nothing(self) -> None:
+        with started(ECHO, input=b"x") as machine:
+            self.assertRaises(mezguld.InputClosed, machine.supply, b"y")
+            self.assertRaises(mezguld.InputClosed, machine.supply, b"")
+            machine.open_input()
+            machine.supply(b"y")
+            machine.close_input()
+            self.assertRaises(mezguld.InputClosed, machine.supply, b"z")
+            self.assertEqual(machine.input_left, 2)
+            self.assertEqual(machine.run(1000), Stopped(Stop.INPUT_ENDED, 0))
+            self.assertEqual(machine.output(), b"xy")
+
+    def test_nothing_is_loaded(self) -> None:
+        with Machine() as machine:
+            for call in (machine.open_input, machine.close_input, lambda: machine.supply(b""), lambda: machine.input_left, lambda: machine.output_count):
+                self.assertRaises(mezguld.NotLoaded, call)
+            self.assertRaises(mezguld.NotLoaded, setattr, machine, "registers", (0,) * 14)
+
+    def test_output_from_a_byte_on(self) -> None:
+        data = bytes(range(256)) * 40
+        with started(ECHO, input=data) as machine:
+            machine.run(1_000_000)
+            self.assertEqual(machine.output_count, len(data))
+            for start in (0, 1, 5000, len(data) - 1, len(data), len(data) + 1, MOST):
+                self.assertEqual(machine.output(start), data[start:])
+
+
+class SetRegisters(unittest.TestCase):
+    def test_each(self) -> None:
+        with started(END) as machine:
+            for at, name in enumerate(mezguld.Registers._fields[:-1]):
+                before = machine.registers
+                machine.registers = before._replace(**{name: 0x1234 + at})
+                self.assertEqual(machine.registers, before._replace(**{name: 0x1234 + at}))
+
+    def test_flags(self) -> None:
+        with started(END) as machine:
+            for word, shown in ((0x0000, 0xF002), (0xFFFF, 0xFFD7), (0x0001, 0xF003), (0xF7D5, 0xF7D7)):
+                machine.registers = machine.registers._replace(flags=word)
+                self.assertEqual(machine.registers.flags, shown)
+
+    def test_the_run_goes_on_there(self) -> None:
+        with started(END + "NOP\nMOV AX,4C09h\nINT 21h\n") as machine:
+            machine.registers = machine.registers._replace(ip=machine.registers.ip + 6)
+            self.assertEqual(machine.run(100), Stopped(Stop.EXITED, 9))
+
+    def test_a_call_is_changed_before_it_acts(self) -> None:
+        with started("MOV AH,2\nMOV DL,41h\nINT 21h\n" + END) as machine:
+            offset, segment = (int.from_bytes(machine.read(0, 0x84 + at, 2), "little") for at in (0, 2))
+            self.assertEqual(machine.run_until(100, [(segment, offset)]).why, Stop.BREAKPOINT)
+            machine.registers = machine.registers._replace(dx=0x42)
+            self.assertEqual(machine.run(100), Stopped(Stop.EXITED, 7))
+            self.assertEqual(machine.output(), b"B")
+
+
 class Memory(unittest.TestCase):
     def test_offsets_wrap(self) -> None:
         with started(END) as machine:
@@ -187,6 +282,13 @@ CALLS = {
     "read": lambda machine: machine.read(0x0100, 0, 16),
     "write": lambda machine: machine.write(0x3000, 0, b"12345"),
     "output": lambda machine: machine.output(),
+    "output from a byte on": lambda machine: machine.output(1),
+    "output_count": lambda machine: machine.output_count,
+    "open_input": lambda machine: machine.open_input(),
+    "supply": lambda machine: [machine.open_input(), machine.supply(b"x")],
+    "input_left": lambda machine: machine.input_left,
+    "close_input": lambda machine: machine.close_input(),
+    "registers that are set": lambda machine: setattr(machine, "registers", machine.registers),
     "command": lambda machine: machine.command("R"),
     "command G": lambda machine: machine.command("G 3"),
     "blocks": lambda machine: machine.blocks(),
@@ -311,6 +413,34 @@ class WrongArguments(unittest.TestCase):
                 self.refuses(TypeError, machine.read, 0, 0, other)
             self.assertEqual(len(machine.read(0x0100, 5, 65_536)), 65_536)
 
+    def test_registers(self) -> None:
+        with started(END) as machine:
+            before = machine.registers
+            for at in range(14):
+                for number in (-1, 0x10000, *self.NUMBERS):
+                    self.refuses(ValueError, setattr, machine, "registers", (*before[:at], number, *before[at + 1 :]))
+                for other in self.NO_NUMBERS:
+                    self.refuses(TypeError, setattr, machine, "registers", (*before[:at], other, *before[at + 1 :]))
+            for other in (5, None, (), before[:13], (*before, 0)):
+                self.refuses(TypeError, setattr, machine, "registers", other)
+            self.assertEqual(machine.registers, before)
+
+    def test_starts_of_output(self) -> None:
+        with started(END) as machine:
+            for number in self.NUMBERS:
+                self.refuses(ValueError, machine.output, number)
+            for other in self.NO_NUMBERS:
+                self.refuses(TypeError, machine.output, other)
+
+    def test_more_is_a_truth_value(self) -> None:
+        machine = Machine()
+        machine.add("MAIN.COM", b"\xf4")
+        for number in (2, -1, 2**64):
+            self.refuses(ValueError, lambda number: machine.load("MAIN.COM", more=number), number)
+        for other in self.NO_NUMBERS:
+            self.refuses(TypeError, lambda other: machine.load("MAIN.COM", more=other), other)
+        machine.load("MAIN.COM", more=True)
+
     def test_bytes(self) -> None:
         machine = Machine()
         machine.add("MAIN.COM", b"\xf4")
@@ -318,6 +448,7 @@ class WrongArguments(unittest.TestCase):
             self.refuses(TypeError, machine.add, "A", other)
             self.refuses(TypeError, machine.load, "MAIN.COM", "", other)
             self.refuses(TypeError, machine.write, 0x100, 0, other)
+            self.refuses(TypeError, machine.supply, other)
             self.refuses(TypeError, mezguld.disassemble, other)
         for other in self.NO_BYTES:
             self.refuses(TypeError, machine.add, other, b"")

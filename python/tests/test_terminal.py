@@ -69,11 +69,12 @@ INT 21h
 MOV CX,AX
 JCXZ done
 INC BYTE [count]
-MOV DI,AX
-MOV BYTE [DI+buffer],93
+MOV DI,buffer
+ADD DI,AX
+MOV BYTE [DI],93
 INC CX
 INC CX
-MOV DX,buffer-1
+MOV DX,bracket
 MOV BX,1
 MOV AH,40h
 INT 21h
@@ -138,17 +139,21 @@ class AtTerminal(Programs):
                 os.execve(sys.executable, words, given)
             finally:
                 os._exit(127)
-        self.status: Optional[int] = None
-        self.got = b""
-        self.addCleanup(self.close)
-        self.before = termios.tcgetattr(self.file)
+        self.follow()
         self.type(early)
 
-    def close(self) -> None:
+    def follow(self) -> None:
+        """Begins with the process that was started."""
+        self.status: Optional[int] = None
+        self.got = b""
+        self.addCleanup(os.close, self.file)
+        self.addCleanup(self.kill)
+        self.before = termios.tcgetattr(self.file)
+
+    def kill(self) -> None:
         if self.status is None:
             os.kill(self.pid, signal.SIGKILL)
-            os.waitpid(self.pid, 0)
-        os.close(self.file)
+            self.status = os.waitpid(self.pid, 0)[1]
 
     def type(self, data: bytes) -> None:
         while data:
@@ -298,10 +303,8 @@ class AtTerminal(Programs):
             finally:
                 os._exit(127)
         os.close(teller)
-        self.status, self.got = None, b""
-        self.addCleanup(self.close)
         self.addCleanup(os.close, told)
-        self.before = termios.tcgetattr(self.file)
+        self.follow()
         process = int.from_bytes(os.read(told, 4), "little")
         self.until(b".")
         self.assertTrue(self.is_raw())
