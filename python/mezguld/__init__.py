@@ -29,7 +29,8 @@ import time
 from typing import Any, Callable, Iterable, NamedTuple, NoReturn
 
 __all__ = [
-    "Block", "Blocks", "Error", "Machine", "Registers", "Stop", "Stopped", "assemble", "disassemble",
+    "Block", "Blocks", "Error", "Expanded", "Extended", "ExtendedBlock", "Instruction", "Machine", "PageHandle", "Registers", "Stop", "Stopped", "UpperBlock",
+    "Window", "assemble", "disassemble",
     "BadFormat", "BadName", "BreakpointsFull", "CommandSyntax", "InputClosed", "LineRange", "LineRefused", "LineSyntax", "LineTwice", "LineUnknown", "NameTwice",
     "NoMachine", "NotFound", "NotLoaded", "OutOfMemory", "Short", "Started", "TailTooLong", "TooLarge", "TooLong", "VariablesTooLong", "__version__",
 ]
@@ -274,6 +275,72 @@ class Blocks(list):
 
     def __repr__(self) -> str:
         return f"Blocks({super().__repr__()}{'' if self.destroyed is None else f', destroyed=0x{self.destroyed:04X}'})"
+
+
+class PageHandle(NamedTuple):
+    """A handle of expanded memory: its number, how many pages of 16 KiB it has, and its name of eight bytes."""
+
+    number: int
+    pages: int
+    name: bytes
+
+
+class Window(NamedTuple):
+    """What a window of the page frame shows: a handle's page, both counted from 0."""
+
+    handle: int
+    page: int
+
+
+class Expanded(NamedTuple):
+    """Expanded memory: the handles, and what each of the four windows shows (`None`: nothing)."""
+
+    handles: list[PageHandle]
+    windows: list[Window | None]
+
+
+class ExtendedBlock(NamedTuple):
+    """A block of extended memory: its handle, its linear address, its size in KiB, and how often it is locked. Its address prints in hexadecimal."""
+
+    handle: int
+    address: int
+    kib: int
+    locks: int
+
+    def __repr__(self) -> str:
+        return f"ExtendedBlock(handle={self.handle}, address=0x{self.address:06X}, kib={self.kib}, locks={self.locks})"
+
+
+class UpperBlock(NamedTuple):
+    """An upper memory block of the extended memory driver: its segment, and its size in paragraphs. Its segment prints in hexadecimal."""
+
+    segment: int
+    size: int
+
+    def __repr__(self) -> str:
+        return f"UpperBlock(segment=0x{self.segment:04X}, size={self.size})"
+
+
+class Extended(NamedTuple):
+    """Extended memory: its blocks, the upper memory blocks, whether the A20 line is on, and whether the high memory area is in use."""
+
+    blocks: list[ExtendedBlock]
+    upper: list[UpperBlock]
+    a20: bool
+    high_memory_area: bool
+
+
+class Instruction(NamedTuple):
+    """An instruction in memory: where it stands, its bytes and its text; `DB` for a byte with which no instruction begins. It prints its address in
+    hexadecimal."""
+
+    segment: int
+    offset: int
+    data: bytes
+    text: str
+
+    def __repr__(self) -> str:
+        return f"Instruction(segment=0x{self.segment:04X}, offset=0x{self.offset:04X}, data={self.data!r}, text={self.text!r})"
 
 
 # ---- the library
@@ -761,6 +828,38 @@ class Machine:
                 segment, signature, owner, size = words
                 blocks.append(Block(int(segment, 16), signature == "Z", int(owner, 16), int(size, 16)))
         return blocks
+
+    def _listed(self, line: str) -> list[list[str]]:
+        """The words of each line of an answer."""
+        return [line.split() for line in self.command(line).decode("latin-1").splitlines()]
+
+    def expanded(self) -> Expanded:
+        """Expanded memory: its handles, and what its windows show. `NotLoaded`."""
+        handles: list[PageHandle] = []
+        windows: list[Window | None] = []
+        for words in self._listed("P"):
+            if words[0] != "window":
+                handles.append(PageHandle(int(words[0], 16), int(words[1], 16), bytes.fromhex(words[2])))
+            else:
+                windows.append(Window(int(words[2], 16), int(words[3], 16)) if len(words) == 4 else None)
+        return Expanded(handles, windows)
+
+    def extended(self) -> Extended:
+        """Extended memory: its blocks, upper memory blocks, the A20 line and the high memory area. `NotLoaded`."""
+        *rows, last = self._listed("X")
+        blocks = [ExtendedBlock(*(int(word, 16) for word in words)) for words in rows if words[0] != "upper"]
+        upper = [UpperBlock(int(words[1], 16), int(words[2], 16)) for words in rows if words[0] == "upper"]
+        return Extended(blocks, upper, last[1] == "on", last[3] == "used")
+
+    def code(self, segment: int, offset: int, count: int = 8) -> list[Instruction]:
+        """So many instructions, at most 4,096, from segment:offset on; offsets wrap in their segment. `NotLoaded`."""
+        segment, offset = _number(segment, 0xFFFF, "the segment"), _number(offset, 0xFFFF, "the offset")
+        count = _number(count, 0x1000, "the count")
+        found = []
+        for line in self.command(f"U {segment:04X}:{offset:04X} {count:X}").decode("latin-1").splitlines():
+            place, data, text = line.split(" ", 2)
+            found.append(Instruction(int(place[:4], 16), int(place[5:], 16), bytes.fromhex(data), text))
+        return found
 
 
 # ---- the assembler

@@ -202,6 +202,61 @@ class Memory(unittest.TestCase):
             self.assertIn("sp=0xFFFE", f"{machine.registers}")
 
 
+# Allocates two pages, names their handle and maps the second one into window 1; allocates 16 KiB and 8 paragraphs by the driver of extended memory.
+DRIVERS = """MOV BX,2
+MOV AH,43h
+INT 67h
+MOV SI,name
+MOV AX,5301h
+INT 67h
+MOV BX,1
+MOV AX,4401h
+INT 67h
+MOV AX,4310h
+INT 2Fh
+MOV [driver],BX
+MOV WORD [driver+2],ES
+MOV AH,9
+MOV DX,16
+CALL FAR [driver]
+MOV AH,10h
+MOV DX,8
+CALL FAR [driver]
+HLT
+name: DB 'EIGHT<<<'
+driver: DW 0,0
+"""
+
+
+class Drivers(unittest.TestCase):
+    def test_expanded_memory(self) -> None:
+        with started(DRIVERS) as machine:
+            nobody = mezguld.PageHandle(0, 0, bytes(8))
+            self.assertEqual(machine.expanded(), ([nobody], [None] * 4))
+            self.assertEqual(machine.run(1000).why, Stop.HALTED)
+            self.assertEqual(machine.expanded(), ([nobody, (1, 2, b"EIGHT<<<")], [None, (1, 1), None, None]))
+
+    def test_extended_memory(self) -> None:
+        with started(DRIVERS) as machine:
+            self.assertEqual(machine.extended(), ([], [], False, False))
+            machine.run(1000)
+            found = machine.extended()
+            self.assertEqual([(it.handle, it.kib, it.locks) for it in found.blocks], [(1, 16, 0)])
+            self.assertGreaterEqual(found.blocks[0].address, 0x110000)
+            self.assertEqual((found.upper, found.a20, found.high_memory_area), ([(0xD000, 8)], False, False))
+            self.assertEqual(repr(found.upper[0]), "UpperBlock(segment=0xD000, size=8)")
+
+    def test_code(self) -> None:
+        with started("MOV AX,4C07h\nINT 21h\nDB 0Fh\n") as machine:
+            found = machine.code(0x0103, 0x0100, 3)
+            self.assertEqual([(it.offset, it.data) for it in found], [(0x0100, b"\xb8\x07\x4c"), (0x0103, b"\xcd\x21"), (0x0105, b"\x0f")])
+            self.assertEqual([it.text for it in found], ["MOV AX,04C07h", "INT 021h", "DB"])
+            self.assertEqual(repr(found[1]), "Instruction(segment=0x0103, offset=0x0103, data=b'\\xcd!', text='INT 021h')")
+            self.assertEqual((machine.code(0, 0, 0), len(machine.code(0x0103, 0xFFFE))), ([], 8))
+            self.assertRaises(ValueError, machine.code, 0, 0, 0x1001)
+            self.assertRaises(ValueError, machine.code, 0x10000, 0)
+
+
 class Commands(unittest.TestCase):
     def test_answers(self) -> None:
         with started(END) as machine:
@@ -292,6 +347,9 @@ CALLS = {
     "command": lambda machine: machine.command("R"),
     "command G": lambda machine: machine.command("G 3"),
     "blocks": lambda machine: machine.blocks(),
+    "expanded": lambda machine: machine.expanded(),
+    "extended": lambda machine: machine.extended(),
+    "code": lambda machine: machine.code(0x0103, 0x0100, 3),
     "add": lambda machine: machine.add("LATE.COM", b"x"),
     "load": lambda machine: machine.load("MAIN.COM"),
 }
