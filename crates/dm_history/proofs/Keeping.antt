@@ -18,6 +18,7 @@ use Rattle.dm_history.proofs.OneState.{edit_of}
 use Rattle.dm_history.proofs.Runs.{run-becomes, run-rises}
 use Rattle.dm_history.proofs.Replaying.{changed-loaded}
 use Rattle.dm_history.proofs.Lists.{cut}
+use Rattle.dm_history.proofs.Order.{later-edits}
 use Rattle.dm_history.proofs.Going.{NoLater, no-later, front-pass, front-few}
 
 pub history-new : (s : State) → HasProgram s → IsHistory (new_past s) []
@@ -25,7 +26,7 @@ history-new s h = record { becomes = start; origin = h; loaded = h; ways = All-n
 
 -- ---- steps
 
-way-on : (p : Past) (t : State) (c : Kept) → p.machine.steps ≤ t.steps → IsOnTheWay p c → IsOnTheWay (at_state p t) c
+pub way-on : (p : Past) (t : State) (c : Kept) → p.machine.steps ≤ t.steps → IsOnTheWay p c → IsOnTheWay (at_state p t) c
 way-on p t c l w =
     let before = w.before in
     record { made = w.made; becomes = w.becomes; next = w.next; before = omega (arith, before, l); loaded = w.loaded }
@@ -65,7 +66,7 @@ history-edited p cs e h loaded = record {
 
 -- ---- copies
 
-with-copies : (p : Past) (cs ds : List Kept) → IsHistory p cs → All (IsOnTheWay p) ds → IsHistory p ds
+pub with-copies : (p : Past) (cs ds : List Kept) → IsHistory p cs → All (IsOnTheWay p) ds → IsHistory p ds
 with-copies p cs ds h a = record { becomes = h.becomes; origin = h.origin; loaded = h.loaded; ways = a }
 
 way-now : (p : Past) (cs : List Kept) → IsHistory p cs → IsOnTheWay p (record { machine = p.machine; edits = length p.edits })
@@ -190,3 +191,33 @@ origin-view p q es m e f g =
 pub gains : (old new : List Kept) (copy : Kept) (b : Bool) → new ≡ cond b (old ++ copy ∷ []) old → MayGain old copy new
 gains old new copy true e = more e
 gains old new copy false e = none e
+
+-- ---- a copy of an earlier state
+
+gained-history : (p : Past) (cs ds : List Kept) (copy : Kept) → IsHistory p cs → IsOnTheWay p copy → MayGain cs copy ds → IsHistory p ds
+gained-history p cs ds copy h w (none e) = subst (IsHistory p) (sym e) h
+gained-history p cs ds copy h w (more e) = subst (IsHistory p) (sym e) (with-copies p cs (cs ++ copy ∷ []) h (All-push (IsOnTheWay p) cs copy h.ways w))
+
+way-then : (p : Past) (step : ℕ) (m : State) → p.origin.steps ≤ 2 ^ 64 - 1 → step ≤ p.machine.steps → Becomes p.origin p.edits p.machine → Was p step m → HasProgram m →
+    IsOnTheWay p (record { machine = m; edits = length (edits_to step p.edits) })
+way-then p step m l b h w loaded =
+    let c = cut step p.edits in
+    let now = w.steps in
+    record {
+      made = c.some;
+      becomes = subst (λ xs. Becomes p.origin xs m) (sym c.front) w.becomes;
+      next = All-weaker (λ z. step ≤ z.step) (λ z. m.steps ≤ z.step) (λ z k. omega (arith, k, now)) (drop (length (edits_to step p.edits)) p.edits) (later-edits p.origin p.machine step p.edits l h);
+      before = omega (arith, b, now);
+      loaded = loaded;
+    }
+
+pub history-inserted : (p q : Past) (cs ds es fs : List Kept) (xs : List Edit) (step count kept : ℕ) (m : State) → p ≡ q → IsHistory p cs → p.origin.steps ≤ 2 ^ 64 - 1 → step ≤ q.machine.steps → Was q step m → HasProgram m →
+    xs ≡ p.edits → count ≡ length (edits_to step xs) → ds ≡ take kept cs → LosesOne ds es → MayGain es (record { machine = m; edits = count }) fs → IsHistory p fs
+history-inserted p q cs ds es fs xs step count kept m e h l b w loaded f n g lost gained =
+    let was : Was p step m = subst (λ (r : Past). Was r step m) (sym e) w in
+    let before : step ≤ p.machine.steps = subst (λ (r : Past). step ≤ r.machine.steps) (sym e) b in
+    let n2 : count ≡ length (edits_to step p.edits) = n ∙ ap (λ zs. length (edits_to step zs)) f in
+    let cutoff : IsHistory p ds = subst (IsHistory p) (sym g) (with-copies p cs (take kept cs) h (All-take (IsOnTheWay p) kept cs h.ways)) in
+    let fewer = history-fewer p ds es cutoff lost in
+    let way : IsOnTheWay p (record { machine = m; edits = count }) = subst (λ k. IsOnTheWay p (record { machine = m; edits = k })) (sym n2) (way-then p step m l before h.becomes was loaded) in
+    gained-history p es fs (record { machine = m; edits = count }) fewer way gained

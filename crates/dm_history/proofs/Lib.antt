@@ -8,3 +8,5 @@ mod Keeping
 mod Writing
 mod Lists
 mod Going
+mod Order
+mod Nears

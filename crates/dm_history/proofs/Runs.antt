@@ -51,7 +51,7 @@ run-becomes o s t es n stop b (cut e w) =
 pub leads-rise : (s t : State) → s.steps ≤ 2 ^ 64 - 1 → Leads s t → (s.steps ≤ t.steps) × (t.steps ≤ 2 ^ 64 - 1)
 leads-rise s t l h = let e = leads-steps s t h in (omega (arith, e), omega (arith, e))
 
-goes-rise : (s t : State) (n : ℕ) → s.steps ≤ 2 ^ 64 - 1 → Goes s n t → (s.steps ≤ t.steps) × (t.steps ≤ 2 ^ 64 - 1)
+pub goes-rise : (s t : State) (n : ℕ) → s.steps ≤ 2 ^ 64 - 1 → Goes s n t → (s.steps ≤ t.steps) × (t.steps ≤ 2 ^ 64 - 1)
 goes-rise s _ _ l here = (omega arith, l)
 goes-rise s _ _ l (further n t u g h) =
     let before = goes-rise s t n l g in
