@@ -5,6 +5,7 @@
 mod input;
 mod laws;
 mod listings;
+mod near;
 mod points;
 mod refusal;
 mod runs;
