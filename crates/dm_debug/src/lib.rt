@@ -4,6 +4,7 @@
 
 mod laws;
 mod listings;
+mod near;
 mod points;
 mod refusal;
 mod runs;

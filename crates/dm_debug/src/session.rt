@@ -29,7 +29,7 @@ const DONE: &[u8] = b"ok\n";
 /// Contracts see the machine's state and the list of breakpoints, in the order of setting. A program is loaded.
 #[derive(Drop)]
 pub struct Session {
-    machine: Machine,
+    pub(crate) machine: Machine,
     points: Points,
 }
 

@@ -6,9 +6,9 @@ use Rattle.dm_state.specs.State.{State}
 use Rattle.dm_requests.specs.declared.request.Point.{Point}
 use Rattle.dm_requests.specs.declared.request.Request.{Request}
 use Rattle.dm_requests.specs.declared.request.Request.TheVariants as request
-use Rattle.dm_gdb.specs.declared.going.Span.{Span}
+use Rattle.dm_target.specs.declared.going.Span.{Span}
 use Rattle.dm_gdb.specs.declared.replies.Reply.{Reply}
-use Rattle.dm_gdb.specs.Going.{Continues}
+use Rattle.dm_target.specs.Going.{Continues}
 use Rattle.dm_command.specs.declared.command.Command.{Command}
 use Rattle.dm_debug.specs.Debugged.{Debugged}
 use Rattle.dm_debug.specs.Sessions.{Displays, Does, DoesPart, shows, goes, traces, sets, clears, enters, nothing, ran, traced}

@@ -1,0 +1,6 @@
+pub mod Guarding
+pub mod Lists
+pub mod Nearing
+pub mod Passing
+pub mod Stepping
+pub mod Watched
