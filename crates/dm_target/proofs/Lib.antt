@@ -1,5 +1,6 @@
 pub mod Guarding
 pub mod Lists
+pub mod Looking
 pub mod Nearing
 pub mod Passing
 pub mod Stepping

@@ -6,6 +6,7 @@ use Rattle.dm_state.specs.declared.stop.Stop.TheVariants.{Steps as AllSteps}
 use Rattle.dm_state.specs.State.{State}
 use Rattle.dm_space.specs.Memory.{linear}
 use Rattle.dm_cpu.specs.Guest.{guest}
+use Rattle.dm_debug.specs.Debugged.{Debugged}
 use Rattle.dm_touches.specs.Touches.{reads, writes}
 use Rattle.dm_requests.specs.declared.request.Point.{Point}
 use Rattle.dm_machine.specs.declared.until.Breakpoint.{Breakpoint}
@@ -96,7 +97,7 @@ near_passes points watches s t n small miss (near.ended k v u g h) =
 -- ---- going on
 
 passes_append : (points : List ℕ) (watches : List Point) (span : Option Span) (s t u : State) (m n : ℕ) → Passes points watches span s m t → Passes points watches span t n u → Passes points watches span s (m + n) u
-passes_append points watches span s t u m n p going.here = p
+passes_append points watches span s t u m n p going.here = (let F : ℕ → Type 0 = λ j. Passes points watches span s j t in let none : m ≡ m + 0 = omega arith in subst F none p)
 passes_append points watches span s t u m n p (going.further k v w q step hits off) =
     subst (λ (j : ℕ). Passes points watches span s j u) (omega arith) (going.further (m + k) v u (passes_append points watches span s t v m k p q) step hits off)
 
@@ -155,3 +156,8 @@ goes_with points watches span s t u most left o e few some p (looking.ends why v
 -- all steps were made
 pub all_made : (points : List ℕ) (watches : List Point) (span : Option Span) (s t : State) (most left : ℕ) → left ≡ 0 → Passes points watches span s (most - left) t → Continues points watches span s most (Stopped AllSteps) t
 all_made points watches span s t most left e p = going.whole refl (subst (λ (j : ℕ). Passes points watches span s j t) (omega (arith, e)) p)
+
+-- the same steps, in other words
+pub passes_at : (points : List ℕ) (watches : List Point) (span : Option Span) (s : State) (u v : Debugged) (most a b : ℕ) → v ≡ u → b ≡ a → Passes points watches span s (most - a) u.machine → Passes points watches span s (most - b) v.machine
+passes_at points watches span s u v most a b e f p =
+    subst (λ (x : Debugged). Passes points watches span s (most - b) x.machine) (sym e) (subst (λ (j : ℕ). Passes points watches span s (most - j) u.machine) (sym f) p)

@@ -1,14 +1,15 @@
 //! Going on: steps up to a breakpoint, the end of a range of addresses, a hit of a watchpoint, a stop, or a number of steps.
 
-ghost use Rattle.std.specs.Prelude.{◌≡◌};
+ghost use Rattle.std.specs.Prelude.{◌≡◌, All, IfSome};
 ghost use Rattle.dm_target.specs.Going.{is_among, is_outside, place_of, has_arrived, Continues};
-ghost use Rattle.dm_target.specs.inner.Looking.{Ends};
+ghost use Rattle.dm_target.specs.inner.Looking.{Ends, IsGuarded};
 
 use crate::memory::linear_of;
 use crate::nearby::{marks_if_any, pass};
 use crate::watching::look;
 use dm_debug::Session;
-use dm_machine::{Machine, Stop};
+use dm_machine::{Breakpoint, Machine, Stop};
+use dm_quiet::Marks;
 use dm_requests::Point;
 use std::alloc::Global;
 
@@ -84,6 +85,43 @@ fn look_on(
     None
 }
 
+/// Makes at most `most` steps, as `go_on` does. `marks` are those of the watchpoints, if there are any, and `pairs` is room
+/// for breakpoints.
+fn go_marked(
+    alloc: Global,
+    session: &mut Session,
+    most: u64,
+    span: Option<Span>,
+    points: &[u32],
+    watches: &[Point],
+    marks: &Option<Marks>,
+    pairs: &mut Vec<Breakpoint>,
+) -> Pause
+    requires { IfSome marks.now (λ m. All (IsGuarded m) watches.now) }
+    ensures goes { Continues points.now watches.now span session.old.machine most result session.new.machine }
+    ensures points { session.new.points ≡ session.old.points }
+{
+    let mut left = most;
+    for _ in 0..most {
+        if left == 0 {
+            return Pause::Stopped(Stop::Steps);
+        }
+        let made = pass(session, left, span, points, watches, marks, pairs);
+        if made == 0 {
+            if let Some(pause) = look_on(alloc, session, span, points, watches) {
+                return pause;
+            }
+            left -= 1;
+        } else {
+            left -= made;
+            if has_arrived(points, span, session.machine()) {
+                return Pause::Arrived;
+            }
+        }
+    }
+    Pause::Stopped(Stop::Steps)
+}
+
 /// Makes at most `most` steps, but none after one that led to a breakpoint or out of the range, or hit a watchpoint, and
 /// returns why the steps ended. What the session has of breakpoints stays, and does not count. Allocations for speed may
 /// fail; where the watched bytes cannot be kept before a service or driver, the steps end as if the machine wanted memory.
@@ -103,23 +141,7 @@ pub fn go_on(
     }
     let marks = marks_if_any(alloc, watches);
     let mut pairs = Vec::new(alloc);
-    let mut left = most;
-    for _ in 0..most {
-        if left == 0 {
-            return Pause::Stopped(Stop::Steps);
-        }
-        let made = pass(session, left, span, points, watches, &marks, &mut pairs);
-        if made == 0 {
-            if let Some(pause) = look_on(alloc, session, span, points, watches) {
-                return pause;
-            }
-            left -= 1;
-        } else {
-            left -= made;
-            if has_arrived(points, span, session.machine()) {
-                return Pause::Arrived;
-            }
-        }
-    }
-    Pause::Stopped(Stop::Steps)
+    go_marked(
+        alloc, session, most, span, points, watches, &marks, &mut pairs,
+    )
 }

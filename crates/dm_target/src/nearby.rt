@@ -1,6 +1,6 @@
 //! Steps that are made at once, since they hit no watchpoint and lead to no breakpoint.
 
-ghost use Rattle.std.specs.Prelude.{◌≡◌, ◌≤◌, ◌++◌, ℕ, All, IfOk, OnOk, IfSome};
+ghost use Rattle.std.specs.Prelude.{◌≡◌, ◌≤◌, ◌<◌, ◌++◌, [], ℕ, All, IfOk, OnOk, IfSome, IsTrue, None};
 ghost use Rattle.dm_machine.specs.Unmarked.{GoesUnmarked};
 ghost use Rattle.dm_machine.specs.Near.{GoesNear};
 ghost use Rattle.dm_target.specs.inner.Looking.{HasLevel, IsGuarded, IsGuardedAt, Keeps, PassesNear, level_of, pair_at, pairs_at, pairs_of};
@@ -93,7 +93,8 @@ fn put_pairs_at(pairs: &mut Vec<Breakpoint>, segment: u16, address: u32) -> Resu
 
 /// Replaces `pairs` by the pairs of the segment whose linear address may be one of these. An `Err` is a failed allocation.
 fn put_pairs(pairs: &mut Vec<Breakpoint>, segment: u16, points: &[u32]) -> Result<(), AllocError>
-    ensures { OnOk result (pairs.new.items ≡ pairs_of segment points.now) }
+    ensures pairs { OnOk result (pairs.new.items ≡ pairs_of segment points.now) }
+    ensures small { segment < 65536 }
 {
     pairs.clear();
     for point in points {
@@ -129,6 +130,17 @@ fn run_marked(session: &mut Session, most: u64, pairs: &[Breakpoint], marks: &Op
     }
 }
 
+/// Whether steps can be made at once: they do not end outside a range, and there are marks if there are watchpoints.
+fn may_pass(span: Option<Span>, watches: &[Point], marks: &Option<Marks>) -> bool
+    ensures span { IsTrue result → span ≡ None }
+    ensures marks { IsTrue result → marks.now ≡ None → watches.now ≡ [] }
+{
+    match marks {
+        Some(_) => span.is_none(),
+        None => watches.is_empty() && span.is_none(),
+    }
+}
+
 /// Makes at most `most` steps that hit no watchpoint, none but the last of which leads to a breakpoint, and returns how many.
 /// It may make none: it makes none where steps end outside a range, nor where there are watchpoints and no marks. `pairs` is
 /// room for breakpoints. What the session has of breakpoints stays.
@@ -146,7 +158,7 @@ pub(crate) fn pass(
     ensures most { result ≤ most }
     ensures points { session.new.points ≡ session.old.points }
 {
-    if span.is_some() || (marks.is_none() && !watches.is_empty()) {
+    if !may_pass(span, watches, marks) {
         return 0;
     }
     let segment = session.machine().cpu().cs;

@@ -1,6 +1,6 @@
 use Rattle.std.proofs.Common.{◌≡◌, ◌+◌, ◌-◌, ◌≤◌}
 use Rattle.dm_target.specs.Going.{Passes}
-use Rattle.dm_target.proofs.going.go_on.Given as goal
+use Rattle.dm_target.proofs.going.go_marked.Given as goal
 
 abbrev pub invariant-loop : goal.invariant-loop
 invariant-loop l = record {
