@@ -1,19 +1,25 @@
 /* The proved MS-DOS machine of Mezguld, from C.
  *
+ * A machine is made by mezguld_new. Programs are added by mezguld_add, one of them is loaded by mezguld_load, and then it
+ * runs, in as many calls of mezguld_run or mezguld_run_until as you like. Between two calls its registers and memory can
+ * be read and written, input supplied, output taken, and a snapshot made by mezguld_copy. mezguld_free frees it.
+ *
  * What each function returns, writes and changes is proved (crates/dm_c), as long as C keeps to this, which no function can test:
  *
  *  - A `mezguld *` points to a `mezguld`, and every other pointer to as many elements as the count after it says, or to
- *    one where there is no count. No pointer is NULL, not even where the count is 0. What a function writes overlaps
- *    nothing else that it is passed.
- *  - A `mezguld` is MEZGULD_NONE before the first call. C does not write to it and does not copy it. Where a machine was
- *    freed or never made, each call returns MEZGULD_NO_MACHINE; a copy made before the free is not recognized.
+ *    one where there is no count. No pointer is NULL, not even where the count is 0 (pass ""). What a function writes
+ *    overlaps nothing else that it is passed.
+ *  - A `mezguld` is MEZGULD_NONE before the first call. C does not write to it and does not copy it, but by mezguld_copy.
+ *    Where a machine was freed or never made, each call returns MEZGULD_NO_MACHINE; a copy made before the free, as by an
+ *    assignment, is not recognized.
  *  - No two calls on one machine overlap. They may come from several threads, if each call has ended before the next one
  *    begins, as under a mutex. No function is called from a signal handler, or in the forked child of a process with
  *    threads; no `longjmp` and no cancellation of a thread leaves a call.
  *  - malloc, realloc and free are those of one allocator, as of the C library.
  *
- * Each function returns a status. Where it is not MEZGULD_OK, nothing has changed and nothing was written, unless the
- * function's comment says otherwise. Texts are bytes with a count, with no zero byte after them.
+ * Each function but mezguld_version returns a status. Where it is not MEZGULD_OK, nothing has changed and nothing was
+ * written, unless the function's comment says otherwise; each comment names the statuses that it returns beside OK,
+ * without their prefix, in the order in which they are tried. Texts and bytes have a count, and no zero byte after them.
  */
 #ifndef MEZGULD_H
 #define MEZGULD_H
@@ -21,11 +27,22 @@
 #include <stddef.h>
 #include <stdint.h>
 
-/* The version, which `dm --version` prints too. A library with another first number has other functions. */
-#define MEZGULD_VERSION "1.0.0"
-#define MEZGULD_VERSION_MAJOR 1
+/* The version, which `dm --version` and mezguld_version tell too; the number is 10000 * major + 100 * minor + patch. A
+ * library with another first number has other functions. */
+#define MEZGULD_VERSION "2.0.0"
+#define MEZGULD_VERSION_MAJOR 2
 #define MEZGULD_VERSION_MINOR 0
 #define MEZGULD_VERSION_PATCH 0
+#define MEZGULD_VERSION_NUMBER 20000
+
+/* What stands before each function: its pointers are not NULL, and its status is to be looked at. */
+#if defined(__GNUC__) || defined(__clang__)
+#define MEZGULD_CALL __attribute__((nonnull, warn_unused_result))
+#define MEZGULD_FREE __attribute__((nonnull))
+#else
+#define MEZGULD_CALL
+#define MEZGULD_FREE
+#endif
 
 #ifdef __cplusplus
 extern "C" {
@@ -39,8 +56,8 @@ typedef struct mezguld {
 
 #define MEZGULD_NONE {0, 0}
 
-/* The statuses. */
-enum {
+/* The statuses. mezguld_status_text has a text for each. */
+typedef enum mezguld_status {
     MEZGULD_OK = 0,
     MEZGULD_NO_MACHINE = 1,         /* the `mezguld` holds no machine */
     MEZGULD_IN_USE = 2,             /* the `mezguld` holds a machine already */
@@ -62,115 +79,198 @@ enum {
     MEZGULD_LINE_UNKNOWN = 18,      /* it names a label that no line has */
     MEZGULD_LINE_RANGE = 19,        /* a number, a label or a target on it is out of range */
     MEZGULD_LINE_TWICE = 20,        /* it has the label of a line before it */
-    MEZGULD_TOO_LONG = 21           /* the program has over 65,278 bytes */
-};
+    MEZGULD_TOO_LONG = 21,          /* the program has over 65,278 bytes */
+    MEZGULD_INPUT_CLOSED = 22       /* no more input may come: mezguld_open_input opens it */
+} mezguld_status;
 
-/* Why a run stopped. */
-enum {
+/* Why a run stopped. After all but EXITED another run goes on from there, and tries again what could not be done. */
+typedef enum mezguld_stop {
     MEZGULD_STEPS = 0,       /* all the steps were made */
     MEZGULD_EXITED = 1,      /* the program has ended; every later run returns it again and makes no step */
     MEZGULD_HALTED = 2,      /* HLT is next */
     MEZGULD_UNLISTED = 3,    /* the bytes at CS:IP are no instruction of the 8086 */
-    MEZGULD_INPUT_ENDED = 4, /* the next step would read input, and none is left */
+    MEZGULD_INPUT_ENDED = 4, /* the next step would read input, and what it wants is not there; see mezguld_supply */
     MEZGULD_DESTROYED = 5,   /* the program would end, and its block list is destroyed */
     MEZGULD_MEMORY = 6,      /* an allocation for more output failed */
     MEZGULD_BREAKPOINT = 7   /* the last step led to a breakpoint */
-};
+} mezguld_stop;
 
 /* How a run ended: why, and the program's exit code (0 to 255) where it has ended, else 0. */
 typedef struct mezguld_stopped {
-    uint32_t why;
+    mezguld_stop why;
     uint32_t code;
 } mezguld_stopped;
 
-/* The registers; `flags` is the word that PUSHF stores. */
+/* The registers; `flags` is the word that PUSHF stores: CF is bit 0, PF 2, AF 4, ZF 6, SF 7, TF 8, IF 9, DF 10, OF 11. */
 typedef struct mezguld_cpu {
     uint16_t ax, bx, cx, dx, sp, bp, si, di, cs, ds, es, ss, ip, flags;
 } mezguld_cpu;
 
-/* An exact pair of CS and IP. */
+/* A breakpoint: an exact pair of CS and IP. */
 typedef struct mezguld_point {
     uint16_t segment;
     uint16_t offset;
 } mezguld_point;
 
+/* The sizes of the types, as the library has them. */
+#if defined(__cplusplus) && __cplusplus >= 201103L
+#define MEZGULD_HAS_SIZE(type, size) static_assert(sizeof(type) == (size), #type " has another size in the library")
+#elif !defined(__cplusplus) && defined(__STDC_VERSION__) && __STDC_VERSION__ >= 201112L
+#define MEZGULD_HAS_SIZE(type, size) _Static_assert(sizeof(type) == (size), #type " has another size in the library")
+#else
+#define MEZGULD_HAS_SIZE(type, size) typedef char type##_has_its_size[sizeof(type) == (size) ? 1 : -1]
+#endif
+
+MEZGULD_HAS_SIZE(mezguld, 16);
+MEZGULD_HAS_SIZE(mezguld_status, 4);
+MEZGULD_HAS_SIZE(mezguld_stop, 4);
+MEZGULD_HAS_SIZE(mezguld_stopped, 8);
+MEZGULD_HAS_SIZE(mezguld_cpu, 28);
+MEZGULD_HAS_SIZE(mezguld_point, 4);
+
+/* The version of the library that the program runs with, as MEZGULD_VERSION_NUMBER of its header. */
+uint32_t mezguld_version(void);
+
 /* Makes a machine with so many pages of expanded memory (16 KiB each, at most 512), so many KiB of extended memory (at
  * most 15,360), no program, and these variables in the first program's environment: `NAME=VALUE`, each closed by a zero
- * byte, at most 32,767 bytes in all. Where `upper` is not 0, the DOS memory arena continues in upper memory.
- * IN_USE, TOO_LARGE, VARIABLES_TOO_LONG, OUT_OF_MEMORY. */
-uint32_t mezguld_new(mezguld *machine, uint32_t ems_pages, uint32_t xms_kib, const uint8_t *variables,
-                     size_t variables_count, uint32_t upper);
+ * byte, at most 32,767 bytes in all ("" and 0 for none). Where `upper` is not 0, the DOS memory arena continues in upper
+ * memory. IN_USE, TOO_LARGE, VARIABLES_TOO_LONG, OUT_OF_MEMORY. */
+MEZGULD_CALL mezguld_status mezguld_new(mezguld *machine, uint32_t ems_pages, uint32_t xms_kib, const char *variables,
+                                        size_t variables_count, uint32_t upper);
 
 /* Makes a second machine in the state of the first one, in `*copy`, which is MEZGULD_NONE before: with the same programs,
- * breakpoints and answer. The two share nothing, and each is freed. A copy costs what its memory costs.
+ * breakpoints, input, output and answer. The two share nothing, and each is freed: a copy is a snapshot, which can be
+ * copied and run again and again. A copy costs what its memory costs.
  * NO_MACHINE (then `*copy` is not looked at), IN_USE, OUT_OF_MEMORY. */
-uint32_t mezguld_copy(mezguld *machine, mezguld *copy);
+MEZGULD_CALL mezguld_status mezguld_copy(mezguld *machine, mezguld *copy);
 
 /* Frees the machine, if there is one; then `*machine` is MEZGULD_NONE. The status is always OK. */
-uint32_t mezguld_free(mezguld *machine);
+MEZGULD_FREE mezguld_status mezguld_free(mezguld *machine);
 
 /* Adds a program, the bytes of a COM or MZ file, under a name of 1 to 64 bytes. The bytes are copied.
  * NO_MACHINE, STARTED, BAD_NAME, NAME_TWICE, OUT_OF_MEMORY. */
-uint32_t mezguld_add(mezguld *machine, const uint8_t *name, size_t name_count, const uint8_t *program,
-                     size_t program_count);
+MEZGULD_CALL mezguld_status mezguld_add(mezguld *machine, const char *name, size_t name_count, const void *program,
+                                        size_t program_count);
 
-/* Loads the program of this name, with a command tail of at most 126 bytes and the console's input.
- * NO_MACHINE, STARTED, BAD_NAME, TAIL_TOO_LONG, NOT_FOUND, BAD_FORMAT, in this order. After SHORT and OUT_OF_MEMORY the
+/* Loads the program of this name, with a command tail of at most 126 bytes (it begins with a space, as in " /q"; "" and 0
+ * for none) and the console's input, which is closed: no more of it comes, unless mezguld_open_input is called next.
+ * NO_MACHINE, STARTED, BAD_NAME, TAIL_TOO_LONG, NOT_FOUND, BAD_FORMAT, OUT_OF_MEMORY, SHORT. After the last two the
  * machine is used up: it can only be freed. */
-uint32_t mezguld_load(mezguld *machine, const uint8_t *name, size_t name_count, const uint8_t *tail, size_t tail_count,
-                      const uint8_t *input, size_t input_count);
+MEZGULD_CALL mezguld_status mezguld_load(mezguld *machine, const char *name, size_t name_count, const char *tail,
+                                         size_t tail_count, const void *input, size_t input_count);
 
-/* Makes at most so many steps. A step is an instruction, a repetition of a string instruction, or a service.
- * NO_MACHINE, NOT_LOADED. */
-uint32_t mezguld_run(mezguld *machine, uint64_t steps, mezguld_stopped *stopped);
+/* Makes at most so many steps, and writes why the run stopped into `*stopped`. A step is an instruction, a repetition of
+ * a string instruction, or a service. NO_MACHINE, NOT_LOADED. */
+MEZGULD_CALL mezguld_status mezguld_run(mezguld *machine, uint64_t steps, mezguld_stopped *stopped);
 
-/* Makes at most so many steps, but none after the first that leads to one of these breakpoints. Where the run begins is
- * no breakpoint to it. NO_MACHINE, NOT_LOADED, OUT_OF_MEMORY. */
-uint32_t mezguld_run_until(mezguld *machine, uint64_t steps, const mezguld_point *points, size_t points_count,
-                           mezguld_stopped *stopped);
+/* Makes at most so many steps, but none after the first that leads to one of these breakpoints: then the stop is
+ * BREAKPOINT, and CS:IP is the breakpoint. Where the run begins is no breakpoint to it, so that the next run goes on.
+ * To stop at each call of an interrupt n, before it acts, give where its vector leads as a breakpoint: the word at 0:4n is
+ * the offset, the word at 0:4n+2 the segment (0:0084h for INT 21h, with the function in AH).
+ * NO_MACHINE, OUT_OF_MEMORY, NOT_LOADED. */
+MEZGULD_CALL mezguld_status mezguld_run_until(mezguld *machine, uint64_t steps, const mezguld_point *points,
+                                              size_t points_count, mezguld_stopped *stopped);
 
-/* How many steps were made; at 2^64 - 1 the count stays. NO_MACHINE, NOT_LOADED. */
-uint32_t mezguld_steps(mezguld *machine, uint64_t *steps);
+/* Writes how many steps were made so far into `*steps`; at 2^64 - 1 the count stays. NO_MACHINE, NOT_LOADED. */
+MEZGULD_CALL mezguld_status mezguld_steps(mezguld *machine, uint64_t *steps);
 
-/* The registers. NO_MACHINE, NOT_LOADED. */
-uint32_t mezguld_registers(mezguld *machine, mezguld_cpu *registers);
+/* Writes the registers into `*registers`. NO_MACHINE, NOT_LOADED. */
+MEZGULD_CALL mezguld_status mezguld_registers(mezguld *machine, mezguld_cpu *registers);
 
-/* Fills a buffer with the bytes of memory from segment:offset on; offsets wrap in their segment. A byte is FFh where
- * there is no memory. NO_MACHINE, NOT_LOADED. */
-uint32_t mezguld_read(mezguld *machine, uint16_t segment, uint16_t offset, uint8_t *buffer, size_t count);
+/* Sets all the registers. Of `flags` only the bits of the nine flags count. The next run goes on at the new CS:IP. Nothing
+ * else changes. NO_MACHINE, NOT_LOADED. */
+MEZGULD_CALL mezguld_status mezguld_set_registers(mezguld *machine, const mezguld_cpu *registers);
+
+/* Fills a buffer with the bytes of memory from segment:offset on; offsets wrap in their segment, so that a buffer of over
+ * 65,536 bytes has them again. A byte is FFh where there is no memory. NO_MACHINE, NOT_LOADED. */
+MEZGULD_CALL mezguld_status mezguld_read(mezguld *machine, uint16_t segment, uint16_t offset, void *buffer,
+                                         size_t count);
 
 /* Writes bytes to memory from segment:offset on; offsets wrap in their segment. Bytes of the ROM, and where there is no
  * memory, stay. NO_MACHINE, NOT_LOADED. */
-uint32_t mezguld_write(mezguld *machine, uint16_t segment, uint16_t offset, const uint8_t *bytes, size_t count);
+MEZGULD_CALL mezguld_status mezguld_write(mezguld *machine, uint16_t segment, uint16_t offset, const void *bytes,
+                                          size_t count);
 
-/* Copies all that the console wrote into a buffer, and its count into `*wanted`. NO_MACHINE, NOT_LOADED, TOO_SMALL (then
- * `*wanted` alone is written). */
-uint32_t mezguld_output(mezguld *machine, uint8_t *buffer, size_t room, size_t *wanted);
+/* Copies what the program wrote to the console, from byte `from` of it on (0: all; past the end: nothing), into a buffer,
+ * and writes the count into `*wanted`. So the output since the last call is got with the count of all before it as `from`.
+ * NO_MACHINE, NOT_LOADED, TOO_SMALL (then `*wanted` alone is written). */
+MEZGULD_CALL mezguld_status mezguld_output(mezguld *machine, size_t from, void *buffer, size_t room, size_t *wanted);
+
+/* Writes how many bytes the program has written to the console into `*count`. NO_MACHINE, NOT_LOADED. */
+MEZGULD_CALL mezguld_status mezguld_output_count(mezguld *machine, size_t *count);
+
+/* Opens the console's input: more of it may come, by mezguld_supply. From then on a run stops with INPUT_ENDED before each
+ * call of DOS that wants input which is not there (functions 01h, 07h, 08h and 3Fh: a byte; 0Ah: a line, up to 0Dh), and
+ * nothing of the call is done; after more was supplied, the next run makes the call. Polls (06h, 0Bh) tell what is there,
+ * and never stop. NO_MACHINE, NOT_LOADED. */
+MEZGULD_CALL mezguld_status mezguld_open_input(mezguld *machine);
+
+/* Closes the console's input: no more of it comes after what is left. From then on function 3Fh with no input left returns
+ * a count of 0, the end of a file; for the other calls INPUT_ENDED is the end. NO_MACHINE, NOT_LOADED. */
+MEZGULD_CALL mezguld_status mezguld_close_input(mezguld *machine);
+
+/* Adds bytes to the end of the console's input, which mezguld_open_input has opened. They are copied. The key Enter is the
+ * byte 0Dh. NO_MACHINE, NOT_LOADED, INPUT_CLOSED, OUT_OF_MEMORY. */
+MEZGULD_CALL mezguld_status mezguld_supply(mezguld *machine, const void *bytes, size_t count);
+
+/* Writes how many bytes of the console's input the program has not read yet into `*left`. NO_MACHINE, NOT_LOADED. */
+MEZGULD_CALL mezguld_status mezguld_input_left(mezguld *machine, size_t *left);
 
 /* Executes the command that a line of the debugger asks for (docs/manual.md; no line end), keeps its answer, and writes
- * the answer's count into `*wanted`. NO_MACHINE, NOT_LOADED, SYNTAX, FULL. After OUT_OF_MEMORY the command may be done, whole or
- * in part. */
-uint32_t mezguld_command(mezguld *machine, const uint8_t *line, size_t line_count, size_t *wanted);
+ * the answer's count into `*wanted`. NO_MACHINE, NOT_LOADED, SYNTAX, FULL, OUT_OF_MEMORY. After the last one the command
+ * may be done, whole or in part. */
+MEZGULD_CALL mezguld_status mezguld_command(mezguld *machine, const char *line, size_t line_count, size_t *wanted);
 
 /* Makes at most so many steps, as mezguld_run, under the memory checker, keeps the text of its report, with the line about
- * the stop, as the answer, and writes the text's count into `*wanted`. NO_MACHINE, NOT_LOADED. After OUT_OF_MEMORY any
- * part of the run was made, none or all of it included. */
-uint32_t mezguld_check(mezguld *machine, uint64_t steps, mezguld_stopped *stopped, size_t *wanted);
+ * the stop, as the answer, and writes the text's count into `*wanted`. NO_MACHINE, NOT_LOADED, OUT_OF_MEMORY. After the
+ * last one any part of the run was made, none or all of it included. */
+MEZGULD_CALL mezguld_status mezguld_check(mezguld *machine, uint64_t steps, mezguld_stopped *stopped, size_t *wanted);
 
-/* Copies the answer of the last command or checked run that had one into a buffer, and its count into `*wanted`.
+/* Copies the answer of the last command or checked run that had one into a buffer, and writes its count into `*wanted`.
  * NO_MACHINE, TOO_SMALL (then `*wanted` alone is written). */
-uint32_t mezguld_answer(mezguld *machine, uint8_t *buffer, size_t room, size_t *wanted);
+MEZGULD_CALL mezguld_status mezguld_answer(mezguld *machine, char *buffer, size_t room, size_t *wanted);
 
-/* Assembles a text to the bytes of a COM program, and writes their count into `*wanted`. TOO_SMALL (then `*wanted` alone
- * is written); LINE_SYNTAX, LINE_TWICE, LINE_UNKNOWN, LINE_RANGE (then the line's number, from 1, is written into `*line`
- * alone); TOO_LONG, OUT_OF_MEMORY. */
-uint32_t mezguld_assemble(const uint8_t *text, size_t text_count, uint8_t *buffer, size_t room, size_t *wanted,
-                          size_t *line);
+/* Assembles a text to the bytes of a COM program, and writes their count into `*wanted`. LINE_SYNTAX and LINE_TWICE at the
+ * first line with either, TOO_LONG, LINE_UNKNOWN and LINE_RANGE at the first line with either (with these four the line's
+ * number, from 1, is written into `*line` alone), OUT_OF_MEMORY, TOO_SMALL (then `*wanted` alone is written). */
+MEZGULD_CALL mezguld_status mezguld_assemble(const char *text, size_t text_count, void *buffer, size_t room,
+                                             size_t *wanted, size_t *line);
 
 /* Writes the lines of a COM program of at most 65,278 bytes, which mezguld_assemble makes the same bytes of, and their
  * count into `*wanted`. TOO_LONG, OUT_OF_MEMORY, TOO_SMALL (then `*wanted` alone is written). */
-uint32_t mezguld_disassemble(const uint8_t *program, size_t program_count, uint8_t *buffer, size_t room,
-                             size_t *wanted);
+MEZGULD_CALL mezguld_status mezguld_disassemble(const void *program, size_t program_count, char *buffer, size_t room,
+                                                size_t *wanted);
+
+/* The text of a status, with a zero byte after it, which lives as long as the program; for another number "unknown status". */
+static inline const char *mezguld_status_text(mezguld_status status)
+{
+    switch (status) {
+    case MEZGULD_OK: return "success";
+    case MEZGULD_NO_MACHINE: return "no machine: it was not made, or was freed";
+    case MEZGULD_IN_USE: return "the handle holds a machine already";
+    case MEZGULD_OUT_OF_MEMORY: return "an allocation failed";
+    case MEZGULD_TOO_SMALL: return "the buffer is too small";
+    case MEZGULD_TOO_LARGE: return "over 512 pages of expanded memory, or over 15,360 KiB of extended memory";
+    case MEZGULD_VARIABLES_TOO_LONG: return "the variables have over 32,767 bytes";
+    case MEZGULD_BAD_NAME: return "the name is empty, has over 64 bytes, or has a zero byte";
+    case MEZGULD_NAME_TWICE: return "a program has this name already";
+    case MEZGULD_STARTED: return "a program was loaded already, or its loading failed for good";
+    case MEZGULD_TAIL_TOO_LONG: return "the tail has over 126 bytes";
+    case MEZGULD_NOT_FOUND: return "no program has this name";
+    case MEZGULD_BAD_FORMAT: return "the program is neither a COM file of at most 65,278 bytes nor a correct MZ file";
+    case MEZGULD_SHORT: return "conventional memory has no room for the program";
+    case MEZGULD_NOT_LOADED: return "no program is loaded";
+    case MEZGULD_SYNTAX: return "the line is no command, or clears a breakpoint that is not set";
+    case MEZGULD_FULL: return "sixteen breakpoints are set already";
+    case MEZGULD_LINE_SYNTAX: return "the line is no statement";
+    case MEZGULD_LINE_UNKNOWN: return "the line names a label that no line has";
+    case MEZGULD_LINE_RANGE: return "a number, a label or a target on the line is out of range";
+    case MEZGULD_LINE_TWICE: return "the line has the label of a line before it";
+    case MEZGULD_TOO_LONG: return "a COM program has over 65,278 bytes";
+    case MEZGULD_INPUT_CLOSED: return "the console's input is closed";
+    }
+    return "unknown status";
+}
 
 #ifdef __cplusplus
 }

@@ -10,9 +10,12 @@ NUMBERS = {"u8": "uint8_t", "u16": "uint16_t", "u32": "uint32_t", "u64": "uint64
 TYPES = {**NUMBERS, "Handle": "mezguld", "Stopped": "mezguld_stopped", "Registers": "mezguld_cpu", "Point": "mezguld_point"}
 # The meaning of each letter of `_PARAMETERS` in the Python module; `p` is a pointer that is followed by a count.
 LETTERS = {
-    "m": "mezguld *", "s": "mezguld_stopped *", "r": "mezguld_cpu *", "w": "size_t *", "q": "uint64_t *",
+    "m": "mezguld *", "s": "mezguld_stopped *", "r": "mezguld_cpu *", "c": "const mezguld_cpu *", "w": "size_t *", "q": "uint64_t *",
     "n": "size_t", "I": "uint32_t", "B": "uint32_t", "Q": "uint64_t", "H": "uint16_t",
 }
+# What C calls a status and a reason to stop, which are numbers of the exports; an export that returns a number that is no status; and the type that C has
+# for bytes, `void` for data and `char` for texts.
+STATUS_TYPE, STOP_FIELD, NO_STATUS, BYTES = "mezguld_status", ("mezguld_stop", "why"), ("mezguld_version",), re.compile(r"\b(?:void|char) \*")
 # The exceptions of the Python module whose status has another name in the header, and the statuses that it raises nothing for: its own calls meet neither
 # a machine in use nor, at last, a buffer that is too small.
 RENAMED, UNRAISED = {"COMMAND_SYNTAX": "SYNTAX", "BREAKPOINTS_FULL": "FULL"}, ("OK", "IN_USE", "TOO_SMALL")
@@ -23,6 +26,7 @@ CONSTANT = re.compile(r"^pub(?:\(crate\))? const (\w+): u32 = (\d+);", re.M)
 STATUS = re.compile(r"\b(?:Assembly)?Refusal::(\w+)(?:\(_\))? => (\d+)")
 STOP = re.compile(r"(?:Some\(Stop::(\w+)(?:\(\w+\))?\)|None) => Stopped \{\s*why: (\d+)")
 PROTOTYPE = re.compile(r"^([\w ]+?[ *]+)(mezguld_\w+)\(([^)]*)\);", re.M | re.S)
+INLINE = re.compile(r"^static inline ([^;{]*)\n\{(.*?)^\}\n", re.M | re.S)
 TYPEDEF = re.compile(r"typedef struct (\w+) \{([^}]*)\} (\w+);")
 ENUMERATOR = re.compile(r"\bMEZGULD_(\w+) = (\d+)")
 
@@ -65,7 +69,7 @@ class Exports:
         for name, parameters, result in EXPORT.findall(whole):
             pairs = [pair.split(":") for pair in parameters.split(",") if pair.strip()]
             given = [it for word, kind in pairs for it in c_parameters(word.strip(), " ".join(kind.split()))]
-            self.functions[name] = (TYPES.get(result, result or "void"), given)
+            self.functions[name] = (STATUS_TYPE if result == "u32" and name not in NO_STATUS else TYPES.get(result, result or "void"), given)
         for name, fields in STRUCT.findall(whole):
             found = [declared_field(line) for line in fields.split(",") if line.strip()]
             self.structs[name] = [it for it in found if it]
@@ -81,6 +85,8 @@ def declared_field(line):
     found = re.fullmatch(r"(?:pub(?:\(crate\))? )?(\w+): (\*mut u8|\w+)", " ".join(line.split()))
     if not found:
         return None
+    if (found[2], found[1]) == ("u32", STOP_FIELD[1]):
+        return STOP_FIELD
     pointer = found[2] in ("*mut u8", "Inside")
     return ("void *" if pointer else TYPES.get(found[2], found[2]), found[1])
 
@@ -90,10 +96,15 @@ class Header:
 
     def __init__(self):
         text = re.sub(r"/\*.*?\*/", " ", text_of("include/mezguld.h"), flags=re.S)
+        text = re.sub(r"^MEZGULD_(?:CALL|FREE) ", "", text, flags=re.M)
+        # (The one function that C compiles itself: the text of each status.)
+        self.told = {name: text for _, body in INLINE.findall(text) for name, text in re.findall(r'case MEZGULD_(\w+): return ("[^"]+");', body)}
+        text = INLINE.sub("", text)
         self.declarations = len(re.findall(r"\bmezguld_\w+\s*\(", text))
         self.functions = {}
         for result, name, parameters in PROTOTYPE.findall(text):
-            self.functions[name] = (result.strip(), [declared(it) for it in parameters.split(",") if it.strip() != "void"])
+            given = [declared(it) for it in parameters.split(",") if it.strip() != "void"]
+            self.functions[name] = (result.strip(), [(BYTES.sub("uint8_t *", kind), word) for kind, word in given])
         self.structs = {}
         for _, fields, name in TYPEDEF.findall(text):
             found = []
@@ -103,8 +114,8 @@ class Header:
                     kind, first = declared(words[0])
                     found += [(kind, first), *[(kind, word.strip()) for word in words[1:]]]
             self.structs[name] = found
-        enums = [dict(ENUMERATOR.findall(it)) for it in re.findall(r"enum \{([^}]*)\}", text)]
-        self.statuses, self.stops = ({name: int(value) for name, value in it.items()} for it in (enums + [{}, {}])[:2])
+        enums = {name: {word: int(value) for word, value in ENUMERATOR.findall(it)} for it, name in re.findall(r"typedef enum \w+ \{([^}]*)\} (\w+);", text)}
+        self.statuses, self.stops = enums.get(STATUS_TYPE, {}), enums.get(STOP_FIELD[0], {})
 
 
 def shown(parameters):
@@ -137,6 +148,8 @@ def header_faults(header, exports):
     for name, kind in TYPES.items():
         if name not in NUMBERS and header.structs.get(kind) != exports.structs.get(name):
             yield f"the struct {kind} has {shown(header.structs.get(kind, []))} in the header and {shown(exports.structs.get(name, []))} in the exports"
+    for name in sorted({*header.statuses} ^ {*header.told}):
+        yield f"the status MEZGULD_{name} has {'a text and no number' if name in header.told else 'no text'} in the header"
     yield from compare_numbers("status", header.statuses, exports.statuses)
     yield from compare_numbers("stop", header.stops, exports.stops)
 

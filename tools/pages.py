@@ -12,6 +12,10 @@ FILES = {"FILES": ("com", "exe"), "IN": (), "OUT": (), "FILE": ()}
 ENDINGS = {("asm", "IN"): ("asm",), ("disasm", "IN"): ("com",)}
 # A function of the header, and its declaration's parts.
 DECLARED = re.compile(r"/\*(?P<comment>(?:[^*]|\*(?!/))*)\*/\s*(?P<code>(?:[^/#;{]|/(?!\*))*?\b(?P<name>mezguld_\w+)\((?P<parameters>[^)]*)\)[^;{]*;)")
+# A function that C compiles from the header: its comment, its head and its name.
+INLINE = re.compile(r"/\*(?P<comment>(?:[^*]|\*(?!/))*)\*/\s*static inline (?P<code>[^;{]*?\b(?P<name>mezguld_\w+)\([^)]*\))\n\{")
+# What stands before a function for compilers alone.
+ATTRIBUTE = re.compile(r"MEZGULD_(?:CALL|FREE) ")
 # A part of the header between empty lines: a comment, if there is one, and a declaration of a type or a constant.
 PIECE = re.compile(r"(?:/\*(?P<comment>(?:[^*]|\*(?!/))*)\*/\s*)?(?P<code>(?:typedef|enum|struct|#define MEZGULD_(?!H\b)).*)", re.S)
 
@@ -148,7 +152,18 @@ def dm_page(program):
 def declarations(text):
     """The functions of the header: the name, the comment's text and the declaration of each."""
     for found in DECLARED.finditer(text):
-        yield found["name"], paragraph(found["comment"]), found["code"].strip()
+        code = found["code"].strip()
+        mark = ATTRIBUTE.match(code)
+        if mark:
+            # (Its further lines begin below its first parameter.)
+            code = re.sub(f"^ {{{len(mark[0])}}}", "", code[len(mark[0]) :], flags=re.M)
+        yield found["name"], paragraph(found["comment"]), code
+
+
+def inline_functions(text):
+    """The functions that C compiles from the header, as `declarations` gives the others."""
+    for found in INLINE.finditer(text):
+        yield found["name"], paragraph(found["comment"]), f"{found['code']};"
 
 
 def paragraph(comment):
@@ -180,8 +195,8 @@ def add_paragraphs(page, text):
 def library_page():
     """The text of mezguld(3)."""
     text = usage.text_of(HEADER)
-    functions = [*declarations(text)]
-    page = Page("mezguld", 3, "\n".join(lines(f"mezguld, {', '.join(names())} \\- the library of the MS\\-DOS machine of Mezguld")))
+    functions = [*declarations(text), *inline_functions(text)]
+    page = Page("mezguld", 3, "\n".join(lines(f"mezguld, {', '.join(name for name, _, _ in functions)} \\- the library of the MS\\-DOS machine of Mezguld")))
     page.head("synopsis")
     page.as_is(["#include <mezguld.h>", "", "cc program.c $(pkg-config --cflags --libs mezguld)"])
     page.head("description")

@@ -1,7 +1,7 @@
 """The version of Mezguld, and each place that states it: docs/check compares them, and packages take theirs from here.
 
 `dm --version` prints the constant `VERSION` of crates/dm_options. include/mezguld.h, python/mezguld and the top of CHANGELOG.md, a release with its date, must
-have the same. Pages of manuals, packages and file names are made from it.
+have the same; include/mezguld.h and the export `mezguld_version` of crates/dm_c have it as one number, too. Pages of manuals, packages and file names are made from it.
 """
 import datetime
 import os
@@ -13,6 +13,8 @@ ROOT = os.path.dirname(os.path.dirname(os.path.realpath(__file__)))
 CONSTANT = ("crates/dm_options/src/arguments.rt", r'^const VERSION: &str = "([^"]*)";$')
 PLACES = (CONSTANT, ("include/mezguld.h", r'^#define MEZGULD_VERSION "([^"]*)"$'), ("python/mezguld/__init__.py", r'^__version__ = "([^"]*)"$'))
 NUMBERS = ("MAJOR", "MINOR", "PATCH")
+# The version as one number, in the library and in its header.
+LIBRARY = (("crates/dm_c/src/exports.rt", r"^const VERSION: u32 = ([\d_]+);$"), ("include/mezguld.h", r"^#define MEZGULD_VERSION_NUMBER (\d+)$"))
 HEADING = re.compile(r"^## (.*)$", re.M)
 RELEASE = re.compile(r"(\d+\.\d+\.\d+), (\d{1,2} [A-Z][a-z]+ \d{4})")
 # The files of dist/ whose names hold the version.
@@ -71,15 +73,25 @@ def header_faults(wanted):
             yield f"include/mezguld.h: MEZGULD_VERSION_{name} is not {number}"
 
 
+def number_faults(wanted):
+    """The faults of the version as one number."""
+    major, minor, patch = map(int, wanted.split("."))
+    for path, pattern in LIBRARY:
+        if int(stated(path, pattern)) != 10000 * major + 100 * minor + patch:
+            yield f"{path}: the version's number is not {10000 * major + 100 * minor + patch}"
+
+
 def faults(program=None):
     """Each difference, as a line; `program` is a built `dm`, whose version is compared too."""
     try:
         wanted, given = version(), [(path, stated(path, pattern)) for path, pattern in PLACES]
         given.append(("CHANGELOG.md", release()[0]))
+        numbers = [*number_faults(wanted)]
     except Unreadable as why:
         yield str(why)
         return
     yield from (f"{path}: the version is {one}, and not {wanted}" for path, one in given if one != wanted)
     yield from header_faults(wanted)
+    yield from numbers
     if program:
         yield from program_faults(program, wanted)

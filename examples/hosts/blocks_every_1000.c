@@ -8,10 +8,12 @@
 
 #include "mezguld.h"
 
-static void fail(const char *what, uint32_t status)
+static void must(const char *what, mezguld_status status)
 {
-    fprintf(stderr, "%s: status %u\n", what, status);
-    exit(1);
+    if (status != MEZGULD_OK) {
+        fprintf(stderr, "%s: %s\n", what, mezguld_status_text(status));
+        exit(1);
+    }
 }
 
 /* The bytes of a file of at most 65,278 bytes. */
@@ -31,15 +33,13 @@ static size_t read_file(const char *path, uint8_t *buffer, size_t room)
 static void print_answer(mezguld *machine, const char *line)
 {
     size_t wanted = 0;
-    uint32_t status = mezguld_command(machine, (const uint8_t *)line, strlen(line), &wanted);
-    if (status != MEZGULD_OK)
-        fail("mezguld_command", status);
-    uint8_t *answer = malloc(wanted + 1);
-    if (!answer)
-        fail("malloc", 0);
-    status = mezguld_answer(machine, answer, wanted, &wanted);
-    if (status != MEZGULD_OK)
-        fail("mezguld_answer", status);
+    must(line, mezguld_command(machine, line, strlen(line), &wanted));
+    char *answer = malloc(wanted + 1);
+    if (!answer) {
+        perror("malloc");
+        exit(1);
+    }
+    must("mezguld_answer", mezguld_answer(machine, answer, wanted, &wanted));
     fwrite(answer, 1, wanted, stdout);
     free(answer);
 }
@@ -47,33 +47,25 @@ static void print_answer(mezguld *machine, const char *line)
 int main(int argc, char **argv)
 {
     static uint8_t program[65278];
-    static const uint8_t nothing[1];
     if (argc != 2) {
         fprintf(stderr, "usage: blocks_every_1000 FILE.COM\n");
         return 2;
     }
     size_t count = read_file(argv[1], program, sizeof program);
-    const uint8_t *name = (const uint8_t *)"MAIN.COM";
     mezguld machine = MEZGULD_NONE;
-    uint32_t status = mezguld_new(&machine, 64, 1024, nothing, 0, 0);
-    if (status == MEZGULD_OK)
-        status = mezguld_add(&machine, name, 8, program, count);
-    if (status == MEZGULD_OK)
-        status = mezguld_load(&machine, name, 8, nothing, 0, nothing, 0);
-    if (status != MEZGULD_OK)
-        fail("load", status);
+    must("mezguld_new", mezguld_new(&machine, 64, 1024, "", 0, 0));
+    must("mezguld_add", mezguld_add(&machine, "MAIN.COM", 8, program, count));
+    must("mezguld_load", mezguld_load(&machine, "MAIN.COM", 8, "", 0, "", 0));
 
     mezguld_stopped stopped;
     do {
-        status = mezguld_run(&machine, 1000, &stopped);
-        if (status != MEZGULD_OK)
-            fail("mezguld_run", status);
+        must("mezguld_run", mezguld_run(&machine, 1000, &stopped));
         uint64_t steps = 0;
-        mezguld_steps(&machine, &steps);
+        must("mezguld_steps", mezguld_steps(&machine, &steps));
         printf("after %llu steps:\n", (unsigned long long)steps);
         print_answer(&machine, "M");
     } while (stopped.why == MEZGULD_STEPS);
-    printf("stopped: %u, code %u\n", stopped.why, stopped.code);
+    printf("stopped: %u, code %u\n", (unsigned)stopped.why, (unsigned)stopped.code);
     mezguld_free(&machine);
     return 0;
 }

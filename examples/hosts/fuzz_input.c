@@ -26,16 +26,16 @@ int LLVMFuzzerInitialize(int *argc, char ***argv)
     return 0;
 }
 
-static void must(uint32_t status)
+static void must(mezguld_status status)
 {
     if (status != MEZGULD_OK) {
-        fprintf(stderr, "status %u\n", status);
+        fprintf(stderr, "%s\n", mezguld_status_text(status));
         exit(1);
     }
 }
 
 /* Whether the debugger's listing of the arena says that a block list is destroyed. */
-static int is_broken(const uint8_t *text, size_t count)
+static int is_broken(const char *text, size_t count)
 {
     static const char word[] = "destroyed";
     for (size_t at = 0; at + sizeof word - 1 <= count; at++)
@@ -46,22 +46,20 @@ static int is_broken(const uint8_t *text, size_t count)
 
 int LLVMFuzzerTestOneInput(const uint8_t *data, size_t size)
 {
-    static const uint8_t nothing[1];
-    static uint8_t text[1 << 16];
-    const uint8_t *name = (const uint8_t *)"MAIN.COM";
+    static char text[1 << 16];
     mezguld machine = MEZGULD_NONE;
-    must(mezguld_new(&machine, 0, 0, nothing, 0, 0));
-    must(mezguld_add(&machine, name, 8, program, program_count));
-    must(mezguld_load(&machine, name, 8, nothing, 0, data ? data : nothing, size));
+    must(mezguld_new(&machine, 0, 0, "", 0, 0));
+    must(mezguld_add(&machine, "MAIN.COM", 8, program, program_count));
+    must(mezguld_load(&machine, "MAIN.COM", 8, "", 0, data ? (const void *)data : "", size));
     mezguld_stopped stopped;
     size_t wanted = 0;
     must(mezguld_run(&machine, 100000, &stopped));
-    must(mezguld_command(&machine, (const uint8_t *)"M", 1, &wanted));
+    must(mezguld_command(&machine, "M", 1, &wanted));
     must(mezguld_answer(&machine, text, sizeof text, &wanted));
     int broken = is_broken(text, wanted);
     mezguld_free(&machine);
     if (broken) {
-        fprintf(stderr, "the block list is destroyed:\n%.*s", (int)wanted, (const char *)text);
+        fprintf(stderr, "the block list is destroyed:\n%.*s", (int)wanted, text);
         abort();
     }
     return 0;

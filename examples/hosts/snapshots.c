@@ -24,10 +24,10 @@ static const uint8_t guest[0x30] = {
     0xB4, 0x4C, 0xCD, 0x21, /* 0112 MOV AH,4Ch; INT 21h */
 };
 
-static void must(uint32_t status)
+static void must(mezguld_status status)
 {
     if (status != MEZGULD_OK) {
-        fprintf(stderr, "status %u\n", status);
+        fprintf(stderr, "%s\n", mezguld_status_text(status));
         exit(1);
     }
 }
@@ -58,7 +58,7 @@ static int is_round_right(mezguld *snapshot, uint16_t segment, unsigned seed)
 
 int main(void)
 {
-    static const uint8_t nothing[1], name[] = "GUEST.COM";
+    static const char name[] = "GUEST.COM";
     mezguld machine = MEZGULD_NONE;
     mezguld_stopped stopped;
     mezguld_cpu registers;
@@ -66,9 +66,9 @@ int main(void)
     mallopt(M_MMAP_THRESHOLD, 64 << 20);
     mallopt(M_TRIM_THRESHOLD, 256 << 20);
     double begin = now();
-    must(mezguld_new(&machine, 64, 1024, nothing, 0, 0));
+    must(mezguld_new(&machine, 64, 1024, "", 0, 0));
     must(mezguld_add(&machine, name, sizeof name - 1, guest, sizeof guest));
-    must(mezguld_load(&machine, name, sizeof name - 1, nothing, 0, nothing, 0));
+    must(mezguld_load(&machine, name, sizeof name - 1, "", 0, "", 0));
     must(mezguld_registers(&machine, &registers));
     mezguld_point ready = {registers.cs, READY};
     must(mezguld_run_until(&machine, 100000, &ready, 1, &stopped));

@@ -29,12 +29,13 @@ import time
 from typing import Any, Callable, Iterable, NamedTuple, NoReturn
 
 __all__ = [
-    "Block", "Blocks", "Error", "Machine", "Registers", "Stop", "Stopped", "assemble", "disassemble",
-    "BadFormat", "BadName", "BreakpointsFull", "CommandSyntax", "LineRange", "LineRefused", "LineSyntax", "LineTwice", "LineUnknown", "NameTwice",
+    "Block", "Blocks", "Error", "Expanded", "Extended", "ExtendedBlock", "Instruction", "Machine", "PageHandle", "Registers", "Stop", "Stopped", "UpperBlock",
+    "Window", "assemble", "disassemble",
+    "BadFormat", "BadName", "BreakpointsFull", "CommandSyntax", "InputClosed", "LineRange", "LineRefused", "LineSyntax", "LineTwice", "LineUnknown", "NameTwice",
     "NoMachine", "NotFound", "NotLoaded", "OutOfMemory", "Short", "Started", "TailTooLong", "TooLarge", "TooLong", "VariablesTooLong", "__version__",
 ]
 
-__version__ = "1.0.0"
+__version__ = "2.0.0"
 
 
 # ---- refusals
@@ -137,6 +138,12 @@ class BreakpointsFull(Error):
     text = "sixteen breakpoints are set already"
 
 
+class InputClosed(Error):
+    """No more input may come: `open_input` opens it."""
+
+    text = "the console's input is closed; open_input opens it"
+
+
 class LineRefused(Error, ValueError):
     """A line of an assembly text is wrong; `line` counts from 1."""
 
@@ -183,7 +190,7 @@ class TooLong(Error, ValueError):
 _OK, _TOO_SMALL = 0, 4
 _REFUSALS = {
     1: NoMachine, 3: OutOfMemory, 5: TooLarge, 6: VariablesTooLong, 7: BadName, 8: NameTwice, 9: Started, 10: TailTooLong,
-    11: NotFound, 12: BadFormat, 13: Short, 14: NotLoaded, 15: CommandSyntax, 16: BreakpointsFull, 21: TooLong,
+    11: NotFound, 12: BadFormat, 13: Short, 14: NotLoaded, 15: CommandSyntax, 16: BreakpointsFull, 21: TooLong, 22: InputClosed,
 }
 _LINES = {17: LineSyntax, 18: LineUnknown, 19: LineRange, 20: LineTwice}
 for _status, _kind in (*_REFUSALS.items(), *_LINES.items()):
@@ -270,6 +277,72 @@ class Blocks(list):
         return f"Blocks({super().__repr__()}{'' if self.destroyed is None else f', destroyed=0x{self.destroyed:04X}'})"
 
 
+class PageHandle(NamedTuple):
+    """A handle of expanded memory: its number, how many pages of 16 KiB it has, and its name of eight bytes."""
+
+    number: int
+    pages: int
+    name: bytes
+
+
+class Window(NamedTuple):
+    """What a window of the page frame shows: a handle's page, both counted from 0."""
+
+    handle: int
+    page: int
+
+
+class Expanded(NamedTuple):
+    """Expanded memory: the handles, and what each of the four windows shows (`None`: nothing)."""
+
+    handles: list[PageHandle]
+    windows: list[Window | None]
+
+
+class ExtendedBlock(NamedTuple):
+    """A block of extended memory: its handle, its linear address, its size in KiB, and how often it is locked. Its address prints in hexadecimal."""
+
+    handle: int
+    address: int
+    kib: int
+    locks: int
+
+    def __repr__(self) -> str:
+        return f"ExtendedBlock(handle={self.handle}, address=0x{self.address:06X}, kib={self.kib}, locks={self.locks})"
+
+
+class UpperBlock(NamedTuple):
+    """An upper memory block of the extended memory driver: its segment, and its size in paragraphs. Its segment prints in hexadecimal."""
+
+    segment: int
+    size: int
+
+    def __repr__(self) -> str:
+        return f"UpperBlock(segment=0x{self.segment:04X}, size={self.size})"
+
+
+class Extended(NamedTuple):
+    """Extended memory: its blocks, the upper memory blocks, whether the A20 line is on, and whether the high memory area is in use."""
+
+    blocks: list[ExtendedBlock]
+    upper: list[UpperBlock]
+    a20: bool
+    high_memory_area: bool
+
+
+class Instruction(NamedTuple):
+    """An instruction in memory: where it stands, its bytes and its text; `DB` for a byte with which no instruction begins. It prints its address in
+    hexadecimal."""
+
+    segment: int
+    offset: int
+    data: bytes
+    text: str
+
+    def __repr__(self) -> str:
+        return f"Instruction(segment=0x{self.segment:04X}, offset=0x{self.offset:04X}, data={self.data!r}, text={self.text!r})"
+
+
 # ---- the library
 
 
@@ -307,6 +380,7 @@ def _path() -> str:
 
 
 _PARAMETERS = {
+    "mezguld_version": "",
     "mezguld_new": "m II pn B",
     "mezguld_copy": "m m",
     "mezguld_add": "m pn pn",
@@ -315,9 +389,15 @@ _PARAMETERS = {
     "mezguld_run_until": "m Q pn s",
     "mezguld_steps": "m q",
     "mezguld_registers": "m r",
+    "mezguld_set_registers": "m c",
     "mezguld_read": "m HH pn",
     "mezguld_write": "m HH pn",
-    "mezguld_output": "m pn w",
+    "mezguld_output": "m n pn w",
+    "mezguld_output_count": "m w",
+    "mezguld_open_input": "m",
+    "mezguld_close_input": "m",
+    "mezguld_supply": "m pn",
+    "mezguld_input_left": "m w",
     "mezguld_command": "m pn w",
     "mezguld_check": "m Q s w",
     "mezguld_answer": "m pn w",
@@ -326,7 +406,7 @@ _PARAMETERS = {
     "mezguld_disassemble": "pn pn w",
 }
 _TYPES = {
-    "m": ctypes.POINTER(_Handle), "s": ctypes.POINTER(_Stopped), "r": ctypes.POINTER(_Registers), "p": ctypes.c_void_p, "n": ctypes.c_size_t,
+    "m": ctypes.POINTER(_Handle), "s": ctypes.POINTER(_Stopped), "r": ctypes.POINTER(_Registers), "c": ctypes.POINTER(_Registers), "p": ctypes.c_void_p, "n": ctypes.c_size_t,
     "w": ctypes.POINTER(ctypes.c_size_t), "q": ctypes.POINTER(ctypes.c_uint64), "I": ctypes.c_uint32, "Q": ctypes.c_uint64, "H": ctypes.c_uint16,
     "B": ctypes.c_uint32,
 }
@@ -345,6 +425,8 @@ def _opened() -> ctypes.CDLL:
             raise ImportError(f"the library {path} is not that of Mezguld {__version__}: it has no {name}")
         function.restype = ctypes.c_uint32
         function.argtypes = [_TYPES[letter] for letter in parameters if letter != " "]
+    if library.mezguld_version() // 10000 != int(__version__.split(".", maxsplit=1)[0]):
+        raise ImportError(f"the library {path} is not that of Mezguld {__version__}: its version is {library.mezguld_version()}")
     return library
 
 
@@ -564,6 +646,11 @@ class Machine:
         with self._held():
             _check(function(self._handle, *arguments))
 
+    def _count(self, function: Callable[..., int]) -> int:
+        count = ctypes.c_size_t()
+        self._call(function, count)
+        return count.value
+
     def _run(self, function: Callable[..., int], steps: int, *arguments: object) -> Stopped:
         """A run by slices, which no other call comes between."""
 
@@ -594,12 +681,41 @@ class Machine:
         """Adds a program, a COM or MZ file's bytes, under a name of 1 to 64 bytes. `BadName`, `NameTwice`, `Started`, `OutOfMemory`."""
         self._call(_library.mezguld_add, *_given(_name(name)), *_given(_bytes(program)))
 
-    def load(self, name: str | bytes, tail: str | bytes = b"", input: bytes = b"") -> None:  # pylint: disable=redefined-builtin
-        """Loads the program of this name, with a command tail of at most 126 bytes and the console's input.
+    def load(
+        self, name: str | bytes, tail: str | bytes = b"", input: bytes = b"", more: bool = False  # pylint: disable=redefined-builtin
+    ) -> None:
+        """Loads the program of this name, with a command tail of at most 126 bytes (it begins with a space, as in `" /q"`) and the console's input. With
+        `more`, its input is open: more may come by `supply`.
 
-        `Started`, `BadName`, `TailTooLong`, `NotFound`, `BadFormat`, `Short`, `OutOfMemory`, in this order. The last two use the machine up.
+        `Started`, `BadName`, `TailTooLong`, `NotFound`, `BadFormat`, `OutOfMemory`, `Short`, in this order. The last two use the machine up.
         """
-        self._call(_library.mezguld_load, *_given(_name(name)), *_given(_name(tail)), *_given(_bytes(input)))
+        more = _number(more, 1, "more")
+        given = (*_given(_name(name)), *_given(_name(tail)), *_given(_bytes(input)))
+        with self._held():
+            self._call(_library.mezguld_load, *given)
+            if more:
+                self._call(_library.mezguld_open_input)
+
+    def open_input(self) -> None:
+        """Opens the console's input: more may come by `supply`. From then on a run stops with `Stop.INPUT_ENDED` before each call of DOS that wants input
+        which is not there (functions 01h, 07h, 08h and 3Fh: a byte; 0Ah: a line, up to 0Dh); after more was supplied, the next run makes the call. Polls
+        (06h, 0Bh) tell what is there, and never stop. `NotLoaded`."""
+        self._call(_library.mezguld_open_input)
+
+    def close_input(self) -> None:
+        """Closes the console's input: no more comes after what is left. From then on function 3Fh with none left returns a count of 0, the end of a file;
+        for the other calls `Stop.INPUT_ENDED` is the end. `NotLoaded`."""
+        self._call(_library.mezguld_close_input)
+
+    def supply(self, data: bytes) -> None:
+        """Adds bytes to the end of the console's input, which is open by `load(.., more=True)` or `open_input`. The key Enter is `b"\\r"`. `NotLoaded`,
+        `InputClosed`, `OutOfMemory`."""
+        self._call(_library.mezguld_supply, *_given(_bytes(data)))
+
+    @property
+    def input_left(self) -> int:
+        """How many bytes of the console's input the program has not read yet. `NotLoaded`."""
+        return self._count(_library.mezguld_input_left)
 
     def run(self, steps: int) -> Stopped:
         """Makes at most so many steps, from 0 to 2**64 - 1. A step is an instruction, a repetition of a string instruction, or a service. `NotLoaded`.
@@ -610,7 +726,10 @@ class Machine:
 
     def run_until(self, steps: int, breakpoints: Iterable[tuple[int, int]]) -> Stopped:
         """Makes at most so many steps, and stops with `Stop.BREAKPOINT` after the first that leads to one of the breakpoints, exact pairs of CS and IP.
-        Where the run begins is no breakpoint to it. `NotLoaded`; `OutOfMemory`, after which some of the steps may be made. Ctrl-C is as in `run`."""
+        Where the run begins is no breakpoint to it. `NotLoaded`; `OutOfMemory`, after which some of the steps may be made. Ctrl-C is as in `run`.
+
+        To stop at each call of interrupt `n`, before it acts, give where its vector leads: `offset, segment = struct.unpack("<HH", machine.read(0, 4 * n, 4))`.
+        """
         return self._run(_library.mezguld_run_until, _number(steps, _MOST_STEPS, "steps"), *_points(breakpoints))
 
     @property
@@ -622,10 +741,16 @@ class Machine:
 
     @property
     def registers(self) -> Registers:
-        """The registers. `NotLoaded`."""
+        """The registers. All are set at once, as by `machine.registers = machine.registers._replace(ax=0x4C00)`: the next run goes on at the new CS:IP, and of
+        `flags` only the bits of the nine flags count. `NotLoaded`."""
         registers = _Registers()
         self._call(_library.mezguld_registers, registers)
         return Registers(*(getattr(registers, name) for name in Registers._fields))
+
+    @registers.setter
+    def registers(self, registers: Iterable[int]) -> None:
+        words = Registers(*registers)
+        self._call(_library.mezguld_set_registers, _Registers(*(_number(word, 0xFFFF, name) for name, word in zip(words._fields, words))))
 
     def read(self, segment: int, offset: int, count: int) -> bytes:
         """So many bytes of memory, at most 65,536, from segment:offset on; offsets wrap in their segment. FFh where there is no memory. `NotLoaded`."""
@@ -640,10 +765,16 @@ class Machine:
         segment, offset = _number(segment, 0xFFFF, "the segment"), _number(offset, 0xFFFF, "the offset")
         self._call(_library.mezguld_write, segment, offset, *_given(_bytes(data)))
 
-    def output(self) -> bytes:
-        """All that the console wrote. `NotLoaded`."""
+    def output(self, start: int = 0) -> bytes:
+        """What the program wrote to the console, from byte `start` of it on (past the end: nothing). `NotLoaded`."""
+        start = _number(start, _MOST_STEPS, "the start")
         with self._held():
-            return _taken(lambda buffer, size, wanted: _library.mezguld_output(self._handle, buffer, size, wanted))
+            return _taken(lambda buffer, size, wanted: _library.mezguld_output(self._handle, start, buffer, size, wanted))
+
+    @property
+    def output_count(self) -> int:
+        """How many bytes the program has written to the console. `NotLoaded`."""
+        return self._count(_library.mezguld_output_count)
 
     def command(self, line: str | bytes) -> bytes:
         """The answer of the debugger to a line, as `R` or `D 0103:0100`. `NotLoaded`, `CommandSyntax`, `BreakpointsFull`, `OutOfMemory`. Ctrl-C in a command
@@ -697,6 +828,38 @@ class Machine:
                 segment, signature, owner, size = words
                 blocks.append(Block(int(segment, 16), signature == "Z", int(owner, 16), int(size, 16)))
         return blocks
+
+    def _listed(self, line: str) -> list[list[str]]:
+        """The words of each line of an answer."""
+        return [line.split() for line in self.command(line).decode("latin-1").splitlines()]
+
+    def expanded(self) -> Expanded:
+        """Expanded memory: its handles, and what its windows show. `NotLoaded`."""
+        handles: list[PageHandle] = []
+        windows: list[Window | None] = []
+        for words in self._listed("P"):
+            if words[0] != "window":
+                handles.append(PageHandle(int(words[0], 16), int(words[1], 16), bytes.fromhex(words[2])))
+            else:
+                windows.append(Window(int(words[2], 16), int(words[3], 16)) if len(words) == 4 else None)
+        return Expanded(handles, windows)
+
+    def extended(self) -> Extended:
+        """Extended memory: its blocks, upper memory blocks, the A20 line and the high memory area. `NotLoaded`."""
+        *rows, last = self._listed("X")
+        blocks = [ExtendedBlock(*(int(word, 16) for word in words)) for words in rows if words[0] != "upper"]
+        upper = [UpperBlock(int(words[1], 16), int(words[2], 16)) for words in rows if words[0] == "upper"]
+        return Extended(blocks, upper, last[1] == "on", last[3] == "used")
+
+    def code(self, segment: int, offset: int, count: int = 8) -> list[Instruction]:
+        """So many instructions, at most 4,096, from segment:offset on; offsets wrap in their segment. `NotLoaded`."""
+        segment, offset = _number(segment, 0xFFFF, "the segment"), _number(offset, 0xFFFF, "the offset")
+        count = _number(count, 0x1000, "the count")
+        found = []
+        for line in self.command(f"U {segment:04X}:{offset:04X} {count:X}").decode("latin-1").splitlines():
+            place, data, text = line.split(" ", 2)
+            found.append(Instruction(int(place[:4], 16), int(place[5:], 16), bytes.fromhex(data), text))
+        return found
 
 
 # ---- the assembler

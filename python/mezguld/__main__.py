@@ -6,12 +6,13 @@ import contextlib
 import errno
 import os
 import re
+import signal
 import sys
 import threading
 import time
 from typing import Any, Callable, NoReturn
 
-from . import BadFormat, Error, NameTwice, OutOfMemory, Short, TailTooLong, TooLarge, __version__, picture
+from . import BadFormat, Error, Machine, NameTwice, OutOfMemory, Short, Stop, TailTooLong, TooLarge, __version__, picture, terminal
 
 # The most bytes of a file and of the input, and of a file's name.
 MOST_BYTES, MOST_NAME = 16 << 20, 64
@@ -148,6 +149,54 @@ def draw(options: argparse.Namespace) -> int:
     return 0
 
 
+def loaded(options: argparse.Namespace) -> Machine:
+    """The machine with the first file loaded. Its input is that of a file; else it may still come."""
+    programs = programs_of(options.files)
+    console = bytes_of("") if terminal.is_file() else b""
+    machine = Machine(ems_pages=options.ems, xms_kib=options.xms, upper=options.upper)
+    for it in programs:
+        machine.add(it.name, it.content)
+    machine.load(programs[0].name, os.fsencode(options.tail), console)
+    return machine
+
+
+def end(number: int) -> int:
+    """Ends the process by a signal, as if it had not been noted; after Ctrl-C with status 130."""
+    if number == signal.SIGINT:
+        raise KeyboardInterrupt
+    signal.signal(number, signal.SIG_DFL)
+    os.kill(os.getpid(), number)
+    return 128 + number
+
+
+def play(options: argparse.Namespace) -> int:
+    """The command `run`."""
+    try:
+        with loaded(options) as machine:
+            stopped = terminal.run(machine, options.steps)
+    except Error as error:
+        raise Fault(FAULTS.get(type(error), str(error))) from error
+    except terminal.NotWritten as error:
+        raise Fault("cannot write standard output") from error
+    except terminal.Ended as ended:
+        return end(ended.args[0])
+    except OSError as error:
+        raise Fault("cannot read standard input") from error
+    if stopped.why is Stop.EXITED:
+        return stopped.code
+    print(f"stopped: {stopped.why.name.lower().replace('_', ' ')}", file=sys.stderr)
+    return 125
+
+
+def add_machine(command: argparse.ArgumentParser) -> None:
+    """Adds the options of a machine, and the files."""
+    command.add_argument("--ems", type=number, default=64, metavar="PAGES", help="pages of expanded memory, of 16 KiB (64)")
+    command.add_argument("--xms", type=number, default=1024, metavar="KIB", help="KiB of extended memory (1024)")
+    command.add_argument("--upper", action="store_true", help="DOS has upper memory, segments D000h to DFFFh")
+    command.add_argument("--tail", default="", metavar="TEXT", help="the command tail; it begins with a space")
+    command.add_argument("files", nargs="+", metavar="FILE", help="the program, and those that it can start")
+
+
 def arguments() -> Parser:
     """The parser of the command line. A command is a function of the options that returns the exit status."""
     parser = Parser(prog="python -m mezguld", description="The proved MS-DOS machine of Mezguld, from the command line.", allow_abbrev=False)
@@ -159,15 +208,20 @@ def arguments() -> Parser:
         epilog="example: python -m mezguld picture leaks.com -o memory.html </dev/null",
     )
     command.add_argument("--steps", type=number, default=picture.Options().steps, metavar="N", help="stop after so many steps (100000000)")
-    command.add_argument("--ems", type=number, default=64, metavar="PAGES", help="pages of expanded memory, of 16 KiB (64)")
-    command.add_argument("--xms", type=number, default=1024, metavar="KIB", help="KiB of extended memory (1024)")
-    command.add_argument("--upper", action="store_true", help="DOS has upper memory, segments D000h to DFFFh")
-    command.add_argument("--tail", default="", metavar="TEXT", help="the command tail; it begins with a space")
+    add_machine(command)
     command.add_argument("--input", metavar="FILE", help="the file with the console's input (standard input)")
     command.add_argument("--json", action="store_true", help="write the page's data alone, as JSON")
     command.add_argument("-o", "--output", metavar="FILE", help="the file to write (memory.html, or memory.json); - is standard output")
-    command.add_argument("files", nargs="+", metavar="FILE", help="the program, and those that it can start")
     command.set_defaults(does=draw)
+    about = "runs a program at the terminal"
+    command = commands.add_parser(
+        "run", help=about, allow_abbrev=False,
+        description=f"Runs a program as `dm run` does, and {about}: keys arrive as they are pressed, output appears at once, and Ctrl-C ends it.",
+        epilog="example: python -m mezguld run game.com",
+    )
+    command.add_argument("--steps", type=number, metavar="N", help="stop after so many steps (no limit)")
+    add_machine(command)
+    command.set_defaults(does=play)
     return parser
 
 

@@ -73,6 +73,101 @@ class Runs(unittest.TestCase):
             self.assertEqual(machine.registers.cx, 3)
 
 
+class Input(unittest.TestCase):
+    """Input that comes while a program runs."""
+
+    def test_a_run_waits_for_a_byte(self) -> None:
+        with started(ECHO, more=True) as machine:
+            for data in (b"a", b"bc", b"\0\xff"):
+                self.assertEqual(machine.run(10_000), Stopped(Stop.INPUT_ENDED, 0))
+                before = machine.registers
+                self.assertEqual(machine.run(10_000), Stopped(Stop.INPUT_ENDED, 0))
+                self.assertEqual((machine.registers, machine.input_left), (before, 0))
+                machine.supply(data)
+                self.assertEqual(machine.input_left, len(data))
+            machine.run(10_000)
+            self.assertEqual(machine.output(), b"abc\0\xff")
+
+    def test_in_any_pieces(self) -> None:
+        data = b"some bytes in pieces"
+        with started(ECHO, input=data) as whole:
+            whole.run(10_000)
+            for size in range(1, 7):
+                with self.subTest(size), started(ECHO, more=True) as machine:
+                    for at in range(0, len(data), size):
+                        machine.supply(data[at : at + size])
+                        machine.run(10_000)
+                    self.assertEqual((machine.output(), machine.registers, machine.steps), (whole.output(), whole.registers, whole.steps))
+
+    def test_function_3fh_waits_while_the_input_is_open(self) -> None:
+        # Reads up to eight bytes, and ends with their count.
+        text = "MOV BX,0\nMOV CX,8\nMOV DX,200h\nMOV AH,3Fh\nINT 21h\nMOV AH,4Ch\nINT 21h\n"
+        with started(text) as closed:
+            self.assertEqual(closed.run(100), Stopped(Stop.EXITED, 0))
+        with started(text, more=True) as machine:
+            self.assertEqual(machine.run(100), Stopped(Stop.INPUT_ENDED, 0))
+            other = copy.copy(machine)
+            machine.supply(b"three")
+            self.assertEqual(machine.run(100), Stopped(Stop.EXITED, 5))
+            other.close_input()
+            self.assertEqual(other.run(100), Stopped(Stop.EXITED, 0))
+            other.close()
+
+    def test_a_closed_input_takes_nothing(self) -> None:
+        with started(ECHO, input=b"x") as machine:
+            self.assertRaises(mezguld.InputClosed, machine.supply, b"y")
+            self.assertRaises(mezguld.InputClosed, machine.supply, b"")
+            machine.open_input()
+            machine.supply(b"y")
+            machine.close_input()
+            self.assertRaises(mezguld.InputClosed, machine.supply, b"z")
+            self.assertEqual(machine.input_left, 2)
+            self.assertEqual(machine.run(1000), Stopped(Stop.INPUT_ENDED, 0))
+            self.assertEqual(machine.output(), b"xy")
+
+    def test_nothing_is_loaded(self) -> None:
+        with Machine() as machine:
+            for call in (machine.open_input, machine.close_input, lambda: machine.supply(b""), lambda: machine.input_left, lambda: machine.output_count):
+                self.assertRaises(mezguld.NotLoaded, call)
+            self.assertRaises(mezguld.NotLoaded, setattr, machine, "registers", (0,) * 14)
+
+    def test_output_from_a_byte_on(self) -> None:
+        data = bytes(range(256)) * 40
+        with started(ECHO, input=data) as machine:
+            machine.run(1_000_000)
+            self.assertEqual(machine.output_count, len(data))
+            for start in (0, 1, 5000, len(data) - 1, len(data), len(data) + 1, MOST):
+                self.assertEqual(machine.output(start), data[start:])
+
+
+class SetRegisters(unittest.TestCase):
+    def test_each(self) -> None:
+        with started(END) as machine:
+            for at, name in enumerate(mezguld.Registers._fields[:-1]):
+                before = machine.registers
+                machine.registers = before._replace(**{name: 0x1234 + at})
+                self.assertEqual(machine.registers, before._replace(**{name: 0x1234 + at}))
+
+    def test_flags(self) -> None:
+        with started(END) as machine:
+            for word, shown in ((0x0000, 0xF002), (0xFFFF, 0xFFD7), (0x0001, 0xF003), (0xF7D5, 0xF7D7)):
+                machine.registers = machine.registers._replace(flags=word)
+                self.assertEqual(machine.registers.flags, shown)
+
+    def test_the_run_goes_on_there(self) -> None:
+        with started(END + "NOP\nMOV AX,4C09h\nINT 21h\n") as machine:
+            machine.registers = machine.registers._replace(ip=machine.registers.ip + 6)
+            self.assertEqual(machine.run(100), Stopped(Stop.EXITED, 9))
+
+    def test_a_call_is_changed_before_it_acts(self) -> None:
+        with started("MOV AH,2\nMOV DL,41h\nINT 21h\n" + END) as machine:
+            offset, segment = (int.from_bytes(machine.read(0, 0x84 + at, 2), "little") for at in (0, 2))
+            self.assertEqual(machine.run_until(100, [(segment, offset)]).why, Stop.BREAKPOINT)
+            machine.registers = machine.registers._replace(dx=0x42)
+            self.assertEqual(machine.run(100), Stopped(Stop.EXITED, 7))
+            self.assertEqual(machine.output(), b"B")
+
+
 class Memory(unittest.TestCase):
     def test_offsets_wrap(self) -> None:
         with started(END) as machine:
@@ -105,6 +200,61 @@ class Memory(unittest.TestCase):
             self.assertEqual(repr(machine.blocks()[0]), "Block(segment=0x0100, last=False, owner=0x0103, size=1)")
             self.assertEqual(str(machine.registers)[:31], "Registers(ax=0x0000, bx=0x0000,")
             self.assertIn("sp=0xFFFE", f"{machine.registers}")
+
+
+# Allocates two pages, names their handle and maps the second one into window 1; allocates 16 KiB and 8 paragraphs by the driver of extended memory.
+DRIVERS = """MOV BX,2
+MOV AH,43h
+INT 67h
+MOV SI,name
+MOV AX,5301h
+INT 67h
+MOV BX,1
+MOV AX,4401h
+INT 67h
+MOV AX,4310h
+INT 2Fh
+MOV [driver],BX
+MOV WORD [driver+2],ES
+MOV AH,9
+MOV DX,16
+CALL FAR [driver]
+MOV AH,10h
+MOV DX,8
+CALL FAR [driver]
+HLT
+name: DB 'EIGHT<<<'
+driver: DW 0,0
+"""
+
+
+class Drivers(unittest.TestCase):
+    def test_expanded_memory(self) -> None:
+        with started(DRIVERS) as machine:
+            nobody = mezguld.PageHandle(0, 0, bytes(8))
+            self.assertEqual(machine.expanded(), ([nobody], [None] * 4))
+            self.assertEqual(machine.run(1000).why, Stop.HALTED)
+            self.assertEqual(machine.expanded(), ([nobody, (1, 2, b"EIGHT<<<")], [None, (1, 1), None, None]))
+
+    def test_extended_memory(self) -> None:
+        with started(DRIVERS) as machine:
+            self.assertEqual(machine.extended(), ([], [], False, False))
+            machine.run(1000)
+            found = machine.extended()
+            self.assertEqual([(it.handle, it.kib, it.locks) for it in found.blocks], [(1, 16, 0)])
+            self.assertGreaterEqual(found.blocks[0].address, 0x110000)
+            self.assertEqual((found.upper, found.a20, found.high_memory_area), ([(0xD000, 8)], False, False))
+            self.assertEqual(repr(found.upper[0]), "UpperBlock(segment=0xD000, size=8)")
+
+    def test_code(self) -> None:
+        with started("MOV AX,4C07h\nINT 21h\nDB 0Fh\n") as machine:
+            found = machine.code(0x0103, 0x0100, 3)
+            self.assertEqual([(it.offset, it.data) for it in found], [(0x0100, b"\xb8\x07\x4c"), (0x0103, b"\xcd\x21"), (0x0105, b"\x0f")])
+            self.assertEqual([it.text for it in found], ["MOV AX,04C07h", "INT 021h", "DB"])
+            self.assertEqual(repr(found[1]), "Instruction(segment=0x0103, offset=0x0103, data=b'\\xcd!', text='INT 021h')")
+            self.assertEqual((machine.code(0, 0, 0), len(machine.code(0x0103, 0xFFFE))), ([], 8))
+            self.assertRaises(ValueError, machine.code, 0, 0, 0x1001)
+            self.assertRaises(ValueError, machine.code, 0x10000, 0)
 
 
 class Commands(unittest.TestCase):
@@ -187,9 +337,19 @@ CALLS = {
     "read": lambda machine: machine.read(0x0100, 0, 16),
     "write": lambda machine: machine.write(0x3000, 0, b"12345"),
     "output": lambda machine: machine.output(),
+    "output from a byte on": lambda machine: machine.output(1),
+    "output_count": lambda machine: machine.output_count,
+    "open_input": lambda machine: machine.open_input(),
+    "supply": lambda machine: [machine.open_input(), machine.supply(b"x")],
+    "input_left": lambda machine: machine.input_left,
+    "close_input": lambda machine: machine.close_input(),
+    "registers that are set": lambda machine: setattr(machine, "registers", machine.registers),
     "command": lambda machine: machine.command("R"),
     "command G": lambda machine: machine.command("G 3"),
     "blocks": lambda machine: machine.blocks(),
+    "expanded": lambda machine: machine.expanded(),
+    "extended": lambda machine: machine.extended(),
+    "code": lambda machine: machine.code(0x0103, 0x0100, 3),
     "add": lambda machine: machine.add("LATE.COM", b"x"),
     "load": lambda machine: machine.load("MAIN.COM"),
 }
@@ -311,6 +471,34 @@ class WrongArguments(unittest.TestCase):
                 self.refuses(TypeError, machine.read, 0, 0, other)
             self.assertEqual(len(machine.read(0x0100, 5, 65_536)), 65_536)
 
+    def test_registers(self) -> None:
+        with started(END) as machine:
+            before = machine.registers
+            for at in range(14):
+                for number in (-1, 0x10000, *self.NUMBERS):
+                    self.refuses(ValueError, setattr, machine, "registers", (*before[:at], number, *before[at + 1 :]))
+                for other in self.NO_NUMBERS:
+                    self.refuses(TypeError, setattr, machine, "registers", (*before[:at], other, *before[at + 1 :]))
+            for other in (5, None, (), before[:13], (*before, 0)):
+                self.refuses(TypeError, setattr, machine, "registers", other)
+            self.assertEqual(machine.registers, before)
+
+    def test_starts_of_output(self) -> None:
+        with started(END) as machine:
+            for number in self.NUMBERS:
+                self.refuses(ValueError, machine.output, number)
+            for other in self.NO_NUMBERS:
+                self.refuses(TypeError, machine.output, other)
+
+    def test_more_is_a_truth_value(self) -> None:
+        machine = Machine()
+        machine.add("MAIN.COM", b"\xf4")
+        for number in (2, -1, 2**64):
+            self.refuses(ValueError, lambda number: machine.load("MAIN.COM", more=number), number)
+        for other in self.NO_NUMBERS:
+            self.refuses(TypeError, lambda other: machine.load("MAIN.COM", more=other), other)
+        machine.load("MAIN.COM", more=True)
+
     def test_bytes(self) -> None:
         machine = Machine()
         machine.add("MAIN.COM", b"\xf4")
@@ -318,6 +506,7 @@ class WrongArguments(unittest.TestCase):
             self.refuses(TypeError, machine.add, "A", other)
             self.refuses(TypeError, machine.load, "MAIN.COM", "", other)
             self.refuses(TypeError, machine.write, 0x100, 0, other)
+            self.refuses(TypeError, machine.supply, other)
             self.refuses(TypeError, mezguld.disassemble, other)
         for other in self.NO_BYTES:
             self.refuses(TypeError, machine.add, other, b"")

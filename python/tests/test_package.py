@@ -57,7 +57,7 @@ class Found(unittest.TestCase):
     def test_another_library(self) -> None:
         status, told = self.imported(MEZGULD_LIBRARY="libc.so.6")
         self.assertEqual(status, 1)
-        self.assertRegex(told, "^ImportError: the library libc.so.6 is not that of Mezguld .*: it has no mezguld_new$")
+        self.assertRegex(told, "^ImportError: the library libc.so.6 is not that of Mezguld .*: it has no mezguld_version$")
 
 
 class Told(unittest.TestCase):

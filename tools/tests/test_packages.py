@@ -21,6 +21,8 @@ CHANGELOG, HEADER, PYTHON = "CHANGELOG.md", "include/mezguld.h", "python/mezguld
 VERSIONS = (
     (HEADER, '#define MEZGULD_VERSION "', '#define MEZGULD_VERSION "9', "include/mezguld.h: the version is 9"),
     (HEADER, "#define MEZGULD_VERSION_MINOR ", "#define MEZGULD_VERSION_MINOR 9", "MEZGULD_VERSION_MINOR is not"),
+    (HEADER, "#define MEZGULD_VERSION_NUMBER ", "#define MEZGULD_VERSION_NUMBER 9", "include/mezguld.h: the version's number is not"),
+    ("crates/dm_c/src/exports.rt", "const VERSION: u32 = ", "const VERSION: u32 = 9", "exports.rt: the version's number is not"),
     (PYTHON, '__version__ = "', '__version__ = "9', "__init__.py: the version is 9"),
     (PYTHON, '__version__ = "', "__version__ = '", "states 0 versions"),
     (CHANGELOG, "\n## ", "\n## 9", "CHANGELOG.md: the version is 9"),

@@ -1,6 +1,6 @@
 -- What each export does with a machine: its status, what it sets, and the host h that becomes g. `before` and `after`
 -- are what C passes by reference, before the call and after it.
-use Rattle.std.specs.Prelude.{◌≡◌, ◌⊎◌, ℕ, ◌≤◌, Bool, List, [], map, length, Option, Some, None}
+use Rattle.std.specs.Prelude.{◌≡◌, ◌⊎◌, ℕ, ◌≤◌, Bool, List, [], map, length, drop, Option, Some, None}
 use Rattle.dm_pool.specs.declared.sizes.Sizes.{Sizes}
 use Rattle.dm_pool.specs.Stored.{IsTooLarge}
 use Rattle.dm_state.specs.declared.stop.Stop.{Stop}
@@ -14,12 +14,13 @@ use Rattle.dm_host.specs.Setups.{IsNewFault}
 use Rattle.dm_host.specs.Hosts.{Hosted, new_host, Works, Shows, IsNotLoaded}
 use Rattle.dm_host.specs.Loading.{Adds, IsUnadded, Loads, IsUnloaded}
 use Rattle.dm_host.specs.Memory.{bytes_at}
+use Rattle.dm_host.specs.Input.{SetsMore, SetsRegisters, Supplies, IsUnsupplied}
 use Rattle.dm_host.specs.Commands.{IsCommanded, IsUncommanded}
 use Rattle.dm_host.specs.Checking.{Checks, IsUnchecked}
 use Rattle.dm_c.specs.declared.values.Stopped.{Stopped}
 use Rattle.dm_c.specs.declared.values.Registers.{Registers}
 use Rattle.dm_c.specs.declared.values.Point.{Point}
-use Rattle.dm_c.specs.Statuses.{status_of, stopped_of, registers_of, point_of}
+use Rattle.dm_c.specs.Statuses.{status_of, stopped_of, registers_of, cpu_of, point_of}
 use Rattle.dm_c.specs.Calls.{IsDoneOrRefused, Gives}
 
 -- `mezguld_new`: a machine with no programs is made in a handle that holds no machine, of at most 512 pages and 15,360
@@ -68,6 +69,10 @@ StepsTo h before after status g = IsDoneOrRefused status (Shows h (λ s. after �
 abbrev pub RegistersTo : Hosted → Registers → Registers → ℕ → Hosted → Type 0
 RegistersTo h before after status g = IsDoneOrRefused status (Shows h (λ s. after ≡ registers_of s.cpu)) (λ why. IsNotLoaded h why × (after ≡ before)) × (g ≡ h)
 
+-- `mezguld_set_registers`: the registers and flags are set; if no program is loaded, nothing changes
+abbrev pub SetsRegistersTo : Hosted → Registers → ℕ → Hosted → Type 0
+SetsRegistersTo h registers status g = IsDoneOrRefused status (SetsRegisters h (cpu_of registers) g) (λ why. IsNotLoaded h why × (g ≡ h))
+
 -- `mezguld_read`: the bytes of memory from segment:offset on fill the buffer; if no program is loaded, nothing changes
 abbrev pub ReadsTo : Hosted → ℕ → ℕ → List ℕ → List ℕ → ℕ → Hosted → Type 0
 ReadsTo h segment offset before after status g =
@@ -78,12 +83,33 @@ abbrev pub WritesTo : Hosted → ℕ → ℕ → List ℕ → ℕ → Hosted →
 WritesTo h segment offset bytes status g =
     IsDoneOrRefused status (Works h (λ s t. t ≡ with_machine s (record s.machine { memory = with_bytes s.machine.memory segment offset bytes })) g) (λ why. IsNotLoaded h why × (g ≡ h))
 
--- `mezguld_output`: all that was written to the console is copied to the front of the buffer, if it fits, and `wanted`
--- becomes its length; if no program is loaded (status 14), nothing changes
-abbrev pub OutputTo : Hosted → List ℕ → List ℕ → ℕ → ℕ → ℕ → Hosted → Type 0
-OutputTo h before after wanted_before wanted status g =
-    (Shows h (λ s. Gives s.console.output before after wanted status)
+-- `mezguld_output`: what was written to the console, from the offset on, is copied to the front of the buffer, if it
+-- fits, and `wanted` becomes its length; past the end of the output there are no bytes. If no program is loaded (status
+-- 14), nothing changes
+abbrev pub OutputTo : Hosted → ℕ → List ℕ → List ℕ → ℕ → ℕ → ℕ → Hosted → Type 0
+OutputTo h from before after wanted_before wanted status g =
+    (Shows h (λ s. Gives (drop from s.console.output) before after wanted status)
     ⊎ (IsNotLoaded h NotLoaded × (status ≡ status_of NotLoaded) × (after ≡ before) × (wanted ≡ wanted_before))) × (g ≡ h)
+
+-- `mezguld_output_count`: how many bytes were written to the console; if no program is loaded, nothing changes
+abbrev pub OutputCountTo : Hosted → ℕ → ℕ → ℕ → Hosted → Type 0
+OutputCountTo h before after status g =
+    IsDoneOrRefused status (Shows h (λ s. after ≡ length s.console.output)) (λ why. IsNotLoaded h why × (after ≡ before)) × (g ≡ h)
+
+-- `mezguld_open_input` (true) and `mezguld_close_input` (false): more console input may come after what is left, or no
+-- more; if no program is loaded, nothing changes
+abbrev pub SetsMoreTo : Hosted → Bool → ℕ → Hosted → Type 0
+SetsMoreTo h more status g = IsDoneOrRefused status (SetsMore h more g) (λ why. IsNotLoaded h why × (g ≡ h))
+
+-- `mezguld_supply`: the bytes are added to the end of the console input; if no program is loaded, its input is closed
+-- or an allocation failed, nothing changes
+abbrev pub SuppliesTo : Hosted → List ℕ → ℕ → Hosted → Type 0
+SuppliesTo h bytes status g = IsDoneOrRefused status (Supplies h bytes g) (λ why. IsUnsupplied h why × (g ≡ h))
+
+-- `mezguld_input_left`: how many bytes of console input are left; if no program is loaded, nothing changes
+abbrev pub InputLeftTo : Hosted → ℕ → ℕ → ℕ → Hosted → Type 0
+InputLeftTo h before after status g =
+    IsDoneOrRefused status (Shows h (λ s. after ≡ length s.console.input)) (λ why. IsNotLoaded h why × (after ≡ before)) × (g ≡ h)
 
 -- `mezguld_command`: the debugger command of a line is executed; `wanted` becomes how many bytes its answer has, and
 -- stays at a refusal

@@ -13,6 +13,11 @@ use Rattle.dm_c.specs.declared.values.Stopped.{Stopped}
 use Rattle.dm_c.specs.declared.values.Registers.{Registers}
 use Rattle.dm_c.specs.declared.values.Point.{Point}
 
+-- the version of the library, as one number: 10,000 for each whole version, 100 for each smaller one, and the
+-- corrections
+abbrev pub version_number : ℕ
+version_number = 20000
+
 -- the status of a refusal of `dm_host`. Other statuses: 0 success, 1 no machine in the handle, 2 a handle in use, 4 a
 -- buffer too small, 17 to 21 those of `text_status_of`
 abbrev pub status_of : Refusal → ℕ
@@ -29,6 +34,7 @@ status_of why.Short = 13
 status_of why.NotLoaded = 14
 status_of why.Syntax = 15
 status_of why.Full = 16
+status_of why.InputClosed = 22
 
 -- the status for an assembly text that is refused: 17 to 21 for an error in it, 3 for a failed allocation
 abbrev pub text_status_of : asm.AssemblyRefusal → ℕ
@@ -76,6 +82,25 @@ registers_of cpu = record {
   ss = cpu.ss;
   ip = cpu.ip;
   flags = flags.flags_word cpu.flags;
+}
+
+-- the registers and flags that C passes; of the flags' word only the bits of the nine flags count
+abbrev pub cpu_of : Registers → Cpu
+cpu_of registers = record {
+  ax = registers.ax;
+  bx = registers.bx;
+  cx = registers.cx;
+  dx = registers.dx;
+  sp = registers.sp;
+  bp = registers.bp;
+  si = registers.si;
+  di = registers.di;
+  cs = registers.cs;
+  ds = registers.ds;
+  es = registers.es;
+  ss = registers.ss;
+  ip = registers.ip;
+  flags = flags.flags_of registers.flags;
 }
 
 -- the breakpoint at the exact pair of CS and IP that C passes

@@ -3,8 +3,9 @@
 //! the handle holds no machine, and nothing changes then. For all that need a loaded program, it is 14 if there is
 //! none (3 if an allocation for the points of `mezguld_run_until` fails before), and nothing changes then.
 ghost use Rattle.std.specs.Prelude.{◌≡◌, ◌<◌, true, false, nat_lt};
+ghost use Rattle.dm_c.specs.Statuses.{version_number};
 ghost use Rattle.dm_c.specs.Calls.{IsCall, IsNone};
-ghost use Rattle.dm_c.specs.Machines.{Makes, CopiesTo, AddsTo, LoadsTo, RunsTo, RunsUntilTo, StepsTo, RegistersTo, ReadsTo, WritesTo, OutputTo, CommandsTo, ChecksTo, AnswersTo};
+ghost use Rattle.dm_c.specs.Machines.{Makes, CopiesTo, AddsTo, LoadsTo, RunsTo, RunsUntilTo, StepsTo, RegistersTo, SetsRegistersTo, ReadsTo, WritesTo, OutputTo, OutputCountTo, SetsMoreTo, SuppliesTo, InputLeftTo, CommandsTo, ChecksTo, AnswersTo};
 
 use crate::handle::Handle;
 use crate::machines;
@@ -14,6 +15,18 @@ use crate::values::{
 use dm_host::Host;
 use dm_machine::Sizes;
 use std::alloc::Global;
+
+/// The version of the library, 2.0.0, as one number.
+const VERSION: u32 = 20_000;
+
+/// The version of the library, as one number: 10,000 for each whole version, 100 for each smaller one, and the
+/// corrections.
+#[unsafe(no_mangle)]
+pub extern "C" fn mezguld_version() -> u32
+    ensures { result ≡ version_number }
+{
+    VERSION
+}
 
 /// Makes a machine with no programs in a handle that holds no machine. Any `upper` but 0 adds upper memory to the
 /// arena. Nothing changes unless the status is 0; the status is 2 if the handle holds a machine.
@@ -177,6 +190,24 @@ pub extern "C" fn mezguld_registers(
     status
 }
 
+/// Sets the machine's registers and flags. Of the flags' word only the bits of the nine flags count. Nothing changes
+/// unless the status is 0.
+#[unsafe(no_mangle)]
+pub extern "C" fn mezguld_set_registers(
+    alloc: Global,
+    machine: &mut Handle,
+    registers: &Registers,
+) -> u32
+    ensures { IsCall machine.old.inside.value machine.new.inside.value (result ≡ 1) (λ h g. SetsRegistersTo h registers.now result g) }
+{
+    let Some(mut host) = machine.take(alloc) else {
+        return NO_MACHINE;
+    };
+    let status = machines::set_registers(&mut host, *registers);
+    machine.put(host);
+    status
+}
+
 /// Fills the buffer with the bytes of memory from segment:offset on; offsets wrap, and bytes where there is no memory
 /// are FFh. The buffer stays unless the status is 0.
 #[unsafe(no_mangle)]
@@ -217,21 +248,94 @@ pub extern "C" fn mezguld_write(
     status
 }
 
-/// Copies all bytes that were written to the console to the front of the buffer, and sets `wanted` to how many they
-/// are. If they do not fit, the status is 4, and only `wanted` changes; with any other but 0 nothing changes.
+/// Copies the bytes that were written to the console, from the offset `from` on, to the front of the buffer, and sets
+/// `wanted` to how many they are; past the end of the output there are none. If they do not fit, the status is 4, and
+/// only `wanted` changes; with any other but 0 nothing changes.
 #[unsafe(no_mangle)]
 pub extern "C" fn mezguld_output(
     alloc: Global,
     machine: &mut Handle,
+    from: usize,
     buffer: &mut [u8],
     wanted: &mut usize,
 ) -> u32
-    ensures { IsCall machine.old.inside.value machine.new.inside.value ((result ≡ 1) × (buffer.new ≡ buffer.old) × (wanted.new ≡ wanted.old)) (λ h g. OutputTo h buffer.old buffer.new wanted.old wanted.new result g) }
+    ensures { IsCall machine.old.inside.value machine.new.inside.value ((result ≡ 1) × (buffer.new ≡ buffer.old) × (wanted.new ≡ wanted.old)) (λ h g. OutputTo h from buffer.old buffer.new wanted.old wanted.new result g) }
 {
     let Some(host) = machine.take(alloc) else {
         return NO_MACHINE;
     };
-    let status = machines::output(&host, buffer, wanted);
+    let status = machines::output(&host, from, buffer, wanted);
+    machine.put(host);
+    status
+}
+
+/// Sets `count` to how many bytes were written to the console. It stays unless the status is 0.
+#[unsafe(no_mangle)]
+pub extern "C" fn mezguld_output_count(
+    alloc: Global,
+    machine: &mut Handle,
+    count: &mut usize,
+) -> u32
+    ensures { IsCall machine.old.inside.value machine.new.inside.value ((result ≡ 1) × (count.new ≡ count.old)) (λ h g. OutputCountTo h count.old count.new result g) }
+{
+    let Some(host) = machine.take(alloc) else {
+        return NO_MACHINE;
+    };
+    let status = machines::output_count(&host, count);
+    machine.put(host);
+    status
+}
+
+/// Says that more console input may come after what is left: from then on each call that wants a byte that is not there
+/// stops the run (4), and the run can go on once there is more. Nothing changes unless the status is 0.
+#[unsafe(no_mangle)]
+pub extern "C" fn mezguld_open_input(alloc: Global, machine: &mut Handle) -> u32
+    ensures { IsCall machine.old.inside.value machine.new.inside.value (result ≡ 1) (λ h g. SetsMoreTo h true result g) }
+{
+    let Some(mut host) = machine.take(alloc) else {
+        return NO_MACHINE;
+    };
+    let status = machines::open_input(&mut host);
+    machine.put(host);
+    status
+}
+
+/// Says that no more console input comes after what is left. Nothing changes unless the status is 0.
+#[unsafe(no_mangle)]
+pub extern "C" fn mezguld_close_input(alloc: Global, machine: &mut Handle) -> u32
+    ensures { IsCall machine.old.inside.value machine.new.inside.value (result ≡ 1) (λ h g. SetsMoreTo h false result g) }
+{
+    let Some(mut host) = machine.take(alloc) else {
+        return NO_MACHINE;
+    };
+    let status = machines::close_input(&mut host);
+    machine.put(host);
+    status
+}
+
+/// Adds bytes to the end of the console input, which must be open; the status is 22 if it is not. Nothing changes
+/// unless the status is 0.
+#[unsafe(no_mangle)]
+pub extern "C" fn mezguld_supply(alloc: Global, machine: &mut Handle, bytes: &[u8]) -> u32
+    ensures { IsCall machine.old.inside.value machine.new.inside.value (result ≡ 1) (λ h g. SuppliesTo h bytes.now result g) }
+{
+    let Some(mut host) = machine.take(alloc) else {
+        return NO_MACHINE;
+    };
+    let status = machines::supply(&mut host, bytes);
+    machine.put(host);
+    status
+}
+
+/// Sets `left` to how many bytes of console input are left. It stays unless the status is 0.
+#[unsafe(no_mangle)]
+pub extern "C" fn mezguld_input_left(alloc: Global, machine: &mut Handle, left: &mut usize) -> u32
+    ensures { IsCall machine.old.inside.value machine.new.inside.value ((result ≡ 1) × (left.new ≡ left.old)) (λ h g. InputLeftTo h left.old left.new result g) }
+{
+    let Some(host) = machine.take(alloc) else {
+        return NO_MACHINE;
+    };
+    let status = machines::input_left(&host, left);
     machine.put(host);
     status
 }

@@ -1,13 +1,13 @@
 //! What the exports do once the handle's machine is taken out: each function calls that of the same name of `Host`, and
 //! returns a status, 0 or that of the refusal. What C passes by reference is set with status 0 alone, but `wanted` of
 //! `output` with status 4 too.
-ghost use Rattle.std.specs.Prelude.{◌≡◌};
-ghost use Rattle.dm_c.specs.Machines.{CopiesTo, AddsTo, LoadsTo, RunsTo, RunsUntilTo, StepsTo, RegistersTo, ReadsTo, WritesTo, OutputTo, CommandsTo, ChecksTo};
+ghost use Rattle.std.specs.Prelude.{◌≡◌, true, false};
+ghost use Rattle.dm_c.specs.Machines.{CopiesTo, AddsTo, LoadsTo, RunsTo, RunsUntilTo, StepsTo, RegistersTo, SetsRegistersTo, ReadsTo, WritesTo, OutputTo, OutputCountTo, SetsMoreTo, SuppliesTo, InputLeftTo, CommandsTo, ChecksTo};
 
 use crate::handle::Handle;
 use crate::values::{
-    IN_USE, OK, OUT_OF_MEMORY, Point, Registers, Stopped, give, points_of, registers_of, status_of,
-    stopped_of,
+    IN_USE, OK, OUT_OF_MEMORY, Point, Registers, Stopped, cpu_of, give, points_of, registers_of,
+    rest_of, status_of, stopped_of,
 };
 use dm_host::Host;
 use std::alloc::Global;
@@ -118,6 +118,16 @@ pub(crate) fn registers(host: &Host, registers: &mut Registers) -> u32
     }
 }
 
+/// Sets the machine's registers and flags. Status 14, and no change, if no program is loaded.
+pub(crate) fn set_registers(host: &mut Host, registers: Registers) -> u32
+    ensures { SetsRegistersTo host.old registers result host.new }
+{
+    match host.set_registers(cpu_of(registers)) {
+        Ok(()) => OK,
+        Err(refusal) => status_of(refusal),
+    }
+}
+
 /// Fills the buffer with the bytes of memory from segment:offset on; offsets wrap. Status 14, and no change, if no
 /// program is loaded.
 pub(crate) fn read(host: &Host, segment: u16, offset: u16, buffer: &mut [u8]) -> u32
@@ -140,13 +150,71 @@ pub(crate) fn write(host: &mut Host, segment: u16, offset: u16, bytes: &[u8]) ->
     }
 }
 
-/// Sets `wanted` to how many bytes were written to the console, and copies them to the front of the buffer if they fit;
-/// otherwise the buffer stays, with status 4. Status 14, and no change, if no program is loaded.
-pub(crate) fn output(host: &Host, buffer: &mut [u8], wanted: &mut usize) -> u32
-    ensures { OutputTo host.now buffer.old buffer.new wanted.old wanted.new result host.now }
+/// Sets `wanted` to how many bytes were written to the console from the offset `from` on, 0 past the end, and copies
+/// them to the front of the buffer if they fit; otherwise the buffer stays, with status 4. Status 14, and no change, if
+/// no program is loaded.
+pub(crate) fn output(host: &Host, from: usize, buffer: &mut [u8], wanted: &mut usize) -> u32
+    ensures { OutputTo host.now from buffer.old buffer.new wanted.old wanted.new result host.now }
 {
     match host.output() {
-        Ok(bytes) => give(bytes, buffer, wanted),
+        Ok(bytes) => give(rest_of(bytes, from), buffer, wanted),
+        Err(refusal) => status_of(refusal),
+    }
+}
+
+/// Sets `count` to how many bytes were written to the console. Status 14, and no change, if no program is loaded.
+pub(crate) fn output_count(host: &Host, count: &mut usize) -> u32
+    ensures { OutputCountTo host.now count.old count.new result host.now }
+{
+    match host.output() {
+        Ok(bytes) => {
+            *count = bytes.len();
+            OK
+        }
+        Err(refusal) => status_of(refusal),
+    }
+}
+
+/// Says that more console input may come. Status 14, and no change, if no program is loaded.
+pub(crate) fn open_input(host: &mut Host) -> u32
+    ensures { SetsMoreTo host.old true result host.new }
+{
+    match host.open_input() {
+        Ok(()) => OK,
+        Err(refusal) => status_of(refusal),
+    }
+}
+
+/// Says that no more console input comes. Status 14, and no change, if no program is loaded.
+pub(crate) fn close_input(host: &mut Host) -> u32
+    ensures { SetsMoreTo host.old false result host.new }
+{
+    match host.close_input() {
+        Ok(()) => OK,
+        Err(refusal) => status_of(refusal),
+    }
+}
+
+/// Adds bytes to the end of the console input. Status 14 if no program is loaded, 22 if its input is closed, 3 if an
+/// allocation failed; then nothing changes.
+pub(crate) fn supply(host: &mut Host, bytes: &[u8]) -> u32
+    ensures { SuppliesTo host.old bytes.now result host.new }
+{
+    match host.supply(bytes) {
+        Ok(()) => OK,
+        Err(refusal) => status_of(refusal),
+    }
+}
+
+/// Sets `left` to how many bytes of console input are left. Status 14, and no change, if no program is loaded.
+pub(crate) fn input_left(host: &Host, left: &mut usize) -> u32
+    ensures { InputLeftTo host.now left.old left.new result host.now }
+{
+    match host.input_left() {
+        Ok(count) => {
+            *left = count;
+            OK
+        }
         Err(refusal) => status_of(refusal),
     }
 }

@@ -1,8 +1,9 @@
 //! The values that pass between C and the library beside numbers and bytes: statuses, stops, registers, breakpoints.
-ghost use Rattle.std.specs.Prelude.{◌≡◌, ◌++◌, ◌∷◌, [], IfOk, map, OnOk};
-ghost use Rattle.dm_c.specs.Statuses.{status_of, stopped_of, registers_of, point_of};
+ghost use Rattle.std.specs.Prelude.{◌≡◌, ◌++◌, ◌∷◌, [], IfOk, map, drop, OnOk};
+ghost use Rattle.dm_c.specs.Statuses.{status_of, stopped_of, registers_of, cpu_of, point_of};
 ghost use Rattle.dm_c.specs.Calls.{Gives};
 
+use dm_alu::Flags;
 use dm_host::{Refusal, copy_all};
 use dm_machine::{Breakpoint, Cpu, Stop};
 use std::alloc::{AllocError, Global};
@@ -80,6 +81,7 @@ pub(crate) fn status_of(refusal: Refusal) -> u32
         Refusal::NotLoaded => 14,
         Refusal::Syntax => 15,
         Refusal::Full => 16,
+        Refusal::InputClosed => 22,
     }
 }
 
@@ -102,9 +104,10 @@ pub(crate) fn stopped_of(stop: Option<Stop>) -> Stopped
     }
 }
 
-/// The registers and flags as C sees them.
+/// The registers and flags as C sees them. `cpu_of` gives them back.
 pub(crate) fn registers_of(cpu: Cpu) -> Registers
-    ensures { result ≡ registers_of cpu }
+    ensures registers { result ≡ registers_of cpu }
+    ensures sets_back { cpu_of result ≡ cpu }
 {
     Registers {
         ax: cpu.ax,
@@ -121,6 +124,28 @@ pub(crate) fn registers_of(cpu: Cpu) -> Registers
         ss: cpu.ss,
         ip: cpu.ip,
         flags: cpu.flags.to_word(),
+    }
+}
+
+/// The registers and flags that C passes. Of the flags' word only the bits of the nine flags count.
+pub(crate) fn cpu_of(registers: Registers) -> Cpu
+    ensures { result ≡ cpu_of registers }
+{
+    Cpu {
+        ax: registers.ax,
+        bx: registers.bx,
+        cx: registers.cx,
+        dx: registers.dx,
+        sp: registers.sp,
+        bp: registers.bp,
+        si: registers.si,
+        di: registers.di,
+        cs: registers.cs,
+        ds: registers.ds,
+        es: registers.es,
+        ss: registers.ss,
+        ip: registers.ip,
+        flags: Flags::from_word(registers.flags),
     }
 }
 
@@ -143,6 +168,17 @@ pub(crate) fn points_of(alloc: Global, points: &[Point]) -> Result<Vec<Breakpoin
         breakpoints.push(point_of(*point))?;
     }
     Ok(breakpoints)
+}
+
+/// The bytes from an offset on; none where the offset is past the end.
+pub(crate) fn rest_of(bytes: &[u8], from: usize) -> &[u8]
+    ensures { result.now ≡ drop from bytes.now }
+{
+    if from < bytes.len() {
+        &bytes[from..]
+    } else {
+        &[]
+    }
 }
 
 /// The end of the calls for output, answer, assembly and disassembly: sets `wanted` to the number of bytes. If they

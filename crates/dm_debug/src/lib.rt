@@ -2,6 +2,7 @@
 //! for.
 #![tactic(auto)]
 
+mod input;
 mod laws;
 mod listings;
 mod near;

@@ -7,6 +7,7 @@ mod checks;
 mod commands;
 mod copy;
 mod host;
+mod input;
 mod loading;
 mod memory;
 mod refusal;

@@ -44,4 +44,7 @@ pub enum Refusal {
     /// The line sets a seventeenth breakpoint.
     #[error("full")]
     Full,
+    /// The console input of the program is closed: no more of it may come.
+    #[error("input closed")]
+    InputClosed,
 }

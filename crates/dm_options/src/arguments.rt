@@ -9,7 +9,7 @@ use clap::{Arg, ArgAction, Command};
 use std::alloc::{AllocError, Global};
 
 /// The version of the program, which `dm --version` prints.
-const VERSION: &str = "1.0.0";
+const VERSION: &str = "2.0.0";
 
 /// `--steps N`: a number below 2^64, 100000000 by default.
 fn steps_arg<'a>(alloc: Global) -> Arg<'a>

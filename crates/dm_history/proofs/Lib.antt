@@ -1,0 +1,12 @@
+mod Counts
+mod Leading
+mod Runs
+mod OneState
+mod Walks
+mod Replaying
+mod Keeping
+mod Writing
+mod Lists
+mod Going
+mod Order
+mod Nears

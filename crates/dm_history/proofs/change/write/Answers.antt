@@ -1,0 +1,6 @@
+use Rattle.std.proofs.Common.{arith}
+use Rattle.dm_history.proofs.Writing.{all_entered}
+use Rattle.dm_history.proofs.change.write.Goals as goal
+
+pub returns : goal.returns
+returns c = all_entered _ _ _ _ _ _ _ (omega arith) (omega arith) c.loop-byte.invariant.others c.loop-byte.invariant.left

@@ -1,0 +1,9 @@
+-- The law of histories: going back leads to one state.
+use Rattle.std.specs.Prelude.{◌≡◌, ◌-◌, ◌^◌, ◌<◌, List}
+use Rattle.dm_state.specs.State.{State}
+use Rattle.dm_history.specs.declared.change.Edit.{Edit}
+use Rattle.dm_history.specs.Becomes.{Becomes}
+
+-- s becomes at most one state by these edits and so many steps. It is about counts below 2^64 - 1: there the count stays
+abbrev pub ThereIsOneState : Type 0
+ThereIsOneState = (s t u : State) (es : List Edit) → Becomes s es t → Becomes s es u → t.steps ≡ u.steps → u.steps < 2 ^ 64 - 1 → t ≡ u

@@ -1,0 +1,5 @@
+pub mod Edits
+pub mod Becomes
+pub mod Pasts
+pub mod Laws
+pub mod inner

@@ -1,0 +1,48 @@
+//! Running again: from a copy of a machine to a later step, with the edits on the way.
+
+ghost use Rattle.std.specs.Prelude.{◌≡◌, ◌-◌, ◌^◌, ◌<◌, ◌≤◌, OnOk, length};
+ghost use Rattle.dm_state.specs.State.{HasProgram};
+ghost use Rattle.dm_history.specs.Edits.{edits_to};
+ghost use Rattle.dm_history.specs.inner.Replays.{RunsTo, LeadsBeyond, IsReplayed};
+
+use crate::change::{Edit, apply};
+use dm_machine::{Machine, Stop};
+use std::alloc::AllocError;
+
+/// How many of the edits were made up to a step, and at it.
+pub(crate) fn count_to(edits: &[Edit], step: u64) -> usize
+    ensures { result ≡ length (edits_to step edits.now) }
+{
+    edits.iter().take_while(|edit| edit.step <= step).count()
+}
+
+/// Makes steps up to a count of steps, or fewer if the machine stops. An `Err` is a failed allocation; some of the steps
+/// may have been made.
+fn run_to(machine: &mut Machine, step: u64) -> Result<(), AllocError>
+    requires loaded { HasProgram machine.old }
+    requires before { machine.old.steps ≤ step }
+    ensures ok { OnOk result (RunsTo machine.old step machine.new) }
+    ensures loaded { HasProgram machine.new }
+{
+    match machine.run(step - machine.steps()) {
+        Stop::Memory => Err(AllocError),
+        _ => Ok(()),
+    }
+}
+
+/// Does these edits again, each at its step, and goes on to a count of steps that they do not pass. They must be those with
+/// which the machine has come beyond that step. An `Err` is a failed allocation; some steps and edits may have been made.
+pub(crate) fn replay(machine: &mut Machine, edits: &[Edit], step: u64) -> Result<(), AllocError>
+    requires loaded { HasProgram machine.old }
+    requires before { machine.old.steps ≤ step }
+    requires below { step < 2 ^ 64 - 1 }
+    requires known { LeadsBeyond machine.old edits.now step }
+    ensures ok { OnOk result (IsReplayed machine.old edits.now step machine.new) }
+    ensures loaded { HasProgram machine.new }
+{
+    for edit in edits {
+        run_to(machine, edit.step)?;
+        apply(machine, &edit.change);
+    }
+    run_to(machine, step)
+}
