@@ -181,8 +181,8 @@ fn play(
 
 /// Definitions: dm_gdb Servers Replies plain_reply register_reply memory_reply base_of threads_reply
 /// Definitions: dm_gdb Description features_reply description
-/// Definitions: dm_gdb Registers register_bytes core_values
-/// Definitions: dm_gdb Memory readable byte_at
+/// Definitions: dm_target Registers register_bytes core_values
+/// Definitions: dm_target Memory readable byte_at
 #[test]
 fn requests_are_replied_at_the_start(rt: HostRuntime) -> Result<(), Fail> {
     play(&rt, rt.alloc(), HELLO, 100, &START)?;
@@ -190,7 +190,7 @@ fn requests_are_replied_at_the_start(rt: HostRuntime) -> Result<(), Fail> {
 }
 
 /// Definitions: dm_gdb Servers Replies step_reply arrival_reply with_point without_point written PutsConsole
-/// Definitions: dm_gdb Going Continues has_arrived
+/// Definitions: dm_target Going Continues has_arrived
 #[test]
 fn a_program_is_debugged_to_its_end(rt: HostRuntime) -> Result<(), Fail> {
     let mut server = play(&rt, rt.alloc(), HELLO, 100, &RUN)?;
@@ -230,7 +230,7 @@ fn other_stops_are_signals(rt: HostRuntime) -> Result<(), Fail> {
 }
 
 /// Definitions: dm_gdb Servers registers_after setting_reply with_registers
-/// Definitions: dm_gdb Settings registers_with with_value place_for value_of
+/// Definitions: dm_target Settings registers_with with_value place_for value_of
 #[test]
 fn registers_are_set(rt: HostRuntime) -> Result<(), Fail> {
     play(&rt, rt.alloc(), HELLO, 100, &SETTINGS)?;
