@@ -1,5 +1,5 @@
 //! `dm gdb`: the bytes of standard input are taken one by one, and what is sent for each is written to standard output.
-ghost use Rattle.std.specs.Prelude.{◌≡◌, ◌≢◌, ◌⊎◌, [], IfErr, IfOk, OnErr, OnOk};
+ghost use Rattle.std.specs.Prelude.{◌≡◌, ◌≢◌, ◌≤◌, ◌⊎◌, [], IfErr, IfOk, OnErr, OnOk};
 ghost use Rattle.std.specs.Io.KnownBytes.{Appends};
 ghost use Rattle.dm_state.specs.State.{HasProgram};
 ghost use Rattle.dm_out.specs.Out.{AppendsPart, HasFailed};
@@ -24,6 +24,20 @@ const INPUT: &str = "standard input";
 
 /// The name of the stream that replies are written to, as faults have it.
 const OUTPUT: &str = "standard output";
+
+/// The bytes that copies of the machine may take, which make going back quick: 64 MiB.
+const COPIES: u64 = 64 << 20;
+
+/// The bytes that a copy takes besides those of expanded and extended memory, or some more: 7 MiB.
+const COPY: u64 = 7 << 20;
+
+/// How many copies of a machine with this much expanded and extended memory are kept, besides that of its start.
+fn copies_of(ems_pages: u32, xms_kib: u32) -> usize
+    ensures most { result ≤ 8 }
+{
+    let size = COPY + ems_pages as u64 * 0x4000 + xms_kib as u64 * 0x400;
+    (COPIES / size).saturating_sub(1) as usize
+}
 
 /// The next byte of a reader; None at its end. `CannotRead` if the read failed, `OutOfMemory`.
 fn next_byte<R: Read>(requests: &mut R) -> Result<Option<u8>, Fault<'static>>
@@ -134,6 +148,9 @@ pub(crate) fn gdb<'a, F: Storage, I: Read + Drop, W: Out>(
     ensures kept { IsKept (F.contents storage.old) (F.contents storage.new) (F.saved storage.old) (F.saved storage.new) (F.failures storage.old) (F.failures storage.new) }
 {
     let machine = loaded_for_debug(alloc, storage, options)?;
-    let mut connection = Connection::new(alloc, machine);
+    let copies = copies_of(options.machine.ems_pages, options.machine.xms_kib);
+    let Ok(mut connection) = Connection::new(alloc, machine, copies) else {
+        return Err(Fault::OutOfMemory);
+    };
     serve_with(alloc, &mut connection, requests, options.machine.steps, out)
 }

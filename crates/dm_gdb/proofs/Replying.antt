@@ -1,5 +1,5 @@
 -- Replies, by what they are equal to.
-use Rattle.std.proofs.Common.{◌≡◌, ◌≤◌, ◌-◌, ℕ, true, List, Option, Some, Result, Ok, Err, refl, sym, ap, subst, ◌∙◌}
+use Rattle.std.proofs.Common.{◌≡◌, ◌≤◌, ◌-◌, ℕ, Bool, true, false, List, Option, Some, Result, Ok, Err, refl, sym, ap, subst, ◌∙◌}
 use Rattle.std.specs.Prelude.{IfOk, OnOk}
 use Rattle.dm_state.specs.declared.stop.Stop.{Stop}
 use Rattle.dm_state.specs.State.{State}
@@ -12,6 +12,7 @@ use Rattle.dm_gdb.specs.declared.replies.Reply.{Reply}
 use Rattle.dm_target.specs.Going.{Continues}
 use Rattle.dm_command.specs.declared.command.Command.{Command}
 use Rattle.dm_debug.specs.Debugged.{Debugged}
+use Rattle.dm_history.specs.Pasts.{Past}
 use Rattle.dm_debug.specs.Sessions.{Displays, Does, DoesPart, shows, goes, traces, sets, clears, enters, nothing, ran, traced}
 use Rattle.dm_gdb.specs.Monitor.{is_shown, step_of, stepped_reply}
 use Rattle.dm_machine.specs.Run.{IsRun}
@@ -37,23 +38,26 @@ pub only_these : (r : Request) → (r ≡ request.Registers → ⊥) → ((n : �
     → ((a : ℕ) (bytes : List ℕ) → r ≡ request.SetMemory a bytes → ⊥) → ((n : ℕ) (bytes : List ℕ) → r ≡ request.SetRegister n bytes → ⊥)
     → ((a n : ℕ) → r ≡ request.Features a n → ⊥) → ((line : List ℕ) → r ≡ request.Command line → ⊥)
     → (r ≡ request.Offsets → ⊥) → (r ≡ request.FirstThreads → ⊥) → (r ≡ request.EndProgram → ⊥) → ((p : Point) → r ≡ request.Insert p → ⊥)
-    → ((p : Point) → r ≡ request.Remove p → ⊥) → (r ≡ request.Step → ⊥) → (r ≡ request.Continue → ⊥) → ((a b : ℕ) → r ≡ request.Range a b → ⊥) → is_plain r ≡ true
-only_these request.Registers a b c d e g h i j k l m o q u = absurd (a refl)
-only_these (request.Register n) a b c d e g h i j k l m o q u = absurd (b n refl)
-only_these (request.Memory x n) a b c d e g h i j k l m o q u = absurd (c x n refl)
-only_these (request.SetMemory x bytes) a b c d e g h i j k l m o q u = absurd (d x bytes refl)
-only_these (request.SetRegister n bytes) a b c d e g h i j k l m o q u = absurd (e n bytes refl)
-only_these (request.Features x n) a b c d e g h i j k l m o q u = absurd (g x n refl)
-only_these (request.Command line) a b c d e g h i j k l m o q u = absurd (h line refl)
-only_these request.Offsets a b c d e g h i j k l m o q u = absurd (i refl)
-only_these request.FirstThreads a b c d e g h i j k l m o q u = absurd (j refl)
-only_these request.EndProgram a b c d e g h i j k l m o q u = absurd (k refl)
-only_these (request.Insert p) a b c d e g h i j k l m o q u = absurd (l p refl)
-only_these (request.Remove p) a b c d e g h i j k l m o q u = absurd (m p refl)
-only_these request.Step a b c d e g h i j k l m o q u = absurd (o refl)
-only_these request.Continue a b c d e g h i j k l m o q u = absurd (q refl)
-only_these (request.Range x y) a b c d e g h i j k l m o q u = absurd (u x y refl)
-only_these _ a b c d e g h i j k l m o q u = refl
+    → ((p : Point) → r ≡ request.Remove p → ⊥) → (r ≡ request.Step → ⊥) → (r ≡ request.Continue → ⊥) → ((a b : ℕ) → r ≡ request.Range a b → ⊥)
+    → (r ≡ request.StepBack → ⊥) → (r ≡ request.Restart → ⊥) → is_plain r ≡ true
+only_these request.Registers a b c d e g h i j k l m o q u v w = absurd (a refl)
+only_these (request.Register n) a b c d e g h i j k l m o q u v w = absurd (b n refl)
+only_these (request.Memory x n) a b c d e g h i j k l m o q u v w = absurd (c x n refl)
+only_these (request.SetMemory x bytes) a b c d e g h i j k l m o q u v w = absurd (d x bytes refl)
+only_these (request.SetRegister n bytes) a b c d e g h i j k l m o q u v w = absurd (e n bytes refl)
+only_these (request.Features x n) a b c d e g h i j k l m o q u v w = absurd (g x n refl)
+only_these (request.Command line) a b c d e g h i j k l m o q u v w = absurd (h line refl)
+only_these request.Offsets a b c d e g h i j k l m o q u v w = absurd (i refl)
+only_these request.FirstThreads a b c d e g h i j k l m o q u v w = absurd (j refl)
+only_these request.EndProgram a b c d e g h i j k l m o q u v w = absurd (k refl)
+only_these (request.Insert p) a b c d e g h i j k l m o q u v w = absurd (l p refl)
+only_these (request.Remove p) a b c d e g h i j k l m o q u v w = absurd (m p refl)
+only_these request.Step a b c d e g h i j k l m o q u v w = absurd (o refl)
+only_these request.Continue a b c d e g h i j k l m o q u v w = absurd (q refl)
+only_these (request.Range x y) a b c d e g h i j k l m o q u v w = absurd (u x y refl)
+only_these request.StepBack a b c d e g h i j k l m o q u v w = absurd (v refl)
+only_these request.Restart a b c d e g h i j k l m o q u v w = absurd (w refl)
+only_these _ a b c d e g h i j k l m o q u v w = refl
 
 -- steps, where breakpoints and machine are known to be these
 pub goes_as : (ps qs : List ℕ) (vs ws : List Point) (span : Option Span) (m s : State) (most : ℕ) (why : Pause) (t : State) → Continues ps vs span m most why t → ps ≡ qs → vs ≡ ws → m ≡ s
@@ -88,11 +92,16 @@ cut_only _ s t h (ran n why u r) = absurd cc
 cut_only _ s t h (traced n u r) = absurd cc
 
 -- steps up to one that is wanted, where what is known is of the session as it was read
-pub goes_to_as : (a s : Served) (x : Debugged) (most : ℕ) (line : List ℕ) (n here : ℕ) (why : Stop) (told : Reply) → a ≡ s → step_of line ≡ Some n → here ≡ a.session.machine.steps → here ≤ n
-    → IsRun a.session.machine (n - here) why x.machine → x.points ≡ a.session.points → told ≡ stepped_reply why
-    → Replies s most (request.Command line) told (record a { session = x })
+pub goes_to_as : (a s : Served) (x : Past) (most : ℕ) (line : List ℕ) (n here : ℕ) (why : Stop) (told : Reply) → a ≡ s → step_of line ≡ Some n → here ≡ a.history.machine.steps → here ≤ n
+    → IsRun a.history.machine (n - here) why x.machine → x ≡ record a.history { machine = x.machine } → told ≡ stepped_reply why
+    → Replies s most (request.Command line) told (record a { history = x })
 goes_to_as a s x most line n here why told e is at le went f g =
-    subst (λ (y : Served). Replies y most (request.Command line) told (record a { session = x })) e
-    (replies_as a (record a { session = x }) (at_state a x.machine) most (request.Command line) (request.Command line) told (stepped_reply why)
-    (goes_to line n why x.machine is (subst (λ (k : ℕ). k ≤ n) at le) (subst (λ (k : ℕ). IsRun a.session.machine (n - k) why x.machine) at went)) refl g
-    (ap (λ ps. record a { session = record { machine = x.machine; points = ps } }) f))
+    subst (λ (y : Served). Replies y most (request.Command line) told (record a { history = x })) e
+    (replies_as a (record a { history = x }) (at_state a x.machine) most (request.Command line) (request.Command line) told (stepped_reply why)
+    (goes_to line n why x.machine is (subst (λ (k : ℕ). k ≤ n) at le) (subst (λ (k : ℕ). IsRun a.history.machine (n - k) why x.machine) at went)) refl g
+    (ap (λ (h : Past). record a { history = h }) f))
+
+-- the value of a result whose error is impossible
+pub is_true : (b : Bool) → (b ≡ false → ⊥) → b ≡ true
+is_true true h = refl
+is_true false h = absurd (h refl)

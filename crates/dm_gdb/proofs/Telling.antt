@@ -17,8 +17,8 @@ use Rattle.dm_gdb.specs.Servers.{Served, PutsConsole, Replies, console_text}
 -- there was output that was not sent
 pub some_console : (s t : Served) (text : List ℕ) → PutsConsole s [] true text t → (console_packet s ≡ frame_of text) × (all_shown s ≡ t)
 some_console s t text h =
-    let some : nat_lt s.shown (length s.session.machine.console.output) ≡ true = grind (h.0, arith, nat_tests) in
-    let whole : max s.shown (length s.session.machine.console.output) ≡ length s.session.machine.console.output = max-eq_right (omega (arith, h.0)) in (
+    let some : nat_lt s.shown (length s.history.machine.console.output) ≡ true = grind (h.0, arith, nat_tests) in
+    let whole : max s.shown (length s.history.machine.console.output) ≡ length s.history.machine.console.output = max-eq_right (omega (arith, h.0)) in (
       ap (λ b. if b then frame_of (console_text s) else []) some ∙ ap frame_of (sym h.1),
       ap (λ n. record s { shown = n }) whole ∙ sym h.2,
     )
@@ -26,7 +26,7 @@ some_console s t text h =
 -- there was none
 pub no_console : (s t : Served) (text : List ℕ) → PutsConsole s [] false text t → (console_packet s ≡ []) × (all_shown s ≡ t)
 no_console s t text h =
-    let none : nat_lt s.shown (length s.session.machine.console.output) ≡ false = grind (h.0, arith, nat_tests) in (
+    let none : nat_lt s.shown (length s.history.machine.console.output) ≡ false = grind (h.0, arith, nat_tests) in (
       ap (λ b. if b then frame_of (console_text s) else []) none,
       ap (λ n. record s { shown = n }) (max-eq_left h.0) ∙ sym h.2,
     )

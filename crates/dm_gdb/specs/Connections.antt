@@ -36,11 +36,11 @@ packet_of told = frame_of (reply_text told)
 
 -- the packet of the console output that was not sent yet; nothing if there is none
 abbrev pub console_packet : Served → List ℕ
-console_packet s = if nat_lt s.shown (length s.session.machine.console.output) then frame_of (console_text s) else []
+console_packet s = if nat_lt s.shown (length s.history.machine.console.output) then frame_of (console_text s) else []
 
 -- the session once all of the console's output is sent
 abbrev pub all_shown : Served → Served
-all_shown s = record s { shown = max s.shown (length s.session.machine.console.output) }
+all_shown s = record s { shown = max s.shown (length s.history.machine.console.output) }
 
 -- the conversation with this packet as the last one that was sent
 abbrev pub with_last : Connected → List ℕ → Connected
@@ -66,6 +66,7 @@ abbrev pub makes_steps : Request → Bool
 makes_steps request.Step = true
 makes_steps request.Continue = true
 makes_steps (request.Range start end) = true
+makes_steps request.StepBack = true
 makes_steps _ = false
 
 -- the conversation after a reply, with s as the session

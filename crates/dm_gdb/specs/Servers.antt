@@ -7,8 +7,9 @@ use Rattle.dm_state.specs.declared.stop.Stop.TheVariants as stop
 use Rattle.dm_state.specs.State.{State}
 use Rattle.dm_space.specs.Memory.{Memory}
 use Rattle.dm_space.specs.Buffers.{with_bytes}
-use Rattle.dm_debug.specs.Debugged.{Debugged}
-use Rattle.dm_debug.specs.Sessions.{Displays, new_session, with_machine}
+use Rattle.dm_debug.specs.Sessions.{Displays, new_session}
+use Rattle.dm_history.specs.declared.change.Change.TheVariants as change
+use Rattle.dm_history.specs.Pasts.{Past, new_past, with_change, GoesBack}
 use Rattle.dm_command.specs.declared.command.Command.{Command}
 use Rattle.dm_command.specs.Commands.{command_of}
 use Rattle.dm_cpu.specs.declared.cpu.Cpu.{Cpu}
@@ -29,10 +30,10 @@ use Rattle.dm_target.specs.Going.{is_among, place_of, Continues}
 use Rattle.dm_target.specs.Points.{Set, none_set, with_point, without_point}
 use Rattle.dm_gdb.specs.Replies.{stop_reply}
 
--- the session of the debugger, the breakpoints and watchpoints, how many bytes of the console's output were sent, the
+-- the machine and its history, the breakpoints and watchpoints, how many bytes of the console's output were sent, the
 -- linear address of the program's first segment, and whether the program has ended, or the debugger has ended it
 pub record Served : Type 0 where
-  pub session : Debugged
+  pub history : Past
   pub points : Set
   pub shown : ℕ
   pub base : ℕ
@@ -45,10 +46,9 @@ base_of c = if c.cs == c.ds then c.ds * 16 else (c.ds + 0x10) * 16
 
 -- the session over a machine on which a program was loaded, without breakpoints
 abbrev pub new_server : State → Served
-new_server m = record { session = new_session m; points = none_set; shown = 0; base = base_of m.cpu; ended = false }
+new_server m = record { history = new_past m; points = none_set; shown = 0; base = base_of m.cpu; ended = false }
 
--- the reply to a request that asks for nothing of the machine, or for nothing that this server has: empty, but an error where
--- GDB would take the empty reply for leave to try another request, which has no reply (`R` in place of `vRun`)
+-- the reply to a request that asks for nothing of the machine, or for nothing that this server has
 abbrev pub plain_reply : Request → Reply
 plain_reply request.Why = reply.Signal 0x05
 plain_reply request.Supported = reply.Abilities
@@ -64,7 +64,6 @@ plain_reply request.Extended = reply.Done
 plain_reply request.Kill = reply.Done
 plain_reply request.Detach = reply.Done
 plain_reply request.Malformed = reply.Refused 0x01
-plain_reply request.Restart = reply.Refused 0x01
 plain_reply _ = reply.Unknown
 
 -- the reply where steps ended for this reason
@@ -96,11 +95,11 @@ written m address bytes = with_bytes m (segment_below address) (address - segmen
 
 -- the session with t as the state of its machine
 abbrev pub at_state : Served → State → Served
-at_state s t = record s { session = with_machine s.session t }
+at_state s t = record s { history = record s.history { machine = t } }
 
 -- the session after a write
 abbrev pub with_written : Served → ℕ → List ℕ → Served
-with_written s address bytes = at_state s (record s.session.machine { memory = written s.session.machine.memory address bytes })
+with_written s address bytes = record s { history = with_change s.history (change.Written (segment_below address) (address - segment_below address * 16) bytes) }
 
 -- the session after a request to set a breakpoint or watchpoint
 abbrev pub with_inserted : Served → Point → Served
@@ -117,7 +116,19 @@ is_exit _ = false
 
 -- the session after steps with this reply: with t as the state of its machine
 abbrev pub gone : Served → Reply → State → Served
-gone s told t = record s { session = with_machine s.session t; ended = is_exit told }
+gone s told t = record s { history = record s.history { machine = t }; ended = is_exit told }
+
+-- the session after going back, with this history
+abbrev pub with_past : Served → Past → Served
+with_past s q = record s { history = q; ended = false }
+
+-- the session after the program was started again: its output is sent anew
+abbrev pub restarted : Served → Served
+restarted s = record s { history = new_past s.history.origin; shown = 0; ended = false }
+
+-- the reply where going back ended in this state
+abbrev pub back_reply : List ℕ → State → Reply
+back_reply breaks t = if is_among breaks (place_of t) then reply.Breakpoint else reply.Signal 0x05
 
 -- the threads: one, and none once the program has ended
 abbrev pub threads_reply : Bool → Reply
@@ -135,9 +146,10 @@ setting_reply (Some c) = reply.Done
 -- the session with these registers; as it is for None
 abbrev pub with_registers : Served → Option Cpu → Served
 with_registers s None = s
-with_registers s (Some c) = at_state s (record s.session.machine { cpu = c })
+with_registers s (Some c) = record s { history = with_change s.history (change.Registers c) }
 
--- whether the request asks for nothing of the machine, or for nothing that this server has, as steps back
+-- whether the request asks for nothing of the machine, or for nothing that this server has, as going back to
+-- a breakpoint
 abbrev pub is_plain : Request → Bool
 is_plain request.Registers = false
 is_plain (request.Register n) = false
@@ -154,42 +166,49 @@ is_plain request.EndProgram = false
 is_plain request.Step = false
 is_plain request.Continue = false
 is_plain (request.Range start end) = false
+is_plain request.StepBack = false
+is_plain request.Restart = false
 is_plain _ = true
 
 -- what is replied to a request, and the session after it; a way to go on makes at most `most` steps
 pub data Replies (s : Served) (most : ℕ) : Request → Reply → Served → Type 0 where
   plain : (r : Request) → is_plain r ≡ true → Replies s most r (plain_reply r) s
-  registers : Replies s most request.Registers (reply.Bytes (all_registers s.session.machine)) s
-  register : (n : ℕ) → Replies s most (request.Register n) (register_reply s.session.machine n) s
-  memory : (address count : ℕ) → Replies s most (request.Memory address count) (memory_reply s.session.machine.memory address count) s
+  registers : Replies s most request.Registers (reply.Bytes (all_registers s.history.machine)) s
+  register : (n : ℕ) → Replies s most (request.Register n) (register_reply s.history.machine n) s
+  memory : (address count : ℕ) → Replies s most (request.Memory address count) (memory_reply s.history.machine.memory address count) s
   writes : (address : ℕ) (bytes : List ℕ) → address ≤ 0x10FFEF → address + length bytes ≤ 0x10FFF0
-      → Replies s most (request.SetMemory address bytes) (written_reply (written s.session.machine.memory address bytes) address bytes) (with_written s address bytes)
+      → Replies s most (request.SetMemory address bytes) (written_reply (written s.history.machine.memory address bytes) address bytes) (with_written s address bytes)
   out_of_reach : (address : ℕ) (bytes : List ℕ) → (0x10FFEF < address) ⊎ (0x10FFF0 < address + length bytes) → Replies s most (request.SetMemory address bytes) (reply.Refused 0x0E) s
   inserts : (point : Point) → Replies s most (request.Insert point) reply.Done (with_inserted s point)
   removes : (point : Point) → Replies s most (request.Remove point) reply.Done (with_removed s point)
-  sets : (n : ℕ) (bytes : List ℕ) → Replies s most (request.SetRegister n bytes) (setting_reply (registers_after s.session.machine n bytes)) (with_registers s (registers_after s.session.machine n bytes))
+  sets : (n : ℕ) (bytes : List ℕ) → Replies s most (request.SetRegister n bytes) (setting_reply (registers_after s.history.machine n bytes)) (with_registers s (registers_after s.history.machine n bytes))
   describes : (offset count : ℕ) → Replies s most (request.Features offset count) (features_reply offset count) s
   places : Replies s most request.Offsets (reply.Offsets s.base) s
   threads : Replies s most request.FirstThreads (threads_reply s.ended) s
   ends : Replies s most request.EndProgram reply.Done (record s { ended = true })
-  shows : (line : List ℕ) (command : Command) (text : List ℕ) → step_of line ≡ None → command_of line ≡ Some command → is_shown command ≡ true → Displays s.session command text
+  shows : (line : List ℕ) (command : Command) (text : List ℕ) → step_of line ≡ None → command_of line ≡ Some command → is_shown command ≡ true → Displays (new_session s.history.machine) command text
       → Replies s most (request.Command line) (text_reply text) s
   helps : (line : List ℕ) → step_of line ≡ None → is_shown_line (command_of line) ≡ false → Replies s most (request.Command line) reply.Help s
-  goes_to : (line : List ℕ) (n : ℕ) (why : Stop) (t : State) → step_of line ≡ Some n → s.session.machine.steps ≤ n → IsRun s.session.machine (n - s.session.machine.steps) why t
+  goes_to : (line : List ℕ) (n : ℕ) (why : Stop) (t : State) → step_of line ≡ Some n → s.history.machine.steps ≤ n → IsRun s.history.machine (n - s.history.machine.steps) why t
       → Replies s most (request.Command line) (stepped_reply why) (at_state s t)
-  has_passed : (line : List ℕ) (n : ℕ) → step_of line ≡ Some n → n < s.session.machine.steps → Replies s most (request.Command line) reply.Passed s
-  steps : (why : Pause) (t : State) → Continues s.points.breaks s.points.watches None s.session.machine 1 why t
+  goes_back : (line : List ℕ) (n : ℕ) (q : Past) → step_of line ≡ Some n → n < s.history.machine.steps → GoesBack s.history n q → Replies s most (request.Command line) reply.Done (with_past s q)
+  has_passed : (line : List ℕ) (n : ℕ) → step_of line ≡ Some n → n < s.history.origin.steps → Replies s most (request.Command line) reply.Passed s
+  steps_back : (q : Past) → s.history.origin.steps < s.history.machine.steps → GoesBack s.history (s.history.machine.steps - 1) q
+      → Replies s most request.StepBack (back_reply s.points.breaks q.machine) (with_past s q)
+  has_begun : s.history.machine.steps ≤ s.history.origin.steps → Replies s most request.StepBack reply.Begun s
+  restarts : Replies s most request.Restart (reply.Signal 0x05) (restarted s)
+  steps : (why : Pause) (t : State) → Continues s.points.breaks s.points.watches None s.history.machine 1 why t
       → Replies s most request.Step (step_reply s.points.breaks why t) (gone s (step_reply s.points.breaks why t) t)
-  continues : (why : Pause) (t : State) → Continues s.points.breaks s.points.watches None s.session.machine most why t
+  continues : (why : Pause) (t : State) → Continues s.points.breaks s.points.watches None s.history.machine most why t
       → Replies s most request.Continue (arrival_reply s.points.breaks why t) (gone s (arrival_reply s.points.breaks why t) t)
-  ranges : (start end : ℕ) (why : Pause) (t : State) → Continues s.points.breaks s.points.watches (Some (record { start = start; end = end })) s.session.machine most why t
+  ranges : (start end : ℕ) (why : Pause) (t : State) → Continues s.points.breaks s.points.watches (Some (record { start = start; end = end })) s.history.machine most why t
       → Replies s most (request.Range start end) (step_reply s.points.breaks why t) (gone s (step_reply s.points.breaks why t) t)
 
 -- the packet of console output that was not sent yet: `O` and the bytes in hexadecimal
 abbrev pub console_text : Served → List ℕ
-console_text s = 79 ∷ encode_lower (drop s.shown s.session.machine.console.output)
+console_text s = 79 ∷ encode_lower (drop s.shown s.history.machine.console.output)
 
 -- output that was not sent yet is appended as a packet, and counts as sent; or there is none, and nothing changes
 abbrev pub PutsConsole : Served → List ℕ → Bool → List ℕ → Served → Type 0
-PutsConsole s before true after t = (s.shown < length s.session.machine.console.output) × (after ≡ before ++ console_text s) × (t ≡ record s { shown = length s.session.machine.console.output })
-PutsConsole s before false after t = (length s.session.machine.console.output ≤ s.shown) × (after ≡ before) × (t ≡ s)
+PutsConsole s before true after t = (s.shown < length s.history.machine.console.output) × (after ≡ before ++ console_text s) × (t ≡ record s { shown = length s.history.machine.console.output })
+PutsConsole s before false after t = (length s.history.machine.console.output ≤ s.shown) × (after ≡ before) × (t ≡ s)

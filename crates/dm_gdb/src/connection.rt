@@ -1,6 +1,6 @@
 //! A conversation with the debugger: what each byte of the stream leads to, and which bytes are sent for it.
 
-ghost use Rattle.std.specs.Prelude.{◌≡◌, ◌&&◌, ◌++◌, ℕ, List, OnOk};
+ghost use Rattle.std.specs.Prelude.{◌≡◌, ◌&&◌, ◌++◌, ℕ, List, IfOk, OnOk};
 ghost use Rattle.dm_state.specs.State.{HasProgram};
 ghost use Rattle.dm_gdb.specs.Connections.{Hears, Obeys, Takes, all_shown, console_packet, is_detach, is_kill, is_quiet, makes_steps, new_connection, packet_of, receipt, replied, with_last};
 
@@ -75,24 +75,30 @@ fn makes_steps(request: &Request) -> bool
         Request::Step => true,
         Request::Continue => true,
         Request::Range(_, _) => true,
+        Request::StepBack => true,
         _ => false,
     }
 }
 
 impl Connection {
-    /// The start of a conversation over a machine on which a program was loaded and has made no step.
-    pub fn new(alloc: Global, machine: Machine) -> Connection
+    /// The start of a conversation over a machine on which a program was loaded and has made no step. At most `copies` copies
+    /// of the machine are kept on its way, which make going back quick, besides one of its start.
+    ///
+    /// # Errors
+    ///
+    /// `AllocError` if there is no memory for that copy.
+    pub fn new(alloc: Global, machine: Machine, copies: usize) -> Result<Connection, AllocError>
         requires { HasProgram machine }
-        ensures { result ≡ new_connection machine }
+        ensures { IfOk result (λ connection. connection ≡ new_connection machine) }
     {
-        Connection {
+        Ok(Connection {
             alloc,
             receiver: Receiver::new(alloc),
             link: Link::new(alloc),
-            server: Server::new(alloc, machine),
+            server: Server::new(alloc, machine, copies)?,
             is_stopping: false,
             is_over: false,
-        }
+        })
     }
 
     /// Whether the debugger has ended the conversation: nothing more is to be read.

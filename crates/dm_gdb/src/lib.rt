@@ -4,6 +4,7 @@
 #![tactic(auto)]
 
 mod answers;
+mod back;
 mod connection;
 mod description;
 mod digits;

@@ -11,6 +11,7 @@ use crate::replies::Reply;
 use crate::server::Server;
 use crate::texts::Text;
 use dm_command::{Command, read_command, read_number};
+use dm_debug::Session;
 use dm_machine::Stop;
 use dm_packets::Payload;
 use std::alloc::{AllocError, Global};
@@ -76,24 +77,27 @@ impl Server {
         ensures same { self.new ≡ self.old }
     {
         let mut text = Text::new(self.alloc);
-        match self.session.command(self.alloc, line, &mut text) {
+        // (A session owns its machine, so it gets a copy.)
+        let mut session = Session::new(self.history.machine().copy(self.alloc)?);
+        match session.command(self.alloc, line, &mut text) {
             Ok(()) => Ok(text.into_bytes()),
             Err(_) => Err(AllocError),
         }
     }
 
-    /// Makes steps up to the one with this number, and returns the reply.
-    fn go_to(&mut self, line: &[u8], number: u32) -> Reply
+    /// Makes steps up to the one with this number, or goes back to it, and returns the reply. An `Err` is a failed allocation,
+    /// and nothing has changed.
+    fn go_to(&mut self, line: &[u8], number: u32) -> Result<Reply, AllocError>
         requires { step_of line.now ≡ Some number }
-        ensures { (most : ℕ) → Replies self.old most (request.Command line.now) result self.new }
+        ensures ok { IfOk result (λ r. (most : ℕ) → Replies self.old most (request.Command line.now) r self.new) }
+        ensures err { OnErr result (self.new ≡ self.old) }
     {
-        let _line = line;
-        let here = self.session.machine().steps();
+        let here = self.history.machine().steps();
         if (number as u64) < here {
-            return Reply::Passed;
+            return self.go_back(line, number);
         }
-        let stop = self.session.run(number as u64 - here);
-        stepped_reply(stop)
+        let stop = self.history.run(number as u64 - here);
+        Ok(stepped_reply(stop))
     }
 
     /// `qRcmd`: does what the line says, and returns what is printed. An `Err` is a failed allocation, and nothing has
@@ -103,7 +107,7 @@ impl Server {
         ensures err { OnErr result (self.new ≡ self.old) }
     {
         if let Some(number) = step_of(line) {
-            return Ok(self.go_to(line, number));
+            return self.go_to(line, number);
         }
         if !is_shown_line(line) {
             return Ok(Reply::Help);

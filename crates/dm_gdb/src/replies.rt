@@ -31,6 +31,8 @@ pub enum Reply {
     Signal(u8),
     /// `T05swbreak:;`: a breakpoint.
     Breakpoint,
+    /// `T05replaylog:begin;`: the history begins here, and nothing goes back further.
+    Begun,
     /// `T05watch:A;`, `T05rwatch:A;` or `T05awatch:A;`, by the access, A in eight digits: a hit of a watchpoint, whose range
     /// begins at A.
     Watch(Point),
@@ -50,7 +52,7 @@ pub enum Reply {
     Rest(Payload),
     /// `Text=B;Data=B;Bss=B`, B in eight digits: the linear address of the program's first segment.
     Offsets(u32),
-    /// `PacketSize=4000;qXfer:features:read+;swbreak+;hwbreak+;QStartNoAckMode+;vContSupported+`: what the server can do.
+    /// `PacketSize=4000;qXfer:features:read+;swbreak+;hwbreak+;ReverseStep+;QStartNoAckMode+;vContSupported+`: what the server can do.
     Abilities,
     /// `vCont;c;C;s;S;r`: the ways to go on.
     ContinueKinds,
@@ -152,6 +154,7 @@ pub fn put_reply(alloc: Global, out: &mut Vec<u8>, reply: &Reply) -> Result<(), 
         Reply::Refused(number) => put_number(alloc, out, b'E', *number),
         Reply::Signal(number) => put_number(alloc, out, b'T', *number),
         Reply::Breakpoint => out.extend_from_slice(b"T05swbreak:;"),
+        Reply::Begun => out.extend_from_slice(b"T05replaylog:begin;"),
         Reply::Watch(point) => put_watch(alloc, out, point),
         Reply::Exited(code) => put_number(alloc, out, b'W', *code),
         Reply::Bytes(bytes) => put_hex(alloc, out, bytes.as_slice()),
@@ -163,7 +166,7 @@ pub fn put_reply(alloc: Global, out: &mut Vec<u8>, reply: &Reply) -> Result<(), 
         Reply::Passed => put_hex(alloc, out, b"this step has passed\n"),
         Reply::StoppedBefore => put_hex(alloc, out, b"the program has stopped before\n"),
         Reply::Abilities => out.extend_from_slice(
-            b"PacketSize=4000;qXfer:features:read+;swbreak+;hwbreak+;QStartNoAckMode+;vContSupported+",
+            b"PacketSize=4000;qXfer:features:read+;swbreak+;hwbreak+;ReverseStep+;QStartNoAckMode+;vContSupported+",
         ),
         Reply::Part(bytes) => put_part(out, b'm', bytes.as_slice()),
         Reply::Rest(bytes) => put_part(out, b'l', bytes.as_slice()),

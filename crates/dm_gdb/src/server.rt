@@ -10,7 +10,7 @@ use crate::answers::{memory_reply, register_reply};
 use crate::description::features_reply;
 use crate::digits::put_hex;
 use crate::replies::{BAD, NO_MEMORY, Reply, stop_reply};
-use dm_debug::Session;
+use dm_history::History;
 use dm_machine::{Cpu, Machine, Stop};
 use dm_packets::Payload;
 use dm_requests::{Point, Request};
@@ -24,16 +24,16 @@ use std::marker::Model;
 /// A machine that is debugged over the protocol: with its breakpoints and watchpoints, by linear addresses, and how much of
 /// the console's output the debugger was sent.
 ///
-/// Contracts see the session of the debugger, what is set, how many bytes of output were sent, the linear address of the
+/// Contracts see the machine and its history, what is set, how many bytes of output were sent, the linear address of the
 /// program's first segment, and whether the program has ended.
 #[derive(Drop)]
 pub struct Server {
     pub(crate) alloc: Global,
-    pub(crate) session: Session,
-    points: Points,
-    shown: usize,
+    pub(crate) history: History,
+    pub(crate) points: Points,
+    pub(crate) shown: usize,
     base: u32,
-    is_ended: bool,
+    pub(crate) is_ended: bool,
 }
 
 impl Model for Server {
@@ -41,7 +41,7 @@ impl Model for Server {
 
     ghost Value = { Served };
 
-    ghost view = { λ s. record { session = s.session; points = s.points; shown = s.shown; base = s.base; ended = s.is_ended } };
+    ghost view = { λ s. record { history = s.history; points = s.points; shown = s.shown; base = s.base; ended = s.is_ended } };
 }
 
 /// The reply to a request that asks for nothing of the machine, or for nothing that this server has: empty, but an error for
@@ -64,7 +64,6 @@ fn plain_reply(request: &Request) -> Reply
         Request::Kill => Reply::Done,
         Request::Detach => Reply::Done,
         Request::Malformed => Reply::Refused(BAD),
-        Request::Restart => Reply::Refused(BAD),
         _ => Reply::Unknown,
     }
 }
@@ -129,55 +128,62 @@ fn base_of(cpu: &Cpu) -> u32
 }
 
 impl Server {
-    /// A session over a machine on which a program was loaded and has made no step, without breakpoints.
-    pub fn new(alloc: Global, machine: Machine) -> Server
+    /// A session over a machine on which a program was loaded and has made no step, without breakpoints. At most `copies`
+    /// copies of the machine are kept on its way, which make going back quick, besides one of its start.
+    ///
+    /// # Errors
+    ///
+    /// `AllocError` if there is no memory for that copy.
+    pub fn new(alloc: Global, machine: Machine, copies: usize) -> Result<Server, AllocError>
         requires { HasProgram machine }
-        ensures { result ≡ new_server machine }
+        ensures { IfOk result (λ server. server ≡ new_server machine) }
     {
         let base = base_of(&machine.cpu());
-        Server {
+        Ok(Server {
             alloc,
-            session: Session::new(machine),
+            history: History::new(alloc, machine, copies)?,
             points: Points::new(alloc),
             shown: 0,
             base,
             is_ended: false,
-        }
+        })
     }
 
     /// The machine.
     pub fn machine(&self) -> &Machine
-        ensures { result.now ≡ self.now.session.machine }
+        ensures { result.now ≡ self.now.history.machine }
     {
-        self.session.machine()
+        self.history.machine()
     }
 
-    /// Writes bytes from an address up, which end at FFFF:FFFF or before, and returns the reply.
-    fn write(&mut self, address: u32, bytes: &[u8]) -> Reply
+    /// Writes bytes from an address up, which end at FFFF:FFFF or before, and returns the reply. An `Err` is a failed
+    /// allocation, and nothing has changed.
+    fn write(&mut self, address: u32, bytes: &[u8]) -> Result<Reply, AllocError>
         requires there { address ≤ 0x10FFEF }
         requires ends { address + length bytes.now ≤ 0x10FFF0 }
-        ensures after { self.new ≡ with_written self.old address bytes.now }
-        ensures reply { result ≡ written_reply (written self.old.session.machine.memory address bytes.now) address bytes.now }
+        ensures after { OnOk result (self.new ≡ with_written self.old address bytes.now) }
+        ensures reply { IfOk result (λ r. r ≡ written_reply (written self.old.history.machine.memory address bytes.now) address bytes.now) }
+        ensures err { OnErr result (self.new ≡ self.old) }
     {
         let segment = segment_below(address);
-        self.session
-            .write(segment, (address - segment as u32 * 16) as u16, bytes);
-        if reads_as(self.session.machine().space(), address, bytes) {
-            Reply::Done
+        self.history
+            .write(segment, (address - segment as u32 * 16) as u16, bytes)?;
+        if reads_as(self.history.machine().space(), address, bytes) {
+            Ok(Reply::Done)
         } else {
-            Reply::Refused(NO_MEMORY)
+            Ok(Reply::Refused(NO_MEMORY))
         }
     }
 
     /// Makes at most `most` steps, but none after one that led to a breakpoint or out of the range, or hit a watchpoint, and
     /// returns why the steps ended. Nothing but the machine changes.
     fn go(&mut self, most: u64, span: Option<Span>) -> Pause
-        ensures goes { Continues self.old.points.breaks self.old.points.watches span self.old.session.machine most result self.new.session.machine }
-        ensures same { self.new ≡ at_state self.old self.new.session.machine }
+        ensures goes { Continues self.old.points.breaks self.old.points.watches span self.old.history.machine most result self.new.history.machine }
+        ensures same { self.new ≡ at_state self.old self.new.history.machine }
     {
         go_on(
             self.alloc,
-            &mut self.session,
+            &mut self.history,
             most,
             span,
             self.points.breaks(),
@@ -204,39 +210,44 @@ impl Server {
         Reply::Done
     }
 
-    /// `M`: writes bytes, and returns the reply; nothing is written if they would end behind FFFF:FFFF.
-    fn set_memory(&mut self, address: u32, bytes: &[u8]) -> Reply
-        ensures { (most : ℕ) → Replies self.old most (Request.SetMemory address bytes.now) result self.new }
+    /// `M`: writes bytes, and returns the reply; nothing is written if they would end behind FFFF:FFFF. An `Err` is a failed
+    /// allocation, and nothing has changed.
+    fn set_memory(&mut self, address: u32, bytes: &[u8]) -> Result<Reply, AllocError>
+        ensures ok { IfOk result (λ r. (most : ℕ) → Replies self.old most (Request.SetMemory address bytes.now) r self.new) }
+        ensures err { OnErr result (self.new ≡ self.old) }
     {
         if LAST < address {
-            return Reply::Refused(NO_MEMORY);
+            return Ok(Reply::Refused(NO_MEMORY));
         }
         if (LAST + 1 - address) as usize >= bytes.len() {
             self.write(address, bytes)
         } else {
-            Reply::Refused(NO_MEMORY)
+            Ok(Reply::Refused(NO_MEMORY))
         }
     }
 
-    /// Sets the registers to these, and returns the reply; for None, an error.
-    fn set_cpu(&mut self, cpu: Option<Cpu>) -> Reply
-        ensures after { self.new ≡ with_registers self.old cpu }
-        ensures reply { result ≡ setting_reply cpu }
+    /// Sets the registers to these, and returns the reply; for None, an error. An `Err` is a failed allocation, and nothing has
+    /// changed.
+    fn set_cpu(&mut self, cpu: Option<Cpu>) -> Result<Reply, AllocError>
+        ensures after { OnOk result (self.new ≡ with_registers self.old cpu) }
+        ensures reply { IfOk result (λ r. r ≡ setting_reply cpu) }
+        ensures err { OnErr result (self.new ≡ self.old) }
     {
         match cpu {
-            None => Reply::Refused(BAD),
+            None => Ok(Reply::Refused(BAD)),
             Some(cpu) => {
-                self.session.set_registers(cpu);
-                Reply::Done
+                self.history.set_registers(cpu)?;
+                Ok(Reply::Done)
             }
         }
     }
 
-    /// `P`: sets a register to bytes, and returns the reply.
-    fn set_register(&mut self, number: u32, bytes: &[u8]) -> Reply
-        ensures { (most : ℕ) → Replies self.old most (Request.SetRegister number bytes.now) result self.new }
+    /// `P`: sets a register to bytes, and returns the reply. An `Err` is a failed allocation, and nothing has changed.
+    fn set_register(&mut self, number: u32, bytes: &[u8]) -> Result<Reply, AllocError>
+        ensures ok { IfOk result (λ r. (most : ℕ) → Replies self.old most (Request.SetRegister number bytes.now) r self.new) }
+        ensures err { OnErr result (self.new ≡ self.old) }
     {
-        let machine = self.session.machine();
+        let machine = self.history.machine();
         let cpu = registers_with(machine.space(), machine.cpu(), number, bytes);
         self.set_cpu(cpu)
     }
@@ -257,17 +268,17 @@ impl Server {
     {
         match request {
             Request::Registers => {
-                let bytes = all_registers(self.alloc, self.session.machine())?;
+                let bytes = all_registers(self.alloc, self.history.machine())?;
                 Ok(Reply::Bytes(Payload::new(bytes)))
             }
             Request::Register(number) => {
-                register_reply(self.alloc, self.session.machine(), *number)
+                register_reply(self.alloc, self.history.machine(), *number)
             }
             Request::Memory(address, count) => {
-                memory_reply(self.alloc, self.session.machine().space(), *address, *count)
+                memory_reply(self.alloc, self.history.machine().space(), *address, *count)
             }
-            Request::SetMemory(address, bytes) => Ok(self.set_memory(*address, bytes.as_slice())),
-            Request::SetRegister(number, bytes) => Ok(self.set_register(*number, bytes.as_slice())),
+            Request::SetMemory(address, bytes) => self.set_memory(*address, bytes.as_slice()),
+            Request::SetRegister(number, bytes) => self.set_register(*number, bytes.as_slice()),
             Request::Features(offset, count) => features_reply(self.alloc, *offset, *count),
             Request::Command(line) => self.monitor(line.as_slice()),
             Request::Offsets => Ok(Reply::Offsets(self.base)),
@@ -281,6 +292,8 @@ impl Server {
             Request::Step => Ok(self.step()),
             Request::Continue => Ok(self.continue_to(most)),
             Request::Range(start, end) => Ok(self.step_through(*start, *end, most)),
+            Request::StepBack => self.step_back(),
+            Request::Restart => self.restart(),
             _ => Ok(plain_reply(request)),
         }
     }
@@ -299,7 +312,7 @@ impl Server {
         ensures { (most : ℕ) → Replies self.old most Request.Step result self.new }
     {
         let pause = self.go(1, None);
-        let reply = step_reply(self.points.breaks(), pause, self.session.machine());
+        let reply = step_reply(self.points.breaks(), pause, self.history.machine());
         self.noted(reply)
     }
 
@@ -308,7 +321,7 @@ impl Server {
         ensures { Replies self.old most Request.Continue result self.new }
     {
         let pause = self.go(most, None);
-        let reply = arrival_reply(self.points.breaks(), pause, self.session.machine());
+        let reply = arrival_reply(self.points.breaks(), pause, self.history.machine());
         self.noted(reply)
     }
 
@@ -317,7 +330,7 @@ impl Server {
         ensures { Replies self.old most (Request.Range start end) result self.new }
     {
         let pause = self.go(most, Some(Span { start, end }));
-        let reply = step_reply(self.points.breaks(), pause, self.session.machine());
+        let reply = step_reply(self.points.breaks(), pause, self.history.machine());
         self.noted(reply)
     }
 
@@ -331,7 +344,7 @@ impl Server {
         ensures ok { IfOk result (λ some. PutsConsole self.old out.old.items some out.new.items self.new) }
         ensures err { OnErr result (self.new ≡ self.old) }
     {
-        let output = self.session.machine().output();
+        let output = self.history.machine().output();
         let count = output.len();
         if count <= self.shown {
             return Ok(false);

@@ -6,7 +6,7 @@ use Rattle.dm_state.specs.declared.stop.Stop.TheVariants.{Steps as AllSteps}
 use Rattle.dm_state.specs.State.{State}
 use Rattle.dm_space.specs.Memory.{linear}
 use Rattle.dm_cpu.specs.Guest.{guest}
-use Rattle.dm_debug.specs.Debugged.{Debugged}
+use Rattle.dm_history.specs.Pasts.{Past}
 use Rattle.dm_touches.specs.Touches.{reads, writes}
 use Rattle.dm_requests.specs.declared.request.Point.{Point}
 use Rattle.dm_machine.specs.declared.until.Breakpoint.{Breakpoint}
@@ -158,6 +158,6 @@ pub all_made : (points : List ℕ) (watches : List Point) (span : Option Span) (
 all_made points watches span s t most left e p = going.whole refl (subst (λ (j : ℕ). Passes points watches span s j t) (omega (arith, e)) p)
 
 -- the same steps, in other words
-pub passes_at : (points : List ℕ) (watches : List Point) (span : Option Span) (s : State) (u v : Debugged) (most a b : ℕ) → v ≡ u → b ≡ a → Passes points watches span s (most - a) u.machine → Passes points watches span s (most - b) v.machine
+pub passes_at : (points : List ℕ) (watches : List Point) (span : Option Span) (s : State) (u v : Past) (most a b : ℕ) → v ≡ u → b ≡ a → Passes points watches span s (most - a) u.machine → Passes points watches span s (most - b) v.machine
 passes_at points watches span s u v most a b e f p =
-    subst (λ (x : Debugged). Passes points watches span s (most - b) x.machine) (sym e) (subst (λ (j : ℕ). Passes points watches span s (most - j) u.machine) (sym f) p)
+    subst (λ (x : Past). Passes points watches span s (most - b) x.machine) (sym e) (subst (λ (j : ℕ). Passes points watches span s (most - j) u.machine) (sym f) p)

@@ -7,7 +7,7 @@ ghost use Rattle.dm_target.specs.inner.Looking.{Ends, IsGuarded};
 use crate::memory::linear_of;
 use crate::nearby::{marks_if_any, pass};
 use crate::watching::look;
-use dm_debug::Session;
+use dm_history::History;
 use dm_machine::{Breakpoint, Machine, Stop};
 use dm_quiet::Marks;
 use dm_requests::Point;
@@ -65,21 +65,22 @@ fn has_arrived(points: &[u32], span: Option<Span>, machine: &Machine) -> bool
 }
 
 /// Makes one step: None if it hit no watchpoint and led to no breakpoint and not out of the range, else why going on
-/// pauses. What the session has of breakpoints stays.
+/// pauses. Nothing but the machine changes.
 fn look_on(
     alloc: Global,
-    session: &mut Session,
+    history: &mut History,
     span: Option<Span>,
     points: &[u32],
     watches: &[Point],
 ) -> Option<Pause>
-    ensures ends { Ends points.now watches.now span session.old.machine result session.new.machine }
-    ensures points { session.new.points ≡ session.old.points }
+    ensures ends { Ends points.now watches.now span history.old.machine result history.new.machine }
+    ensures origin { history.new.origin ≡ history.old.origin }
+    ensures edits { history.new.edits ≡ history.old.edits }
 {
-    if let Some(pause) = look(alloc, session, watches) {
+    if let Some(pause) = look(alloc, history, watches) {
         return Some(pause);
     }
-    if has_arrived(points, span, session.machine()) {
+    if has_arrived(points, span, history.machine()) {
         return Some(Pause::Arrived);
     }
     None
@@ -89,7 +90,7 @@ fn look_on(
 /// for breakpoints.
 fn go_marked(
     alloc: Global,
-    session: &mut Session,
+    history: &mut History,
     most: u64,
     span: Option<Span>,
     points: &[u32],
@@ -98,23 +99,24 @@ fn go_marked(
     pairs: &mut Vec<Breakpoint>,
 ) -> Pause
     requires { IfSome marks.now (λ m. All (IsGuarded m) watches.now) }
-    ensures goes { Continues points.now watches.now span session.old.machine most result session.new.machine }
-    ensures points { session.new.points ≡ session.old.points }
+    ensures goes { Continues points.now watches.now span history.old.machine most result history.new.machine }
+    ensures origin { history.new.origin ≡ history.old.origin }
+    ensures edits { history.new.edits ≡ history.old.edits }
 {
     let mut left = most;
     for _ in 0..most {
         if left == 0 {
             return Pause::Stopped(Stop::Steps);
         }
-        let made = pass(session, left, span, points, watches, marks, pairs);
+        let made = pass(history, left, span, points, watches, marks, pairs);
         if made == 0 {
-            if let Some(pause) = look_on(alloc, session, span, points, watches) {
+            if let Some(pause) = look_on(alloc, history, span, points, watches) {
                 return pause;
             }
             left -= 1;
         } else {
             left -= made;
-            if has_arrived(points, span, session.machine()) {
+            if has_arrived(points, span, history.machine()) {
                 return Pause::Arrived;
             }
         }
@@ -123,25 +125,26 @@ fn go_marked(
 }
 
 /// Makes at most `most` steps, but none after one that led to a breakpoint or out of the range, or hit a watchpoint, and
-/// returns why the steps ended. What the session has of breakpoints stays, and does not count. Allocations for speed may
+/// returns why the steps ended. Nothing but the machine changes. Allocations for speed may
 /// fail; where the watched bytes cannot be kept before a service or driver, the steps end as if the machine wanted memory.
 pub fn go_on(
     alloc: Global,
-    session: &mut Session,
+    history: &mut History,
     most: u64,
     span: Option<Span>,
     points: &[u32],
     watches: &[Point],
 ) -> Pause
-    ensures goes { Continues points.now watches.now span session.old.machine most result session.new.machine }
-    ensures points { session.new.points ≡ session.old.points }
+    ensures goes { Continues points.now watches.now span history.old.machine most result history.new.machine }
+    ensures origin { history.new.origin ≡ history.old.origin }
+    ensures edits { history.new.edits ≡ history.old.edits }
 {
     if points.is_empty() && watches.is_empty() && span.is_none() {
-        return Pause::Stopped(session.run(most));
+        return Pause::Stopped(history.run(most));
     }
     let marks = marks_if_any(alloc, watches);
     let mut pairs = Vec::new(alloc);
     go_marked(
-        alloc, session, most, span, points, watches, &marks, &mut pairs,
+        alloc, history, most, span, points, watches, &marks, &mut pairs,
     )
 }

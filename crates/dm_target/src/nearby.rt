@@ -6,7 +6,7 @@ ghost use Rattle.dm_machine.specs.Near.{GoesNear};
 ghost use Rattle.dm_target.specs.inner.Looking.{HasLevel, IsGuarded, IsGuardedAt, Keeps, PassesNear, level_of, pair_at, pairs_at, pairs_of};
 
 use crate::going::Span;
-use dm_debug::Session;
+use dm_history::History;
 use dm_machine::Breakpoint;
 use dm_quiet::Marks;
 use dm_requests::{Access, Point};
@@ -118,15 +118,16 @@ pub(crate) fn marks_if_any(alloc: Global, watches: &[Point]) -> Option<Marks>
 
 /// Makes at most `most` steps with these marks, if there are any, and returns how many: steps of instructions in the segment
 /// that CS has, that touch nothing that is marked, none but the last of which leads to one of the pairs.
-fn run_marked(session: &mut Session, most: u64, pairs: &[Breakpoint], marks: &Option<Marks>) -> u64
-    ensures near { GoesNear pairs.now session.old.machine result session.new.machine }
-    ensures unmarked { IfSome marks.now (λ m. GoesUnmarked m session.old.machine result session.new.machine) }
+fn run_marked(history: &mut History, most: u64, pairs: &[Breakpoint], marks: &Option<Marks>) -> u64
+    ensures near { GoesNear pairs.now history.old.machine result history.new.machine }
+    ensures unmarked { IfSome marks.now (λ m. GoesUnmarked m history.old.machine result history.new.machine) }
     ensures most { result ≤ most }
-    ensures points { session.new.points ≡ session.old.points }
+    ensures origin { history.new.origin ≡ history.old.origin }
+    ensures edits { history.new.edits ≡ history.old.edits }
 {
     match marks {
-        Some(marks) => session.run_near(most, pairs, Some(marks)),
-        None => session.run_near(most, pairs, None),
+        Some(marks) => history.run_near(most, pairs, Some(marks)),
+        None => history.run_near(most, pairs, None),
     }
 }
 
@@ -143,9 +144,9 @@ fn may_pass(span: Option<Span>, watches: &[Point], marks: &Option<Marks>) -> boo
 
 /// Makes at most `most` steps that hit no watchpoint, none but the last of which leads to a breakpoint, and returns how many.
 /// It may make none: it makes none where steps end outside a range, nor where there are watchpoints and no marks. `pairs` is
-/// room for breakpoints. What the session has of breakpoints stays.
+/// room for breakpoints. Nothing but the machine changes.
 pub(crate) fn pass(
-    session: &mut Session,
+    history: &mut History,
     most: u64,
     span: Option<Span>,
     points: &[u32],
@@ -154,16 +155,17 @@ pub(crate) fn pass(
     pairs: &mut Vec<Breakpoint>,
 ) -> u64
     requires { IfSome marks.now (λ m. All (IsGuarded m) watches.now) }
-    ensures near { PassesNear points.now watches.now span session.old.machine result session.new.machine }
+    ensures near { PassesNear points.now watches.now span history.old.machine result history.new.machine }
     ensures most { result ≤ most }
-    ensures points { session.new.points ≡ session.old.points }
+    ensures origin { history.new.origin ≡ history.old.origin }
+    ensures edits { history.new.edits ≡ history.old.edits }
 {
     if !may_pass(span, watches, marks) {
         return 0;
     }
-    let segment = session.machine().cpu().cs;
+    let segment = history.machine().cpu().cs;
     match put_pairs(pairs, segment, points) {
-        Ok(()) => run_marked(session, most, pairs.as_slice(), marks),
+        Ok(()) => run_marked(history, most, pairs.as_slice(), marks),
         Err(_) => 0,
     }
 }

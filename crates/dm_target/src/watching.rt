@@ -17,7 +17,7 @@ ghost use Rattle.dm_target.specs.inner.Looking.{Looks, all_bytes, pause_at};
 use crate::going::Pause;
 use crate::memory::{LAST, byte_at, reads_as};
 use dm_cpu::Cpu;
-use dm_debug::Session;
+use dm_history::History;
 use dm_decode::decode;
 use dm_machine::{Machine, Stop};
 use dm_requests::{Access, Point};
@@ -212,44 +212,47 @@ fn pause_at(stop: Stop, hit: Option<Point>) -> Option<Pause>
 }
 
 /// Makes the step of an instruction, and looks at what it touches.
-fn perform(session: &mut Session, watches: &[Point]) -> Option<Pause>
-    requires { entry_point_at session.old.machine.cpu.cs session.old.machine.cpu.ip ≡ None }
-    ensures looks { Looks watches.now session.old.machine result session.new.machine }
-    ensures points { session.new.points ≡ session.old.points }
+fn perform(history: &mut History, watches: &[Point]) -> Option<Pause>
+    requires { entry_point_at history.old.machine.cpu.cs history.old.machine.cpu.ip ≡ None }
+    ensures looks { Looks watches.now history.old.machine result history.new.machine }
+    ensures origin { history.new.origin ≡ history.old.origin }
+    ensures edits { history.new.edits ≡ history.old.edits }
 {
-    let hit = first_hit(session.machine(), watches);
-    let stop = session.run(1);
+    let hit = first_hit(history.machine(), watches);
+    let stop = history.run(1);
     pause_at(stop, hit)
 }
 
 /// Makes the step of a service or driver, and looks at what it changes; makes none if the watched bytes cannot be kept.
-fn act(alloc: Global, session: &mut Session, watches: &[Point]) -> Option<Pause>
-    requires there { (what : EntryPoint) × (entry_point_at session.old.machine.cpu.cs session.old.machine.cpu.ip ≡ Some what) }
+fn act(alloc: Global, history: &mut History, watches: &[Point]) -> Option<Pause>
+    requires there { (what : EntryPoint) × (entry_point_at history.old.machine.cpu.cs history.old.machine.cpu.ip ≡ Some what) }
     requires watched { watches.now ≢ [] }
-    ensures looks { Looks watches.now session.old.machine result session.new.machine }
-    ensures points { session.new.points ≡ session.old.points }
+    ensures looks { Looks watches.now history.old.machine result history.new.machine }
+    ensures origin { history.new.origin ≡ history.old.origin }
+    ensures edits { history.new.edits ≡ history.old.edits }
 {
-    let Ok(before) = keep_all(alloc, session.machine().space(), watches) else {
+    let Ok(before) = keep_all(alloc, history.machine().space(), watches) else {
         return Some(Pause::Stopped(Stop::Memory));
     };
-    let stop = session.run(1);
-    let hit = first_changed(session.machine().space(), watches, before.as_slice());
+    let stop = history.run(1);
+    let hit = first_changed(history.machine().space(), watches, before.as_slice());
     pause_at(stop, hit)
 }
 
-/// Makes one step, and looks whether it hits a watchpoint: None if it hits none, else why going on pauses. What the session
-/// has of breakpoints stays.
-pub(crate) fn look(alloc: Global, session: &mut Session, watches: &[Point]) -> Option<Pause>
-    ensures looks { Looks watches.now session.old.machine result session.new.machine }
-    ensures points { session.new.points ≡ session.old.points }
+/// Makes one step, and looks whether it hits a watchpoint: None if it hits none, else why going on pauses. Nothing but the
+/// machine changes.
+pub(crate) fn look(alloc: Global, history: &mut History, watches: &[Point]) -> Option<Pause>
+    ensures looks { Looks watches.now history.old.machine result history.new.machine }
+    ensures origin { history.new.origin ≡ history.old.origin }
+    ensures edits { history.new.edits ≡ history.old.edits }
 {
     if watches.is_empty() {
-        let stop = session.run(1);
+        let stop = history.run(1);
         return pause_at(stop, None);
     }
-    let cpu = session.machine().cpu();
+    let cpu = history.machine().cpu();
     match entry_point_at(cpu.cs, cpu.ip) {
-        Some(_) => act(alloc, session, watches),
-        None => perform(session, watches),
+        Some(_) => act(alloc, history, watches),
+        None => perform(history, watches),
     }
 }

@@ -5,6 +5,7 @@ use Rattle.dm_target.proofs.going.go_marked.Given as goal
 abbrev pub invariant-loop : goal.invariant-loop
 invariant-loop l = record {
   counted : l.left + l.counter ≤ l.most;
-  passes : Passes l.points l.watches l.span l.initial.session.machine (l.most - l.left) l.session.machine;
-  kept : l.session.points ≡ l.initial.session.points;
+  passes : Passes l.points l.watches l.span l.initial.history.machine (l.most - l.left) l.history.machine;
+  origin : l.history.origin ≡ l.initial.history.origin;
+  edits : l.history.edits ≡ l.initial.history.edits;
 }

@@ -1,0 +1,74 @@
+//! Going back: a step, to any earlier step, and to the start.
+
+ghost use Rattle.std.specs.Prelude.{◌≡◌, ◌<◌, ℕ, Some, IfOk, OnErr};
+ghost use Rattle.dm_gdb.specs.Monitor.{step_of};
+ghost use Rattle.dm_gdb.specs.Servers.{Replies, back_reply};
+ghost use Rattle.dm_requests.specs.declared.request.Request.TheVariants as request;
+
+use crate::replies::Reply;
+use crate::server::Server;
+use dm_machine::Machine;
+use dm_target::{is_among, place_of};
+use std::alloc::AllocError;
+
+/// The reply where going back ended.
+fn back_reply(breaks: &[u32], machine: &Machine) -> Reply
+    ensures { result ≡ back_reply breaks.now machine.now }
+{
+    if is_among(breaks, place_of(machine)) {
+        Reply::Breakpoint
+    } else {
+        Reply::Signal(0x05)
+    }
+}
+
+impl Server {
+    /// `bs`: goes back a step, with what the user changed up to then, and returns the reply. An `Err` is a failed allocation,
+    /// and nothing has changed.
+    pub(crate) fn step_back(&mut self) -> Result<Reply, AllocError>
+        ensures ok { IfOk result (λ r. (most : ℕ) → Replies self.old most request.StepBack r self.new) }
+        ensures err { OnErr result (self.new ≡ self.old) }
+    {
+        let now = self.history.machine().steps();
+        if now <= self.history.steps_of_origin() {
+            return Ok(Reply::Begun);
+        }
+        if !self.history.go_back_to(now - 1)? {
+            // (It always goes back: the history began before.)
+            return Ok(Reply::Begun);
+        }
+        self.is_ended = false;
+        Ok(back_reply(self.points.breaks(), self.history.machine()))
+    }
+
+    /// `monitor step N`, where the step lies before the present one: goes back to it, and returns the reply. An `Err` is a
+    /// failed allocation, and nothing has changed.
+    pub(crate) fn go_back(&mut self, line: &[u8], number: u32) -> Result<Reply, AllocError>
+        requires line { step_of line.now ≡ Some number }
+        requires before { number < self.old.history.machine.steps }
+        ensures ok { IfOk result (λ r. (most : ℕ) → Replies self.old most (request.Command line.now) r self.new) }
+        ensures err { OnErr result (self.new ≡ self.old) }
+    {
+        let _line = line;
+        if (number as u64) < self.history.steps_of_origin() {
+            return Ok(Reply::Passed);
+        }
+        if self.history.go_back_to(number as u64)? {
+            self.is_ended = false;
+            return Ok(Reply::Done);
+        }
+        Ok(Reply::Passed)
+    }
+
+    /// `vRun`: starts the program again, without what the user changed, and returns the reply. Its output is sent anew. An
+    /// `Err` is a failed allocation, and nothing has changed.
+    pub(crate) fn restart(&mut self) -> Result<Reply, AllocError>
+        ensures ok { IfOk result (λ r. (most : ℕ) → Replies self.old most request.Restart r self.new) }
+        ensures err { OnErr result (self.new ≡ self.old) }
+    {
+        self.history.restart()?;
+        self.shown = 0;
+        self.is_ended = false;
+        Ok(Reply::Signal(0x05))
+    }
+}
