@@ -617,7 +617,11 @@ def _served(work: Callable[[Callable[[], bool]], Any], steps: int, left: list[th
 
 
 class Machine:
-    """A machine: programs are added, one of them is loaded and run, and what the machine holds is read.
+    """A machine: programs are added, one of them is loaded and run, and what the machine holds is read and changed.
+
+    After `add` and `load` it runs by `run`, or up to breakpoints by `run_until`, as often as you like. Between two runs `registers`, `read`, `output`, `blocks`
+    and others tell its state; `registers` can be set, `write` changes memory, and `supply` adds input where `load(.., more=True)` has left it open.
+    `copy.copy(machine)` is a snapshot. `check` runs under the memory checker, and `command` does what a line of the debugger says.
 
     Threads may share it: a call waits until the one before it has ended. `close` frees it, and waits too; so does the end of a `with` block. After
     Ctrl-C in a run the machine is as after some of its steps, and can go on. `copy.copy` makes a second machine in the same state, as a snapshot.
