@@ -5,7 +5,6 @@
 mod input;
 mod laws;
 mod listings;
-mod near;
 mod points;
 mod refusal;
 mod runs;
