@@ -21,7 +21,7 @@ const LOOP: &[u8] = b"\xEB\xFE";
 type Row<'a> = (&'a str, &'a str);
 
 /// Registers and memory at the start: SP is FFFEh, so that ESP is 1030h + FFFEh.
-const START: [Row; 25] = [
+const START: [Row; 26] = [
     ("?", "T05"),
     ("p8", "30110000"),
     ("pa", "03010000"),
@@ -40,7 +40,8 @@ const START: [Row; 25] = [
     ("M10fff0,0:", "E0e"),
     ("qC", "QC1"),
     ("vMustReplyEmpty", ""),
-    ("vRun;", "E01"),
+    ("bs", "T05replaylog:begin;"),
+    ("vRun;", "T05"),
     ("qfThreadInfo", "m1"),
     ("qOffsets", "Text=00001030;Data=00001030;Bss=00001030"),
     ("qXfer:features:read:target.xml:0,8", "m<target "),
@@ -89,9 +90,9 @@ const SETTINGS: [Row; 35] = [
     ("Gff", ""),
 ];
 
-/// What `monitor` hands on: R, M, O where nothing was printed, an empty line, G, a step, a step that has passed, and one
-/// behind the end.
-const COMMANDS: [Row; 10] = [
+/// What `monitor` hands on: R, M, O where nothing was printed, an empty line, G, a step, an earlier one, and one behind the
+/// end.
+const COMMANDS: [Row; 11] = [
     (
         "qRcmd,52",
         "41583d303030302042583d303030302043583d303030302044583d303030302053503d464646452042503d303030302053493d303030302044493d303030300a44533d303130332045533d303130332053533d303130332043533d303130332049503d3031303020464c3d463230320a303130333a303130302042343039204d4f562041482c303039680a",
@@ -111,10 +112,8 @@ const COMMANDS: [Row; 10] = [
     ),
     ("qRcmd,737465702032", "OK"),
     ("p22", "0200000000000000"),
-    (
-        "qRcmd,737465702031",
-        "74686973207374657020686173207061737365640a",
-    ),
+    ("qRcmd,737465702031", "OK"),
+    ("p22", "0100000000000000"),
     (
         "qRcmd,73746570206666",
         "7468652070726f6772616d206861732073746f70706564206265666f72650a",
@@ -146,6 +145,40 @@ const RUN: [Row; 18] = [
     ("c", "W07"),
     ("pa", "00f00000"),
     ("p20", "8400"),
+];
+
+/// Two steps with edits before, between and behind them, and back: the edits of a step come back with it, and later ones are
+/// gone. Back over INT 21h, which pushes six bytes from 1102Eh down, the flags highest. Then the program starts again, without
+/// edits.
+const BACK: [Row; 28] = [
+    ("M20000,1:41", "OK"),
+    ("s", "T05"),
+    ("M20001,1:42", "OK"),
+    ("P1=34120000", "OK"),
+    ("s", "T05"),
+    ("M20002,1:43", "OK"),
+    ("m20000,3", "414243"),
+    ("s", "T05"),
+    ("p8", "84000f00"),
+    ("m11028,6", "0701030102f2"),
+    ("bs", "T05"),
+    ("p22", "0200000000000000"),
+    ("p8", "35110000"),
+    ("m11028,6", "000000000000"),
+    ("m20000,3", "414243"),
+    ("Z0,1132,1", "OK"),
+    ("bs", "T05swbreak:;"),
+    ("p1", "34120000"),
+    ("m20000,3", "414200"),
+    ("bs", "T05"),
+    ("p1", "00000000"),
+    ("m20000,3", "410000"),
+    ("bs", "T05replaylog:begin;"),
+    ("s", "T05swbreak:;"),
+    ("m20000,3", "410000"),
+    ("vRun;", "T05"),
+    ("p22", "0000000000000000"),
+    ("m20000,3", "000000"),
 ];
 
 /// MOV AL,5; MOV [0120h],AL; MOV BL,[0120h]; MOV SI,0120h; MOV DI,0130h; MOV CX,3; REP MOVSB; MOV BX,40h; MOV AH,4Ah;
@@ -217,7 +250,8 @@ fn play(
     most: u64,
     rows: &[Row],
 ) -> Result<Server, Fail> {
-    let mut server = Server::new(alloc, loaded_as(alloc, b"HI.COM", program, b"")?);
+    let machine = loaded_as(alloc, b"HI.COM", program, b"")?;
+    let mut server = Server::new(alloc, machine, 2)?;
     for row in rows {
         replies(rt, alloc, &mut server, most, *row)?;
     }
@@ -244,6 +278,17 @@ fn a_program_is_debugged_to_its_end(rt: HostRuntime) -> Result<(), Fail> {
         server.put_console(&mut text)?;
         same_of(&rt, row, "the output", text.as_slice(), wanted);
     }
+    Ok(())
+}
+
+/// Definitions: dm_gdb Servers Replies back_reply with_past restarted with_written with_registers
+/// Definitions: dm_gdb Replies reply_text
+/// Definitions: dm_history Becomes Becomes Leads
+/// Definitions: dm_history Edits changed edits_to
+/// Definitions: dm_history Pasts with_change GoesBack
+#[test]
+fn a_program_goes_back(rt: HostRuntime) -> Result<(), Fail> {
+    play(&rt, rt.alloc(), HELLO, 100, &BACK)?;
     Ok(())
 }
 
@@ -310,7 +355,8 @@ fn sends(
     stream: &[u8],
     (wanted, is_over): (&[u8], bool),
 ) -> Result<(), Fail> {
-    let mut connection = Connection::new(alloc, loaded_as(alloc, b"HI.COM", HELLO, b"")?);
+    let machine = loaded_as(alloc, b"HI.COM", HELLO, b"")?;
+    let mut connection = Connection::new(alloc, machine, 2)?;
     let mut sent = Vec::new(alloc);
     for byte in stream {
         connection.take(*byte, most, &mut sent)?;
