@@ -54,7 +54,7 @@ define dm go
   frame
 end
 document dm go
-dm go N: goes on to the state after N steps from the start, N in hexadecimal, past all breakpoints.
+dm go N: goes to the state after N steps from the start, N in hexadecimal, forwards or back, past all breakpoints.
 end
 
 define dm blocks

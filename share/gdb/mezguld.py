@@ -160,7 +160,7 @@ def out():
 
 
 def go(number):
-    """dm go N: goes on to the state after N steps from the start, N in hexadecimal, past all breakpoints."""
+    """dm go N: goes to the state after N steps from the start, N in hexadecimal, forwards or back, past all breakpoints."""
     print(monitor(f"step {number}"), end="")
     for cache in ("register-cache", "dcache"):
         gdb.execute(f"maintenance flush {cache}", to_string=True)
