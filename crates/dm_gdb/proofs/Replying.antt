@@ -12,11 +12,11 @@ use Rattle.dm_gdb.specs.declared.replies.Reply.{Reply}
 use Rattle.dm_target.specs.Going.{Continues}
 use Rattle.dm_command.specs.declared.command.Command.{Command}
 use Rattle.dm_debug.specs.Debugged.{Debugged}
-use Rattle.dm_history.specs.Pasts.{Past}
+use Rattle.dm_history.specs.Pasts.{Past, new_past}
 use Rattle.dm_debug.specs.Sessions.{Displays, Does, DoesPart, shows, goes, traces, sets, clears, enters, nothing, ran, traced}
 use Rattle.dm_gdb.specs.Monitor.{is_shown, step_of, stepped_reply}
 use Rattle.dm_machine.specs.Run.{IsRun}
-use Rattle.dm_gdb.specs.Servers.{Served, Replies, goes_to, is_plain, is_exit, gone, at_state, arrival_reply, step_reply}
+use Rattle.dm_gdb.specs.Servers.{Served, Replies, goes_to, is_plain, is_exit, gone, at_state, restarted, arrival_reply, step_reply}
 
 -- a reply, where request, reply and session are known to be these
 pub replies_as : (s t u : Served) (most : ℕ) (r q : Request) (told said : Reply) → Replies s most q said u → r ≡ q → told ≡ said → t ≡ u → Replies s most r told t
@@ -101,7 +101,10 @@ goes_to_as a s x most line n here why told e is at le went f g =
     (goes_to line n why x.machine is (subst (λ (k : ℕ). k ≤ n) at le) (subst (λ (k : ℕ). IsRun a.history.machine (n - k) why x.machine) at went)) refl g
     (ap (λ (h : Past). record a { history = h }) f))
 
--- the value of a result whose error is impossible
-pub is_true : (b : Bool) → (b ≡ false → ⊥) → b ≡ true
-is_true true h = refl
-is_true false h = absurd (h refl)
+-- a result that is a value, which is true
+pub is_ok_true : {E : Type 0} → (r : Result Bool E) (b : Bool) → r ≡ Ok b → b ≡ true → r ≡ Ok true
+is_ok_true r b e f = e ∙ ap (λ (x : Bool). Ok x) f
+
+-- the session after the program was started again, where what changed is known
+pub restarted_as : (a s t : Served) (h : Past) → a ≡ s → h ≡ new_past a.history.origin → t ≡ record a { history = h; shown = 0; ended = false } → t ≡ restarted s
+restarted_as a s t h e f g = g ∙ ap (λ (x : Past). record a { history = x; shown = 0; ended = false }) f ∙ ap restarted e

@@ -1,7 +1,7 @@
 -- A conversation with the debugger: what each byte of the stream leads to, and which bytes are sent for it.
 -- Source: GDB manual, "GDB Remote Serial Protocol", "Overview", "Interrupts", "Packet Acknowledgment" and "Packets" (`k`,
 -- `D`, `O`).
-use Rattle.std.specs.Prelude.{◌≡◌, ℕ, Bool, true, false, not, ◌&&◌, ◌||◌, if◌then◌else◌, nat_lt, max, List, [], ◌++◌, length, Option, Some, None}
+use Rattle.std.specs.Prelude.{◌≡◌, ℕ, Bool, true, false, not, ◌&&◌, ◌||◌, if◌then◌else◌, nat_lt, max, List, [], ◌++◌, length, Some, None}
 use Rattle.dm_packets.specs.declared.received.Received.{Received}
 use Rattle.dm_packets.specs.declared.received.Received.TheVariants as heard
 use Rattle.dm_packets.specs.Frames.{frame_of}

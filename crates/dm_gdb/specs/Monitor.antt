@@ -1,7 +1,7 @@
 -- The debugger's own commands, which `monitor` hands on (`qRcmd`).
 -- Source: GDB manual, "GDB Remote Serial Protocol", "General Query Packets" (`qRcmd`). Which commands there are is this
 -- server's own choice.
-use Rattle.std.specs.Prelude.{ℕ, Bool, true, false, List, [], ◌∷◌, ◌++◌, codes, Option, Some, None}
+use Rattle.std.specs.Prelude.{ℕ, Bool, true, false, List, [], ◌∷◌, codes, Option, Some, None}
 use Rattle.dm_command.specs.declared.command.Command.{Command}
 use Rattle.dm_command.specs.declared.command.Command.TheVariants as command
 use Rattle.dm_command.specs.Numbers.{◌>>=◌, number_of}

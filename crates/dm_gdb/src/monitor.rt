@@ -2,6 +2,7 @@
 
 ghost use Rattle.std.specs.Prelude.{◌≡◌, ℕ, Some, true, IfOk, OnErr};
 ghost use Rattle.dm_command.specs.Commands.{command_of};
+ghost use Rattle.dm_debug.specs.Sessions.{new_session};
 ghost use Rattle.dm_gdb.specs.Monitor.{is_shown, is_shown_line, step_of, stepped_reply, text_reply};
 ghost use Rattle.dm_gdb.specs.Servers.{Replies};
 ghost use Rattle.dm_gdb.specs.inner.Monitor.{ShowsLine};
@@ -69,20 +70,27 @@ fn stepped_reply(stop: Stop) -> Reply
     }
 }
 
+/// What a line prints that is a command which shows something. An `Err` is a failed allocation.
+fn shown_by(alloc: Global, session: &mut Session, line: &[u8]) -> Result<Vec<u8>, AllocError>
+    requires { is_shown_line (command_of line.now) ≡ true }
+    ensures { IfOk result (λ text. ShowsLine session.old line.now text.items) }
+{
+    let mut text = Text::new(alloc);
+    match session.command(alloc, line, &mut text) {
+        Ok(()) => Ok(text.into_bytes()),
+        Err(_) => Err(AllocError),
+    }
+}
+
 impl Server {
-    /// What a line prints that is a command which shows something. An `Err` is a failed allocation. Nothing changes.
-    fn show(&mut self, line: &[u8]) -> Result<Vec<u8>, AllocError>
+    /// What a line prints that is a command which shows something. An `Err` is a failed allocation.
+    fn show(&self, line: &[u8]) -> Result<Vec<u8>, AllocError>
         requires { is_shown_line (command_of line.now) ≡ true }
-        ensures text { IfOk result (λ text. ShowsLine self.old line.now text.items) }
-        ensures same { self.new ≡ self.old }
+        ensures { IfOk result (λ text. ShowsLine (new_session self.now.history.machine) line.now text.items) }
     {
-        let mut text = Text::new(self.alloc);
         // (A session owns its machine, so it gets a copy.)
-        let mut session = Session::new(self.history.machine().copy(self.alloc)?);
-        match session.command(self.alloc, line, &mut text) {
-            Ok(()) => Ok(text.into_bytes()),
-            Err(_) => Err(AllocError),
-        }
+        let mut session = Session::new(self.history.copy_machine(self.alloc)?);
+        shown_by(self.alloc, &mut session, line)
     }
 
     /// Makes steps up to the one with this number, or goes back to it, and returns the reply. An `Err` is a failed allocation,

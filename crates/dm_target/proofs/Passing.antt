@@ -1,6 +1,6 @@
 -- Steps that are made at once hit no watchpoint, and none but the last leads to a breakpoint.
-use Rattle.std.proofs.Common.{◌≡◌, ◌≢◌, ℕ, ◌+◌, ◌-◌, ◌<◌, ◌≤◌, Bool, true, false, List, [], Option, Some, None, inl, inr, refl, sym, ◌∙◌, ap, subst, arith}
-use Rattle.std.specs.Prelude.{All, ◌||◌}
+use Rattle.std.proofs.Common.{◌≡◌, ℕ, ◌+◌, ◌-◌, ◌<◌, ◌≤◌, true, false, List, [], Option, Some, None, inl, inr, refl, sym, ◌∙◌, subst, arith}
+use Rattle.std.specs.Prelude.{All}
 use Rattle.std.proofs.lemmas.Bool.{cases_eq}
 use Rattle.dm_state.specs.declared.stop.Stop.TheVariants.{Steps as AllSteps}
 use Rattle.dm_state.specs.State.{State}
@@ -20,7 +20,7 @@ use Rattle.dm_machine.proofs.OneRun.{goes-one}
 use Rattle.dm_machine.specs.Near.{GoesNear, GoesWithin}
 use Rattle.dm_machine.specs.Near as near
 use Rattle.dm_target.specs.declared.going.Pause.{Pause}
-use Rattle.dm_target.specs.declared.going.Pause.TheVariants.{Arrived, Hit, Stopped}
+use Rattle.dm_target.specs.declared.going.Pause.TheVariants.{Arrived, Stopped}
 use Rattle.dm_target.specs.declared.going.Span.{Span}
 use Rattle.dm_target.specs.Going.{Passes, Continues, has_arrived, is_among, place_of}
 use Rattle.dm_target.specs.Going as going

@@ -1,5 +1,5 @@
 -- Steps, and the instructions that they perform.
-use Rattle.std.proofs.Common.{◌≡◌, ◌≢◌, ℕ, ◌+◌, ◌<◌, List, Option, Some, None, refl, sym, ◌∙◌, ap, subst, arith}
+use Rattle.std.proofs.Common.{◌≡◌, ◌≢◌, ℕ, ◌<◌, List, Option, Some, None, refl, ap, subst, arith}
 use Rattle.dm_ins.specs.Ins.{BeginsWith}
 use Rattle.dm_ins.specs.declared.ins.Ins.{Ins}
 use Rattle.dm_cpu.specs.declared.cpu.Cpu.{Cpu}

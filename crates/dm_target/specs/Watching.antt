@@ -1,7 +1,7 @@
 -- Watchpoints: which steps hit a range of linear addresses.
 -- Source: GDB manual, "GDB Remote Serial Protocol", "Packets" (`Z2`, `Z3`, `Z4`). What counts for a step of a service or a
 -- driver is this server's own choice.
-use Rattle.std.specs.Prelude.{◌≡◌, ℕ, ◌+◌, ◌-◌, ◌&&◌, ◌||◌, Bool, true, false, not, min, nat_lt, nat_le, if◌then◌else◌, List, [], Option, Some, None}
+use Rattle.std.specs.Prelude.{◌≡◌, ℕ, ◌+◌, ◌-◌, ◌&&◌, ◌||◌, Bool, false, not, min, nat_lt, nat_le, if◌then◌else◌, List, [], Option, Some, None}
 use Rattle.std.specs.List.{find}
 use Rattle.dm_space.specs.Memory.{Memory}
 use Rattle.dm_space.specs.declared.entry_points.EntryPoint.{EntryPoint}

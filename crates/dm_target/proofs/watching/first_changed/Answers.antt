@@ -1,4 +1,4 @@
-use Rattle.std.proofs.Common.{◌≡◌, ◌∙◌, arith}
+use Rattle.std.proofs.Common.{◌∙◌}
 use Rattle.dm_requests.specs.declared.request.Access.TheVariants.{Execute}
 use Rattle.dm_requests.specs.declared.request.Point.{Point}
 use Rattle.dm_target.proofs.Watched.{cut_next, changed_here, changed_later}

@@ -1,4 +1,3 @@
-use Rattle.std.proofs.Common.{◌∙◌}
 use Rattle.dm_target.proofs.Looking.{hit_decoded, none_decoded}
 use Rattle.dm_target.proofs.watching.first_hit.Goals as goal
 

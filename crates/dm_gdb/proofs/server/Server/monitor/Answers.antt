@@ -1,5 +1,4 @@
-use Rattle.std.proofs.Common.{◌≡◌, ◌∙◌, sym, refl, None}
-use Rattle.dm_gdb.specs.Monitor.{step_of}
+use Rattle.std.proofs.Common.{◌∙◌, sym, refl}
 use Rattle.dm_gdb.specs.Servers.{helps, shows}
 use Rattle.dm_gdb.proofs.Replying.{replies_as}
 use Rattle.dm_gdb.proofs.server.Server.monitor.Goals as goal
@@ -10,6 +9,6 @@ returns-then-not-is_shown_line-clause-ok c =
 
 pub returns-clause-ok : goal.returns-clause-ok
 returns-clause-ok c =
-    let h = c.in_ok-text.ensures.text in
+    let h = c.in_ok-text.ensures in
     λ most. replies_as _ _ _ most _ _ _ _ (shows c.args.line.now h.command c.in_ok-text.text.items (sym c.step_of.ensures ∙ c.in_default.is) h.read h.shown h.displays) refl
-    c.text_reply.ensures c.in_ok-text.ensures.same
+    c.text_reply.ensures refl
