@@ -31,8 +31,8 @@ except ImportError:
     # (A system without terminals of this kind.)
     fcntl = termios = None  # type: ignore[assignment]
 
-# The most bytes that are read at once, and of a line of function 3Fh without its end.
-CHUNK, MOST_LINE = 1 << 16, 126
+# The most bytes that are read at once, that are written at once (a pipe that takes any takes so many), and of a line of function 3Fh without its end.
+CHUNK, PIECE, MOST_LINE = 1 << 16, 1 << 10, 126
 # The steps of the first slice and the most of one, and the seconds that one should take at most.
 FIRST_SLICE, LONGEST_SLICE, SLICE_SECONDS = 1 << 12, 1 << 20, 0.02
 # Where the functions of INT 21h act (the entry point of the machine's ROM), and which of them read characters and lines.
@@ -241,14 +241,17 @@ class Console:
             with contextlib.suppress(NotWritten):
                 self._write(self.file, data)
 
-    @staticmethod
-    def _write(file: int, data: bytes) -> None:
+    def _write(self, file: int, data: bytes) -> None:
+        """Writes bytes. A signal that ends the command ends a wait for whoever reads them, too."""
         left = memoryview(data)
         while left:
             try:
-                left = left[os.write(file, left) :]
+                ready = select.select([self._signals.reader], [file], [])[1]
+                self.heed()
+                if ready:
+                    left = left[os.write(file, left[:PIECE]) :]
             except BlockingIOError:
-                select.select([], [file], [])
+                pass
             except OSError as error:
                 raise NotWritten from error
 

@@ -390,6 +390,14 @@ class WithoutTerminal(Programs):
                     process.send_signal(number)
                     self.assertEqual(process.wait(SECONDS), status)
 
+    def test_a_signal_while_nobody_reads(self) -> None:
+        text = "MOV DL,46\nMOV AH,2\nnext: INT 21h\nJMP next\n"
+        with subprocess.Popen(self.words(text), env=environment(), stdin=subprocess.PIPE, stdout=subprocess.PIPE, stderr=subprocess.DEVNULL) as process:
+            self.assertEqual(process.stdout.read(1), b".")
+            time.sleep(1)
+            process.send_signal(signal.SIGINT)
+            self.assertEqual(process.wait(SECONDS), 130)
+
     def test_faults(self) -> None:
         self.assertEqual(self.ran("NOP\n", "--xms", "15361", input=b""), (126, b"", b"mezguld: too large\n"))
         self.assertEqual(self.ran("NOP\n", "--tail", "x" * 127, input=b""), (126, b"", b"mezguld: tail too long\n"))

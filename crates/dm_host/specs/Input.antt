@@ -1,7 +1,5 @@
 -- Console input that comes while a host's program runs.
 use Rattle.std.specs.Prelude.{◌≡◌, Bool, true, false, List, ℕ}
-use Rattle.dm_state.specs.State.{State}
-use Rattle.dm_debug.specs.Debugged.{Debugged}
 use Rattle.dm_debug.specs.Sessions.{with_machine}
 use Rattle.dm_debug.specs.Input.{with_more, with_supply}
 use Rattle.dm_host.specs.declared.refusal.Refusal.{Refusal}

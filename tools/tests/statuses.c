@@ -1,0 +1,99 @@
+/* Calls each function of mezguld.h, and expects its statuses and results: without a machine, without a program, with its input closed and open, and with
+ * buffers that are too small. */
+#include <stdio.h>
+#include <stdlib.h>
+#include <string.h>
+
+#include "mezguld.h"
+
+#define EXPECT(fact) ((fact) ? (void)0 : fail(#fact, __LINE__))
+
+static void fail(const char *fact, int line)
+{
+    fprintf(stderr, "line %d: %s\n", line, fact);
+    exit(1);
+}
+
+/* Every call that needs a loaded program has this status. */
+static void expect_all(mezguld *machine, mezguld_status status)
+{
+    mezguld_stopped stopped;
+    mezguld_cpu registers = {0, 0, 0, 0, 0, 0, 0, 0, 0, 0, 0, 0, 0, 0};
+    mezguld_point point = {0, 0};
+    uint64_t steps;
+    size_t count;
+    char bytes[8] = "";
+    EXPECT(mezguld_run(machine, 1, &stopped) == status);
+    EXPECT(mezguld_run_until(machine, 1, &point, 1, &stopped) == status);
+    EXPECT(mezguld_steps(machine, &steps) == status);
+    EXPECT(mezguld_registers(machine, &registers) == status);
+    EXPECT(mezguld_set_registers(machine, &registers) == status);
+    EXPECT(mezguld_read(machine, 0, 0, bytes, sizeof bytes) == status);
+    EXPECT(mezguld_write(machine, 0, 0, bytes, 0) == status);
+    EXPECT(mezguld_output(machine, 0, bytes, sizeof bytes, &count) == status);
+    EXPECT(mezguld_output_count(machine, &count) == status);
+    EXPECT(mezguld_open_input(machine) == status);
+    EXPECT(mezguld_close_input(machine) == status);
+    EXPECT(mezguld_supply(machine, "", 0) == status);
+    EXPECT(mezguld_input_left(machine, &count) == status);
+    EXPECT(mezguld_command(machine, "R", 1, &count) == status);
+    EXPECT(mezguld_check(machine, 1, &stopped, &count) == status);
+}
+
+/* Loads a program that prints what it reads, with the input "ab", in a new machine. */
+static void load(mezguld *machine)
+{
+    static const char text[] = "next: MOV AH,1\nINT 21h\nJMP next", wrong[] = "NOP\nNOPE";
+    uint8_t program[64];
+    size_t count, line;
+    EXPECT(mezguld_assemble(wrong, sizeof wrong - 1, program, sizeof program, &count, &line) == MEZGULD_LINE_SYNTAX && line == 2);
+    EXPECT(mezguld_assemble(text, sizeof text - 1, program, 1, &count, &line) == MEZGULD_TOO_SMALL);
+    EXPECT(mezguld_assemble(text, sizeof text - 1, program, sizeof program, &count, &line) == MEZGULD_OK);
+    EXPECT(mezguld_new(machine, 513, 0, "", 0, 0) == MEZGULD_TOO_LARGE);
+    EXPECT(mezguld_new(machine, 1, 1, "A=B", 4, 1) == MEZGULD_OK);
+    EXPECT(mezguld_new(machine, 1, 1, "", 0, 0) == MEZGULD_IN_USE);
+    expect_all(machine, MEZGULD_NOT_LOADED);
+    EXPECT(mezguld_add(machine, "", 0, program, count) == MEZGULD_BAD_NAME);
+    EXPECT(mezguld_add(machine, "A", 1, program, count) == MEZGULD_OK);
+    EXPECT(mezguld_add(machine, "a", 1, program, count) == MEZGULD_NAME_TWICE);
+    EXPECT(mezguld_load(machine, "B", 1, "", 0, "", 0) == MEZGULD_NOT_FOUND);
+    EXPECT(mezguld_load(machine, "A", 1, " /q", 3, "ab", 2) == MEZGULD_OK);
+    EXPECT(mezguld_load(machine, "A", 1, "", 0, "", 0) == MEZGULD_STARTED);
+}
+
+static void talk(mezguld *machine)
+{
+    mezguld_stopped stopped;
+    size_t count;
+    char bytes[8];
+    EXPECT(mezguld_supply(machine, "x", 1) == MEZGULD_INPUT_CLOSED);
+    EXPECT(mezguld_open_input(machine) == MEZGULD_OK && mezguld_supply(machine, "cd", 2) == MEZGULD_OK);
+    EXPECT(mezguld_input_left(machine, &count) == MEZGULD_OK && count == 4);
+    EXPECT(mezguld_run(machine, 1000, &stopped) == MEZGULD_OK && stopped.why == MEZGULD_INPUT_ENDED && stopped.code == 0);
+    EXPECT(mezguld_output(machine, 0, bytes, 3, &count) == MEZGULD_TOO_SMALL && count == 4);
+    EXPECT(mezguld_output(machine, 1, bytes, 3, &count) == MEZGULD_OK && count == 3 && memcmp(bytes, "bcd", 3) == 0);
+    EXPECT(mezguld_output(machine, 4, bytes, 0, &count) == MEZGULD_OK && count == 0);
+    EXPECT(mezguld_output(machine, (size_t)-1, bytes, 0, &count) == MEZGULD_OK && count == 0);
+}
+
+int main(void)
+{
+    mezguld machine = MEZGULD_NONE, copy = MEZGULD_NONE;
+    mezguld_stopped stopped;
+    size_t count;
+    EXPECT(mezguld_version() == MEZGULD_VERSION_NUMBER);
+    expect_all(&machine, MEZGULD_NO_MACHINE);
+    EXPECT(mezguld_copy(&machine, &copy) == MEZGULD_NO_MACHINE && mezguld_free(&machine) == MEZGULD_OK);
+    load(&machine);
+    talk(&machine);
+    EXPECT(mezguld_copy(&machine, &copy) == MEZGULD_OK && mezguld_copy(&machine, &copy) == MEZGULD_IN_USE);
+    EXPECT(mezguld_supply(&copy, "e", 1) == MEZGULD_OK && mezguld_run(&copy, 1000, &stopped) == MEZGULD_OK);
+    EXPECT(mezguld_output_count(&copy, &count) == MEZGULD_OK && count == 5);
+    EXPECT(mezguld_output_count(&machine, &count) == MEZGULD_OK && count == 4);
+    EXPECT(mezguld_free(&machine) == MEZGULD_OK && mezguld_free(&machine) == MEZGULD_OK && mezguld_free(&copy) == MEZGULD_OK);
+    expect_all(&machine, MEZGULD_NO_MACHINE);
+    for (int status = MEZGULD_OK; status <= MEZGULD_INPUT_CLOSED; status++)
+        EXPECT(strcmp(mezguld_status_text((mezguld_status)status), "unknown status") != 0);
+    puts("as expected");
+    return 0;
+}

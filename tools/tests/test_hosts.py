@@ -1,0 +1,47 @@
+"""Tests of the header from C: it compiles as C and C++, and programs over the built library run under the sanitizers for addresses and undefined behaviour.
+From the top: `python3 -m unittest discover -s tools/tests`."""
+import os
+import shutil
+import subprocess
+import tempfile
+import unittest
+
+ROOT = os.path.dirname(os.path.dirname(os.path.dirname(os.path.abspath(__file__))))
+ARCHIVES = [f"{ROOT}/build/libdm_c.a", f"{ROOT}/build/liblibc_c.a"]
+WARNINGS = ["-Wall", "-Wextra", "-pedantic", "-Werror", f"-I{ROOT}/include"]
+SANITIZERS = ["-g", "-fsanitize=address,undefined", "-fno-sanitize-recover=all"]
+TALK = b"Who? [it waits: yes]\nHello, Ada\nHello, Charles\n[exit codes 3 and 7]\n"
+
+
+class Compiled(unittest.TestCase):
+    def setUp(self):
+        holder = tempfile.TemporaryDirectory()
+        self.addCleanup(holder.cleanup)
+        self.folder = holder.name
+
+    def compile(self, words):
+        ran = subprocess.run(words, cwd=self.folder, capture_output=True, text=True, timeout=120, check=False)
+        self.assertEqual((ran.returncode, ran.stderr), (0, ""), " ".join(words))
+
+    def test_the_header_by_itself(self):
+        for compiler, ending, standards in (("cc", "c", ("c99", "c11", "c17")), ("c++", "cc", ("c++98", "c++11", "c++17"))):
+            if shutil.which(compiler) is None:
+                continue
+            path = f"{self.folder}/header.{ending}"
+            with open(path, "w", encoding="utf-8") as file:
+                file.write('#include "mezguld.h"\nint main(void) { mezguld machine = MEZGULD_NONE; return machine.mark != 0; }\n')
+            for standard in standards:
+                with self.subTest(standard):
+                    self.compile([compiler, f"-std={standard}", *WARNINGS, "-c", "-o", "header.o", path])
+
+    @unittest.skipUnless(all(map(os.path.exists, ARCHIVES)), "tools/library builds the library")
+    def test_programs_under_sanitizers(self):
+        for path, wanted in ((f"{ROOT}/tools/tests/statuses.c", b"as expected\n"), (f"{ROOT}/examples/hosts/talk.c", TALK)):
+            with self.subTest(path):
+                self.compile(["cc", *WARNINGS, *SANITIZERS, "-o", "program", path, *ARCHIVES])
+                ran = subprocess.run([f"{self.folder}/program"], capture_output=True, timeout=120, check=False)
+                self.assertEqual((ran.returncode, ran.stdout, ran.stderr), (0, wanted, b""))
+
+
+if __name__ == "__main__":
+    unittest.main()
