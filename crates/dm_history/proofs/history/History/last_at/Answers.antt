@@ -7,13 +7,13 @@ use Rattle.dm_history.proofs.history.History.last_at.Goals as goal
 pub loop-end-init : goal.loop-end-init
 loop-end-init c = record {
   end_is = end-at _ _ _ _ _ _ _ c.self.view_is c.self.invariant c.steps-end.ensures c.as_slice-count.ensures.value refl;
-  bound = let same = ap (λ (p : Past). p.machine.steps) c.self.view_is in omega (arith, same, c.steps-end.ensures, c.requires);
+  bound = omega arith;
 }
 
 pub returns-in-Some : goal.returns-in-Some
 returns-in-Some c =
     let looked = subst (λ (f : Option ℕ). IsLooked c.args.points.now c.args.self.now (c.loop-end.end - 1) f c.in_ok-found.from c.in_ok-found.made) c.in-Some.is c.in_ok-found.ensures in
-    look-some _ _ _ _ _ _ _ _
+    λ _. look-some _ _ _ _ _ _ _ _
     (look-of _ _ c.args.self.now _ c.loop-end.end c.loop-end.count (c.loop-end.end - 1) _ _ _ c.self.view_is c.self.invariant c.loop-end.invariant.end_is looked (omega arith) c.loop-end.invariant.bound (omega (arith, c.steps.ensures)))
 
 pub loop-end-preserved : goal.loop-end-preserved
@@ -30,4 +30,4 @@ loop-end-preserved c =
 pub returns : goal.returns
 returns c =
     let same = ap (λ (p : Past). p.origin.steps) c.self.view_is in
-    end-none _ _ _ _ c.loop-end.invariant.end_is (omega (arith, same, c.steps.ensures)) c.loop-end.invariant.bound
+    λ _. end-none _ _ _ _ c.loop-end.invariant.end_is (omega (arith, same, c.steps.ensures)) c.loop-end.invariant.bound
