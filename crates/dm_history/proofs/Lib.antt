@@ -10,3 +10,6 @@ mod Lists
 mod Going
 mod Order
 mod Nears
+mod Passings
+mod Scanning
+mod Looking

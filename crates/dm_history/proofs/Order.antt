@@ -27,7 +27,7 @@ climbs s _ _ l (stepped es t u b h) =
     let next = leads-rise t u before.1 h in
     (omega (arith, before.0, next.0), next.1)
 
-edits-after : (s t : State) (es : List Edit) → s.steps ≤ 2 ^ 64 - 1 → Becomes s es t → All (λ e. s.steps ≤ e.step) es
+pub edits-after : (s t : State) (es : List Edit) → s.steps ≤ 2 ^ 64 - 1 → Becomes s es t → All (λ e. s.steps ≤ e.step) es
 edits-after s _ _ l start = All-nil (λ e. s.steps ≤ e.step)
 edits-after s _ _ l (edited es t c b) = All-push (λ e. s.steps ≤ e.step) es (edit_of t c) (edits-after s t es l b) (climbs s t es l b).0
 edits-after s _ _ l (stepped es t u b h) = edits-after s t es l b

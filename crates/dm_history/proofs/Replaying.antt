@@ -27,7 +27,7 @@ steps-no-memory : AllSteps ≢ NoMemory
 steps-no-memory e = cc
 
 -- a run to a count of steps leads where the steps had led
-run-there : (s t w : State) (step : ℕ) → Gone s w → w.steps ≡ step → RunsTo s step t → t ≡ w
+pub run-there : (s t w : State) (step : ℕ) → Gone s w → w.steps ≡ step → RunsTo s step t → t ≡ w
 run-there s t w step g e r =
     let count = g.steps in
     let same : step - s.steps ≡ g.made = omega (arith, count, e) in

@@ -108,11 +108,11 @@ pub record Midway (s : State) (step : ℕ) : Type 0 where
   pub steps : at.steps ≡ step
   pub alive : at.exited ≡ None
 
-fewer-after : (step : ℕ) (es : List Edit) (x : Edit) → AreAfter step (es ++ x ∷ []) → AreAfter step es
+pub fewer-after : (step : ℕ) (es : List Edit) (x : Edit) → AreAfter step (es ++ x ∷ []) → AreAfter step es
 fewer-after step [] x h = tt
 fewer-after step (e ∷ es) x h = h
 
-no-edits : (s t : State) (step : ℕ) (es : List Edit) → Becomes s es t → t.steps ≡ step → step < 2 ^ 64 - 1 → AreAfter step es → Becomes s [] t
+pub no-edits : (s t : State) (step : ℕ) (es : List Edit) → Becomes s es t → t.steps ≡ step → step < 2 ^ 64 - 1 → AreAfter step es → Becomes s [] t
 no-edits s t step [] b e l a = b
 no-edits s t step (x ∷ xs) b e l a =
     let first : x.step ≤ t.steps = All-head (λ z. z.step ≤ t.steps) x xs (edits-before s t (x ∷ xs) b (omega (arith, e))) in
@@ -142,7 +142,7 @@ pub record Split (o : State) (es : List Edit) (k step : ℕ) (t : State) : Type 
 All-left : (P : Edit → Type 0) (xs ys : List Edit) → All P (xs ++ ys) → All P xs
 All-left P xs ys h = λ k d l. subst P (get_or_append_left xs ys d k l) (h k d (omega (arith, length-append xs ys)))
 
-none-both : (step : ℕ) (xs : List Edit) → All (λ e. step ≤ e.step) xs → All (λ e. e.step < step) xs → xs ≡ []
+pub none-both : (step : ℕ) (xs : List Edit) → All (λ e. step ≤ e.step) xs → All (λ e. e.step < step) xs → xs ≡ []
 none-both step [] a b = refl
 none-both step (x ∷ xs) a b =
     let low = All-head (λ e. step ≤ e.step) x xs a in

@@ -3,6 +3,7 @@
 
 mod change;
 mod copies;
+mod finding;
 mod history;
 mod laws;
 mod replay;

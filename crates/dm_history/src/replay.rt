@@ -18,7 +18,7 @@ pub(crate) fn count_to(edits: &[Edit], step: u64) -> usize
 
 /// Makes steps up to a count of steps, or fewer if the machine stops. An `Err` is a failed allocation; some of the steps
 /// may have been made.
-fn run_to(machine: &mut Machine, step: u64) -> Result<(), AllocError>
+pub(crate) fn run_to(machine: &mut Machine, step: u64) -> Result<(), AllocError>
     requires loaded { HasProgram machine.old }
     requires before { machine.old.steps ≤ step }
     ensures ok { OnOk result (RunsTo machine.old step machine.new) }

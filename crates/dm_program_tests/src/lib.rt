@@ -14,6 +14,8 @@ mod copies;
 #[cfg(test)]
 mod files;
 #[cfg(test)]
+mod histories;
+#[cfg(test)]
 #[cfg(test)]
 mod machines;
 #[cfg(test)]
