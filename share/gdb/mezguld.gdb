@@ -5,8 +5,6 @@
 # The machine is an 8086. GDB would choose otherwise for an ELF file with the program's symbols.
 set osabi none
 set architecture i8086
-# GDB executes watchpoints itself, step by step.
-set can-use-hw-watchpoints 0
 # How long GDB waits for an answer, in seconds.
 set remotetimeout 30
 # The signal with which `dm gdb` tells that a `continue` made its most steps; GDB goes on then.

@@ -10,9 +10,9 @@ import struct
 
 import gdb
 
-# The machine is an 8086. GDB would choose otherwise for an ELF file with the program's symbols. It executes watchpoints itself, step by step; and it goes on
-# where `dm gdb` tells, by the signal SIGALRM, that a `continue` made its most steps.
-SETTINGS = ("set osabi none", "set architecture i8086", "set can-use-hw-watchpoints 0", "set remotetimeout 30", "handle SIGALRM nostop noprint pass")
+# The machine is an 8086. GDB would choose otherwise for an ELF file with the program's symbols. It goes on where `dm gdb`
+# tells, by the signal SIGALRM, that a `continue` made its most steps.
+SETTINGS = ("set osabi none", "set architecture i8086", "set remotetimeout 30", "handle SIGALRM nostop noprint pass")
 REGISTERS = {"ax": "ax", "bx": "bx", "cx": "cx", "dx": "dx", "sp": "sp", "bp": "bp", "si": "si", "di": "di", "ds": "ds", "es": "es", "ss": "ss", "cs": "cs", "ip": "ip"}
 # The instructions behind which `dm over` goes on, and those that return from what they call.
 GOES_OVER, RETURNS = ("call", "lcall", "int", "into", "rep", "repz", "repnz", "loop", "loope", "loopne"), ("ret", "lret", "iret", "retw", "lretw", "iretw")

@@ -6,9 +6,10 @@ use Rattle.dm_state.specs.State.{State}
 use Rattle.dm_requests.specs.declared.request.Point.{Point}
 use Rattle.dm_requests.specs.declared.request.Request.{Request}
 use Rattle.dm_requests.specs.declared.request.Request.TheVariants as request
-use Rattle.dm_gdb.specs.declared.going.Span.{Span}
+use Rattle.dm_target.specs.declared.going.Pause.{Pause}
+use Rattle.dm_target.specs.declared.going.Span.{Span}
 use Rattle.dm_gdb.specs.declared.replies.Reply.{Reply}
-use Rattle.dm_gdb.specs.Going.{Continues}
+use Rattle.dm_target.specs.Going.{Continues}
 use Rattle.dm_command.specs.declared.command.Command.{Command}
 use Rattle.dm_debug.specs.Debugged.{Debugged}
 use Rattle.dm_debug.specs.Sessions.{Displays, Does, DoesPart, shows, goes, traces, sets, clears, enters, nothing, ran, traced}
@@ -24,11 +25,11 @@ replies_as s t u most r q told said h e f g =
     (subst (λ (x : Served). Replies s most q said x) (sym g) h))
 
 -- the reply of a step, where breakpoints and machine are known to be these
-pub step_told : (told : Reply) (ps qs : List ℕ) (why : Option Stop) (m t : State) → told ≡ step_reply ps why m → ps ≡ qs → m ≡ t → told ≡ step_reply qs why t
+pub step_told : (told : Reply) (ps qs : List ℕ) (why : Pause) (m t : State) → told ≡ step_reply ps why m → ps ≡ qs → m ≡ t → told ≡ step_reply qs why t
 step_told told ps qs why m t h e f = h ∙ ap (λ (xs : List ℕ). step_reply xs why m) e ∙ ap (λ (x : State). step_reply qs why x) f
 
 -- the same of a run
-pub arrival_told : (told : Reply) (ps qs : List ℕ) (why : Option Stop) (m t : State) → told ≡ arrival_reply ps why m → ps ≡ qs → m ≡ t → told ≡ arrival_reply qs why t
+pub arrival_told : (told : Reply) (ps qs : List ℕ) (why : Pause) (m t : State) → told ≡ arrival_reply ps why m → ps ≡ qs → m ≡ t → told ≡ arrival_reply qs why t
 arrival_told told ps qs why m t h e f = h ∙ ap (λ (xs : List ℕ). arrival_reply xs why m) e ∙ ap (λ (x : State). arrival_reply qs why x) f
 
 -- a request that is none of those of the machine
@@ -55,10 +56,11 @@ only_these (request.Range x y) a b c d e g h i j k l m o q u = absurd (u x y ref
 only_these _ a b c d e g h i j k l m o q u = refl
 
 -- steps, where breakpoints and machine are known to be these
-pub goes_as : (ps qs : List ℕ) (span : Option Span) (m s : State) (most : ℕ) (why : Option Stop) (t : State) → Continues ps span m most why t → ps ≡ qs → m ≡ s
-    → Continues qs span s most why t
-goes_as ps qs span m s most why t h e f =
-    subst (λ (x : State). Continues qs span x most why t) f (subst (λ (xs : List ℕ). Continues xs span m most why t) e h)
+pub goes_as : (ps qs : List ℕ) (vs ws : List Point) (span : Option Span) (m s : State) (most : ℕ) (why : Pause) (t : State) → Continues ps vs span m most why t → ps ≡ qs → vs ≡ ws → m ≡ s
+    → Continues qs ws span s most why t
+goes_as ps qs vs ws span m s most why t h e g f =
+    subst (λ (x : State). Continues qs ws span x most why t) f
+    (subst (λ (xs : List Point). Continues qs xs span m most why t) g (subst (λ (xs : List ℕ). Continues xs vs span m most why t) e h))
 
 -- what holds of a result's value, and what holds with it, is another fact of the value
 pub if_ok_both : {A E : Type 0} → (r : Result A E) (P : Type 0) (Q R : A → Type 0) → ((x : A) → P → Q x → R x) → OnOk r P → IfOk r Q → IfOk r R

@@ -1,8 +1,4 @@
-pub mod Memory
-pub mod Registers
-pub mod Settings
 pub mod Description
-pub mod Going
 pub mod Monitor
 pub mod Replies
 pub mod Servers

@@ -4,6 +4,9 @@
 use Rattle.std.specs.Prelude.{ℕ, List, [], ◌∷◌, ◌++◌, codes}
 use Rattle.std.specs.Int.{to_be_bytes, w32}
 use Rattle.hex.specs.Hex.{encode_lower}
+use Rattle.dm_requests.specs.declared.request.Access.{Access}
+use Rattle.dm_requests.specs.declared.request.Access.TheVariants.{Read, Either}
+use Rattle.dm_requests.specs.declared.request.Point.{Point}
 use Rattle.dm_state.specs.declared.stop.Stop.{Stop}
 use Rattle.dm_state.specs.declared.stop.Stop.TheVariants as stop
 use Rattle.dm_gdb.specs.declared.replies.Reply.{Reply}
@@ -27,6 +30,16 @@ hex_text letter number = letter ∷ encode_lower (number ∷ [])
 abbrev pub place_text : List ℕ → ℕ → List ℕ
 place_text name base = name ++ encode_lower (to_be_bytes w32 base)
 
+-- the beginning of the reply for a hit of a watchpoint, by its access
+abbrev pub watch_name : Access → List ℕ
+watch_name Read = codes "T05rwatch:"
+watch_name Either = codes "T05awatch:"
+watch_name _ = codes "T05watch:"
+
+-- the reply for a hit of a watchpoint: the linear address where its range begins, in eight digits
+unfoldable pub watch_text : Point → List ℕ
+watch_text point = place_text (watch_name point.access) point.address ++ codes ";"
+
 -- the places of data and of empty data
 unfoldable pub data_text : ℕ → List ℕ
 data_text base = place_text (codes ";Data=") base ++ place_text (codes ";Bss=") base
@@ -42,6 +55,7 @@ reply_text reply.Done = codes "OK"
 reply_text (reply.Refused number) = hex_text 69 number
 reply_text (reply.Signal number) = hex_text 84 number
 reply_text reply.Breakpoint = codes "T05swbreak:;"
+reply_text (reply.Watch point) = watch_text point
 reply_text (reply.Exited code) = hex_text 87 code
 reply_text (reply.Bytes bytes) = encode_lower bytes
 reply_text reply.Help = encode_lower (codes "monitor takes R, U, D, M, P, X, O and step N" ++ 10 ∷ [])

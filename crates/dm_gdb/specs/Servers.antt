@@ -1,6 +1,6 @@
 -- A session of the protocol: what each request changes, and what is replied.
 -- Source: GDB manual, "GDB Remote Serial Protocol", "Packets", "General Query Packets" and "vCont".
-use Rattle.std.specs.Prelude.{◌≡◌, ◌<◌, ◌≤◌, ◌⊎◌, ℕ, ◌+◌, ◌-◌, ◌*◌, Bool, true, false, ◌==◌, nat_lt, if◌then◌else◌, List, [], ◌∷◌, ◌++◌, length, drop, position, remove, Option, Some, None}
+use Rattle.std.specs.Prelude.{◌≡◌, ◌<◌, ◌≤◌, ◌⊎◌, ℕ, ◌+◌, ◌-◌, ◌*◌, Bool, true, false, ◌==◌, nat_lt, if◌then◌else◌, List, [], ◌∷◌, ◌++◌, length, drop, Option, Some, None}
 use Rattle.hex.specs.Hex.{encode_lower}
 use Rattle.dm_state.specs.declared.stop.Stop.{Stop}
 use Rattle.dm_state.specs.declared.stop.Stop.TheVariants as stop
@@ -13,26 +13,27 @@ use Rattle.dm_command.specs.declared.command.Command.{Command}
 use Rattle.dm_command.specs.Commands.{command_of}
 use Rattle.dm_cpu.specs.declared.cpu.Cpu.{Cpu}
 use Rattle.dm_machine.specs.Run.{IsRun}
-use Rattle.dm_requests.specs.declared.request.Access.{Access}
-use Rattle.dm_requests.specs.declared.request.Access.TheVariants.{Execute}
 use Rattle.dm_requests.specs.declared.request.Point.{Point}
 use Rattle.dm_requests.specs.declared.request.Request.{Request}
 use Rattle.dm_requests.specs.declared.request.Request.TheVariants as request
 use Rattle.dm_gdb.specs.declared.replies.Reply.{Reply}
 use Rattle.dm_gdb.specs.declared.replies.Reply.TheVariants as reply
-use Rattle.dm_gdb.specs.Memory.{byte_at, segment_below, readable, bytes_from}
-use Rattle.dm_gdb.specs.Registers.{has_register, register_bytes, all_registers}
-use Rattle.dm_gdb.specs.Settings.{registers_with}
+use Rattle.dm_target.specs.Memory.{segment_below, readable, bytes_from, reads_as}
+use Rattle.dm_target.specs.Registers.{has_register, register_bytes, all_registers}
+use Rattle.dm_target.specs.Settings.{registers_with}
 use Rattle.dm_gdb.specs.Description.{features_reply}
 use Rattle.dm_gdb.specs.Monitor.{is_shown, is_shown_line, step_of, text_reply, stepped_reply}
-use Rattle.dm_gdb.specs.Going.{is_among, place_of, Continues}
+use Rattle.dm_target.specs.declared.going.Pause.{Pause}
+use Rattle.dm_target.specs.declared.going.Pause.TheVariants as pause
+use Rattle.dm_target.specs.Going.{is_among, place_of, Continues}
+use Rattle.dm_target.specs.Points.{Set, none_set, with_point, without_point}
 use Rattle.dm_gdb.specs.Replies.{stop_reply}
 
--- the session of the debugger, the linear addresses of breakpoints, how many bytes of the console's output were sent, the
+-- the session of the debugger, the breakpoints and watchpoints, how many bytes of the console's output were sent, the
 -- linear address of the program's first segment, and whether the program has ended, or the debugger has ended it
 pub record Served : Type 0 where
   pub session : Debugged
-  pub points : List ℕ
+  pub points : Set
   pub shown : ℕ
   pub base : ℕ
   pub ended : Bool
@@ -44,7 +45,7 @@ base_of c = if c.cs == c.ds then c.ds * 16 else (c.ds + 0x10) * 16
 
 -- the session over a machine on which a program was loaded, without breakpoints
 abbrev pub new_server : State → Served
-new_server m = record { session = new_session m; points = []; shown = 0; base = base_of m.cpu; ended = false }
+new_server m = record { session = new_session m; points = none_set; shown = 0; base = base_of m.cpu; ended = false }
 
 -- the reply to a request that asks for nothing of the machine, or for nothing that this server has: empty, but an error where
 -- GDB would take the empty reply for leave to try another request, which has no reply (`R` in place of `vRun`)
@@ -66,15 +67,16 @@ plain_reply request.Malformed = reply.Refused 0x01
 plain_reply request.Restart = reply.Refused 0x01
 plain_reply _ = reply.Unknown
 
--- the reply where steps ended for this reason; None at a breakpoint, or out of a range
-abbrev pub arrival_reply : List ℕ → Option Stop → State → Reply
-arrival_reply points (Some why) s = stop_reply why
-arrival_reply points None s = if is_among points (place_of s) then reply.Breakpoint else reply.Signal 0x05
+-- the reply where steps ended for this reason
+abbrev pub arrival_reply : List ℕ → Pause → State → Reply
+arrival_reply breaks (pause.Stopped why) s = stop_reply why
+arrival_reply breaks (pause.Hit point) s = reply.Watch point
+arrival_reply breaks pause.Arrived s = if is_among breaks (place_of s) then reply.Breakpoint else reply.Signal 0x05
 
--- the reply where the steps of one step or of a range ended for this reason; None at a breakpoint, or out of the range
-abbrev pub step_reply : List ℕ → Option Stop → State → Reply
-step_reply points (Some stop.Steps) s = reply.Signal 0x05
-step_reply points why s = arrival_reply points why s
+-- the reply where the steps of one step or of a range ended for this reason
+abbrev pub step_reply : List ℕ → Pause → State → Reply
+step_reply breaks (pause.Stopped stop.Steps) s = reply.Signal 0x05
+step_reply breaks why s = arrival_reply breaks why s
 
 -- the bytes of a register in hexadecimal; an error if there is none of this number
 abbrev pub register_reply : State → ℕ → Reply
@@ -83,11 +85,6 @@ register_reply s n = if has_register n then reply.Bytes (register_bytes s n) els
 -- bytes from an address up; fewer where memory ends, and an error where there is none at the address
 abbrev pub memory_reply : Memory → ℕ → ℕ → Reply
 memory_reply m address count = if nat_lt 0x10FFEF address then reply.Refused 0x0E else reply.Bytes (bytes_from m address (readable address count))
-
--- whether memory has these bytes from an address up
-abbrev pub reads_as : Memory → ℕ → List ℕ → Bool
-reads_as m address [] = true
-reads_as m address (b ∷ bs) = if byte_at m address == b then reads_as m (address + 1) bs else false
 
 -- the reply to a write: an error if memory does not have the bytes after it, because some of it is ROM or nothing
 abbrev pub written_reply : Memory → ℕ → List ℕ → Reply
@@ -105,35 +102,13 @@ at_state s t = record s { session = with_machine s.session t }
 abbrev pub with_written : Served → ℕ → List ℕ → Served
 with_written s address bytes = at_state s (record s.session.machine { memory = written s.session.machine.memory address bytes })
 
--- the breakpoints with one at an address, at the end unless it is set already
-abbrev pub with_point : List ℕ → ℕ → List ℕ
-with_point points address = if is_among points address then points else points ++ address ∷ []
-
--- the breakpoints without the one at this place of the list; for None, all of them
-abbrev pub without_place : Option ℕ → List ℕ → List ℕ
-without_place None points = points
-without_place (Some k) points = remove points k
-
--- the breakpoints without the one at an address, if it is set
-abbrev pub without_point : List ℕ → ℕ → List ℕ
-without_point points address = without_place (position (λ p. p == address) points) points
-
--- whether this is the access of a breakpoint
-abbrev pub is_execute : Access → Bool
-is_execute Execute = true
-is_execute _ = false
-
--- the reply to a request to set or remove a point of this access: empty for watchpoints, which this server does not have
-abbrev pub point_reply : Access → Reply
-point_reply access = if is_execute access then reply.Done else reply.Unknown
-
--- the session after a request to set a point: with a breakpoint more, or as it is for a watchpoint
+-- the session after a request to set a breakpoint or watchpoint
 abbrev pub with_inserted : Served → Point → Served
-with_inserted s point = if is_execute point.access then record s { points = with_point s.points point.address } else s
+with_inserted s point = record s { points = with_point s.points point }
 
--- the session after a request to remove a point: without the breakpoint, or as it is for a watchpoint
+-- the session after a request to remove a breakpoint or watchpoint
 abbrev pub with_removed : Served → Point → Served
-with_removed s point = if is_execute point.access then record s { points = without_point s.points point.address } else s
+with_removed s point = record s { points = without_point s.points point }
 
 -- whether the reply says that the program has ended
 abbrev pub is_exit : Reply → Bool
@@ -190,8 +165,8 @@ pub data Replies (s : Served) (most : ℕ) : Request → Reply → Served → Ty
   writes : (address : ℕ) (bytes : List ℕ) → address ≤ 0x10FFEF → address + length bytes ≤ 0x10FFF0
       → Replies s most (request.SetMemory address bytes) (written_reply (written s.session.machine.memory address bytes) address bytes) (with_written s address bytes)
   out_of_reach : (address : ℕ) (bytes : List ℕ) → (0x10FFEF < address) ⊎ (0x10FFF0 < address + length bytes) → Replies s most (request.SetMemory address bytes) (reply.Refused 0x0E) s
-  inserts : (point : Point) → Replies s most (request.Insert point) (point_reply point.access) (with_inserted s point)
-  removes : (point : Point) → Replies s most (request.Remove point) (point_reply point.access) (with_removed s point)
+  inserts : (point : Point) → Replies s most (request.Insert point) reply.Done (with_inserted s point)
+  removes : (point : Point) → Replies s most (request.Remove point) reply.Done (with_removed s point)
   sets : (n : ℕ) (bytes : List ℕ) → Replies s most (request.SetRegister n bytes) (setting_reply (registers_after s.session.machine n bytes)) (with_registers s (registers_after s.session.machine n bytes))
   describes : (offset count : ℕ) → Replies s most (request.Features offset count) (features_reply offset count) s
   places : Replies s most request.Offsets (reply.Offsets s.base) s
@@ -203,11 +178,12 @@ pub data Replies (s : Served) (most : ℕ) : Request → Reply → Served → Ty
   goes_to : (line : List ℕ) (n : ℕ) (why : Stop) (t : State) → step_of line ≡ Some n → s.session.machine.steps ≤ n → IsRun s.session.machine (n - s.session.machine.steps) why t
       → Replies s most (request.Command line) (stepped_reply why) (at_state s t)
   has_passed : (line : List ℕ) (n : ℕ) → step_of line ≡ Some n → n < s.session.machine.steps → Replies s most (request.Command line) reply.Passed s
-  steps : (why : Option Stop) (t : State) → Continues s.points None s.session.machine 1 why t → Replies s most request.Step (step_reply s.points why t) (gone s (step_reply s.points why t) t)
-  continues : (why : Option Stop) (t : State) → Continues s.points None s.session.machine most why t
-      → Replies s most request.Continue (arrival_reply s.points why t) (gone s (arrival_reply s.points why t) t)
-  ranges : (start end : ℕ) (why : Option Stop) (t : State) → Continues s.points (Some (record { start = start; end = end })) s.session.machine most why t
-      → Replies s most (request.Range start end) (step_reply s.points why t) (gone s (step_reply s.points why t) t)
+  steps : (why : Pause) (t : State) → Continues s.points.breaks s.points.watches None s.session.machine 1 why t
+      → Replies s most request.Step (step_reply s.points.breaks why t) (gone s (step_reply s.points.breaks why t) t)
+  continues : (why : Pause) (t : State) → Continues s.points.breaks s.points.watches None s.session.machine most why t
+      → Replies s most request.Continue (arrival_reply s.points.breaks why t) (gone s (arrival_reply s.points.breaks why t) t)
+  ranges : (start end : ℕ) (why : Pause) (t : State) → Continues s.points.breaks s.points.watches (Some (record { start = start; end = end })) s.session.machine most why t
+      → Replies s most (request.Range start end) (step_reply s.points.breaks why t) (gone s (step_reply s.points.breaks why t) t)
 
 -- the packet of console output that was not sent yet: `O` and the bytes in hexadecimal
 abbrev pub console_text : Served → List ℕ

@@ -1,14 +1,13 @@
 //! What is replied to requests for registers and memory.
 
-ghost use Rattle.std.specs.Prelude.{◌≡◌, ◌≤◌, ◌+◌, IfOk, length};
-ghost use Rattle.dm_gdb.specs.Servers.{memory_reply, reads_as, register_reply};
+ghost use Rattle.std.specs.Prelude.{◌≡◌, IfOk};
+ghost use Rattle.dm_gdb.specs.Servers.{memory_reply, register_reply};
 
-use crate::memory::{LAST, byte_at, bytes_from, readable};
-use crate::registers::{has_register, put_register};
 use crate::replies::{BAD, NO_MEMORY, Reply};
 use dm_machine::Machine;
 use dm_packets::Payload;
 use dm_space::Space;
+use dm_target::{LAST, bytes_from, has_register, put_register, readable};
 use std::alloc::{AllocError, Global};
 
 /// `p`: the bytes of a register. An `Err` is a failed allocation.
@@ -41,17 +40,4 @@ pub(crate) fn memory_reply(
     }
     let bytes = bytes_from(alloc, space, address, readable(address, count))?;
     Ok(Reply::Bytes(Payload::new(bytes)))
-}
-
-/// Whether memory has these bytes from an address up; they must end at FFFF:FFFF or before.
-pub(crate) fn reads_as(space: &Space, address: u32, bytes: &[u8]) -> bool
-    requires { address + length bytes.now ≤ 0x10FFF0 }
-    ensures { result ≡ reads_as space.now.memory address bytes.now }
-{
-    for (k, byte) in bytes.iter().enumerate() {
-        if byte_at(space, address + k as u32) != *byte {
-            return false;
-        }
-    }
-    true
 }

@@ -7,13 +7,9 @@ mod answers;
 mod connection;
 mod description;
 mod digits;
-mod going;
-mod memory;
 mod monitor;
-mod registers;
 mod replies;
 mod server;
-mod settings;
 mod texts;
 
 pub use connection::Connection;

@@ -1,11 +1,12 @@
 //! Replies, and their texts.
 
 ghost use Rattle.std.specs.Prelude.{◌≡◌, ◌++◌, ◌∷◌, OnOk};
-ghost use Rattle.dm_gdb.specs.Replies.{data_text, hex_text, offsets_text, place_text, reply_text, stop_reply};
+ghost use Rattle.dm_gdb.specs.Replies.{data_text, hex_text, offsets_text, place_text, reply_text, stop_reply, watch_name, watch_text};
 
 use crate::digits::put_hex;
 use dm_machine::Stop;
 use dm_packets::Payload;
+use dm_requests::{Access, Point};
 use std::alloc::{AllocError, Global};
 
 /// The number of the error for bad arguments.
@@ -30,6 +31,9 @@ pub enum Reply {
     Signal(u8),
     /// `T05swbreak:;`: a breakpoint.
     Breakpoint,
+    /// `T05watch:A;`, `T05rwatch:A;` or `T05awatch:A;`, by the access, A in eight digits: a hit of a watchpoint, whose range
+    /// begins at A.
+    Watch(Point),
     /// `W` and the exit code in two digits.
     Exited(u8),
     /// Bytes, in two digits each.
@@ -91,6 +95,26 @@ fn put_place(alloc: Global, out: &mut Vec<u8>, name: &[u8], base: u32) -> Result
     put_hex(alloc, out, &base.to_be_bytes())
 }
 
+/// The beginning of the reply for a hit of a watchpoint.
+fn watch_name(access: Access) -> &'static [u8]
+    ensures { result.now ≡ watch_name access }
+{
+    match access {
+        Access::Read => b"T05rwatch:",
+        Access::Either => b"T05awatch:",
+        _ => b"T05watch:",
+    }
+}
+
+/// Appends the reply for a hit of a watchpoint. An `Err` is a failed allocation.
+#[tactic(auto, unfolding(crate::specs::Replies::watch_text))]
+fn put_watch(alloc: Global, out: &mut Vec<u8>, point: &Point) -> Result<(), AllocError>
+    ensures { OnOk result (out.new.items ≡ out.old.items ++ watch_text point.now) }
+{
+    put_place(alloc, out, watch_name(point.access), point.address)?;
+    out.extend_from_slice(b";")
+}
+
 /// Appends the places of data and of empty data. An `Err` is a failed allocation.
 #[tactic(auto, unfolding(crate::specs::Replies::data_text))]
 fn put_data_places(alloc: Global, out: &mut Vec<u8>, base: u32) -> Result<(), AllocError>
@@ -128,6 +152,7 @@ pub fn put_reply(alloc: Global, out: &mut Vec<u8>, reply: &Reply) -> Result<(), 
         Reply::Refused(number) => put_number(alloc, out, b'E', *number),
         Reply::Signal(number) => put_number(alloc, out, b'T', *number),
         Reply::Breakpoint => out.extend_from_slice(b"T05swbreak:;"),
+        Reply::Watch(point) => put_watch(alloc, out, point),
         Reply::Exited(code) => put_number(alloc, out, b'W', *code),
         Reply::Bytes(bytes) => put_hex(alloc, out, bytes.as_slice()),
         Reply::Help => put_hex(

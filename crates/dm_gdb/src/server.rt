@@ -1,35 +1,36 @@
-//! A session of the protocol: a machine, its breakpoints, and what each request changes and is replied.
+//! A session of the protocol: a machine, its breakpoints and watchpoints, and what each request changes and is replied.
 
-ghost use Rattle.std.specs.Prelude.{◌≡◌, ◌≤◌, ◌<◌, ◌+◌, ◌==◌, ℕ, OnOk, OnErr, IfOk, IfSome, length, position};
+ghost use Rattle.std.specs.Prelude.{◌≡◌, ◌≤◌, ◌+◌, ℕ, OnOk, OnErr, IfOk, length};
 ghost use Rattle.dm_state.specs.State.{HasProgram};
-ghost use Rattle.dm_gdb.specs.Going.{Continues};
-ghost use Rattle.dm_gdb.specs.Servers.{PutsConsole, Replies, arrival_reply, at_state, base_of, is_execute, is_exit, new_server, plain_reply, point_reply, setting_reply, step_reply, threads_reply, with_inserted, with_point, with_registers, with_removed, with_written, without_point, written, written_reply};
+ghost use Rattle.dm_target.specs.Going.{Continues};
+ghost use Rattle.dm_gdb.specs.declared.replies.Reply.TheVariants as reply;
+ghost use Rattle.dm_gdb.specs.Servers.{PutsConsole, Replies, arrival_reply, at_state, base_of, is_exit, new_server, plain_reply, setting_reply, step_reply, threads_reply, with_inserted, with_registers, with_removed, with_written, written, written_reply};
 
-use crate::answers::{memory_reply, reads_as, register_reply};
+use crate::answers::{memory_reply, register_reply};
 use crate::description::features_reply;
 use crate::digits::put_hex;
-use crate::going::{Span, go_on, is_among, place_of};
-use crate::memory::{LAST, segment_below};
-use crate::registers::all_registers;
 use crate::replies::{BAD, NO_MEMORY, Reply, stop_reply};
-use crate::settings::registers_with;
 use dm_debug::Session;
 use dm_machine::{Cpu, Machine, Stop};
 use dm_packets::Payload;
-use dm_requests::{Access, Point, Request};
+use dm_requests::{Point, Request};
+use dm_target::{
+    LAST, Pause, Points, Span, all_registers, go_on, is_among, place_of, reads_as, registers_with,
+    segment_below,
+};
 use std::alloc::{AllocError, Global};
 use std::marker::Model;
 
-/// A machine that is debugged over the protocol: with its breakpoints, by linear addresses, and how much of the console's
-/// output the debugger was sent.
+/// A machine that is debugged over the protocol: with its breakpoints and watchpoints, by linear addresses, and how much of
+/// the console's output the debugger was sent.
 ///
-/// Contracts see the session of the debugger, the addresses, how many bytes of output were sent, the linear address of the
+/// Contracts see the session of the debugger, what is set, how many bytes of output were sent, the linear address of the
 /// program's first segment, and whether the program has ended.
 #[derive(Drop)]
 pub struct Server {
     pub(crate) alloc: Global,
     pub(crate) session: Session,
-    points: Vec<u32>,
+    points: Points,
     shown: usize,
     base: u32,
     is_ended: bool,
@@ -40,7 +41,7 @@ impl Model for Server {
 
     ghost Value = { Served };
 
-    ghost view = { λ s. record { session = s.session; points = s.points.items; shown = s.shown; base = s.base; ended = s.is_ended } };
+    ghost view = { λ s. record { session = s.session; points = s.points; shown = s.shown; base = s.base; ended = s.is_ended } };
 }
 
 /// The reply to a request that asks for nothing of the machine, or for nothing that this server has: empty, but an error for
@@ -68,14 +69,15 @@ fn plain_reply(request: &Request) -> Reply
     }
 }
 
-/// The reply where steps ended: at the machine's breakpoint, behind a range, or for another reason.
-fn arrival_reply(points: &[u32], stop: Option<Stop>, machine: &Machine) -> Reply
-    ensures { result ≡ arrival_reply points.now stop machine.now }
+/// The reply where steps ended: at a breakpoint, behind a range, at a watchpoint, or for another reason.
+fn arrival_reply(breaks: &[u32], pause: Pause, machine: &Machine) -> Reply
+    ensures { result ≡ arrival_reply breaks.now pause machine.now }
 {
-    match stop {
-        Some(stop) => stop_reply(stop),
-        None => {
-            if is_among(points, place_of(machine)) {
+    match pause {
+        Pause::Stopped(stop) => stop_reply(stop),
+        Pause::Hit(point) => Reply::Watch(point),
+        Pause::Arrived => {
+            if is_among(breaks, place_of(machine)) {
                 Reply::Breakpoint
             } else {
                 Reply::Signal(0x05)
@@ -85,30 +87,12 @@ fn arrival_reply(points: &[u32], stop: Option<Stop>, machine: &Machine) -> Reply
 }
 
 /// The reply where the steps of one step or of a range ended: no more steps are a step that was made.
-fn step_reply(points: &[u32], stop: Option<Stop>, machine: &Machine) -> Reply
-    ensures { result ≡ step_reply points.now stop machine.now }
+fn step_reply(breaks: &[u32], pause: Pause, machine: &Machine) -> Reply
+    ensures { result ≡ step_reply breaks.now pause machine.now }
 {
-    match stop {
-        Some(Stop::Steps) => Reply::Signal(0x05),
-        _ => arrival_reply(points, stop, machine),
-    }
-}
-
-/// The index of an address among these; None if it is not among them.
-fn place_among(points: &[u32], address: u32) -> Option<usize>
-    ensures first { result ≡ position (λ p. p == address) points.now }
-    ensures there { IfSome result (λ k. k < length points.now) }
-{
-    points.iter().position(|point| *point == address)
-}
-
-/// Whether this is the access of a breakpoint.
-fn is_execute(access: Access) -> bool
-    ensures { result ≡ is_execute access }
-{
-    match access {
-        Access::Execute => true,
-        _ => false,
+    match pause {
+        Pause::Stopped(Stop::Steps) => Reply::Signal(0x05),
+        _ => arrival_reply(breaks, pause, machine),
     }
 }
 
@@ -154,7 +138,7 @@ impl Server {
         Server {
             alloc,
             session: Session::new(machine),
-            points: Vec::new(alloc),
+            points: Points::new(alloc),
             shown: 0,
             base,
             is_ended: false,
@@ -166,26 +150,6 @@ impl Server {
         ensures { result.now ≡ self.now.session.machine }
     {
         self.session.machine()
-    }
-
-    /// Sets a breakpoint, unless it is set. An `Err` is a failed allocation, and nothing has changed.
-    fn set(&mut self, address: u32) -> Result<(), AllocError>
-        ensures ok { OnOk result (self.new ≡ record self.old { points = with_point self.old.points address }) }
-        ensures err { OnErr result (self.new ≡ self.old) }
-    {
-        if !is_among(self.points.as_slice(), address) {
-            self.points.push(address)?;
-        }
-        Ok(())
-    }
-
-    /// Removes a breakpoint, if it is set.
-    fn clear(&mut self, address: u32)
-        ensures { self.new ≡ record self.old { points = without_point self.old.points address } }
-    {
-        if let Some(at) = place_among(self.points.as_slice(), address) {
-            self.points.remove(at);
-        }
     }
 
     /// Writes bytes from an address up, which end at FFFF:FFFF or before, and returns the reply.
@@ -205,38 +169,38 @@ impl Server {
         }
     }
 
-    /// Makes at most `most` steps, but none after one that led to a breakpoint or out of the range: None then, else why the
-    /// steps ended. Nothing but the machine changes.
-    fn go(&mut self, most: u64, span: Option<Span>) -> Option<Stop>
-        ensures goes { Continues self.old.points span self.old.session.machine most result self.new.session.machine }
+    /// Makes at most `most` steps, but none after one that led to a breakpoint or out of the range, or hit a watchpoint, and
+    /// returns why the steps ended. Nothing but the machine changes.
+    fn go(&mut self, most: u64, span: Option<Span>) -> Pause
+        ensures goes { Continues self.old.points.breaks self.old.points.watches span self.old.session.machine most result self.new.session.machine }
         ensures same { self.new ≡ at_state self.old self.new.session.machine }
     {
-        go_on(&mut self.session, most, span, self.points.as_slice())
+        go_on(
+            self.alloc,
+            &mut self.session,
+            most,
+            span,
+            self.points.breaks(),
+            self.points.watches(),
+        )
     }
 
-    /// `Z`: sets a breakpoint; the reply is empty for watchpoints, which this server does not have. An `Err` is a failed
-    /// allocation, and nothing has changed.
+    /// `Z`: sets a breakpoint or watchpoint. An `Err` is a failed allocation, and nothing has changed.
     fn insert(&mut self, point: Point) -> Result<Reply, AllocError>
         ensures ok { OnOk result (self.new ≡ with_inserted self.old point) }
-        ensures reply { IfOk result (λ r. r ≡ point_reply point.access) }
+        ensures reply { IfOk result (λ r. r ≡ reply.Done) }
         ensures err { OnErr result (self.new ≡ self.old) }
     {
-        if !is_execute(point.access) {
-            return Ok(Reply::Unknown);
-        }
-        self.set(point.address)?;
+        self.points.set(point)?;
         Ok(Reply::Done)
     }
 
-    /// `z`: removes a breakpoint; the reply is empty for watchpoints, which this server does not have.
+    /// `z`: removes a breakpoint or watchpoint.
     fn remove(&mut self, point: Point) -> Reply
         ensures after { self.new ≡ with_removed self.old point }
-        ensures reply { result ≡ point_reply point.access }
+        ensures reply { result ≡ reply.Done }
     {
-        if !is_execute(point.access) {
-            return Reply::Unknown;
-        }
-        self.clear(point.address);
+        self.points.clear(point);
         Reply::Done
     }
 
@@ -278,7 +242,8 @@ impl Server {
     }
 
     /// Executes a request, and returns what is replied. A way to go on makes at most `most` steps. A breakpoint is at a
-    /// linear address, whatever the segment; a step that leads to one is replied as a breakpoint, in `s` too. The bytes of
+    /// linear address, whatever the segment; a step that leads to one is replied as a breakpoint, in `s` too, and one that hits
+    /// a watchpoint as its hit. The bytes of
     /// `M` to ROM, or where there is no memory, are lost, and the others are written. Memory is read and written as a
     /// program would through the highest segment below the address. `k` has no reply in the protocol, though one is
     /// returned for it: the caller ends the conversation and sends nothing.
@@ -333,26 +298,26 @@ impl Server {
     fn step(&mut self) -> Reply
         ensures { (most : ℕ) → Replies self.old most Request.Step result self.new }
     {
-        let stop = self.go(1, None);
-        let reply = step_reply(self.points.as_slice(), stop, self.session.machine());
+        let pause = self.go(1, None);
+        let reply = step_reply(self.points.breaks(), pause, self.session.machine());
         self.noted(reply)
     }
 
-    /// `c`: at most `most` steps, up to a breakpoint or a stop.
+    /// `c`: at most `most` steps, up to a breakpoint, a watchpoint or a stop.
     fn continue_to(&mut self, most: u64) -> Reply
         ensures { Replies self.old most Request.Continue result self.new }
     {
-        let stop = self.go(most, None);
-        let reply = arrival_reply(self.points.as_slice(), stop, self.session.machine());
+        let pause = self.go(most, None);
+        let reply = arrival_reply(self.points.breaks(), pause, self.session.machine());
         self.noted(reply)
     }
 
-    /// `vCont;r`: at most `most` steps, up to a breakpoint, the end of the range or a stop.
+    /// `vCont;r`: at most `most` steps, up to a breakpoint, a watchpoint, the end of the range or a stop.
     fn step_through(&mut self, start: u32, end: u32, most: u64) -> Reply
         ensures { Replies self.old most (Request.Range start end) result self.new }
     {
-        let stop = self.go(most, Some(Span { start, end }));
-        let reply = step_reply(self.points.as_slice(), stop, self.session.machine());
+        let pause = self.go(most, Some(Span { start, end }));
+        let reply = step_reply(self.points.breaks(), pause, self.session.machine());
         self.noted(reply)
     }
 

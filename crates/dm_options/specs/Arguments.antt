@@ -17,6 +17,10 @@ option_rule name default = record (new_rule name) {
 abbrev pub steps_rule : Rule
 steps_rule = record (option_rule (codes "steps") (codes "100000000")) { parser = Some (parser.Unsigned 0 18446744073709551615) }
 
+-- `--steps N` of `dm gdb`: 1000000 by default
+abbrev pub gdb_steps_rule : Rule
+gdb_steps_rule = record (option_rule (codes "steps") (codes "1000000")) { parser = Some (parser.Unsigned 0 18446744073709551615) }
+
 -- `--ems PAGES`: a number below 2^32, 64 by default
 abbrev pub ems_rule : Rule
 ems_rule = record (option_rule (codes "ems") (codes "64")) { parser = Some (parser.Unsigned 0 4294967295) }
@@ -41,14 +45,14 @@ files_rule = record (new_rule (codes "files")) {
   required = true;
 }
 
--- the command with the options and files added that `run`, `debug`, `check` and `gdb` share
-abbrev pub with_machine_rules : App → App
-with_machine_rules a =
-    with_rule (with_rule (with_rule (with_rule (with_rule (with_rule a steps_rule) ems_rule) xms_rule) upper_rule) tail_rule) files_rule
+-- the command with the options and files added that `run`, `debug`, `check` and `gdb` share; `--steps` is given
+abbrev pub with_machine_rules : Rule → App → App
+with_machine_rules steps a =
+    with_rule (with_rule (with_rule (with_rule (with_rule (with_rule a steps) ems_rule) xms_rule) upper_rule) tail_rule) files_rule
 
 -- `dm run`
 abbrev pub run_app : App
-run_app = with_machine_rules (new_app (codes "run"))
+run_app = with_machine_rules steps_rule (new_app (codes "run"))
 
 -- `--input FILE`, which may be left out
 abbrev pub input_rule : Rule
@@ -56,7 +60,7 @@ input_rule = record (new_rule (codes "input")) { long = Some (codes "input"); va
 
 -- `dm debug`: as `dm run`, and `--input`
 abbrev pub debug_app : App
-debug_app = with_rule (with_machine_rules (new_app (codes "debug"))) input_rule
+debug_app = with_rule (with_machine_rules steps_rule (new_app (codes "debug"))) input_rule
 
 -- a required argument of this name that is the path of one file
 abbrev pub path_rule : Text → Rule
@@ -68,7 +72,7 @@ no_free_rule = record (new_rule (codes "no-free")) { long = Some (codes "no-free
 
 -- `dm check`: as `dm run`, and `--no-free`
 abbrev pub check_app : App
-check_app = with_rule (with_machine_rules (new_app (codes "check"))) no_free_rule
+check_app = with_rule (with_machine_rules steps_rule (new_app (codes "check"))) no_free_rule
 
 -- `dm asm`, with the paths of the text and of the file that is written
 abbrev pub asm_app : App
@@ -78,9 +82,9 @@ asm_app = with_rule (with_rule (new_app (codes "asm")) (path_rule (codes "in")))
 abbrev pub disasm_app : App
 disasm_app = with_rule (new_app (codes "disasm")) (path_rule (codes "in"))
 
--- `dm gdb`: as `dm debug`
+-- `dm gdb`: as `dm debug`, with another default of `--steps`
 abbrev pub gdb_app : App
-gdb_app = with_rule (with_machine_rules (new_app (codes "gdb"))) input_rule
+gdb_app = with_rule (with_machine_rules gdb_steps_rule (new_app (codes "gdb"))) input_rule
 
 -- `dm` before its subcommands are added; it must have one, and has `--version`
 abbrev pub named_app : App

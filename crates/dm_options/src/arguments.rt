@@ -1,7 +1,7 @@
 //! The commands and arguments of `dm`, as the command-line library `clap` is given them.
 ghost use Rattle.std.specs.Prelude.{◌≡◌, IfOk, IsOk, OnOk, false};
 ghost use Rattle.clap.specs.Words.{app_of, rule_of, with_subcommand};
-ghost use Rattle.dm_options.specs.Arguments.{asm_app, check_app, debug_app, disasm_app, dm_app, ems_rule, files_rule, gdb_app, input_rule, no_free_rule, path_rule, run_app, steps_rule, tail_rule, upper_rule, with_machine_rules, xms_rule};
+ghost use Rattle.dm_options.specs.Arguments.{asm_app, check_app, debug_app, disasm_app, dm_app, ems_rule, files_rule, gdb_app, gdb_steps_rule, input_rule, no_free_rule, path_rule, run_app, steps_rule, tail_rule, upper_rule, with_machine_rules, xms_rule};
 ghost use Rattle.clap.specs.declared.Command.TheViews.{out-Command as fields_of};
 
 use clap::builder::ValueParser;
@@ -10,6 +10,10 @@ use std::alloc::{AllocError, Global};
 
 /// The version of the program, which `dm --version` prints.
 const VERSION: &str = "2.0.0";
+
+/// What `--steps` says of itself.
+const STEPS_HELP: &str =
+    "Stop after N steps: instructions, repetitions of string instructions, services; gdb counts anew each time it goes on, debug ignores it";
 
 /// `--steps N`: a number below 2^64, 100000000 by default.
 fn steps_arg<'a>(alloc: Global) -> Arg<'a>
@@ -21,9 +25,20 @@ fn steps_arg<'a>(alloc: Global) -> Arg<'a>
         .value_name("N")
         .value_parser(ValueParser::unsigned(0, 18446744073709551615))
         .default_value("100000000")
-        .help(
-            "Stop after N steps: instructions, repetitions of string instructions, services; gdb counts anew each time it goes on, debug ignores it",
-        )
+        .help(STEPS_HELP)
+}
+
+/// `--steps N` of `dm gdb`: 1000000 by default, so that a stop that GDB wants comes soon.
+fn gdb_steps_arg<'a>(alloc: Global) -> Arg<'a>
+    ensures rule { rule_of result ≡ gdb_steps_rule }
+    ensures local { result.global ≡ false }
+{
+    Arg::new(alloc, "steps")
+        .long("steps")
+        .value_name("N")
+        .value_parser(ValueParser::unsigned(0, 18446744073709551615))
+        .default_value("1000000")
+        .help(STEPS_HELP)
 }
 
 /// `--ems PAGES`: a number below 2^32, 64 by default.
@@ -87,13 +102,19 @@ fn files_arg<'a>(alloc: Global) -> Arg<'a>
         .help("The program, COM or EXE, then files that it can start; at most 16 MiB each")
 }
 
-/// Adds the options and files that `run`, `debug`, `check` and `gdb` share to a command. An `Err` is a failed allocation.
-fn with_machine_args<'a>(alloc: Global, command: Command<'a>) -> Result<Command<'a>, AllocError>
-    ensures app { IfOk result (λ c. app_of c ≡ with_machine_rules (app_of command.entry)) }
+/// Adds the options and files that `run`, `debug`, `check` and `gdb` share to a command; `steps` is `--steps`. An `Err` is a
+/// failed allocation.
+fn with_machine_args<'a>(
+    alloc: Global,
+    command: Command<'a>,
+    steps: Arg<'a>,
+) -> Result<Command<'a>, AllocError>
+    requires { steps.global ≡ false }
+    ensures app { IfOk result (λ c. app_of c ≡ with_machine_rules (rule_of steps.entry) (app_of command.entry)) }
     ensures local { (fields_of command.entry).has_globals ≡ false → IfOk result (λ c. (fields_of c).has_globals ≡ false) }
 {
     command
-        .arg(steps_arg(alloc))?
+        .arg(steps)?
         .arg(ems_arg(alloc))?
         .arg(xms_arg(alloc))?
         .arg(upper_arg(alloc))?
@@ -111,7 +132,7 @@ fn run_command<'a>(alloc: Global) -> Result<Command<'a>, AllocError>
             "Run a program: standard input is its console input, and its output is printed when it ends",
         )
         .after_help("Example: dm run --tail ' /q' PROGRAM.COM CHILD.EXE <input.txt");
-    with_machine_args(alloc, command)
+    with_machine_args(alloc, command, steps_arg(alloc))
 }
 
 /// `--input FILE`, which has no default.
@@ -133,7 +154,7 @@ fn debug_command<'a>(alloc: Global) -> Result<Command<'a>, AllocError>
     let command = Command::new(alloc, "debug")
         .about("Debug a program: each line of standard input is a command, Q ends the session")
         .after_help("Example: printf 'R\\nU 0103:0100\\nG\\n' | dm debug PROGRAM.COM");
-    with_machine_args(alloc, command)?.arg(input_arg(alloc))
+    with_machine_args(alloc, command, steps_arg(alloc))?.arg(input_arg(alloc))
 }
 
 /// The command `dm gdb`. An `Err` is a failed allocation.
@@ -146,7 +167,7 @@ fn gdb_command<'a>(alloc: Global) -> Result<Command<'a>, AllocError>
             "Debug a program with GDB, whose remote serial protocol it speaks on standard input and output",
         )
         .after_help("Example: gdb -ex 'target extended-remote | dm gdb PROGRAM.COM'");
-    with_machine_args(alloc, command)?.arg(input_arg(alloc))
+    with_machine_args(alloc, command, gdb_steps_arg(alloc))?.arg(input_arg(alloc))
 }
 
 /// `--no-free`, which has no value.
@@ -170,7 +191,7 @@ fn check_command<'a>(alloc: Global) -> Result<Command<'a>, AllocError>
             "Run a program and report its errors in the use of memory: overwritten block headers, uses of free memory, double frees, leaks",
         )
         .after_help("Example: dm check PROGRAM.COM <input.txt");
-    with_machine_args(alloc, command)?.arg(no_free_arg(alloc))
+    with_machine_args(alloc, command, steps_arg(alloc))?.arg(no_free_arg(alloc))
 }
 
 /// A required argument that is the path of one file. `id` is the name by which the value is read back, `value_name` and

@@ -131,7 +131,7 @@ const RUN: [Row; 18] = [
     ("s", "T05"),
     ("p0", "00090000"),
     ("p22", "0100000000000000"),
-    ("Z2,1130,1", ""),
+    ("Z2,1130,1", "OK"),
     ("Z0,1137,1", "OK"),
     ("Z1,1137,1", "OK"),
     ("vCont;r1132,1137:1", "T05"),
@@ -146,6 +146,51 @@ const RUN: [Row; 18] = [
     ("c", "W07"),
     ("pa", "00f00000"),
     ("p20", "8400"),
+];
+
+/// MOV AL,5; MOV [0120h],AL; MOV BL,[0120h]; MOV SI,0120h; MOV DI,0130h; MOV CX,3; REP MOVSB; MOV BX,40h; MOV AH,4Ah;
+/// INT 21h; MOV AX,4C00h; INT 21h. DS:0120h is 1030h + 120h = 1150h, and ES:0130h 1160h; the program's header is at 1020h.
+const WATCHED: &[u8] =
+    b"\xB0\x05\xA2\x20\x01\x8A\x1E\x20\x01\xBE\x20\x01\xBF\x30\x01\xB9\x03\x00\xF3\xA4\xBB\x40\x00\xB4\x4A\xCD\x21\xB8\x00\x4C\xCD\x21";
+
+/// A byte that is written, then read; the second repetition of REP MOVSB reads 1151h, with one left, and the third writes
+/// 1162h; function 4Ah writes the header's size at 1023h. Empty ranges, and addresses past FFFF:FFFF, are never hit; the bytes
+/// of the instructions do not count, and a byte that is removed no longer does.
+const WATCHES: [Row; 34] = [
+    ("Z3,1130,20", "OK"),
+    ("Z2,1150,0", "OK"),
+    ("Z2,10fff0,1", "OK"),
+    ("Z4,ffffffff,ffffffff", "OK"),
+    ("Z2,", "E01"),
+    ("Z2,1150,1", "OK"),
+    ("Z3,1150,1", "OK"),
+    ("c", "T05watch:00001150;"),
+    ("p8", "35110000"),
+    ("s", "T05rwatch:00001150;"),
+    ("p8", "39110000"),
+    ("z2,1150,1", "OK"),
+    ("z3,1150,1", "OK"),
+    ("z3,1150,1", "OK"),
+    ("Z4,1151,1", "OK"),
+    ("vCont;r1139,1144", "T05awatch:00001151;"),
+    ("p8", "42110000"),
+    ("p1", "01000000"),
+    ("z4,1151,1", "OK"),
+    ("Z2,1162,2", "OK"),
+    ("Z0,1144,1", "OK"),
+    ("c", "T05watch:00001162;"),
+    ("p8", "44110000"),
+    ("p1", "00000000"),
+    ("z0,1144,1", "OK"),
+    ("Z3,1023,2", "OK"),
+    ("Z4,1024,1", "OK"),
+    ("Z2,1023,2", "OK"),
+    ("c", "T05awatch:00001024;"),
+    ("p8", "4b110000"),
+    ("m1023,2", "4000"),
+    ("s", "T05"),
+    ("p8", "4e110000"),
+    ("c", "W00"),
 ];
 
 /// Asks a server for what a packet carries, with at most `most` steps, and compares the reply.
@@ -181,16 +226,16 @@ fn play(
 
 /// Definitions: dm_gdb Servers Replies plain_reply register_reply memory_reply base_of threads_reply
 /// Definitions: dm_gdb Description features_reply description
-/// Definitions: dm_gdb Registers register_bytes core_values
-/// Definitions: dm_gdb Memory readable byte_at
+/// Definitions: dm_target Registers register_bytes core_values
+/// Definitions: dm_target Memory readable byte_at
 #[test]
 fn requests_are_replied_at_the_start(rt: HostRuntime) -> Result<(), Fail> {
     play(&rt, rt.alloc(), HELLO, 100, &START)?;
     Ok(())
 }
 
-/// Definitions: dm_gdb Servers Replies step_reply arrival_reply with_point without_point written PutsConsole
-/// Definitions: dm_gdb Going Continues has_arrived
+/// Definitions: dm_gdb Servers Replies step_reply arrival_reply written PutsConsole
+/// Definitions: dm_target Going Continues has_arrived
 #[test]
 fn a_program_is_debugged_to_its_end(rt: HostRuntime) -> Result<(), Fail> {
     let mut server = play(&rt, rt.alloc(), HELLO, 100, &RUN)?;
@@ -199,6 +244,17 @@ fn a_program_is_debugged_to_its_end(rt: HostRuntime) -> Result<(), Fail> {
         server.put_console(&mut text)?;
         same_of(&rt, row, "the output", text.as_slice(), wanted);
     }
+    Ok(())
+}
+
+/// Definitions: dm_gdb Servers Replies step_reply arrival_reply with_inserted with_removed
+/// Definitions: dm_gdb Replies watch_text watch_name
+/// Definitions: dm_target Going Continues
+/// Definitions: dm_target Watching Hits is_touched is_changed by_access is_in_range bytes_there
+/// Definitions: dm_target Points with_point without_point
+#[test]
+fn watched_bytes_stop_a_program(rt: HostRuntime) -> Result<(), Fail> {
+    play(&rt, rt.alloc(), WATCHED, 100, &WATCHES)?;
     Ok(())
 }
 
@@ -230,7 +286,7 @@ fn other_stops_are_signals(rt: HostRuntime) -> Result<(), Fail> {
 }
 
 /// Definitions: dm_gdb Servers registers_after setting_reply with_registers
-/// Definitions: dm_gdb Settings registers_with with_value place_for value_of
+/// Definitions: dm_target Settings registers_with with_value place_for value_of
 #[test]
 fn registers_are_set(rt: HostRuntime) -> Result<(), Fail> {
     play(&rt, rt.alloc(), HELLO, 100, &SETTINGS)?;

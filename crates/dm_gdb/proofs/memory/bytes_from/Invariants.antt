@@ -1,7 +1,0 @@
-use Rattle.std.proofs.Common.{◌≡◌}
-use Rattle.dm_views.specs.Digits.{in_turn}
-use Rattle.dm_gdb.specs.Memory.{one_byte}
-use Rattle.dm_gdb.proofs.memory.bytes_from.Given as goal
-
-abbrev pub invariant-loop-k : goal.invariant-loop-k
-invariant-loop-k l = l.bytes.items ≡ in_turn (one_byte l.space.memory l.address) l.k

@@ -1,0 +1,10 @@
+use Rattle.std.proofs.Common.{◌≡◌, ◌+◌, ◌-◌, ◌≤◌}
+use Rattle.dm_target.specs.Going.{Passes}
+use Rattle.dm_target.proofs.going.go_marked.Given as goal
+
+abbrev pub invariant-loop : goal.invariant-loop
+invariant-loop l = record {
+  counted : l.left + l.counter ≤ l.most;
+  passes : Passes l.points l.watches l.span l.initial.session.machine (l.most - l.left) l.session.machine;
+  kept : l.session.points ≡ l.initial.session.points;
+}

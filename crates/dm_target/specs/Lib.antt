@@ -1,0 +1,7 @@
+pub mod Memory
+pub mod Registers
+pub mod Settings
+pub mod Watching
+pub mod Going
+pub mod Points
+pub mod inner
