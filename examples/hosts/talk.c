@@ -16,7 +16,7 @@ static const char guest[] =
     /* The count of the line's bytes is byte 1 of the buffer, and they follow. */
     "MOV BX,1\nMOV CL,[buffer+1]\nMOV CH,0\nMOV DX,buffer+2\nMOV AH,40h\nINT 21h\n"
     "MOV AL,[buffer+1]\nMOV AH,4Ch\nINT 21h\n"
-    "question: DB 'Your name? $'\nother: DB 'Who? $'\nhello: DB 13,10,'Hello, $'\nbuffer: DB 32\n";
+    "question: DB 'Your name? $'\nother: DB 'Who? $'\nhello: DB 10,'Hello, $'\nbuffer: DB 32\n";
 
 static void must(const char *what, mezguld_status status)
 {

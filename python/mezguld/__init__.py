@@ -29,8 +29,8 @@ import time
 from typing import Any, Callable, Iterable, NamedTuple, NoReturn
 
 __all__ = [
-    "Block", "Blocks", "Error", "Expanded", "Extended", "ExtendedBlock", "Instruction", "Machine", "PageHandle", "Registers", "Stop", "Stopped", "UpperBlock",
-    "Window", "assemble", "disassemble",
+    "Block", "Blocks", "Error", "Expanded", "Extended", "ExtendedBlock", "Finding", "Findings", "Instruction", "Machine", "PageHandle", "Registers", "Stop",
+    "Stopped", "UpperBlock", "Window", "assemble", "disassemble", "findings",
     "BadFormat", "BadName", "BreakpointsFull", "CommandSyntax", "InputClosed", "LineRange", "LineRefused", "LineSyntax", "LineTwice", "LineUnknown", "NameTwice",
     "NoMachine", "NotFound", "NotLoaded", "OutOfMemory", "Short", "Started", "TailTooLong", "TooLarge", "TooLong", "VariablesTooLong", "__version__",
 ]
@@ -343,6 +343,56 @@ class Instruction(NamedTuple):
         return f"Instruction(segment=0x{self.segment:04X}, offset=0x{self.offset:04X}, data={self.data!r}, text={self.text!r})"
 
 
+class Finding(NamedTuple):
+    """A finding of a checked run: `error` or `note`, the step, the place of the instruction or call (`before` it, where only the address after a call is
+    known), the instruction or call, and what was found; `more` is how often it came again, and `last` the step of the last time."""
+
+    kind: str
+    step: int
+    segment: int
+    offset: int
+    before: bool
+    act: str
+    text: str
+    more: int
+    last: int
+
+
+class Findings(list):
+    """The findings of a report that are listed, in their order; `errors` and `notes` count all, and `unlisted` those that are left out."""
+
+    def __init__(self, found: Iterable[Finding] = (), errors: int = 0, notes: int = 0, unlisted: int = 0) -> None:
+        super().__init__(found)
+        self.errors, self.notes, self.unlisted = errors, notes, unlisted
+
+    def __repr__(self) -> str:
+        return f"Findings({super().__repr__()}, errors={self.errors}, notes={self.notes}, unlisted={self.unlisted})"
+
+
+_FINDING = re.compile(r"(error|note): step (\d+), (before )?([0-9A-F]{4}):([0-9A-F]{4}) (.*?): (.*)")
+_AGAIN = re.compile(r"again: step (\d+), (before )?([0-9A-F]{4}):([0-9A-F]{4}) (.*?): (.*): (\d+) more, the last at step (\d+)")
+_COUNTS, _UNLISTED = re.compile(r"errors: (\d+), notes: (\d+)"), re.compile(r"not listed: (\d+) findings?")
+
+
+def findings(report: str) -> Findings:
+    """The findings of a report, which `Machine.check` returns beside the stop. Lines of another form are passed over."""
+    listed = Findings()
+    for line in report.splitlines():
+        found, again, counts, unlisted = (it.fullmatch(line) for it in (_FINDING, _AGAIN, _COUNTS, _UNLISTED))
+        if found:
+            kind, step, before, segment, offset, act, text = found.groups()
+            listed.append(Finding(kind, int(step), int(segment, 16), int(offset, 16), before is not None, act, text, 0, int(step)))
+        elif again:
+            step, before, segment, offset, act, text, more, last = again.groups()
+            same = int(step), int(segment, 16), int(offset, 16), before is not None, act, text
+            listed[:] = [it._replace(more=int(more), last=int(last)) if it[1:7] == same else it for it in listed]
+        elif counts:
+            listed.errors, listed.notes = int(counts[1]), int(counts[2])
+        elif unlisted:
+            listed.unlisted = int(unlisted[1])
+    return listed
+
+
 # ---- the library
 
 
@@ -567,7 +617,11 @@ def _served(work: Callable[[Callable[[], bool]], Any], steps: int, left: list[th
 
 
 class Machine:
-    """A machine: programs are added, one of them is loaded and run, and what the machine holds is read.
+    """A machine: programs are added, one of them is loaded and run, and what the machine holds is read and changed.
+
+    After `add` and `load` it runs by `run`, or up to breakpoints by `run_until`, as often as you like. Between two runs `registers`, `read`, `output`, `blocks`
+    and others tell its state; `registers` can be set, `write` changes memory, and `supply` adds input where `load(.., more=True)` has left it open.
+    `copy.copy(machine)` is a snapshot. `check` runs under the memory checker, and `command` does what a line of the debugger says.
 
     Threads may share it: a call waits until the one before it has ended. `close` frees it, and waits too; so does the end of a `with` block. After
     Ctrl-C in a run the machine is as after some of its steps, and can go on. `copy.copy` makes a second machine in the same state, as a snapshot.
@@ -728,8 +782,7 @@ class Machine:
         """Makes at most so many steps, and stops with `Stop.BREAKPOINT` after the first that leads to one of the breakpoints, exact pairs of CS and IP.
         Where the run begins is no breakpoint to it. `NotLoaded`; `OutOfMemory`, after which some of the steps may be made. Ctrl-C is as in `run`.
 
-        To stop at each call of interrupt `n`, before it acts, give where its vector leads: `offset, segment = struct.unpack("<HH", machine.read(0, 4 * n, 4))`.
-        """
+        To stop at each call of an interrupt, before it acts, give where its vector leads: `machine.run_until(steps, [machine.vector(0x21)])`."""
         return self._run(_library.mezguld_run_until, _number(steps, _MOST_STEPS, "steps"), *_points(breakpoints))
 
     @property
@@ -759,6 +812,11 @@ class Machine:
         buffer = ctypes.create_string_buffer(count + 1)
         self._call(_library.mezguld_read, segment, offset, buffer, count)
         return buffer.raw[:count]
+
+    def vector(self, interrupt: int) -> tuple[int, int]:
+        """Where the vector of an interrupt leads: its segment and offset, as a breakpoint. `NotLoaded`."""
+        words = self.read(0, 4 * _number(interrupt, 0xFF, "the interrupt"), 4)
+        return int.from_bytes(words[2:], "little"), int.from_bytes(words[:2], "little")
 
     def write(self, segment: int, offset: int, data: bytes) -> None:
         """Writes bytes from segment:offset on; offsets wrap in their segment. Bytes of the ROM, and where there is no memory, stay. `NotLoaded`."""
@@ -797,7 +855,7 @@ class Machine:
 
     def check(self, steps: int) -> tuple[Stopped, str]:
         """Makes at most so many steps, as `run`, under the memory checker, and returns the text of its report, with the line about the stop,
-        beside the stop.
+        beside the stop. `findings` reads the report.
 
         `NotLoaded`; `OutOfMemory`, after which any part of the run was made. Ctrl-C comes at once, but the run is made to its end, since a report is of a
         whole run. Later calls wait for that; `close` does not, and the machine is freed then.

@@ -19,6 +19,7 @@ from concurrent.futures import ThreadPoolExecutor
 from typing import Any, Callable, Iterator, NamedTuple
 
 from . import Machine, Registers, Stop, __version__, _library, _PARAMETERS, _Point, _Registers, _Stopped, _check
+from . import findings as listed_in
 
 __all__ = ["Options", "Program", "data", "page", "record", "write"]
 
@@ -57,8 +58,6 @@ MOST_MOMENTS, MOST_SIZE = 24_000, 3_700_000
 STOPS = tuple(sorted(Stop, key=lambda it: it.value))
 COLUMNS = ("step", "name", "caller", "process", "text", "refused", "M", "P", "X")
 ENDS = {Stop.INPUT_ENDED: "input ended"}
-FINDING = re.compile(r"(error|note): step (\d+), ((?:before )?[0-9A-F]{4}:[0-9A-F]{4}) (.*?): (.*)")
-AGAIN = re.compile(r"again: step (\d+), (.*): (\d+) more, the last at step (\d+)")
 PLACE = re.compile(r"(?:header|block|destroyed) at ([0-9A-F]{4})")
 
 
@@ -100,23 +99,14 @@ def loaded(programs: list[Program], options: Options) -> Machine:
 
 
 def findings_of(report: str) -> list[dict[str, Any]]:
-    """The findings of a report of the checker, in their order, with how often each was repeated."""
-    findings: list[dict[str, Any]] = []
-    for line in report.splitlines():
-        found = FINDING.fullmatch(line)
-        if found:
-            kind, step, site, act, text = found.groups()
-            place = PLACE.search(text)
-            segment = place[1] if place else None
-            findings.append({"kind": kind, "step": int(step), "site": site, "act": act, "text": text, "segment": segment, "more": 0, "last": int(step)})
-            continue
-        again = AGAIN.fullmatch(line)
-        if again:
-            step, rest, more, last = again.groups()
-            for it in findings:
-                if it["step"] == int(step) and f"{it['site']} {it['act']}: {it['text']}" == rest:
-                    it["more"], it["last"] = int(more), int(last)
-    return findings
+    """The findings of a report of the checker, in their order, with how often each was repeated, as the page's data has them."""
+    found: list[dict[str, Any]] = []
+    for it in listed_in(report):
+        place = PLACE.search(it.text)
+        site = f"{'before ' if it.before else ''}{it.segment:04X}:{it.offset:04X}"
+        segment = place[1] if place else None
+        found.append({"kind": it.kind, "step": it.step, "site": site, "act": it.act, "text": it.text, "segment": segment, "more": it.more, "last": it.last})
+    return found
 
 
 # ---- a machine that is looked at often

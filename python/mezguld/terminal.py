@@ -396,7 +396,7 @@ class Run:
             return
         # (A key that was supplied to a poll begins the line; it is not erased.)
         left = self._machine.input_left
-        first = self._fed[len(self._fed) - left :] if left else b""
+        first = self._fed[len(self._fed) - left :] if left and not self._is_line else b""
         line = Line(max(room - len(first), 0), self._console.echo)
         self._console.echo(first.rstrip(b"\r"))
         if ENTER not in first and not self._is_typed(line):

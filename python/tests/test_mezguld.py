@@ -161,8 +161,8 @@ class SetRegisters(unittest.TestCase):
 
     def test_a_call_is_changed_before_it_acts(self) -> None:
         with started("MOV AH,2\nMOV DL,41h\nINT 21h\n" + END) as machine:
-            offset, segment = (int.from_bytes(machine.read(0, 0x84 + at, 2), "little") for at in (0, 2))
-            self.assertEqual(machine.run_until(100, [(segment, offset)]).why, Stop.BREAKPOINT)
+            self.assertEqual(machine.vector(0x21), (0xF000, 0x0084))
+            self.assertEqual(machine.run_until(100, [machine.vector(0x21)]).why, Stop.BREAKPOINT)
             machine.registers = machine.registers._replace(dx=0x42)
             self.assertEqual(machine.run(100), Stopped(Stop.EXITED, 7))
             self.assertEqual(machine.output(), b"B")
@@ -200,6 +200,32 @@ class Memory(unittest.TestCase):
             self.assertEqual(repr(machine.blocks()[0]), "Block(segment=0x0100, last=False, owner=0x0103, size=1)")
             self.assertEqual(str(machine.registers)[:31], "Registers(ax=0x0000, bx=0x0000,")
             self.assertIn("sp=0xFFFE", f"{machine.registers}")
+
+
+class Reports(unittest.TestCase):
+    """What a report of the checker says, as findings."""
+
+    def test_of_a_run(self) -> None:
+        # Writes over the header at 0102h, calls 48h three times at one place, and ends.
+        text = "MOV AX,102h\nMOV ES,AX\nES MOV BYTE [0],0\nMOV CX,3\nnext: MOV AH,48h\nMOV BX,1\nINT 21h\nLOOP next\nHLT\n"
+        with started(text) as machine:
+            stopped, report = machine.check(1000)
+        found = mezguld.findings(report)
+        self.assertEqual(stopped.why, Stop.HALTED)
+        self.assertEqual((found.errors, found.notes, found.unlisted, len(found)), (2, 3, 0, 3))
+        self.assertEqual([(it.kind, it.step, it.segment, it.offset, it.before) for it in found[:2]], [("error", 3, 0x0103, 0x0105, False)] * 2)
+        self.assertEqual([it.act for it in found[:2]], ["ES MOV BYTE [00000h],000h"] * 2)
+        self.assertEqual([it.text for it in found[:2]], ["header at 0102 overwritten: 5A 0103 9EFD became 00 0103 9EFD", "arena destroyed at 0102"])
+        self.assertEqual((found[2].kind, found[2].more, found[2].text), ("note", 2, "refused with code 07h, no valid block list"))
+        self.assertGreater(found[2].last, found[2].step)
+
+    def test_of_other_texts(self) -> None:
+        for text in ("", "\n", "no report", "error: step x", "again: step 5, 0103:0100 NOP: x: 1 more, the last at step 9"):
+            self.assertEqual(mezguld.findings(text), [])
+        found = mezguld.findings("not listed: 1 finding\nerrors: 101, notes: 0\n")
+        self.assertEqual((found, found.errors, found.notes, found.unlisted), ([], 101, 0, 1))
+        found = mezguld.findings("note: step 7, before 0103:0109 call of the driver: refused with code A0h\nerrors: 0, notes: 1\n")
+        self.assertEqual(found, [("note", 7, 0x0103, 0x0109, True, "call of the driver", "refused with code A0h", 0, 7)])
 
 
 # Allocates two pages, names their handle and maps the second one into window 1; allocates 16 KiB and 8 paragraphs by the driver of extended memory.
@@ -347,6 +373,7 @@ CALLS = {
     "command": lambda machine: machine.command("R"),
     "command G": lambda machine: machine.command("G 3"),
     "blocks": lambda machine: machine.blocks(),
+    "vector": lambda machine: machine.vector(0x67),
     "expanded": lambda machine: machine.expanded(),
     "extended": lambda machine: machine.extended(),
     "code": lambda machine: machine.code(0x0103, 0x0100, 3),
@@ -483,8 +510,12 @@ class WrongArguments(unittest.TestCase):
                 self.refuses(TypeError, setattr, machine, "registers", other)
             self.assertEqual(machine.registers, before)
 
-    def test_starts_of_output(self) -> None:
+    def test_starts_of_output_and_interrupts(self) -> None:
         with started(END) as machine:
+            for number in (*self.NUMBERS, 256):
+                self.refuses(ValueError, machine.vector, number)
+            for other in self.NO_NUMBERS:
+                self.refuses(TypeError, machine.vector, other)
             for number in self.NUMBERS:
                 self.refuses(ValueError, machine.output, number)
             for other in self.NO_NUMBERS:

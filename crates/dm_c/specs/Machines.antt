@@ -14,7 +14,7 @@ use Rattle.dm_host.specs.Setups.{IsNewFault}
 use Rattle.dm_host.specs.Hosts.{Hosted, new_host, Works, Shows, IsNotLoaded}
 use Rattle.dm_host.specs.Loading.{Adds, IsUnadded, Loads, IsUnloaded}
 use Rattle.dm_host.specs.Memory.{bytes_at}
-use Rattle.dm_host.specs.Input.{SetsMore, SetsRegisters, Supplies, IsUnsupplied}
+use Rattle.dm_host.specs.Input.{SetsMore, Supplies, IsUnsupplied}
 use Rattle.dm_host.specs.Commands.{IsCommanded, IsUncommanded}
 use Rattle.dm_host.specs.Checking.{Checks, IsUnchecked}
 use Rattle.dm_c.specs.declared.values.Stopped.{Stopped}
@@ -71,7 +71,8 @@ RegistersTo h before after status g = IsDoneOrRefused status (Shows h (λ s. aft
 
 -- `mezguld_set_registers`: the registers and flags are set; if no program is loaded, nothing changes
 abbrev pub SetsRegistersTo : Hosted → Registers → ℕ → Hosted → Type 0
-SetsRegistersTo h registers status g = IsDoneOrRefused status (SetsRegisters h (cpu_of registers) g) (λ why. IsNotLoaded h why × (g ≡ h))
+SetsRegistersTo h registers status g =
+    IsDoneOrRefused status (Works h (λ s t. t ≡ with_machine s (record s.machine { cpu = cpu_of registers })) g) (λ why. IsNotLoaded h why × (g ≡ h))
 
 -- `mezguld_read`: the bytes of memory from segment:offset on fill the buffer; if no program is loaded, nothing changes
 abbrev pub ReadsTo : Hosted → ℕ → ℕ → List ℕ → List ℕ → ℕ → Hosted → Type 0

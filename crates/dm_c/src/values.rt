@@ -174,11 +174,7 @@ pub(crate) fn points_of(alloc: Global, points: &[Point]) -> Result<Vec<Breakpoin
 pub(crate) fn rest_of(bytes: &[u8], from: usize) -> &[u8]
     ensures { result.now ≡ drop from bytes.now }
 {
-    if from < bytes.len() {
-        &bytes[from..]
-    } else {
-        &[]
-    }
+    &bytes[from.min(bytes.len())..]
 }
 
 /// The end of the calls for output, answer, assembly and disassembly: sets `wanted` to the number of bytes. If they

@@ -14,7 +14,7 @@ use Rattle.dm_history.proofs.Keeping.{way-on}
 
 within-goes : (ps : List Breakpoint) (s t : State) (n : ℕ) → GoesWithin ps s n t → Goes s n t
 within-goes ps s _ _ here = run.here
-within-goes ps s _ _ (further n t u g h e f) = run.further n t u (within-goes ps s t n g) h
+within-goes ps s _ _ (further n t u g h e l f) = run.further n t u (within-goes ps s t n g) h
 
 near-goes : (ps : List Breakpoint) (s t : State) (n : ℕ) → GoesNear ps s n t → Goes s n t
 near-goes ps s _ _ start = run.here

@@ -1,6 +1,5 @@
--- Console input that comes while a host's program runs, and the registers that a host sets.
+-- Console input that comes while a host's program runs.
 use Rattle.std.specs.Prelude.{◌≡◌, Bool, true, false, List, ℕ}
-use Rattle.dm_cpu.specs.declared.cpu.Cpu.{Cpu}
 use Rattle.dm_state.specs.State.{State}
 use Rattle.dm_debug.specs.Debugged.{Debugged}
 use Rattle.dm_debug.specs.Sessions.{with_machine}
@@ -12,10 +11,6 @@ use Rattle.dm_host.specs.Hosts.{Hosted, Works, Shows, IsNotLoaded}
 -- the program's input is opened (true) or closed (false) in the host h, which becomes g
 abbrev pub SetsMore : Hosted → Bool → Hosted → Type 0
 SetsMore h more g = Works h (λ s t. t ≡ with_machine s (with_more s.machine more)) g
-
--- the registers and flags are set in the host h, which becomes g
-abbrev pub SetsRegisters : Hosted → Cpu → Hosted → Type 0
-SetsRegisters h registers g = Works h (λ s t. t ≡ with_machine s (record s.machine { cpu = registers })) g
 
 -- the program's input is open in the host h, and these bytes are added to its end; the host becomes g
 abbrev pub Supplies : Hosted → List ℕ → Hosted → Type 0

@@ -1,7 +1,8 @@
 //! Console input that comes while a host's program runs, and setting its registers.
 ghost use Rattle.std.specs.Prelude.{◌≡◌, true, false, OnOk, OnErr, IfOk, IfErr, length};
-ghost use Rattle.dm_host.specs.Hosts.{Shows, IsNotLoaded};
-ghost use Rattle.dm_host.specs.Input.{SetsMore, SetsRegisters, Supplies, IsUnsupplied};
+ghost use Rattle.dm_debug.specs.Sessions.{with_machine};
+ghost use Rattle.dm_host.specs.Hosts.{Works, Shows, IsNotLoaded};
+ghost use Rattle.dm_host.specs.Input.{SetsMore, Supplies, IsUnsupplied};
 
 use crate::host::{Host, Stage};
 use crate::refusal::Refusal;
@@ -85,7 +86,7 @@ impl Host {
     ///
     /// `NotLoaded` exactly where no program is loaded; then nothing has changed.
     pub fn set_registers(&mut self, registers: Cpu) -> Result<(), Refusal>
-        ensures ok { OnOk result (SetsRegisters self.old registers self.new) }
+        ensures ok { OnOk result (Works self.old (λ s t. t ≡ with_machine s (record s.machine { cpu = registers })) self.new) }
         ensures err { IfErr result (λ e. IsNotLoaded self.old e × (self.new ≡ self.old)) }
     {
         let Stage::Loaded(session) = &mut self.stage else {
