@@ -242,20 +242,36 @@ fn replies(
     Ok(())
 }
 
-/// Plays rows with a server over a program, at most `most` steps to a request. Returns the server.
+/// A server over a program.
+fn server_over(alloc: Global, program: &[u8]) -> Result<Server, Fail> {
+    let machine = loaded_as(alloc, b"HI.COM", program, b"")?;
+    Ok(Server::new(alloc, machine, 2)?)
+}
+
+/// Plays rows with a server, at most `most` steps to a request.
+fn play_with(
+    rt: &impl Abort,
+    alloc: Global,
+    server: &mut Server,
+    most: u64,
+    rows: &[Row],
+) -> Result<(), Fail> {
+    for row in rows {
+        replies(rt, alloc, server, most, *row)?;
+    }
+    Ok(())
+}
+
+/// Plays rows with a server over a program, at most `most` steps to a request.
 fn play(
     rt: &impl Abort,
     alloc: Global,
     program: &[u8],
     most: u64,
     rows: &[Row],
-) -> Result<Server, Fail> {
-    let machine = loaded_as(alloc, b"HI.COM", program, b"")?;
-    let mut server = Server::new(alloc, machine, 2)?;
-    for row in rows {
-        replies(rt, alloc, &mut server, most, *row)?;
-    }
-    Ok(server)
+) -> Result<(), Fail> {
+    let mut server = server_over(alloc, program)?;
+    play_with(rt, alloc, &mut server, most, rows)
 }
 
 /// Definitions: dm_gdb Servers Replies plain_reply register_reply memory_reply base_of threads_reply
@@ -264,7 +280,17 @@ fn play(
 /// Definitions: dm_target Memory readable byte_at
 #[test]
 fn requests_are_replied_at_the_start(rt: HostRuntime) -> Result<(), Fail> {
-    play(&rt, rt.alloc(), HELLO, 100, &START)?;
+    play(&rt, rt.alloc(), HELLO, 100, &START)
+}
+
+/// Plays RUN, and asks twice for the output.
+fn ends(rt: &impl Abort, alloc: Global, server: &mut Server) -> Result<(), Fail> {
+    play_with(rt, alloc, server, 100, &RUN)?;
+    for (row, wanted) in [("first", b"O6869".as_slice()), ("second", b"".as_slice())] {
+        let mut text = Vec::new(alloc);
+        server.put_console(&mut text)?;
+        same_of(rt, row, "the output", text.as_slice(), wanted);
+    }
     Ok(())
 }
 
@@ -272,13 +298,8 @@ fn requests_are_replied_at_the_start(rt: HostRuntime) -> Result<(), Fail> {
 /// Definitions: dm_target Going Continues has_arrived
 #[test]
 fn a_program_is_debugged_to_its_end(rt: HostRuntime) -> Result<(), Fail> {
-    let mut server = play(&rt, rt.alloc(), HELLO, 100, &RUN)?;
-    for (row, wanted) in [("first", b"O6869".as_slice()), ("second", b"".as_slice())] {
-        let mut text = Vec::new(rt.alloc());
-        server.put_console(&mut text)?;
-        same_of(&rt, row, "the output", text.as_slice(), wanted);
-    }
-    Ok(())
+    let mut server = server_over(rt.alloc(), HELLO)?;
+    ends(&rt, rt.alloc(), &mut server)
 }
 
 /// Definitions: dm_gdb Servers Replies back_reply with_past restarted with_written with_registers
@@ -288,8 +309,7 @@ fn a_program_is_debugged_to_its_end(rt: HostRuntime) -> Result<(), Fail> {
 /// Definitions: dm_history Pasts with_change GoesBack
 #[test]
 fn a_program_goes_back(rt: HostRuntime) -> Result<(), Fail> {
-    play(&rt, rt.alloc(), HELLO, 100, &BACK)?;
-    Ok(())
+    play(&rt, rt.alloc(), HELLO, 100, &BACK)
 }
 
 /// Definitions: dm_gdb Servers Replies step_reply arrival_reply with_inserted with_removed
@@ -299,8 +319,7 @@ fn a_program_goes_back(rt: HostRuntime) -> Result<(), Fail> {
 /// Definitions: dm_target Points with_point without_point
 #[test]
 fn watched_bytes_stop_a_program(rt: HostRuntime) -> Result<(), Fail> {
-    play(&rt, rt.alloc(), WATCHED, 100, &WATCHES)?;
-    Ok(())
+    play(&rt, rt.alloc(), WATCHED, 100, &WATCHES)
 }
 
 /// Definitions: dm_gdb Replies stop_reply reply_text
@@ -334,8 +353,7 @@ fn other_stops_are_signals(rt: HostRuntime) -> Result<(), Fail> {
 /// Definitions: dm_target Settings registers_with with_value place_for value_of
 #[test]
 fn registers_are_set(rt: HostRuntime) -> Result<(), Fail> {
-    play(&rt, rt.alloc(), HELLO, 100, &SETTINGS)?;
-    Ok(())
+    play(&rt, rt.alloc(), HELLO, 100, &SETTINGS)
 }
 
 /// Definitions: dm_gdb Monitor is_shown step_of text_reply stepped_reply
@@ -343,8 +361,21 @@ fn registers_are_set(rt: HostRuntime) -> Result<(), Fail> {
 #[test]
 fn commands_are_handed_on(rt: HostRuntime) -> Result<(), Fail> {
     play(&rt, rt.alloc(), HELLO, 100, &COMMANDS)?;
-    play(&rt, rt.alloc(), HELLO, 100, &ENDED)?;
-    Ok(())
+    play(&rt, rt.alloc(), HELLO, 100, &ENDED)
+}
+
+/// What a conversation sends for a stream, with at most `most` steps to a request.
+fn sent_for(
+    alloc: Global,
+    connection: &mut Connection,
+    most: u64,
+    stream: &[u8],
+) -> Result<Vec<u8>, Fail> {
+    let mut sent = Vec::new(alloc);
+    for byte in stream {
+        connection.take(*byte, most, &mut sent)?;
+    }
+    Ok(sent)
 }
 
 /// What a conversation sends for a stream, with at most `most` steps to a request; and whether it is over.
@@ -357,10 +388,7 @@ fn sends(
 ) -> Result<(), Fail> {
     let machine = loaded_as(alloc, b"HI.COM", HELLO, b"")?;
     let mut connection = Connection::new(alloc, machine, 2)?;
-    let mut sent = Vec::new(alloc);
-    for byte in stream {
-        connection.take(*byte, most, &mut sent)?;
-    }
+    let sent = sent_for(alloc, &mut connection, most, stream)?;
     same_of(rt, "a stream", "what is sent", sent.as_slice(), wanted);
     same_of(
         rt,
