@@ -19,7 +19,7 @@ pub returns-in_default-clause-reads : goal.returns-in_default-clause-reads
 returns-in_default-clause-reads g c = all_read (read_ok _ _ c.in_ok-machine.ensures.reads) tt
 
 pub returns-clause-does : goal.returns-clause-does
-returns-clause-does g c = serves_with _ _ _ _ _ _ _ _ _ c.in_ok-machine.ensures.started (rw c.new-connection.ensures at c.serve_with.ensures)
+returns-clause-does g c = serves_with _ _ _ _ _ _ _ _ _ c.in_ok-machine.ensures.started (rw c.in-Ok.ensures at c.serve_with.ensures)
 
 pub returns-in_err-machine-clause-reads : goal.returns-in_err-machine-clause-reads
 returns-in_err-machine-clause-reads g c =
