@@ -31,12 +31,13 @@ const COPIES: u64 = 64 << 20;
 /// The bytes that a copy takes besides those of expanded and extended memory, or some more: 7 MiB.
 const COPY: u64 = 7 << 20;
 
-/// How many copies of a machine with this much expanded and extended memory are kept, besides that of its start.
+/// How many copies of a machine with this much expanded and extended memory are kept on its way. Room is left for that of
+/// its start, and for two that are made when it goes back.
 fn copies_of(ems_pages: u32, xms_kib: u32) -> usize
     ensures most { result ≤ 8 }
 {
     let size = COPY + ems_pages as u64 * 0x4000 + xms_kib as u64 * 0x400;
-    (COPIES / size).saturating_sub(1) as usize
+    (COPIES / size).saturating_sub(3) as usize
 }
 
 /// The next byte of a reader; None at its end. `CannotRead` if the read failed, `OutOfMemory`.
