@@ -27,6 +27,9 @@ use Rattle.dm_gdb.specs.Monitor.{is_shown, is_shown_line, step_of, text_reply, s
 use Rattle.dm_target.specs.declared.going.Pause.{Pause}
 use Rattle.dm_target.specs.declared.going.Pause.TheVariants as pause
 use Rattle.dm_target.specs.Going.{is_among, place_of, Continues}
+use Rattle.dm_target.specs.declared.undoing.Undone.{Undone}
+use Rattle.dm_target.specs.declared.undoing.Undone.TheVariants as undone
+use Rattle.dm_target.specs.Undoing.{Undoes}
 use Rattle.dm_target.specs.Points.{Set, none_set, with_point, without_point}
 use Rattle.dm_gdb.specs.Replies.{stop_reply}
 
@@ -126,9 +129,11 @@ with_past s q = record s { history = q; ended = false }
 abbrev pub restarted : Served → Served
 restarted s = record s { history = new_past s.history.origin; shown = 0; ended = false }
 
--- the reply where going back ended in this state
-abbrev pub back_reply : List ℕ → State → Reply
-back_reply breaks t = if is_among breaks (place_of t) then reply.Breakpoint else reply.Signal 0x05
+-- the reply where going back a step ended in this state
+abbrev pub undone_reply : List ℕ → Undone → State → Reply
+undone_reply breaks undone.Begun t = reply.Begun
+undone_reply breaks (undone.Hit point) t = reply.Watch point
+undone_reply breaks undone.Back t = if is_among breaks (place_of t) then reply.Breakpoint else reply.Signal 0x05
 
 -- the threads: one, and none once the program has ended
 abbrev pub threads_reply : Bool → Reply
@@ -193,9 +198,7 @@ pub data Replies (s : Served) (most : ℕ) : Request → Reply → Served → Ty
       → Replies s most (request.Command line) (stepped_reply why) (at_state s t)
   goes_back : (line : List ℕ) (n : ℕ) (q : Past) → step_of line ≡ Some n → n < s.history.machine.steps → GoesBack s.history n q → Replies s most (request.Command line) reply.Done (with_past s q)
   has_passed : (line : List ℕ) (n : ℕ) → step_of line ≡ Some n → n < s.history.origin.steps → Replies s most (request.Command line) reply.Passed s
-  steps_back : (q : Past) → s.history.origin.steps < s.history.machine.steps → GoesBack s.history (s.history.machine.steps - 1) q
-      → Replies s most request.StepBack (back_reply s.points.breaks q.machine) (with_past s q)
-  has_begun : s.history.machine.steps ≤ s.history.origin.steps → Replies s most request.StepBack reply.Begun s
+  steps_back : (what : Undone) (q : Past) → Undoes s.points.watches s.history what q → Replies s most request.StepBack (undone_reply s.points.breaks what q.machine) (with_past s q)
   restarts : Replies s most request.Restart (reply.Signal 0x05) (restarted s)
   steps : (why : Pause) (t : State) → Continues s.points.breaks s.points.watches None s.history.machine 1 why t
       → Replies s most request.Step (step_reply s.points.breaks why t) (gone s (step_reply s.points.breaks why t) t)

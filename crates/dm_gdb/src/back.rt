@@ -2,43 +2,43 @@
 
 ghost use Rattle.std.specs.Prelude.{◌≡◌, ◌<◌, ℕ, Some, IfOk, OnErr};
 ghost use Rattle.dm_gdb.specs.Monitor.{step_of};
-ghost use Rattle.dm_gdb.specs.Servers.{Replies, back_reply};
+ghost use Rattle.dm_gdb.specs.Servers.{Replies, undone_reply};
 ghost use Rattle.dm_requests.specs.declared.request.Request.TheVariants as request;
 
 use crate::replies::Reply;
 use crate::server::Server;
 use dm_machine::Machine;
-use dm_target::{is_among, place_of};
+use dm_target::{Undone, is_among, place_of, step_back};
 use std::alloc::AllocError;
 
-/// The reply where going back ended.
-fn back_reply(breaks: &[u32], machine: &Machine) -> Reply
-    ensures { result ≡ back_reply breaks.now machine.now }
+/// The reply where going back a step ended.
+fn undone_reply(breaks: &[u32], undone: Undone, machine: &Machine) -> Reply
+    ensures { result ≡ undone_reply breaks.now undone machine.now }
 {
-    if is_among(breaks, place_of(machine)) {
-        Reply::Breakpoint
-    } else {
-        Reply::Signal(0x05)
+    match undone {
+        Undone::Begun => Reply::Begun,
+        Undone::Hit(point) => Reply::Watch(point),
+        Undone::Back => {
+            if is_among(breaks, place_of(machine)) {
+                Reply::Breakpoint
+            } else {
+                Reply::Signal(0x05)
+            }
+        }
     }
 }
 
 impl Server {
-    /// `bs`: goes back a step, with what the user changed up to then, and returns the reply. An `Err` is a failed allocation,
-    /// and nothing has changed.
+    /// `bs`: goes back a step, with what the user changed up to then, and returns the reply: a step that hit a watchpoint is
+    /// replied as its hit. An `Err` is a failed allocation, and nothing has changed.
     pub(crate) fn step_back(&mut self) -> Result<Reply, AllocError>
         ensures ok { IfOk result (λ r. (most : ℕ) → Replies self.old most request.StepBack r self.new) }
         ensures err { OnErr result (self.new ≡ self.old) }
     {
-        let now = self.history.machine().steps();
-        if now <= self.history.steps_of_origin() {
-            return Ok(Reply::Begun);
-        }
-        if !self.history.go_back_to(now - 1)? {
-            // (It always goes back: the history began before.)
-            return Ok(Reply::Begun);
-        }
+        let undone = step_back(self.alloc, &mut self.history, self.points.watches())?;
         self.is_ended = false;
-        Ok(back_reply(self.points.breaks(), self.history.machine()))
+        let breaks = self.points.breaks();
+        Ok(undone_reply(breaks, undone, self.history.machine()))
     }
 
     /// `monitor step N`, where the step lies before the present one: goes back to it, and returns the reply. An `Err` is a

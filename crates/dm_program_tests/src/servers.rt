@@ -149,8 +149,8 @@ const RUN: [Row; 18] = [
 
 /// Two steps with edits before, between and behind them, and back: the edits of a step come back with it, and later ones are
 /// gone. Back over INT 21h, which pushes six bytes from 1102Eh down, the flags highest. Then the program starts again, without
-/// edits.
-const BACK: [Row; 28] = [
+/// edits; INT 21h hits a watchpoint on what it pushes, forwards and back.
+const BACK: [Row; 34] = [
     ("M20000,1:41", "OK"),
     ("s", "T05"),
     ("M20001,1:42", "OK"),
@@ -179,6 +179,12 @@ const BACK: [Row; 28] = [
     ("vRun;", "T05"),
     ("p22", "0000000000000000"),
     ("m20000,3", "000000"),
+    ("Z2,1102c,1", "OK"),
+    ("s", "T05swbreak:;"),
+    ("s", "T05"),
+    ("s", "T05watch:0001102c;"),
+    ("bs", "T05watch:0001102c;"),
+    ("p22", "0200000000000000"),
 ];
 
 /// MOV AL,5; MOV [0120h],AL; MOV BL,[0120h]; MOV SI,0120h; MOV DI,0130h; MOV CX,3; REP MOVSB; MOV BX,40h; MOV AH,4Ah;
@@ -189,7 +195,7 @@ const WATCHED: &[u8] =
 /// A byte that is written, then read; the second repetition of REP MOVSB reads 1151h, with one left, and the third writes
 /// 1162h; function 4Ah writes the header's size at 1023h. Empty ranges, and addresses past FFFF:FFFF, are never hit; the bytes
 /// of the instructions do not count, and a byte that is removed no longer does.
-const WATCHES: [Row; 34] = [
+const WATCHES: [Row; 37] = [
     ("Z3,1130,20", "OK"),
     ("Z2,1150,0", "OK"),
     ("Z2,10fff0,1", "OK"),
@@ -219,6 +225,9 @@ const WATCHES: [Row; 34] = [
     ("Z4,1024,1", "OK"),
     ("Z2,1023,2", "OK"),
     ("c", "T05awatch:00001024;"),
+    ("bs", "T05awatch:00001024;"),
+    ("p8", "84000f00"),
+    ("s", "T05awatch:00001024;"),
     ("p8", "4b110000"),
     ("m1023,2", "4000"),
     ("s", "T05"),
@@ -302,8 +311,9 @@ fn a_program_is_debugged_to_its_end(rt: HostRuntime) -> Result<(), Fail> {
     ends(&rt, rt.alloc(), &mut server)
 }
 
-/// Definitions: dm_gdb Servers Replies back_reply with_past restarted with_written with_registers
+/// Definitions: dm_gdb Servers Replies undone_reply with_past restarted with_written with_registers
 /// Definitions: dm_gdb Replies reply_text
+/// Definitions: dm_target Undoing Undoes HitBy undone_by
 /// Definitions: dm_history Becomes Becomes Leads
 /// Definitions: dm_history Edits changed edits_to
 /// Definitions: dm_history Pasts with_change GoesBack

@@ -10,6 +10,7 @@ mod nearby;
 mod points;
 mod registers;
 mod settings;
+mod undoing;
 mod watching;
 
 pub use going::{Pause, Span, go_on, is_among, place_of};
@@ -17,3 +18,4 @@ pub use memory::{LAST, bytes_from, linear_of, readable, reads_as, segment_below}
 pub use points::Points;
 pub use registers::{all_registers, has_register, put_register};
 pub use settings::registers_with;
+pub use undoing::{Undone, step_back};

@@ -124,7 +124,7 @@ fn fetch(cpu: &Cpu, space: &Space) -> [u8; 16]
 }
 
 /// The first of these watchpoints that the instruction at CS:IP hits; None also if the bytes there are no instruction.
-fn first_hit(machine: &Machine, watches: &[Point]) -> Option<Point>
+pub(crate) fn first_hit(machine: &Machine, watches: &[Point]) -> Option<Point>
     ensures { (i : Ins) (length : ℕ) → BeginsWith (fetched machine.now.memory machine.now.cpu) i length → result ≡ find (is_touched machine.now.memory.a20 (reads (guest machine.now.cpu machine.now.memory) i length) (writes (guest machine.now.cpu machine.now.memory) i length)) watches.now }
 {
     let cpu = machine.cpu();
@@ -161,7 +161,11 @@ fn keep_bytes(kept: &mut Vec<u8>, space: &Space, point: &Point) -> Result<(), Al
 }
 
 /// The bytes of the ranges of all watchpoints, one behind the other. An `Err` is a failed allocation.
-fn keep_all(alloc: Global, space: &Space, watches: &[Point]) -> Result<Vec<u8>, AllocError>
+pub(crate) fn keep_all(
+    alloc: Global,
+    space: &Space,
+    watches: &[Point],
+) -> Result<Vec<u8>, AllocError>
     ensures { IfOk result (λ kept. kept.items ≡ all_bytes space.now.memory watches.now) }
 {
     let mut kept = Vec::new(alloc);
@@ -183,7 +187,7 @@ fn is_changed(space: &Space, point: &Point, before: &[u8]) -> bool
 }
 
 /// The first of these watchpoints that a service or driver hits, by the bytes that were kept before.
-fn first_changed(space: &Space, watches: &[Point], before: &[u8]) -> Option<Point>
+pub(crate) fn first_changed(space: &Space, watches: &[Point], before: &[u8]) -> Option<Point>
     requires { (m : Memory) × (before.now ≡ all_bytes m watches.now) }
     ensures { (m : Memory) → before.now ≡ all_bytes m watches.now → result ≡ find (is_changed m space.now.memory) watches.now }
 {
