@@ -1,7 +1,7 @@
 /* The proved MS-DOS machine of Mezguld, from C.
  *
  * A machine is made by mezguld_new. Programs are added by mezguld_add, one of them is loaded by mezguld_load, and then it
- * runs, in as many calls of mezguld_run or mezguld_run_until as you like. Between two calls its registers and memory can
+ * runs, in as many calls of mezguld_run, mezguld_run_until or mezguld_run_to as you like. Between two calls its registers and memory can
  * be read and written, input supplied, output taken, and a snapshot made by mezguld_copy. mezguld_free frees it.
  *
  * What each function returns, writes and changes is proved (crates/dm_c), as long as C keeps to this, which no function can test:
@@ -80,7 +80,8 @@ typedef enum mezguld_status {
     MEZGULD_LINE_RANGE = 19,        /* a number, a label or a target on it is out of range */
     MEZGULD_LINE_TWICE = 20,        /* it has the label of a line before it */
     MEZGULD_TOO_LONG = 21,          /* the program has over 65,278 bytes */
-    MEZGULD_INPUT_CLOSED = 22       /* no more input may come: mezguld_open_input opens it */
+    MEZGULD_INPUT_CLOSED = 22,      /* no more input may come: mezguld_open_input opens it */
+    MEZGULD_BAD_EVENT = 23          /* the kind of an event is no mezguld_kind */
 } mezguld_status;
 
 /* Why a run stopped. After all but EXITED another run goes on from there, and tries again what could not be done. */
@@ -92,7 +93,8 @@ typedef enum mezguld_stop {
     MEZGULD_INPUT_ENDED = 4, /* the next step would read input, and what it wants is not there; see mezguld_supply */
     MEZGULD_DESTROYED = 5,   /* the program would end, and its block list is destroyed */
     MEZGULD_MEMORY = 6,      /* an allocation for more output failed */
-    MEZGULD_BREAKPOINT = 7   /* the last step led to a breakpoint */
+    MEZGULD_BREAKPOINT = 7,  /* the last step led to a breakpoint */
+    MEZGULD_EVENT = 8        /* the last step led to an event; see mezguld_run_to */
 } mezguld_stop;
 
 /* How a run ended: why, and the program's exit code (0 to 255) where it has ended, else 0. */
@@ -112,6 +114,24 @@ typedef struct mezguld_point {
     uint16_t offset;
 } mezguld_point;
 
+/* The kinds of events, and the fields of a mezguld_event that count for each. */
+typedef enum mezguld_kind {
+    MEZGULD_AT_PAIR = 0,    /* CS:IP is exactly the pair `segment`, `offset` */
+    MEZGULD_AT_ADDRESS = 1, /* CS:IP has the linear address `address`, whatever the pair; its bit 20 is off while A20 is */
+    MEZGULD_AT_CHANGE = 2,  /* one of the `length` bytes from the linear address `address` up reads otherwise than before the run,
+                             * whoever wrote it: the program, a service, another page in a window; none is past 10FFEFh */
+    MEZGULD_AT_CALL = 3,    /* the bytes at CS:IP are CDh and `number`: INT is next */
+    MEZGULD_AT_FUNCTION = 4 /* the same, and AH is `ah` */
+} mezguld_kind;
+
+/* What ends a run after a step. The functions from mezguld_at on make events. */
+typedef struct mezguld_event {
+    mezguld_kind kind;
+    uint32_t address, length;
+    uint16_t segment, offset;
+    uint8_t number, ah;
+} mezguld_event;
+
 /* The sizes of the types, as the library has them. */
 #if defined(__cplusplus) && __cplusplus >= 201103L
 #define MEZGULD_HAS_SIZE(type, size) static_assert(sizeof(type) == (size), #type " has another size in the library")
@@ -127,6 +147,8 @@ MEZGULD_HAS_SIZE(mezguld_stop, 4);
 MEZGULD_HAS_SIZE(mezguld_stopped, 8);
 MEZGULD_HAS_SIZE(mezguld_cpu, 28);
 MEZGULD_HAS_SIZE(mezguld_point, 4);
+MEZGULD_HAS_SIZE(mezguld_kind, 4);
+MEZGULD_HAS_SIZE(mezguld_event, 20);
 
 /* The version of the library that the program runs with, as MEZGULD_VERSION_NUMBER of its header. */
 uint32_t mezguld_version(void);
@@ -170,6 +192,16 @@ MEZGULD_CALL mezguld_status mezguld_run(mezguld *machine, uint64_t steps, mezgul
  * NO_MACHINE, OUT_OF_MEMORY, NOT_LOADED. */
 MEZGULD_CALL mezguld_status mezguld_run_until(mezguld *machine, uint64_t steps, const mezguld_point *points,
                                               size_t points_count, mezguld_stopped *stopped);
+
+/* Makes at most so many steps, but none after the first that leads to one of these events: then the stop is EVENT, and the
+ * place in the list of the first event that came, from 0, is written into `*place`, which stays otherwise. Where the run
+ * begins is no event to it, so that the next run goes on; bytes are compared with those at its beginning. An INT with a prefix
+ * before it, INT 3 (CCh), INTO and a jump to where a vector leads are no calls to it: MEZGULD_AT_ADDRESS sees where they lead.
+ * Steps are as fast as with breakpoints, but for those that touch the 16-byte paragraphs of a range or of a vector that is
+ * called; with a range that reaches past BFFFFh each step is looked at, and all bytes of the ranges are compared.
+ * NO_MACHINE, BAD_EVENT, OUT_OF_MEMORY, NOT_LOADED. */
+MEZGULD_CALL mezguld_status mezguld_run_to(mezguld *machine, uint64_t steps, const mezguld_event *events,
+                                           size_t events_count, mezguld_stopped *stopped, size_t *place);
 
 /* Writes how many steps were made so far into `*steps`; at 2^64 - 1 the count stays. NO_MACHINE, NOT_LOADED. */
 MEZGULD_CALL mezguld_status mezguld_steps(mezguld *machine, uint64_t *steps);
@@ -268,8 +300,44 @@ static inline const char *mezguld_status_text(mezguld_status status)
     case MEZGULD_LINE_TWICE: return "the line has the label of a line before it";
     case MEZGULD_TOO_LONG: return "a COM program has over 65,278 bytes";
     case MEZGULD_INPUT_CLOSED: return "the console's input is closed";
+    case MEZGULD_BAD_EVENT: return "the kind of an event is none";
     }
     return "unknown status";
+}
+
+/* CS:IP is exactly this pair. */
+static inline mezguld_event mezguld_at(uint16_t segment, uint16_t offset)
+{
+    mezguld_event event = {MEZGULD_AT_PAIR, 0, 0, segment, offset, 0, 0};
+    return event;
+}
+
+/* CS:IP has this linear address. */
+static inline mezguld_event mezguld_at_address(uint32_t address)
+{
+    mezguld_event event = {MEZGULD_AT_ADDRESS, address, 0, 0, 0, 0, 0};
+    return event;
+}
+
+/* One of so many bytes from a linear address up has changed. */
+static inline mezguld_event mezguld_at_change(uint32_t address, uint32_t length)
+{
+    mezguld_event event = {MEZGULD_AT_CHANGE, address, length, 0, 0, 0, 0};
+    return event;
+}
+
+/* The call of this interrupt is next. */
+static inline mezguld_event mezguld_at_call(uint8_t number)
+{
+    mezguld_event event = {MEZGULD_AT_CALL, 0, 0, 0, 0, number, 0};
+    return event;
+}
+
+/* The call of this interrupt is next, with this number in AH. */
+static inline mezguld_event mezguld_at_function(uint8_t number, uint8_t ah)
+{
+    mezguld_event event = {MEZGULD_AT_FUNCTION, 0, 0, 0, 0, number, ah};
+    return event;
 }
 
 #ifdef __cplusplus

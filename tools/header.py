@@ -7,7 +7,7 @@ import re
 ROOT = os.path.dirname(os.path.dirname(os.path.abspath(__file__)))
 # The C type of a number, and of each type of the exports.
 NUMBERS = {"u8": "uint8_t", "u16": "uint16_t", "u32": "uint32_t", "u64": "uint64_t", "usize": "size_t"}
-TYPES = {**NUMBERS, "Handle": "mezguld", "Stopped": "mezguld_stopped", "Registers": "mezguld_cpu", "Point": "mezguld_point"}
+TYPES = {**NUMBERS, "Handle": "mezguld", "Stopped": "mezguld_stopped", "Registers": "mezguld_cpu", "Point": "mezguld_point", "Awaited": "mezguld_event"}
 # The meaning of each letter of `_PARAMETERS` in the Python module; `p` is a pointer that is followed by a count.
 LETTERS = {
     "m": "mezguld *", "s": "mezguld_stopped *", "r": "mezguld_cpu *", "c": "const mezguld_cpu *", "w": "size_t *", "q": "uint64_t *",
@@ -16,15 +16,17 @@ LETTERS = {
 # What C calls a status and a reason to stop, which are numbers of the exports; an export that returns a number that is no status; and the type that C has
 # for bytes, `void` for data and `char` for texts.
 STATUS_TYPE, STOP_FIELD, NO_STATUS, BYTES = "mezguld_status", ("mezguld_stop", "why"), ("mezguld_version",), re.compile(r"\b(?:void|char) \*")
+KIND_FIELD = ("mezguld_kind", "kind")
 # The exceptions of the Python module whose status has another name in the header, and the statuses that it raises nothing for: its own calls meet neither
-# a machine in use nor, at last, a buffer that is too small.
-RENAMED, UNRAISED = {"COMMAND_SYNTAX": "SYNTAX", "BREAKPOINTS_FULL": "FULL"}, ("OK", "IN_USE", "TOO_SMALL")
+# a machine in use, an event of no kind nor, at last, a buffer that is too small.
+RENAMED, UNRAISED = {"COMMAND_SYNTAX": "SYNTAX", "BREAKPOINTS_FULL": "FULL"}, ("OK", "IN_USE", "TOO_SMALL", "BAD_EVENT")
 EXPORT = re.compile(r'#\[unsafe\(no_mangle\)\]\s*pub extern "C" fn (\w+)\s*\(([^)]*)\)\s*(?:->\s*([\w&\[\] ]+?))?\s*(?=\bensures\b|\brequires\b|\{)')
 STRUCT = re.compile(r"#\[repr\(C\)\]\s*(?:#\[[^\]]*\]\s*)*pub struct (\w+) \{([^}]*)\}")
 CONSTANT = re.compile(r"^pub(?:\(crate\))? const (\w+): u32 = (\d+);", re.M)
 # (A status that is a named constant is on a line of its own.)
 STATUS = re.compile(r"\b(?:Assembly)?Refusal::(\w+)(?:\(_\))? => (\d+)")
 STOP = re.compile(r"(?:Some\(Stop::(\w+)(?:\(\w+\))?\)|None) => Stopped \{\s*why: (\d+)")
+EVENT = re.compile(r"Ending::Came\(_\) => Stopped \{\s*why: (\d+)")
 PROTOTYPE = re.compile(r"^([\w ]+?[ *]+)(mezguld_\w+)\(([^)]*)\);", re.M | re.S)
 INLINE = re.compile(r"^static inline ([^;{]*)\n\{(.*?)^\}\n", re.M | re.S)
 TYPEDEF = re.compile(r"typedef struct (\w+) \{([^}]*)\} (\w+);")
@@ -78,6 +80,7 @@ class Exports:
             prefix = "LINE_" if os.path.basename(path) == "texts.rt" else ""
             self.statuses.update({prefix + upper(name): int(value) for name, value in STATUS.findall(text)})
         self.stops = {upper(name) if name else "BREAKPOINT": int(value) for name, value in STOP.findall(whole)}
+        self.stops.update({"EVENT": int(value) for value in EVENT.findall(whole)})
 
 
 def declared_field(line):
@@ -87,6 +90,8 @@ def declared_field(line):
         return None
     if (found[2], found[1]) == ("u32", STOP_FIELD[1]):
         return STOP_FIELD
+    if (found[2], found[1]) == ("u32", KIND_FIELD[1]):
+        return KIND_FIELD
     pointer = found[2] in ("*mut u8", "Inside")
     return ("void *" if pointer else TYPES.get(found[2], found[2]), found[1])
 
@@ -115,7 +120,7 @@ class Header:
                     found += [(kind, first), *[(kind, word.strip()) for word in words[1:]]]
             self.structs[name] = found
         enums = {name: {word: int(value) for word, value in ENUMERATOR.findall(it)} for it, name in re.findall(r"typedef enum \w+ \{([^}]*)\} (\w+);", text)}
-        self.statuses, self.stops = enums.get(STATUS_TYPE, {}), enums.get(STOP_FIELD[0], {})
+        self.statuses, self.stops, self.kinds = enums.get(STATUS_TYPE, {}), enums.get(STOP_FIELD[0], {}), enums.get(KIND_FIELD[0], {})
 
 
 def shown(parameters):
@@ -193,6 +198,9 @@ def python_faults(header):
     stops = {it.targets[0].id: it.value.value for it in classes["Stop"] if isinstance(it, ast.Assign)}
     if stops != header.stops:
         yield "the stops of the Python module are not those of the header"
+    kinds = {it.targets[0].id: it.value.value for it in classes["Kind"] if isinstance(it, ast.Assign)}
+    if kinds != header.kinds:
+        yield "the kinds of events of the Python module are not those of the header"
     registers = [it.target.id for it in classes["Registers"] if isinstance(it, ast.AnnAssign)]
     if registers != [name for _, name in header.structs.get("mezguld_cpu", [])]:
         yield "the registers of the Python module are not those of the header"

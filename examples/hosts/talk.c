@@ -1,7 +1,7 @@
 /* A conversation with a guest program, from C: it is run up to its question, looked at, changed, answered, and run again from a snapshot.
  *
  * The guest prints "Your name? ", reads a line by function 0Ah, and says "Hello, " with the name; its exit code is the length of the name. The host
- * stops it at its first call of INT 21h, has it print another text, supplies each name as input, and takes the output as it comes.
+ * stops it before it prints, has it print another text, supplies each name as input, stops it when the name is in memory, and takes the output as it comes.
  */
 #include <stdio.h>
 #include <stdlib.h>
@@ -24,15 +24,6 @@ static void must(const char *what, mezguld_status status)
         fprintf(stderr, "%s: %s\n", what, mezguld_status_text(status));
         exit(1);
     }
-}
-
-/* Where the vector of an interrupt leads. */
-static mezguld_point vector_of(mezguld *machine, unsigned interrupt)
-{
-    uint8_t bytes[4];
-    must("mezguld_read", mezguld_read(machine, 0, (uint16_t)(4 * interrupt), bytes, sizeof bytes));
-    mezguld_point point = {(uint16_t)(bytes[2] | bytes[3] << 8), (uint16_t)(bytes[0] | bytes[1] << 8)};
-    return point;
 }
 
 /* Prints what the program has written since the last call, and returns how much it has written in all. */
@@ -60,30 +51,39 @@ static void start(mezguld *machine)
     must("mezguld_open_input", mezguld_open_input(machine));
 }
 
-/* Has the program print its second text in place of the first one, at its first call of INT 21h. */
+/* Has the program print its second text in place of the first one: it is stopped before its first call of function 09h, and DX is changed. */
 static void change_question(mezguld *machine)
 {
     mezguld_stopped stopped;
     mezguld_cpu registers;
-    mezguld_point service = vector_of(machine, 0x21);
-    must("mezguld_run_until", mezguld_run_until(machine, 1000, &service, 1, &stopped));
-    must("mezguld_registers", mezguld_registers(machine, &registers));
-    if (stopped.why != MEZGULD_BREAKPOINT || registers.ax >> 8 != 9) {
-        fprintf(stderr, "the program does not begin with function 09h\n");
+    mezguld_event print = mezguld_at_function(0x21, 9);
+    size_t place;
+    must("mezguld_run_to", mezguld_run_to(machine, 1000, &print, 1, &stopped, &place));
+    if (stopped.why != MEZGULD_EVENT) {
+        fprintf(stderr, "the program calls no function 09h\n");
         exit(1);
     }
+    must("mezguld_registers", mezguld_registers(machine, &registers));
     registers.dx = (uint16_t)(registers.dx + strlen("Your name? $"));
     must("mezguld_set_registers", mezguld_set_registers(machine, &registers));
 }
 
-/* Answers the question in a copy of the machine, and returns the exit code of the program there. */
+/* Answers the question in a copy of the machine, and returns the exit code of the program there. The copy is stopped when the line is in memory, and says
+ * where. */
 static unsigned answer(mezguld *snapshot, size_t shown, const char *name)
 {
     mezguld machine = MEZGULD_NONE;
     mezguld_stopped stopped;
+    mezguld_cpu registers;
+    size_t place;
     must("mezguld_copy", mezguld_copy(snapshot, &machine));
     must("mezguld_supply", mezguld_supply(&machine, name, strlen(name)));
     must("mezguld_supply", mezguld_supply(&machine, "\r", 1));
+    /* It waits in function 0Ah, and DX is the offset of its buffer, whose byte 1 is the count of the line. */
+    must("mezguld_registers", mezguld_registers(&machine, &registers));
+    mezguld_event line = mezguld_at_change(registers.ds * 16u + registers.dx + 1, 1);
+    must("mezguld_run_to", mezguld_run_to(&machine, 1000, &line, 1, &stopped, &place));
+    printf("\n[the line comes: %s]", stopped.why == MEZGULD_EVENT && place == 0 ? "yes" : "no");
     must("mezguld_run", mezguld_run(&machine, 1000, &stopped));
     show(&machine, shown);
     mezguld_free(&machine);

@@ -29,7 +29,7 @@ import time
 from typing import Any, Callable, Iterable, NamedTuple, NoReturn
 
 __all__ = [
-    "Block", "Blocks", "Error", "Expanded", "Extended", "ExtendedBlock", "Finding", "Findings", "Instruction", "Machine", "PageHandle", "Registers", "Stop",
+    "Block", "Blocks", "Ended", "Error", "Event", "Expanded", "Extended", "ExtendedBlock", "Finding", "Findings", "Instruction", "Kind", "Machine", "PageHandle", "Registers", "Stop",
     "Stopped", "UpperBlock", "Window", "assemble", "disassemble", "findings",
     "BadFormat", "BadName", "BreakpointsFull", "CommandSyntax", "InputClosed", "LineRange", "LineRefused", "LineSyntax", "LineTwice", "LineUnknown", "NameTwice",
     "NoMachine", "NotFound", "NotLoaded", "OutOfMemory", "Short", "Started", "TailTooLong", "TooLarge", "TooLong", "VariablesTooLong", "__version__",
@@ -222,6 +222,7 @@ class Stop(enum.Enum):
     DESTROYED = 5
     MEMORY = 6
     BREAKPOINT = 7
+    EVENT = 8
 
 
 class Stopped(NamedTuple):
@@ -229,6 +230,63 @@ class Stopped(NamedTuple):
 
     why: Stop
     code: int
+
+
+class Kind(enum.Enum):
+    """The kinds of events."""
+
+    AT_PAIR = 0
+    AT_ADDRESS = 1
+    AT_CHANGE = 2
+    AT_CALL = 3
+    AT_FUNCTION = 4
+
+
+class Event(NamedTuple):
+    """What ends a run of `Machine.run_to` after a step. `at`, `at_address`, `at_change`, `at_call` and `at_function` make one; the fields that its kind does
+    not use are 0."""
+
+    kind: Kind
+    address: int = 0
+    length: int = 0
+    segment: int = 0
+    offset: int = 0
+    number: int = 0
+    ah: int = 0
+
+    @staticmethod
+    def at(segment: int, offset: int) -> Event:
+        """CS:IP is exactly this pair."""
+        return Event(Kind.AT_PAIR, segment=segment, offset=offset)
+
+    @staticmethod
+    def at_address(address: int) -> Event:
+        """CS:IP has this linear address, whatever the pair; bit 20 of it is off while the A20 line is."""
+        return Event(Kind.AT_ADDRESS, address=address)
+
+    @staticmethod
+    def at_change(address: int, length: int = 1) -> Event:
+        """One of so many bytes from a linear address up reads otherwise than before the run, whoever wrote it: the program, a service, another page in a
+        window. No byte is past 10FFEFh."""
+        return Event(Kind.AT_CHANGE, address=address, length=length)
+
+    @staticmethod
+    def at_call(number: int) -> Event:
+        """The call of this interrupt is next: the bytes at CS:IP are CDh and its number."""
+        return Event(Kind.AT_CALL, number=number)
+
+    @staticmethod
+    def at_function(number: int, ah: int) -> Event:
+        """The call of this interrupt is next, with this number in AH."""
+        return Event(Kind.AT_FUNCTION, number=number, ah=ah)
+
+
+class Ended(NamedTuple):
+    """How a run up to events ended: why, the program's exit code where it has ended (else 0), and the event that came, the first in the list (else None)."""
+
+    why: Stop
+    code: int
+    event: Event | None
 
 
 class Registers(NamedTuple):
@@ -412,6 +470,13 @@ class _Point(ctypes.Structure):
     _fields_ = [("segment", ctypes.c_uint16), ("offset", ctypes.c_uint16)]
 
 
+class _Event(ctypes.Structure):
+    _fields_ = [
+        ("kind", ctypes.c_uint32), ("address", ctypes.c_uint32), ("length", ctypes.c_uint32), ("segment", ctypes.c_uint16), ("offset", ctypes.c_uint16),
+        ("number", ctypes.c_uint8), ("ah", ctypes.c_uint8),
+    ]
+
+
 _NAME = "libmezguld.so"
 
 
@@ -437,6 +502,7 @@ _PARAMETERS = {
     "mezguld_load": "m pn pn pn",
     "mezguld_run": "m Q s",
     "mezguld_run_until": "m Q pn s",
+    "mezguld_run_to": "m Q pn s w",
     "mezguld_steps": "m q",
     "mezguld_registers": "m r",
     "mezguld_set_registers": "m c",
@@ -537,6 +603,31 @@ def _points(breakpoints: Iterable[tuple[int, int]]) -> tuple[ctypes.Array, int]:
     return (_Point * (len(pairs) + 1))(*pairs), len(pairs)
 
 
+# How many bytes linear addresses reach.
+_MOST_MEMORY = 0x10FFF0
+# The greatest number of each field of an event behind its kind.
+_MOST_OF_EVENTS = {"address": 0xFFFFFFFF, "length": 0xFFFFFFFF, "segment": 0xFFFF, "offset": 0xFFFF, "number": 0xFF, "ah": 0xFF}
+
+
+def _event(event: Event) -> _Event:
+    if not isinstance(event, Event) or not isinstance(event.kind, Kind):
+        raise TypeError(f"an event is made by Event.at or one of its like, and not {event!r}")
+    return _Event(event.kind.value, *(_number(getattr(event, name), most, f"the {name} of an event") for name, most in _MOST_OF_EVENTS.items()))
+
+
+def _parts(address: int, count: int) -> list[tuple[int, int, int]]:
+    """So many bytes from a linear address on, as parts of segments: segment, offset and size. There is one, also of no bytes."""
+    address, parts = _number(address, _MOST_MEMORY, "the address"), []
+    count = _number(count, _MOST_MEMORY - address, "the count")
+    while not parts or count:
+        segment = min(address >> 4, 0xFFFF)
+        offset = address - (segment << 4)
+        size = min(count, 0x10000 - offset)
+        parts.append((segment, min(offset, 0xFFFF), size))
+        address, count = address + size, count - size
+    return parts
+
+
 def _taken(call: Callable[..., int], count: int = 4096) -> bytes:
     """The bytes that a call writes to a buffer: `call(buffer, size, wanted)` returns its status."""
     while True:
@@ -558,10 +649,16 @@ _FIRST_SLICE, _LONGEST_SLICE, _SLICE_SECONDS = 1 << 14, 1 << 22, 0.04
 _GO, _GO_STEPS = re.compile(rb"[Gg](?: ([0-9A-Fa-f]{1,8}))?"), "FFFFFF"
 
 
-def _sliced(steps: int, run: Callable[[int], tuple[Any, bool]], is_over: Callable[[], bool]) -> Any:
+def _first_slice(events: list[Event]) -> int:
+    """The steps of the first slice of a run up to events: few where each compares many bytes."""
+    slow = sum(min(it.length, 0x10FFF0) for it in events if it.kind is Kind.AT_CHANGE and it.address + it.length > 0xC0000)
+    return max(_FIRST_SLICE // (slow // 512 + 1), 1)
+
+
+def _sliced(steps: int, run: Callable[[int], tuple[Any, bool]], is_over: Callable[[], bool], first: int = _FIRST_SLICE) -> Any:
     """Makes a run in slices, until `is_over`: `run(count)` returns its result, and whether nothing has stopped it. A run of a steps and then one of b
     steps are the run of a + b steps; so are runs up to breakpoints, where the first has reached none."""
-    size = _FIRST_SLICE
+    size = first
     while True:
         count, begin = min(size, steps), time.monotonic()
         result, goes_on = run(count)
@@ -705,18 +802,18 @@ class Machine:
         self._call(function, count)
         return count.value
 
-    def _run(self, function: Callable[..., int], steps: int, *arguments: object) -> Stopped:
-        """A run by slices, which no other call comes between."""
+    def _run(self, function: Callable[..., int], steps: int, *arguments: object, last: tuple[object, ...] = (), first: int = _FIRST_SLICE) -> Stopped:
+        """A run by slices, which no other call comes between. `last` are the arguments behind that for the stop."""
 
         def run(count: int) -> tuple[Stopped, bool]:
             stopped = _Stopped()
-            _check(function(self._handle, count, *arguments, stopped))
+            _check(function(self._handle, count, *arguments, stopped, *last))
             why = Stop(stopped.why)
             return Stopped(why, stopped.code), why is Stop.STEPS
 
         def work(is_over: Callable[[], bool]) -> Stopped:
             with self._held():
-                return _sliced(steps, run, is_over)
+                return _sliced(steps, run, is_over, first)
 
         return _served(work, steps)
 
@@ -785,6 +882,16 @@ class Machine:
         To stop at each call of an interrupt, before it acts, give where its vector leads: `machine.run_until(steps, [machine.vector(0x21)])`."""
         return self._run(_library.mezguld_run_until, _number(steps, _MOST_STEPS, "steps"), *_points(breakpoints))
 
+    def run_to(self, steps: int, events: Iterable[Event]) -> Ended:
+        """Makes at most so many steps, and stops with `Stop.EVENT` after the first that leads to one of the events, as in
+        `machine.run_to(steps, [Event.at_call(0x21), Event.at_change(0xB8000, 4000)])`. Where the run begins is no event to it, so that the next run goes on;
+        bytes are compared with those at its beginning. Steps are as fast as with breakpoints, but for those that touch the paragraphs of a range or of a vector
+        that is called; with a range past BFFFFh each step is looked at. `NotLoaded`; `OutOfMemory`, after which some of the steps may be made. Ctrl-C is as in `run`."""
+        listed, place = list(events), ctypes.c_size_t()
+        given = (_Event * (len(listed) + 1))(*(_event(event) for event in listed))
+        stopped = self._run(_library.mezguld_run_to, _number(steps, _MOST_STEPS, "steps"), given, len(listed), last=(place,), first=_first_slice(listed))
+        return Ended(*stopped, listed[place.value] if stopped.why is Stop.EVENT else None)
+
     @property
     def steps(self) -> int:
         """How many steps were made. `NotLoaded`."""
@@ -812,6 +919,19 @@ class Machine:
         buffer = ctypes.create_string_buffer(count + 1)
         self._call(_library.mezguld_read, segment, offset, buffer, count)
         return buffer.raw[:count]
+
+    def read_linear(self, address: int, count: int) -> bytes:
+        """So many bytes of memory from a linear address on, as a program reads them; the last address is 10FFEFh. `NotLoaded`."""
+        with self._held():
+            return b"".join(self.read(segment, offset, size) for segment, offset, size in _parts(address, operator.index(count)))
+
+    def write_linear(self, address: int, data: bytes) -> None:
+        """Writes bytes from a linear address on, as `write`; the last address is 10FFEFh. `NotLoaded`."""
+        given, at = _bytes(data), 0
+        with self._held():
+            for segment, offset, size in _parts(address, len(given)):
+                self.write(segment, offset, given[at : at + size])
+                at += size
 
     def vector(self, interrupt: int) -> tuple[int, int]:
         """Where the vector of an interrupt leads: its segment and offset, as a breakpoint. `NotLoaded`."""

@@ -5,6 +5,7 @@ import gc
 import os
 import pickle
 import signal
+import subprocess
 import sys
 import threading
 import time
@@ -15,7 +16,7 @@ from unittest import mock
 ROOT = os.path.dirname(os.path.dirname(os.path.dirname(os.path.abspath(__file__))))
 sys.path.insert(0, os.path.join(ROOT, "python"))
 import mezguld  # noqa: E402
-from mezguld import Block, Machine, Stop, Stopped  # noqa: E402
+from mezguld import Block, Ended, Event, Machine, Stop, Stopped  # noqa: E402
 
 # Prints what it reads until there is no input.
 ECHO = "next: MOV AH,8\nINT 21h\nMOV DL,AL\nMOV AH,2\nINT 21h\nJMP next\n"
@@ -71,6 +72,63 @@ class Runs(unittest.TestCase):
             self.assertEqual(machine.registers[:3], (1, 2, machine.registers.cx))
             self.assertEqual(machine.run_until(100, [(code, 0x106)]).why, Stop.HALTED)
             self.assertEqual(machine.registers.cx, 3)
+
+
+class Events(unittest.TestCase):
+    """Runs up to events."""
+
+    def test_a_place(self) -> None:
+        with started("MOV AX,1\nMOV BX,2\nMOV CX,3\nHLT\n") as machine:
+            code = machine.registers.cs
+            events = [Event.at(code - 1, 0x116), Event.at_address(code * 16 + 0x106), Event.at(code, 0x106)]
+            self.assertEqual(machine.run_to(100, events), Ended(Stop.EVENT, 0, events[1]))
+            self.assertEqual((machine.steps, machine.registers.ip), (2, 0x106))
+            self.assertEqual(machine.run_to(100, events), Ended(Stop.HALTED, 0, None))
+            self.assertEqual(machine.run_to(100, []), Ended(Stop.HALTED, 0, None))
+
+    def test_a_call(self) -> None:
+        with started("MOV AH,2\nMOV DL,41h\nINT 21h\nMOV AH,30h\nINT 21h\n" + END) as machine:
+            self.assertEqual(machine.run_to(100, [Event.at_function(0x21, 0x30), Event.at_call(0x21)]).event, Event.at_call(0x21))
+            self.assertEqual((machine.steps, machine.output()), (2, b""))
+            self.assertEqual(machine.run_to(100, [Event.at_function(0x21, 0x30), Event.at_call(0x21)]).event, Event.at_function(0x21, 0x30))
+            self.assertEqual(machine.output(), b"A")
+            self.assertEqual(machine.run_to(100, [Event.at_call(0x20)]), Ended(Stop.EXITED, 7, None))
+            self.assertEqual(machine.run_to(0, [Event.at_call(0x20)]), Ended(Stop.EXITED, 7, None))
+
+    def test_a_change(self) -> None:
+        text = "MOV AX,0B800h\nMOV DS,AX\nMOV AX,0720h\nMOV [10],AX\nMOV [12],AL\nMOV [12],AH\n" + END
+        with started(text) as machine:
+            machine.write(0xB800, 10, bytes.fromhex("200720"))
+            event = Event.at_change(0xB8000, 4000)
+            self.assertEqual(machine.run_to(100, [event]), Ended(Stop.EVENT, 0, event))
+            self.assertEqual((machine.steps, machine.read(0xB800, 10, 3)), (6, b"\x20\x07\x07"))
+            self.assertEqual(machine.run_to(100, [event]), Ended(Stop.EXITED, 7, None))
+
+    def test_a_service_changes_memory(self) -> None:
+        with started("MOV DX,200h\nMOV AH,0Ah\nINT 21h\n" + END, input=b"abc\r") as machine:
+            place = machine.registers.ds * 16 + 0x200
+            machine.write(machine.registers.ds, 0x200, b"\x10")
+            self.assertEqual(machine.run_to(100, [Event.at_change(place + 2)]).why, Stop.EVENT)
+            self.assertEqual((machine.steps, machine.read(machine.registers.ds, 0x201, 4)), (4, b"\x03abc"))
+
+    def test_a_range_past_the_end(self) -> None:
+        with started(END) as machine:
+            for address, length in ((0x10FFF0, 1), (0xFFFFFFFF, 0xFFFFFFFF), (0, 0), (0x10FFEF, 0xFFFFFFFF)):
+                self.assertEqual(machine.run_to(100, [Event.at_change(address, length)]), Ended(Stop.EXITED, 7, None))
+
+    def test_long_runs_in_slices(self) -> None:
+        with started("again: INC BX\nJNZ again\nINC CX\nCMP CX,100\nJNZ again\nMOV [300h],BL\n" + END) as machine:
+            change = Event.at_change(machine.registers.ds * 16 + 0x300, 1)
+            machine.write(machine.registers.ds, 0x300, b"\x01")
+            machine.registers = machine.registers._replace(bx=0, cx=99)
+            self.assertEqual(machine.run_to(MOST, [change]), Ended(Stop.EVENT, 0, change))
+            self.assertEqual(machine.steps, 2 * 65_536 + 4)
+
+    def test_a_conversation(self) -> None:
+        path = os.path.join(os.path.dirname(os.path.abspath(__file__)), "..", "..", "examples", "hosts", "talk.py")
+        ran = subprocess.run([sys.executable, path], capture_output=True, text=True, timeout=60, check=False)
+        self.assertEqual((ran.returncode, ran.stderr), (0, ""))
+        self.assertEqual(ran.stdout, "[Who? ]\nAda:\nHello, Ada\nCharles:\nHello, Charles\n[3, 7]\n")
 
 
 class Input(unittest.TestCase):
@@ -175,6 +233,23 @@ class Memory(unittest.TestCase):
             self.assertEqual(machine.read(0x3000, 0xFFFE, 4), b"\x01\x02\x03\x04")
             self.assertEqual(machine.read(0x3000, 0, 2), b"\x03\x04")
             self.assertEqual(machine.read(0x3000, 0, 0), b"")
+
+    def test_linear_addresses(self) -> None:
+        with started(END) as machine:
+            data = bytes(number % 251 for number in range(200_000))
+            machine.write_linear(0x40005, data)
+            self.assertEqual(machine.read_linear(0x40005, len(data)), data)
+            self.assertEqual(machine.read(0x4000, 4, 4), b"\0" + data[:3])
+            self.assertEqual(machine.read(0x5000, 0, 2), data[0xFFFB:0xFFFD])
+            self.assertEqual(machine.read_linear(0xF0000, 16), machine.read(0xF000, 0, 16))
+            # A20 is off: the last 65,520 addresses are the first ones again.
+            machine.write_linear(0x10FFEF, b"x")
+            self.assertEqual((machine.read_linear(0xFFEF, 1), machine.read(0xFFFF, 0xFFFF, 1)), (b"x", b"x"))
+            self.assertEqual(len(machine.read_linear(0, 0x10FFF0)), 0x10FFF0)
+            self.assertEqual((machine.read_linear(0x10FFF0, 0), machine.read_linear(7, 0)), (b"", b""))
+            for address, count in ((0x10FFF0, 1), (0, 0x10FFF1), (-1, 1), (0x10FFF1, 0), (0, -1), (2**64, 1)):
+                self.assertRaises(ValueError, machine.read_linear, address, count)
+            self.assertRaises(ValueError, machine.write_linear, 0x10FFEF, b"xy")
 
     def test_the_rom_stays(self) -> None:
         with started(END) as machine:
@@ -357,10 +432,13 @@ class Refusals(unittest.TestCase):
 CALLS = {
     "run": lambda machine: machine.run(3),
     "run_until": lambda machine: machine.run_until(3, [(1, 2)]),
+    "run_to": lambda machine: machine.run_to(3, [Event.at(1, 2), Event.at_call(0x67)]),
     "check": lambda machine: machine.check(3),
     "steps": lambda machine: machine.steps,
     "registers": lambda machine: machine.registers,
     "read": lambda machine: machine.read(0x0100, 0, 16),
+    "read_linear": lambda machine: machine.read_linear(0x1030, 16),
+    "write_linear": lambda machine: machine.write_linear(0x30000, b"12345"),
     "write": lambda machine: machine.write(0x3000, 0, b"12345"),
     "output": lambda machine: machine.output(),
     "output from a byte on": lambda machine: machine.output(1),
@@ -460,7 +538,7 @@ class WrongArguments(unittest.TestCase):
 
     def test_steps(self) -> None:
         with started(END) as machine:
-            for call in (machine.run, machine.check, lambda steps: machine.run_until(steps, [])):
+            for call in (machine.run, machine.check, lambda steps: machine.run_until(steps, []), lambda steps: machine.run_to(steps, [])):
                 for number in self.NUMBERS:
                     self.refuses(ValueError, call, number)
                 for other in self.NO_NUMBERS:
@@ -478,6 +556,9 @@ class WrongArguments(unittest.TestCase):
                 self.refuses(ValueError, machine.run_until, 5, [(0, 0), (number, 0)])
                 self.refuses(ValueError, machine.run_until, 5, [(0, number)])
             for other in self.NO_NUMBERS:
+                self.refuses(TypeError, machine.read_linear, other, 1)
+                self.refuses(TypeError, machine.read_linear, 0, other)
+                self.refuses(TypeError, machine.write_linear, other, b"x")
                 self.refuses(TypeError, machine.read, other, 0, 1)
                 self.refuses(TypeError, machine.read, 0, other, 1)
                 self.refuses(TypeError, machine.write, other, 0, b"x")
@@ -489,6 +570,24 @@ class WrongArguments(unittest.TestCase):
             for other in ([(1,)], [(1, 2, 3)], [()], ["123"]):
                 self.refuses(ValueError, machine.run_until, 5, other)
             self.refuses(TypeError, machine.run_until, 5, ["12"])
+
+    def test_events(self) -> None:
+        with started(END) as machine:
+            for number in (-1, 2**32, 2**64, -(2**64)):
+                for event in (
+                    Event.at(number, 0), Event.at(0, number), Event.at_address(number), Event.at_change(number), Event.at_change(0, number),
+                    Event.at_call(number), Event.at_function(number, 0), Event.at_function(0, number),
+                ):
+                    self.refuses(ValueError, machine.run_to, 5, [Event.at(0, 0), event])
+            self.refuses(ValueError, machine.run_to, 5, [Event.at_call(256)])
+            self.refuses(ValueError, machine.run_to, 5, [Event.at_function(0x21, 256)])
+            self.refuses(ValueError, machine.run_to, 5, [Event.at(0x10000, 0)])
+            for other in self.NO_NUMBERS:
+                self.refuses(TypeError, machine.run_to, 5, [Event.at(0, other)])
+                self.refuses(TypeError, machine.run_to, 5, [Event.at_change(other)])
+            for other in (5, None, [5], [None], 1.5, [(0, 0)], ["at"], [Event], [Event(0)], [tuple(Event.at(0, 0))]):
+                self.refuses(TypeError, machine.run_to, 5, other)
+            self.assertEqual(machine.steps, 0)
 
     def test_counts(self) -> None:
         with started(END) as machine:

@@ -20,11 +20,13 @@ static void expect_all(mezguld *machine, mezguld_status status)
     mezguld_stopped stopped;
     mezguld_cpu registers = {0, 0, 0, 0, 0, 0, 0, 0, 0, 0, 0, 0, 0, 0};
     mezguld_point point = {0, 0};
+    mezguld_event event = mezguld_at(0, 0);
     uint64_t steps;
     size_t count;
     char bytes[8] = "";
     EXPECT(mezguld_run(machine, 1, &stopped) == status);
     EXPECT(mezguld_run_until(machine, 1, &point, 1, &stopped) == status);
+    EXPECT(mezguld_run_to(machine, 1, &event, 1, &stopped, &count) == status);
     EXPECT(mezguld_steps(machine, &steps) == status);
     EXPECT(mezguld_registers(machine, &registers) == status);
     EXPECT(mezguld_set_registers(machine, &registers) == status);
@@ -76,6 +78,32 @@ static void talk(mezguld *machine)
     EXPECT(mezguld_output(machine, (size_t)-1, bytes, 0, &count) == MEZGULD_OK && count == 0);
 }
 
+/* The loaded program stands at its first instruction, MOV AH,1; INT 21h is at offset 0102h, and its JMP at 0104h. */
+static void look(mezguld *machine)
+{
+    mezguld copy = MEZGULD_NONE;
+    mezguld_stopped stopped;
+    mezguld_cpu registers;
+    size_t place = 7;
+    EXPECT(mezguld_copy(machine, &copy) == MEZGULD_OK && mezguld_registers(&copy, &registers) == MEZGULD_OK);
+    mezguld_event calls[3] = {mezguld_at(registers.cs, 0x100), mezguld_at_function(0x21, 2), mezguld_at_function(0x21, 1)};
+    mezguld_event places[2] = {mezguld_at(registers.cs - 1, 0x114), mezguld_at_address(registers.cs * 16u + 0x104)};
+    mezguld_event change = mezguld_at_change(registers.cs * 16u + 0x80, 0x10000), other = mezguld_at_call(0x21);
+    EXPECT(mezguld_run_to(&copy, 0, calls, 3, &stopped, &place) == MEZGULD_OK && stopped.why == MEZGULD_STEPS && place == 7);
+    EXPECT(mezguld_run_to(&copy, 1, calls, 1, &stopped, &place) == MEZGULD_OK && stopped.why == MEZGULD_STEPS && place == 7);
+    /* The call pushes the flags, CS and IP at offset FFF8h. */
+    EXPECT(mezguld_run_to(&copy, 9, &change, 1, &stopped, &place) == MEZGULD_OK && stopped.why == MEZGULD_EVENT && place == 0);
+    EXPECT(mezguld_run_to(&copy, 9, places, 2, &stopped, &place) == MEZGULD_OK && stopped.why == MEZGULD_EVENT && place == 1);
+    EXPECT(mezguld_run_to(&copy, 9, calls, 3, &stopped, &place) == MEZGULD_OK && stopped.why == MEZGULD_EVENT && place == 0);
+    EXPECT(mezguld_run_to(&copy, 1, &other, 1, &stopped, &place) == MEZGULD_OK && stopped.why == MEZGULD_EVENT && stopped.code == 0 && place == 0);
+    place = 7;
+    EXPECT(mezguld_run_to(&copy, 1, calls, 3, &stopped, &place) == MEZGULD_OK && stopped.why == MEZGULD_STEPS && place == 7);
+    calls[1].kind = (mezguld_kind)(MEZGULD_AT_FUNCTION + 1);
+    EXPECT(mezguld_run_to(&copy, 9, calls, 3, &stopped, &place) == MEZGULD_BAD_EVENT && stopped.why == MEZGULD_STEPS && place == 7);
+    EXPECT(mezguld_run_to(&copy, 3, calls, 0, &stopped, &place) == MEZGULD_OK && stopped.why == MEZGULD_STEPS);
+    EXPECT(mezguld_free(&copy) == MEZGULD_OK);
+}
+
 int main(void)
 {
     mezguld machine = MEZGULD_NONE, copy = MEZGULD_NONE;
@@ -85,6 +113,7 @@ int main(void)
     expect_all(&machine, MEZGULD_NO_MACHINE);
     EXPECT(mezguld_copy(&machine, &copy) == MEZGULD_NO_MACHINE && mezguld_free(&machine) == MEZGULD_OK);
     load(&machine);
+    look(&machine);
     talk(&machine);
     EXPECT(mezguld_copy(&machine, &copy) == MEZGULD_OK && mezguld_copy(&machine, &copy) == MEZGULD_IN_USE);
     EXPECT(mezguld_supply(&copy, "e", 1) == MEZGULD_OK && mezguld_run(&copy, 1000, &stopped) == MEZGULD_OK);
@@ -92,7 +121,7 @@ int main(void)
     EXPECT(mezguld_output_count(&machine, &count) == MEZGULD_OK && count == 4);
     EXPECT(mezguld_free(&machine) == MEZGULD_OK && mezguld_free(&machine) == MEZGULD_OK && mezguld_free(&copy) == MEZGULD_OK);
     expect_all(&machine, MEZGULD_NO_MACHINE);
-    for (int status = MEZGULD_OK; status <= MEZGULD_INPUT_CLOSED; status++)
+    for (int status = MEZGULD_OK; status <= MEZGULD_BAD_EVENT; status++)
         EXPECT(strcmp(mezguld_status_text((mezguld_status)status), "unknown status") != 0);
     puts("as expected");
     return 0;

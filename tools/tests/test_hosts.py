@@ -10,7 +10,7 @@ ROOT = os.path.dirname(os.path.dirname(os.path.dirname(os.path.abspath(__file__)
 ARCHIVES = [f"{ROOT}/build/libdm_c.a", f"{ROOT}/build/liblibc_c.a"]
 WARNINGS = ["-Wall", "-Wextra", "-pedantic", "-Werror", f"-I{ROOT}/include"]
 SANITIZERS = ["-g", "-fsanitize=address,undefined", "-fno-sanitize-recover=all"]
-TALK = b"Who? [it waits: yes]\nHello, Ada\nHello, Charles\n[exit codes 3 and 7]\n"
+TALK = b"Who? [it waits: yes]\n[the line comes: yes]\nHello, Ada\n[the line comes: yes]\nHello, Charles\n[exit codes 3 and 7]\n"
 
 
 class Compiled(unittest.TestCase):

@@ -5,8 +5,10 @@
 ghost use Rattle.std.specs.Prelude.{◌≡◌, ◌<◌, true, false, nat_lt};
 ghost use Rattle.dm_c.specs.Statuses.{version_number};
 ghost use Rattle.dm_c.specs.Calls.{IsCall, IsNone};
+ghost use Rattle.dm_c.specs.Events.{EventsTo};
 ghost use Rattle.dm_c.specs.Machines.{Makes, CopiesTo, AddsTo, LoadsTo, RunsTo, RunsUntilTo, StepsTo, RegistersTo, SetsRegistersTo, ReadsTo, WritesTo, OutputTo, OutputCountTo, SetsMoreTo, SuppliesTo, InputLeftTo, CommandsTo, ChecksTo, AnswersTo};
 
+use crate::events::Awaited;
 use crate::handle::Handle;
 use crate::machines;
 use crate::values::{
@@ -155,6 +157,28 @@ pub extern "C" fn mezguld_run_until(
         return NO_MACHINE;
     };
     let status = machines::run_until(alloc, &mut host, steps, points, stopped);
+    machine.put(host);
+    status
+}
+
+/// Makes at most `steps` steps, up to the first one that leads to one of the events, sets `stopped` to why the run stopped
+/// and, if an event came, `place` to its place in the list. Nothing changes unless the status is 0; it is 23 if the kind of
+/// an event is none.
+#[unsafe(no_mangle)]
+pub extern "C" fn mezguld_run_to(
+    alloc: Global,
+    machine: &mut Handle,
+    steps: u64,
+    events: &[Awaited],
+    stopped: &mut Stopped,
+    place: &mut usize,
+) -> u32
+    ensures { IsCall machine.old.inside.value machine.new.inside.value ((result ≡ 1) × (stopped.new ≡ stopped.old) × (place.new ≡ place.old)) (λ h g. EventsTo h steps events.now stopped.old stopped.new place.old place.new result g) }
+{
+    let Some(mut host) = machine.take(alloc) else {
+        return NO_MACHINE;
+    };
+    let status = machines::run_to(alloc, &mut host, steps, events, stopped, place);
     machine.put(host);
     status
 }

@@ -2,8 +2,10 @@
 //! returns a status, 0 or that of the refusal. What C passes by reference is set with status 0 alone, but `wanted` of
 //! `output` with status 4 too.
 ghost use Rattle.std.specs.Prelude.{◌≡◌, true, false};
+ghost use Rattle.dm_c.specs.Events.{EventsTo};
 ghost use Rattle.dm_c.specs.Machines.{CopiesTo, AddsTo, LoadsTo, RunsTo, RunsUntilTo, StepsTo, RegistersTo, SetsRegistersTo, ReadsTo, WritesTo, OutputTo, OutputCountTo, SetsMoreTo, SuppliesTo, InputLeftTo, CommandsTo, ChecksTo};
 
+use crate::events::{Awaited, BAD_EVENT, are_known, ended_of, events_of, place_in};
 use crate::handle::Handle;
 use crate::values::{
     IN_USE, OK, OUT_OF_MEMORY, Point, Registers, Stopped, cpu_of, give, points_of, registers_of,
@@ -86,6 +88,36 @@ pub(crate) fn run_until(
     match host.run_until(steps, breakpoints.as_slice()) {
         Ok(stop) => {
             *stopped = stopped_of(stop);
+            OK
+        }
+        Err(refusal) => status_of(refusal),
+    }
+}
+
+/// Makes at most `steps` steps, up to the first one that leads to one of the events, sets `stopped` to why the run stopped
+/// and, if an event came, `place` to its place in the list. Status 23 if the kind of an event is none, else 3 if an allocation
+/// failed, or 14 if no program is loaded; then nothing changes. An allocation that fails during the run is a stop (6), with
+/// status 0.
+pub(crate) fn run_to(
+    alloc: Global,
+    host: &mut Host,
+    steps: u64,
+    events: &[Awaited],
+    stopped: &mut Stopped,
+    place: &mut usize,
+) -> u32
+    ensures { EventsTo host.old steps events.now stopped.old stopped.new place.old place.new result host.new }
+{
+    if !are_known(events) {
+        return BAD_EVENT;
+    }
+    let Ok(wanted) = events_of(alloc, events) else {
+        return OUT_OF_MEMORY;
+    };
+    match host.run_to(alloc, steps, wanted.as_slice()) {
+        Ok(ending) => {
+            *stopped = ended_of(ending);
+            *place = place_in(ending, *place);
             OK
         }
         Err(refusal) => status_of(refusal),

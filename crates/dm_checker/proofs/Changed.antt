@@ -6,7 +6,7 @@ use Rattle.std.proofs.lemmas.Grind.{flat_map-append}
 use Rattle.dm_blocks.specs.declared.header.Header.{Header}
 use Rattle.dm_findings.specs.declared.finding.Finding.{Finding}
 use Rattle.dm_checker.specs.declared.watch.Watched.{Watched}
-use Rattle.dm_checker.specs.inner.Watching.{header_of}
+use Rattle.dm_checker.specs.Watching.{header_of}
 
 pub each_of_more : (f : Header → List Finding) (old out new : List Finding) (ws : List Watched) (i : ℕ) (d : Watched) → i < length ws → out ≡ old ++ flat_map f (map header_of (take i ws)) → new ≡ out ++ f (get_or ws i d).header → new ≡ old ++ flat_map f (map header_of (take (i + 1) ws))
 each_of_more f old out new ws i d less before put =

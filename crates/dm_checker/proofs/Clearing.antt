@@ -1,7 +1,7 @@
 -- A step that touches nothing that matters: memory still shows what was kept, and nothing is found.
-use Rattle.std.proofs.Common.{◌≡◌, ◌≢◌, ◌⊎◌, inl, inr, ℕ, ◌+◌, ◌-◌, ◌*◌, ◌/◌, ◌%◌, ◌<◌, Bool, true, false, not, nat_lt, List, [], ◌∷◌, ◌++◌, map, get_or, Option, Some, None, refl, sym, ◌∙◌, ap, ap₂, subst, arith}
+use Rattle.std.proofs.Common.{◌≡◌, ◌≢◌, ℕ, ◌+◌, ◌-◌, ◌*◌, ◌/◌, ◌%◌, ◌<◌, Bool, true, false, not, nat_lt, List, [], ◌∷◌, map, get_or, Option, Some, None, refl, sym, ◌∙◌, ap, subst, arith}
 use Rattle.std.specs.Prelude.{◌==◌, ◌&&◌, ◌||◌, if◌then◌else◌, is_some, slice_index_or, IfSome, All}
-use Rattle.std.specs.List.{list_any, flat_map}
+use Rattle.std.specs.List.{list_any}
 use Rattle.std.proofs.lemmas.Bool.{false≢true}
 use Rattle.std.proofs.lemmas.Bool.Decides.{nat_tests}
 use Rattle.std.proofs.lemmas.List.Elements.{All-nil, All-cons, All-head, All-tail}
@@ -9,7 +9,7 @@ use Rattle.dm_pool.specs.declared.extent.Extent.{Extent}
 use Rattle.dm_pool.specs.Blocks.{Blocks, IsLive}
 use Rattle.dm_space.specs.declared.place.Place.{Place}
 use Rattle.dm_space.specs.declared.place.Place.TheVariants.{Low, Page, Rom, Nothing}
-use Rattle.dm_space.specs.Memory.{Memory, IsPage, place, shown, peek, byte_at, page_bytes}
+use Rattle.dm_space.specs.Memory.{Memory, IsPage, place, shown, peek, byte_at}
 use Rattle.dm_space.specs.Places.{IsShaped}
 use Rattle.dm_space.specs.EightBytes.{little}
 use Rattle.dm_space.proofs.Places.{peek-place, place-windows}
@@ -19,9 +19,9 @@ use Rattle.dm_touches.specs.Laws.{Keeps}
 use Rattle.dm_checker.specs.declared.watch.Watched.{Watched}
 use Rattle.dm_checker.specs.declared.watch.Broken.{Broken}
 use Rattle.dm_checker.specs.declared.watch.Watch.{Watch}
-use Rattle.dm_checker.specs.inner.Watching.{five_at, IsBits, IsWatched, IsBrokenIn, IsWatch, IsSeen}
+use Rattle.dm_checker.specs.Watching.{IsBits, IsWatched, IsBrokenIn, IsWatch, IsSeen}
 use Rattle.dm_touches.specs.declared.elements.Elements.{Elements}
-use Rattle.dm_checker.specs.inner.Clear.{is_free_of, is_at, is_high, is_memory, is_write_clear, IsClear}
+use Rattle.dm_checker.specs.Clear.{is_free_of, is_at, is_high, is_memory, is_write_clear, IsClear}
 use Rattle.dm_checker.proofs.Unfound.{and_left, and_right, not_false, are_all, elements_all}
 
 -- ---- places

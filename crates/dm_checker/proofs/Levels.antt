@@ -1,9 +1,9 @@
 -- Marks on the memory of which something may be found.
-use Rattle.std.proofs.Common.{◌≡◌, ◌≢◌, ◌⊎◌, inl, inr, ℕ, ◌+◌, ◌-◌, ◌*◌, ◌/◌, ◌<◌, ◌≤◌, Bool, true, false, not, nat_lt, List, [], ◌∷◌, length, get_or, Option, Some, None, refl, sym, ◌∙◌, ap, subst, arith}
-use Rattle.std.specs.Prelude.{◌==◌, ◌&&◌, ◌||◌, if◌then◌else◌, is_some, slice_index_or, All}
+use Rattle.std.proofs.Common.{◌≡◌, inl, inr, ℕ, ◌+◌, ◌-◌, ◌*◌, ◌/◌, ◌<◌, ◌≤◌, Bool, true, false, not, nat_lt, List, [], ◌∷◌, length, get_or, Option, None, refl, sym, ◌∙◌, ap, subst, arith}
+use Rattle.std.specs.Prelude.{◌==◌, ◌&&◌, if◌then◌else◌, is_some, slice_index_or, All}
 use Rattle.std.specs.List.{list_any, AllWithin}
 use Rattle.std.proofs.lemmas.List.{get_or_default}
-use Rattle.std.proofs.lemmas.Bool.{false≢true, cases_eq, cases_lt}
+use Rattle.std.proofs.lemmas.Bool.{cases_eq, cases_lt}
 use Rattle.std.proofs.lemmas.Bool.Decides.{nat_tests}
 use Rattle.std.proofs.Math.ListN.{get_or-eq_default}
 use Rattle.std.proofs.lemmas.List.Elements.{All-nil, All-cons, All-head, All-tail}
@@ -12,9 +12,9 @@ use Rattle.dm_blocks.specs.declared.header.Header.{Header}
 use Rattle.dm_touches.specs.Found.{is_in_free}
 use Rattle.dm_quiet.specs.Marks.{level_at, lies_below, Marked}
 use Rattle.dm_checker.specs.declared.watch.Watched.{Watched}
-use Rattle.dm_checker.specs.inner.Clear.{is_free_of, is_at, is_high, is_memory, is_read_clear, is_write_clear}
+use Rattle.dm_checker.specs.Clear.{is_free_of, is_at, is_high, is_memory}
 use Rattle.dm_checker.proofs.Unfound.{and_left, and_right, not_false}
-use Rattle.dm_checker.specs.inner.Marking.{Keeps, HasMap, HasHeader, HasFree, IsMarked}
+use Rattle.dm_checker.specs.Marking.{Keeps, HasMap, HasHeader, HasFree, IsMarked}
 
 -- ---- a run of paragraphs that is given a level
 

@@ -13,7 +13,9 @@ pub mod Shown
 pub mod Changed
 pub mod Looking
 pub mod Stepping
+pub mod Longer
 pub mod Checking
+pub mod Underway
 pub mod Fetched
 pub mod Touching
 pub mod Levels

@@ -2,7 +2,6 @@
 use Rattle.std.proofs.Common.{◌≡◌, ℕ, ◌+◌, Bool, true, false, List, [], ◌++◌, map, Option, Some, None, refl, sym, ◌∙◌, ap, ap₂, subst, append-nil}
 use Rattle.std.specs.Prelude.{◌&&◌, if◌then◌else◌, is_some, slice_index_or, IfSome}
 use Rattle.dm_space.specs.Memory.{Memory, IsPage}
-use Rattle.dm_blocks.specs.declared.header.Header.{Header}
 use Rattle.dm_state.specs.declared.stop.Stop.{Stop}
 use Rattle.dm_state.specs.declared.stop.Stop.TheVariants.{Exited, Steps as AllSteps, Halted, Unlisted, InputEnded, Destroyed, Memory as NoMemory}
 use Rattle.dm_ems.specs.Consistent.{IsOwned}
@@ -22,8 +21,6 @@ use Rattle.dm_checker.specs.declared.acts.Before.{Before}
 use Rattle.dm_checker.specs.declared.watch.Watch.{Watch}
 use Rattle.dm_checker.specs.Calls.{leaves, freed_twice, call_findings}
 use Rattle.dm_leaks.specs.Leaks.{leaks}
-use Rattle.dm_ins.specs.declared.ins.Ins.{Ins}
-use Rattle.dm_cpu.specs.declared.cpu.Cpu.{Cpu}
 use Rattle.dm_touches.specs.declared.elements.Elements.{Elements}
 use Rattle.dm_cpu.specs.Guest.{guest}
 use Rattle.dm_exec.specs.Effect.{effect}
@@ -37,8 +34,8 @@ use Rattle.dm_checker.specs.Arranged.{arranged_by, arranged}
 use Rattle.dm_checker.specs.Findings.{findings, Finds, FindsTouched, touching, over, IsFound, none}
 use Rattle.dm_checker.specs.Checks.{FindsAt, FindsAtEnd, FindsAtStop, FindsIn, left_behind}
 use Rattle.dm_checker.specs.Checks as checks
-use Rattle.dm_checker.specs.inner.Watching.{header_of, broken_at, shown_of, IsWatch, IsSeen}
-use Rattle.dm_checker.specs.inner.Clear.{is_read_clear, is_write_clear, IsClear, IsPassed}
+use Rattle.dm_checker.specs.Watching.{header_of, broken_at, shown_of, IsWatch, IsSeen}
+use Rattle.dm_checker.specs.Clear.{is_read_clear, is_write_clear, IsPassed}
 use Rattle.dm_checker.specs.inner.Steps.{IsBefore, found_by, ReportsMore, Touches, Looks, ChecksOne}
 use Rattle.dm_checker.proofs.Acting.{some_none, call_acts, had_ended, exit_changes_nothing}
 use Rattle.dm_checker.proofs.Seen.{seen_watch}

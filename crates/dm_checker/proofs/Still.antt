@@ -7,7 +7,7 @@ use Rattle.dm_findings.specs.Calls.{call_of}
 use Rattle.dm_checker.specs.declared.watch.Watch.{Watch}
 use Rattle.dm_checker.specs.Calls.{arranges, freed_twice, call_findings}
 use Rattle.dm_checker.specs.Findings.{turned, findings}
-use Rattle.dm_checker.specs.inner.Watching.{header_of, broken_at, shown_of, IsWatch, IsSeen}
+use Rattle.dm_checker.specs.Watching.{header_of, broken_at, shown_of, IsWatch, IsSeen}
 use Rattle.dm_checker.proofs.Seen.{seen_overwritten, seen_mapped_away}
 
 pub seen_turned : (o : Option ℕ) → turned o o ≡ []

@@ -20,7 +20,7 @@ cond_front : (skip : Bool) (f : Found) (xs ys : List Found) → (if skip then xs
 cond_front true f xs ys = refl
 cond_front false f xs ys = refl
 
-reported_append : (free : Bool) (fs gs : List Found) → reported free (fs ++ gs) ≡ reported free fs ++ reported free gs
+pub reported_append : (free : Bool) (fs gs : List Found) → reported free (fs ++ gs) ≡ reported free fs ++ reported free gs
 reported_append free [] gs = refl
 reported_append free (f ∷ fs) gs =
     ap (λ (l : List Found). if not free && is_of_free_memory f.finding then l else f ∷ l) (reported_append free fs gs)

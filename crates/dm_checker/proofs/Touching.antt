@@ -1,5 +1,5 @@
 -- What is found of the bytes that a step touches, as it is put behind what stood there.
-use Rattle.std.proofs.Common.{◌≡◌, ℕ, Bool, List, [], ◌++◌, map, Option, Some, None, refl, sym, ◌∙◌, ap, ap₂, subst, append-nil, append_assoc}
+use Rattle.std.proofs.Common.{◌≡◌, ℕ, List, [], ◌++◌, map, Option, Some, None, refl, sym, ◌∙◌, ap, ap₂, append-nil, append_assoc}
 use Rattle.dm_space.specs.Memory.{Memory}
 use Rattle.dm_ins.specs.declared.ins.Ins.{Ins}
 use Rattle.dm_ins.specs.Ins.{BeginsWith}
@@ -15,11 +15,10 @@ use Rattle.dm_touches.specs.declared.elements.Elements.{Elements}
 use Rattle.dm_touches.specs.Elements.{bytes_of}
 use Rattle.dm_touches.specs.Touches.{reads, writes}
 use Rattle.dm_touches.specs.Found.{of_headers, of_places, touch_findings}
-use Rattle.dm_checker.specs.declared.acts.Before.{Before}
 use Rattle.dm_checker.specs.declared.watch.Watch.{Watch}
 use Rattle.dm_checker.specs.Findings.{FindsTouched, touching, calling}
-use Rattle.dm_checker.specs.inner.Watching.{header_of, broken_at, shown_of}
-use Rattle.dm_checker.specs.inner.Steps.{IsBefore, IsUnlisted, IsNextAct, an_instruction, no_instruction, Touches}
+use Rattle.dm_checker.specs.Watching.{header_of, broken_at, shown_of}
+use Rattle.dm_checker.specs.inner.Steps.{IsNextAct, an_instruction, no_instruction, Touches}
 use Rattle.dm_checker.proofs.Acting.{some_none, unlisted_stops}
 use Rattle.dm_checker.proofs.Reading.{still_running}
 

@@ -1,5 +1,5 @@
 -- Bytes that may be touched: nothing is found of them.
-use Rattle.std.proofs.Common.{◌≡◌, ℕ, ◌+◌, ◌-◌, ◌*◌, ◌/◌, ◌<◌, ◌≤◌, Bool, true, false, not, nat_lt, List, [], ◌∷◌, ◌++◌, map, Option, Some, None, refl, sym, ◌∙◌, ap, ap₂, subst, arith}
+use Rattle.std.proofs.Common.{◌≡◌, ℕ, ◌+◌, ◌-◌, ◌*◌, ◌/◌, ◌<◌, ◌≤◌, Bool, true, false, not, nat_lt, List, [], ◌∷◌, ◌++◌, map, Option, Some, None, refl, sym, ◌∙◌, ap, ap₂, arith}
 use Rattle.std.specs.Prelude.{◌==◌, ◌&&◌, ◌||◌, if◌then◌else◌, is_some, slice_index_or}
 use Rattle.std.specs.List.{flat_map, list_any}
 use Rattle.std.proofs.lemmas.Bool.{false≢true}
@@ -11,14 +11,14 @@ use Rattle.dm_touches.specs.declared.elements.FarAddress.{FarAddress}
 use Rattle.dm_touches.specs.Elements.{far, linear_of, bytes_if, bytes_of}
 use Rattle.dm_touches.specs.Found.{is_between, first_that, if_some, is_in_free, is_in_tail, free_read, free_written, tail_written, of_header, window_lost, rom_written, nothing_written, of_places}
 use Rattle.dm_checker.specs.declared.watch.Watched.{Watched}
-use Rattle.dm_checker.specs.inner.Watching.{header_of}
+use Rattle.dm_checker.specs.Watching.{header_of}
 use Rattle.dm_cpu.specs.Guest.{up}
 use Rattle.dm_touches.specs.declared.elements.Element.{Element}
 use Rattle.dm_touches.specs.declared.elements.Element.TheVariants as element
 use Rattle.dm_touches.specs.declared.elements.Elements.{Elements}
 use Rattle.dm_findings.specs.declared.finding.Finding.TheVariants.{RomWritten, NothingWritten}
 use Rattle.dm_quiet.specs.Marks.{passes_if, pass}
-use Rattle.dm_checker.specs.inner.Clear.{is_free_of, is_at, is_high, is_memory, is_read_clear, is_write_clear}
+use Rattle.dm_checker.specs.Clear.{is_free_of, is_at, is_high, is_memory, is_write_clear}
 
 -- ---- tests
 

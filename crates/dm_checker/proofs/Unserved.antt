@@ -1,5 +1,5 @@
 -- Calls of functions of INT 21h that are not served.
-use Rattle.std.proofs.Common.{◌≡◌, ℕ, Bool, true, false, List, [], ◌∷◌, Option, Some, None, refl, sym, ◌∙◌, ap, subst}
+use Rattle.std.proofs.Common.{◌≡◌, ℕ, Bool, true, false, [], ◌∷◌, Option, Some, None, refl, ◌∙◌, ap, subst}
 use Rattle.std.specs.Prelude.{◌/◌, ◌==◌, ◌||◌, ◌&&◌, not, if◌then◌else◌}
 use Rattle.dm_ins.specs.declared.operand.ByteRegister.TheVariants.{Ah, Al}
 use Rattle.dm_cpu.specs.declared.cpu.Cpu.{Cpu}
@@ -15,10 +15,9 @@ use Rattle.dm_services.specs.Functions.{function_of, no_function, Calls}
 use Rattle.dm_machine.specs.Step.{MakesStep, ActsUnlessEnded, Acts}
 use Rattle.dm_findings.specs.declared.calls.Call.{Call}
 use Rattle.dm_findings.specs.declared.calls.Call.TheVariants.{Dos, Interrupt}
-use Rattle.dm_findings.specs.declared.finding.Finding.{Finding}
 use Rattle.dm_findings.specs.declared.finding.Finding.TheVariants.{Refused}
 use Rattle.dm_findings.specs.Calls.{is_bare_return, call_by, call_of}
-use Rattle.dm_checker.specs.Calls.{is_arena, is_ending, is_console, is_system, is_served, may_be_refused, refusal, is_stray_block, refused_by_dos, call_findings}
+use Rattle.dm_checker.specs.Calls.{is_arena, is_ending, is_console, is_system, is_served, may_be_refused, is_stray_block, refused_by_dos, call_findings}
 use Rattle.dm_checker.specs.Laws.{UnservedCallsAreFound}
 use Rattle.dm_checker.proofs.Reading.{still_running}
 

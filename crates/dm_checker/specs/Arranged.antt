@@ -1,7 +1,7 @@
 -- The findings about calls that free, resize or keep blocks of the arena: a block of another process that is freed, a
 -- stack that is in a free block since the call, and a resident process whose block was not resized.
 -- Source: MS-DOS Programmer's Reference, functions 31h, 49h and 4Ah.
-use Rattle.std.specs.Prelude.{ℕ, ◌+◌, ◌==◌, ◌&&◌, ◌||◌, not, Bool, true, false, if◌then◌else◌, List, [], ◌∷◌, ◌++◌, Option, Some, None}
+use Rattle.std.specs.Prelude.{ℕ, ◌+◌, ◌==◌, ◌&&◌, ◌||◌, not, Bool, false, if◌then◌else◌, List, [], ◌∷◌, ◌++◌, Option, Some, None}
 use Rattle.std.specs.List.{flat_map}
 use Rattle.dm_space.specs.Memory.{linear}
 use Rattle.dm_cpu.specs.declared.cpu.Cpu.{Cpu}

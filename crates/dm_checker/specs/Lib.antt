@@ -4,5 +4,9 @@ pub mod Calls
 pub mod Arranged
 pub mod Findings
 pub mod Checks
+pub mod Marking
+pub mod Clear
+pub mod Watching
+pub mod Checking
 pub mod Laws
 pub mod inner

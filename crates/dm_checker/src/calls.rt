@@ -4,7 +4,7 @@
 
 ghost use Rattle.std.specs.Prelude.{◌≡◌, ◌++◌, map, OnOk};
 ghost use Rattle.dm_checker.specs.Calls.{is_arena, is_ending, is_starting, arranges, leaves, is_free_at, freed_twice, refusal, refused_by_dos, refused_by_status, refused_by_error, is_console, is_system, is_served, call_findings};
-ghost use Rattle.dm_checker.specs.inner.Watching.{header_of};
+ghost use Rattle.dm_checker.specs.Watching.{header_of};
 
 use crate::put::put;
 use crate::watch::Watched;

@@ -1,15 +1,155 @@
 //! Checked runs: a run of a machine, and the report of what was found in it.
 
-ghost use Rattle.std.specs.Prelude.{IfOk, OnErr};
-ghost use Rattle.dm_state.specs.State.{HasProgram};
+ghost use Rattle.std.specs.Prelude.{◌≡◌, ◌≢◌, [], false, IfOk, OnErr, ℕ, None};
+ghost use Rattle.dm_state.specs.State.{State, HasProgram};
 ghost use Rattle.dm_machine.specs.Run.{IsRun};
+ghost use Rattle.dm_findings.specs.Report.{report_of};
 ghost use Rattle.dm_checker.specs.Checks.{IsReport, RunsPart};
+ghost use Rattle.dm_checker.specs.Checking.{GoesOn, IsLonger, IsUnderWay};
 
 use crate::steps::{look_at_step, pass};
-use crate::watch::read_arena;
+use crate::watch::{Watch, read_arena};
 use dm_findings::Report;
 use dm_machine::{Machine, Stop};
 use std::alloc::{AllocError, Global};
+use std::marker::Model;
+
+/// A checked run of a machine that is under way, with the report of what is found so far.
+#[derive(Drop)]
+pub struct CheckedRun {
+    report: Report,
+    left: u64,
+    free: bool,
+    over: Option<u8>,
+    kept: Watch,
+}
+
+impl Model for CheckedRun {
+    ghost use Rattle.dm_checker.specs.Checking.{UnderWay};
+
+    ghost Value = { UnderWay };
+
+    ghost view = { λ c. record { report = c.report; left = c.left; free = c.free; over = c.over; watch = c.kept } };
+}
+
+/// The exit code of the machine's first program, if it has ended. The machine stays.
+fn exit_code(machine: &mut Machine) -> Option<u8>
+    requires { HasProgram machine.old }
+    ensures code { result ≡ machine.old.exited }
+    ensures same { machine.new ≡ machine.old }
+{
+    // No step is made: it finds whether the program has ended.
+    match machine.run(0) {
+        Stop::Exited(code) => Some(code),
+        _ => None,
+    }
+}
+
+impl CheckedRun {
+    /// A checked run of at most `n` steps of a machine, of which none is made yet. Unless `free`, findings about free
+    /// memory are left out: reads of it, writes to it, and a stack in it. A program must be loaded. The machine stays.
+    ///
+    /// # Errors
+    ///
+    /// `AllocError` if an allocation fails.
+    pub fn begin(
+        alloc: Global,
+        machine: &mut Machine,
+        n: u64,
+        free: bool,
+    ) -> Result<CheckedRun, AllocError>
+        requires { HasProgram machine.old }
+        ensures begins { IfOk result (λ c. IsUnderWay machine.old n machine.new c) }
+        ensures free { IfOk result (λ c. c.free ≡ free) }
+        ensures empty { IfOk result (λ c. c.report ≡ report_of []) }
+        ensures same { machine.new ≡ machine.old }
+    {
+        let over = exit_code(machine);
+        let kept = read_arena(alloc, machine)?;
+        Ok(CheckedRun {
+            report: Report::new(alloc),
+            left: n,
+            free,
+            over,
+            kept,
+        })
+    }
+
+    /// Makes steps until the run stops; with `pausing`, also until the report lists a finding more than before, and then
+    /// returns None.
+    fn advance(
+        &mut self,
+        alloc: Global,
+        machine: &mut Machine,
+        pausing: bool,
+    ) -> Result<Option<Stop>, AllocError>
+        requires program { HasProgram machine.old }
+        requires way { (s : State) × (n : ℕ) × IsUnderWay s n machine.old self.old }
+        ensures ok { IfOk result (λ stop. (s : State) (n : ℕ) → IsUnderWay s n machine.old self.old → GoesOn s n stop machine.new self.old self.new) }
+        ensures lines { IfOk result (λ stop. IsLonger self.old.report self.new.report) }
+        ensures whole { IfOk result (λ stop. pausing ≡ false → stop ≢ None) }
+        ensures err { OnErr result ((s : State) (n : ℕ) → IsUnderWay s n machine.old self.old → RunsPart s n machine.new) }
+        ensures loaded { HasProgram machine.new }
+    {
+        if let Some(code) = self.over {
+            return Ok(Some(Stop::Exited(code)));
+        }
+        let free = self.free;
+        let listed = self.report.listed().len();
+        let most = self.left;
+        let mut left = most;
+        for _ in 0..most {
+            left -= pass(machine, &self.kept, left);
+            if left == 0 {
+                return Ok(Some(Stop::Steps));
+            }
+            if let Some(stop) = look_at_step(
+                alloc,
+                machine,
+                free,
+                &mut self.kept,
+                &mut self.report,
+            )? {
+                return Ok(Some(stop));
+            }
+            left -= 1;
+            if pausing && self.report.listed().len() > listed {
+                self.left = left;
+                return Ok(None);
+            }
+        }
+        Ok(Some(Stop::Steps))
+    }
+
+    /// Makes steps until the report lists a finding more than before, or the run stops. Returns None in the first case,
+    /// after a step at least; in the second why the run stopped, and then the report is that of the whole run. The
+    /// findings that the report lists stay, and new ones stand behind them.
+    ///
+    /// # Errors
+    ///
+    /// `AllocError` if an allocation of the checker fails: the machine has made none, some or all steps that were left.
+    pub fn go_on(
+        &mut self,
+        alloc: Global,
+        machine: &mut Machine,
+    ) -> Result<Option<Stop>, AllocError>
+        requires program { HasProgram machine.old }
+        requires way { (s : State) × (n : ℕ) × IsUnderWay s n machine.old self.old }
+        ensures ok { IfOk result (λ stop. (s : State) (n : ℕ) → IsUnderWay s n machine.old self.old → GoesOn s n stop machine.new self.old self.new) }
+        ensures lines { IfOk result (λ stop. IsLonger self.old.report self.new.report) }
+        ensures err { OnErr result ((s : State) (n : ℕ) → IsUnderWay s n machine.old self.old → RunsPart s n machine.new) }
+        ensures loaded { HasProgram machine.new }
+    {
+        self.advance(alloc, machine, true)
+    }
+
+    /// The report of what is found so far.
+    pub fn report(&self) -> &Report
+        ensures { result.now ≡ self.now.report }
+    {
+        &self.report
+    }
+}
 
 /// Makes at most `n` steps, as `Machine::run` does, and reports what they did to the headers of the arena and to free
 /// memory, which calls failed, and, if the first program ended and does not stay resident, what it left allocated. Unless
@@ -30,22 +170,9 @@ pub fn check(
     ensures err { OnErr result (RunsPart machine.old n machine.new) }
     ensures loaded { HasProgram machine.new }
 {
-    let mut report = Report::new(alloc);
-    // No step is made: it finds whether the program has ended.
-    if let Stop::Exited(code) = machine.run(0) {
-        return Ok((Stop::Exited(code), report));
-    }
-    let mut kept = read_arena(alloc, machine)?;
-    let mut left = n;
-    for _ in 0..n {
-        left -= pass(machine, &kept, left);
-        if left == 0 {
-            return Ok((Stop::Steps, report));
-        }
-        if let Some(stop) = look_at_step(alloc, machine, free, &mut kept, &mut report)? {
-            return Ok((stop, report));
-        }
-        left -= 1;
-    }
-    Ok((Stop::Steps, report))
+    let mut run = CheckedRun::begin(alloc, machine, n, free)?;
+    let Some(stop) = run.advance(alloc, machine, false)? else {
+        unreachable!()
+    };
+    Ok((stop, run.report))
 }

@@ -14,5 +14,5 @@ mod steps;
 mod touched;
 mod watch;
 
-pub use checks::check;
+pub use checks::{CheckedRun, check};
 pub use laws::{a_check_has_one_report, a_checked_run_is_a_run, unserved_calls_are_found};

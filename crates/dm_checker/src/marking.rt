@@ -3,8 +3,8 @@
 ghost use Rattle.std.specs.Prelude.{◌≡◌, ◌+◌, ◌*◌, ◌<◌, ◌≤◌, ◌&&◌, not, false, is_some, slice_index_or, ℕ, All, IfOk, None};
 ghost use Rattle.std.specs.List.{list_any};
 ghost use Rattle.dm_quiet.specs.Marks.{level_at};
-ghost use Rattle.dm_checker.specs.inner.Clear.{is_high};
-ghost use Rattle.dm_checker.specs.inner.Marking.{Keeps, HasMap, HasHeader, HasFree, IsMarked};
+ghost use Rattle.dm_checker.specs.Clear.{is_high};
+ghost use Rattle.dm_checker.specs.Marking.{Keeps, HasMap, HasHeader, HasFree, IsMarked};
 
 use crate::watch::Watched;
 use dm_blocks::Header;

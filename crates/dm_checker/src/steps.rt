@@ -11,7 +11,7 @@ ghost use Rattle.dm_state.specs.State.{HasProgram, State};
 ghost use Rattle.dm_machine.specs.Run.{Answers};
 ghost use Rattle.dm_checker.specs.Findings.{turned, IsFound, FindsTouched};
 ghost use Rattle.dm_checker.specs.Checks.{FindsAtEnd, FindsIn};
-ghost use Rattle.dm_checker.specs.inner.Watching.{IsWatch, broken_at, shown_of};
+ghost use Rattle.dm_checker.specs.Watching.{IsWatch, broken_at, shown_of};
 ghost use Rattle.dm_checker.specs.inner.Steps.{IsBefore, IsPart, Looks, ReportsMore, found_by, ChecksOne};
 
 use crate::acts::Before;

@@ -2,7 +2,7 @@
 
 ghost use Rattle.std.specs.Prelude.{◌≡◌, ◌≢◌, All, false, IfOk, MatchBool, None, Some};
 ghost use Rattle.dm_blocks.specs.Listing.{start_of};
-ghost use Rattle.dm_checker.specs.inner.Watching.{IsBits, IsWatched, IsWatch, IsSeen, IsBrokenIn, Collects, CollectsSecond, CollectsAll};
+ghost use Rattle.dm_checker.specs.Watching.{IsBits, IsWatched, IsWatch, IsSeen, IsBrokenIn, Collects, CollectsSecond, CollectsAll};
 
 use crate::marking::marks_of;
 use dm_blocks::{Header, Headers, Step, is_linked, walk};

@@ -1,25 +1,12 @@
--- A checked run, and one whose fault was reported.
-use Rattle.std.proofs.Common.{◌≡◌, ℕ, not, List, Option, Result, Ok, Err, OnOk, sym, subst}
+-- A checked run.
+use Rattle.std.proofs.Common.{ℕ, not, List, Option, Result}
 use Rattle.dm_options.specs.declared.command_line.CheckOptions.{CheckOptions}
 use Rattle.dm_state.specs.State.{State}
 use Rattle.dm_cli.specs.declared.fault.Fault.{Fault}
-use Rattle.dm_cli.specs.Checking.{Checks, checked, partly_written, no_memory, not_started}
+use Rattle.dm_cli.specs.Checking.{Checks, checked, partly_written, no_memory}
 use Rattle.dm_cli.specs.Messages.{Stream}
 use Rattle.dm_cli.specs.Starting.{IsStartedBy}
 use Rattle.dm_cli.specs.inner.Checking.{ChecksRun, run_checked, output_cut, no_report}
-
-module _ (files : List ℕ → Option (List ℕ)) (typed : Option (List ℕ)) (o : CheckOptions) (before after : Option (List ℕ)) (failed_before failed_after : ℕ) (error_before : Stream) where
-  -- after a fault nothing is said of standard error
-  faulty : (error_after later : Stream) (fault : Fault) → Checks files typed o before after failed_before failed_after error_before error_after (Err fault)
-      → Checks files typed o before after failed_before failed_after error_before later (Err fault)
-  faulty error_after later fault (no_memory kept same) = no_memory kept same
-  faulty error_after later fault (not_started f why kept same) = not_started fault why kept same
-
-  pub reported_fault : {E : Type 0} (stream : E → Stream) (old new : E) (r : Result ℕ Fault) → Checks files typed o before after failed_before failed_after error_before (stream old) r
-      → OnOk r (new ≡ old) → Checks files typed o before after failed_before failed_after error_before (stream new) r
-  reported_fault stream old new (Ok status) h same =
-      subst (λ e. Checks files typed o before after failed_before failed_after error_before (stream e) (Ok status)) (sym same) h
-  reported_fault stream old new (Err fault) h same = faulty (stream old) (stream new) fault h
 
 -- the machine of the options was checked
 pub check_of_run : (files : List ℕ → Option (List ℕ)) (typed : Option (List ℕ)) (o : CheckOptions) (m : State) → IsStartedBy files typed o.machine m
@@ -29,4 +16,4 @@ check_of_run files typed o m started b a f g e h _ (run_checked t stop report st
     checked m t stop report status started run is_report whole none printed is
 check_of_run files typed o m started b a f g e h _ (output_cut t stop report middle status run is_report part failed printed told status_is) =
     partly_written m t stop report middle status started run is_report part failed printed told status_is
-check_of_run files typed o m started b a f g e h _ (no_report kept same) = no_memory kept same
+check_of_run files typed o m started b a f g e h _ (no_report lost kept same) = no_memory m started lost kept same

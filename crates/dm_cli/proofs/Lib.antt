@@ -6,6 +6,7 @@ pub mod Told
 pub mod Begins
 pub mod Ends
 pub mod Checked
+pub mod Following
 pub mod Ran
 pub mod Printed
 pub mod Unread

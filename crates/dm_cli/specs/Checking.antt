@@ -1,15 +1,16 @@
 -- What `dm check` does: a run with a report of its findings on standard error.
-use Rattle.std.specs.Prelude.{ℕ, ◌≡◌, ◌++◌, not, nat_lt, if◌then◌else◌, List, [], ◌∷◌, Option, Some, Result, Ok, Err, codes}
+use Rattle.std.specs.Prelude.{ℕ, ◌≡◌, ◌≤◌, ◌++◌, not, nat_lt, Bool, if◌then◌else◌, List, [], ◌∷◌, Option, Some, Result, Ok, Err, codes}
 use Rattle.std.specs.Io.KnownBytes.{Appends, Keeps}
 use Rattle.dm_options.specs.declared.command_line.CheckOptions.{CheckOptions}
 use Rattle.dm_out.specs.Out.{AppendsPart, HasFailed}
 use Rattle.dm_state.specs.declared.stop.Stop.{Stop}
 use Rattle.dm_state.specs.State.{State}
 use Rattle.dm_machine.specs.Run.{IsRun}
-use Rattle.dm_findings.specs.Report.{Reported}
-use Rattle.dm_reports.specs.Reports.{report_text}
+use Rattle.dm_findings.specs.declared.finding.Found.{Found}
+use Rattle.dm_findings.specs.Report.{Reported, report_of}
+use Rattle.dm_reports.specs.Reports.{lines_text, report_text}
 use Rattle.dm_reports.specs.Stops.{stopped_line}
-use Rattle.dm_checker.specs.Checks.{IsReport}
+use Rattle.dm_checker.specs.Checks.{FindsIn, IsReport, reported}
 use Rattle.dm_cli.specs.declared.fault.Fault.{Fault}
 use Rattle.dm_cli.specs.declared.fault.Fault.TheVariants.{OutOfMemory}
 use Rattle.dm_cli.specs.Messages.{Stream, Prints}
@@ -29,10 +30,19 @@ unwritten_status report = if nat_lt 0 report.errors then 124 else 126
 abbrev pub unwritten_line : List ℕ
 unwritten_line = codes "dm: cannot write standard output" ++ 10 ∷ []
 
--- `dm check`: the machine runs as for `dm run`; findings about free memory are left out by `--no-free`. The result is the exit status, after the whole output was written to
--- standard output and the report with the line about the stop was printed on standard error; or after a write of the
--- output failed, a first part of it was written, and the same was printed on standard error, and then the line of the
--- fault (`middle` is standard error between the two). Otherwise it is a fault: nothing was written, and no write failed
+-- an allocation failed during a run of at most n steps from s, or after it: the lines of the findings that are listed of
+-- some first steps of it, or of all of it, were printed, and no more of the report
+pub data IsLost (s : State) (n : ℕ) (free : Bool) (error_before error_after : Stream) : Type 0 where
+  some_steps : (made : ℕ) (t : State) (found : List Found) → made ≤ n → FindsIn s made t found → Prints (lines_text (report_of (reported free found)).listed) error_before error_after
+      → IsLost s n free error_before error_after
+  all_steps : (stop : Stop) (t : State) (report : Reported) → IsReport s n free stop t report → Prints (lines_text report.listed) error_before error_after
+      → IsLost s n free error_before error_after
+
+-- `dm check`: the machine runs as for `dm run`; findings about free memory are left out by `--no-free`. The result is the
+-- exit status: the report with the line about the stop was printed on standard error, and the whole output written to
+-- standard output; or a write of the output failed, after a first part, and the line of that fault was printed behind the
+-- report (`middle` is standard error between the two). Otherwise it is a fault: nothing was written to standard output, no
+-- write of it failed, and a part of the report may have been printed
 pub data Checks (files : List ℕ → Option (List ℕ)) (typed : Option (List ℕ)) (o : CheckOptions) (before after : Option (List ℕ)) (failed_before failed_after : ℕ) (error_before error_after : Stream) : Result ℕ Fault → Type 0 where
   checked : (m t : State) (stop : Stop) (report : Reported) (status : ℕ) → IsStartedBy files typed o.machine m → IsRun m o.machine.steps stop t → IsReport m o.machine.steps (not o.no_free) stop t report
       → Appends before after t.console.output → failed_after ≡ failed_before → Prints (report_text report ++ stopped_line stop t.memory t.cpu) error_before error_after → status ≡ checked_status report stop
@@ -40,8 +50,9 @@ pub data Checks (files : List ℕ → Option (List ℕ)) (typed : Option (List �
   partly_written : (m t : State) (stop : Stop) (report : Reported) (middle : Stream) (status : ℕ) → IsStartedBy files typed o.machine m → IsRun m o.machine.steps stop t → IsReport m o.machine.steps (not o.no_free) stop t report
       → AppendsPart before after t.console.output → HasFailed failed_before failed_after → Prints (report_text report ++ stopped_line stop t.memory t.cpu) error_before middle
       → Prints unwritten_line middle error_after → status ≡ unwritten_status report → Checks files typed o before after failed_before failed_after error_before error_after (Ok status)
-  no_memory : Keeps before after → failed_after ≡ failed_before → Checks files typed o before after failed_before failed_after error_before error_after (Err OutOfMemory)
-  not_started : (fault : Fault) → IsStartFault files typed (Some (codes "standard input")) o.machine fault → Keeps before after → failed_after ≡ failed_before
+  no_memory : (m : State) → IsStartedBy files typed o.machine m → IsLost m o.machine.steps (not o.no_free) error_before error_after → Keeps before after → failed_after ≡ failed_before
+      → Checks files typed o before after failed_before failed_after error_before error_after (Err OutOfMemory)
+  not_started : (fault : Fault) → IsStartFault files typed (Some (codes "standard input")) o.machine fault → Keeps before after → failed_after ≡ failed_before → error_after ≡ error_before
       → Checks files typed o before after failed_before failed_after error_before error_after (Err fault)
 
 -- the exit status of `dm check`: that of the checked run, or 126 at a fault

@@ -1,5 +1,5 @@
 -- What `dm` prints on standard error: the line about a stop, or that of a fault.
-use Rattle.std.specs.Prelude.{ℕ, ◌≡◌, ◌++◌, List, [], ◌∷◌, Option, Some, None, Result, Ok, Err, codes}
+use Rattle.std.specs.Prelude.{ℕ, ◌≡◌, ◌++◌, Bool, true, false, List, [], ◌∷◌, Option, Some, None, Result, Ok, Err, codes}
 use Rattle.std.specs.Io.KnownBytes.{Appends}
 use Rattle.dm_out.specs.Out.{AppendsPart, HasFailed}
 use Rattle.dm_cli.specs.declared.fault.Fault.{Fault}
@@ -22,10 +22,16 @@ pub record Stream : Type 0 where
   pub bytes : Option (List ℕ)
   pub failures : ℕ
 
--- a text is written to a stream: all of it, and no write failed; or a first part, and then a write failed
+-- a text is written to a stream: all of it, and no write or flush failed; or a first part, and then one failed
 pub data Prints (text : List ℕ) (before after : Stream) : Type 0 where
   all : Appends before.bytes after.bytes text → after.failures ≡ before.failures → Prints text before after
   part : AppendsPart before.bytes after.bytes text → HasFailed before.failures after.failures → Prints text before after
+
+-- texts that were written to a stream one after the other, and together are `text`: all of them, and no write or flush
+-- failed (false); or a first part, and then a write or a flush failed (true)
+abbrev pub HasPrinted : Bool → List ℕ → Stream → Stream → Type 0
+HasPrinted false text before after = Appends before.bytes after.bytes text × (after.failures ≡ before.failures)
+HasPrinted true text before after = AppendsPart before.bytes after.bytes text × HasFailed before.failures after.failures
 
 -- a fault is printed, if there is one; otherwise the stream stays as it was
 pub data Reports (before after : Stream) : Option Fault → Type 0 where

@@ -1,5 +1,5 @@
 -- What `dm` does for the words of its command line, from their reading to its exit status.
-use Rattle.std.specs.Prelude.{ℕ, ◌≡◌, ◌≢◌, List, [], Option, Some, IsSomeAnd, IfErr, Result, Ok, Err, codes}
+use Rattle.std.specs.Prelude.{ℕ, ◌≡◌, ◌≢◌, List, [], Option, Some, IsSomeAnd, Result, Ok, Err, codes}
 use Rattle.std.specs.Io.KnownBytes.{Appends, Keeps}
 use denote.Ref.{Bor}
 use Rattle.clap.specs.Words.{Text, fault_of, subcommand_of}
@@ -92,8 +92,8 @@ pub data Does (g : Given) (words : List Text) (l : Left) : Type 0 where
   no_memory : Prints (fault_line OutOfMemory) g.messages l.messages → IsSilent g l → ReadsAll g l → SavesNothing g l → l.status ≡ 126 → Does g words l
   runs : (o : MachineOptions) (outcome : Result Stop Fault) → IsParsed words (command.Run o) → Runs g.files g.typed o g.output l.output g.failures l.failures outcome
       → Prints (outcome_text outcome) g.messages l.messages → SavesNothing g l → ReadsFiles g.unread l.unread (fault_if outcome) → l.status ≡ status_of outcome → Does g words l
-  checks : (o : CheckOptions) (outcome : Result ℕ Fault) → IsParsed words (command.Check o) → Checks g.files g.typed o g.output l.output g.failures l.failures g.messages l.messages outcome
-      → IfErr outcome (λ fault. Prints (fault_line fault) g.messages l.messages) → SavesNothing g l → ReadsFiles g.unread l.unread (fault_if outcome) → l.status ≡ check_status outcome → Does g words l
+  checks : (o : CheckOptions) (outcome : Result ℕ Fault) (middle : Stream) → IsParsed words (command.Check o) → Checks g.files g.typed o g.output l.output g.failures l.failures g.messages middle outcome
+      → Reports middle l.messages (fault_if outcome) → SavesNothing g l → ReadsFiles g.unread l.unread (fault_if outcome) → l.status ≡ check_status outcome → Does g words l
   debugs : (o : DebugOptions) (end : Option Fault) → IsParsed words (command.Debug o) → Debugs g.files g.typed o g.output l.output g.failures l.failures end
       → Reports g.messages l.messages end → SavesNothing g l → ReadsFiles g.unread l.unread end → l.status ≡ status_after end → Does g words l
   debugs_by_gdb : (o : DebugOptions) (end : Option Fault) → IsParsed words (command.Gdb o) → DebugsByGdb g.files g.typed o g.output l.output g.failures l.failures end

@@ -1,40 +1,44 @@
-//! `dm check`: a run with a report of its findings on standard error, whatever becomes of standard output. The line
-//! about the stop, which follows the report, says where the run stopped and why; it is empty for an exit.
-ghost use Rattle.std.specs.Prelude.{◌≡◌, ◌++◌, OnErr, OnOk};
-ghost use Rattle.dm_reports.specs.Reports.{report_text};
+//! `dm check`: a run with a report of its findings on standard error, whatever becomes of standard output. The line of a
+//! finding is printed when it is found; the summary and the line about the stop, which is empty for an exit, follow at
+//! the end.
+ghost use Rattle.std.specs.Prelude.{◌≡◌, ◌++◌, ◌≤◌, [], List, ℕ, IfOk, OnErr, OnOk, drop, length};
+ghost use Rattle.dm_reports.specs.Reports.{lines_text, summary_text};
 ghost use Rattle.dm_reports.specs.Stops.{stopped_line};
-ghost use Rattle.dm_cli.specs.Checking.{Checks, checked_status, unwritten_status};
+ghost use Rattle.dm_checker.specs.Checking.{IsUnderWay};
+ghost use Rattle.dm_findings.specs.Report.{report_of};
+ghost use Rattle.dm_cli.specs.Checking.{Checks, IsLost, checked_status, unwritten_status};
+ghost use Rattle.dm_cli.specs.Messages.{HasPrinted, Stream};
 ghost use Rattle.dm_cli.specs.Reads.{IsKept, ReadsFiles, TellsOfNoFile, fault_if};
-ghost use Rattle.dm_cli.specs.inner.Checking.{ChecksRun};
-ghost use Rattle.dm_state.specs.State.{HasProgram};
+ghost use Rattle.dm_cli.specs.inner.Checking.{ChecksRun, HasFollowed};
+ghost use Rattle.dm_state.specs.State.{HasProgram, State};
 
 use crate::commands::{FAULT, status_of_stop};
 use crate::fault::Fault;
 use crate::files::Storage;
 use crate::loading::loaded;
-use crate::messages::{print, print_fault};
-use dm_checker::check as check_run;
+use crate::messages::{print_fault, print_now};
+use dm_checker::CheckedRun;
 use dm_findings::Report;
 use dm_machine::{Machine, Out, Stop};
 use dm_options::command_line::CheckOptions;
 use dm_out::write_all;
-use dm_reports::{put_report, put_stop};
+use dm_reports::{put_lines, put_stop, put_summary};
 use std::alloc::{AllocError, Global};
 use std::io::Read;
 
 /// The exit status of a checked run in which errors were found.
 const ERRORS: u8 = 124;
 
-/// Appends a report, and the line about the stop of a machine, to `text`. An `Err` is a failed allocation.
-fn put_lines(
+/// Appends the summary of a report, and the line about the stop of a machine, to `text`. An `Err` is a failed allocation.
+fn put_end(
     text: &mut Vec<u8>,
     report: &Report,
     stop: Stop,
     machine: &Machine,
 ) -> Result<(), AllocError>
-    ensures { OnOk result (text.new.items ≡ text.old.items ++ report_text report.now ++ stopped_line stop machine.now.memory machine.now.cpu) }
+    ensures { OnOk result (text.new.items ≡ text.old.items ++ summary_text report.now ++ stopped_line stop machine.now.memory machine.now.cpu) }
 {
-    put_report(text, report)?;
+    put_summary(text, report)?;
     put_stop(text, stop, &machine.cpu(), machine.space())
 }
 
@@ -59,10 +63,59 @@ fn unwritten_status(report: &Report) -> u8
     FAULT
 }
 
-/// Runs a machine for at most `steps` steps under the checker, with findings about free memory or without (`free`), writes its output to `out`, and prints the report and
-/// the line about the stop on `error`. If a write of the output failed, after a first part of it or none, it prints the
-/// fault after them. Returns the exit status. `OutOfMemory` if an allocation failed, before anything is written; then
-/// nothing is printed on `error`.
+/// Prints on `error` the lines of the findings that the report lists behind the first `count`, unless a write has failed
+/// before (`failed`). Returns whether one has failed now. An `Err` is a failed allocation; then nothing is printed.
+fn print_new<E: Out>(
+    alloc: Global,
+    report: &Report,
+    count: usize,
+    error: &mut E,
+    failed: bool,
+) -> Result<bool, AllocError>
+    requires { count ≤ length report.now.listed }
+    ensures ok { IfOk result (λ now. (start : Stream) (before : List ℕ) → HasPrinted failed before start (record { bytes = E.taken error.old; failures = E.failures error.old })
+        → HasPrinted now (before ++ lines_text (drop count report.now.listed)) start (record { bytes = E.taken error.new; failures = E.failures error.new })) }
+    ensures err { OnErr result (error.new ≡ error.old) }
+{
+    let mut text = Vec::new(alloc);
+    put_lines(&mut text, &report.listed()[count..])?;
+    Ok(print_now(error, failed, text.as_slice()))
+}
+
+/// Makes the steps of a checked run, and prints the line of each finding that the report lists, as it is found, on
+/// `error`. Returns why the run stopped, and whether a write or a flush has failed. An `Err` is a failed allocation,
+/// after the lines of the findings of a first part of the run.
+fn follow<E: Out>(
+    alloc: Global,
+    run: &mut CheckedRun,
+    machine: &mut Machine,
+    error: &mut E,
+) -> Result<(Stop, bool), AllocError>
+    requires program { HasProgram machine.old }
+    requires way { (s : State) × (n : ℕ) × IsUnderWay s n machine.old run.old }
+    requires empty { run.old.report ≡ report_of [] }
+    ensures ok { IfOk result (λ r. (s : State) (n : ℕ) → IsUnderWay s n machine.old run.old → HasFollowed s n run.old r.0 machine.new run.new
+        r.1 (record { bytes = E.taken error.old; failures = E.failures error.old }) (record { bytes = E.taken error.new; failures = E.failures error.new })) }
+    ensures err { OnErr result ((s : State) (n : ℕ) → IsUnderWay s n machine.old run.old → IsLost s n run.old.free
+        (record { bytes = E.taken error.old; failures = E.failures error.old }) (record { bytes = E.taken error.new; failures = E.failures error.new })) }
+{
+    let mut count = 0;
+    let mut failed = false;
+    loop {
+        let stop = run.go_on(alloc, machine)?;
+        failed = print_new(alloc, run.report(), count, error, failed)?;
+        if let Some(stop) = stop {
+            return Ok((stop, failed));
+        }
+        count = run.report().listed().len();
+    }
+}
+
+/// Runs a machine for at most `steps` steps under the checker, with findings about free memory or without (`free`), and
+/// prints the line of each finding that is listed on `error`, as it is found. Then it writes the output to `out`, and
+/// prints the summary and the line about the stop. If a write of the output failed, after a first part of it or none, it
+/// prints the fault after them. Returns the exit status. `OutOfMemory` if an allocation failed, before anything is
+/// written to `out`; then lines of findings may have been printed, but no summary.
 fn check_machine<W: Out, E: Out>(
     alloc: Global,
     machine: &mut Machine,
@@ -74,30 +127,34 @@ fn check_machine<W: Out, E: Out>(
     requires { HasProgram machine.old }
     ensures does { ChecksRun machine.old steps free (W.taken out.old) (W.taken out.new) (W.failures out.old) (W.failures out.new)
         (record { bytes = E.taken error.old; failures = E.failures error.old }) (record { bytes = E.taken error.new; failures = E.failures error.new }) result }
-    ensures silent { OnErr result (error.new ≡ error.old) }
     ensures reads { TellsOfNoFile (fault_if result) }
 {
-    let Ok((stop, report)) = check_run(alloc, machine, steps, free) else {
+    let Ok(mut run) = CheckedRun::begin(alloc, machine, steps, free) else {
         return Err(Fault::OutOfMemory);
     };
+    let Ok((stop, failed)) = follow(alloc, &mut run, machine, error) else {
+        return Err(Fault::OutOfMemory);
+    };
+    let report = run.report();
     let mut text = Vec::new(alloc);
-    let Ok(()) = put_lines(&mut text, &report, stop, machine) else {
+    let Ok(()) = put_end(&mut text, report, stop, machine) else {
         return Err(Fault::OutOfMemory);
     };
     let written = write_all(out, machine.output());
-    print(error, text.as_slice());
+    print_now(error, failed, text.as_slice());
     match written {
-        Ok(()) => Ok(checked_status(&report, stop)),
+        Ok(()) => Ok(checked_status(report, stop)),
         Err(_) => {
             print_fault(&Fault::CannotWrite("standard output"), error);
-            Ok(unwritten_status(&report))
+            Ok(unwritten_status(report))
         }
     }
 }
 
-/// `dm check`: runs the first file under the checker, writes its output to `out`, and prints the report and the line
-/// about the stop on `error`, and after them the fault of the output, if it was not written whole. Returns the exit
-/// status, or another fault, which is not printed yet.
+/// `dm check`: runs the first file under the checker, and prints the line of each finding that is listed on `error`, as
+/// it is found. Then it writes the program's output to `out`, and prints the summary and the line about the stop, and
+/// after them the fault of the output, if it was not written whole. Returns the exit status, or another fault, which is
+/// not printed yet.
 pub(crate) fn check<'a, F: Storage, I: Read + Drop, W: Out, E: Out>(
     alloc: Global,
     storage: &mut F,
@@ -108,7 +165,6 @@ pub(crate) fn check<'a, F: Storage, I: Read + Drop, W: Out, E: Out>(
 ) -> Result<u8, Fault<'a>>
     ensures does { Checks (F.contents storage.old) (I.remaining input) options.now (W.taken out.old) (W.taken out.new) (W.failures out.old) (W.failures out.new)
         (record { bytes = E.taken error.old; failures = E.failures error.old }) (record { bytes = E.taken error.new; failures = E.failures error.new }) result }
-    ensures silent { OnErr result (error.new ≡ error.old) }
     ensures reads { ReadsFiles (F.unread storage.old) (F.unread storage.new) (fault_if result) }
     ensures kept { IsKept (F.contents storage.old) (F.contents storage.new) (F.saved storage.old) (F.saved storage.new) (F.failures storage.old) (F.failures storage.new) }
 {

@@ -1,5 +1,5 @@
 //! The program `dm`: its commands, with the printing of faults and the exit statuses.
-ghost use Rattle.std.specs.Prelude.{◌≡◌, ◌⊎◌, IfErr, OnOk, map};
+ghost use Rattle.std.specs.Prelude.{◌≡◌, ◌⊎◌, map};
 ghost use Rattle.dm_cli.specs.Checking.{check_status};
 ghost use Rattle.dm_cli.specs.Faults.{fault_line};
 ghost use Rattle.dm_cli.specs.Messages.{Prints, Reports, outcome_text};
@@ -109,9 +109,8 @@ fn report<E: Out>(outcome: Result<Stop, Fault<'_>>, error: &mut E) -> u8
 /// that of the checked run, or 126 at a fault, also if the fault cannot be printed.
 fn concluded<E: Out>(outcome: Result<u8, Fault<'_>>, error: &mut E) -> u8
     ensures status { result ≡ check_status outcome.entry }
-    ensures ok { OnOk outcome.entry (error.new ≡ error.old) }
-    ensures fault { IfErr outcome.entry (λ fault. Prints (fault_line fault) (record { bytes = E.taken error.old; failures = E.failures error.old })
-        (record { bytes = E.taken error.new; failures = E.failures error.new })) }
+    ensures line { Reports (record { bytes = E.taken error.old; failures = E.failures error.old })
+        (record { bytes = E.taken error.new; failures = E.failures error.new }) (fault_if outcome.entry) }
 {
     match outcome {
         Ok(status) => status,
@@ -142,8 +141,8 @@ fn told<E: Out>(outcome: Result<(), Fault<'_>>, error: &mut E) -> u8
 /// `cannot write standard output`.
 ///
 /// `dm check` runs the program as `dm run` does, prints a report of its errors in the use of memory, and notes, on
-/// standard error, then the line of `stopped: ` unless the program has ended, and exits with status 124 if there is an
-/// error, whatever the stop; otherwise with the status of `dm run`. Its faults are those of `dm run`. If standard
+/// standard error, each line when it is found, then the line of `stopped: ` unless the program has ended, and exits with
+/// status 124 if there is an error, whatever the stop; otherwise with the status of `dm run`. Its faults are those of `dm run`. If standard
 /// output cannot be written, it prints all of this and then the fault, and the status is 124 if there is an error,
 /// otherwise 126.
 ///

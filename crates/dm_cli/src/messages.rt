@@ -1,11 +1,13 @@
 //! What `dm` prints on standard error.
-ghost use Rattle.std.specs.Prelude.{◌≡◌, ◌++◌, codes, decimal};
+ghost use Rattle.std.specs.Prelude.{◌≡◌, ◌++◌, List, ℕ, OnErr, OnOk, codes, decimal};
+ghost use Rattle.std.specs.Io.KnownBytes.{Appends};
+ghost use Rattle.dm_out.specs.Out.{AppendsPart, HasFailed};
 ghost use Rattle.dm_cli.specs.Faults.{fault_line};
-ghost use Rattle.dm_cli.specs.Messages.{Prints, stop_text};
+ghost use Rattle.dm_cli.specs.Messages.{Prints, HasPrinted, Stream, stop_text};
 
 use crate::fault::Fault;
 use dm_machine::{Out, Stop};
-use dm_out::write_all;
+use dm_out::{Failed, write_all};
 use itoa::Buffer;
 use std::io;
 use std::io::{ErrorKind, Write};
@@ -109,4 +111,34 @@ pub(crate) fn print<E: Out>(error: &mut E, text: &[u8])
         (record { bytes = E.taken error.new; failures = E.failures error.new }) }
 {
     let _ = write_all(error, text);
+}
+
+/// Writes a text on `out` and flushes it, unless it is empty. An `Err` says that a write or the flush failed, after a first part of the text
+/// or all of it.
+fn write_now<E: Out>(out: &mut E, text: &[u8]) -> Result<(), Failed>
+    ensures ok { OnOk result (Appends (E.taken out.old) (E.taken out.new) text.now) }
+    ensures no_failure { OnOk result (E.failures out.new ≡ E.failures out.old) }
+    ensures part { OnErr result (AppendsPart (E.taken out.old) (E.taken out.new) text.now) }
+    ensures err { OnErr result (HasFailed (E.failures out.old) (E.failures out.new)) }
+{
+    if text.is_empty() {
+        return Ok(());
+    }
+    write_all(out, text)?;
+    out.flush()
+}
+
+/// Prints one more text on `error` at once, unless a write or a flush has failed before (`failed`); then the text is
+/// lost. Returns whether one has failed now.
+pub(crate) fn print_now<E: Out>(error: &mut E, failed: bool, text: &[u8]) -> bool
+    ensures { (start : Stream) (before : List ℕ) → HasPrinted failed before start (record { bytes = E.taken error.old; failures = E.failures error.old })
+        → HasPrinted result (before ++ text.now) start (record { bytes = E.taken error.new; failures = E.failures error.new }) }
+{
+    if failed {
+        return true;
+    }
+    match write_now(error, text) {
+        Ok(()) => false,
+        Err(_) => true,
+    }
 }

@@ -2,3 +2,4 @@ pub mod Halts
 pub mod Unseen
 pub mod Map
 mod ByWidth
+mod Upwards

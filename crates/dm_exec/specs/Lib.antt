@@ -2,6 +2,7 @@ pub mod Operation
 pub mod Moves
 pub mod Jumps
 pub mod Strings
+pub mod Repetitions
 pub mod Control
 pub mod Effect
 pub mod Unseen

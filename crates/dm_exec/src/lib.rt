@@ -7,6 +7,7 @@ mod jumps;
 mod laws;
 mod moves;
 mod operation;
+mod repetitions;
 mod strings;
 
 pub use control::change_flag;
@@ -22,6 +23,7 @@ pub use operation::{
     Condition, FlagOperation, LoopOperation, MoveOperation, Operation, StringOperation,
     TransferOperation,
 };
+pub use repetitions::repeat_upwards;
 pub use strings::{
     Comparing, Loading, Moving, Scanning, Storing, StringWork, act_on_string, repeat_string,
 };

@@ -67,6 +67,7 @@ makes_steps request.Step = true
 makes_steps request.Continue = true
 makes_steps (request.Range start end) = true
 makes_steps request.StepBack = true
+makes_steps request.ContinueBack = true
 makes_steps _ = false
 
 -- the conversation after a reply, with s as the session

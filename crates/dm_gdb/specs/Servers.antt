@@ -30,6 +30,7 @@ use Rattle.dm_target.specs.Going.{is_among, place_of, Continues}
 use Rattle.dm_target.specs.declared.undoing.Undone.{Undone}
 use Rattle.dm_target.specs.declared.undoing.Undone.TheVariants as undone
 use Rattle.dm_target.specs.Undoing.{Undoes}
+use Rattle.dm_target.specs.Returning.{Returns}
 use Rattle.dm_target.specs.Points.{Set, none_set, with_point, without_point}
 use Rattle.dm_gdb.specs.Replies.{stop_reply}
 
@@ -129,7 +130,7 @@ with_past s q = record s { history = q; ended = false }
 abbrev pub restarted : Served → Served
 restarted s = record s { history = new_past s.history.origin; shown = 0; ended = false }
 
--- the reply where going back a step ended in this state
+-- the reply where going back ended in this state
 abbrev pub undone_reply : List ℕ → Undone → State → Reply
 undone_reply breaks undone.Begun t = reply.Begun
 undone_reply breaks (undone.Hit point) t = reply.Watch point
@@ -153,8 +154,7 @@ abbrev pub with_registers : Served → Option Cpu → Served
 with_registers s None = s
 with_registers s (Some c) = record s { history = with_change s.history (change.Registers c) }
 
--- whether the request asks for nothing of the machine, or for nothing that this server has, as going back to
--- a breakpoint
+-- whether the request asks for nothing of the machine, or for nothing that this server has
 abbrev pub is_plain : Request → Bool
 is_plain request.Registers = false
 is_plain (request.Register n) = false
@@ -172,6 +172,7 @@ is_plain request.Step = false
 is_plain request.Continue = false
 is_plain (request.Range start end) = false
 is_plain request.StepBack = false
+is_plain request.ContinueBack = false
 is_plain request.Restart = false
 is_plain _ = true
 
@@ -199,6 +200,7 @@ pub data Replies (s : Served) (most : ℕ) : Request → Reply → Served → Ty
   goes_back : (line : List ℕ) (n : ℕ) (q : Past) → step_of line ≡ Some n → n < s.history.machine.steps → GoesBack s.history n q → Replies s most (request.Command line) reply.Done (with_past s q)
   has_passed : (line : List ℕ) (n : ℕ) → step_of line ≡ Some n → n < s.history.origin.steps → Replies s most (request.Command line) reply.Passed s
   steps_back : (what : Undone) (q : Past) → Undoes s.points.watches s.history what q → Replies s most request.StepBack (undone_reply s.points.breaks what q.machine) (with_past s q)
+  continues_back : (what : Undone) (q : Past) → Returns s.points.breaks s.points.watches s.history what q → Replies s most request.ContinueBack (undone_reply s.points.breaks what q.machine) (with_past s q)
   restarts : Replies s most request.Restart (reply.Signal 0x05) (restarted s)
   steps : (why : Pause) (t : State) → Continues s.points.breaks s.points.watches None s.history.machine 1 why t
       → Replies s most request.Step (step_reply s.points.breaks why t) (gone s (step_reply s.points.breaks why t) t)

@@ -1,4 +1,4 @@
-//! Going back: a step, to any earlier step, and to the start.
+//! Going back: a step, to the last hit, to any earlier step, and to the start.
 
 ghost use Rattle.std.specs.Prelude.{◌≡◌, ◌<◌, ℕ, Some, IfOk, OnErr};
 ghost use Rattle.dm_gdb.specs.Monitor.{step_of};
@@ -8,10 +8,10 @@ ghost use Rattle.dm_requests.specs.declared.request.Request.TheVariants as reque
 use crate::replies::Reply;
 use crate::server::Server;
 use dm_machine::Machine;
-use dm_target::{Undone, is_among, place_of, step_back};
+use dm_target::{Undone, is_among, place_of, step_back, turn_back};
 use std::alloc::AllocError;
 
-/// The reply where going back a step ended.
+/// The reply where going back ended.
 fn undone_reply(breaks: &[u32], undone: Undone, machine: &Machine) -> Reply
     ensures { result ≡ undone_reply breaks.now undone machine.now }
 {
@@ -38,6 +38,18 @@ impl Server {
         let undone = step_back(self.alloc, &mut self.history, self.points.watches())?;
         self.is_ended = false;
         let breaks = self.points.breaks();
+        Ok(undone_reply(breaks, undone, self.history.machine()))
+    }
+
+    /// `bc`: goes back to the last state at a breakpoint, or before a step that hit a watchpoint, or to the start, with what the
+    /// user changed up to then, and returns the reply. An `Err` is a failed allocation, and nothing has changed.
+    pub(crate) fn continue_back(&mut self) -> Result<Reply, AllocError>
+        ensures ok { IfOk result (λ r. (most : ℕ) → Replies self.old most request.ContinueBack r self.new) }
+        ensures err { OnErr result (self.new ≡ self.old) }
+    {
+        let breaks = self.points.breaks();
+        let undone = turn_back(self.alloc, &mut self.history, breaks, self.points.watches())?;
+        self.is_ended = false;
         Ok(undone_reply(breaks, undone, self.history.machine()))
     }
 

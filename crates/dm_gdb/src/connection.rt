@@ -76,6 +76,7 @@ fn makes_steps(request: &Request) -> bool
         Request::Continue => true,
         Request::Range(_, _) => true,
         Request::StepBack => true,
+        Request::ContinueBack => true,
         _ => false,
     }
 }

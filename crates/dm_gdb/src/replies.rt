@@ -52,7 +52,7 @@ pub enum Reply {
     Rest(Payload),
     /// `Text=B;Data=B;Bss=B`, B in eight digits: the linear address of the program's first segment.
     Offsets(u32),
-    /// `PacketSize=4000;qXfer:features:read+;swbreak+;hwbreak+;ReverseStep+;QStartNoAckMode+;vContSupported+`: what the server can do.
+    /// `PacketSize=4000;qXfer:features:read+;swbreak+;hwbreak+;ReverseStep+;ReverseContinue+;QStartNoAckMode+;vContSupported+`: what the server can do.
     Abilities,
     /// `vCont;c;C;s;S;r`: the ways to go on.
     ContinueKinds,
@@ -166,7 +166,7 @@ pub fn put_reply(alloc: Global, out: &mut Vec<u8>, reply: &Reply) -> Result<(), 
         Reply::Passed => put_hex(alloc, out, b"this step has passed\n"),
         Reply::StoppedBefore => put_hex(alloc, out, b"the program has stopped before\n"),
         Reply::Abilities => out.extend_from_slice(
-            b"PacketSize=4000;qXfer:features:read+;swbreak+;hwbreak+;ReverseStep+;QStartNoAckMode+;vContSupported+",
+            b"PacketSize=4000;qXfer:features:read+;swbreak+;hwbreak+;ReverseStep+;ReverseContinue+;QStartNoAckMode+;vContSupported+",
         ),
         Reply::Part(bytes) => put_part(out, b'm', bytes.as_slice()),
         Reply::Rest(bytes) => put_part(out, b'l', bytes.as_slice()),

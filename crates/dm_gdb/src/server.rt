@@ -293,6 +293,7 @@ impl Server {
             Request::Continue => Ok(self.continue_to(most)),
             Request::Range(start, end) => Ok(self.step_through(*start, *end, most)),
             Request::StepBack => self.step_back(),
+            Request::ContinueBack => self.continue_back(),
             Request::Restart => self.restart(),
             _ => Ok(plain_reply(request)),
         }

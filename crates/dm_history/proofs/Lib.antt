@@ -1,8 +1,8 @@
 mod Counts
-mod Leading
-mod Runs
-mod OneState
-mod Walks
+pub mod Leading
+pub mod Runs
+pub mod OneState
+pub mod Walks
 mod Replaying
 mod Keeping
 mod Writing
@@ -10,6 +10,4 @@ mod Lists
 mod Going
 mod Order
 mod Nears
-mod Passings
-mod Scanning
-mod Looking
+mod Branching

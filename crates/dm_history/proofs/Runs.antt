@@ -72,7 +72,7 @@ run-rises s t n stop l (cut e w) =
 
 -- ---- runs one after the other
 
-record Whole (s : State) (n : ℕ) (t : State) : Type 0 where
+pub record Whole (s : State) (n : ℕ) (t : State) : Type 0 where
   pub alive : s.exited ≡ None
   pub goes : Goes s n t
 
@@ -82,7 +82,7 @@ no-last s t (ends code e f g) = let no : AllSteps ≡ Exited code = same-some Al
 no-last s t (counts.over code e f) = let no : AllSteps ≡ Exited code = same-some AllSteps (Exited code) (ap (λ (x : Answer). x.stop) f) in cc
 no-last s t (stays stop p f) = subst IsEarly (sym (same-some AllSteps stop (ap (λ (x : Answer). x.stop) f))) p
 
-all-made : (s t : State) (n : ℕ) (stop : Stop) → stop ≡ AllSteps → IsRun s n stop t → Whole s n t
+pub all-made : (s t : State) (n : ℕ) (stop : Stop) → stop ≡ AllSteps → IsRun s n stop t → Whole s n t
 all-made s t n stop a (over code e f g) = let no : AllSteps ≡ Exited code = sym a ∙ f in absurd (cc)
 all-made s t n stop a (whole e f g) = record { alive = e; goes = g }
 all-made s t n stop a (cut e w) =

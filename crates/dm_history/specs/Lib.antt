@@ -1,6 +1,6 @@
 pub mod Edits
 pub mod Becomes
 pub mod Pasts
-pub mod Passing
+pub mod Branches
 pub mod Laws
 pub mod inner

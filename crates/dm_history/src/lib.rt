@@ -3,7 +3,6 @@
 
 mod change;
 mod copies;
-mod finding;
 mod history;
 mod laws;
 mod replay;

@@ -1,6 +1,6 @@
 //! Running again: from a copy of a machine to a later step, with the edits on the way.
 
-ghost use Rattle.std.specs.Prelude.{◌≡◌, ◌-◌, ◌^◌, ◌<◌, ◌≤◌, OnOk, length};
+ghost use Rattle.std.specs.Prelude.{◌≡◌, ◌-◌, ◌^◌, ◌<◌, ◌≤◌, ℕ, All, OnOk, length};
 ghost use Rattle.dm_state.specs.State.{HasProgram};
 ghost use Rattle.dm_history.specs.Edits.{edits_to};
 ghost use Rattle.dm_history.specs.inner.Replays.{RunsTo, LeadsBeyond, IsReplayed};
@@ -14,6 +14,19 @@ pub(crate) fn count_to(edits: &[Edit], step: u64) -> usize
     ensures { result ≡ length (edits_to step edits.now) }
 {
     edits.iter().take_while(|edit| edit.step <= step).count()
+}
+
+/// The latest of a step and of those at which these edits were made.
+pub(crate) fn latest(edits: &[Edit], step: u64) -> u64
+    ensures since { step ≤ result }
+    ensures all { All (λ e. e.step ≤ result) edits.now }
+    ensures least { (n : ℕ) → step ≤ n → All (λ e. e.step ≤ n) edits.now → result ≤ n }
+{
+    let mut latest = step;
+    for edit in edits {
+        latest = latest.max(edit.step);
+    }
+    latest
 }
 
 /// Makes steps up to a count of steps, or fewer if the machine stops. An `Err` is a failed allocation; some of the steps

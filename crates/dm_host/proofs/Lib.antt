@@ -2,3 +2,4 @@ pub mod Loads
 pub mod Lines
 pub mod Filled
 pub mod Checked
+pub mod Ran

@@ -5,4 +5,5 @@ pub mod Memory
 pub mod Input
 pub mod Commands
 pub mod Checking
+pub mod Events
 pub mod inner

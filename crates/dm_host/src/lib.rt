@@ -6,6 +6,7 @@ mod answer;
 mod checks;
 mod commands;
 mod copy;
+mod events;
 mod host;
 mod input;
 mod loading;

@@ -3,6 +3,7 @@ mod Quicks
 pub mod OneRun
 pub mod OneStop
 mod DecodeCaches
+mod Elements
 mod Confined
 mod Kept
 mod Extended

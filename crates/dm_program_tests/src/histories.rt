@@ -140,35 +140,3 @@ fn copies_on_the_way_change_nothing(rt: HostRuntime) -> Result<(), Fail> {
     let mut history = begun(rt.alloc(), &LOOP, 3)?;
     loops_again(&rt, &mut history)
 }
-
-/// Looks for the last state at one address.
-fn looks(
-    rt: &impl Abort,
-    history: &History,
-    address: u32,
-    wanted: Option<u64>,
-) -> Result<(), Fail> {
-    same(rt, "the last", history.last_at(&[0x1150, address])?, wanted);
-    Ok(())
-}
-
-/// Looks over six steps of RISE, and over a jump of the user. MOV is at 0103:0100, which is 1130h, and the instructions INC
-/// are from 1133h on: after n steps the machine is at 1132h + n.
-fn looks_back(rt: &impl Abort, history: &mut History) -> Result<(), Fail> {
-    steps_to(rt, history, 6, 6, 10);
-    looks(rt, history, 0x1135, Some(3))?;
-    looks(rt, history, 0x1130, Some(0))?;
-    looks(rt, history, 0x1138, None)?;
-    // Where the user changes IP, the state after the change counts.
-    let cpu = history.machine().cpu();
-    history.set_registers(Cpu { ip: 0x0103, ..cpu })?;
-    steps_to(rt, history, 2, 8, 12);
-    looks(rt, history, 0x1133, Some(6))?;
-    looks(rt, history, 0x1138, None)
-}
-
-#[test]
-fn the_last_breakpoint_is_found(rt: HostRuntime) -> Result<(), Fail> {
-    let mut history = begun(rt.alloc(), &RISE, 8)?;
-    looks_back(&rt, &mut history)
-}

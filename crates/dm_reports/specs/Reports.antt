@@ -21,9 +21,17 @@ left_out_line n = codes "not listed: " ++ counted n (codes "finding") ++ 10 ∷ 
 abbrev pub unlisted_line : ℕ → List ℕ
 unlisted_line n = if n == 0 then [] else left_out_line n
 
--- the text of a report: a line for each finding that it lists, in their order; a line for each of them that is repeated;
--- a line about those that it leaves out, if there are any; and a line with the numbers of all errors and notes
-unfoldable pub report_text : Reported → List ℕ
-report_text r =
-    flat_map listed_line r.listed ++ flat_map again_line r.listed ++ unlisted_line r.unlisted
+-- the lines of the findings that a report lists, in their order
+abbrev pub lines_text : List Listed → List ℕ
+lines_text ls = flat_map listed_line ls
+
+-- what follows those lines: a line for each finding that is repeated; a line about those that are left out, if there are
+-- any; and a line with the numbers of all errors and notes
+unfoldable pub summary_text : Reported → List ℕ
+summary_text r =
+    flat_map again_line r.listed ++ unlisted_line r.unlisted
     ++ codes "errors: " ++ decimal r.errors ++ codes ", notes: " ++ decimal r.notes ++ 10 ∷ []
+
+-- the text of a report: a line for each finding that it lists, and what follows them
+unfoldable pub report_text : Reported → List ℕ
+report_text r = lines_text r.listed ++ summary_text r

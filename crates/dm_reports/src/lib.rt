@@ -11,6 +11,6 @@ mod stops;
 mod texts;
 
 pub use names::put_call;
-pub use reports::put_report;
+pub use reports::{put_lines, put_report, put_summary};
 pub use stops::put_stop;
 pub use texts::put_found;

@@ -2,15 +2,19 @@
 
 ghost use Rattle.std.specs.Prelude.{◌≡◌, ◌++◌, OnOk};
 ghost use Rattle.std.specs.List.{flat_map};
-ghost use Rattle.dm_reports.specs.Reports.{listed_line, again_line, left_out_line, unlisted_line, report_text};
+ghost use Rattle.dm_reports.specs.Reports.{again_line, left_out_line, lines_text, report_text, summary_text, unlisted_line};
 
 use crate::texts::{put_counted, put_found, put_number, put_repeated};
 use dm_findings::{Listed, Report};
 use std::alloc::AllocError;
 
-/// Appends a line for each finding that is listed, in their order.
-fn put_all(out: &mut Vec<u8>, lines: &[Listed]) -> Result<(), AllocError>
-    ensures { OnOk result (out.new.items ≡ out.old.items ++ flat_map listed_line lines.now) }
+/// Appends a line for each of these findings, in their order.
+///
+/// # Errors
+///
+/// `AllocError` if an allocation fails.
+pub fn put_lines(out: &mut Vec<u8>, lines: &[Listed]) -> Result<(), AllocError>
+    ensures { OnOk result (out.new.items ≡ out.old.items ++ lines_text lines.now) }
 {
     for line in lines {
         put_found(out, &line.found)?;
@@ -57,9 +61,27 @@ fn put_unlisted(out: &mut Vec<u8>, unlisted: u64) -> Result<(), AllocError>
     put_left_out(out, unlisted)
 }
 
-/// Appends the text of a report: a line for each finding that it lists, in the order in which they happened; a line for
-/// each of them that is repeated; a line about those that it leaves out, if there are any; and a line with the numbers
-/// of all errors and notes.
+/// Appends what follows the lines of the findings that a report lists: a line for each of them that is repeated; a line
+/// about those that it leaves out, if there are any; and a line with the numbers of all errors and notes.
+///
+/// # Errors
+///
+/// `AllocError` if an allocation fails.
+#[tactic(auto, unfolding(crate::specs::Reports::summary_text))]
+pub fn put_summary(out: &mut Vec<u8>, report: &Report) -> Result<(), AllocError>
+    ensures { OnOk result (out.new.items ≡ out.old.items ++ summary_text report.now) }
+{
+    put_all_again(out, report.listed())?;
+    put_unlisted(out, report.unlisted())?;
+    out.extend_from_slice(b"errors: ")?;
+    put_number(out, report.errors())?;
+    out.extend_from_slice(b", notes: ")?;
+    put_number(out, report.notes())?;
+    out.extend_from_slice(b"\n")
+}
+
+/// Appends the text of a report: a line for each finding that it lists, in the order in which they happened, and its
+/// summary.
 ///
 /// # Errors
 ///
@@ -68,12 +90,6 @@ fn put_unlisted(out: &mut Vec<u8>, unlisted: u64) -> Result<(), AllocError>
 pub fn put_report(out: &mut Vec<u8>, report: &Report) -> Result<(), AllocError>
     ensures { OnOk result (out.new.items ≡ out.old.items ++ report_text report.now) }
 {
-    put_all(out, report.listed())?;
-    put_all_again(out, report.listed())?;
-    put_unlisted(out, report.unlisted())?;
-    out.extend_from_slice(b"errors: ")?;
-    put_number(out, report.errors())?;
-    out.extend_from_slice(b", notes: ")?;
-    put_number(out, report.notes())?;
-    out.extend_from_slice(b"\n")
+    put_lines(out, report.listed())?;
+    put_summary(out, report)
 }

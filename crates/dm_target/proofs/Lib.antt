@@ -5,3 +5,5 @@ pub mod Nearing
 pub mod Passing
 pub mod Stepping
 pub mod Watched
+pub mod LastHits
+pub mod Searching

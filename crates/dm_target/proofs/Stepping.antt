@@ -53,7 +53,7 @@ stepping_by s x h g e a = running_by s x s.exited h g e a
 pub begins_of : (s t : State) → s.cpu.cs < 0xF000 → MakesStep s (record { stop = None; state = t }) → Begins s
 begins_of s t below h = stepping_by s (record { stop = None; state = t }) (λ e. cc) (λ code e. cc) (no_entry_point s.cpu below) h
 
-one_of : (s t : State) (n : ℕ) → Goes s n t → n ≡ 1 → MakesStep s (record { stop = None; state = t })
+pub one_of : (s t : State) (n : ℕ) → Goes s n t → n ≡ 1 → MakesStep s (record { stop = None; state = t })
 one_of s t n run.here e = absurd (omega arith)
 one_of s t n (run.further k v u g h) e = (let F : State → Type 0 = λ x. MakesStep x (record { stop = None; state = t }) in subst F (none-made s v k g (omega arith)) h)
 

@@ -3,6 +3,7 @@ pub mod Registers
 pub mod Settings
 pub mod Watching
 pub mod Undoing
+pub mod Returning
 pub mod Going
 pub mod Points
 pub mod inner

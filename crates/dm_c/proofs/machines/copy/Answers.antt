@@ -1,4 +1,4 @@
-use Rattle.std.proofs.Common.{◌≡◌, refl, sym, ap, ◌∙◌}
+use Rattle.std.proofs.Common.{refl, sym, ap, ◌∙◌}
 use Rattle.dm_c.specs.Machines.{occupied, no_memory}
 use Rattle.dm_c.specs.Statuses.{status_of}
 use Rattle.dm_c.proofs.Insides.{of_some}

@@ -1,6 +1,6 @@
 use Rattle.std.proofs.Common.{◌≡◌, map, drop}
 use Rattle.dm_checker.specs.Arranged.{has_size}
-use Rattle.dm_checker.specs.inner.Watching.{header_of}
+use Rattle.dm_checker.specs.Watching.{header_of}
 use Rattle.dm_checker.proofs.arranged.has_size.Given as goal
 
 abbrev pub invariant-loop-watched : goal.invariant-loop-watched

@@ -1,6 +1,6 @@
 use Rattle.std.proofs.Common.{◌≡◌, map, drop}
 use Rattle.dm_checker.specs.Calls.{is_free_at}
-use Rattle.dm_checker.specs.inner.Watching.{header_of}
+use Rattle.dm_checker.specs.Watching.{header_of}
 use Rattle.dm_checker.proofs.calls.is_free_at.Given as goal
 
 abbrev pub invariant-loop-watched : goal.invariant-loop-watched

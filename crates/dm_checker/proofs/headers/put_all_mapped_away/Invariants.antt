@@ -3,7 +3,7 @@ use Rattle.std.specs.Prelude.{All}
 use Rattle.std.specs.List.{flat_map}
 use Rattle.dm_space.specs.Memory.{Memory}
 use Rattle.dm_checker.specs.Headers.{mapped_away}
-use Rattle.dm_checker.specs.inner.Watching.{header_of, IsWatched}
+use Rattle.dm_checker.specs.Watching.{header_of, IsWatched}
 use Rattle.dm_checker.proofs.headers.put_all_mapped_away.Given as goal
 
 abbrev pub invariant-loop-watched : goal.invariant-loop-watched

@@ -4,7 +4,7 @@ use Rattle.dm_space.specs.Memory.{Memory}
 use Rattle.dm_checker.specs.Calls.{arranges}
 use Rattle.dm_checker.specs.Headers.{overwritten, mapped_away}
 use Rattle.dm_checker.specs.Findings.{all_overwritten}
-use Rattle.dm_checker.specs.inner.Watching.{header_of}
+use Rattle.dm_checker.specs.Watching.{header_of}
 use Rattle.dm_checker.proofs.Looking.{overwritten_none, overwritten_all, at_watch, looks_by}
 use Rattle.dm_checker.proofs.steps.look_anew.Goals as goal
 use Rattle.dm_checker.proofs.steps.look_anew.Goals.{then-not-arranges+in_ok-put_all_overwritten, else-not-arranges}

@@ -2,7 +2,7 @@ use Rattle.std.proofs.Common.{◌≡◌, ◌++◌, map, take}
 use Rattle.std.specs.List.{flat_map}
 use Rattle.dm_touches.specs.Elements.{bytes_of}
 use Rattle.dm_touches.specs.Found.{of_header}
-use Rattle.dm_checker.specs.inner.Watching.{header_of}
+use Rattle.dm_checker.specs.Watching.{header_of}
 use Rattle.dm_checker.proofs.touched.put_of_each.Given as goal
 
 abbrev pub invariant-loop-watched : goal.invariant-loop-watched

@@ -1,5 +1,5 @@
 use Rattle.std.specs.List.{AllWithin}
-use Rattle.dm_checker.specs.inner.Watching.{IsWatched}
+use Rattle.dm_checker.specs.Watching.{IsWatched}
 use Rattle.dm_checker.proofs.watch.are_seen.Given as goal
 
 abbrev pub invariant-loop-watched : goal.invariant-loop-watched

@@ -10,7 +10,7 @@ use Rattle.dm_cli.proofs.checking.check.Goals as goal
 pub returns-in_err-machine-clause-does : goal.returns-in_err-machine-clause-does
 returns-in_err-machine-clause-does g c =
     let p = err_from_is_err_and c.from_residual.result c.from_residual.ensures.1 in
-    rw (p.1, p.2) (not_started _ c.in_err-machine.ensures.fault (Keeps-refl _) refl)
+    rw (p.1, p.2) (not_started _ c.in_err-machine.ensures.fault (Keeps-refl _) refl refl)
 
 pub returns-clause-does : goal.returns-clause-does
 returns-clause-does g c = check_of_run _ _ _ _ c.in_ok-machine.ensures.started _ _ _ _ _ _ _ c.check_machine.ensures.does

@@ -1,8 +1,6 @@
 use Rattle.std.proofs.Common.{refl}
 use Rattle.std.proofs.KnownBytes.{Keeps-refl}
 use Rattle.dm_cli.specs.Program.{runs, checks, debugs, debugs_by_gdb, assembles, disassembles}
-use Rattle.dm_cli.proofs.Checked.{reported_fault}
-use Rattle.dm_cli.proofs.Printed.{fault_printed}
 use Rattle.dm_cli.proofs.commands.dm_main.Goals as goal
 
 pub returns-in-Ok-Run : goal.returns-in-Ok-Run
@@ -11,10 +9,8 @@ returns-in-Ok-Run g c =
 
 pub returns-in-Ok-Check : goal.returns-in-Ok-Check
 returns-in-Ok-Check g c =
-    let told = reported_fault _ _ _ _ _ _ _ _ (λ e. record { bytes = g.E.Out.taken e; failures = g.E.Out.failures e }) c.check.new.error c.concluded.new.error
-    c.check.result (rw c.in-Ok-Check.field-0-is at c.check.ensures.does) c.concluded.ensures.ok in
-    let fault = fault_printed (λ e. record { bytes = g.E.Out.taken e; failures = g.E.Out.failures e }) _ _ _ c.check.result c.check.ensures.silent c.concluded.ensures.fault in
-    checks _ _ (record { right = c.in-Ok-Check.ensures.no_fault; says = rw c.in-Ok-Check.field-0-is at c.in-Ok-Check.ensures.ok }) told fault (c.check.ensures.kept.saves, c.check.ensures.kept.count) c.check.ensures.reads c.concluded.ensures.status
+    checks _ _ _ (record { right = c.in-Ok-Check.ensures.no_fault; says = rw c.in-Ok-Check.field-0-is at c.in-Ok-Check.ensures.ok }) (rw c.in-Ok-Check.field-0-is at c.check.ensures.does)
+    c.concluded.ensures.line (c.check.ensures.kept.saves, c.check.ensures.kept.count) c.check.ensures.reads c.concluded.ensures.status
 
 pub returns-in-Ok-Debug : goal.returns-in-Ok-Debug
 returns-in-Ok-Debug g c =

@@ -56,6 +56,6 @@ pub returns-in_default : goal.returns-in_default
 returns-in_default c = record {
   ok = replies_as _ _ _ _ _ _ _ _ (plain c.args.request.now (only_these c.args.request.now c.in_default.not-Registers c.in_default.not-Register c.in_default.not-Memory
       c.in_default.not-SetMemory c.in_default.not-SetRegister c.in_default.not-Features c.in_default.not-Command
-      c.in_default.not-Offsets c.in_default.not-FirstThreads c.in_default.not-EndProgram c.in_default.not-Insert c.in_default.not-Remove c.in_default.not-Step c.in_default.not-Continue c.in_default.not-Range c.in_default.not-StepBack c.in_default.not-Restart)) refl c.plain_reply.ensures refl;
+      c.in_default.not-Offsets c.in_default.not-FirstThreads c.in_default.not-EndProgram c.in_default.not-Insert c.in_default.not-Remove c.in_default.not-Step c.in_default.not-Continue c.in_default.not-Range c.in_default.not-StepBack c.in_default.not-ContinueBack c.in_default.not-Restart)) refl c.plain_reply.ensures refl;
   err = tt;
 }

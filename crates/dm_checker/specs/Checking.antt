@@ -1,0 +1,48 @@
+-- A checked run that is under way: the steps that it has made, and the report of what is found in them.
+use Rattle.std.specs.Prelude.{◌≡◌, ℕ, ◌-◌, ◌<◌, ◌≤◌, Bool, List, [], ◌++◌, map, Option, Some, None}
+use Rattle.dm_state.specs.declared.stop.Stop.{Stop}
+use Rattle.dm_state.specs.State.{State}
+use Rattle.dm_findings.specs.declared.finding.Found.{Found}
+use Rattle.dm_findings.specs.declared.report.Listed.{Listed}
+use Rattle.dm_findings.specs.Report.{Reported, report_of}
+use Rattle.dm_checker.specs.declared.watch.Watch.{Watch}
+use Rattle.dm_checker.specs.Checks.{FindsIn, IsReport, reported}
+use Rattle.dm_checker.specs.Watching.{IsWatch}
+
+-- a checked run under way: the report so far, how many steps it may still make, whether it reports findings about free
+-- memory, the exit code of a program that had ended before its first step, if it had, and what memory shows of the arena
+pub record UnderWay : Type 0 where
+  pub report : Reported
+  pub left : ℕ
+  pub free : Bool
+  pub over : Option ℕ
+  pub watch : Watch
+
+-- the steps that c has made from s, of at most n, led to t, and its report has what is found in them
+pub record HasMade (s : State) (n : ℕ) (t : State) (c : UnderWay) : Type 0 where
+  pub running : s.exited ≡ None
+  pub few : c.left ≤ n
+  pub found : List Found
+  pub finds : FindsIn s (n - c.left) t found
+  pub reports : c.report ≡ report_of (reported c.free found)
+
+-- c is a checked run of at most n steps from s, which has led to t: it goes on, or the program had ended before (then
+-- there is no step, and nothing is found)
+pub data IsUnderWay (s : State) (n : ℕ) (t : State) (c : UnderWay) : Type 0 where
+  going : c.over ≡ None → HasMade s n t c → IsWatch t.upper t.memory c.watch → IsUnderWay s n t c
+  had_ended : (code : ℕ) → c.over ≡ Some code → s.exited ≡ Some code → t ≡ s → c.report ≡ report_of [] → IsUnderWay s n t c
+
+-- the run goes on from `old` to `new` in state t (None), after a step at least; or it stops for a reason, and `new` has
+-- the report of the whole run of at most n steps from s
+abbrev pub GoesOn : State → ℕ → Option Stop → State → UnderWay → UnderWay → Type 0
+GoesOn s n None t old new = IsUnderWay s n t new × (new.left < old.left) × (new.free ≡ old.free)
+GoesOn s n (Some stop) t old new = IsReport s n old.free stop t new.report
+
+-- the findings of lines
+abbrev pub founds : List Listed → List Found
+founds ls = map (λ l. l.found) ls
+
+-- the findings that are listed in `old` are the first of those that are listed in `new`
+pub record IsLonger (old new : Reported) : Type 0 where
+  pub more : List Found
+  pub is : founds new.listed ≡ founds old.listed ++ more

@@ -1,0 +1,60 @@
+-- When nothing can be found of the bytes that an instruction touches, and it leaves the headers as they are. No definition
+-- of a finding mentions it.
+use Rattle.std.specs.Prelude.{◌≡◌, ◌<◌, ℕ, ◌-◌, ◌/◌, ◌==◌, ◌&&◌, ◌||◌, not, nat_lt, is_some, Bool, true, false, if◌then◌else◌, List, slice_index_or, None}
+use Rattle.std.specs.List.{list_any}
+use Rattle.dm_space.specs.Memory.{Memory}
+use Rattle.dm_ins.specs.declared.ins.Ins.{Ins}
+use Rattle.dm_ins.specs.Ins.{BeginsWith}
+use Rattle.dm_cpu.specs.Guest.{guest}
+use Rattle.dm_state.specs.State.{State}
+use Rattle.dm_machine.specs.Step.{fetched}
+use Rattle.dm_quiet.specs.Marks.{pass}
+use Rattle.dm_touches.specs.declared.elements.Elements.{Elements}
+use Rattle.dm_touches.specs.Touches.{reads, writes}
+use Rattle.dm_touches.specs.Found.{is_in_free}
+use Rattle.dm_checker.specs.declared.watch.Watched.{Watched}
+use Rattle.dm_checker.specs.declared.watch.Watch.{Watch}
+
+-- whether the linear address is in the memory of the free block behind the header
+abbrev pub is_free_of : ℕ → Watched → Bool
+is_free_of a x = is_in_free x.header a
+
+-- whether the linear address is in that memory, or in the paragraph of the header
+abbrev pub is_at : ℕ → Watched → Bool
+is_at a x = is_free_of a x || (x.header.segment == a / 16)
+
+-- whether the header is in the page frame or above it
+abbrev pub is_high : Watched → Bool
+is_high x = nat_lt 0xDFFF x.header.segment
+
+-- whether a write of the linear address goes to RAM below the frame or above the ROM, or to a page that a window shows
+-- while no header is in the frame
+abbrev pub is_memory : Memory → List Watched → ℕ → Bool
+is_memory m ws a =
+    if nat_lt a 0xC0000 then true else
+    if nat_lt a 0xD0000 then false else
+    if nat_lt a 0xE0000 then true else
+    if nat_lt a 0xF0000 then is_some (slice_index_or m.windows ((a - 0xE0000) / 0x4000) None) && not (list_any is_high ws) else not (nat_lt a 0x100000) && nat_lt a 0x10FFF0
+
+-- whether nothing is found of a read of the linear address
+abbrev pub is_read_clear : List Watched → ℕ → Bool
+is_read_clear ws a = not (list_any (is_free_of a) ws)
+
+-- whether nothing is found of a write to the linear address, and it is in no header
+abbrev pub is_write_clear : Memory → List Watched → ℕ → Bool
+is_write_clear m ws a = is_memory m ws a && not (list_any (is_at a) ws)
+
+-- nothing is found of these reads and writes, and no header is written to; no list of headers breaks
+pub record IsClear (m : Memory) (w : Watch) (rs ws : Elements) : Type 0 where
+  pub whole : w.broken ≡ None
+  pub reads : pass (is_read_clear w.headers.items) m.a20 rs ≡ true
+  pub writes : pass (is_write_clear m w.headers.items) m.a20 ws ≡ true
+
+-- the instruction at CS:IP, below the segment of services and drivers, touches only bytes of which nothing is found, and
+-- writes to no header; w is what memory shows of the arena before it
+pub record IsPassed (s : State) (w : Watch) : Type 0 where
+  pub ins : Ins
+  pub length : ℕ
+  pub below : s.cpu.cs < 0xF000
+  pub begins : BeginsWith (fetched s.memory s.cpu) ins length
+  pub clear : IsClear s.memory w (reads (guest s.cpu s.memory) ins length) (writes (guest s.cpu s.memory) ins length)

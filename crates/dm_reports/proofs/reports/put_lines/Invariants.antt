@@ -1,0 +1,8 @@
+use Rattle.std.specs.Prelude.{◌≡◌, ◌++◌, take}
+use Rattle.std.specs.List.{flat_map}
+use Rattle.dm_reports.specs.Reports.{listed_line}
+use Rattle.dm_reports.proofs.reports.put_lines.Given as goal
+
+-- the lines of the findings so far
+abbrev pub invariant-loop-line : goal.invariant-loop-line
+invariant-loop-line l = l.out.items ≡ l.initial.out.items ++ flat_map listed_line (take l.line-index l.lines)
