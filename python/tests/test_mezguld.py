@@ -125,7 +125,7 @@ class Events(unittest.TestCase):
             self.assertEqual(machine.steps, 2 * 65_536 + 4)
 
     def test_a_conversation(self) -> None:
-        path = os.path.join(os.path.dirname(os.path.abspath(__file__)), "..", "..", "examples", "hosts", "talk.py")
+        path = os.path.join(ROOT, "examples", "hosts", "talk.py")
         ran = subprocess.run([sys.executable, path], capture_output=True, text=True, timeout=60, check=False)
         self.assertEqual((ran.returncode, ran.stderr), (0, ""))
         self.assertEqual(ran.stdout, "[Who? ]\nAda:\nHello, Ada\nCharles:\nHello, Charles\n[3, 7]\n")
