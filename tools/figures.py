@@ -13,7 +13,7 @@ import specs
 SENTENCES = {
     "README.md": (["{machine_definitions} definitions on {machine_lines} lines", "{axioms} contracts of C functions"], []),
     "CONTRIBUTING.md": (
-        ["This proves {crates_of_dm} crates", "all {mutants} mutants, of which the gate tries {must_fail}"],
+        ["This proves {crates_of_dm} crates", "in all {mutants} mutants, of which the gate tries {must_fail}"],
         [],
     ),
     "docs/architecture.md": (
