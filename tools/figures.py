@@ -69,14 +69,14 @@ def tracked():
     return [path for path in listed.stdout.split("\0") if path and os.path.exists(f"{specs.ROOT}/{path}")]
 
 
-def loaded(path):
+def syntax_of(path):
     """A Python file of the tree as its syntax."""
     return ast.parse(specs.text_of(path))
 
 
-def size_of(path, name):
+def elements(path, name):
     """How many elements the list, tuple or dictionary of a name in a Python file has."""
-    for it in loaded(path).body:
+    for it in syntax_of(path).body:
         if isinstance(it, ast.Assign) and any(isinstance(one, ast.Name) and one.id == name for one in it.targets):
             if isinstance(it.value, (ast.List, ast.Tuple)):
                 return len(it.value.elts)
@@ -162,13 +162,13 @@ def of_tree():
         "functions_of_dos": numbers_served("dm_services"),
         "functions_of_ems": numbers_served("dm_ems_calls"),
         "functions_of_xms": numbers_served("dm_xms_calls"),
-        "terminal_conversations": size_of("tools/terminal", "TALKS"),
+        "terminal_conversations": elements("tools/terminal", "TALKS"),
         "gdb_conversations": count(r"tools/talks/\w+\.talk"),
         "python_tests": tests_in(files, "python/tests"),
-        "planted": size_of("tools/tests/test_check.py", "PLANTED") + size_of("tools/tests/test_check.py", "FIGURES") + size_of("tools/tests/test_header.py", "PLANTED"),
-        "real_programs": size_of("tools/real_programs", "PROGRAMS"),
+        "planted": elements("tools/tests/test_check.py", "PLANTED") + elements("tools/tests/test_check.py", "FIGURES") + elements("tools/tests/test_header.py", "PLANTED"),
+        "real_programs": elements("tools/real_programs", "PROGRAMS"),
         # (One more, of a program that calls again and again, stands apart.)
-        "browser_pages": size_of("tools/browser", "PAGES") + 1,
+        "browser_pages": elements("tools/browser", "PAGES") + 1,
     }
 
 
