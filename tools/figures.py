@@ -62,11 +62,12 @@ class Uncounted(Exception):
 
 
 def tracked():
-    """The repository's files, by their paths from its root."""
-    listed = subprocess.run(["git", "ls-files", "-z"], cwd=specs.ROOT, capture_output=True, text=True, check=False)
+    """The repository's files, by their paths from its root: those that git has, and new ones that it does not ignore."""
+    words = ["git", "ls-files", "-z", "--cached", "--others", "--exclude-standard"]
+    listed = subprocess.run(words, cwd=specs.ROOT, capture_output=True, text=True, check=False)
     if listed.returncode:
         raise Uncounted(f"git does not list the files of the tree: {' '.join(listed.stderr.split())}")
-    return [path for path in listed.stdout.split("\0") if path and os.path.exists(f"{specs.ROOT}/{path}")]
+    return [path for path in dict.fromkeys(listed.stdout.split("\0")) if path and os.path.exists(f"{specs.ROOT}/{path}")]
 
 
 def syntax_of(path):
