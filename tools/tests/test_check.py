@@ -92,6 +92,22 @@ class Planted(unittest.TestCase):
                 self.assertIsNotNone(figure)
                 self.is_reported(path, text, f"{text[: figure.start(1)]}17{text[figure.end(1) :]}", figure[1])
 
+    def test_figures_are_written_again(self):
+        before, planted = {}, {}
+        for path, words in FIGURES:
+            with open(f"{self.copy}/{path}", encoding="utf-8") as file:
+                before.setdefault(path, file.read())
+            text = planted.get(path, before[path])
+            figure = re.search(re.escape(words).replace(r"\ ", r"\s+") + r"([\d,]+)", text)
+            planted[path] = f"{text[: figure.start(1)]}17{text[figure.end(1) :]}"
+        for path, text in planted.items():
+            with open(f"{self.copy}/{path}", "w", encoding="utf-8") as file:
+                file.write(text)
+        subprocess.run([f"{self.copy}/tools/figures"], capture_output=True, check=False)
+        for path, text in before.items():
+            with open(f"{self.copy}/{path}", encoding="utf-8") as file:
+                self.assertEqual(file.read(), text)
+
     def is_reported(self, path, text, planted, words):
         """With `planted` in place of `text` in the file `path`, docs/check prints a fault with `words`."""
         with open(f"{self.copy}/{path}", "w", encoding="utf-8") as file:
