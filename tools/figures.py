@@ -53,6 +53,8 @@ SENTENCES = {
 }
 
 
+# The lists of differences that tests plant.
+PLANTED = (("test_check.py", "PLANTED"), ("test_check.py", "OF_KIT"), ("test_check.py", "FIGURES"), ("test_header.py", "PLANTED"))
 # The prefixes of the instruction table: four of segments, LOCK and two of repetition.
 PREFIXES = 7
 
@@ -166,7 +168,7 @@ def of_tree():
         "terminal_conversations": elements("tools/terminal", "TALKS"),
         "gdb_conversations": count(r"tools/talks/\w+\.talk"),
         "python_tests": tests_in(files, "python/tests"),
-        "planted": elements("tools/tests/test_check.py", "PLANTED") + elements("tools/tests/test_check.py", "FIGURES") + elements("tools/tests/test_header.py", "PLANTED"),
+        "planted": sum(elements(f"tools/tests/{path}", name) for path, name in PLANTED),
         "real_programs": elements("tools/real_programs", "PROGRAMS"),
         # (One more, of a program that calls again and again, stands apart.)
         "browser_pages": elements("tools/browser", "PAGES") + 1,
