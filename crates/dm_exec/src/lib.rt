@@ -25,5 +25,5 @@ pub use operation::{
 };
 pub use repetitions::repeat_upwards;
 pub use strings::{
-    Comparing, Loading, Moving, Scanning, Storing, StringWork, act_on_string, repeat_string,
+    Comparing, Loading, Moving, Scanning, Storing, StringWork, repeat_string,
 };
