@@ -1,4 +1,4 @@
-"""The figures of bench/figures.json, and what the pages say of them: the tables of bench/README.md and the sentences of README.md."""
+"""The figures of bench/figures.json, and what bench/README.md says of them: its tables and sentences."""
 import json
 import os
 import re
@@ -34,16 +34,14 @@ OTHERS = {
     "uses": ("30,000 labels, each used by a DW", "`dm asm`", "{:,.0f} million"),
     "bytes": ("65,278 bytes, of which byte k is k modulo 256", "`dm disasm`", "{:,.0f} million"),
 }
-# What the pages say, with the figures that `said` gives.
-SENTENCES = {
-    "README.md": (
-        "four programs in assembly make {dm_low} to {dm_high} million steps a second of processor time in `dm`, {normal_low} to {normal_high} in DOSBox 0.74-3"
-        " with its normal core, and {dynamic_low} to {dynamic_high} with its dynamic one; C compiled by `bcc` makes {dm_c}, {normal_c} and {dynamic_c}.",
-        "A step of the four costs {run_low} to {run_high} host instructions, of the C {run_c}, of single instructions {least} ({least_what}) to {most}"
-        " ({most_what}), and of all five under `dm check` {check_low} to {check_high}",
-    ),
-    "bench/README.md": ("The seconds were taken on {day}, on a processor that calls itself {processor}.",),
-}
+# What the page says, with the figures that `said` gives.
+SENTENCES = (
+    "four programs in assembly make {dm_low} to {dm_high} million steps a second of processor time in `dm`, {normal_low} to {normal_high} in DOSBox 0.74-3"
+    " with its normal core, and {dynamic_low} to {dynamic_high} with its dynamic one; C compiled by `bcc` makes {dm_c}, {normal_c} and {dynamic_c}.",
+    "A step of the four costs {run_low} to {run_high} host instructions, of the C {run_c}, of single instructions {least} ({least_what}) to {most}"
+    " ({most_what}), and of all five under `dm check` {check_low} to {check_high}.",
+    "The seconds were taken on {day}, on a processor that calls itself {processor}.",
+)
 FIGURE = re.compile(r"\\\{(\w+)\\\}")
 
 
@@ -197,24 +195,25 @@ def with_tables(text, found):
     return text, faults
 
 
-def with_sentences(text, page, found):
-    """A page with its sentences anew. (A sentence may go over lines; then its lines stay as they are, but for the figures.)"""
+def with_sentences(text, found):
+    """The page with its sentences anew. (A sentence may go over lines; then its lines stay as they are, but for the figures.)"""
     faults, made = [], said(found)
-    for sentence in SENTENCES[page]:
+    for sentence in SENTENCES:
         pattern = re.escape(sentence).replace(r"\ ", r"\s+")
         names = FIGURE.findall(pattern)
         matches = list(re.finditer(FIGURE.sub(r"(`[^`\\n]+`|[\\d.,]+)", pattern), text))
         if len(matches) != 1:
-            faults.append(f"{page}: not once: {sentence}")
+            faults.append(f"{PAGE}: not once: {sentence}")
             continue
         for at, name in reversed([*enumerate(names, 1)]):
             text = text[: matches[0].start(at)] + made[name] + text[matches[0].end(at) :]
     return text, faults
 
 
-def pages(found):
-    """Each page as it should be, and what is wrong with it."""
-    yield PAGE, *with_tables(text_of(PAGE), found)
+def page(found):
+    """The page as it should be, and what is wrong with it."""
+    text, faults = with_tables(text_of(PAGE), found)
     if all(part in found for part in ("programs", "instructions", "seconds")):
-        for page in SENTENCES:
-            yield page, *with_sentences(text_of(page), page, found)
+        text, more = with_sentences(text, found)
+        faults += more
+    return text, faults

@@ -54,7 +54,7 @@ def c_parameters(name, kind):
     return [] if kind == "Global" else [(TYPES.get(kind, kind), name)]
 
 
-def declared(words):
+def type_and_name(words):
     """`const uint8_t *name` as its type and its name."""
     found = re.fullmatch(r"(.*?)(\w+)", " ".join(words.split()))
     return (found[1].strip().replace("* ", "*"), found[2]) if found else (words.strip(), "")
@@ -108,7 +108,7 @@ class Header:
         self.declarations = len(re.findall(r"\bmezguld_\w+\s*\(", text))
         self.functions = {}
         for result, name, parameters in PROTOTYPE.findall(text):
-            given = [declared(it) for it in parameters.split(",") if it.strip() != "void"]
+            given = [type_and_name(it) for it in parameters.split(",") if it.strip() != "void"]
             self.functions[name] = (result.strip(), [(BYTES.sub("uint8_t *", kind), word) for kind, word in given])
         self.structs = {}
         for _, fields, name in TYPEDEF.findall(text):
@@ -116,7 +116,7 @@ class Header:
             for line in fields.split(";"):
                 words = line.strip().split(",")
                 if words[0]:
-                    kind, first = declared(words[0])
+                    kind, first = type_and_name(words[0])
                     found += [(kind, first), *[(kind, word.strip()) for word in words[1:]]]
             self.structs[name] = found
         enums = {name: {word: int(value) for word, value in ENUMERATOR.findall(it)} for it, name in re.findall(r"typedef enum \w+ \{([^}]*)\} (\w+);", text)}

@@ -1,8 +1,8 @@
 """Each encoding against nasm and ndisasm: `tools/peers nasm` calls this.
 
-For each row of the table, each mod and r/m, and each prefix that it can have, the bytes are shown by the debugger's command `U`. The text is assembled by nasm; so is
+For each entry of the table, each mod and r/m, and each prefix that it can have, the bytes are shown by the debugger's command `U`. The text is assembled by nasm; so is
 what ndisasm prints for the bytes. A case is right where both give one sequence of bytes, and these bytes are shown by `U` as the same text again. What nasm
-does not take, and what differs, is listed by its row.
+does not take, and what differs, is listed by its entry.
 """
 import collections
 import random
@@ -19,20 +19,20 @@ SEGMENT = 0x2000
 
 
 def cases(numbers):
-    """Each encoding as its row and its bytes: each mod and r/m, without a prefix and with those that count for it."""
-    for row in opcodes.ROWS:
-        if row.is_modrm:
-            shapes = [(mod, rm) for mod in range(3 if row.is_memory else 4) for rm in range(8)]
+    """Each encoding as its entry and its bytes: each mod and r/m, without a prefix and with those that count for it."""
+    for entry in opcodes.ENTRIES:
+        if entry.is_modrm:
+            shapes = [(mod, rm) for mod in range(3 if entry.is_memory else 4) for rm in range(8)]
         else:
             shapes = [(None, None)] * 4
         for mod, rm in shapes:
             prefixes = [b""]
-            if mod not in (None, 3) or row.first in opcodes.WITHOUT_MODRM:
+            if mod not in (None, 3) or entry.first in opcodes.WITHOUT_MODRM:
                 prefixes.append(bytes([numbers.choice(opcodes.SEGMENTS)]))
-            if row.first in opcodes.STRINGS:
+            if entry.first in opcodes.STRINGS:
                 prefixes += [bytes([opcodes.REP]), bytes([opcodes.REPNE])]
             for prefix in prefixes:
-                yield row, prefix + opcodes.instruction(row, numbers, mod, rm)
+                yield entry, prefix + opcodes.instruction(entry, numbers, mod, rm)
 
 
 def for_nasm(text):
@@ -134,23 +134,23 @@ def compare(seed):
         made = assembled([for_nasm(text) if text else "nop" for text in ours])
         shown = listed(codes)
         again = assembled([for_nasm_again(text) if text else "nop" for text in shown])
-        for place, (row, code) in enumerate(part):
+        for place, (entry, code) in enumerate(part):
             counts["encodings"] += 1
             if ours[place] is None:
-                faults.append(f"{row.name}: {code.hex(' ')} is no instruction for U")
+                faults.append(f"{entry.name}: {code.hex(' ')} is no instruction for U")
             elif made[place] is None:
-                kinds[f"{row.mnemonic}: nasm does not take the text (as {ours[place]})"[:90] if row.mnemonic != "ESC" else "ESC: nasm has instructions of the 8087"] += 1
-            elif row.mnemonic == "XCHG" and made[place] != code and exchanged(texts.text(made[place], place)) == ours[place]:
+                kinds[f"{entry.mnemonic}: nasm does not take the text (as {ours[place]})"[:90] if entry.mnemonic != "ESC" else "ESC: nasm has instructions of the 8087"] += 1
+            elif entry.mnemonic == "XCHG" and made[place] != code and exchanged(texts.text(made[place], place)) == ours[place]:
                 kinds["XCHG of two registers: nasm takes them in the other order"] += 1
             elif texts.text(made[place], place) != ours[place]:
-                faults.append(f"{row.name}: {code.hex(' ')} is {ours[place]}, and nasm makes {made[place].hex(' ')} of it")
+                faults.append(f"{entry.name}: {code.hex(' ')} is {ours[place]}, and nasm makes {made[place].hex(' ')} of it")
             else:
                 counts["assembled by nasm to the same instruction"] += 1
                 counts["to the same bytes"] += made[place] == code
                 if shown[place] is None or again[place] is None:
-                    kinds[f"{row.first:02X}: ndisasm shows not one instruction"] += 1
+                    kinds[f"{entry.first:02X}: ndisasm shows not one instruction"] += 1
                 elif again[place] != made[place] and texts.text(again[place], place) != ours[place]:
-                    faults.append(f"{row.name}: {code.hex(' ')} is {ours[place]}, and ndisasm shows {shown[place]}")
+                    faults.append(f"{entry.name}: {code.hex(' ')} is {ours[place]}, and ndisasm shows {shown[place]}")
                 else:
                     counts["shown alike by ndisasm"] += 1
     for fault in faults[:50]:

@@ -1,4 +1,4 @@
-"""Each row of the instruction table in random states against Unicorn. `tools/peers unicorn` calls this with Debian's Python: CASES SEED JOBS ROW.."""
+"""Each entry of the instruction table in random states against Unicorn. `tools/peers unicorn` calls this with Debian's Python: CASES SEED JOBS ENTRY.."""
 import collections
 import multiprocessing
 import random
@@ -34,8 +34,8 @@ ALONE = {"ESC", "WAIT", "HLT"}
 class Case:
     """An instruction, and the state before it."""
 
-    def __init__(self, row, numbers):
-        self.row = row
+    def __init__(self, entry, numbers):
+        self.entry = entry
         self.state = {name: numbers.randrange(0x10000) for name in WORDS}
         for name in ("cs", "ds", "es", "ss"):
             self.state[name] = numbers.randrange(LOWEST, HIGHEST + 1)
@@ -43,27 +43,27 @@ class Case:
         for name in ("ax", "bx", "cx", "dx", "si", "di", "bp"):
             if numbers.randrange(4) == 0:
                 self.state[name] = numbers.choice((0, 1, 2, 7, 8, 0xFF, 0x80, 0x7F, 0x7FFF, 0x8000, 0xFFFF, 0x0009, 0x0909))
-        if row.mnemonic in ("DIV", "IDIV") and numbers.randrange(2):
+        if entry.mnemonic in ("DIV", "IDIV") and numbers.randrange(2):
             self.state["dx"] = numbers.randrange(16) if numbers.randrange(2) else 0xFFFF - numbers.randrange(16)
         self.state["ip"] = numbers.randrange(0x100, 0xFF00)
         self.state["flags"] = numbers.randrange(0x1000) & FLAGS & ~TRAP | stage.ALWAYS
-        self.is_repeated = row.first in opcodes.STRINGS and numbers.randrange(2) == 0
+        self.is_repeated = entry.first in opcodes.STRINGS and numbers.randrange(2) == 0
         prefixes = []
         if self.is_repeated:
             self.state["cx"] = numbers.randrange(40)
             prefixes.append(numbers.choice((opcodes.REP, opcodes.REPNE)))
-        if (row.is_modrm or row.first in opcodes.WITHOUT_MODRM) and numbers.randrange(4) == 0:
+        if (entry.is_modrm or entry.first in opcodes.WITHOUT_MODRM) and numbers.randrange(4) == 0:
             prefixes.append(numbers.choice(opcodes.SEGMENTS))
         numbers.shuffle(prefixes)
-        body = opcodes.instruction(row, numbers)
-        if row.mnemonic in RELATIVE and int.from_bytes(body[1:], "little", signed=True) == -len(body):
+        body = opcodes.instruction(entry, numbers)
+        if entry.mnemonic in RELATIVE and int.from_bytes(body[1:], "little", signed=True) == -len(body):
             # (Unicorn does not say where a jump to itself leads.)
             body = body[:1] + bytes(len(body) - 1)
         # The byte of the mod and r/m fields, if there is one.
-        self.modrm = body[1] if row.is_modrm else None
+        self.modrm = body[1] if entry.is_modrm else None
         self.code = bytes(prefixes) + body
         # (A shift of CX or CL takes no count above 31: it would be changed by the parts of the shift.)
-        if row.first in SHIFTS and (numbers.randrange(2) or self.modrm >= 0xC0 and self.modrm & 7 == 1):
+        if entry.first in SHIFTS and (numbers.randrange(2) or self.modrm >= 0xC0 and self.modrm & 7 == 1):
             self.state["cx"] = self.state["cx"] & 0xFF00 | numbers.randrange(32)
 
     @property
@@ -84,13 +84,13 @@ class Case:
     @property
     def undefined(self):
         """The flags that the instruction leaves undefined."""
-        flags = UNDEFINED.get(self.row.mnemonic, 0)
-        if self.row.first in SHIFTS:
+        flags = UNDEFINED.get(self.entry.mnemonic, 0)
+        if self.entry.first in SHIFTS:
             flags = 0 if self.count == 0 else flags if self.count == 1 else flags | OVERFLOW
         return flags
 
     def __str__(self):
-        return f"{self.row.name}: {self.code.hex(' ')} with " + " ".join(f"{name}={value:04X}" for name, value in self.state.items())
+        return f"{self.entry.name}: {self.code.hex(' ')} with " + " ".join(f"{name}={value:04X}" for name, value in self.state.items())
 
 
 def word(number):
@@ -150,7 +150,7 @@ class Comparison:
             self.ours.step()
         found = self.ours.state()
         known, wanted, mask = self.wanted(case, found)
-        if why != ("HALTED" if case.row.mnemonic == "HLT" else "STEPS"):
+        if why != ("HALTED" if case.entry.mnemonic == "HLT" else "STEPS"):
             self.fault(case, f"stopped: {why}")
         for name in WORDS:
             bits = FLAGS & ~mask if name == "flags" else 0xFFFF
@@ -182,14 +182,14 @@ class Comparison:
     def wanted(self, case, found):
         """The state that ours should have: by Unicorn, or by the manual's rule where Unicorn is a newer processor. The name of such a difference comes first,
         and last the flags that are not compared."""
-        mnemonic = case.row.mnemonic
+        mnemonic = case.entry.mnemonic
         if mnemonic in ALONE:
             return "", {**case.state, "ip": case.state["ip"] if mnemonic == "HLT" else case.after}, 0
         theirs, interrupt = self.their(case, self.until(case, found))
         if interrupt is not None and interrupt != 1:
             return self.by_interrupt(case, interrupt, "")
         if mnemonic == "IDIV" and found["sp"] != case.state["sp"]:
-            if theirs["ax"] & (0xFF if case.row.first == 0xF6 else 0xFFFF) in (0x80, 0x8000):
+            if theirs["ax"] & (0xFF if case.entry.first == 0xF6 else 0xFFFF) in (0x80, 0x8000):
                 return self.by_interrupt(case, 0, "IDIV: the quotient -128 or -32,768 is a division error")
         if mnemonic in ("AAA", "AAS") and theirs["ax"] != found["ax"]:
             low, step = case.state["ax"] & 0xFF, 0x100 if mnemonic == "AAA" else -0x100
@@ -217,11 +217,11 @@ class Comparison:
 
     def pushed(self, case):
         """What PUSH SP and PUSHF store, where that is known to differ: its name, if so."""
-        row, top = case.row, (case.state["sp"] - 2) & 0xFFFF
-        if row.first == 0x54 or row.first == 0xFF and row.reg == 6 and case.modrm & 0xC7 == 0xC4:
+        entry, top = case.entry, (case.state["sp"] - 2) & 0xFFFF
+        if entry.first == 0x54 or entry.first == 0xFF and entry.reg == 6 and case.modrm & 0xC7 == 0xC4:
             self.push(case, top, top)
             return "PUSH SP: the new value is stored"
-        if row.mnemonic == "PUSHF":
+        if entry.mnemonic == "PUSHF":
             self.push(case, top, case.state["flags"])
             return "PUSHF: bits 12 to 15 are ones"
         return ""
@@ -229,7 +229,7 @@ class Comparison:
     @staticmethod
     def until(case, found):
         """Where the case should lead."""
-        if case.row.mnemonic in RAISING:
+        if case.entry.mnemonic in RAISING:
             return 16 * case.state["cs"] + case.after
         return 16 * found["cs"] + found["ip"]
 
@@ -237,19 +237,19 @@ class Comparison:
         """The registers after the instruction in Unicorn, and the interrupt that it raised."""
         size, state = len(case.code), dict(case.state)
         self.theirs.machine.ctl_remove_cache(case.place, case.place + size)
-        left = case.count if case.row.first in SHIFTS else 0
+        left = case.count if case.entry.first in SHIFTS else 0
         # (Newer processors take the lowest five bits of the count: so the shift is made in parts of at most 31.)
         while left > 31:
             self.theirs.set({**state, "cx": state["cx"] & 0xFF00 | 31})
             self.theirs.step(case.state, until)
             state = {**self.theirs.state(), "ip": case.state["ip"]}
             left -= 31
-        if case.row.first in SHIFTS:
+        if case.entry.first in SHIFTS:
             state["cx"] = state["cx"] & 0xFF00 | left
         self.theirs.set(state)
         interrupt = self.theirs.step(case.state, until, 0 if case.is_repeated else 1)
         after = self.theirs.state()
-        if case.row.first in SHIFTS and case.count > 31:
+        if case.entry.first in SHIFTS and case.count > 31:
             after["cx"] = after["cx"] & 0xFF00 | case.count
         return after, interrupt
 
@@ -302,22 +302,22 @@ class Comparison:
 
 
 def compare(given):
-    """The cases of one row: what is known to differ, and the faults."""
+    """The cases of one entry: what is known to differ, and the faults."""
     place, cases, seed = given
-    row = opcodes.ROWS[place]
-    numbers = random.Random(f"{seed} {row.name}")
+    entry = opcodes.ENTRIES[place]
+    numbers = random.Random(f"{seed} {entry.name}")
     comparison = Comparison(numbers)
     for begin in range(0, cases, BATCH):
-        comparison.batch([Case(row, numbers) for _ in range(min(BATCH, cases - begin))])
-    return row.name, comparison.cases, comparison.known, comparison.faults
+        comparison.batch([Case(entry, numbers) for _ in range(min(BATCH, cases - begin))])
+    return entry.name, comparison.cases, comparison.known, comparison.faults
 
 
 def main():
     cases, seed, jobs = (int(text) for text in sys.argv[1:4])
     names = {text.upper() for text in sys.argv[4:]}
-    places = [place for place, row in enumerate(opcodes.ROWS) if not names or {row.name.split()[0], f"{row.first:02X}"} & names]
+    places = [place for place, entry in enumerate(opcodes.ENTRIES) if not names or {entry.name.split()[0], f"{entry.first:02X}"} & names]
     if not places:
-        sys.exit("tools/peers: no row of the table has this first byte")
+        sys.exit("tools/peers: no entry of the table has this first byte")
     made, known, wrong = 0, collections.Counter(), 0
     with multiprocessing.Pool(jobs) as pool:
         for name, count, others, faults in pool.imap(compare, [(place, cases, seed) for place in places]):
@@ -331,7 +331,7 @@ def main():
             sys.stdout.flush()
     for name, count in sorted(known.items()):
         print(f"known: {name}: {count}")
-    print(f"{len(places)} rows, {made} cases, {sum(known.values())} with a known difference, {wrong} others")
+    print(f"{len(places)} entries, {made} cases, {sum(known.values())} with a known difference, {wrong} others")
     return 1 if wrong else 0
 
 

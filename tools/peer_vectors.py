@@ -41,8 +41,8 @@ def tests_of(path):
     return tests
 
 
-def row_of(code):
-    """The row of the table of an instruction, None where it has none; and whether it is repeated."""
+def entry_of(code):
+    """The entry of the table of an instruction, None where it has none; and whether it is repeated."""
     code = list(code)
     prefixes = {*opcodes.SEGMENTS, opcodes.LOCK, opcodes.REP, opcodes.REPNE}
     at = 0
@@ -51,16 +51,16 @@ def row_of(code):
     if at == len(code):
         return None, False
     reg = code[at + 1] >> 3 & 7 if at + 1 < len(code) else None
-    for row in opcodes.ROWS:
-        if row.first == code[at] and row.reg in (None, reg) and (row.second is None or code[at + 1 : at + 2] == [row.second]):
-            return row, row.first in opcodes.STRINGS and bool({opcodes.REP, opcodes.REPNE} & set(code[:at]))
+    for entry in opcodes.ENTRIES:
+        if entry.first == code[at] and entry.reg in (None, reg) and (entry.second is None or code[at + 1 : at + 2] == [entry.second]):
+            return entry, entry.first in opcodes.STRINGS and bool({opcodes.REP, opcodes.REPNE} & set(code[:at]))
     return None, False
 
 
-def undefined(row, before):
+def undefined(entry, before):
     """The flags that are not compared."""
-    flags, count = peer_unicorn.UNDEFINED.get(row.mnemonic, 0), before["cx"] & 0xFF
-    if row.first in peer_unicorn.SHIFTS:
+    flags, count = peer_unicorn.UNDEFINED.get(entry.mnemonic, 0), before["cx"] & 0xFF
+    if entry.first in peer_unicorn.SHIFTS:
         flags = 0 if count == 0 else flags if count == 1 else flags | stage.OVERFLOW
     return flags
 
@@ -79,10 +79,10 @@ class Player:
     def play(self, path, number, test):
         """Plays a test."""
         before, after = test["initial"], test["final"]
-        row, is_repeated = row_of(test["bytes"])
+        entry, is_repeated = entry_of(test["bytes"])
         places = {at for at, _ in (*before["ram"], *after["ram"])}
         segment = next((it for it in SEGMENTS if not any(16 * it + stage.ORIGIN - 16 <= at <= 16 * it + stage.STACK for at in places)), None)
-        if row is None:
+        if entry is None:
             self.counts["no instruction of the table"] += 1
             return
         if segment is None or any(not is_ram(at) for at in places):
@@ -101,11 +101,11 @@ class Player:
             now = self.ours.state()
         self.counts["played"] += 1
         wanted, ram = {**before["regs"], **after["regs"]}, after["ram"]
-        if row.mnemonic in ("DIV", "IDIV") and now["sp"] == (before["regs"]["sp"] - 6) & 0xFFFF:
+        if entry.mnemonic in ("DIV", "IDIV") and now["sp"] == (before["regs"]["sp"] - 6) & 0xFFFF:
             # (The interrupt has pushed flags that the division leaves undefined.)
             pushed = {16 * now["ss"] + (now["sp"] + at & 0xFFFF) for at in (4, 5)}
             ram = [(at, byte) for at, byte in ram if at not in pushed]
-        self.compare(f"{path}: test {number} ({test.get('name', '')})", now, wanted, ram, undefined(row, before["regs"]))
+        self.compare(f"{path}: test {number} ({test.get('name', '')})", now, wanted, ram, undefined(entry, before["regs"]))
 
     def compare(self, name, now, wanted, ram, mask):
         """Compares what a test left."""

@@ -1,4 +1,5 @@
 """Reads the definitions of the crates, the contracts of their public functions, and which of them reach which."""
+import functools
 import glob
 import os
 import re
@@ -317,6 +318,12 @@ class Specs:
 
     def public(self, crate=None):
         return [it for it in self.contracts if it.is_public and it.clauses and (crate is None or it.crate == crate)]
+
+
+@functools.lru_cache(maxsize=None)
+def known(kit=None):
+    """What `Specs` reads, once for all who ask."""
+    return Specs(kit)
 
 
 def tried(line):

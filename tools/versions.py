@@ -1,7 +1,7 @@
 """The version of Mezguld, and each place that states it: docs/check compares them, and packages take theirs from here.
 
 `dm --version` prints the constant `VERSION` of crates/dm_options. include/mezguld.h, python/mezguld and the top of CHANGELOG.md, a release with its date, must
-have the same; include/mezguld.h and the export `mezguld_version` of crates/dm_c have it as one number, too. Pages of manuals, packages and file names are made from it.
+have the same, as have the names of packages in README.md; include/mezguld.h and the export `mezguld_version` of crates/dm_c have it as one number, too. Pages of manuals, packages and file names are made from it.
 """
 import datetime
 import os
@@ -15,6 +15,8 @@ PLACES = (CONSTANT, ("include/mezguld.h", r'^#define MEZGULD_VERSION "([^"]*)"$'
 NUMBERS = ("MAJOR", "MINOR", "PATCH")
 # The version as one number, in the library and in its header.
 LIBRARY = (("crates/dm_c/src/exports.rt", r"^const VERSION: u32 = ([\d_]+);$"), ("include/mezguld.h", r"^#define MEZGULD_VERSION_NUMBER (\d+)$"))
+# The name of a package, with its version.
+PACKAGE = re.compile(r"\bmezguld[_-](\d+\.\d+\.\d+)")
 HEADING = re.compile(r"^## (.*)$", re.M)
 RELEASE = re.compile(r"(\d+\.\d+\.\d+), (\d{1,2} [A-Z][a-z]+ \d{4})")
 # The files of dist/ whose names hold the version.
@@ -73,6 +75,12 @@ def header_faults(wanted):
             yield f"include/mezguld.h: MEZGULD_VERSION_{name} is not {number}"
 
 
+def readme_faults(wanted):
+    """The faults of the names of packages in README.md."""
+    for one in sorted(set(PACKAGE.findall(text_of("README.md"))) - {wanted}):
+        yield f"README.md names packages of version {one}, and not {wanted}"
+
+
 def number_faults(wanted):
     """The faults of the version as one number."""
     major, minor, patch = map(int, wanted.split("."))
@@ -92,6 +100,7 @@ def faults(program=None):
         return
     yield from (f"{path}: the version is {one}, and not {wanted}" for path, one in given if one != wanted)
     yield from header_faults(wanted)
+    yield from readme_faults(wanted)
     yield from numbers
     if program:
         yield from program_faults(program, wanted)

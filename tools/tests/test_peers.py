@@ -1,4 +1,4 @@
-"""Tests of tools/peers that need no other machine: the table of rows, and files of vectors. From the top: `python3 -m unittest discover -s tools/tests`."""
+"""Tests of tools/peers that need no other machine: the table of entries, and files of vectors. From the top: `python3 -m unittest discover -s tools/tests`."""
 import gzip
 import json
 import os
@@ -14,18 +14,18 @@ import peer_vectors  # noqa: E402
 
 
 class Table(unittest.TestCase):
-    def test_each_row_is_there_once(self):
+    def test_each_entry_is_there_once(self):
         # 256 first bytes, less 4 segment prefixes, LOCK, REPNE and REP, less 0Fh, 16 of 60h, 8 of C0h, C1h, C8h, C9h, D6h, F1h, less POP CS (0Fh).
-        self.assertEqual(len({row.first for row in opcodes.ROWS}), 256 - 4 - 3 - 1 - 16 - 6)
-        self.assertEqual(len({(row.first, row.reg) for row in opcodes.ROWS}), len(opcodes.ROWS))
+        self.assertEqual(len({entry.first for entry in opcodes.ENTRIES}), 256 - 4 - 3 - 1 - 16 - 6)
+        self.assertEqual(len({(entry.first, entry.reg) for entry in opcodes.ENTRIES}), len(opcodes.ENTRIES))
 
     def test_instructions_have_their_lengths(self):
         numbers = random.Random(1)
         lengths = {"8B": {2, 3, 4}, "81/0": {4, 5, 6}, "83/0": {3, 4, 5}, "EA": {5}, "D4": {2}, "F6/0": {3, 4, 5}, "F7/0": {4, 5, 6}, "F7/2": {2, 3, 4}, "8D": {2, 3, 4}}
-        for row in opcodes.ROWS:
-            name = row.name.split()[0]
+        for entry in opcodes.ENTRIES:
+            name = entry.name.split()[0]
             if name in lengths:
-                self.assertEqual({len(opcodes.instruction(row, numbers)) for _ in range(500)}, lengths[name], name)
+                self.assertEqual({len(opcodes.instruction(entry, numbers)) for _ in range(500)}, lengths[name], name)
 
 
 class Vectors(unittest.TestCase):
@@ -62,14 +62,14 @@ class Vectors(unittest.TestCase):
             change(tests[0])
             self.assertRaises(peer_vectors.Bad, peer_vectors.tests_of, self.write(json.dumps(tests).encode()))
 
-    def test_rows_of_instructions(self):
+    def test_entries_of_instructions(self):
         for code, name, is_repeated in (
             ([0x00, 0xD8], "00 ADD", False), ([0x26, 0xF3, 0xA4], "A4 MOVSB", True), ([0xF6, 0xF3], "F6/6 DIV", False), ([0xF3, 0x90], "90 XCHG", False),
         ):
-            row, repeated = peer_vectors.row_of(code)
-            self.assertEqual((row.name, repeated), (name, is_repeated))
+            entry, repeated = peer_vectors.entry_of(code)
+            self.assertEqual((entry.name, repeated), (name, is_repeated))
         for code in ([0x0F], [0xF3], [0xD4, 0x0B], [0xFE, 0xD0], [0x26, 0x2E]):
-            self.assertEqual(peer_vectors.row_of(code)[0], None)
+            self.assertEqual(peer_vectors.entry_of(code)[0], None)
 
 
 if __name__ == "__main__":

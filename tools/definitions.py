@@ -1,27 +1,18 @@
-#!/usr/bin/env python3
-"""Writes docs/definitions.md: the definitions that public contracts rest on, from the sources. README.md and docs/proved.md get the figures anew of what must be
-believed; those of the kit's files only with the kit that they are of.
-"""
-import os
-import sys
-
+"""The page of definitions: those that public contracts rest on, from the sources, each with what names it and what tries it. `tools/book` writes it."""
 import believed
-import command_line
-import kit
 import specs
 
-PAGE = f"{specs.ROOT}/docs/definitions.md"
 HEAD = """# Definitions
 
 The definitions that the contracts of public functions rest on. A contract means what they mean, so they are what a reader compares with the public
-manuals. `tools/definitions` makes this page from the sources; `tools/book OUT.html` makes a page of the definitions themselves, each name linked.
+manuals. `tools/book` makes this page from the sources, and beside it `book.html`, which has the definitions themselves, each name linked.
 
 - **Meaning**: the comment above the definition.
 - **Contracts**: the public functions whose contracts name it; after *through*, definitions that name it.
 - **Rows**: the rows and tests that test it.
 
 The head of each file names its public source; where it names none, the definition is this machine's own.
-[DECISIONS.md](DECISIONS.md) says how what the sources leave open is settled.
+`docs/DECISIONS.md` says how what the sources leave open is settled.
 
 ## How much there is
 
@@ -32,8 +23,8 @@ the contracts themselves ({clauses:,}, of {functions:,} public functions).
 
 
 class Page:
-    def __init__(self):
-        self.specs = specs.Specs()
+    def __init__(self, known):
+        self.specs = known
         self.reached = self.specs.reached(self.specs.promised())
         self.naming, self.users, self.rows = self.specs.naming(), self.specs.users(), self.specs.rows()
 
@@ -82,6 +73,9 @@ class Page:
                 yield "|---|---|---|---|"
                 yield from (self.row(it) for it in sorted(files[path], key=lambda it: it.line))
 
+    def text(self):
+        return "\n".join(self.lines()) + "\n"
+
     def faults(self):
         """The definitions that public contracts reach but only proofs may name, and those that rows name but do not exist."""
         for it in self.reached.values():
@@ -91,34 +85,3 @@ class Page:
             if key not in self.specs.definitions:
                 yield f"{rows[0]}: no definition {key}"
 
-
-def main():
-    parser = command_line.Parser(__doc__, "tools/definitions --check")
-    about = "only compares the page, and reports each public contract that reaches a definition of specs/inner/"
-    parser.add_argument("--check", action="store_true", help=about)
-    is_check = parser.parse_args().check
-    page = Page()
-    made = "\n".join(page.lines()) + "\n"
-    if is_check:
-        faults = [*page.faults()]
-        with open(PAGE, encoding="utf-8") as file:
-            if file.read() != made:
-                faults.append("docs/definitions.md is stale: run tools/definitions")
-        for fault in faults:
-            print(fault)
-        return 1 if faults else 0
-    with open(PAGE, "w", encoding="utf-8") as file:
-        file.write(made)
-    print(f"{os.path.relpath(PAGE)}: {len(page.reached)} definitions and types")
-    folder = kit.folder() if kit.name() == believed.KIT else None
-    figures = believed.figures(folder)
-    for other in believed.BELIEVED:
-        text = believed.rewritten(other, figures, folder)
-        with open(f"{specs.ROOT}/{other}", "w", encoding="utf-8") as file:
-            file.write(text)
-    for fault in believed.faults(figures, folder):
-        print(fault)
-    return 0
-
-
-sys.exit(main())
