@@ -24,6 +24,8 @@ IMMEDIATE = {
     0x9A: 4, 0xEA: 4,
 }
 SIZES = {0xC2: 2, 0xC3: 2, 0xCA: 4, 0xCB: 4, 0xCF: 6}
+# Bytes of which one stands in each call but INT, and in each division.
+MAY_CALL, MAY_DIVIDE = frozenset((0xE8, 0x9A, 0xFF)), frozenset((0xF6, 0xF7, 0xD4))
 # Functions of INT 21h that end the program.
 ENDS = frozenset((0x00, 0x31, 0x4C))
 
@@ -125,15 +127,21 @@ class Memory:
     def __init__(self, read):
         self.read, self.pages = read, {}
 
-    def byte(self, segment, offset):
-        address = segment * 16 + (offset & 0xFFFF)
-        number = address // self.PAGE
+    def page(self, number):
+        """A page of 256 bytes; what is no memory is FFh."""
         if number not in self.pages:
-            self.pages[number] = self.read(number * self.PAGE, self.PAGE)
-        page = self.pages[number]
-        return page[address % self.PAGE] if address % self.PAGE < len(page) else 0xFF
+            self.pages[number] = self.read(number * self.PAGE, self.PAGE).ljust(self.PAGE, b"\xff")
+        return self.pages[number]
+
+    def byte(self, segment, offset):
+        number, at = divmod(segment * 16 + (offset & 0xFFFF), self.PAGE)
+        return self.page(number)[at]
 
     def bytes(self, segment, offset, count):
+        """Bytes from an offset on, around the end of the segment."""
+        number, at = divmod(segment * 16 + (offset & 0xFFFF), self.PAGE)
+        if at + count <= self.PAGE and (offset & 0xFFFF) + count <= 0x10000:
+            return self.page(number)[at : at + count]
         return bytes(self.byte(segment, offset + it) for it in range(count))
 
     def word(self, segment, offset):
@@ -148,7 +156,7 @@ class Finder:
     """Finds callers in a memory."""
 
     def __init__(self, memory):
-        self.memory, self.instructions, self.cleaned, self.left = memory, {}, {}, 0
+        self.memory, self.instructions, self.cleaned, self.ends, self.left = memory, {}, {}, {}, 0
 
     def instruction(self, cs, ip):
         """The instruction at a place, or `None`."""
@@ -225,7 +233,7 @@ class Finder:
         if size == 2:
             return [Call(slot, 2, (cs, at), target, (cs, ip)) for at, target in self.behind(cs, ip, False)]
         cs = self.memory.word(ss, slot + 2)
-        found = [(at, target) for at, target in self.behind(cs, ip, True)]
+        found = list(self.behind(cs, ip, True))
         if size == 4:
             if self.memory.byte(cs, ip - 4) == 0x0E:
                 found += [(at - 1 & 0xFFFF, target) for at, target in self.behind(cs, ip, False) if target]
@@ -237,27 +245,37 @@ class Finder:
 
     def behind(self, cs, ip, is_far):
         """The near or far calls that end at CS:IP, and where they lead."""
+        key = cs, ip, is_far
+        if key not in self.ends:
+            self.ends[key] = list(self.calls_before(cs, ip, is_far)) if MAY_CALL.intersection(self.memory.bytes(cs, ip - 5, 5)) else []
+        return self.ends[key]
+
+    def calls_before(self, cs, ip, is_far):
         length, code = (5, 0x9A) if is_far else (3, 0xE8)
         if self.memory.byte(cs, ip - length) == code:
             spelled = self.memory.word(cs, ip - length + 1)
             yield ip - length & 0xFFFF, (self.memory.word(cs, ip - 2), spelled) if is_far else (cs, ip + spelled & 0xFFFF)
-        for length in (2, 3, 4, 5):
-            it = self.instruction(cs, ip - length & 0xFFFF)
-            if it and it.length == length and it.code == 0xFF and it.reg == (3 if is_far else 2):
-                yield ip - length & 0xFFFF, None
+        for at, it in self.ending(cs, ip):
+            if it.code == 0xFF and it.reg == (3 if is_far else 2):
+                yield at, None
+
+    def ending(self, cs, ip):
+        """Instructions of 2 to 5 bytes that end at CS:IP, with their offsets."""
+        for at in (ip - length & 0xFFFF for length in (2, 3, 4, 5)):
+            it = self.instruction(cs, at)
+            if it and it.length == (ip - at & 0xFFFF):
+                yield at, it
 
     def interrupts(self, cs, ip, flags):
-        """The interrupts that push CS:IP, and where they lead."""
-        found = []
-        if self.memory.byte(cs, ip - 2) == 0xCD:
-            found.append((ip - 2 & 0xFFFF, self.memory.vector(self.memory.byte(cs, ip - 1))))
-        for code, number in ((0xCC, 3), (0xCE, 4)):
-            if self.memory.byte(cs, ip - 1) == code:
-                found.append((ip - 1 & 0xFFFF, self.memory.vector(number)))
-        for length in (2, 3, 4, 5):
-            it = self.instruction(cs, ip - length & 0xFFFF)
-            if it and it.length == length and ((it.code in (0xF6, 0xF7) and it.reg > 5) or (it.code == 0xD4 and not it.operand)):
-                found.append((ip - length & 0xFFFF, self.memory.vector(0)))
+        """The interrupts that push CS:IP and these flags, and where they lead."""
+        found, before = [], self.memory.bytes(cs, ip - 5, 5)
+        if before[3] == 0xCD:
+            found.append((ip - 2 & 0xFFFF, self.memory.vector(before[4])))
+        if before[4] in (0xCC, 0xCE):
+            found.append((ip - 1 & 0xFFFF, self.memory.vector(3 if before[4] == 0xCC else 4)))
+        if MAY_DIVIDE.intersection(before):
+            divisions = (at for at, it in self.ending(cs, ip) if (it.code in (0xF6, 0xF7) and it.reg > 5) or (it.code == 0xD4 and not it.operand))
+            found += [(at, self.memory.vector(0)) for at in divisions]
         if flags & 0x100:
             found.append((None, self.memory.vector(1)))
         return found
