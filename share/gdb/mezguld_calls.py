@@ -31,9 +31,9 @@ ENDS = frozenset((0x00, 0x31, 0x4C))
 
 # An instruction: its first byte without prefixes, its mode byte and the parts of it, its displacement, its operand, its length.
 Instruction = namedtuple("Instruction", "code mode reg rm displacement operand length")
-# What pushed a return address: the offset of its lowest word in SS, how many bytes it pushed, the place of the CALL, INT or division (None for
-# a trap, which stands behind any instruction), and the place that it leads to (None if the bytes do not spell it).
-Call = namedtuple("Call", "slot size at target back")
+# What pushed a return address: the offset of its lowest word in SS, how many bytes a return takes, how many of them the CALL, INT or division pushed, its
+# place (None for a trap, which stands behind any instruction), the place that it leads to (None if the bytes do not spell it), and the return address.
+Call = namedtuple("Call", "slot size pushed at target back")
 
 
 def signed(number, bits):
@@ -231,17 +231,17 @@ class Finder:
         """What can have pushed a return address of this size at SS:slot."""
         ip = self.memory.word(ss, slot)
         if size == 2:
-            return [Call(slot, 2, (cs, at), target, (cs, ip)) for at, target in self.behind(cs, ip, False)]
+            return [Call(slot, 2, 2, (cs, at), target, (cs, ip)) for at, target in self.behind(cs, ip, False)]
         cs = self.memory.word(ss, slot + 2)
-        found = list(self.behind(cs, ip, True))
+        found = [(4, at, target) for at, target in self.behind(cs, ip, True)]
         if size == 4:
-            if self.memory.byte(cs, ip - 4) == 0x0E:
-                found += [(at - 1 & 0xFFFF, target) for at, target in self.behind(cs, ip, False) if target]
+            # PUSH CS before a near call makes a far one of it.
+            found += [(2, at, target) for at, target in self.behind(cs, ip, False) if target and self.memory.byte(cs, at - 1) == 0x0E]
         else:
-            # A far call behind PUSHF is as an interrupt.
-            found = [(at - 1 & 0xFFFF, target) for at, target in found if self.memory.byte(cs, at - 1) == 0x9C]
-            found += self.interrupts(cs, ip, self.memory.word(ss, slot + 4))
-        return [Call(slot, size, at if at is None else (cs, at), target, (cs, ip)) for at, target in found]
+            # PUSHF before a far call makes an interrupt of it.
+            found = [it for it in found if self.memory.byte(cs, it[1] - 1) == 0x9C]
+            found += [(6, at, target) for at, target in self.interrupts(cs, ip, self.memory.word(ss, slot + 4))]
+        return [Call(slot, size, pushed, at if at is None else (cs, at), target, (cs, ip)) for pushed, at, target in found]
 
     def behind(self, cs, ip, is_far):
         """The near or far calls that end at CS:IP, and where they lead."""

@@ -166,7 +166,7 @@ def current():
 
 def back_to(call, stack_segment):
     """Goes back to the instruction that made a call, or to what stops before. Returns whether it is that instruction."""
-    address, above = linear_of(*call.at), linear_of(stack_segment, call.slot + call.size)
+    address, above = linear_of(*call.at), linear_of(stack_segment, call.slot + call.pushed)
     point = gdb.Breakpoint(f"*{address}", internal=True)
     point.silent, point.condition = True, f"$esp == {above}"
     try:
