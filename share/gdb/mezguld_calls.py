@@ -191,7 +191,8 @@ class Finder:
             # RETF 2 is IRET that keeps the flags.
             size, removed = (6, 0) if (size, removed) == (4, 2) and self.calls(state.cs, ss, state.registers[SP], 6) else (size, removed)
             for call in self.calls(state.cs, ss, state.registers[SP], size) if state.registers[SP] >= goal[2] else ():
-                if self.comes(call, goal) is not False:
+                # (A vector may lead elsewhere by now.)
+                if size == 6 or self.comes(call, goal) is not False:
                     return call, state.registers, removed
         return None
 

@@ -246,8 +246,12 @@ class Back(gdb.Command):
     def invoke(self, text, _):
         if not is_there():
             raise gdb.GdbError("The program is not being run.")
+        try:
+            count = int(gdb.parse_and_eval(text)) if text else 1
+        except gdb.error as error:
+            raise gdb.GdbError(str(error)) from error
         was = gdb.newest_frame().name()
-        for _ in range(int(gdb.parse_and_eval(text)) if text else 1):
+        for _ in range(count):
             if not self.call():
                 return
         tell_place(was)
