@@ -122,13 +122,13 @@ class State:
 class Memory:
     """Memory by segment and offset, over a function that reads some bytes at a linear address. What is read is kept."""
 
-    PAGE = 256
+    PAGE = 64
 
     def __init__(self, read):
         self.read, self.pages = read, {}
 
     def page(self, number):
-        """A page of 256 bytes; what is no memory is FFh."""
+        """A page of a few bytes, since reading takes time by the byte; what is no memory is FFh."""
         if number not in self.pages:
             self.pages[number] = self.read(number * self.PAGE, self.PAGE).ljust(self.PAGE, b"\xff")
         return self.pages[number]
