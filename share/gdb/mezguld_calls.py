@@ -10,10 +10,12 @@ Instructions are those of the 8086 (Intel, iAPX 86/88 User's Manual, "Machine in
 from collections import deque, namedtuple
 
 AX, CX, DX, BX, SP, BP, SI, DI, ES, CS, SS, DS = range(12)
-# How many instructions a walk follows, and all walks for one frame together; how many words of the stack are looked at.
-WALK, WALKS, WORDS = 3000, 20_000, 4096
+# How many instructions a walk follows, and all walks for one frame together; at how many offsets of the stack a return address is looked for.
+WALK, WALKS, PLACES = 3000, 20_000, 2048
+# How many instructions a walk follows where none of these may hold one.
+SHORT = 300
 # How far below and above its first place the stack may come on the way.
-BELOW, ABOVE = 0x1000, 2 * WORDS
+BELOW, ABOVE = 0x1000, 0x2000
 LONGEST = 8
 PREFIXES = frozenset((0x26, 0x2E, 0x36, 0x3E, 0xF0, 0xF2, 0xF3))
 UNLISTED = frozenset((0x0F, *range(0x60, 0x70), 0xC0, 0xC1, 0xC8, 0xC9, 0xD6, 0xF1))
@@ -32,7 +34,7 @@ ENDS = frozenset((0x00, 0x31, 0x4C))
 # An instruction: its first byte without prefixes, its mode byte and the parts of it, its displacement, its operand, its length.
 Instruction = namedtuple("Instruction", "code mode reg rm displacement operand length")
 # What pushed a return address: the offset of its lowest word in SS, how many bytes a return takes, how many of them the CALL, INT or division pushed, its
-# place (None for a trap, which stands behind any instruction), the place that it leads to (None if the bytes do not spell it), and the return address.
+# place, the place that it leads to (None if the bytes do not spell it), and the return address.
 Call = namedtuple("Call", "slot size pushed at target back")
 
 
@@ -139,10 +141,12 @@ class Memory:
 
     def bytes(self, segment, offset, count):
         """Bytes from an offset on, around the end of the segment."""
-        number, at = divmod(segment * 16 + (offset & 0xFFFF), self.PAGE)
-        if at + count <= self.PAGE and (offset & 0xFFFF) + count <= 0x10000:
-            return self.page(number)[at : at + count]
-        return bytes(self.byte(segment, offset + it) for it in range(count))
+        found = b""
+        while len(found) < count:
+            here = offset + len(found) & 0xFFFF
+            number, at = divmod(segment * 16 + here, self.PAGE)
+            found += self.page(number)[at : at + min(count - len(found), 0x10000 - here)]
+        return found
 
     def word(self, segment, offset):
         return self.byte(segment, offset) | self.byte(segment, offset + 1) << 8
@@ -167,11 +171,12 @@ class Finder:
     def caller(self, registers, is_first=True):
         """The call that led to CS:IP of the 12 registers and IP, and the registers behind it, or `None` for code that nothing called."""
         known, ip = list(registers[:12]), registers[12]
-        words = range(known[SP], min(known[SP] + 2 * WORDS, 0xFFFF), 2)
-        candidates = [slot for slot in words if any(self.calls(known[CS], known[SS], slot, size) for size in (2, 4, 6))]
-        if not candidates:
+        # (At 0, SP is at the end of a stack of 64 KiB, which is empty.)
+        above = max(0, 0xFFFF - known[SP]) if known[SP] else 0
+        candidates = self.candidates(known[CS], known[SS], known[SP], min(above, PLACES))
+        if not candidates and above <= PLACES:
             return None
-        self.left = WALKS
+        self.left = WALKS if candidates else SHORT
         goal = (known[CS], ip, known[SP])
         start = State(known[CS], ip, known, known[AX] >> 8)
         if not is_first:
@@ -183,6 +188,16 @@ class Finder:
         after = [now if it is None else it for it, now in zip(behind, known)]
         after[CS], after[SS], after[SP] = call.back[0], known[SS], call.slot + call.size + removed & 0xFFFF
         return call, (*after, call.back[1])
+
+    def candidates(self, cs, ss, stack, count):
+        """The offsets of words of the stack that a call can have pushed, of those at so many offsets; compilers put single bytes there, too."""
+        data, found, known = self.memory.bytes(ss, stack, count + 4), [], {}
+        for at in range(count):
+            two = data[at : at + 4]
+            if two not in known:
+                known[two] = any(self.calls(cs, ss, stack + at, size) for size in (2, 4, 6))
+            found += [stack + at] if known[two] else []
+        return found
 
     def by_returns(self, start, goal):
         """The call whose return address the code at CS:IP takes when it returns."""
@@ -241,8 +256,8 @@ class Finder:
         else:
             # PUSHF before a far call makes an interrupt of it.
             found = [it for it in found if self.memory.byte(cs, it[1] - 1) == 0x9C]
-            found += [(6, at, target) for at, target in self.interrupts(cs, ip, self.memory.word(ss, slot + 4))]
-        return [Call(slot, size, pushed, at if at is None else (cs, at), target, (cs, ip)) for pushed, at, target in found]
+            found += [(6, at, target) for at, target in self.interrupts(cs, ip)]
+        return [Call(slot, size, pushed, (cs, at), target, (cs, ip)) for pushed, at, target in found]
 
     def behind(self, cs, ip, is_far):
         """The near or far calls that end at CS:IP, and where they lead."""
@@ -267,8 +282,8 @@ class Finder:
             if it and it.length == (ip - at & 0xFFFF):
                 yield at, it
 
-    def interrupts(self, cs, ip, flags):
-        """The interrupts that push CS:IP and these flags, and where they lead."""
+    def interrupts(self, cs, ip):
+        """The interrupts that push CS:IP, and where they lead."""
         found, before = [], self.memory.bytes(cs, ip - 5, 5)
         if before[3] == 0xCD:
             found.append((ip - 2 & 0xFFFF, self.memory.vector(before[4])))
@@ -277,8 +292,6 @@ class Finder:
         if MAY_DIVIDE.intersection(before):
             divisions = (at for at, it in self.ending(cs, ip) if (it.code in (0xF6, 0xF7) and it.reg > 5) or (it.code == 0xD4 and not it.operand))
             found += [(at, self.memory.vector(0)) for at in divisions]
-        if flags & 0x100:
-            found.append((None, self.memory.vector(1)))
         return found
 
 

@@ -107,7 +107,7 @@ def linear_of(segment, offset):
 
 def caller_of(registers, level=0):
     """The call that led here, the registers behind it in the order of SEEN, and its flags if it pushed them; `None` for the outermost frame."""
-    if level >= FRAMES:
+    if level >= FRAMES - 1:
         return None
     finder = mezguld_calls.Finder(mezguld_calls.Memory(reads))
     found = finder.caller(registers, level == 0)
@@ -194,7 +194,7 @@ def step_back():
     if memory(gdb.newest_frame().pc(), 1)[0] not in mezguld_calls.SIZES:
         return True
     found = caller_of(registers)
-    if found is None or found[0].at is None:
+    if found is None:
         return True
     return back_to(found[0], registers[SEEN.index("ss")])
 
@@ -269,7 +269,7 @@ class BackOut(gdb.Command):
         frame = gdb.selected_frame()
         registers = [int(frame.read_register(it)) & 0xFFFF for it in SEEN]
         found = caller_of(registers, frame.level())
-        if found is None or found[0].at is None:
+        if found is None:
             raise gdb.GdbError('"finish" not meaningful in the outermost frame.')
         print("Run back to call of " + gdb.execute("frame", to_string=True).split("\n")[0])
         was = gdb.newest_frame().name()

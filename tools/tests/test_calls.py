@@ -71,11 +71,6 @@ class Callers(unittest.TestCase):
         call, _ = found(bytes.fromhex("F6F3 F4 CF"), [2, CODE, 0xF202], 3, vectors=[(0, 3)])
         self.assertEqual(call.at, (CODE, 0))
 
-    def test_trap(self):
-        """nop; hlt; 2: iret"""
-        call, _ = found(bytes.fromhex("90 F4 CF"), [1, CODE, 0xF302], 2, vectors=[(1, 2)])
-        self.assertEqual((call.at, call.back), (None, (CODE, 1)))
-
     def test_arguments_that_the_procedure_removes(self):
         """push ax; call 5; hlt; 5: ret 2"""
         _, behind = found(bytes.fromhex("50 E80100 F4 C20200"), [4, 7], 5)
