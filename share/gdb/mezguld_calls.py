@@ -234,13 +234,13 @@ class Finder:
         return True if any((it.cs, it.ip, it.registers[SP]) == goal for it in walk.states()) else (None if walk.is_cut else False)
 
     def removes(self, cs, ip, depth):
-        """How many bytes of its caller's stack the code at a place removes when it returns."""
+        """How many bytes the code at a place takes from the stack when it returns; `None` if that cannot be seen."""
         if (cs, ip) not in self.cleaned:
-            self.cleaned[cs, ip] = 0
+            self.cleaned[cs, ip] = None
             registers = [None] * 12
             registers[SP] = 0x8000
             if depth:
-                self.cleaned[cs, ip] = next((removed for state, _, removed in Walk(self, State(cs, ip, registers), depth - 1).returns() if state.registers[SP] == 0x8000), 0)
+                self.cleaned[cs, ip] = next((size + removed for state, size, removed in Walk(self, State(cs, ip, registers), depth - 1).returns() if state.registers[SP] == 0x8000), None)
         return self.cleaned[cs, ip]
 
     def calls(self, cs, ss, slot, size):
@@ -346,6 +346,8 @@ class Walk:
                 self.is_cut = True
             else:
                 self.ended.append((state, SIZES[code], it.operand))
+        elif code in (0xE2, 0xE3) and state.registers[CX] is not None:
+            self.count(state, code, behind, behind + signed(it.operand, 8) & 0xFFFF)
         elif 0x70 <= code < 0x80 or 0xE0 <= code <= 0xE3:
             state.forget(*word_changed(it))
             self.waiting.append(state.at(state.cs, behind + signed(it.operand, 8)))
@@ -355,7 +357,10 @@ class Walk:
         elif code == 0xEA:
             self.waiting.append(state.at(it.operand >> 16, it.operand))
         elif code == 0xFF and it.reg in (4, 5):
-            self.is_cut = True
+            # What is in memory now may not be what the jump finds.
+            target, self.is_cut = self.target(state, it), True
+            if target:
+                self.waiting.append(state.at(*target))
         elif code in (0xE8, 0x9A) or (code == 0xFF and it.reg in (2, 3)):
             self.over_call(state, it, behind)
         elif code in (0xCC, 0xCD, 0xCE):
@@ -368,14 +373,34 @@ class Walk:
         state.ip = ip & 0xFFFF
         self.waiting.append(state)
 
+    def count(self, state, code, behind, target):
+        """Behind LOOP or JCXZ with a known count. Repetitions that leave the stack as it was are not followed."""
+        if code == 0xE3:
+            self.go(state, behind if state.registers[CX] else target)
+        else:
+            state.registers[CX] = state.registers[CX] - 1 & 0xFFFF
+            is_over = not state.registers[CX] or (state.cs, target, state.registers[SP]) in self.seen
+            state.registers[CX] = 0 if is_over else state.registers[CX]
+            self.go(state, behind if is_over else target)
+
+    def target(self, state, it):
+        """Where a call or jump by a register or a fixed place in memory leads, or `None`."""
+        place, is_far = state.registers[DS], it.reg in (3, 5)
+        if it.mode == 3:
+            return None if is_far or state.registers[it.rm] is None else (state.cs, state.registers[it.rm])
+        if (it.mode, it.rm) != (0, 6) or place is None:
+            return None
+        memory = self.finder.memory
+        return memory.word(place, it.displacement + 2) if is_far else state.cs, memory.word(place, it.displacement)
+
     def over_call(self, state, it, behind):
-        """Behind a call: what it leads to may have removed bytes of the stack."""
-        removed = 0
-        if it.code == 0xE8:
-            removed = self.finder.removes(state.cs, behind + it.operand & 0xFFFF, self.depth)
-        elif it.code == 0x9A:
-            removed = self.finder.removes(it.operand >> 16, it.operand & 0xFFFF, self.depth)
-        state.registers[SP] = state.registers[SP] + removed & 0xFFFF
+        """Behind a call: what it leads to may take more from the stack than was pushed, as arguments, or CS that was pushed before."""
+        spelled = {0xE8: (state.cs, behind + it.operand & 0xFFFF), 0x9A: (it.operand >> 16, it.operand & 0xFFFF)}
+        target = spelled[it.code] if it.code in spelled else self.target(state, it)
+        pushed = 4 if it.code == 0x9A or (it.code == 0xFF and it.reg == 3) else 2
+        taken = target and self.finder.removes(*target, self.depth)
+        self.is_cut |= taken is None
+        state.registers[SP] = state.registers[SP] + (pushed if taken is None else taken) - pushed & 0xFFFF
         state.forget(AX, CX, DX, BX)
         self.go(state, behind)
 
