@@ -13,11 +13,15 @@ import sys
 
 import gdb
 
-# The other files stand beside this one; there is no need to leave compiled ones.
-sys.path.insert(0, os.path.dirname(os.path.abspath(__file__)))
+# The other files stand beside this one. Their folder leaves the path again, since a package of Python has this file's name; and there is no need to keep
+# them compiled.
+HERE = os.path.dirname(os.path.abspath(__file__))
+sys.path.insert(0, HERE)
 sys.dont_write_bytecode = True
 import mezguld_frames  # noqa: E402
 from mezguld_frames import flush, is_there, linear_of, memory, monitor, quietly, stack, steps  # noqa: E402
+
+sys.path.remove(HERE)
 
 # The machine is an 8086. GDB would choose otherwise for an ELF file with the program's symbols. It goes on where `dm gdb`
 # tells, by the signal SIGALRM, that a `continue` made its most steps.

@@ -399,8 +399,11 @@ class Walk:
         target = spelled[it.code] if it.code in spelled else self.target(state, it)
         pushed = 4 if it.code == 0x9A or (it.code == 0xFF and it.reg == 3) else 2
         taken = target and self.finder.removes(*target, self.depth)
-        self.is_cut |= taken is None
-        state.registers[SP] = state.registers[SP] + (pushed if taken is None else taken) - pushed & 0xFFFF
+        if taken is None:
+            self.is_cut = True
+            is_more = self.finder.memory.byte(state.cs, state.ip - 1) == (0x9C if pushed == 4 else 0x0E)
+            taken = pushed + 2 if is_more else pushed
+        state.registers[SP] = state.registers[SP] + taken - pushed & 0xFFFF
         state.forget(AX, CX, DX, BX)
         self.go(state, behind)
 

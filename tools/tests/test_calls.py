@@ -5,9 +5,13 @@ import sys
 import time
 import unittest
 
-sys.path.insert(0, os.path.join(os.path.dirname(os.path.dirname(os.path.dirname(os.path.abspath(__file__)))), "share", "gdb"))
+# (share/gdb is in the path for this alone: it has a file with the name of the package of Python.)
+SCRIPTS = os.path.join(os.path.dirname(os.path.dirname(os.path.dirname(os.path.abspath(__file__)))), "share", "gdb")
+sys.path.insert(0, SCRIPTS)
 import mezguld_calls  # noqa: E402
 from mezguld_calls import BP, CS, SP, SS  # noqa: E402
+
+sys.path.remove(SCRIPTS)
 
 CODE, STACK = 0x1000, 0x2000
 SECONDS = 2
