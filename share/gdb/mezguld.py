@@ -174,8 +174,7 @@ def findings():
 
 def check():
     """dm check: goes to the next step in which dm check finds something, and prints that; with what was set in GDB, registers or memory, left out."""
-    if not is_there():
-        raise gdb.GdbError("The program is not being run.")
+    mezguld_frames.require_program()
     now = steps()
     found, others = findings()
     following = min((step for step, _ in found if now < step), default=None)

@@ -54,6 +54,16 @@ def is_there():
     return bool(gdb.selected_inferior().threads())
 
 
+def require_program():
+    """Raises an error unless a program runs under dm gdb."""
+    if not is_there():
+        raise gdb.GdbError("The program is not being run.")
+    try:
+        gdb.newest_frame().read_register("steps")
+    except ValueError as error:
+        raise gdb.GdbError("This program is not under dm gdb.") from error
+
+
 def flush():
     """GDB forgets what it has read."""
     for cache in ("register-cache", "dcache"):
@@ -244,8 +254,7 @@ class Back(gdb.Command):
         super().__init__(name, gdb.COMMAND_RUNNING)
 
     def invoke(self, text, _):
-        if not is_there():
-            raise gdb.GdbError("The program is not being run.")
+        require_program()
         try:
             count = int(gdb.parse_and_eval(text)) if text else 1
         except gdb.error as error:
@@ -254,7 +263,8 @@ class Back(gdb.Command):
         for _ in range(count):
             if not self.call():
                 return
-        tell_place(was)
+        if count > 0:
+            tell_place(was)
 
 
 class BackOut(gdb.Command):
@@ -264,8 +274,7 @@ class BackOut(gdb.Command):
         super().__init__("reverse-finish", gdb.COMMAND_RUNNING)
 
     def invoke(self, text, _):
-        if not is_there():
-            raise gdb.GdbError("The program is not being run.")
+        require_program()
         frame = gdb.selected_frame()
         registers = [int(frame.read_register(it)) & 0xFFFF for it in SEEN]
         found = caller_of(registers, frame.level())
