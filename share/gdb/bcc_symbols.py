@@ -16,6 +16,7 @@ import tempfile
 SOURCE, LISTED, MAPPED = re.compile(r"! (\d+) (?!# \d)"), re.compile(r"\d+ ([0-9A-F]{4}) {11}[0-9A-F]{2}"), re.compile(r" *(\S+) +(\S+) +([0-3]) +([0-9a-f]{8}) ")
 LABEL = re.compile(r"\d+ +([0-9A-F]{8})> +(_\w+):")
 PROLOGUE = re.compile(r"push\s+(bp|di|si)|mov\s+bp,sp|dec\s+sp|(add|sub)\s+sp,")
+INCLUDED = re.compile(r'! \d+ # \d+ "(.*)"')
 CODE, FIRST = "0", 0x100
 
 
@@ -30,20 +31,22 @@ def run(words, folder=None):
     return ran.stdout + ran.stderr
 
 
-def lines_of(listing):
+def lines_of(source, listing):
     """The offset in the code and the number of each source line with code, the offset of each function, and the size of the code, from as86's listing."""
-    lines, functions, number, opened, size = [], {}, 0, None, 0
+    lines, functions, number, opened, size, is_ours = [], {}, 0, None, 0, True
     for row in listing.splitlines():
         text = row[43:].strip()
-        if source := SOURCE.match(text):
-            number = int(source[1])
+        if included := INCLUDED.match(text):
+            is_ours = included[1] == source
+        elif at := SOURCE.match(text):
+            number = int(at[1])
         if label := LABEL.match(row):
             functions[label[2]], opened = int(label[1], 16), number
         if code := LISTED.match(row):
             # What a function does first belongs to its head, so that GDB has its breakpoint at the first line of the body.
             opened = opened if PROLOGUE.match(text) else None
             now, size = opened or number, int(code[1], 16) + 1
-            lines += [(size - 1, now)] if not lines or now != lines[-1][1] else []
+            lines += [(size - 1, now)] if is_ours and (not lines or now != lines[-1][1]) else []
     return lines, functions, size
 
 
@@ -60,10 +63,12 @@ def assembly(first, last, names, lines=()):
 
 def linked(source, listing, names, name, folder):
     """Makes the file with the symbols from three parts: what comes before the program's own code, that code, and what follows it."""
-    lines, functions, size = lines_of(listing)
+    lines, functions, size = lines_of(source, listing)
     base = next((address - functions[it] for it, address in names if it in functions), None)
     if base is None:
         sys.exit(f"bcc_symbols.py: {source} has no function")
+    # (A name of the library among the program's own is that of a number.)
+    names = [(it, address) for it, address in names if it in functions or not base <= address < base + size]
     spans = (FIRST, base, base + size, max(base + size, *(it for _, it in names)) + 1)
     numbered = [(base + offset, f"%line {number}+0 {source}") for offset, number in lines]
     for part, (first, last) in enumerate(zip(spans, spans[1:])):
@@ -81,7 +86,7 @@ def main():
     mapped = [MAPPED.match(it) for it in run(["bcc", "-Md", "-M", "-o", f"{name}.com", source]).splitlines()]
     with tempfile.TemporaryDirectory() as folder:
         run(["bcc", "-Md", "-S", "-o", f"{folder}/it.s", source])
-        run(["as86", "-0", "-O", "-l", f"{folder}/it.lst", "-o", f"{folder}/it.o86", f"{folder}/it.s"])
+        run(["as86", "-u", "-0", "-O", "-l", f"{folder}/it.lst", "-o", f"{folder}/it.o86", f"{folder}/it.s"])
         with open(f"{folder}/it.lst", encoding="latin-1") as file:
             listing = file.read()
         names = [(it[2], int(it[4], 16)) for it in mapped if it and it[3] == CODE and it[2].startswith("_") and int(it[4], 16) >= FIRST]
