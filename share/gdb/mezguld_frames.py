@@ -84,10 +84,10 @@ class Frames(Unwinder):
         super().__init__("mezguld")
 
     def __call__(self, pending):
-        # An exception here would end GDB's command, and each later one.
+        # An exception here, whatever it is, would end GDB's command, and each later one.
         try:
             return self.frame(pending)
-        except (ValueError, gdb.error, ArithmeticError, LookupError):
+        except Exception:  # pylint: disable=broad-exception-caught
             return None
 
     def frame(self, pending):
