@@ -176,15 +176,19 @@ def current():
 
 def back_to(call, stack_segment):
     """Goes back to the instruction that made a call, or to what stops before. Returns whether it is that instruction."""
-    address, above = linear_of(*call.at), linear_of(stack_segment, call.slot + call.pushed)
-    point = gdb.Breakpoint(f"*{address}", internal=True)
-    point.silent, point.condition = True, f"$esp == {above}"
+    address, slot = linear_of(*call.at), linear_of(stack_segment, call.slot)
+    # Nothing but the call writes its return address, as a rule: not the same procedure further down the stack, either.
+    point = gdb.Breakpoint(f"*(unsigned short *){slot}", gdb.BP_WATCHPOINT, gdb.WP_ACCESS, internal=True)
+    point.silent = True
     try:
-        with Stops() as stops:
-            gdb.execute("reverse-continue", to_string=True)
+        while True:
+            with Stops() as stops:
+                gdb.execute("reverse-continue", to_string=True)
+            is_call = gdb.newest_frame().pc() == address and stack() == slot + call.pushed
+            if stops.hit or is_call or steps() == 0:
+                return is_call and not stops.hit
     finally:
         point.delete()
-    return not stops.hit and gdb.newest_frame().pc() == address and stack() == above
 
 
 def step_back():
