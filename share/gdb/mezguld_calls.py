@@ -13,9 +13,9 @@ AX, CX, DX, BX, SP, BP, SI, DI, ES, CS, SS, DS = range(12)
 # How many instructions a walk follows, and all walks for one frame together; at how many offsets of the stack a return address is looked for.
 WALK, WALKS, PLACES = 3000, 20_000, 2048
 # How many instructions a walk follows where none of these may hold one.
-SHORT = 300
-# How far below and above its first place the stack may come on the way.
-BELOW, ABOVE = 0x1000, 0x2000
+SHORT = 500
+# How far below its first place the stack may come on the way.
+BELOW = 0x1000
 LONGEST = 8
 PREFIXES = frozenset((0x26, 0x2E, 0x36, 0x3E, 0xF0, 0xF2, 0xF3))
 UNLISTED = frozenset((0x0F, *range(0x60, 0x70), 0xC0, 0xC1, 0xC8, 0xC9, 0xD6, 0xF1))
@@ -173,15 +173,15 @@ class Finder:
         known, ip = list(registers[:12]), registers[12]
         # (At 0, SP is at the end of a stack of 64 KiB, which is empty.)
         above = max(0, 0xFFFF - known[SP]) if known[SP] else 0
-        candidates = self.candidates(known[CS], known[SS], known[SP], min(above, PLACES))
-        if not candidates and above <= PLACES:
+        may_be = next(self.candidates(known, above), None) is not None
+        if not may_be and above <= PLACES:
             return None
-        self.left = WALKS if candidates else SHORT
+        self.left = WALKS if may_be else SHORT
         goal = (known[CS], ip, known[SP])
         start = State(known[CS], ip, known, known[AX] >> 8)
         if not is_first:
             start.forget(AX, CX, DX, BX)
-        found = self.by_returns(start, goal) or self.by_words(candidates, known, goal)
+        found = self.by_returns(start, goal) or self.by_words(self.candidates(known, above), known, goal)
         if not found:
             return None
         call, behind, removed = found
@@ -189,15 +189,15 @@ class Finder:
         after[CS], after[SS], after[SP] = call.back[0], known[SS], call.slot + call.size + removed & 0xFFFF
         return call, (*after, call.back[1])
 
-    def candidates(self, cs, ss, stack, count):
-        """The offsets of words of the stack that a call can have pushed, of those at so many offsets; compilers put single bytes there, too."""
-        data, found, known = self.memory.bytes(ss, stack, count + 4), [], {}
-        for at in range(count):
-            two = data[at : at + 4]
+    def candidates(self, registers, above):
+        """The offsets of words of the stack that a call can have pushed, if there are so many above SP; compilers put single bytes there, too."""
+        cs, ss, stack, known = registers[CS], registers[SS], registers[SP], {}
+        for slot in range(stack, stack + min(above, PLACES)):
+            two = self.memory.bytes(ss, slot, 4)
             if two not in known:
-                known[two] = any(self.calls(cs, ss, stack + at, size) for size in (2, 4, 6))
-            found += [stack + at] if known[two] else []
-        return found
+                known[two] = any(self.calls(cs, ss, slot, size) for size in (2, 4, 6))
+            if known[two]:
+                yield slot
 
     def by_returns(self, start, goal):
         """The call whose return address the code at CS:IP takes when it returns."""
@@ -312,7 +312,7 @@ class Walk:
                 break
             state = self.waiting.popleft()
             stack = state.registers[SP]
-            if stack is None or not -BELOW <= stack - self.first <= ABOVE:
+            if stack is None or stack < self.first - BELOW:
                 self.is_cut = True
                 continue
             if (state.cs, state.ip, stack) in self.seen:

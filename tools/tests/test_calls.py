@@ -55,6 +55,11 @@ class Callers(unittest.TestCase):
         call, behind = found(bytes.fromhex("E80100 F4 55 89E5 83EC04 90 89EC 5D C3"), [3, 3, 0x1234, 3], 10, bp=0xFF04)
         self.assertEqual((call.slot, behind[BP], behind[SP]), (0xFF06, 0x1234, 0xFF08))
 
+    def test_large_locals(self):
+        """call 4; hlt; 4: push bp; mov bp,sp; sub sp,10000; nop; mov sp,bp; pop bp; ret"""
+        call, behind = found(bytes.fromhex("E80100 F4 55 89E5 81EC1027 90 89EC 5D C3"), [0] * 5000 + [0x1234, 3], 11, stack=0x8000, bp=0xA710)
+        self.assertEqual((call.slot, behind[BP]), (0xA712, 0x1234))
+
     def test_code_that_never_returns(self):
         """call 4; hlt; 4: push ax; 5: jmp 5"""
         call, _ = found(bytes.fromhex("E80100 F4 50 EBFE"), [3, 3], 5)
