@@ -5,10 +5,23 @@
 An address SEGMENT:OFFSET has hexadecimal numbers or 16-bit registers on both sides: 0103:0119, ds:si. `help dm` lists the commands.
 """
 import os
+import re
 import shlex
 import struct
+import subprocess
+import sys
 
 import gdb
+
+# The other files stand beside this one. Their folder leaves the path again, since a package of Python has this file's name; and there is no need to keep
+# them compiled.
+HERE = os.path.dirname(os.path.abspath(__file__))
+sys.path.insert(0, HERE)
+sys.dont_write_bytecode = True
+import mezguld_frames  # noqa: E402
+from mezguld_frames import flush, is_there, linear_of, memory, monitor, quietly, stack, steps  # noqa: E402
+
+sys.path.remove(HERE)
 
 # The machine is an 8086. GDB would choose otherwise for an ELF file with the program's symbols. It goes on where `dm gdb`
 # tells, by the signal SIGALRM, that a `continue` made its most steps.
@@ -18,11 +31,8 @@ REGISTERS = {"ax": "ax", "bx": "bx", "cx": "cx", "dx": "dx", "sp": "sp", "bp": "
 GOES_OVER, RETURNS = ("call", "lcall", "int", "into", "rep", "repz", "repnz", "loop", "loope", "loopne"), ("ret", "lret", "iret", "retw", "lretw", "iretw")
 # The most steps of `dm out`.
 MOST = 100_000
-
-
-def monitor(line):
-    """What a command of the debugger prints."""
-    return gdb.execute(f"monitor {line}", to_string=True)
+# A line of `dm check` about a finding, with the number of its step.
+FINDING = re.compile(r"(?:error|note): step (\d+), ")
 
 
 def register(name):
@@ -57,35 +67,11 @@ def linear(text):
     return segment * 16 + offset
 
 
-def memory(address, count):
-    """Bytes of memory."""
-    return bytes(gdb.selected_inferior().read_memory(address, count))
-
-
 def instruction():
     """The mnemonic of the instruction at CS:IP, and the linear address behind it."""
     frame = gdb.selected_frame()
     found = frame.architecture().disassemble(frame.pc())[0]
     return found["asm"].split()[0], frame.pc() + found["length"]
-
-
-def stack():
-    """The linear address of SS:SP."""
-    return int(gdb.parse_and_eval("$esp")) & 0xFFFFFFFF
-
-
-def steps():
-    """How many steps the machine has made."""
-    return int(gdb.parse_and_eval("$steps"))
-
-
-def quietly(command):
-    """Executes a command of GDB without what it prints."""
-    gdb.execute("set suppress-cli-notifications on")
-    try:
-        gdb.execute(command, to_string=True)
-    finally:
-        gdb.execute("set suppress-cli-notifications off")
 
 
 def go_past(address):
@@ -97,14 +83,19 @@ def go_past(address):
         point.delete()
 
 
-def is_there():
-    """Whether there is still a program that runs."""
-    return bool(gdb.selected_inferior().threads())
-
-
 def show():
     """Prints the registers and the next instruction, as the debugger does."""
     print(monitor("R") if is_there() else "the program has ended\n", end="")
+
+
+class Linear(gdb.Function):
+    """$linear(SEGMENT, OFFSET): the linear address, as in: x/8xb $linear($ds, $si)"""
+
+    def __init__(self):
+        super().__init__("linear")
+
+    def invoke(self, segment, offset):
+        return linear_of(int(segment) & 0xFFFF, int(offset) & 0xFFFF)
 
 
 class Group(gdb.Command):
@@ -117,6 +108,9 @@ class Group(gdb.Command):
 class Given(gdb.Command):
     """A command `dm NAME`, which calls a function with the words behind it; the function's comment is its help."""
 
+    # The words of the last `dm connect`.
+    connected = ()
+
     def __init__(self, name, call, least, most):
         self.__doc__, self.call, self.least, self.most = call.__doc__, call, least, most
         super().__init__(f"dm {name}", gdb.COMMAND_USER)
@@ -125,14 +119,70 @@ class Given(gdb.Command):
         words = shlex.split(text)
         if not self.least <= len(words) <= self.most:
             raise gdb.GdbError(self.__doc__.splitlines()[0])
-        self.call(*words)
+        try:
+            self.call(*words)
+        except gdb.error as error:
+            raise gdb.GdbError(str(error)) from error
 
 
 def connect(*words):
     """dm connect [OPTIONS] FILES: starts dm gdb with these words and connects to it.
     The environment variable DM names another program than dm."""
-    gdb.execute(f"target extended-remote | {os.environ.get('DM', 'dm')} gdb {' '.join(shlex.quote(it) for it in words)}", to_string=True)
+    try:
+        gdb.execute(f"target extended-remote | {program()} gdb {' '.join(shlex.quote(it) for it in words)}", to_string=True)
+    except gdb.error as error:
+        raise gdb.GdbError(refusal(words) or str(error)) from error
+    Given.connected = words
     show()
+
+
+def program():
+    """The program dm."""
+    return os.environ.get("DM", "dm")
+
+
+def refusal(words):
+    """What dm gdb says of words with which it does not start; GDB does not show it."""
+    try:
+        return subprocess.run([program(), "gdb", *words], stdin=subprocess.DEVNULL, capture_output=True, text=True, check=False).stderr.strip()
+    except OSError as error:
+        return f"{program()}: {error.strerror}"
+
+
+def findings():
+    """The lines of `dm check` for the program that `dm connect` has started, with their steps, and its other lines."""
+    if not Given.connected:
+        raise gdb.GdbError("dm check works behind dm connect")
+    words, given, words_left = [], os.devnull, list(Given.connected)
+    while words_left:
+        word_now = words_left.pop(0)
+        name, _, value = word_now.partition("=")
+        if name in ("--input", "--steps"):
+            value = value or (words_left.pop(0) if words_left else "")
+            given = value if name == "--input" else given
+        else:
+            words.append(word_now)
+    try:
+        with open(given, "rb") as file:
+            ran = subprocess.run([program(), "check", *words], stdin=file, stdout=subprocess.DEVNULL, stderr=subprocess.PIPE, check=False)
+    except OSError as error:
+        raise gdb.GdbError(f"dm check: {error.strerror}") from error
+    lines = ran.stderr.decode("utf-8", "backslashreplace").splitlines()
+    found = [(int(it[1]), it.string) for it in map(FINDING.match, lines) if it]
+    return found, [it for it in lines if not FINDING.match(it)]
+
+
+def check():
+    """dm check: goes to the next step in which dm check finds something, and prints that; with what was set in GDB, registers or memory, left out."""
+    mezguld_frames.require_program()
+    now = steps()
+    found, others = findings()
+    following = min((step for step, _ in found if now < step), default=None)
+    if following is None:
+        print(f"nothing is found behind step {now}", *others, sep="\n")
+        return
+    print(*(line for step, line in found if step == following), sep="\n")
+    go(f"{following:X}")
 
 
 def over():
@@ -162,14 +212,23 @@ def out():
 def go(number):
     """dm go N: goes to the state after N steps from the start, N in hexadecimal, forwards or back, past all breakpoints."""
     print(monitor(f"step {number}"), end="")
-    for cache in ("register-cache", "dcache"):
-        gdb.execute(f"maintenance flush {cache}", to_string=True)
+    flush()
     show()
 
 
 def stop_at(address, *condition):
     """dm break SEGMENT:OFFSET [if CONDITION]: sets a breakpoint."""
     gdb.execute(f"break *{linear(address):#x} {' '.join(condition)}")
+
+
+def watch(address, count="1", *condition):
+    """dm watch SEGMENT:OFFSET [COUNT] [if CONDITION]: stops where one of COUNT bytes is written, a byte without it; COUNT in hexadecimal."""
+    if count == "if":
+        count, condition = "1", (count, *condition)
+    if word(count) == 0:
+        raise gdb.GdbError("COUNT is at least 1")
+    kind = {1: "unsigned char *", 2: "unsigned short *"}.get(word(count), f"unsigned char (*)[{word(count)}]")
+    gdb.execute(f"watch *({kind}){linear(address):#x} {' '.join(condition)}")
 
 
 def stop_at_interrupt(number, function=""):
@@ -210,9 +269,11 @@ def printed(letter, about):
 
 for line in SETTINGS:
     gdb.execute(line, to_string=True)
+mezguld_frames.install()
+Linear()
 Group()
 for title, called, fewest, highest in (
-    ("connect", connect, 1, 70), ("over", over, 0, 0), ("out", out, 0, 0), ("go", go, 1, 1), ("break", stop_at, 1, 70), ("int", stop_at_interrupt, 1, 2),
+    ("connect", connect, 1, 70), ("over", over, 0, 0), ("out", out, 0, 0), ("go", go, 1, 1), ("check", check, 0, 0), ("break", stop_at, 1, 70), ("int", stop_at_interrupt, 1, 2), ("watch", watch, 1, 70),
     ("text", text_at, 0, 1), ("dump", dump, 1, 2), ("list", disassemble, 0, 2), ("symbols", symbols, 1, 2),
     ("registers", printed("R", "dm registers: prints the registers and the next instruction."), 0, 0),
     ("blocks", printed("M", "dm blocks: lists the blocks of memory of DOS."), 0, 0),
