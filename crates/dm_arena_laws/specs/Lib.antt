@@ -1,0 +1,2 @@
+pub mod Paragraphs
+pub mod Conservation

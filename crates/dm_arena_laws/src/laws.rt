@@ -1,0 +1,25 @@
+//! Laws of `allocate`, `free` and `resize` of `dm_arena`: each is the contract of a function that does nothing.
+ghost use Rattle.dm_arena_laws.specs.Conservation.{AllocateThenFreeJoins, AllocationConservesBlocks, FreeingConservesBlocks, ResizingConservesBlocks};
+
+/// A successful allocation (48h) makes one block of the wanted size and owner out of paragraphs that were free. Each
+/// used block stays, no other block gets an owner, and the list ends where it did.
+pub fn allocation_conserves_blocks()
+    ensures { AllocationConservesBlocks }
+{}
+
+/// Freeing a block (49h) clears its owner. Each other block stays, none is added, and the list ends where it did.
+pub fn freeing_conserves_blocks()
+    ensures { FreeingConservesBlocks }
+{}
+
+/// Resizing a block (4Ah) gives it the wanted size, out of its own paragraphs and free ones. Each other used block
+/// stays, no other block gets an owner, and the list ends where it did.
+pub fn resizing_conserves_blocks()
+    ensures { ResizingConservesBlocks }
+{}
+
+/// A block that is allocated (48h) and freed (49h) leaves the list that there was, once free blocks side by side are
+/// joined in both.
+pub fn allocate_then_free_joins()
+    ensures { AllocateThenFreeJoins }
+{}
