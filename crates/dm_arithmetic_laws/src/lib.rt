@@ -4,6 +4,7 @@
 
 mod decimal;
 mod products;
+mod shifts;
 
 pub use decimal::{
     packed_digits_add, packed_digits_subtract, unpacked_digits_add, unpacked_digits_divide,
@@ -13,3 +14,4 @@ pub use products::{
     division_undoes_multiplication, signed_division_divides, signed_division_undoes_multiplication,
     unsigned_division_divides,
 };
+pub use shifts::{rotating_comes_back, shifting_doubles_or_halves, shifts_add_up};
