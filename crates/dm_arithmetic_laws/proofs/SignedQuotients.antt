@@ -78,10 +78,10 @@ double-is w n = refl
 signed-back : (w : Width) (z : ℤ) → unsigned_abs z < half w → signed w (twos_complement (size w) z) ≡ z
 signed-back w z h = signed-is w _ ∙ sgn-twos (size w) (half w) z (twice w) h
 
-divisor-small : (w : Width) (d : ℕ) → d < size w → unsigned_abs (signed w d) ≤ half w
+pub divisor-small : (w : Width) (d : ℕ) → d < size w → unsigned_abs (signed w d) ≤ half w
 divisor-small w d h = subst (λ z. unsigned_abs z ≤ half w) (sym (signed-is w d)) (sgn-small (size w) (half w) d (twice w) h)
 
-divisor-positive : (w : Width) (d : ℕ) → d < size w → d ≢ 0 → 0 < unsigned_abs (signed w d)
+pub divisor-positive : (w : Width) (d : ℕ) → d < size w → d ≢ 0 → 0 < unsigned_abs (signed w d)
 divisor-positive w d h ne = subst (λ z. 0 < unsigned_abs z) (sym (signed-is w d)) (sgn-positive (size w) (half w) d (twice w) h ne)
 
 zero-mod : (m : ℕ) → 0 % m ≡ 0
@@ -182,7 +182,7 @@ square : (w : Width) → half w * half w < half w * size w
 square Byte = omega arith
 square Word = omega arith
 
-product-small : (w : Width) (a d : ℕ) → a < size w → d < size w → unsigned_abs (signed w a *ℤ signed w d) < half w * size w
+pub product-small : (w : Width) (a d : ℕ) → a < size w → d < size w → unsigned_abs (signed w a *ℤ signed w d) < half w * size w
 product-small w a d h k =
     let x = unsigned_abs-mul (signed w a) (signed w d) in
     let y = mul-le-mul (divisor-small w a h) (divisor-small w d k) in

@@ -1,0 +1,4 @@
+pub mod Values
+pub mod Operands
+pub mod Effects
+pub mod Spelled

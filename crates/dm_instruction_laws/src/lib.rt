@@ -1,0 +1,7 @@
+//! Laws of what instructions do. They bind the definition of [`dm_exec`], by which instructions are proved: no code runs
+//! here.
+#![tactic(auto)]
+
+mod laws;
+
+pub use laws::instructions_keep_well_formed;
