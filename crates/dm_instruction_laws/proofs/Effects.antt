@@ -124,7 +124,7 @@ flags_back : (g : Guest) → IsWellFormed g → IsWellFormed (flags_popped g)
 unfolding flags_popped
 flags_back g w = flagged (popped g) (flags_of (top g)) (off g w)
 
-pushed_value-below : (g : Guest) (override : Option SegmentRegister) (o : Operand) → IsWellFormed g → AreValues o → pushed_value g override o < 65536
+pub pushed_value-below : (g : Guest) (override : Option SegmentRegister) (o : Operand) → IsWellFormed g → AreValues o → pushed_value g override o < 65536
 unfolding pushed_value
 pushed_value-below g override (operand.WordRegister Sp) w v = omega arith
 pushed_value-below g override (operand.WordRegister Ax) w v = value-below g override (operand.WordRegister Ax) w v

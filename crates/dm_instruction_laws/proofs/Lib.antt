@@ -2,3 +2,5 @@ pub mod Values
 pub mod Operands
 pub mod Effects
 pub mod Spelled
+pub mod Repeated
+pub mod Popped

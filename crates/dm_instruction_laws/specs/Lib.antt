@@ -1,1 +1,3 @@
 pub mod WellFormed
+pub mod Repetitions
+pub mod Stack
