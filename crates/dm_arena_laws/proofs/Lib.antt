@@ -5,3 +5,4 @@ pub mod Runs
 pub mod Again
 pub mod Conserved
 pub mod Returned
+pub mod Kept

@@ -1,2 +1,3 @@
 pub mod Paragraphs
 pub mod Conservation
+pub mod Contents

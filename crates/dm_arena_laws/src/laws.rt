@@ -1,4 +1,5 @@
 //! Laws of `allocate`, `free` and `resize` of `dm_arena`: each is the contract of a function that does nothing.
+ghost use Rattle.dm_arena_laws.specs.Contents.{CallsKeepContents};
 ghost use Rattle.dm_arena_laws.specs.Conservation.{AllocateThenFreeJoins, AllocationConservesBlocks, FreeingConservesBlocks, ResizingConservesBlocks};
 
 /// A successful allocation (48h) makes one block of the wanted size and owner out of paragraphs that were free. Each
@@ -22,4 +23,10 @@ pub fn resizing_conserves_blocks()
 /// joined in both.
 pub fn allocate_then_free_joins()
     ensures { AllocateThenFreeJoins }
+{}
+
+/// A successful call of 48h, 49h or 4Ah changes no byte of a block, used or free, of a list that lies in conventional
+/// memory: it writes headers alone.
+pub fn calls_keep_contents()
+    ensures { CallsKeepContents }
 {}
