@@ -6,3 +6,4 @@ pub mod Again
 pub mod Conserved
 pub mod Returned
 pub mod Kept
+pub mod Released

@@ -19,7 +19,7 @@ use Rattle.dm_arena_laws.proofs.Cuts.{IsCut, cut-is, taken}
 use Rattle.dm_arena_laws.proofs.Again.{join-again, join-two}
 use Rattle.dm_arena_laws.proofs.Conserved.{becomes_arena}
 
-has_of : (L : List Header) (d : Header) → IsIn d L → HasHeader L d.segment
+pub has_of : (L : List Header) (d : Header) → IsIn d L → HasHeader L d.segment
 has_of [] d i = i
 has_of (c ∷ L) d (inl q) = inl (ap (λ z. z.segment) (sym q))
 has_of (c ∷ L) d (inr i) = inr (has_of L d i)
@@ -32,11 +32,11 @@ or-right : (x y : Bool) → y ≡ true → x || y ≡ true
 or-right true y e = refl
 or-right false y e = e
 
-same_of : (a n : ℕ) → nat_eq a n ≡ true → a ≡ n
+pub same_of : (a n : ℕ) → nat_eq a n ≡ true → a ≡ n
 same_of a n e = grind (arith, nat_tests)
 
 -- a list is linked if it has a header at the link block's segment
-linked_has : (L : List Header) → is_linked L ≡ true → (d : Header) × IsIn d L × (d.segment ≡ link_header)
+pub linked_has : (L : List Header) → is_linked L ≡ true → (d : Header) × IsIn d L × (d.segment ≡ link_header)
 linked_has [] e = absurd (let z : false ≡ true = e in cc)
 linked_has (b ∷ L) e = elim (or_either (nat_eq b.segment link_header) (is_linked L) e) [
   | inl y ↦ (b, inl refl, same_of _ _ y)
@@ -48,7 +48,7 @@ linked_of [] d i e = absurd i
 linked_of (b ∷ L) d (inl q) e = ap (λ z. nat_eq z link_header || is_linked L) (ap (λ z. z.segment) (sym q) ∙ e)
 linked_of (b ∷ L) d (inr i) e = or-right (nat_eq b.segment link_header) (is_linked L) (linked_of L d i e)
 
-header-same : (b c : Header) → b.segment ≡ c.segment → b.owner ≡ c.owner → b.size ≡ c.size → b ≡ c
+pub header-same : (b c : Header) → b.segment ≡ c.segment → b.owner ≡ c.owner → b.size ≡ c.size → b ≡ c
 header-same b c e f g = λ i. record { segment = e i; owner = f i; size = g i }
 
 false_of : (x : Bool) → not x ≡ true → x ≡ false
@@ -56,7 +56,7 @@ false_of true e = absurd (let z : false ≡ true = e in cc)
 false_of false e = refl
 
 -- a free block's header is not the link block's
-unlinked_of : (up : Bool) (b : Header) → is_free up b ≡ true → is_link up b.segment ≡ false
+pub unlinked_of : (up : Bool) (b : Header) → is_free up b ≡ true → is_link up b.segment ≡ false
 unlinked_of up b f = false_of _ (and-left (not (is_link up b.segment)) (nat_eq b.owner 0) f)
 
 -- nor is that of a block that can be freed
@@ -64,7 +64,7 @@ unlinked_after : (up : Bool) (segment s : ℕ) → s + 1 ≡ segment → is_link
 unlinked_after true segment s e o = grind (arith, nat_tests)
 unlinked_after false segment s e o = refl
 
-free_by : (up : Bool) (b : Header) → b.owner ≡ 0 → is_link up b.segment ≡ false → is_free up b ≡ true
+pub free_by : (up : Bool) (b : Header) → b.owner ≡ 0 → is_link up b.segment ≡ false → is_free up b ≡ true
 free_by up b o l = ap₂ (λ x y. not x && nat_eq y 0) l o
 
 -- the list that freeing one of its blocks leaves

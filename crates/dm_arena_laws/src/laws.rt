@@ -1,5 +1,6 @@
 //! Laws of `allocate`, `free` and `resize` of `dm_arena`: each is the contract of a function that does nothing.
 ghost use Rattle.dm_arena_laws.specs.Contents.{CallsKeepContents};
+ghost use Rattle.dm_arena_laws.specs.Pairs.{PairThenReleaseJoins};
 ghost use Rattle.dm_arena_laws.specs.Conservation.{AllocateThenFreeJoins, AllocationConservesBlocks, FreeingConservesBlocks, ResizingConservesBlocks};
 
 /// A successful allocation (48h) makes one block of the wanted size and owner out of paragraphs that were free. Each
@@ -29,4 +30,10 @@ pub fn allocate_then_free_joins()
 /// memory: it writes headers alone.
 pub fn calls_keep_contents()
     ensures { CallsKeepContents }
+{}
+
+/// The two blocks of a program (4Bh) that are freed at its end leave the list that there was, once free blocks side by
+/// side are joined in both.
+pub fn pair_then_release_joins()
+    ensures { PairThenReleaseJoins }
 {}

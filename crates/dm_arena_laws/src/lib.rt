@@ -6,5 +6,5 @@ mod laws;
 
 pub use laws::{
     allocate_then_free_joins, allocation_conserves_blocks, calls_keep_contents,
-    freeing_conserves_blocks, resizing_conserves_blocks,
+    freeing_conserves_blocks, pair_then_release_joins, resizing_conserves_blocks,
 };
