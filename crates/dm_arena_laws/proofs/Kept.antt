@@ -12,12 +12,12 @@ use Rattle.dm_arena_laws.specs.Contents.{CallsKeepContents, KeepsContents}
 use Rattle.dm_arena_laws.specs.Paragraphs.{paragraphs}
 use Rattle.dm_arena_laws.proofs.Conserved.{becomes_arena}
 
-fills-length : (h t : ℕ) (L : List Header) → Fills h L t → h + paragraphs L ≡ t
+pub fills-length : (h t : ℕ) (L : List Header) → Fills h L t → h + paragraphs L ≡ t
 fills-length h t [] f = (let e : h ≡ t = f in omega arith)
 fills-length h t (b ∷ L) f = (let e = f.0 in let x = fills-length (next b) t L f.1 in omega arith)
 
 -- no header is within a block
-outside : (h t : ℕ) (L : List Header) → Fills h L t → (b : Header) → IsIn b L → (g : ℕ) → HasHeader L g → (g ≤ b.segment) ⊎ (next b ≤ g)
+pub outside : (h t : ℕ) (L : List Header) → Fills h L t → (b : Header) → IsIn b L → (g : ℕ) → HasHeader L g → (g ≤ b.segment) ⊎ (next b ≤ g)
 outside h t [] f b i g w = absurd i
 outside h t (c ∷ L) f b (inl e) g (inl q) = inl (let x = ap (λ z. z.segment) e in omega arith)
 outside h t (c ∷ L) f b (inl e) g (inr w) = inr (let x = ap next e in let y = fills_above (next c) t L f.1 g w in omega arith)
@@ -29,7 +29,7 @@ outside h t (c ∷ L) f b (inr i) g (inl q) = inl (let x = above (next c) L f.1 
     above h (d ∷ L) f (inr i) = (let x = f.0 in let y = above (next d) L f.1 i in omega arith)
 outside h t (c ∷ L) f b (inr i) g (inr w) = outside (next c) t L f.1 b i g w
 
-within : (h t : ℕ) (L : List Header) → Fills h L t → (b : Header) → IsIn b L → next b ≤ t
+pub within : (h t : ℕ) (L : List Header) → Fills h L t → (b : Header) → IsIn b L → next b ≤ t
 within h t [] f b i = absurd i
 within h t (c ∷ L) f b (inl e) = (let x = ap next e in let y = fills_ends (next c) t L f.1 in omega arith)
 within h t (c ∷ L) f b (inr i) = within (next c) t L f.1 b i
