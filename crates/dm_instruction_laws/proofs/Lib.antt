@@ -4,3 +4,4 @@ pub mod Effects
 pub mod Spelled
 pub mod Repeated
 pub mod Popped
+pub mod Decimals

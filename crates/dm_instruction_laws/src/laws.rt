@@ -1,5 +1,6 @@
 //! Laws of the effect of instructions: each is the contract of a function that does nothing.
 ghost use Rattle.dm_instruction_laws.specs.WellFormed.{InstructionsKeepWellFormed};
+ghost use Rattle.dm_instruction_laws.specs.Decimals.{InstructionsComputeInDecimal};
 ghost use Rattle.dm_instruction_laws.specs.Repetitions.{RepetitionIsElements};
 ghost use Rattle.dm_instruction_laws.specs.Stack.{PopTakesWhatWasPushed, PushThenPopKeepsRegisters};
 
@@ -22,4 +23,10 @@ pub fn pop_takes_what_was_pushed()
 /// PUSH and POP of a register but SP leave all registers as they were.
 pub fn push_then_pop_keeps_registers()
     ensures { PushThenPopKeepsRegisters }
+{}
+
+/// ADD or ADC of AL and then DAA or AAA, SUB or SBB and then DAS or AAS, and MUL of a byte and then AAM compute in decimal
+/// digits.
+pub fn instructions_compute_in_decimal()
+    ensures { InstructionsComputeInDecimal }
 {}

@@ -5,6 +5,6 @@
 mod laws;
 
 pub use laws::{
-    instructions_keep_well_formed, pop_takes_what_was_pushed, push_then_pop_keeps_registers,
-    repetition_is_elements,
+    instructions_compute_in_decimal, instructions_keep_well_formed, pop_takes_what_was_pushed,
+    push_then_pop_keeps_registers, repetition_is_elements,
 };
