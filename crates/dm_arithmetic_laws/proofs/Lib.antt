@@ -6,3 +6,4 @@ pub mod SignedQuotients
 pub mod Moves
 pub mod Powers
 pub mod Turns
+pub mod Numbers

@@ -1,5 +1,6 @@
 //! Laws of the adjustments for decimal digits: DAA, DAS, AAA, AAS, AAM and AAD. Each is the contract of a function that
 //! does nothing.
+ghost use Rattle.dm_arithmetic_laws.specs.Numbers.{NumbersAddAndSubtract};
 ghost use Rattle.dm_arithmetic_laws.specs.Decimal.{PackedDigitsAdd, PackedDigitsSubtract, UnpackedDigitsAdd, UnpackedDigitsSubtract, UnpackedDigitsMultiply, UnpackedDigitsDivide};
 
 /// ADD or ADC and then DAA add two packed digits in AL to two others, with a decimal carry in and out.
@@ -31,4 +32,10 @@ pub fn unpacked_digits_multiply()
 /// AAD makes AX the number that the digits in AH and AL spell; DIV by a digit then gives its quotient and remainder.
 pub fn unpacked_digits_divide()
     ensures { UnpackedDigitsDivide }
+{}
+
+/// Packed decimal numbers of any length are added byte by byte, from the lowest on, by ADC and DAA, and subtracted by SBB
+/// and DAS.
+pub fn numbers_add_and_subtract()
+    ensures { NumbersAddAndSubtract }
 {}

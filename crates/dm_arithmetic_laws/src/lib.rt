@@ -7,8 +7,8 @@ mod products;
 mod shifts;
 
 pub use decimal::{
-    packed_digits_add, packed_digits_subtract, unpacked_digits_add, unpacked_digits_divide,
-    unpacked_digits_multiply, unpacked_digits_subtract,
+    numbers_add_and_subtract, packed_digits_add, packed_digits_subtract, unpacked_digits_add,
+    unpacked_digits_divide, unpacked_digits_multiply, unpacked_digits_subtract,
 };
 pub use products::{
     division_undoes_multiplication, signed_division_divides, signed_division_undoes_multiplication,
