@@ -43,7 +43,8 @@ ParentGoesOn =
     (upper : Bool) (ps rs : Processes) (c r : Cpu) (m f : Memory) (store : List (List ℕ × List ℕ)) (strategy : Strategy) (code : ℕ)
     (l : Lives upper ps c m store strategy code rs r f) → GoesOnAsParent ps c m code l.answer rs r
 
--- the child leaves the list of blocks as it was at its start: `taken`, which has the child's two blocks
+-- the child leaves the list of blocks as it was at its start: `taken`, which has the child's two blocks; and memory has
+-- the sizes of the machine, as in every machine
 pub record LeavesBlocks (taken : List Header) {upper : Bool} {ps : Processes} {c : Cpu} {m : Memory} {store : List (List ℕ × List ℕ)} {strategy : Strategy} {code : ℕ} {rs : Processes} {r : Cpu} {f : Memory} (l : Lives upper ps c m store strategy code rs r f) : Type 0 where
   pub fits : Fits l.last
   pub at_first : IsArena l.execs.starts.middle first_header taken
