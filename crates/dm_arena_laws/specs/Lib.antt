@@ -1,0 +1,4 @@
+pub mod Paragraphs
+pub mod Conservation
+pub mod Contents
+pub mod Pairs

@@ -1,0 +1,4 @@
+pub mod Decimal
+pub mod Products
+pub mod Shifts
+pub mod Numbers

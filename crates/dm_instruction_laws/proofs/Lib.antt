@@ -1,0 +1,7 @@
+pub mod Values
+pub mod Operands
+pub mod Effects
+pub mod Spelled
+pub mod Repeated
+pub mod Popped
+pub mod Decimals

@@ -1,0 +1,4 @@
+pub mod WellFormed
+pub mod Repetitions
+pub mod Stack
+pub mod Decimals

@@ -1,0 +1,4 @@
+pub mod Written
+pub mod Parents
+pub mod Blocks
+pub mod Vectors
