@@ -8,8 +8,8 @@ use Rattle.dm_state.specs.State.{State}
 use Rattle.dm_machine.specs.Run.{IsRun}
 use Rattle.dm_findings.specs.declared.finding.Found.{Found}
 use Rattle.dm_findings.specs.Report.{Reported, report_of}
-use Rattle.dm_reports.specs.Reports.{lines_text, report_text}
-use Rattle.dm_reports.specs.Stops.{stopped_line}
+use Rattle.dm_json.specs.declared.forms.Form.{Form}
+use Rattle.dm_json.specs.Forms.{form_of, lines_in, report_in, end_in}
 use Rattle.dm_checker.specs.Checks.{FindsIn, IsReport, reported}
 use Rattle.dm_cli.specs.declared.fault.Fault.{Fault}
 use Rattle.dm_cli.specs.declared.fault.Fault.TheVariants.{OutOfMemory}
@@ -31,26 +31,27 @@ abbrev pub unwritten_line : List ℕ
 unwritten_line = codes "dm: cannot write standard output" ++ 10 ∷ []
 
 -- an allocation failed during a run of at most n steps from s, or after it: the lines of the findings that are listed of
--- some first steps of it, or of all of it, were printed, and no more of the report
-pub data IsLost (s : State) (n : ℕ) (free : Bool) (error_before error_after : Stream) : Type 0 where
-  some_steps : (made : ℕ) (t : State) (found : List Found) → made ≤ n → FindsIn s made t found → Prints (lines_text (report_of (reported free found)).listed) error_before error_after
-      → IsLost s n free error_before error_after
-  all_steps : (stop : Stop) (t : State) (report : Reported) → IsReport s n free stop t report → Prints (lines_text report.listed) error_before error_after
-      → IsLost s n free error_before error_after
+-- some first steps of it, or of all of it, were printed in the form of the report, and no more of it
+pub data IsLost (s : State) (n : ℕ) (free : Bool) (form : Form) (error_before error_after : Stream) : Type 0 where
+  some_steps : (made : ℕ) (t : State) (found : List Found) → made ≤ n → FindsIn s made t found → Prints (lines_in form (report_of (reported free found)).listed) error_before error_after
+      → IsLost s n free form error_before error_after
+  all_steps : (stop : Stop) (t : State) (report : Reported) → IsReport s n free stop t report → Prints (lines_in form report.listed) error_before error_after
+      → IsLost s n free form error_before error_after
 
--- `dm check`: the machine runs as for `dm run`; findings about free memory are left out by `--no-free`. The result is the
--- exit status: the report with the line about the stop was printed on standard error, and the whole output written to
+-- `dm check`: the machine runs as for `dm run`; findings about free memory are left out by `--no-free`, and the
+-- report is JSON by `--json`. The result is the exit status: the report with the line about the end of the run was printed on
+-- standard error, and the whole output written to
 -- standard output; or a write of the output failed, after a first part, and the line of that fault was printed behind the
 -- report (`middle` is standard error between the two). Otherwise it is a fault: nothing was written to standard output, no
 -- write of it failed, and a part of the report may have been printed
 pub data Checks (files : List ℕ → Option (List ℕ)) (typed : Option (List ℕ)) (o : CheckOptions) (before after : Option (List ℕ)) (failed_before failed_after : ℕ) (error_before error_after : Stream) : Result ℕ Fault → Type 0 where
   checked : (m t : State) (stop : Stop) (report : Reported) (status : ℕ) → IsStartedBy files typed o.machine m → IsRun m o.machine.steps stop t → IsReport m o.machine.steps (not o.no_free) stop t report
-      → Appends before after t.console.output → failed_after ≡ failed_before → Prints (report_text report ++ stopped_line stop t.memory t.cpu) error_before error_after → status ≡ checked_status report stop
+      → Appends before after t.console.output → failed_after ≡ failed_before → Prints (report_in (form_of o.json) report ++ end_in (form_of o.json) stop t.memory t.cpu) error_before error_after → status ≡ checked_status report stop
       → Checks files typed o before after failed_before failed_after error_before error_after (Ok status)
   partly_written : (m t : State) (stop : Stop) (report : Reported) (middle : Stream) (status : ℕ) → IsStartedBy files typed o.machine m → IsRun m o.machine.steps stop t → IsReport m o.machine.steps (not o.no_free) stop t report
-      → AppendsPart before after t.console.output → HasFailed failed_before failed_after → Prints (report_text report ++ stopped_line stop t.memory t.cpu) error_before middle
+      → AppendsPart before after t.console.output → HasFailed failed_before failed_after → Prints (report_in (form_of o.json) report ++ end_in (form_of o.json) stop t.memory t.cpu) error_before middle
       → Prints unwritten_line middle error_after → status ≡ unwritten_status report → Checks files typed o before after failed_before failed_after error_before error_after (Ok status)
-  no_memory : (m : State) → IsStartedBy files typed o.machine m → IsLost m o.machine.steps (not o.no_free) error_before error_after → Keeps before after → failed_after ≡ failed_before
+  no_memory : (m : State) → IsStartedBy files typed o.machine m → IsLost m o.machine.steps (not o.no_free) (form_of o.json) error_before error_after → Keeps before after → failed_after ≡ failed_before
       → Checks files typed o before after failed_before failed_after error_before error_after (Err OutOfMemory)
   not_started : (fault : Fault) → IsStartFault files typed (Some (codes "standard input")) o.machine fault → Keeps before after → failed_after ≡ failed_before → error_after ≡ error_before
       → Checks files typed o before after failed_before failed_after error_before error_after (Err fault)

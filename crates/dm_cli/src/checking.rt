@@ -1,9 +1,8 @@
-//! `dm check`: a run with a report of its findings on standard error, whatever becomes of standard output. The line of a
-//! finding is printed when it is found; the summary and the line about the stop, which is empty for an exit, follow at
-//! the end.
+//! `dm check`: a run with a report of its findings on standard error, as a text or as JSON, whatever becomes of standard
+//! output. The line of a finding is printed when it is found; the summary and the line about the end of the run, which is
+//! empty in a text for an exit, follow at the end.
 ghost use Rattle.std.specs.Prelude.{◌≡◌, ◌++◌, ◌≤◌, [], List, ℕ, IfOk, OnErr, OnOk, drop, length};
-ghost use Rattle.dm_reports.specs.Reports.{lines_text, summary_text};
-ghost use Rattle.dm_reports.specs.Stops.{stopped_line};
+ghost use Rattle.dm_json.specs.Forms.{end_in, lines_in, summary_in};
 ghost use Rattle.dm_checker.specs.Checking.{IsUnderWay};
 ghost use Rattle.dm_findings.specs.Report.{report_of};
 ghost use Rattle.dm_cli.specs.Checking.{Checks, IsLost, checked_status, unwritten_status};
@@ -19,10 +18,10 @@ use crate::loading::loaded;
 use crate::messages::{print_fault, print_now};
 use dm_checker::CheckedRun;
 use dm_findings::Report;
+use dm_json::{Form, form_of, put_end_in, put_lines_in, put_summary_in};
 use dm_machine::{Machine, Out, Stop};
 use dm_options::command_line::CheckOptions;
 use dm_out::write_all;
-use dm_reports::{put_lines, put_stop, put_summary};
 use std::alloc::{AllocError, Global};
 use std::io::Read;
 
@@ -32,14 +31,16 @@ const ERRORS: u8 = 124;
 /// Appends the summary of a report, and the line about the stop of a machine, to `text`. An `Err` is a failed allocation.
 fn put_end(
     text: &mut Vec<u8>,
+    alloc: Global,
+    form: Form,
     report: &Report,
     stop: Stop,
     machine: &Machine,
 ) -> Result<(), AllocError>
-    ensures { OnOk result (text.new.items ≡ text.old.items ++ summary_text report.now ++ stopped_line stop machine.now.memory machine.now.cpu) }
+    ensures { OnOk result (text.new.items ≡ text.old.items ++ summary_in form report.now ++ end_in form stop machine.now.memory machine.now.cpu) }
 {
-    put_summary(text, report)?;
-    put_stop(text, stop, &machine.cpu(), machine.space())
+    put_summary_in(text, alloc, form, report)?;
+    put_end_in(text, alloc, form, stop, &machine.cpu(), machine.space())
 }
 
 /// The exit status of a checked run: 124 if the report has an error, otherwise that of the stop.
@@ -67,6 +68,7 @@ fn unwritten_status(report: &Report) -> u8
 /// before (`failed`). Returns whether one has failed now. An `Err` is a failed allocation; then nothing is printed.
 fn print_new<E: Out>(
     alloc: Global,
+    form: Form,
     report: &Report,
     count: usize,
     error: &mut E,
@@ -74,11 +76,11 @@ fn print_new<E: Out>(
 ) -> Result<bool, AllocError>
     requires { count ≤ length report.now.listed }
     ensures ok { IfOk result (λ now. (start : Stream) (before : List ℕ) → HasPrinted failed before start (record { bytes = E.taken error.old; failures = E.failures error.old })
-        → HasPrinted now (before ++ lines_text (drop count report.now.listed)) start (record { bytes = E.taken error.new; failures = E.failures error.new })) }
+        → HasPrinted now (before ++ lines_in form (drop count report.now.listed)) start (record { bytes = E.taken error.new; failures = E.failures error.new })) }
     ensures err { OnErr result (error.new ≡ error.old) }
 {
     let mut text = Vec::new(alloc);
-    put_lines(&mut text, &report.listed()[count..])?;
+    put_lines_in(&mut text, alloc, form, &report.listed()[count..])?;
     Ok(print_now(error, failed, text.as_slice()))
 }
 
@@ -87,6 +89,7 @@ fn print_new<E: Out>(
 /// after the lines of the findings of a first part of the run.
 fn follow<E: Out>(
     alloc: Global,
+    form: Form,
     run: &mut CheckedRun,
     machine: &mut Machine,
     error: &mut E,
@@ -94,16 +97,16 @@ fn follow<E: Out>(
     requires program { HasProgram machine.old }
     requires way { (s : State) × (n : ℕ) × IsUnderWay s n machine.old run.old }
     requires empty { run.old.report ≡ report_of [] }
-    ensures ok { IfOk result (λ r. (s : State) (n : ℕ) → IsUnderWay s n machine.old run.old → HasFollowed s n run.old r.0 machine.new run.new
+    ensures ok { IfOk result (λ r. (s : State) (n : ℕ) → IsUnderWay s n machine.old run.old → HasFollowed s n form run.old r.0 machine.new run.new
         r.1 (record { bytes = E.taken error.old; failures = E.failures error.old }) (record { bytes = E.taken error.new; failures = E.failures error.new })) }
-    ensures err { OnErr result ((s : State) (n : ℕ) → IsUnderWay s n machine.old run.old → IsLost s n run.old.free
+    ensures err { OnErr result ((s : State) (n : ℕ) → IsUnderWay s n machine.old run.old → IsLost s n run.old.free form
         (record { bytes = E.taken error.old; failures = E.failures error.old }) (record { bytes = E.taken error.new; failures = E.failures error.new })) }
 {
     let mut count = 0;
     let mut failed = false;
     loop {
         let stop = run.go_on(alloc, machine)?;
-        failed = print_new(alloc, run.report(), count, error, failed)?;
+        failed = print_new(alloc, form, run.report(), count, error, failed)?;
         if let Some(stop) = stop {
             return Ok((stop, failed));
         }
@@ -112,7 +115,7 @@ fn follow<E: Out>(
 }
 
 /// Runs a machine for at most `steps` steps under the checker, with findings about free memory or without (`free`), and
-/// prints the line of each finding that is listed on `error`, as it is found. Then it writes the output to `out`, and
+/// prints, in this form, the line of each finding that is listed on `error`, as it is found. Then it writes the output to `out`, and
 /// prints the summary and the line about the stop. If a write of the output failed, after a first part of it or none, it
 /// prints the fault after them. Returns the exit status. `OutOfMemory` if an allocation failed, before anything is
 /// written to `out`; then lines of findings may have been printed, but no summary.
@@ -121,23 +124,24 @@ fn check_machine<W: Out, E: Out>(
     machine: &mut Machine,
     steps: u64,
     free: bool,
+    form: Form,
     out: &mut W,
     error: &mut E,
 ) -> Result<u8, Fault<'static>>
     requires { HasProgram machine.old }
-    ensures does { ChecksRun machine.old steps free (W.taken out.old) (W.taken out.new) (W.failures out.old) (W.failures out.new)
+    ensures does { ChecksRun machine.old steps free form (W.taken out.old) (W.taken out.new) (W.failures out.old) (W.failures out.new)
         (record { bytes = E.taken error.old; failures = E.failures error.old }) (record { bytes = E.taken error.new; failures = E.failures error.new }) result }
     ensures reads { TellsOfNoFile (fault_if result) }
 {
     let Ok(mut run) = CheckedRun::begin(alloc, machine, steps, free) else {
         return Err(Fault::OutOfMemory);
     };
-    let Ok((stop, failed)) = follow(alloc, &mut run, machine, error) else {
+    let Ok((stop, failed)) = follow(alloc, form, &mut run, machine, error) else {
         return Err(Fault::OutOfMemory);
     };
     let report = run.report();
     let mut text = Vec::new(alloc);
-    let Ok(()) = put_end(&mut text, report, stop, machine) else {
+    let Ok(()) = put_end(&mut text, alloc, form, report, stop, machine) else {
         return Err(Fault::OutOfMemory);
     };
     let written = write_all(out, machine.output());
@@ -170,5 +174,13 @@ pub(crate) fn check<'a, F: Storage, I: Read + Drop, W: Out, E: Out>(
 {
     let steps = options.machine.steps;
     let mut machine = loaded(alloc, storage, &options.machine, input)?;
-    check_machine(alloc, &mut machine, steps, !options.no_free, out, error)
+    check_machine(
+        alloc,
+        &mut machine,
+        steps,
+        !options.no_free,
+        form_of(options.json),
+        out,
+        error,
+    )
 }

@@ -70,9 +70,13 @@ path_rule name = record (new_rule name) { value_names = 1; required = true }
 abbrev pub no_free_rule : Rule
 no_free_rule = record (new_rule (codes "no-free")) { long = Some (codes "no-free"); action = Some action.SetTrue }
 
--- `dm check`: as `dm run`, and `--no-free`
+-- `--json`, which has no value
+abbrev pub json_rule : Rule
+json_rule = record (new_rule (codes "json")) { long = Some (codes "json"); action = Some action.SetTrue }
+
+-- `dm check`: as `dm run`, and `--no-free` and `--json`
 abbrev pub check_app : App
-check_app = with_rule (with_machine_rules steps_rule (new_app (codes "check"))) no_free_rule
+check_app = with_rule (with_rule (with_machine_rules steps_rule (new_app (codes "check"))) no_free_rule) json_rule
 
 -- `dm asm`, with the paths of the text and of the file that is written
 abbrev pub asm_app : App

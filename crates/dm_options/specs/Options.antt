@@ -47,6 +47,7 @@ pub record HasDebugOptions (rows : List Row) (o : DebugOptions) : Type 0 where
 pub record HasCheckOptions (rows : List Row) (o : CheckOptions) : Type 0 where
   pub machine : HasMachineOptions rows o.machine
   pub no_free : IsGiven (one_of (codes "no-free") rows) o.no_free
+  pub json : IsGiven (one_of (codes "json") rows) o.json
 
 -- o has the two paths of `dm asm`, as the rows have them
 pub record HasAsmOptions (rows : List Row) (o : AsmOptions) : Type 0 where

@@ -1,7 +1,7 @@
 //! The commands and arguments of `dm`, as the command-line library `clap` is given them.
 ghost use Rattle.std.specs.Prelude.{◌≡◌, IfOk, IsOk, OnOk, false};
 ghost use Rattle.clap.specs.Words.{app_of, rule_of, with_subcommand};
-ghost use Rattle.dm_options.specs.Arguments.{asm_app, check_app, debug_app, disasm_app, dm_app, ems_rule, files_rule, gdb_app, gdb_steps_rule, input_rule, no_free_rule, path_rule, run_app, steps_rule, tail_rule, upper_rule, with_machine_rules, xms_rule};
+ghost use Rattle.dm_options.specs.Arguments.{asm_app, check_app, debug_app, disasm_app, dm_app, ems_rule, files_rule, gdb_app, gdb_steps_rule, input_rule, json_rule, no_free_rule, path_rule, run_app, steps_rule, tail_rule, upper_rule, with_machine_rules, xms_rule};
 ghost use Rattle.clap.specs.declared.Command.TheViews.{out-Command as fields_of};
 
 use clap::builder::ValueParser;
@@ -181,6 +181,17 @@ fn no_free_arg<'a>(alloc: Global) -> Arg<'a>
         .help("Leave out what is found about free memory: reads of it, writes to it, a stack in it")
 }
 
+/// `--json`, which has no value.
+fn json_arg<'a>(alloc: Global) -> Arg<'a>
+    ensures rule { rule_of result ≡ json_rule }
+    ensures local { result.global ≡ false }
+{
+    Arg::new(alloc, "json")
+        .long("json")
+        .action(ArgAction::SetTrue)
+        .help("Report in JSON, one object a line")
+}
+
 /// The command `dm check`. An `Err` is a failed allocation.
 fn check_command<'a>(alloc: Global) -> Result<Command<'a>, AllocError>
     ensures app { IfOk result (λ c. app_of c ≡ check_app) }
@@ -191,7 +202,9 @@ fn check_command<'a>(alloc: Global) -> Result<Command<'a>, AllocError>
             "Run a program and report its errors in the use of memory: overwritten block headers, uses of free memory, double frees, leaks",
         )
         .after_help("Example: dm check PROGRAM.COM <input.txt");
-    with_machine_args(alloc, command, steps_arg(alloc))?.arg(no_free_arg(alloc))
+    with_machine_args(alloc, command, steps_arg(alloc))?
+        .arg(no_free_arg(alloc))?
+        .arg(json_arg(alloc))
 }
 
 /// A required argument that is the path of one file. `id` is the name by which the value is read back, `value_name` and

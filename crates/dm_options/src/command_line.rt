@@ -35,6 +35,8 @@ pub struct CheckOptions<'a> {
     pub machine: MachineOptions<'a>,
     /// Whether findings about free memory are left out, by `--no-free`.
     pub no_free: bool,
+    /// Whether the report is written as JSON, by `--json`.
+    pub json: bool,
 }
 
 /// The files of `dm asm`.

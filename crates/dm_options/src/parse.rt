@@ -104,7 +104,12 @@ fn check_options<'a>(
 {
     let machine = machine_options(alloc, matches)?;
     let no_free = is_given(matches, "no-free");
-    Ok(CheckOptions { machine, no_free })
+    let json = is_given(matches, "json");
+    Ok(CheckOptions {
+        machine,
+        no_free,
+        json,
+    })
 }
 
 /// The two paths of `dm asm`.
@@ -152,7 +157,7 @@ fn found_options<'a>(alloc: Global, matches: &ArgMatches<'a>) -> Result<Options<
 /// PAGES and KIB are decimal numbers below 2^32, and there is at least one file. A number may begin with `+`. The
 /// defaults are 100000000 (1000000 for `dm gdb`), 64, 1024 and the empty text. A line with an option twice, or with an unknown one, is wrong.
 ///
-/// `dm check` takes the same, and `--no-free`, which may be left out. `dm debug` and `dm gdb` take what `dm run` does, and `--input FILE`, which may be left out. `dm asm IN OUT` and
+/// `dm check` takes the same, and `--no-free` and `--json`, which may be left out. `dm debug` and `dm gdb` take what `dm run` does, and `--input FILE`, which may be left out. `dm asm IN OUT` and
 /// `dm disasm IN` take paths alone.
 ///
 /// # Errors

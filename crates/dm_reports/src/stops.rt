@@ -20,7 +20,7 @@ fn is_exit(stop: Stop) -> bool
 }
 
 /// Why a run stopped, in a word or two.
-fn reason_of(stop: Stop) -> &'static [u8]
+pub fn reason_of(stop: Stop) -> &'static [u8]
     ensures { result.now ≡ reason_text stop }
 {
     match stop {

@@ -17,7 +17,11 @@ use itoa::Buffer;
 use std::alloc::AllocError;
 
 /// Appends a number, such as that of a step or of all errors, in decimal.
-pub(crate) fn put_number(out: &mut Vec<u8>, n: u64) -> Result<(), AllocError>
+///
+/// # Errors
+///
+/// `AllocError` if an allocation fails.
+pub fn put_number(out: &mut Vec<u8>, n: u64) -> Result<(), AllocError>
     ensures { OnOk result (out.new.items ≡ out.old.items ++ decimal n) }
 {
     let mut buffer = Buffer::new();
@@ -216,7 +220,11 @@ fn put_not_resized(out: &mut Vec<u8>, asked: u16) -> Result<(), AllocError>
 }
 
 /// Appends what was found in a step that performed `act`, in words.
-fn put_finding(out: &mut Vec<u8>, act: &Act, finding: &Finding) -> Result<(), AllocError>
+///
+/// # Errors
+///
+/// `AllocError` if an allocation fails.
+pub fn put_finding(out: &mut Vec<u8>, act: &Act, finding: &Finding) -> Result<(), AllocError>
     ensures { OnOk result (out.new.items ≡ out.old.items ++ finding_text act.now finding.now) }
 {
     match finding {
@@ -265,7 +273,11 @@ fn put_finding(out: &mut Vec<u8>, act: &Act, finding: &Finding) -> Result<(), Al
 }
 
 /// Appends an instruction's text. `next` is the offset after it, from which relative jumps and calls are counted.
-fn put_instruction(out: &mut Vec<u8>, ins: &Ins, next: u16) -> Result<(), AllocError>
+///
+/// # Errors
+///
+/// `AllocError` if an allocation fails.
+pub fn put_instruction(out: &mut Vec<u8>, ins: &Ins, next: u16) -> Result<(), AllocError>
     ensures { OnOk result (out.new.items ≡ out.old.items ++ text_of ins.now next) }
 {
     let mut line = Line::new();
@@ -284,7 +296,7 @@ fn put_act(out: &mut Vec<u8>, act: &Act) -> Result<(), AllocError>
 }
 
 /// The first word of a finding's line: `error` or `note`.
-fn kind_of(finding: &Finding) -> &'static [u8]
+pub fn kind_of(finding: &Finding) -> &'static [u8]
     ensures { result.now ≡ kind_text (is_error finding.now) }
 {
     if finding.is_error() {

@@ -6,8 +6,8 @@ use Rattle.dm_state.specs.declared.stop.Stop.{Stop}
 use Rattle.dm_state.specs.State.{State}
 use Rattle.dm_machine.specs.Run.{IsRun}
 use Rattle.dm_findings.specs.Report.{Reported}
-use Rattle.dm_reports.specs.Reports.{lines_text, report_text}
-use Rattle.dm_reports.specs.Stops.{stopped_line}
+use Rattle.dm_json.specs.declared.forms.Form.{Form}
+use Rattle.dm_json.specs.Forms.{lines_in, report_in, end_in}
 use Rattle.dm_checker.specs.Checks.{IsReport}
 use Rattle.dm_checker.specs.Checking.{UnderWay}
 use Rattle.dm_cli.specs.declared.fault.Fault.{Fault}
@@ -17,18 +17,18 @@ use Rattle.dm_cli.specs.Checking.{IsLost, checked_status, unwritten_status, unwr
 
 -- a checked run of at most n steps from s that was under way (c) stopped for this reason in state t, d has its report, and
 -- the lines of the findings that are listed were printed, or a first part of them (`failed`)
-pub record HasFollowed (s : State) (n : ℕ) (c : UnderWay) (stop : Stop) (t : State) (d : UnderWay) (failed : Bool) (error_before error_after : Stream) : Type 0 where
+pub record HasFollowed (s : State) (n : ℕ) (form : Form) (c : UnderWay) (stop : Stop) (t : State) (d : UnderWay) (failed : Bool) (error_before error_after : Stream) : Type 0 where
   pub report : IsReport s n c.free stop t d.report
-  pub printed : HasPrinted failed (lines_text d.report.listed) error_before error_after
+  pub printed : HasPrinted failed (lines_in form d.report.listed) error_before error_after
 
--- `dm check` once its machine m is loaded, with findings about free memory or without (`free`): the exit status, after the
+-- `dm check` once its machine m is loaded, with findings about free memory or without (`free`), and a report of this form: the exit status, after the
 -- report was printed and the output written; or after a write of the output failed, after a first part, and the fault was
 -- printed behind the report; or an allocation failed, and no output was written
-pub data ChecksRun (m : State) (steps : ℕ) (free : Bool) (before after : Option (List ℕ)) (failed_before failed_after : ℕ) (error_before error_after : Stream) : Result ℕ Fault → Type 0 where
+pub data ChecksRun (m : State) (steps : ℕ) (free : Bool) (form : Form) (before after : Option (List ℕ)) (failed_before failed_after : ℕ) (error_before error_after : Stream) : Result ℕ Fault → Type 0 where
   run_checked : (t : State) (stop : Stop) (report : Reported) (status : ℕ) → IsRun m steps stop t → IsReport m steps free stop t report
-      → Appends before after t.console.output → failed_after ≡ failed_before → Prints (report_text report ++ stopped_line stop t.memory t.cpu) error_before error_after → status ≡ checked_status report stop
-      → ChecksRun m steps free before after failed_before failed_after error_before error_after (Ok status)
+      → Appends before after t.console.output → failed_after ≡ failed_before → Prints (report_in form report ++ end_in form stop t.memory t.cpu) error_before error_after → status ≡ checked_status report stop
+      → ChecksRun m steps free form before after failed_before failed_after error_before error_after (Ok status)
   output_cut : (t : State) (stop : Stop) (report : Reported) (middle : Stream) (status : ℕ) → IsRun m steps stop t → IsReport m steps free stop t report
-      → AppendsPart before after t.console.output → HasFailed failed_before failed_after → Prints (report_text report ++ stopped_line stop t.memory t.cpu) error_before middle
-      → Prints unwritten_line middle error_after → status ≡ unwritten_status report → ChecksRun m steps free before after failed_before failed_after error_before error_after (Ok status)
-  no_report : IsLost m steps free error_before error_after → Keeps before after → failed_after ≡ failed_before → ChecksRun m steps free before after failed_before failed_after error_before error_after (Err OutOfMemory)
+      → AppendsPart before after t.console.output → HasFailed failed_before failed_after → Prints (report_in form report ++ end_in form stop t.memory t.cpu) error_before middle
+      → Prints unwritten_line middle error_after → status ≡ unwritten_status report → ChecksRun m steps free form before after failed_before failed_after error_before error_after (Ok status)
+  no_report : IsLost m steps free form error_before error_after → Keeps before after → failed_after ≡ failed_before → ChecksRun m steps free form before after failed_before failed_after error_before error_after (Err OutOfMemory)

@@ -6,17 +6,17 @@ use Rattle.dm_cli.proofs.Following.{lost_at_once, lost_all, lost_free, report_fr
 use Rattle.dm_cli.proofs.checking.check_machine.Goals as goal
 
 pub returns-in_default-clause-does : goal.returns-in_default-clause-does
-returns-in_default-clause-does g c = no_report (lost_at_once c.args.machine.now c.args.steps c.args.free _) (Keeps-refl _) refl
+returns-in_default-clause-does g c = no_report (lost_at_once c.args.form c.args.machine.now c.args.steps c.args.free _) (Keeps-refl _) refl
 
 pub returns-in_default-follow-clause-does : goal.returns-in_default-follow-clause-does
 returns-in_default-follow-clause-does g c =
-    no_report (lost_free c.args.machine.now c.args.steps _ c.args.free _ _ c.in-Ok.ensures.free
+    no_report (lost_free c.args.form c.args.machine.now c.args.steps _ c.args.free _ _ c.in-Ok.ensures.free
     (c.in_default-follow.ensures.err c.args.machine.now c.args.steps c.in-Ok.ensures.begins)) (Keeps-refl _) refl
 
 pub returns-in_default-put_end-clause-does : goal.returns-in_default-put_end-clause-does
 returns-in_default-put_end-clause-does g c =
     let h = c.in-Ok-follow.ensures.ok c.args.machine.now c.args.steps c.in-Ok.ensures.begins in
-    no_report (lost_free c.args.machine.now c.args.steps _ c.args.free _ _ c.in-Ok.ensures.free (lost_all _ _ _ _ _ _ _ _ _ h)) (Keeps-refl _) refl
+    no_report (lost_free c.args.form c.args.machine.now c.args.steps _ c.args.free _ _ c.in-Ok.ensures.free (lost_all c.args.form _ _ _ _ _ _ _ _ _ h)) (Keeps-refl _) refl
 
 pub returns-in-Ok-written-clause-does : goal.returns-in-Ok-written-clause-does
 returns-in-Ok-written-clause-does g c =
@@ -25,7 +25,7 @@ returns-in-Ok-written-clause-does g c =
     let report = report_free s _ c.args.steps _ c.args.free _ _ c.in-Ok.ensures.free h.report in
     let text = c.as_slice.ensures.value ∙ (rw (c.new-text.ensures.items, c.report-report.ensures) at c.in-Ok-put_end.ensures) in
     run_checked _ _ _ _ (runs s _ c.args.steps c.args.free _ _ report) report (rw c.output.ensures at c.in-Ok-written.ensures.ok) c.in-Ok-written.ensures.no_failure
-    (whole_printed _ _ _ _ _ _ text (c.print_now.ensures _ _ h.printed)) (rw c.report-report.ensures at c.checked_status.ensures)
+    (whole_printed c.args.form _ _ _ _ _ _ text (c.print_now.ensures _ _ h.printed)) (rw c.report-report.ensures at c.checked_status.ensures)
 
 pub returns-clause-does : goal.returns-clause-does
 returns-clause-does g c =
@@ -34,4 +34,4 @@ returns-clause-does g c =
     let report = report_free s _ c.args.steps _ c.args.free _ _ c.in-Ok.ensures.free h.report in
     let text = c.as_slice.ensures.value ∙ (rw (c.new-text.ensures.items, c.report-report.ensures) at c.in-Ok-put_end.ensures) in
     output_cut _ _ _ _ _ (runs s _ c.args.steps c.args.free _ _ report) report (rw c.output.ensures at c.in-Err.ensures.part) c.in-Err.ensures.err
-    (whole_printed _ _ _ _ _ _ text (c.print_now.ensures _ _ h.printed)) c.print_fault.ensures (rw c.report-report.ensures at c.unwritten_status.ensures)
+    (whole_printed c.args.form _ _ _ _ _ _ text (c.print_now.ensures _ _ h.printed)) c.print_fault.ensures (rw c.report-report.ensures at c.unwritten_status.ensures)

@@ -14,7 +14,7 @@ loop-stop-init g c =
       way = λ s n h. h;
       free = refl;
       count = ap (λ (l : List Listed). length l) (sym empty);
-      printed = first_printed _ _ empty;
+      printed = first_printed c.args.form _ _ empty;
       program = c.requires.program;
     }
 
@@ -29,12 +29,12 @@ print_new-requires g c =
 
 pub returns-in_err-stop-clause-err : goal.returns-in_err-stop-clause-err
 returns-in_err-stop-clause-err g c = at_err c.from_residual.result (λ s n way.
-    lost_with s c.loop-stop.machine n c.loop-stop.run c.args.run.now.free c.loop-stop.failed _ _ c.loop-stop.invariant.free (c.loop-stop.invariant.way s n way) c.loop-stop.invariant.printed)
+    lost_with c.args.form s c.loop-stop.machine n c.loop-stop.run c.args.run.now.free c.loop-stop.failed _ _ c.loop-stop.invariant.free (c.loop-stop.invariant.way s n way) c.loop-stop.invariant.printed)
 
 pub returns-in_err-failed-clause-err : goal.returns-in_err-failed-clause-err
 returns-in_err-failed-clause-err g c = at_err c.from_residual-in_err-failed.result (λ s n way.
-    lost_kept (λ e. record { bytes = g.E.Out.taken e; failures = g.E.Out.failures e }) c.loop-stop.error c.print_new.new.error s n c.args.run.now.free _ c.in_err-failed.ensures.err
-    (lost_with s c.loop-stop.machine n c.loop-stop.run c.args.run.now.free c.loop-stop.failed _ _ c.loop-stop.invariant.free (c.loop-stop.invariant.way s n way) c.loop-stop.invariant.printed))
+    lost_kept c.args.form (λ e. record { bytes = g.E.Out.taken e; failures = g.E.Out.failures e }) c.loop-stop.error c.print_new.new.error s n c.args.run.now.free _ c.in_err-failed.ensures.err
+    (lost_with c.args.form s c.loop-stop.machine n c.loop-stop.run c.args.run.now.free c.loop-stop.failed _ _ c.loop-stop.invariant.free (c.loop-stop.invariant.way s n way) c.loop-stop.invariant.printed))
 
 pub returns-in-Some-clause-ok : goal.returns-in-Some-clause-ok
 returns-in-Some-clause-ok g c s n way =
@@ -43,7 +43,7 @@ returns-in-Some-clause-ok g c s n way =
     let goes = subst (λ (o : Option Stop). GoesOn s n o t c.loop-stop.run run) c.in-Some.is (c.in_ok-stop.ensures.ok s n (c.loop-stop.invariant.way s n way)) in
     record {
       report = report_free s t n c.loop-stop.run.free c.args.run.now.free c.in-Some.stop run.report c.loop-stop.invariant.free goes;
-      printed = grown_by c.loop-stop.run.report run.report c.report.result.now c.report.ensures c.in_ok-stop.ensures.lines c.loop-stop.count c.loop-stop.invariant.count c.in_ok-failed.failed _ _ (c.in_ok-failed.ensures.ok _ _ c.loop-stop.invariant.printed);
+      printed = grown_by c.args.form c.loop-stop.run.report run.report c.report.result.now c.report.ensures c.in_ok-stop.ensures.lines c.loop-stop.count c.loop-stop.invariant.count c.in_ok-failed.failed _ _ (c.in_ok-failed.ensures.ok _ _ c.loop-stop.invariant.printed);
     }
 
 pub loop-stop-preserved : goal.loop-stop-preserved
@@ -56,7 +56,7 @@ loop-stop-preserved g c =
       way = λ s n way. (goes s n way).0;
       free = (goes c.requires.way.0 c.requires.way.1 c.requires.way.2).2 ∙ c.loop-stop.invariant.free;
       count = cc;
-      printed = grown_by c.loop-stop.run.report run.report c.report.result.now c.report.ensures c.in_ok-stop.ensures.lines c.loop-stop.count c.loop-stop.invariant.count c.in_ok-failed.failed _ _ (c.in_ok-failed.ensures.ok _ _ c.loop-stop.invariant.printed);
+      printed = grown_by c.args.form c.loop-stop.run.report run.report c.report.result.now c.report.ensures c.in_ok-stop.ensures.lines c.loop-stop.count c.loop-stop.invariant.count c.in_ok-failed.failed _ _ (c.in_ok-failed.ensures.ok _ _ c.loop-stop.invariant.printed);
       program = c.go_on.ensures.loaded;
     }
 

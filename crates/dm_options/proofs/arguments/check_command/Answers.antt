@@ -8,11 +8,13 @@ use Rattle.dm_options.proofs.arguments.check_command.Goals as goal
 pub returns-clause-app : goal.returns-clause-app
 returns-clause-app c =
     let machine = c.in_ok-with_machine_args.ensures.app ∙ ap (with_machine_rules _) {y = new_app (codes "check")} (search rules) ∙ ap (λ r. with_machine_rules r (new_app (codes "check"))) c.steps_arg.ensures.rule in
-    IfOk-weaker c.arg.result _ _
-    (λ r h. h.shape c.no_free_arg.ensures.local ∙ ap₂ with_rule machine c.no_free_arg.ensures.rule) c.arg.ensures
+    let free = c.in_ok-arg.ensures.shape c.no_free_arg.ensures.local ∙ ap₂ with_rule machine c.no_free_arg.ensures.rule in
+    IfOk-weaker c.arg-2.result _ _
+    (λ r h. h.shape c.json_arg.ensures.local ∙ ap₂ with_rule free c.json_arg.ensures.rule) c.arg-2.ensures
 
 pub returns-clause-local : goal.returns-clause-local
 returns-clause-local c =
     let either = λ (a b : Bool). a || b in
     let local = c.in_ok-with_machine_args.ensures.local (search rules) in
-    IfOk-weaker c.arg.result _ _ (λ r k. k.globals ∙ ap₂ either local c.no_free_arg.ensures.local) c.arg.ensures
+    let free = c.in_ok-arg.ensures.globals ∙ ap₂ either local c.no_free_arg.ensures.local in
+    IfOk-weaker c.arg-2.result _ _ (λ r k. k.globals ∙ ap₂ either free c.json_arg.ensures.local) c.arg-2.ensures

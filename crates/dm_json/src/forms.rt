@@ -1,0 +1,104 @@
+//! The report of `dm check` in either form. Each function appends its text to `out`; an `Err` is a failed allocation.
+
+ghost use Rattle.std.specs.Prelude.{◌≡◌, ◌++◌, OnOk};
+ghost use Rattle.dm_json.specs.Forms.{end_in, form_of, found_in, lines_in, summary_in};
+
+use crate::objects::{put_end_object, put_found_object, put_summary_objects};
+use dm_cpu::Cpu;
+use dm_findings::{Found, Listed, Report};
+use dm_reports::{put_found, put_stop, put_summary};
+use dm_space::Space;
+use dm_state::Stop;
+use std::alloc::{AllocError, Global};
+
+/// How a report is written.
+#[derive(Clone, Copy, Debug, PartialEq, Eq)]
+pub enum Form {
+    /// As a text to be read.
+    Text,
+    /// As objects of JSON (RFC 8259), one a line.
+    Json,
+}
+
+/// The form of a report: JSON if it is asked for, otherwise a text.
+pub fn form_of(json: bool) -> Form
+    ensures { result ≡ form_of json }
+{
+    if json { Form::Json } else { Form::Text }
+}
+
+/// Appends the line of a finding.
+fn put_found_in(
+    out: &mut Vec<u8>,
+    alloc: Global,
+    form: Form,
+    found: &Found,
+) -> Result<(), AllocError>
+    ensures { OnOk result (out.new.items ≡ out.old.items ++ found_in form found.now) }
+{
+    match form {
+        Form::Text => put_found(out, found),
+        Form::Json => put_found_object(out, alloc, found),
+    }
+}
+
+/// Appends a line for each of these findings, in their order.
+///
+/// # Errors
+///
+/// `AllocError` if an allocation fails.
+pub fn put_lines_in(
+    out: &mut Vec<u8>,
+    alloc: Global,
+    form: Form,
+    lines: &[Listed],
+) -> Result<(), AllocError>
+    ensures { OnOk result (out.new.items ≡ out.old.items ++ lines_in form lines.now) }
+{
+    for line in lines {
+        put_found_in(out, alloc, form, &line.found)?;
+    }
+    Ok(())
+}
+
+/// Appends what follows the lines of the findings that a report lists: the lines about repetitions, about what is left
+/// out, and of all errors and notes.
+///
+/// # Errors
+///
+/// `AllocError` if an allocation fails.
+pub fn put_summary_in(
+    out: &mut Vec<u8>,
+    alloc: Global,
+    form: Form,
+    report: &Report,
+) -> Result<(), AllocError>
+    ensures { OnOk result (out.new.items ≡ out.old.items ++ summary_in form report.now) }
+{
+    match form {
+        Form::Text => put_summary(out, report),
+        Form::Json => put_summary_objects(out, alloc, report),
+    }
+}
+
+/// Appends the line about the end of a run, by the registers and the memory then: where and why it stopped; for an exit
+/// of the program nothing in a text, and the exit code in JSON.
+///
+/// # Errors
+///
+/// `AllocError` if an allocation fails.
+pub fn put_end_in(
+    out: &mut Vec<u8>,
+    alloc: Global,
+    form: Form,
+    stop: Stop,
+    cpu: &Cpu,
+    space: &Space,
+) -> Result<(), AllocError>
+    ensures { OnOk result (out.new.items ≡ out.old.items ++ end_in form stop space.now.memory cpu.now) }
+{
+    match form {
+        Form::Text => put_stop(out, stop, cpu, space),
+        Form::Json => put_end_object(out, alloc, stop, cpu, space),
+    }
+}

@@ -1,0 +1,149 @@
+"""The lines of `dm check --json`, worked out from those of `dm check`.
+
+It knows the two forms of a report as docs/manual.md describes them, and nothing of the machine.
+"""
+import json
+import re
+
+WORD = r"([0-9A-F]{4})"
+ADDRESS = f"{WORD}:{WORD}"
+CONTENTS = f"([0-9A-F]{{2}}) {WORD} {WORD}"
+FOUND = re.compile(f"step ([0-9]+), (before )?{ADDRESS} (.+?): (.+)", re.DOTALL)
+AGAIN = re.compile(r"(.+): ([0-9]+) more, the last at step ([0-9]+)", re.DOTALL)
+STOPPED = re.compile(f"stopped: ([a-z ]+?) (at|before) {ADDRESS}(?:: (.+))?")
+FUNCTION = re.compile(r"(?:INT ([0-9A-F]{2})h|(XMS)) function ([0-9A-F]{2})h(?: \(.*\))?")
+INTERRUPT = re.compile(r"INT ([0-9A-F]{2})h")
+
+
+def hexadecimal(text):
+    return int(text, 16)
+
+
+def flag(text):
+    return bool(text)
+
+
+# For each kind of finding its text, and the names of the parts in it with how they are read.
+KINDS = [
+    ("mapped_away", f"header at {WORD} mapped away", [("header", hexadecimal)]),
+    ("destroyed", f"arena destroyed at {WORD}", [("header", hexadecimal)]),
+    ("whole", "arena whole again", []),
+    ("freed_twice", f"block at {WORD} freed twice", [("block", hexadecimal)]),
+    ("division_error", "division error ended the process", []),
+    ("not_served", "not served", []),
+    ("short", "refused with code ([0-9A-F]{2})h, not enough memory: ([0-9]+) paragraphs? wanted, ([0-9]+) available",
+     [("code", hexadecimal), ("wanted", int), ("available", int)]),
+    ("refused", "refused with code ([0-9A-F]{2})h(?:, .+)?", [("code", hexadecimal)]),
+    ("pages_kept", "EMS handle ([0-9]+): ([0-9]+) pages? not freed", [("handle", int), ("pages", int)]),
+    ("map_kept", "EMS handle ([0-9]+): map not restored", [("handle", int)]),
+    ("window_kept", "window ([0-9]+) still mapped", [("window", int)]),
+    ("block_kept", "XMS handle ([0-9]+): ([0-9]+) KiB not freed(, locked)?", [("handle", int), ("kib", int), ("locked", flag)]),
+    ("upper_kept", f"upper block at {WORD} not freed", [("block", hexadecimal)]),
+    ("area_kept", "HMA not released", []),
+    ("line_kept", "A20 left on", []),
+    ("free_read", f"reads {ADDRESS} in the free block at {WORD}", ["address", ("block", hexadecimal)]),
+    ("free_written", f"writes {ADDRESS} in the free block at {WORD}", ["address", ("block", hexadecimal)]),
+    ("stack_freed", f"the stack is in the free block at {WORD}", [("block", hexadecimal)]),
+    ("window_lost", f"writes {ADDRESS} in window ([0-9]+), which shows no page", ["address", ("window", int)]),
+    ("rom_written", f"writes {ADDRESS} in the ROM", ["address"]),
+    ("nothing_written", f"writes {ADDRESS}, where there is no memory", ["address"]),
+    ("tail_written", f"byte ([0-9]+) of the header at {WORD} written", [("byte", int), ("header", hexadecimal)]),
+    ("other_freed", f"block at {WORD} of process {WORD} freed", [("block", hexadecimal), ("owner", hexadecimal)]),
+    ("not_resized", "block not resized to ([0-9]+) paragraphs?", [("wanted", int)]),
+]
+
+# The order in which parts stand in an object.
+ORDER = ["header", "block", "handle", "window", "code", "old", "new", "byte", "owner", "wanted", "available", "pages", "kib", "locked",
+         "address", "segment", "offset"]
+
+
+def address(names, segment, offset):
+    """An address: its text, and its numbers."""
+    return dict(zip(names, (f"{segment}:{offset}", int(segment, 16), int(offset, 16))))
+
+
+def contents(signature, owner, size):
+    return {"signature": int(signature, 16), "owner": int(owner, 16), "size": int(size, 16)}
+
+
+def site(segment, offset, before):
+    return address(("at", "cs", "ip"), segment, offset) | {"before": before}
+
+
+def act(text):
+    """A call with its numbers, or an instruction."""
+    if found := FUNCTION.fullmatch(text):
+        interrupt = {} if found[2] else {"interrupt": int(found[1], 16)}
+        return {"call": text} | interrupt | {"function": int(found[3], 16)}
+    if text == "interrupt 0":
+        return {"call": text, "interrupt": 0}
+    if found := INTERRUPT.fullmatch(text):
+        return {"call": text, "interrupt": int(found[1], 16)}
+    return {"instruction": text}
+
+
+def about(text, is_error):
+    """The kind of a finding, and what it is about."""
+    if found := re.fullmatch(f"header at {WORD} overwritten: {CONTENTS} became {CONTENTS}", text):
+        return "overwritten", {"header": int(found[1], 16), "old": contents(*found.groups()[1:4]), "new": contents(*found.groups()[4:])}
+    for kind, pattern, parts in KINDS:
+        if not (found := re.fullmatch(pattern, text)):
+            continue
+        values, members = list(found.groups()), {}
+        for part in parts:
+            if part == "address":
+                members |= address(("address", "segment", "offset"), values.pop(0), values.pop(0))
+            else:
+                members[part[0]] = part[1](values.pop(0))
+        if kind == "refused" and is_error:
+            kind = "not_allocated"
+        return kind, {name: members[name] for name in ORDER if name in members}
+    raise ValueError(text)
+
+
+def finding(text, is_error):
+    """The members of a finding."""
+    step, before, segment, offset, performed, what = FOUND.fullmatch(text).groups()
+    kind, members = about(what, is_error)
+    return {"kind": kind, "step": int(step)} | site(segment, offset, bool(before)) | act(performed) | members | {"text": what}
+
+
+def stopped(line):
+    reason, place, segment, offset, what = STOPPED.fullmatch(line).groups()
+    code = {}
+    if reason == "unlisted":
+        code = {"bytes": [int(byte, 16) for byte in what.split()]}
+    elif what:
+        code = act(what)
+    return {"type": "stopped", "reason": reason} | site(segment, offset, place == "before") | code
+
+
+def objects(lines, status):
+    """The objects for the lines of a report, the last of which has the exit code if the program ended; None for the code if the status hides
+    it. A line of another kind, as that of a fault, stays as it is."""
+    errors, made, ended = set(), [], True
+    for line in lines:
+        word, _, rest = line.partition(": ")
+        if word in ("error", "note"):
+            if word == "error":
+                errors.add(rest)
+            made.append({"type": word} | finding(rest, word == "error"))
+        elif word == "again":
+            text, more, last = AGAIN.fullmatch(rest).groups()
+            made.append({"type": "again"} | finding(text, text in errors) | {"more": int(more), "last": int(last)})
+        elif word == "not listed":
+            made.append({"type": "not_listed", "findings": int(rest.split()[0])})
+        elif word == "errors":
+            first, second = re.fullmatch("([0-9]+), notes: ([0-9]+)", rest).groups()
+            made.append({"type": "summary", "errors": int(first), "notes": int(second)})
+            made.append({"type": "exited", "code": status})
+        elif word == "stopped":
+            made[-1] = stopped(line)
+        else:
+            made.append(line)
+    return made
+
+
+def text_of(made):
+    """The line of an object, or a line that is none."""
+    return made if isinstance(made, str) else json.dumps(made, ensure_ascii=False, separators=(",", ":"))
