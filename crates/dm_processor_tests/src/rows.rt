@@ -251,8 +251,8 @@ fn check_row(rt: &impl Abort, row: &str, rows: &str, memories: &mut Memories) ->
     set_all(&mut wanted, &mut memories.wanted, after)?;
     let goes_on = exec(&mut plain, &mut memories.plain, &ins, length) == Next::Go;
     perform(
-        &form_of(&ins),
-        &ins,
+        form_of(&ins),
+        ins,
         &mut formed,
         &mut memories.formed,
         length,
