@@ -5,6 +5,8 @@ It knows the two forms of a report as docs/manual.md describes them, and nothing
 import json
 import re
 
+# What stands before the words of what a resident program holds.
+RESIDENT = "kept resident: "
 WORD = r"([0-9A-F]{4})"
 ADDRESS = f"{WORD}:{WORD}"
 CONTENTS = f"([0-9A-F]{{2}}) {WORD} {WORD}"
@@ -34,8 +36,7 @@ KINDS = [
     ("short", "refused with code ([0-9A-F]{2})h, not enough memory: ([0-9]+) paragraphs? wanted, ([0-9]+) available",
      [("code", hexadecimal), ("wanted", int), ("available", int)]),
     ("refused", "refused with code ([0-9A-F]{2})h(?:, .+)?", [("code", hexadecimal)]),
-    ("pages_kept", "EMS handle ([0-9]+): ([0-9]+) pages? not freed", [("handle", int), ("pages", int)]),
-    ("map_kept", "EMS handle ([0-9]+): map not restored", [("handle", int)]),
+    ("handle_kept", "EMS handle ([0-9]+): ([0-9]+) pages? not freed(, map not restored)?", [("handle", int), ("pages", int), ("saved", flag)]),
     ("window_kept", "window ([0-9]+) still mapped", [("window", int)]),
     ("block_kept", "XMS handle ([0-9]+): ([0-9]+) KiB not freed(, locked)?", [("handle", int), ("kib", int), ("locked", flag)]),
     ("upper_kept", f"upper block at {WORD} not freed", [("block", hexadecimal)]),
@@ -53,7 +54,7 @@ KINDS = [
 ]
 
 # The order in which parts stand in an object.
-ORDER = ["header", "block", "handle", "window", "code", "old", "new", "byte", "owner", "wanted", "available", "pages", "kib", "locked",
+ORDER = ["header", "block", "handle", "window", "code", "old", "new", "byte", "owner", "wanted", "available", "pages", "saved", "kib", "locked",
          "address", "segment", "offset"]
 
 
@@ -87,7 +88,7 @@ def about(text, is_error):
     if found := re.fullmatch(f"header at {WORD} overwritten: {CONTENTS} became {CONTENTS}", text):
         return "overwritten", {"header": int(found[1], 16), "old": contents(*found.groups()[1:4]), "new": contents(*found.groups()[4:])}
     for kind, pattern, parts in KINDS:
-        if not (found := re.fullmatch(pattern, text)):
+        if not (found := re.fullmatch(pattern, text.removeprefix(RESIDENT))):
             continue
         values, members = list(found.groups()), {}
         for part in parts:

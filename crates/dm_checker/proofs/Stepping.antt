@@ -1,6 +1,6 @@
 -- One checked step.
-use Rattle.std.proofs.Common.{◌≡◌, ℕ, ◌+◌, Bool, true, false, List, [], ◌++◌, map, Option, Some, None, refl, sym, ◌∙◌, ap, ap₂, subst, append-nil}
-use Rattle.std.specs.Prelude.{◌&&◌, if◌then◌else◌, is_some, slice_index_or, IfSome}
+use Rattle.std.proofs.Common.{◌≡◌, ℕ, ◌+◌, Bool, true, false, List, [], ◌++◌, map, Option, Some, None, refl, sym, ◌∙◌, ap, ap₂, subst}
+use Rattle.std.specs.Prelude.{◌&&◌, is_some, slice_index_or, IfSome}
 use Rattle.dm_space.specs.Memory.{Memory, IsPage}
 use Rattle.dm_state.specs.declared.stop.Stop.{Stop}
 use Rattle.dm_state.specs.declared.stop.Stop.TheVariants.{Exited, Steps as AllSteps, Halted, Unlisted, InputEnded, Destroyed, Memory as NoMemory}
@@ -19,7 +19,7 @@ use Rattle.dm_findings.specs.Calls.{call_of}
 use Rattle.dm_findings.specs.Report.{Reported}
 use Rattle.dm_checker.specs.declared.acts.Before.{Before}
 use Rattle.dm_checker.specs.declared.watch.Watch.{Watch}
-use Rattle.dm_checker.specs.Calls.{leaves, freed_twice, call_findings}
+use Rattle.dm_checker.specs.Calls.{stays, freed_twice, call_findings}
 use Rattle.dm_leaks.specs.Leaks.{leaks}
 use Rattle.dm_touches.specs.declared.elements.Elements.{Elements}
 use Rattle.dm_cpu.specs.Guest.{guest}
@@ -32,7 +32,7 @@ use Rattle.dm_checker.specs.declared.watch.Broken.{Broken}
 use Rattle.dm_checker.specs.Shown.{Shown}
 use Rattle.dm_checker.specs.Arranged.{arranged_by, arranged}
 use Rattle.dm_checker.specs.Findings.{findings, Finds, FindsTouched, touching, over, IsFound, none}
-use Rattle.dm_checker.specs.Checks.{FindsAt, FindsAtEnd, FindsAtStop, FindsIn, left_behind}
+use Rattle.dm_checker.specs.Checks.{FindsAt, FindsAtEnd, FindsAtStop, FindsIn, left_behind, left_by}
 use Rattle.dm_checker.specs.Checks as checks
 use Rattle.dm_checker.specs.Watching.{header_of, broken_at, shown_of, IsWatch, IsSeen}
 use Rattle.dm_checker.specs.Clear.{is_read_clear, is_write_clear, IsPassed}
@@ -63,20 +63,14 @@ touched_calling s w b call empty first e x h is = touched_as s (shown_of w) firs
 
 -- ---- the step that ends the program
 
-pub left_all : (call : Option Call) (t : State) (fs all : List Finding) → leaves call ≡ true → all ≡ fs ++ leaks t → all ≡ fs ++ (if leaves call then leaks t else [])
-left_all call t fs all e is = is ∙ ap (λ (b : Bool). fs ++ (if b then leaks t else [])) (sym e)
-
-pub left_none : (call : Option Call) (t : State) (fs all : List Finding) → leaves call ≡ false → all ≡ fs → all ≡ fs ++ (if leaves call then leaks t else [])
-left_none call t fs all e is = is ∙ sym (append-nil fs) ∙ ap (λ (b : Bool). fs ++ (if b then leaks t else [])) (sym e)
-
 abbrev pub Ends : Bool → State → State → Reported → Reported → Type 0
 Ends free s t old new = (more : List Found) × FindsAtEnd s t more × ReportsMore free old new more
 
-pub ends : (free : Bool) (s t : State) (b : Before) (call : Call) (step : ℕ) (w : Watch) (first fs all : List Finding) (old new : Reported) → b.call ≡ Some call → IsBefore s b → FindsTouched s (shown_of w) first → Looks s t w first fs → all ≡ fs ++ (if leaves (Some call) then leaks t else []) → step ≡ t.steps → ReportsMore free old new (map (found_by b step (act.Call call)) all) → Ends free s t old new
+pub ends : (free : Bool) (s t : State) (b : Before) (call : Call) (step : ℕ) (w : Watch) (first fs all : List Finding) (old new : Reported) → b.call ≡ Some call → IsBefore s b → FindsTouched s (shown_of w) first → Looks s t w first fs → all ≡ fs ++ leaks (stays call) t → step ≡ t.steps → ReportsMore free old new (map (found_by b step (act.Call call)) all) → Ends free s t old new
 ends free s t b call step w first fs all old new e h touched x is steps r =
     let told = tells free s t b step (act.Call call) all old new h (call_acts b call e s h) steps r in
     let same : all ≡ (first ++ x.more) ++ left_behind s t
-    = is ∙ ap₂ (λ (l : List Finding) (k : Option Call). l ++ (if leaves k then leaks t else [])) x.is (sym e ∙ h.call) in
+    = is ∙ ap₂ (λ (l : List Finding) (k : Option Call). l ++ left_by k t) x.is (sym e ∙ h.call) in
     (told.more, record { findings = first ++ x.more; finds = x.finds first touched; told = found_as s t all _ told.more same told.found }, told.reports)
 
 -- ---- any step
@@ -120,7 +114,7 @@ nothing_by s t w uncalled x seen touched =
 -- nothing is found once the program has ended
 nothing_found : (s : State) (w : Watch) (code : ℕ) → call_of s.cpu ≡ None → s.exited ≡ Some code → IsWatch s.upper s.memory w → ((k : ℕ) → IfSome (slice_index_or s.memory.windows k None) (IsPage s.memory)) → FindsAtEnd s s []
 nothing_found s w code uncalled ended x pages =
-    let left : [] ++ left_behind s s ≡ [] = ap (λ (k : Option Call). if leaves k then leaks s else []) uncalled in
+    let left : [] ++ left_behind s s ≡ [] = ap (λ (k : Option Call). left_by k s) uncalled in
     record {
       findings = [];
       finds = nothing_by s s w uncalled x (seen_there s w x pages) (over code ended refl);

@@ -8,6 +8,7 @@ use Rattle.dm_findings.specs.declared.finding.Finding.{Finding}
 use Rattle.dm_findings.specs.declared.finding.Found.{Found}
 use Rattle.dm_findings.specs.declared.sites.Site.{Site}
 use Rattle.dm_findings.specs.Report.{Reported, report_of}
+use Rattle.dm_findings.specs.Sites.{site_of}
 use Rattle.dm_checker.specs.declared.acts.Before.{Before}
 use Rattle.dm_findings.specs.Findings.{is_of_free_memory}
 use Rattle.dm_checker.specs.Checks.{reported}
@@ -56,7 +57,9 @@ told_more free f fs i d a b c less h k =
 
 -- the findings of a step, as the state before it tells them
 pub found_same : (s t : State) (b : Before) (step : ℕ) (a : Act) (fs : List Finding) → IsBefore s b → step ≡ t.steps → map (found_by b step a) fs ≡ found_at s t a fs
-found_same s t b step a fs h e = ap₂ (λ (p : Site) (n : ℕ). map (λ (f : Finding). record { step = n; site = p; act = a; finding = f }) fs) h.site e
+found_same s t b step a fs h e =
+    ap₂ (λ (p : Site) (n : ℕ). map (λ (f : Finding). record { step = n; process = b.present; site = p; act = a; finding = f }) fs) h.site e
+    ∙ ap (λ (k : ℕ). map (λ (f : Finding). record { step = t.steps; process = k; site = site_of s.memory s.cpu; act = a; finding = f }) fs) h.present
 
 -- a report that tells them
 pub record Tells (free : Bool) (s t : State) (fs : List Finding) (old new : Reported) : Type 0 where

@@ -38,17 +38,15 @@ arranges c (Some Multiplex) = false
 arranges c (Some (ExtendedMemory number)) = false
 arranges c (Some (Interrupt number)) = false
 
--- whether a call ends a process that does not stay resident: interrupt 0, INT 20h, and functions 00h and 4Ch of INT
--- 21h, but not 31h
-abbrev pub leaves : Option Call → Bool
-leaves None = false
-leaves (Some DivideError) = true
-leaves (Some Terminate) = true
-leaves (Some (Dos number)) = (number == 0x00) || (number == 0x4C)
-leaves (Some (ExpandedMemory number)) = false
-leaves (Some Multiplex) = false
-leaves (Some (ExtendedMemory number)) = false
-leaves (Some (Interrupt number)) = false
+-- whether a call is function 31h of INT 21h, by which a process ends and stays resident
+abbrev pub stays : Call → Bool
+stays DivideError = false
+stays Terminate = false
+stays (Dos number) = number == 0x31
+stays (ExpandedMemory number) = false
+stays Multiplex = false
+stays (ExtendedMemory number) = false
+stays (Interrupt number) = false
 
 -- ---- a block that is freed twice
 

@@ -1,16 +1,17 @@
 -- What is found in a run, step by step, and at its end.
-use Rattle.std.specs.Prelude.{◌≡◌, ℕ, ◌+◌, ◌<◌, ◌≤◌, not, Bool, if◌then◌else◌, List, [], ◌∷◌, ◌++◌, ◌&&◌, Some, None}
+use Rattle.std.specs.Prelude.{◌≡◌, ℕ, ◌+◌, ◌<◌, ◌≤◌, not, Bool, if◌then◌else◌, List, [], ◌∷◌, ◌++◌, ◌&&◌, Option, Some, None}
 use Rattle.dm_state.specs.declared.stop.Stop.{Stop}
 use Rattle.dm_state.specs.declared.stop.Stop.TheVariants.{Exited, Steps as AllSteps, Halted, Unlisted, InputEnded, Destroyed, Memory as NoMemory}
 use Rattle.dm_state.specs.State.{State}
 use Rattle.dm_machine.specs.Step.{MakesStep}
 use Rattle.dm_machine.specs.Run.{Answers, IsRun}
+use Rattle.dm_findings.specs.declared.calls.Call.{Call}
 use Rattle.dm_findings.specs.declared.finding.Finding.{Finding}
 use Rattle.dm_findings.specs.declared.finding.Found.{Found}
 use Rattle.dm_findings.specs.Calls.{call_of}
 use Rattle.dm_findings.specs.Findings.{is_of_free_memory}
 use Rattle.dm_findings.specs.Report.{Reported, report_of}
-use Rattle.dm_checker.specs.Calls.{leaves}
+use Rattle.dm_checker.specs.Calls.{stays}
 use Rattle.dm_leaks.specs.Leaks.{leaks}
 use Rattle.dm_checker.specs.Findings.{Finds, IsFound}
 
@@ -20,13 +21,18 @@ pub record FindsAt (s t : State) (found : List Found) : Type 0 where
   pub finds : Finds s t findings
   pub told : IsFound s t findings found
 
--- what the first program left allocated, by the state t after the step from s that ended it; none if it stays resident
--- (31h)
-abbrev pub left_behind : State → State → List Finding
-left_behind s t = if leaves (call_of s.cpu) then leaks t else []
+-- what a program that ended by this call left allocated, or holds if it stays resident, by the state t after it; none if
+-- there was no call
+abbrev pub left_by : Option Call → State → List Finding
+left_by None t = []
+left_by (Some call) t = leaks (stays call) t
 
--- `found` is what is found of the step from s to t that ends the first program, and what the program left allocated,
--- unless it stays resident
+-- what the first program left allocated, or holds, by the state t after the step from s that ended it
+abbrev pub left_behind : State → State → List Finding
+left_behind s t = left_by (call_of s.cpu) t
+
+-- `found` is what is found of the step from s to t that ends the first program, and what the program left allocated, or
+-- holds if it stays resident
 pub record FindsAtEnd (s t : State) (found : List Found) : Type 0 where
   pub findings : List Finding
   pub finds : Finds s t findings

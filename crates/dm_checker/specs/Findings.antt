@@ -71,10 +71,10 @@ pub data IsAct (s : State) (a : Act) : Type 0 where
   called : (call : Call) → call_of s.cpu ≡ Some call → a ≡ act.Call call → IsAct s a
   instructed : (i : Ins) (length : ℕ) → call_of s.cpu ≡ None → BeginsWith (fetched s.memory s.cpu) i length → a ≡ act.Instruction i (up s.cpu.ip length) → IsAct s a
 
--- the findings with their step from s to t, which performs a: its number (the machine's count of steps after it), and
--- where in its code the program performs it: an instruction at CS:IP, a call at its caller
+-- the findings with their step from s to t, which performs a: its number (the machine's count of steps after it), the
+-- process that was present, and where in its code the program performs it: an instruction at CS:IP, a call at its caller
 abbrev pub found_at : State → State → Act → List Finding → List Found
-found_at s t a = map (λ f. record { step = t.steps; site = site_of s.memory s.cpu; act = a; finding = f })
+found_at s t a = map (λ f. record { step = t.steps; process = s.processes.present; site = site_of s.memory s.cpu; act = a; finding = f })
 
 -- `found` is the findings fs with their step from s to t; the empty list if there are none
 pub data IsFound (s t : State) (fs : List Finding) (found : List Found) : Type 0 where

@@ -3,7 +3,7 @@
 //! appends its findings to `out`; an `Err` is a failed allocation.
 
 ghost use Rattle.std.specs.Prelude.{◌≡◌, ◌++◌, map, OnOk};
-ghost use Rattle.dm_checker.specs.Calls.{is_arena, is_ending, is_starting, arranges, leaves, is_free_at, freed_twice, refusal, refused_by_dos, refused_by_status, refused_by_error, is_console, is_system, is_served, call_findings};
+ghost use Rattle.dm_checker.specs.Calls.{is_arena, is_ending, is_starting, arranges, stays, is_free_at, freed_twice, refusal, refused_by_dos, refused_by_status, refused_by_error, is_console, is_system, is_served, call_findings};
 ghost use Rattle.dm_checker.specs.Watching.{header_of};
 
 use crate::put::put;
@@ -48,14 +48,12 @@ pub(crate) fn arranges(cpu: &Cpu, call: Option<Call>) -> bool
     }
 }
 
-/// Whether a call ends a process that does not stay resident: interrupt 0, INT 20h, and INT 21h functions 00h and 4Ch,
-/// but not 31h.
-pub(crate) fn leaves(call: Option<Call>) -> bool
-    ensures { result ≡ leaves call }
+/// Whether a call is function 31h of INT 21h, by which a process ends and stays resident.
+pub(crate) fn stays(call: Call) -> bool
+    ensures { result ≡ stays call }
 {
     match call {
-        Some(Call::DivideError) | Some(Call::Terminate) => true,
-        Some(Call::Dos(number)) => number == 0x00 || number == 0x4C,
+        Call::Dos(number) => number == 0x31,
         _ => false,
     }
 }

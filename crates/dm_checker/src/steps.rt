@@ -16,7 +16,7 @@ ghost use Rattle.dm_checker.specs.inner.Steps.{IsBefore, IsPart, Looks, ReportsM
 
 use crate::acts::Before;
 use crate::arranged::put_arranged;
-use crate::calls::{arranges, leaves, put_freed_twice, put_of_call};
+use crate::calls::{arranges, put_freed_twice, put_of_call, stays};
 use crate::headers::{put_all_mapped_away, put_all_overwritten};
 use crate::put::put;
 use crate::touched::put_touched;
@@ -106,8 +106,8 @@ fn tell_one(report: &mut Report, free: bool, found: Found) -> Result<(), AllocEr
     report.add(found)
 }
 
-/// Adds the findings of a step to the report, each with the step's number, where in its code the program performed the
-/// step, and what the step performed. An `Err` is a failed allocation.
+/// Adds the findings of a step to the report, each with the step's number, the process, where in its code the program
+/// performed the step, and what the step performed. An `Err` is a failed allocation.
 fn tell(
     report: &mut Report,
     free: bool,
@@ -121,6 +121,7 @@ fn tell(
     for finding in found {
         let found = Found {
             step,
+            process: before.present,
             site: before.site,
             act,
             finding: *finding,
@@ -152,7 +153,7 @@ fn tell_step(
 }
 
 /// Adds what is found of the step that ended the first program to the report: its findings, and what the program left
-/// allocated, unless it stays resident. `found` has the findings of the bytes that the step touches. `kept` becomes the
+/// allocated, or holds if it stays resident. `found` has the findings of the bytes that the step touches. `kept` becomes the
 /// arena after the step. An `Err` is a failed allocation.
 fn check_end(
     alloc: Global,
@@ -169,9 +170,7 @@ fn check_end(
     ensures { OnOk result ((s : State) → IsBefore s before.now → IsWatch s.upper s.memory kept.old → FindsTouched s (shown_of kept.old) found.old.items → (more : List Found) × FindsAtEnd s machine.now more × ReportsMore free report.old report.new more) }
 {
     look(alloc, found, before, kept, machine)?;
-    if leaves(Some(call)) {
-        put_leaks(found, machine)?;
-    }
+    put_leaks(found, machine, stays(call))?;
     tell(
         report,
         free,

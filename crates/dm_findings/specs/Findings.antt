@@ -1,12 +1,13 @@
 -- Findings: which are errors.
 use Rattle.std.specs.Prelude.{not, Bool, true, false}
 use Rattle.dm_findings.specs.declared.finding.Finding.{Finding}
-use Rattle.dm_findings.specs.declared.finding.Finding.TheVariants.{Whole, NotServed, Refused, Short, FreeRead, FreeWritten, StackFreed, RomWritten, NothingWritten, TailWritten, OtherFreed, NotResized}
+use Rattle.dm_findings.specs.declared.finding.Finding.TheVariants.{Whole, NotServed, Refused, Short, FreeRead, FreeWritten, StackFreed, RomWritten, NothingWritten, TailWritten, OtherFreed, NotResized, Held}
 use Rattle.dm_findings.specs.declared.finding.Found.{Found}
 
 -- whether the finding is an error: all but a block list that is valid again, an interrupt that is not served, a failed
 -- call that does not free or resize what is not allocated, a write to the ROM, to no memory or to bytes 5 to 15 of a
--- header, a block freed that another process owned, and a resident program's block that was not resized, which are notes
+-- header, a block freed that another process owned, a resident program's block that was not resized, and what a resident
+-- program holds, which are notes
 abbrev pub is_error : Finding → Bool
 is_error Whole = false
 is_error NotServed = false
@@ -17,6 +18,7 @@ is_error (NothingWritten segment offset) = false
 is_error (TailWritten at byte) = false
 is_error (OtherFreed at owner) = false
 is_error (NotResized asked) = false
+is_error (Held kept) = false
 is_error _ = true
 
 -- whether what was found is an error, not a note

@@ -9,10 +9,39 @@ use Rattle.dm_findings.specs.declared.sites.Site.TheVariants.{At, Before}
 use Rattle.dm_findings.specs.declared.finding.Act.{Act}
 use Rattle.dm_findings.specs.declared.finding.Act.TheVariants as act
 use Rattle.dm_findings.specs.declared.finding.Finding.{Finding}
-use Rattle.dm_findings.specs.declared.finding.Finding.TheVariants.{Overwritten, MappedAway, Destroyed, Whole, FreedTwice, Refused, NotAllocated, DivisionError, NotServed, Short, PagesKept, MapKept, WindowKept, BlockKept, UpperKept, AreaKept, LineKept, FreeRead, FreeWritten, StackFreed, WindowLost, RomWritten, NothingWritten, TailWritten, OtherFreed, NotResized}
+use Rattle.dm_findings.specs.declared.finding.Finding.TheVariants.{Overwritten, MappedAway, Destroyed, Whole, FreedTwice, Refused, NotAllocated, DivisionError, NotServed, Short, Left, Held, FreeRead, FreeWritten, StackFreed, WindowLost, RomWritten, NothingWritten, TailWritten, OtherFreed, NotResized}
 use Rattle.dm_findings.specs.declared.finding.Found.{Found}
+use Rattle.dm_findings.specs.declared.finding.Kept.{Kept}
+use Rattle.dm_findings.specs.declared.finding.Kept.TheVariants as kept
 
 -- ---- findings
+
+-- which kind it is that something was left allocated: its place among the kinds of findings
+abbrev pub left_kind : Kept → ℕ
+left_kind (kept.Handle handle pages saved) = 19
+left_kind (kept.Window window) = 20
+left_kind (kept.Block handle kib locked) = 21
+left_kind (kept.Upper at) = 22
+left_kind kept.Area = 23
+left_kind kept.Line = 24
+
+-- which kind it is that a resident program holds something: its place among the kinds of findings
+abbrev pub held_kind : Kept → ℕ
+held_kind (kept.Handle handle pages saved) = 25
+held_kind (kept.Window window) = 26
+held_kind (kept.Block handle kib locked) = 27
+held_kind (kept.Upper at) = 28
+held_kind kept.Area = 29
+held_kind kept.Line = 30
+
+-- the handle, window or segment of what is allocated; 0 for the high memory area and A20
+abbrev pub kept_subject : Kept → ℕ
+kept_subject (kept.Handle handle pages saved) = handle
+kept_subject (kept.Window window) = window
+kept_subject (kept.Block handle kib locked) = handle
+kept_subject (kept.Upper at) = at
+kept_subject kept.Area = 0
+kept_subject kept.Line = 0
 
 -- which kind of finding it is: its place among the kinds, from 0
 abbrev pub kind_of : Finding → ℕ
@@ -25,23 +54,18 @@ kind_of (Refused code) = 5
 kind_of (NotAllocated code) = 6
 kind_of DivisionError = 7
 kind_of (Short asked largest) = 8
-kind_of (PagesKept handle pages) = 9
-kind_of (MapKept handle) = 10
-kind_of (WindowKept window) = 11
-kind_of (BlockKept handle kib locked) = 12
-kind_of (UpperKept at) = 13
-kind_of AreaKept = 14
-kind_of LineKept = 15
-kind_of NotServed = 16
-kind_of (FreeRead block segment offset) = 17
-kind_of (FreeWritten block segment offset) = 18
-kind_of (StackFreed block) = 19
-kind_of (WindowLost window segment offset) = 20
-kind_of (RomWritten segment offset) = 21
-kind_of (NothingWritten segment offset) = 22
-kind_of (TailWritten at byte) = 23
-kind_of (OtherFreed at owner) = 24
-kind_of (NotResized asked) = 25
+kind_of NotServed = 9
+kind_of (FreeRead block segment offset) = 10
+kind_of (FreeWritten block segment offset) = 11
+kind_of (StackFreed block) = 12
+kind_of (WindowLost window segment offset) = 13
+kind_of (RomWritten segment offset) = 14
+kind_of (NothingWritten segment offset) = 15
+kind_of (TailWritten at byte) = 16
+kind_of (OtherFreed at owner) = 17
+kind_of (NotResized asked) = 18
+kind_of (Left k) = left_kind k
+kind_of (Held k) = held_kind k
 
 -- what the finding is about: the segment of a header or a block, a handle, a window, or an error code; 0 for a kind that
 -- has none of them
@@ -52,17 +76,14 @@ subject_of (Destroyed at) = at
 subject_of (FreedTwice at) = at
 subject_of (Refused code) = code
 subject_of (NotAllocated code) = code
-subject_of (PagesKept handle pages) = handle
-subject_of (MapKept handle) = handle
-subject_of (WindowKept window) = window
-subject_of (BlockKept handle kib locked) = handle
-subject_of (UpperKept at) = at
 subject_of (FreeRead block segment offset) = block
 subject_of (FreeWritten block segment offset) = block
 subject_of (StackFreed block) = block
 subject_of (WindowLost window segment offset) = window
 subject_of (TailWritten at byte) = at
 subject_of (OtherFreed at owner) = at
+subject_of (Left k) = kept_subject k
+subject_of (Held k) = kept_subject k
 subject_of _ = 0
 
 -- ---- places and acts

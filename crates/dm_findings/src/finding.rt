@@ -16,6 +16,23 @@ pub struct Contents {
     pub size: u16,
 }
 
+/// What a program has allocated.
+#[derive(Clone, Copy, Debug, PartialEq, Eq)]
+pub enum Kept {
+    /// A handle of expanded memory, how many pages it has, and whether it has a saved map.
+    Handle(u16, u16, bool),
+    /// A page in this window of the frame.
+    Window(u8),
+    /// A handle of extended memory, the KiB of its block, and whether that is locked.
+    Block(u16, u16, bool),
+    /// The upper memory block at this segment.
+    Upper(u16),
+    /// The high memory area.
+    Area,
+    /// Address line A20, which is on.
+    Line,
+}
+
 /// A finding: what a step did, or what a program left allocated.
 #[derive(Clone, Copy, Debug)]
 pub enum Finding {
@@ -61,26 +78,17 @@ pub enum Finding {
     OtherFreed(u16, u16),
     /// The process stays resident, and its block could not be resized to so many paragraphs.
     NotResized(u16),
-    /// Left allocated: a handle of expanded memory, and how many pages it has.
-    PagesKept(u16, u16),
-    /// Left: the saved map of this handle of expanded memory.
-    MapKept(u16),
-    /// Left: a page in this window of the frame.
-    WindowKept(u8),
-    /// Left allocated: a handle of extended memory, the KiB of its block, and whether that is locked.
-    BlockKept(u16, u16, bool),
-    /// Left allocated: the upper memory block at this segment.
-    UpperKept(u16),
-    /// Left allocated: the high memory area.
-    AreaKept,
-    /// Left on: address line A20.
-    LineKept,
+    /// Left allocated by a program that has ended.
+    Left(Kept),
+    /// Held by a program that stays resident.
+    Held(Kept),
 }
 
 impl Finding {
     /// Whether the finding is an error. Notes are: a block list that is valid again; an interrupt that is not served; a
     /// failed call, unless it frees or resizes what is not allocated; a write to the ROM, to no memory or to bytes 5 to
-    /// 15 of a header; a block freed that another process owned; a resident program's block that was not resized.
+    /// 15 of a header; a block freed that another process owned; a resident program's block that was not resized; what a
+    /// resident program holds.
     pub fn is_error(&self) -> bool
         ensures { result ≡ is_error self.now }
     {
@@ -90,6 +98,7 @@ impl Finding {
             Finding::RomWritten(_, _) | Finding::NothingWritten(_, _) => false,
             Finding::TailWritten(_, _) => false,
             Finding::OtherFreed(_, _) | Finding::NotResized(_) => false,
+            Finding::Held(_) => false,
             _ => true,
         }
     }
@@ -115,11 +124,13 @@ pub enum Act {
     Instruction(Ins, u16),
 }
 
-/// A finding, the step that it is about, and what was performed in it.
+/// A finding, the step that it is about, in which process that was, and what was performed in it.
 #[derive(Clone, Copy, Debug)]
 pub struct Found {
     /// The number of the step: the machine's count of steps after it. The first step of a machine is number 1.
     pub step: u64,
+    /// The process that performed it: the segment of its prefix.
+    pub process: u16,
     /// Where in its code the program performed it.
     pub site: Site,
     pub act: Act,

@@ -1,11 +1,52 @@
 //! When a finding repeats an earlier one.
 
 ghost use Rattle.std.specs.Prelude.{◌≡◌};
-ghost use Rattle.dm_findings.specs.Repeats.{kind_of, subject_of, is_same_site, callee_of, number_of, is_same_act, is_repeated};
+ghost use Rattle.dm_findings.specs.Repeats.{kind_of, left_kind, held_kind, kept_subject, subject_of, is_same_site, callee_of, number_of, is_same_act, is_repeated};
 
 use crate::calls::Call;
-use crate::finding::{Act, Finding, Found};
+use crate::finding::{Act, Finding, Found, Kept};
 use crate::sites::Site;
+
+/// Which kind it is that something was left allocated: its place among the kinds of findings.
+fn left_kind(kept: &Kept) -> u8
+    ensures { result ≡ left_kind kept.now }
+{
+    match kept {
+        Kept::Handle(_, _, _) => 19,
+        Kept::Window(_) => 20,
+        Kept::Block(_, _, _) => 21,
+        Kept::Upper(_) => 22,
+        Kept::Area => 23,
+        Kept::Line => 24,
+    }
+}
+
+/// Which kind it is that a resident program holds something: its place among the kinds of findings.
+fn held_kind(kept: &Kept) -> u8
+    ensures { result ≡ held_kind kept.now }
+{
+    match kept {
+        Kept::Handle(_, _, _) => 25,
+        Kept::Window(_) => 26,
+        Kept::Block(_, _, _) => 27,
+        Kept::Upper(_) => 28,
+        Kept::Area => 29,
+        Kept::Line => 30,
+    }
+}
+
+/// The handle, window or segment of what is allocated; 0 for the high memory area and A20.
+fn kept_subject(kept: &Kept) -> u16
+    ensures { result ≡ kept_subject kept.now }
+{
+    match kept {
+        Kept::Handle(handle, _, _) => *handle,
+        Kept::Window(window) => *window as u16,
+        Kept::Block(handle, _, _) => *handle,
+        Kept::Upper(at) => *at,
+        Kept::Area | Kept::Line => 0,
+    }
+}
 
 /// Which kind of finding it is: its place among the kinds, from 0.
 fn kind_of(finding: &Finding) -> u8
@@ -21,23 +62,18 @@ fn kind_of(finding: &Finding) -> u8
         Finding::NotAllocated(_) => 6,
         Finding::DivisionError => 7,
         Finding::Short(_, _) => 8,
-        Finding::PagesKept(_, _) => 9,
-        Finding::MapKept(_) => 10,
-        Finding::WindowKept(_) => 11,
-        Finding::BlockKept(_, _, _) => 12,
-        Finding::UpperKept(_) => 13,
-        Finding::AreaKept => 14,
-        Finding::LineKept => 15,
-        Finding::NotServed => 16,
-        Finding::FreeRead(_, _, _) => 17,
-        Finding::FreeWritten(_, _, _) => 18,
-        Finding::StackFreed(_) => 19,
-        Finding::WindowLost(_, _, _) => 20,
-        Finding::RomWritten(_, _) => 21,
-        Finding::NothingWritten(_, _) => 22,
-        Finding::TailWritten(_, _) => 23,
-        Finding::OtherFreed(_, _) => 24,
-        Finding::NotResized(_) => 25,
+        Finding::NotServed => 9,
+        Finding::FreeRead(_, _, _) => 10,
+        Finding::FreeWritten(_, _, _) => 11,
+        Finding::StackFreed(_) => 12,
+        Finding::WindowLost(_, _, _) => 13,
+        Finding::RomWritten(_, _) => 14,
+        Finding::NothingWritten(_, _) => 15,
+        Finding::TailWritten(_, _) => 16,
+        Finding::OtherFreed(_, _) => 17,
+        Finding::NotResized(_) => 18,
+        Finding::Left(kept) => left_kind(kept),
+        Finding::Held(kept) => held_kind(kept),
     }
 }
 
@@ -53,17 +89,13 @@ fn subject_of(finding: &Finding) -> u16
         Finding::FreedTwice(at) => *at,
         Finding::Refused(code) => *code as u16,
         Finding::NotAllocated(code) => *code as u16,
-        Finding::PagesKept(handle, _) => *handle,
-        Finding::MapKept(handle) => *handle,
-        Finding::WindowKept(window) => *window as u16,
-        Finding::BlockKept(handle, _, _) => *handle,
-        Finding::UpperKept(at) => *at,
         Finding::FreeRead(block, _, _) => *block,
         Finding::FreeWritten(block, _, _) => *block,
         Finding::StackFreed(block) => *block,
         Finding::WindowLost(window, _, _) => *window as u16,
         Finding::TailWritten(at, _) => *at,
         Finding::OtherFreed(at, _) => *at,
+        Finding::Left(kept) | Finding::Held(kept) => kept_subject(kept),
         _ => 0,
     }
 }

@@ -16,8 +16,10 @@ use Rattle.dm_findings.specs.declared.finding.Contents.{Contents}
 use Rattle.dm_findings.specs.declared.finding.Act.{Act}
 use Rattle.dm_findings.specs.declared.finding.Act.TheVariants as act
 use Rattle.dm_findings.specs.declared.finding.Finding.{Finding}
-use Rattle.dm_findings.specs.declared.finding.Finding.TheVariants.{Overwritten, MappedAway, Destroyed, Whole, FreedTwice, Refused, NotAllocated, DivisionError, NotServed, Short, PagesKept, MapKept, WindowKept, BlockKept, UpperKept, AreaKept, LineKept, FreeRead, FreeWritten, StackFreed, WindowLost, RomWritten, NothingWritten, TailWritten, OtherFreed, NotResized}
+use Rattle.dm_findings.specs.declared.finding.Finding.TheVariants.{Overwritten, MappedAway, Destroyed, Whole, FreedTwice, Refused, NotAllocated, DivisionError, NotServed, Short, Left, Held, FreeRead, FreeWritten, StackFreed, WindowLost, RomWritten, NothingWritten, TailWritten, OtherFreed, NotResized}
 use Rattle.dm_findings.specs.declared.finding.Found.{Found}
+use Rattle.dm_findings.specs.declared.finding.Kept.{Kept}
+use Rattle.dm_findings.specs.declared.finding.Kept.TheVariants as kept
 use Rattle.dm_findings.specs.declared.report.Listed.{Listed}
 use Rattle.dm_findings.specs.declared.sites.Site.{Site}
 use Rattle.dm_findings.specs.declared.sites.Site.TheVariants.{At, Before}
@@ -91,6 +93,15 @@ act_members (act.Instruction i next) = string_member (codes "instruction") (text
 
 -- ---- what was found
 
+-- what a program has allocated at its end, in words with `_` between
+abbrev pub kept_word : Kept → List ℕ
+kept_word (kept.Handle handle pages saved) = codes "handle_kept"
+kept_word (kept.Window window) = codes "window_kept"
+kept_word (kept.Block handle kib locked) = codes "block_kept"
+kept_word (kept.Upper at) = codes "upper_kept"
+kept_word kept.Area = codes "area_kept"
+kept_word kept.Line = codes "line_kept"
+
 -- the kind of a finding, in a word or in words with `_` between
 abbrev pub kind_word : Finding → List ℕ
 kind_word (Overwritten at old new) = codes "overwritten"
@@ -103,13 +114,8 @@ kind_word (NotAllocated code) = codes "not_allocated"
 kind_word DivisionError = codes "division_error"
 kind_word NotServed = codes "not_served"
 kind_word (Short asked largest) = codes "short"
-kind_word (PagesKept handle pages) = codes "pages_kept"
-kind_word (MapKept handle) = codes "map_kept"
-kind_word (WindowKept window) = codes "window_kept"
-kind_word (BlockKept handle kib locked) = codes "block_kept"
-kind_word (UpperKept at) = codes "upper_kept"
-kind_word AreaKept = codes "area_kept"
-kind_word LineKept = codes "line_kept"
+kind_word (Left k) = kept_word k
+kind_word (Held k) = kept_word k
 kind_word (FreeRead block segment offset) = codes "free_read"
 kind_word (FreeWritten block segment offset) = codes "free_written"
 kind_word (StackFreed block) = codes "stack_freed"
@@ -125,6 +131,15 @@ abbrev pub contents_member : List ℕ → Contents → List ℕ
 contents_member name c =
     name_text name ++ codes "{\"signature\":" ++ decimal c.signature ++ number_member (codes "owner") c.owner ++ number_member (codes "size") c.size ++ codes "}"
 
+-- a handle, a window or a segment, and what more there is of what a program has allocated
+abbrev pub kept_members : Kept → List ℕ
+kept_members (kept.Handle handle pages saved) = number_member (codes "handle") handle ++ number_member (codes "pages") pages ++ bool_member (codes "saved") saved
+kept_members (kept.Window window) = number_member (codes "window") window
+kept_members (kept.Block handle kib locked) = number_member (codes "handle") handle ++ number_member (codes "kib") kib ++ bool_member (codes "locked") locked
+kept_members (kept.Upper at) = number_member (codes "block") at
+kept_members kept.Area = []
+kept_members kept.Line = []
+
 -- what a finding is about: segments of headers and blocks, handles, counts and codes
 abbrev pub detail_members : Finding → List ℕ
 detail_members (Overwritten at old new) = number_member (codes "header") at ++ contents_member (codes "old") old ++ contents_member (codes "new") new
@@ -137,13 +152,8 @@ detail_members (NotAllocated code) = number_member (codes "code") code
 detail_members DivisionError = []
 detail_members NotServed = []
 detail_members (Short asked largest) = number_member (codes "code") 8 ++ number_member (codes "wanted") asked ++ number_member (codes "available") largest
-detail_members (PagesKept handle pages) = number_member (codes "handle") handle ++ number_member (codes "pages") pages
-detail_members (MapKept handle) = number_member (codes "handle") handle
-detail_members (WindowKept window) = number_member (codes "window") window
-detail_members (BlockKept handle kib locked) = number_member (codes "handle") handle ++ number_member (codes "kib") kib ++ bool_member (codes "locked") locked
-detail_members (UpperKept at) = number_member (codes "block") at
-detail_members AreaKept = []
-detail_members LineKept = []
+detail_members (Left k) = kept_members k
+detail_members (Held k) = kept_members k
 detail_members (FreeRead block segment offset) = number_member (codes "block") block ++ byte_members segment offset
 detail_members (FreeWritten block segment offset) = number_member (codes "block") block ++ byte_members segment offset
 detail_members (StackFreed block) = number_member (codes "block") block
@@ -154,11 +164,11 @@ detail_members (TailWritten at byte) = number_member (codes "header") at ++ numb
 detail_members (OtherFreed at owner) = number_member (codes "block") at ++ number_member (codes "owner") owner
 detail_members (NotResized asked) = number_member (codes "wanted") asked
 
--- what was found and where: its kind, the step's number, where in its code the program performed it, the call or
+-- what was found and where: its kind, the step's number, the process, where in its code the program performed it, the call or
 -- instruction, what the finding is about, and the words of the report
 unfoldable pub found_members : Found → List ℕ
 found_members f =
-    string_member (codes "kind") (kind_word f.finding) ++ number_member (codes "step") f.step ++ site_members f.site ++ act_members f.act
+    string_member (codes "kind") (kind_word f.finding) ++ number_member (codes "step") f.step ++ number_member (codes "process") f.process ++ site_members f.site ++ act_members f.act
     ++ detail_members f.finding ++ string_member (codes "text") (finding_text f.act f.finding)
 
 -- ---- lines

@@ -5,19 +5,33 @@ ghost use Rattle.std.specs.Prelude.{◌≡◌, ◌++◌, OnOk, codes};
 ghost use Rattle.std.specs.List.{flat_map};
 ghost use Rattle.dm_text.specs.Texts.{text_of};
 ghost use Rattle.dm_reports.specs.Texts.{finding_text};
-ghost use Rattle.dm_json.specs.Objects.{act_members, again_object, bool_member, byte_members, closing, code_member, contents_member, detail_members, end_object, found_members, found_object, kind_word, left_out_object, next_members, number_member, opening, repeated_object, stopped_object, string_member, summary_objects, unlisted_object, what_members};
+ghost use Rattle.dm_json.specs.Objects.{act_members, again_object, bool_member, byte_members, closing, code_member, contents_member, detail_members, end_object, found_members, found_object, kept_members, kept_word, kind_word, left_out_object, next_members, number_member, opening, repeated_object, stopped_object, string_member, summary_objects, unlisted_object, what_members};
 
 use crate::members::{
     put_bool_member, put_byte_members, put_call_members, put_contents_member, put_name,
     put_number_member, put_site_members, put_string_member,
 };
 use dm_cpu::Cpu;
-use dm_findings::{Act, Call, Contents, Finding, Found, Listed, Report, call_of, site_of};
+use dm_findings::{Act, Call, Contents, Finding, Found, Kept, Listed, Report, call_of, site_of};
 use dm_ins::Ins;
 use dm_reports::{kind_of, put_finding, put_instruction, put_number, reason_of};
 use dm_space::Space;
 use dm_state::Stop;
 use std::alloc::{AllocError, Global};
+
+/// What a program has allocated at its end, in words with `_` between.
+fn kept_word(kept: &Kept) -> &'static [u8]
+    ensures { result.now ≡ kept_word kept.now }
+{
+    match kept {
+        Kept::Handle(_, _, _) => b"handle_kept",
+        Kept::Window(_) => b"window_kept",
+        Kept::Block(_, _, _) => b"block_kept",
+        Kept::Upper(_) => b"upper_kept",
+        Kept::Area => b"area_kept",
+        Kept::Line => b"line_kept",
+    }
+}
 
 /// The kind of a finding, in a word or in words with `_` between.
 fn word_of(finding: &Finding) -> &'static [u8]
@@ -34,13 +48,7 @@ fn word_of(finding: &Finding) -> &'static [u8]
         Finding::DivisionError => b"division_error",
         Finding::NotServed => b"not_served",
         Finding::Short(_, _) => b"short",
-        Finding::PagesKept(_, _) => b"pages_kept",
-        Finding::MapKept(_) => b"map_kept",
-        Finding::WindowKept(_) => b"window_kept",
-        Finding::BlockKept(_, _, _) => b"block_kept",
-        Finding::UpperKept(_) => b"upper_kept",
-        Finding::AreaKept => b"area_kept",
-        Finding::LineKept => b"line_kept",
+        Finding::Left(kept) | Finding::Held(kept) => kept_word(kept),
         Finding::FreeRead(_, _, _) => b"free_read",
         Finding::FreeWritten(_, _, _) => b"free_written",
         Finding::StackFreed(_) => b"stack_freed",
@@ -99,6 +107,33 @@ fn put_block_members(
     put_bool_member(out, b"locked", locked)
 }
 
+/// Appends a handle of expanded memory, its pages, and whether it has a saved map.
+fn put_handle_members(
+    out: &mut Vec<u8>,
+    handle: u16,
+    pages: u16,
+    saved: bool,
+) -> Result<(), AllocError>
+    ensures { OnOk result (out.new.items ≡ out.old.items
+        ++ (number_member (codes "handle") handle ++ number_member (codes "pages") pages ++ bool_member (codes "saved") saved)) }
+{
+    put_two(out, b"handle", handle, b"pages", pages)?;
+    put_bool_member(out, b"saved", saved)
+}
+
+/// Appends what a program has allocated at its end.
+fn put_kept_members(out: &mut Vec<u8>, kept: &Kept) -> Result<(), AllocError>
+    ensures { OnOk result (out.new.items ≡ out.old.items ++ kept_members kept.now) }
+{
+    match kept {
+        Kept::Handle(handle, pages, saved) => put_handle_members(out, *handle, *pages, *saved),
+        Kept::Window(window) => put_number_member(out, b"window", *window as u64),
+        Kept::Block(handle, kib, locked) => put_block_members(out, *handle, *kib, *locked),
+        Kept::Upper(at) => put_number_member(out, b"block", *at as u64),
+        Kept::Area | Kept::Line => Ok(()),
+    }
+}
+
 /// Appends a number, the segment of a free block or the number of a window, and the address of a byte there.
 fn put_byte_in(
     out: &mut Vec<u8>,
@@ -123,17 +158,14 @@ fn put_details(out: &mut Vec<u8>, alloc: Global, finding: &Finding) -> Result<()
         Finding::MappedAway(at) | Finding::Destroyed(at) => {
             put_number_member(out, b"header", *at as u64)
         }
-        Finding::FreedTwice(at) | Finding::UpperKept(at) | Finding::StackFreed(at) => {
+        Finding::FreedTwice(at) | Finding::StackFreed(at) => {
             put_number_member(out, b"block", *at as u64)
         }
         Finding::Refused(code) | Finding::NotAllocated(code) => {
             put_number_member(out, b"code", *code as u64)
         }
         Finding::Short(asked, largest) => put_short_members(out, *asked, *largest),
-        Finding::PagesKept(handle, pages) => put_two(out, b"handle", *handle, b"pages", *pages),
-        Finding::MapKept(handle) => put_number_member(out, b"handle", *handle as u64),
-        Finding::WindowKept(window) => put_number_member(out, b"window", *window as u64),
-        Finding::BlockKept(handle, kib, locked) => put_block_members(out, *handle, *kib, *locked),
+        Finding::Left(kept) | Finding::Held(kept) => put_kept_members(out, kept),
         Finding::FreeRead(block, segment, offset) | Finding::FreeWritten(block, segment, offset) =>
             { put_byte_in(out, alloc, b"block", *block, *segment, *offset) }
         Finding::WindowLost(window, segment, offset) => {
@@ -146,7 +178,6 @@ fn put_details(out: &mut Vec<u8>, alloc: Global, finding: &Finding) -> Result<()
         Finding::OtherFreed(at, owner) => put_two(out, b"block", *at, b"owner", *owner),
         Finding::NotResized(asked) => put_number_member(out, b"wanted", *asked as u64),
         Finding::Whole | Finding::DivisionError | Finding::NotServed => Ok(()),
-        Finding::AreaKept | Finding::LineKept => Ok(()),
     }
 }
 
@@ -195,6 +226,7 @@ fn put_members(out: &mut Vec<u8>, alloc: Global, found: &Found) -> Result<(), Al
 {
     put_string_member(out, b"kind", word_of(&found.finding))?;
     put_number_member(out, b"step", found.step)?;
+    put_number_member(out, b"process", found.process as u64)?;
     put_site_members(out, alloc, found.site)?;
     put_act_members(out, alloc, &found.act)?;
     put_details(out, alloc, &found.finding)?;

@@ -6,8 +6,10 @@ use Rattle.dm_findings.specs.declared.finding.Contents.{Contents}
 use Rattle.dm_findings.specs.declared.finding.Act.{Act}
 use Rattle.dm_findings.specs.declared.finding.Act.TheVariants as act
 use Rattle.dm_findings.specs.declared.finding.Finding.{Finding}
-use Rattle.dm_findings.specs.declared.finding.Finding.TheVariants.{Overwritten, MappedAway, Destroyed, Whole, FreedTwice, Refused, NotAllocated, DivisionError, NotServed, Short, PagesKept, MapKept, WindowKept, BlockKept, UpperKept, AreaKept, LineKept, FreeRead, FreeWritten, StackFreed, WindowLost, RomWritten, NothingWritten, TailWritten, OtherFreed, NotResized}
+use Rattle.dm_findings.specs.declared.finding.Finding.TheVariants.{Overwritten, MappedAway, Destroyed, Whole, FreedTwice, Refused, NotAllocated, DivisionError, NotServed, Short, Left, Held, FreeRead, FreeWritten, StackFreed, WindowLost, RomWritten, NothingWritten, TailWritten, OtherFreed, NotResized}
 use Rattle.dm_findings.specs.declared.finding.Found.{Found}
+use Rattle.dm_findings.specs.declared.finding.Kept.{Kept}
+use Rattle.dm_findings.specs.declared.finding.Kept.TheVariants as kept
 use Rattle.dm_findings.specs.declared.report.Listed.{Listed}
 use Rattle.dm_findings.specs.declared.sites.Site.{Site}
 use Rattle.dm_findings.specs.declared.sites.Site.TheVariants.{At, Before}
@@ -43,6 +45,19 @@ short_text asked largest = codes "refused with code 08h, not enough memory: " ++
 abbrev pub free_text : List ℕ → ℕ → ℕ → ℕ → List ℕ
 free_text verb block segment offset = verb ++ address_text segment offset ++ codes " in the free block at " ++ four_digits block
 
+-- what follows the pages of a handle of expanded memory: `, map not restored` if it has a saved map, otherwise nothing
+abbrev pub map_text : Bool → List ℕ
+map_text saved = if saved then codes ", map not restored" else []
+
+-- what a program has allocated at its end
+abbrev pub kept_text : Kept → List ℕ
+kept_text (kept.Handle handle pages saved) = codes "EMS handle " ++ decimal handle ++ codes ": " ++ counted pages (codes "page") ++ codes " not freed" ++ map_text saved
+kept_text (kept.Window window) = codes "window " ++ decimal window ++ codes " still mapped"
+kept_text (kept.Block handle kib locked) = codes "XMS handle " ++ decimal handle ++ codes ": " ++ decimal kib ++ codes " KiB not freed" ++ lock_text locked
+kept_text (kept.Upper at) = codes "upper block at " ++ four_digits at ++ codes " not freed"
+kept_text kept.Area = codes "HMA not released"
+kept_text kept.Line = codes "A20 left on"
+
 -- what was found in a step that performed a, in words
 abbrev pub finding_text : Act → Finding → List ℕ
 finding_text a (Overwritten at old new) = codes "header at " ++ four_digits at ++ codes " overwritten: " ++ contents_text old ++ codes " became " ++ contents_text new
@@ -55,13 +70,8 @@ finding_text a (NotAllocated code) = refusal_text a code
 finding_text a DivisionError = codes "division error ended the process"
 finding_text a NotServed = codes "not served"
 finding_text a (Short asked largest) = short_text asked largest
-finding_text a (PagesKept handle pages) = codes "EMS handle " ++ decimal handle ++ codes ": " ++ counted pages (codes "page") ++ codes " not freed"
-finding_text a (MapKept handle) = codes "EMS handle " ++ decimal handle ++ codes ": map not restored"
-finding_text a (WindowKept window) = codes "window " ++ decimal window ++ codes " still mapped"
-finding_text a (BlockKept handle kib locked) = codes "XMS handle " ++ decimal handle ++ codes ": " ++ decimal kib ++ codes " KiB not freed" ++ lock_text locked
-finding_text a (UpperKept at) = codes "upper block at " ++ four_digits at ++ codes " not freed"
-finding_text a AreaKept = codes "HMA not released"
-finding_text a LineKept = codes "A20 left on"
+finding_text a (Left k) = kept_text k
+finding_text a (Held k) = codes "kept resident: " ++ kept_text k
 finding_text a (FreeRead block segment offset) = free_text (codes "reads ") block segment offset
 finding_text a (FreeWritten block segment offset) = free_text (codes "writes ") block segment offset
 finding_text a (StackFreed block) = codes "the stack is in the free block at " ++ four_digits block

@@ -5,11 +5,11 @@ ghost use Rattle.std.specs.Prelude.{◌≡◌, ◌++◌, OnOk, codes, decimal};
 ghost use Rattle.dm_findings.specs.Findings.{is_error};
 ghost use Rattle.dm_text.specs.Texts.{text_of};
 ghost use Rattle.dm_views.specs.Digits.{two_digits, four_digits, address_text};
-ghost use Rattle.dm_reports.specs.Texts.{act_text, contents_text, counted, ending_text, finding_text, found_line, free_text, found_text, kind_text, lock_text, refusal_text, repeated_line, short_text, site_text};
+ghost use Rattle.dm_reports.specs.Texts.{act_text, contents_text, counted, ending_text, finding_text, found_line, free_text, found_text, kept_text, kind_text, lock_text, map_text, refusal_text, repeated_line, short_text, site_text};
 
 use crate::meanings::meaning_of;
 use crate::names::put_call;
-use dm_findings::{Act, Contents, Finding, Found, Listed, Site};
+use dm_findings::{Act, Contents, Finding, Found, Kept, Listed, Site};
 use dm_ins::Ins;
 use dm_text::{Line, text};
 use dm_views::{byte_digits, put_address, word_digits};
@@ -134,14 +134,49 @@ fn put_block_kept(out: &mut Vec<u8>, handle: u16, kib: u16, locked: bool) -> Res
     out.extend_from_slice(lock_of(locked))
 }
 
-/// Appends that the pages of a handle of expanded memory were not freed: how many they are.
-fn put_pages_kept(out: &mut Vec<u8>, handle: u16, pages: u16) -> Result<(), AllocError>
+/// What follows the pages of a handle of expanded memory: `, map not restored` if it has a saved map, otherwise nothing.
+fn map_of(saved: bool) -> &'static [u8]
+    ensures { result.now ≡ map_text saved }
+{
+    if saved { b", map not restored" } else { b"" }
+}
+
+/// Appends that a handle of expanded memory was not freed: how many pages it has, and whether it has a saved map.
+fn put_handle_kept(
+    out: &mut Vec<u8>,
+    handle: u16,
+    pages: u16,
+    saved: bool,
+) -> Result<(), AllocError>
     ensures { OnOk result (out.new.items ≡ out.old.items
-        ++ (codes "EMS handle " ++ decimal handle ++ codes ": " ++ counted pages (codes "page") ++ codes " not freed")) }
+        ++ (codes "EMS handle " ++ decimal handle ++ codes ": " ++ counted pages (codes "page") ++ codes " not freed" ++ map_text saved)) }
 {
     put_count(out, b"EMS handle ", handle, b": ")?;
     put_counted(out, pages as u64, b"page")?;
-    out.extend_from_slice(b" not freed")
+    out.extend_from_slice(b" not freed")?;
+    out.extend_from_slice(map_of(saved))
+}
+
+/// Appends what a program has allocated at its end.
+fn put_kept(out: &mut Vec<u8>, kept: &Kept) -> Result<(), AllocError>
+    ensures { OnOk result (out.new.items ≡ out.old.items ++ kept_text kept.now) }
+{
+    match kept {
+        Kept::Handle(handle, pages, saved) => put_handle_kept(out, *handle, *pages, *saved),
+        Kept::Window(window) => put_count(out, b"window ", *window as u16, b" still mapped"),
+        Kept::Block(handle, kib, locked) => put_block_kept(out, *handle, *kib, *locked),
+        Kept::Upper(at) => put_segment(out, b"upper block at ", *at, b" not freed"),
+        Kept::Area => out.extend_from_slice(b"HMA not released"),
+        Kept::Line => out.extend_from_slice(b"A20 left on"),
+    }
+}
+
+/// Appends what a resident program holds.
+fn put_held(out: &mut Vec<u8>, kept: &Kept) -> Result<(), AllocError>
+    ensures { OnOk result (out.new.items ≡ out.old.items ++ (codes "kept resident: " ++ kept_text kept.now)) }
+{
+    out.extend_from_slice(b"kept resident: ")?;
+    put_kept(out, kept)
 }
 
 /// Appends the address of a byte between two texts.
@@ -237,13 +272,8 @@ pub fn put_finding(out: &mut Vec<u8>, act: &Act, finding: &Finding) -> Result<()
         Finding::DivisionError => out.extend_from_slice(b"division error ended the process"),
         Finding::NotServed => out.extend_from_slice(b"not served"),
         Finding::Short(asked, largest) => put_short(out, *asked, *largest),
-        Finding::PagesKept(handle, pages) => put_pages_kept(out, *handle, *pages),
-        Finding::MapKept(handle) => put_count(out, b"EMS handle ", *handle, b": map not restored"),
-        Finding::WindowKept(window) => put_count(out, b"window ", *window as u16, b" still mapped"),
-        Finding::BlockKept(handle, kib, locked) => put_block_kept(out, *handle, *kib, *locked),
-        Finding::UpperKept(at) => put_segment(out, b"upper block at ", *at, b" not freed"),
-        Finding::AreaKept => out.extend_from_slice(b"HMA not released"),
-        Finding::LineKept => out.extend_from_slice(b"A20 left on"),
+        Finding::Left(kept) => put_kept(out, kept),
+        Finding::Held(kept) => put_held(out, kept),
         Finding::FreeRead(block, segment, offset) => {
             put_free(out, b"reads ", *block, *segment, *offset)
         }

@@ -34,9 +34,9 @@ pub record IsUnlisted (s : State) : Type 0 where
   pub call : call_of s.cpu ≡ None
   pub none : (i : Ins) (length : ℕ) → BeginsWith (fetched s.memory s.cpu) i length → ⊥
 
--- a finding with its step: the step's number, where in its code the program performed it, and what it performed
+-- a finding with its step: the step's number, the process, where in its code the program performed it, and what it performed
 abbrev pub found_by : Before → ℕ → Act → Finding → Found
-found_by b step a f = record { step = step; site = b.site; act = a; finding = f }
+found_by b step a f = record { step = step; process = b.present; site = b.site; act = a; finding = f }
 
 -- the report `new` is the report `old` with the findings `more` added, or, without `free`, those that are not about free
 -- memory

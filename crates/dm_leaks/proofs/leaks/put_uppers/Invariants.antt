@@ -3,4 +3,4 @@ use Rattle.dm_leaks.specs.Leaks.{of_each, upper_kept}
 use Rattle.dm_leaks.proofs.leaks.put_uppers.Given as goal
 
 abbrev pub invariant-loop-number : goal.invariant-loop-number
-invariant-loop-number l = l.out.items ≡ l.initial.out.items ++ of_each (upper_kept l.xms) l.number
+invariant-loop-number l = l.out.items ≡ l.initial.out.items ++ of_each (upper_kept l.resident l.xms) l.number
