@@ -173,7 +173,9 @@ class Splices(unittest.TestCase):
         for _ in range(3000):
             old, new = ([f"{chance.randrange(4)}{'x' * chance.randrange(3)}" for _ in range(chance.randrange(7))] for _ in range(2))
             before, after = ("".join(f"{line}\n" for line in lines).encode() for lines in (old, new))
-            splice = picture.splice_of(before, after)
+            listing = picture.Listing()
+            listing.change(before)
+            splice = listing.change(after)
             self.assertEqual(splice is None, old == new)
             if splice:
                 at, count, lines = splice
@@ -182,10 +184,10 @@ class Splices(unittest.TestCase):
     def test_merged(self) -> None:
         chance = random.Random(59)
         for _ in range(500):
-            merged, old, last = picture.Merged(), [], []
+            merged, listing, old, last = picture.Merged(), picture.Listing(), [], []
             for _ in range(12):
                 new = [line for line in old if chance.random() < 0.8] + [str(chance.randrange(99)) for _ in range(chance.randrange(3))]
-                merged.add(picture.splice_of(*("".join(f"{line}\n" for line in lines).encode() for lines in (old, new))))
+                merged.add(listing.change("".join(f"{line}\n" for line in new).encode()))
                 old = new
                 if chance.random() < 0.3:
                     splice = merged.taken()
