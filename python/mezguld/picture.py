@@ -46,6 +46,8 @@ TITLES = {DOS: "INT 21h", EXPANDED: "INT 67h", EXTENDED: "XMS"}
 # The lists that each service may change.
 LISTS = {DIVIDE: "MPX", TERMINATE: "MPX", DOS: "M", EXPANDED: "P", EXTENDED: "X"}
 CARRY = 1
+# How many calls wait at most.
+MOST_WAITING = 64
 # How many lines are tried by themselves.
 FEW_LINES, LINE_FEED = 4, 10
 # The places of the lists in a moment.
@@ -313,7 +315,9 @@ class Recorder:
         self.acts = {it[key]: it for it in reversed(findings) for key in ("last", "step")}
         self.names: dict[str, int] = {}
         self.callers: dict[str, int] = {}
-        self.blocks, self.pages, self.extended = Listing(), Listing(), Listing()
+        self.lists = {name: Listing() for name in "MPX"}
+        # The calls whose moments are not there yet: what is known of each, and the list that it may have changed.
+        self.waiting: list[tuple[Service, int, Registers, Registers, str, bytes | None]] = []
         self.moments: list[list[Any]] = []
         # The places of the moments that are never left out.
         self.must: set[int] = set()
@@ -333,17 +337,33 @@ class Recorder:
 
     def look(self, caller: str, name: str, text: str, lists: str, refused: int = 0, must: bool = False, process: int | None = None) -> None:
         """Adds a moment: the lists as they are now, where these may have changed. The process is that which runs, if none is given."""
-        blocks = self.blocks.change(self.watched.listed("M")) if "M" in lists else None
-        pages = self.pages.change(self.watched.listed("P")) if "P" in lists else None
-        extended = self.extended.change(self.watched.listed("X")) if "X" in lists else None
-        process = self.running() if process is None else process
-        # (A text's number is its place in the table.)
-        name, caller = self.names.setdefault(name, len(self.names)), self.callers.setdefault(caller, len(self.callers))
-        moment = [self.now, name, caller, process, text, refused, blocks, pages, extended]
+        self._settle()
+        changes = [self.lists[it].change(self.watched.listed(it)) if it in lists else None for it in "MPX"]
         if must:
             self.must.add(len(self.moments))
+        self._add(self.now, caller, name, text, refused, self.running() if process is None else process, changes)
+        self._thin_enough()
+
+    def _add(self, now: int, caller: str, name: str, text: str, refused: int, process: int, changes: list[Any]) -> None:
+        # (A text's number is its place in the table.)
+        moment = [now, self.names.setdefault(name, len(self.names)), self.callers.setdefault(caller, len(self.callers)), process, text, refused, *changes]
         self.moments.append(moment)
         self.size += size_of(moment)
+
+    def _settle(self) -> None:
+        """The moments of the calls that wait. Many after one another take half the time that each takes between two steps of a program."""
+        waiting, self.waiting, process = self.waiting, [], self.running()
+        for service, now, before, after, caller, listed in waiting:
+            refused = service.refused(after)
+            if service.hold is not None and not refused:
+                service.hold(self, now, before, after, caller)
+            if listed is not None:
+                changes: list[Any] = [None, None, None]
+                changes["MPX".index(service.lists)] = self.lists[service.lists].change(listed)
+                self._add(now, caller, service.name, told(service, before, after, refused), refused, process, changes)
+        self._thin_enough()
+
+    def _thin_enough(self) -> None:
         while (len(self.moments) > MOST_MOMENTS or self.size > MOST_SIZE) and self.thin():
             pass
 
@@ -428,16 +448,20 @@ class Recorder:
         why, after = self.watched.step()
         # (A service that could not act is no step.)
         self.now += why is Stop.STEPS
-        refused = service.refused(after)
-        if service.hold is not None and not refused:
-            service.hold(self, before, after, caller)
         if self.left and self.left[-1] == self.now:
+            lists, must = "MPX", True
             self.stale.clear()
-            self.look(caller, service.name, told(service, before, after, refused), "MPX", refused, must=True)
-        elif is_kept:
-            self.look(caller, service.name, told(service, before, after, refused), self._fresh(service.lists), refused)
         else:
-            self.stale.update(service.lists)
+            lists, must = self._fresh(service.lists) if is_kept else "", False
+        if len(lists) <= 1:
+            self.waiting.append((service, self.now, before, after, caller, self.watched.listed(lists) if lists else None))
+            self.stale.update("" if lists else service.lists)
+            if len(self.waiting) == MOST_WAITING or len(self.moments) + len(self.waiting) > MOST_MOMENTS:
+                self._settle()
+        else:
+            self.waiting.append((service, self.now, before, after, caller, None))
+            refused = service.refused(after)
+            self.look(caller, service.name, told(service, before, after, refused), lists, refused, must=must)
         return why, after
 
     def _fresh(self, lists: str) -> str:
@@ -459,6 +483,7 @@ class Recorder:
 
     def _started_or_ended(self, service: Service, before: Registers, is_kept: bool) -> tuple[Stop, Registers]:
         """The step of a call that may start or end a process."""
+        self._settle()
         call, process = Call(self.watched, service, before), self.running()
         why, after = self.watched.step()
         self.now += why is Stop.STEPS or why is Stop.EXITED
@@ -479,21 +504,22 @@ class Recorder:
 
     # -- what function 48h gave
 
-    def allocated(self, before: Registers, after: Registers, caller: str) -> None:
+    def allocated(self, now: int, before: Registers, after: Registers, caller: str) -> None:
         """Notes a block."""
-        self.held[after.ax] = (caller, self.now, before.bx, self.running())
+        self.held[after.ax] = (caller, now, before.bx, self.running())
 
-    def freed(self, before: Registers, *_: object) -> None:
+    def freed(self, _: int, before: Registers, *__: object) -> None:
         """Forgets a block."""
         self.held.pop(before.es, None)
 
-    def resized(self, before: Registers, *_: object) -> None:
+    def resized(self, _: int, before: Registers, *__: object) -> None:
         """Notes a block's new size."""
         if before.es in self.held:
-            caller, step, _, process = self.held[before.es]
+            caller, step, _size, process = self.held[before.es]
             self.held[before.es] = (caller, step, before.bx, process)
 
     def _ended(self, why: Stop) -> dict[str, Any]:
+        self._settle()
         self._keep(list(self.held), "run stopped")
         if why is Stop.EXITED:
             return {"why": "exited", "code": self.watched.code, "text": f"ended with code {self.watched.code}"}
