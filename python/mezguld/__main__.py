@@ -141,11 +141,10 @@ def draw(options: argparse.Namespace) -> int:
     except (OSError, ValueError) as error:
         why = getattr(error, "strerror", None) or str(error)
         raise Fault(f"cannot write {'standard output' if output == '-' else shown(output)} ({why})") from error
-    errors = sum(1 + it["more"] for it in found["findings"] if it["kind"] == "error")
-    notes = sum(1 + it["more"] for it in found["findings"] if it["kind"] == "note")
+    summary = found["summary"]
     # (The file is there, whether or not anybody reads this line.)
     with contextlib.suppress(OSError):
-        say(f"{shown(output)}: {found['calls']['seen']} calls, errors: {errors}, notes: {notes}, {found['run']['end']['text']}\n")
+        say(f"{shown(output)}: {found['calls']['seen']} calls, errors: {summary['errors']}, notes: {summary['notes']}, {found['run']['end']['text']}\n")
     return 0
 
 

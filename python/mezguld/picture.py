@@ -10,7 +10,6 @@ import contextlib
 import ctypes
 import json
 import os
-import re
 import shlex
 import stat
 import struct
@@ -18,11 +17,11 @@ import tempfile
 from typing import Any, Callable, Iterator, NamedTuple
 
 from . import Machine, Registers, Stop, __version__, _library, _Point, _Registers, _Stopped, _check
-from . import findings as listed_in
+from . import reports
 
 __all__ = ["Options", "Program", "data", "page", "record", "write"]
 
-FORMAT = 1
+FORMAT = 2
 # The entries of the services: a program that calls one is there before the service acts.
 DIVIDE, TERMINATE, DOS, EXPANDED, EXTENDED = (0xF000, 0x0000), (0xF000, 0x0080), (0xF000, 0x0084), (0xF100, 0x0020), (0xF000, 0x0400)
 ENTRIES = (DIVIDE, TERMINATE, DOS, EXPANDED, EXTENDED)
@@ -57,8 +56,6 @@ UNPACKED, PAIR, NEW = struct.Struct("<14H").unpack, struct.Struct("<HH").unpack,
 MOST_MOMENTS, MOST_SIZE = 24_000, 3_700_000
 STOPS = tuple(sorted(Stop, key=lambda it: it.value))
 COLUMNS = ("step", "name", "caller", "process", "text", "refused", "M", "P", "X")
-ENDS = {Stop.INPUT_ENDED: "input ended"}
-PLACE = re.compile(r"(?:header|block|destroyed) at ([0-9A-F]{4})")
 
 
 class Program(NamedTuple):
@@ -98,15 +95,44 @@ def loaded(programs: list[Program], options: Options) -> Machine:
 # ---- the checker's report
 
 
-def findings_of(report: str) -> list[dict[str, Any]]:
-    """The findings of a report of the checker, in their order, with how often each was repeated, as the page's data has them."""
-    found: list[dict[str, Any]] = []
-    for it in listed_in(report):
-        place = PLACE.search(it.text)
-        site = f"{'before ' if it.before else ''}{it.segment:04X}:{it.offset:04X}"
-        segment = place[1] if place else None
-        found.append({"kind": it.kind, "step": it.step, "site": site, "act": it.act, "text": it.text, "segment": segment, "more": it.more, "last": it.last})
-    return found
+class Report(NamedTuple):
+    """What the checker found: its findings in their order, how many there are in all, and how the run ended. The members are those of `dm check --json`; each
+    finding has besides how often it came again (`more`), and the step of the last time (`last`)."""
+
+    lines: list[str]
+    findings: list[dict[str, Any]]
+    summary: dict[str, int]
+    end: dict[str, Any]
+
+
+def report_of(lines: list[str], code: int) -> Report:
+    """The report of a checked run by its lines, and the exit code of a program that has ended."""
+    found: dict[str, dict[str, Any]] = {}
+    summary, end = {"errors": 0, "notes": 0, "not_listed": 0}, {}
+    for it in reports.objects(lines, code):
+        kind = it["type"]
+        if kind in ("error", "note"):
+            found[key_of(it)] = {**it, "more": 0, "last": it["step"]}
+        elif kind == "again":
+            found[key_of(it)].update(more=it["more"], last=it["last"])
+        elif kind == "not_listed":
+            summary["not_listed"] = it["findings"]
+        elif kind == "summary":
+            summary.update(errors=it["errors"], notes=it["notes"])
+        else:
+            end = it
+    text = f"ended with code {code}" if end["type"] == "exited" else f"stopped: {end['reason']}"
+    return Report(lines, list(found.values()), summary, {**end, "text": text})
+
+
+def key_of(finding: dict[str, Any]) -> str:
+    """What a finding and the line about its repetitions have alike."""
+    return json.dumps([value for name, value in finding.items() if name not in ("type", "more", "last")])
+
+
+def site_of(finding: dict[str, Any]) -> str:
+    """Where in its code the program performed the step of a finding, as the callers of calls are told."""
+    return f"{'before ' if finding['before'] else ''}{finding['at']}"
 
 
 # ---- a machine that is looked at often
@@ -166,11 +192,6 @@ class Watched:
         if status:
             _check(status)
         return STOPS[self._stopped.why], self._steps.value, NEW(Registers, UNPACKED(self._registers))
-
-    @property
-    def code(self) -> int:
-        """The exit code of the last run."""
-        return self._stopped.code
 
     def registers(self) -> Registers:
         """The registers."""
@@ -307,7 +328,7 @@ def size_of(moment: list[Any]) -> int:
 
 
 class Recorder:
-    """The moments of a run, the processes, and what programs did not free."""
+    """The moments of a run, the processes, and what programs did not free. `now` is how many steps were made."""
 
     def __init__(self, watched: Watched, findings: list[dict[str, Any]], options: Options, first: bytes) -> None:
         self.watched, self.options = watched, options
@@ -393,7 +414,7 @@ class Recorder:
         psp = self.watched.registers().ds if psp is None else psp
         parent = self.alive[-1] if self.alive else None
         self.alive.append(len(self.processes))
-        self.processes.append({"name": name, "psp": f"{psp:04X}", "start": self.now, "end": None, "how": "runs at the end", "parent": parent})
+        self.processes.append({"name": name, "psp": psp, "start": self.now, "end": None, "how": "runs at the end", "parent": parent})
 
     def _end(self, how: str, is_resident: bool) -> None:
         if not self.alive:
@@ -414,8 +435,8 @@ class Recorder:
 
     # -- the run
 
-    def run(self) -> dict[str, Any]:
-        """Runs the program to its end, to another stop or to the limit of steps, and returns how it ended."""
+    def run(self) -> None:
+        """Runs the program to its end, to another stop or to the limit of steps."""
         why, registers = Stop.STEPS, self.watched.registers()
         while (why is Stop.STEPS or why is Stop.BREAKPOINT) and self.now < self.options.steps:
             while self.left and self.left[-1] <= self.now:
@@ -429,12 +450,12 @@ class Recorder:
             why, self.now, registers = self.watched.run_until(limit - self.now)
             if self.left and self.left[-1] == self.now:
                 self._found()
-        return self._ended(why)
+        self._ended(why)
 
     def _found(self) -> None:
         """A moment for a finding that no call of memory has."""
         found = self.acts[self.now]
-        self.look(found["site"], found["act"], found["text"], "MPX", must=True)
+        self.look(site_of(found), found.get("call") or found["instruction"], found["text"], "MPX", must=True)
 
     def _service(self, service: Service | None, before: Registers) -> tuple[Stop, Registers]:
         """The step of a service, with a look after it where it may change memory's division; and the registers then."""
@@ -518,14 +539,11 @@ class Recorder:
             caller, step, _size, process = self.held[before.es]
             self.held[before.es] = (caller, step, before.bx, process)
 
-    def _ended(self, why: Stop) -> dict[str, Any]:
+    def _ended(self, why: Stop) -> None:
         self._settle()
         self._keep(list(self.held), "run stopped")
-        if why is Stop.EXITED:
-            return {"why": "exited", "code": self.watched.code, "text": f"ended with code {self.watched.code}"}
-        word = ENDS.get(why, why.name.lower())
-        self.look("", f"the run stops: {word}", "", "MPX", must=True)
-        return {"why": word, "code": None, "text": f"stopped: {word}"}
+        if why is not Stop.EXITED:
+            self.look("", f"the run stops: {why.name.lower().replace('_', ' ')}", "", "MPX", must=True)
 
 
 # ---- what calls are asked, and what they give
@@ -655,10 +673,11 @@ def command_of(options: Options, files: list[str], input_file: str | None) -> st
     return line if input_file is not None or options.input else f"{line} </dev/null"
 
 
-def _checked(programs: list[Program], options: Options) -> str:
+def _checked(programs: list[Program], options: Options) -> Report:
     """The report of a checked run."""
     with loaded(programs, options) as machine:
-        return machine.check(options.steps)[1]
+        stopped, text = machine.check(options.steps)
+        return report_of(text.splitlines(), stopped.code)
 
 
 class Progress:
@@ -684,17 +703,13 @@ def record(
     progress = Progress() if progress is None else progress
     # (The steps of what the checker finds are looked at too, so they are known before.)
     report = _checked(programs, options)
-    findings = findings_of(report)
     with loaded(programs, options) as machine:
-        recorder = progress.recorder = Recorder(Watched(machine), findings, options, programs[0].name)
-        end, steps = recorder.run(), machine.steps
-    return data(recorder, programs, options, report, findings, end, steps, command_of(options, files or [shown(it.name) for it in programs], input_file))
+        recorder = progress.recorder = Recorder(Watched(machine), report.findings, options, programs[0].name)
+        recorder.run()
+    return data(recorder, programs, options, report, command_of(options, files or [shown(it.name) for it in programs], input_file))
 
 
-def data(
-    recorder: Recorder, programs: list[Program], options: Options, report: str, findings: list[dict[str, Any]], end: dict[str, Any], steps: int,
-    command: str,
-) -> dict[str, Any]:
+def data(recorder: Recorder, programs: list[Program], options: Options, report: Report, command: str) -> dict[str, Any]:
     """The data of a page, which docs/picture.md describes."""
     every, kept = recorder.every, len(recorder.moments)
     rule = f"Of {recorder.seen:,} calls about memory, one in {every:,} is shown, and besides these each at which the checker found something or a program"
@@ -705,9 +720,9 @@ def data(
         "run": {
             "command": command, "files": [{"name": shown(it.name), "bytes": len(it.content)} for it in programs],
             "options": {"steps": options.steps, "ems": options.ems, "xms": options.xms, "upper": bool(options.upper), "tail": shown(options.tail)},
-            "input": len(options.input), "steps": steps, "end": end,
+            "input": len(options.input), "steps": recorder.now, "end": report.end,
         },
-        "report": report.splitlines(), "findings": findings,
+        "report": report.lines, "findings": report.findings, "summary": report.summary,
         "calls": {"seen": recorder.seen, "others": recorder.others, "shown": kept, "every": every, "rule": rule if every > 1 else None},
         "processes": recorder.processes,
         "kept": [
