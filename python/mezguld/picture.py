@@ -51,9 +51,10 @@ MOST_WAITING = 64
 FEW_LINES, LINE_FEED = 4, 10
 # The places of the lists in a moment.
 PLACES = {"M": 6, "P": 7, "X": 8}
-UNPACKED, PAIR, NEW = struct.Struct("<14H").unpack, struct.Struct("<HH").unpack, tuple.__new__
+UNPACKED, PAIR, NEW = struct.Struct("<14H").unpack, struct.Struct("<HH").unpack_from, tuple.__new__
 # A record of more moments than this, or of more bytes as JSON (reckoned), is thinned: so a page has less than 4 MB.
 MOST_MOMENTS, MOST_SIZE = 24_000, 3_700_000
+AT_ONCE = ctypes.PyDLL(_library._name, handle=_library._handle)  # pylint: disable=protected-access
 STOPS = tuple(sorted(Stop, key=lambda it: it.value))
 COLUMNS = ("step", "name", "caller", "process", "text", "refused", "M", "P", "X")
 
@@ -138,9 +139,10 @@ def site_of(finding: dict[str, Any]) -> str:
 # ---- a machine that is looked at often
 
 
-def untyped(name: str) -> Callable[..., int]:
-    """A function of the library that is given values which ctypes has made, whose types it does not look at: that takes half the time."""
-    function = _library[name]
+def untyped(name: str, is_long: bool = False) -> Callable[..., int]:
+    """A function of the library that is given values which ctypes has made, whose types it does not look at: that takes half the time. Other threads run
+    only in a call that may be long."""
+    function = (_library if is_long else AT_ONCE)[name]
     function.restype = ctypes.c_uint32
     return function
 
@@ -166,9 +168,10 @@ class Watched:
         self._to_step, self._to_registers, self._to_steps = (handle, ctypes.c_uint64(1), at(self._stopped)), (handle, at(self._registers)), (handle, at(self._steps))
         self._to_entry = handle, self._limit, at(points), ctypes.c_size_t(len(ENTRIES)), at(self._stopped)
         self._to_read = handle, self._segment, self._offset, at(self._few), self._few_size
+        self._to_word_pair, self._to_byte = (*self._to_read[:4], ctypes.c_size_t(4)), (*self._to_read[:4], ctypes.c_size_t(1))
         self._make_room(1 << 16)
         self._run, self._run_until, self._ask_steps, self._ask_registers, self._read, self._command, self._answer = (
-            untyped(f"mezguld_{name}") for name in ("run", "run_until", "steps", "registers", "read", "command", "answer")
+            untyped(f"mezguld_{name}", name == "run_until") for name in ("run", "run_until", "steps", "registers", "read", "command", "answer")
         )
         # The texts of callers, by the address after the call and whether an interrupt's instruction is before it.
         self._callers: dict[tuple[int, int, bool], str] = {}
@@ -208,12 +211,21 @@ class Watched:
 
     def caller(self, before: Registers, is_interrupt: bool) -> tuple[tuple[int, int], str]:
         """The address after a call, which the stack has, and the caller as a text: the instruction of the interrupt, if it was one."""
-        ip, cs = PAIR(self.read(before.ss, before.sp, 4))
+        segment, offset, few = self._segment, self._offset, self._few
+        segment.value, offset.value = before.ss, before.sp
+        status = self._read(*self._to_word_pair)
+        ip, cs = PAIR(few)
         # (The interrupt's instruction has two bytes; a far call has others.)
-        key = cs, ip, is_interrupt and self.read(cs, ip - 2, 1) == b"\xcd"
+        if is_interrupt:
+            segment.value, offset.value = cs, (ip - 2) & 0xFFFF
+            status = status or self._read(*self._to_byte)
+            is_interrupt = few[0] == b"\xcd"
+        if status:
+            _check(status)
+        key = cs, ip, is_interrupt
         text = self._callers.get(key)
         if text is None:
-            text = self._callers[key] = f"{cs:04X}:{(ip - 2) & 0xFFFF:04X}" if key[2] else f"before {cs:04X}:{ip:04X}"
+            text = self._callers[key] = f"{cs:04X}:{(ip - 2) & 0xFFFF:04X}" if is_interrupt else f"before {cs:04X}:{ip:04X}"
         return (cs, ip), text
 
     def listed(self, name: str) -> bytes:
@@ -266,7 +278,7 @@ def same_end(old: bytes, new: bytes, front: int) -> tuple[int, int]:
     # (Mostly one or two lines of the old text are not in the new one.)
     for count in range(FEW_LINES):
         at = begin + longer
-        if at >= front and is_line(new, at, front) and old[begin:] == new[at:]:
+        if (at == front or at > front and new[at - 1] == LINE_FEED) and old[begin:] == new[at:]:
             return begin, count
         begin = old.find(b"\n", begin) + 1 or len(old)
     # (The highest bit that differs is in the last byte that does, where both end alike.)
@@ -442,10 +454,13 @@ class Recorder:
             while self.left and self.left[-1] <= self.now:
                 self.left.pop()
             services = SERVICES.get((registers.cs, registers.ip))
-            # (A run does not stop at a breakpoint where it begins.)
             if services is not None:
-                why, registers = self._service(services.get(registers.ax >> 8), registers)
-                continue
+                service = services.get(registers.ax >> 8)
+                if service is not None and (registers.ax & 1 or not service.is_odd):
+                    why, registers = self._service(service, registers)
+                    continue
+                # (This call leaves memory's division as it is. A run does not stop at a breakpoint where it begins.)
+                self.others += 1
             limit = min(self.left[-1], self.options.steps) if self.left else self.options.steps
             why, self.now, registers = self.watched.run_until(limit - self.now)
             if self.left and self.left[-1] == self.now:
@@ -457,10 +472,8 @@ class Recorder:
         found = self.acts[self.now]
         self.look(site_of(found), found.get("call") or found["instruction"], found["text"], "MPX", must=True)
 
-    def _service(self, service: Service | None, before: Registers) -> tuple[Stop, Registers]:
-        """The step of a service, with a look after it where it may change memory's division; and the registers then."""
-        if service is None or service.is_odd and not before.ax & 1:
-            return self._other()
+    def _service(self, service: Service, before: Registers) -> tuple[Stop, Registers]:
+        """The step of a service that may change memory's division, with a look after it; and the registers then."""
         self.seen += 1
         is_kept = not self.seen % self.every
         if service.is_ending or service.is_load:
@@ -492,15 +505,6 @@ class Recorder:
         lists = "".join(it for it in "MPX" if it in self.stale or it in lists)
         self.stale.clear()
         return lists
-
-    def _other(self) -> tuple[Stop, Registers]:
-        """The step of a service that leaves memory's division as it is."""
-        why, after = self.watched.step()
-        self.now += why is Stop.STEPS
-        self.others += 1
-        if self.left and self.left[-1] == self.now:
-            self._found()
-        return why, after
 
     def _started_or_ended(self, service: Service, before: Registers, is_kept: bool) -> tuple[Stop, Registers]:
         """The step of a call that may start or end a process."""

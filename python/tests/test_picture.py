@@ -313,9 +313,26 @@ class Commands(unittest.TestCase):
                             ("too large", ["--ems", "513", "leak.com"]), ("too large", ["--xms", "15361", "leak.com"]), ("tail too long", ["--tail", " " * 127, "leak.com"]),
                             ("cannot write none/a.html", ["leak.com", "-o", "none/a.html"]), ("cannot write .", ["leak.com", "-o", "."]),
                             ("cannot write /dev/full", ["leak.com", "-o", "/dev/full"]), ("cannot read none", ["--input", "none", "leak.com"]),
-                            ("cannot write ", ["leak.com", "-o", "x" * 300])):
+                            ("cannot write ", ["leak.com", "-o", "x" * 300]), ("cannot write ''", ["leak.com", "-o", ""]), ("cannot read ''", [""]),
+                            ("cannot read ''", ["--input", "", "leak.com"]), ("the run reads it", ["leak.com", "-o", "leak.com"]),
+                            ("the run reads it", ["leak.com", "--input", "huge.com", "-o", "./huge.com"]), ("cannot write /", ["leak.com", "-o", "/"])):
             with self.subTest(word):
                 self.assert_refused(126, word, "picture", *words)
+
+    def test_where_it_cannot_be_written_is_known_before_the_run(self) -> None:
+        with open(os.path.join(self.folder.name, "loop.com"), "wb") as file:
+            file.write(mezguld.assemble("next: JMP next\n"))
+        began = time.monotonic()
+        self.assert_refused(126, "cannot write none/a.html", "picture", "loop.com", "--steps", str(2**63), "-o", "none/a.html")
+        self.assertLess(time.monotonic() - began, 20)
+
+    def test_other_calls(self) -> None:
+        # (A call that leaves memory's division as it is, with a finding at its step, and one at the limit.)
+        text = "MOV CX,3\nnext: MOV AH,2\nMOV DL,41h\nINT 21h\nLOOP next\nMOV AH,99h\nINT 21h\nMOV AX,4C00h\nINT 21h\n"
+        for steps in range(30):
+            data = picture.record(one(text), Options(steps=steps))
+            self.assertEqual((data["run"]["steps"], data["calls"]["others"]), (min(steps, 22), sum(steps >= it for it in (5, 10, 15, 19))), steps)
+            self.assertTrue({it["step"] for it in data["findings"]} <= {row[0] for row in data["moments"]})
 
     def test_nobody_reads_standard_output(self) -> None:
         for words, status, told in ((["-o", "a.html"], 0, b""), (["-o", "-"], 126, b"mezguld: cannot write standard output (Broken pipe)\n")):
