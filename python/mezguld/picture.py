@@ -8,6 +8,7 @@ from __future__ import annotations
 
 import contextlib
 import ctypes
+import functools
 import json
 import os
 import shlex
@@ -43,7 +44,7 @@ NAMES = {
 }
 TITLES = {DOS: "INT 21h", EXPANDED: "INT 67h", EXTENDED: "XMS"}
 # The lists that each service may change.
-LISTS = {DIVIDE: "MPX", TERMINATE: "MPX", DOS: "M", EXPANDED: "P", EXTENDED: "X"}
+LISTS = {DIVIDE: "M", TERMINATE: "M", DOS: "M", EXPANDED: "P", EXTENDED: "X"}
 CARRY = 1
 # How many calls wait at most.
 MOST_WAITING = 64
@@ -54,6 +55,8 @@ PLACES = {"M": 6, "P": 7, "X": 8}
 UNPACKED, PAIR, NEW = struct.Struct("<14H").unpack, struct.Struct("<HH").unpack_from, tuple.__new__
 # A record of more moments than this, or of more bytes as JSON (reckoned), is thinned: so a page has less than 4 MB.
 MOST_MOMENTS, MOST_SIZE = 24_000, 3_700_000
+# About how many bytes a process has as JSON.
+PROCESS_SIZE = 110
 AT_ONCE = ctypes.PyDLL(_library._name, handle=_library._handle)  # pylint: disable=protected-access
 STOPS = tuple(sorted(Stop, key=lambda it: it.value))
 COLUMNS = ("step", "name", "caller", "process", "text", "refused", "M", "P", "X")
@@ -78,6 +81,7 @@ class Options(NamedTuple):
     input: bytes = b""
 
 
+@functools.lru_cache(256)
 def shown(name: bytes) -> str:
     """Bytes as a text that can be read: control characters and bytes that are no text as escapes."""
     text = name.decode("utf-8", "backslashreplace")
@@ -385,6 +389,8 @@ class Recorder:
 
     def _settle(self) -> None:
         """The moments of the calls that wait. Many after one another take half the time that each takes between two steps of a program."""
+        if not self.waiting:
+            return
         waiting, self.waiting, process = self.waiting, [], self.running()
         for service, now, before, after, caller, listed in waiting:
             refused = service.refused(after)
@@ -417,7 +423,7 @@ class Recorder:
                     must.add(len(kept))
                 kept.append([*moment[:6], *(it.taken() for it in merged)])
         self.moments, self.must = kept, must
-        self.size = sum(map(size_of, kept))
+        self.size = sum(map(size_of, kept)) + PROCESS_SIZE * len({it[3] for it in kept})
         return len(kept) < before * 3 // 4
 
     # -- processes
@@ -426,6 +432,7 @@ class Recorder:
         psp = self.watched.registers().ds if psp is None else psp
         parent = self.alive[-1] if self.alive else None
         self.alive.append(len(self.processes))
+        self.size += PROCESS_SIZE
         self.processes.append({"name": name, "psp": psp, "start": self.now, "end": None, "how": "runs at the end", "parent": parent})
 
     def _end(self, how: str, is_resident: bool) -> None:
@@ -444,6 +451,20 @@ class Recorder:
             group[0] += 1
             group[1] += size
             group[2], group[3] = min(group[2], step), max(group[3], step)
+
+    def drop_processes(self) -> None:
+        """Leaves out the processes that made no call of which there is a moment, and that neither run nor kept anything."""
+        wanted = {0, *self.alive, *(it[3] for it in self.moments), *(it[4] for it in self.kept.values())}
+        # (A parent stands before its children.)
+        for number in range(len(self.processes) - 1, 0, -1):
+            if number in wanted:
+                wanted.add(self.processes[number]["parent"] or 0)
+        places = {number: place for place, number in enumerate(sorted(wanted))}
+        self.processes = [{**self.processes[it], "parent": places.get(self.processes[it]["parent"])} for it in places]
+        for it in self.moments:
+            it[3] = places[it[3]]
+        for it in self.kept.values():
+            it[4] = places[it[4]]
 
     # -- the run
 
@@ -483,8 +504,7 @@ class Recorder:
         # (A service that could not act is no step.)
         self.now += why is Stop.STEPS
         if self.left and self.left[-1] == self.now:
-            lists, must = "MPX", True
-            self.stale.clear()
+            lists, must = self._fresh("MPX"), True
         else:
             lists, must = self._fresh(service.lists) if is_kept else "", False
         if len(lists) <= 1:
@@ -518,11 +538,9 @@ class Recorder:
             self._start(call.program, after.ds)
         elif service.is_ending and why in (Stop.STEPS, Stop.EXITED):
             self._end(call.how(), service.is_resident)
-        if is_start or service.is_ending or is_found:
-            self.stale.clear()
-            self.look(call.caller, service.name, call.told(after, why, refused), "MPX", refused, is_found or len(self.must) < MOST_MOMENTS // 4, process)
-        elif is_kept:
-            self.look(call.caller, service.name, call.told(after, why, refused), self._fresh(service.lists), refused, process=process)
+        if is_start or service.is_ending or is_found or is_kept:
+            must = is_found or (is_start or service.is_ending) and len(self.must) < MOST_MOMENTS // 4
+            self.look(call.caller, service.name, call.told(after, why, refused), self._fresh(service.lists), refused, must, process)
         else:
             self.stale.update(service.lists)
         return why, after
@@ -717,7 +735,9 @@ def data(recorder: Recorder, programs: list[Program], options: Options, report: 
     """The data of a page, which docs/picture.md describes."""
     every, kept = recorder.every, len(recorder.moments)
     rule = f"Of {recorder.seen:,} calls about memory, one in {every:,} is shown, and besides these each at which the checker found something or a program"
-    rule += " starts or ends. What lived only between two of the shown ones is left out. The list of what was not freed counts all calls."
+    rule += " starts or ends. What lived only between two of the shown ones is left out, and so are processes that made none of them. The list of what was not freed counts all calls."
+    if every > 1:
+        recorder.drop_processes()
     why = {"process ended": "freed by the end of the process", "resident": "kept by a resident program", "run stopped": "allocated when the run stopped"}
     return {
         "format": FORMAT, "version": __version__,

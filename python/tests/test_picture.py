@@ -131,6 +131,26 @@ class Records(unittest.TestCase):
         self.assertEqual(data["processes"][1]["how"], "stays resident with 20h paragraphs, code 0")
         self.assertEqual([it["why"] for it in data["kept"]], ["kept by a resident program"])
 
+    def test_many_processes(self) -> None:
+        text = ("MOV SP,400h\nMOV AH,4Ah\nMOV BX,60h\nINT 21h\nMOV WORD [block+4],CS\nMOV CX,200\nnext: PUSH CX\nMOV AX,4B00h\nMOV DX,name\nPUSH CS\nPOP ES\nMOV BX,block\n"
+                "INT 21h\nPOP CX\nLOOP next\nMOV AX,4C00h\nINT 21h\nname: DB 'CHILD.COM',0\nblock: DW 0,80h,0,5Ch,0,6Ch,0\n")
+        programs = [*one(text), Program(b"CHILD.COM", mezguld.assemble("MOV AX,4C00h\nINT 21h\n"))]
+        whole = picture.record(programs)
+        self.assertEqual(len(whole["processes"]), 201)
+        self.assert_lists(whole, programs, Options())
+        with mock.patch.object(picture, "MOST_MOMENTS", 40):
+            data = picture.record(programs)
+        self.assertLess(len(data["processes"]), 40)
+        self.assert_lists(data, programs, Options())
+        ends = {(it["start"], it["end"], it["psp"], it["how"]) for it in whole["processes"]}
+        for it in data["processes"]:
+            self.assertIn((it["start"], it["end"], it["psp"], it["how"]), ends)
+        self.assertTrue(all(it["parent"] == 0 for it in data["processes"][1:]))
+        for row in data["moments"]:
+            maker = data["processes"][row[3] if len(row) > 3 else 0]
+            self.assertLessEqual(maker["start"], row[0])
+            self.assertGreaterEqual(maker["end"], row[0])
+
     def test_division_error_ends_a_process(self) -> None:
         data = picture.record(one("XOR BX,BX\nDIV BX\n"))
         self.assertEqual(data["processes"][0]["how"], "ended by a division error")
