@@ -499,11 +499,12 @@ class Recorder:
         is_kept = not self.seen % self.every
         if service.is_ending or service.is_load:
             return self._started_or_ended(service, before, is_kept)
-        caller = self.watched.caller(before, service.is_interrupt)[1] if is_kept or self.left or service.is_followed else ""
+        is_found = bool(self.left) and self.left[-1] == self.now + 1
+        caller = self.watched.caller(before, service.is_interrupt)[1] if is_kept or is_found or service.is_followed else ""
         why, after = self.watched.step()
         # (A service that could not act is no step.)
         self.now += why is Stop.STEPS
-        if self.left and self.left[-1] == self.now:
+        if is_found and self.left[-1] == self.now:
             lists, must = self._fresh("MPX"), True
         else:
             lists, must = self._fresh(service.lists) if is_kept else "", False
