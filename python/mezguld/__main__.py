@@ -4,6 +4,7 @@ from __future__ import annotations
 import argparse
 import contextlib
 import errno
+import gc
 import os
 import re
 import signal
@@ -41,14 +42,14 @@ def number(text: str) -> int:
 
 def shown(path: str) -> str:
     """A path as it is told."""
-    return picture.shown(os.fsencode(path))
+    return picture.shown(os.fsencode(path)) or "''"
 
 
-def bytes_of(path: str) -> bytes:
-    """The bytes of a file, or of standard input for an empty path."""
-    told = shown(path) if path else "standard input"
+def bytes_of(path: str | None) -> bytes:
+    """The bytes of a file, or of standard input without a path."""
+    told = "standard input" if path is None else shown(path)
     try:
-        if not path:
+        if path is None:
             data = sys.stdin.buffer.read(MOST_BYTES + 1) if sys.stdin is not None else b""
         else:
             with open(path, "rb") as file:
@@ -121,10 +122,32 @@ def made(work: Callable[[], Any], progress: object) -> Any:
     return result
 
 
+def output_of(options: argparse.Namespace) -> str:
+    """The file to write. What can be known before the run is a fault before it: no run takes its time in vain, and none writes over what it reads."""
+    output = ("memory.json" if options.json else "memory.html") if options.output is None else options.output
+    if output == "-":
+        return output
+    try:
+        folder = os.path.dirname(os.path.realpath(output)) if output else ""
+        if not os.path.isdir(folder):
+            raise FileNotFoundError(errno.ENOENT, os.strerror(errno.ENOENT))
+        if os.path.isdir(output):
+            raise IsADirectoryError(errno.EISDIR, os.strerror(errno.EISDIR))
+        read = [*options.files, *([] if options.input is None else [options.input])]
+        if os.path.exists(output) and any(os.path.samefile(output, it) for it in read if os.path.isfile(it)):
+            raise FileExistsError(errno.EEXIST, "the run reads it")
+    except (OSError, ValueError) as error:
+        raise Fault(f"cannot write {shown(output)} ({getattr(error, 'strerror', None) or error})") from error
+    return output
+
+
 def draw(options: argparse.Namespace) -> int:
     """The command `picture`."""
+    output = output_of(options)
     programs = programs_of(options.files)
-    console = bytes_of(options.input or "")
+    console = bytes_of(options.input)
+    # (A record has no cycles, and looking for them takes a tenth of the time.)
+    gc.disable()
     run = picture.Options(options.steps, options.ems, options.xms, options.upper, os.fsencode(options.tail), console)
     try:
         progress = picture.Progress()
@@ -132,7 +155,6 @@ def draw(options: argparse.Namespace) -> int:
     except Error as error:
         raise Fault(FAULTS.get(type(error), str(error))) from error
     text = picture.text_of(found) + "\n" if options.json else picture.page(found)
-    output = options.output or ("memory.json" if options.json else "memory.html")
     try:
         if output == "-":
             say(text)
@@ -141,18 +163,17 @@ def draw(options: argparse.Namespace) -> int:
     except (OSError, ValueError) as error:
         why = getattr(error, "strerror", None) or str(error)
         raise Fault(f"cannot write {'standard output' if output == '-' else shown(output)} ({why})") from error
-    errors = sum(1 + it["more"] for it in found["findings"] if it["kind"] == "error")
-    notes = sum(1 + it["more"] for it in found["findings"] if it["kind"] == "note")
+    summary = found["summary"]
     # (The file is there, whether or not anybody reads this line.)
     with contextlib.suppress(OSError):
-        say(f"{shown(output)}: {found['calls']['seen']} calls, errors: {errors}, notes: {notes}, {found['run']['end']['text']}\n")
+        say(f"{shown(output)}: {found['calls']['seen']} calls, errors: {summary['errors']}, notes: {summary['notes']}, {found['run']['end']['text']}\n")
     return 0
 
 
 def loaded(options: argparse.Namespace) -> Machine:
     """The machine with the first file loaded. Its input is that of a file; else it may still come."""
     programs = programs_of(options.files)
-    console = bytes_of("") if terminal.is_file() else b""
+    console = bytes_of(None) if terminal.is_file() else b""
     machine = Machine(ems_pages=options.ems, xms_kib=options.xms, upper=options.upper)
     for it in programs:
         machine.add(it.name, it.content)

@@ -8,27 +8,24 @@ from __future__ import annotations
 
 import contextlib
 import ctypes
+import functools
 import json
 import os
-import re
 import shlex
 import stat
 import struct
 import tempfile
-from concurrent.futures import ThreadPoolExecutor
 from typing import Any, Callable, Iterator, NamedTuple
 
-from . import Machine, Registers, Stop, __version__, _library, _PARAMETERS, _Point, _Registers, _Stopped, _check
-from . import findings as listed_in
+from . import Machine, Registers, Stop, __version__, _library, _Point, _Registers, _Stopped, _check
+from . import reports
 
 __all__ = ["Options", "Program", "data", "page", "record", "write"]
 
-FORMAT = 1
+FORMAT = 2
 # The entries of the services: a program that calls one is there before the service acts.
 DIVIDE, TERMINATE, DOS, EXPANDED, EXTENDED = (0xF000, 0x0000), (0xF000, 0x0080), (0xF000, 0x0084), (0xF100, 0x0020), (0xF000, 0x0400)
 ENTRIES = (DIVIDE, TERMINATE, DOS, EXPANDED, EXTENDED)
-# (Of equal pairs the one above, so that pairs are compared by `is`.)
-AT_ENTRIES = {entry: entry for entry in ENTRIES}
 NAMES = {
     DOS: {
         0x00: "Terminate Program", 0x31: "Keep Program", 0x48: "Allocate Memory", 0x49: "Free Allocated Memory", 0x4A: "Set Memory Block Size",
@@ -46,19 +43,23 @@ NAMES = {
     },
 }
 TITLES = {DOS: "INT 21h", EXPANDED: "INT 67h", EXTENDED: "XMS"}
-CALLS = {entry: {number: f"{TITLES[entry]} function {number:02X}h ({name})" for number, name in names.items()} for entry, names in NAMES.items()}
 # The lists that each service may change.
-LISTS = {DIVIDE: "MPX", TERMINATE: "MPX", DOS: "M", EXPANDED: "P", EXTENDED: "X"}
+LISTS = {DIVIDE: "M", TERMINATE: "M", DOS: "M", EXPANDED: "P", EXTENDED: "X"}
 CARRY = 1
+# How many calls wait at most.
+MOST_WAITING = 64
+# How many lines are tried by themselves.
+FEW_LINES, LINE_FEED = 4, 10
 # The places of the lists in a moment.
 PLACES = {"M": 6, "P": 7, "X": 8}
-UNPACKED, PAIR = struct.Struct("<14H").unpack, struct.Struct("<HH").unpack_from
+UNPACKED, PAIR, NEW = struct.Struct("<14H").unpack, struct.Struct("<HH").unpack_from, tuple.__new__
 # A record of more moments than this, or of more bytes as JSON (reckoned), is thinned: so a page has less than 4 MB.
 MOST_MOMENTS, MOST_SIZE = 24_000, 3_700_000
+# About how many bytes a process has as JSON.
+PROCESS_SIZE = 110
+AT_ONCE = ctypes.PyDLL(_library._name, handle=_library._handle)  # pylint: disable=protected-access
 STOPS = tuple(sorted(Stop, key=lambda it: it.value))
 COLUMNS = ("step", "name", "caller", "process", "text", "refused", "M", "P", "X")
-ENDS = {Stop.INPUT_ENDED: "input ended"}
-PLACE = re.compile(r"(?:header|block|destroyed) at ([0-9A-F]{4})")
 
 
 class Program(NamedTuple):
@@ -80,6 +81,7 @@ class Options(NamedTuple):
     input: bytes = b""
 
 
+@functools.lru_cache(256)
 def shown(name: bytes) -> str:
     """Bytes as a text that can be read: control characters and bytes that are no text as escapes."""
     text = name.decode("utf-8", "backslashreplace")
@@ -98,25 +100,54 @@ def loaded(programs: list[Program], options: Options) -> Machine:
 # ---- the checker's report
 
 
-def findings_of(report: str) -> list[dict[str, Any]]:
-    """The findings of a report of the checker, in their order, with how often each was repeated, as the page's data has them."""
-    found: list[dict[str, Any]] = []
-    for it in listed_in(report):
-        place = PLACE.search(it.text)
-        site = f"{'before ' if it.before else ''}{it.segment:04X}:{it.offset:04X}"
-        segment = place[1] if place else None
-        found.append({"kind": it.kind, "step": it.step, "site": site, "act": it.act, "text": it.text, "segment": segment, "more": it.more, "last": it.last})
-    return found
+class Report(NamedTuple):
+    """What the checker found: its findings in their order, how many there are in all, and how the run ended. The members are those of `dm check --json`; each
+    finding has besides how often it came again (`more`), and the step of the last time (`last`)."""
+
+    lines: list[str]
+    findings: list[dict[str, Any]]
+    summary: dict[str, int]
+    end: dict[str, Any]
+
+
+def report_of(lines: list[str], code: int) -> Report:
+    """The report of a checked run by its lines, and the exit code of a program that has ended."""
+    found: dict[str, dict[str, Any]] = {}
+    summary, end = {"errors": 0, "notes": 0, "not_listed": 0}, {}
+    for it in reports.objects(lines, code):
+        kind = it["type"]
+        if kind in ("error", "note"):
+            found[key_of(it)] = {**it, "more": 0, "last": it["step"]}
+        elif kind == "again":
+            found[key_of(it)].update(more=it["more"], last=it["last"])
+        elif kind == "not_listed":
+            summary["not_listed"] = it["findings"]
+        elif kind == "summary":
+            summary.update(errors=it["errors"], notes=it["notes"])
+        else:
+            end = it
+    text = f"ended with code {code}" if end["type"] == "exited" else f"stopped: {end['reason']}"
+    return Report(lines, list(found.values()), summary, {**end, "text": text})
+
+
+def key_of(finding: dict[str, Any]) -> str:
+    """What a finding and the line about its repetitions have alike."""
+    return json.dumps([value for name, value in finding.items() if name not in ("type", "more", "last")])
+
+
+def site_of(finding: dict[str, Any]) -> str:
+    """Where in its code the program performed the step of a finding, as the callers of calls are told."""
+    return f"{'before ' if finding['before'] else ''}{finding['at']}"
 
 
 # ---- a machine that is looked at often
 
 
-def by_address(name: str) -> Callable[..., int]:
-    """A function of the library to which pointers are given as numbers, which takes half the time."""
-    function = _library[name]
+def untyped(name: str, is_long: bool = False) -> Callable[..., int]:
+    """A function of the library that is given values which ctypes has made, whose types it does not look at: that takes half the time. Other threads run
+    only in a call that may be long."""
+    function = (_library if is_long else AT_ONCE)[name]
     function.restype = ctypes.c_uint32
-    function.argtypes = [{"I": ctypes.c_uint32, "Q": ctypes.c_uint64, "H": ctypes.c_uint16, "n": ctypes.c_size_t}.get(it, ctypes.c_void_p) for it in _PARAMETERS[name] if it != " "]
     return function
 
 
@@ -126,117 +157,141 @@ class Watched:
 
     def __init__(self, machine: Machine) -> None:
         self.machine = machine
-        points, self._stopped, self._registers = (_Point * len(ENTRIES))(*ENTRIES), _Stopped(), _Registers()
-        self._steps, self._wanted, self._few = ctypes.c_uint64(), ctypes.c_size_t(), ctypes.create_string_buffer(64)
-        self._room, self._size = ctypes.create_string_buffer(1 << 16), 1 << 16
+        self._stopped, self._registers, self._few = _Stopped(), _Registers(), ctypes.create_string_buffer(64)
+        self._limit, self._steps, self._wanted = ctypes.c_uint64(), ctypes.c_uint64(), ctypes.c_size_t()
+        points, self._few_size, self._segment, self._offset = (_Point * len(ENTRIES))(*ENTRIES), ctypes.c_size_t(), ctypes.c_uint16(), ctypes.c_uint16()
         lines = {name: ctypes.create_string_buffer(name.encode("ascii")) for name in "MPX"}
+
+        def at(it: Any) -> ctypes.c_void_p:
+            return ctypes.c_void_p(ctypes.addressof(it))
+
         # (What is pointed to lives as long as the addresses.)
-        self._kept = (points, lines)
-        at = ctypes.addressof
-        self._points, self._lines = at(points), {name: at(line) for name, line in lines.items()}
-        self._handle = at(machine._handle)  # pylint: disable=protected-access
-        self._places = at(self._stopped), at(self._registers), at(self._steps), at(self._wanted), at(self._few)
-        self._calls = tuple(by_address(f"mezguld_{name}") for name in ("run", "run_until", "steps", "registers", "read", "command", "answer"))
+        self._kept = points, lines
+        handle = at(machine._handle)  # pylint: disable=protected-access
+        self._handle, self._line = handle, {name: (handle, at(line), ctypes.c_size_t(1), at(self._wanted)) for name, line in lines.items()}
+        self._to_step, self._to_registers, self._to_steps = (handle, ctypes.c_uint64(1), at(self._stopped)), (handle, at(self._registers)), (handle, at(self._steps))
+        self._to_entry = handle, self._limit, at(points), ctypes.c_size_t(len(ENTRIES)), at(self._stopped)
+        self._to_read = handle, self._segment, self._offset, at(self._few), self._few_size
+        self._to_word_pair, self._to_byte = (*self._to_read[:4], ctypes.c_size_t(4)), (*self._to_read[:4], ctypes.c_size_t(1))
+        self._make_room(1 << 16)
+        self._run, self._run_until, self._ask_steps, self._ask_registers, self._read, self._command, self._answer = (
+            untyped(f"mezguld_{name}", name == "run_until") for name in ("run", "run_until", "steps", "registers", "read", "command", "answer")
+        )
         # The texts of callers, by the address after the call and whether an interrupt's instruction is before it.
         self._callers: dict[tuple[int, int, bool], str] = {}
 
+    def _make_room(self, size: int) -> None:
+        """Room for an answer."""
+        self._room, self._size = ctypes.create_string_buffer(size), size
+        self._to_answer = self._handle, ctypes.c_void_p(ctypes.addressof(self._room)), ctypes.c_size_t(size), ctypes.c_void_p(ctypes.addressof(self._wanted))
+
     def step(self) -> tuple[Stop, Registers]:
         """One step; why the run stopped, and the registers then."""
-        handle, (stopped, registers, _, _, _), calls = self._handle, self._places, self._calls
-        status = calls[0](handle, 1, stopped) or calls[3](handle, registers)
+        status = self._run(*self._to_step) or self._ask_registers(*self._to_registers)
         if status:
             _check(status)
-        return STOPS[self._stopped.why], tuple.__new__(Registers, UNPACKED(self._registers))
+        return STOPS[self._stopped.why], NEW(Registers, UNPACKED(self._registers))
 
     def run_until(self, steps: int) -> tuple[Stop, int, Registers]:
         """At most so many steps, up to the entry of a service; why the run stopped, and the steps so far and the registers then."""
-        handle, (stopped, registers, made, _, _), calls = self._handle, self._places, self._calls
-        status = calls[1](handle, steps, self._points, len(ENTRIES), stopped) or calls[2](handle, made) or calls[3](handle, registers)
+        self._limit.value = steps
+        status = self._run_until(*self._to_entry) or self._ask_steps(*self._to_steps) or self._ask_registers(*self._to_registers)
         if status:
             _check(status)
-        return STOPS[self._stopped.why], self._steps.value, tuple.__new__(Registers, UNPACKED(self._registers))
-
-    @property
-    def code(self) -> int:
-        """The exit code of the last run."""
-        return self._stopped.code
+        return STOPS[self._stopped.why], self._steps.value, NEW(Registers, UNPACKED(self._registers))
 
     def registers(self) -> Registers:
         """The registers."""
-        _check(self._calls[3](self._handle, self._places[1]))
-        return Registers._make(UNPACKED(self._registers))
+        _check(self._ask_registers(*self._to_registers))
+        return NEW(Registers, UNPACKED(self._registers))
 
     def read(self, segment: int, offset: int, count: int) -> bytes:
         """At most 64 bytes of memory."""
-        _check(self._calls[4](self._handle, segment, offset & 0xFFFF, self._places[4], count))
-        return self._few.raw[:count]
+        self._segment.value, self._offset.value, self._few_size.value = segment, offset & 0xFFFF, count
+        status = self._read(*self._to_read)
+        if status:
+            _check(status)
+        return self._few[:count]
 
     def caller(self, before: Registers, is_interrupt: bool) -> tuple[tuple[int, int], str]:
         """The address after a call, which the stack has, and the caller as a text: the instruction of the interrupt, if it was one."""
-        handle, few, read, at = self._handle, self._few, self._calls[4], self._places[4]
-        status = read(handle, before.ss, before.sp, at, 4)
+        segment, offset, few = self._segment, self._offset, self._few
+        segment.value, offset.value = before.ss, before.sp
+        status = self._read(*self._to_word_pair)
         ip, cs = PAIR(few)
         # (The interrupt's instruction has two bytes; a far call has others.)
         if is_interrupt:
-            status = status or read(handle, cs, (ip - 2) & 0xFFFF, at, 1)
+            segment.value, offset.value = cs, (ip - 2) & 0xFFFF
+            status = status or self._read(*self._to_byte)
             is_interrupt = few[0] == b"\xcd"
         if status:
             _check(status)
-        text = self._callers.get((cs, ip, is_interrupt))
+        key = cs, ip, is_interrupt
+        text = self._callers.get(key)
         if text is None:
-            text = f"{cs:04X}:{(ip - 2) & 0xFFFF:04X}" if is_interrupt else f"before {cs:04X}:{ip:04X}"
-            self._callers[cs, ip, is_interrupt] = text
+            text = self._callers[key] = f"{cs:04X}:{(ip - 2) & 0xFFFF:04X}" if is_interrupt else f"before {cs:04X}:{ip:04X}"
         return (cs, ip), text
 
     def listed(self, name: str) -> bytes:
         """The text of the list `M`, `P` or `X`."""
-        handle, wanted = self._handle, self._places[3]
-        status = self._calls[5](handle, self._lines[name], 1, wanted)
+        status = self._command(*self._line[name])
         if status:
             _check(status)
         size = self._wanted.value
         if size > self._size:
-            self._room, self._size = ctypes.create_string_buffer(2 * size), 2 * size
-        status = self._calls[6](handle, ctypes.addressof(self._room), self._size, wanted)
+            self._make_room(2 * size)
+        status = self._answer(*self._to_answer)
         if status:
             _check(status)
-        return ctypes.string_at(self._room, size)
+        return self._room[:size]
 
 
 # ---- what changed in a list
 
 
-def same_front(old: bytes, new: bytes) -> int:
-    """How many bytes at the front of both texts are the same."""
-    most = min(len(old), len(new))
-    # (Numbers are compared in one step each: the lowest bit that differs is in the first byte that does.)
-    number = int.from_bytes
-    differs = number(old[:most], "little") ^ number(new[:most], "little")
-    return ((differs & -differs).bit_length() - 1) // 8 if differs else most
+class Listing:
+    """A list of the debugger as it was when it was last looked at."""
+
+    def __init__(self) -> None:
+        self.text, self.number = b"", 0
+
+    def change(self, new: bytes) -> list[Any] | None:
+        """What makes the new list of the old one: the place of a line, how many lines go there, and those that come. None if nothing changed. Each line
+        ends with a line feed."""
+        old = self.text
+        if old == new:
+            return None
+        # (As numbers they are compared in one step: the lowest bit that differs is in the first byte that does.)
+        number = int.from_bytes(new, "little")
+        differs = number ^ self.number
+        self.text, self.number = new, number
+        front = old.rfind(b"\n", 0, ((differs & -differs).bit_length() - 1) >> 3) + 1
+        begin, count = same_end(old, new, front)
+        end = begin + len(new) - len(old)
+        return [old.count(b"\n", 0, front), count, new[front:end].decode("ascii").splitlines()]
 
 
-def same_end(old: bytes, new: bytes) -> int:
-    """How many bytes at the end of both texts are the same."""
-    most = min(len(old), len(new))
-    number = int.from_bytes
-    differs = number(old[len(old) - most :], "little") ^ number(new[len(new) - most :], "little")
-    return most - (differs.bit_length() + 7) // 8
+def is_line(text: bytes, at: int, front: int) -> bool:
+    """Whether a line begins here, as one does at the front."""
+    return at == front or text[at - 1] == LINE_FEED
 
 
-def splice_of(old: bytes, new: bytes) -> list[Any] | None:
-    """What makes the new list of the old one: the place of a line, how many lines go there, and those that come. None if nothing changed. Each
-    line ends with a line feed."""
-    if old == new:
-        return None
-    front = old.rfind(b"\n", 0, same_front(old, new)) + 1
-    at = len(new) - same_end(old[front:], new[front:])
-    begin = at - len(new) + len(old)
-    is_line = (at == front or new[at - 1 : at] == b"\n") and (begin == front or old[begin - 1 : begin] == b"\n")
-    if not is_line:
-        # (The next line after the first whole one that both have.)
-        at = (new.find(b"\n", at) + 1) or len(new)
-        begin = at - len(new) + len(old)
-    return [old.count(b"\n", 0, front), old.count(b"\n", front, begin), new[front:at].decode("ascii").splitlines()]
+def same_end(old: bytes, new: bytes, front: int) -> tuple[int, int]:
+    """Where the old text, behind the front that both have, begins to go on as the new one ends; and how many lines are between."""
+    longer, begin = len(new) - len(old), front
+    # (Mostly one or two lines of the old text are not in the new one.)
+    for count in range(FEW_LINES):
+        at = begin + longer
+        if (at == front or at > front and new[at - 1] == LINE_FEED) and old[begin:] == new[at:]:
+            return begin, count
+        begin = old.find(b"\n", begin) + 1 or len(old)
+    # (The highest bit that differs is in the last byte that does, where both end alike.)
+    most = min(len(old), len(new)) - front
+    differs = int.from_bytes(old[len(old) - most :], "little") ^ int.from_bytes(new[len(new) - most :], "little")
+    begin = len(old) - most + (differs.bit_length() + 7) // 8
+    if not (is_line(old, begin, front) and is_line(new, begin + longer, front)):
+        begin = old.find(b"\n", begin) + 1 or len(old)
+    return begin, old.count(b"\n", front, begin)
 
 
 class Merged:
@@ -289,14 +344,17 @@ def size_of(moment: list[Any]) -> int:
 
 
 class Recorder:
-    """The moments of a run, the processes, and what programs did not free."""
+    """The moments of a run, the processes, and what programs did not free. `now` is how many steps were made."""
 
     def __init__(self, watched: Watched, findings: list[dict[str, Any]], options: Options, first: bytes) -> None:
         self.watched, self.options = watched, options
         self.left = sorted({step for it in findings for step in (it["step"], it["last"]) if step})[::-1]
         self.acts = {it[key]: it for it in reversed(findings) for key in ("last", "step")}
-        self.numbers: dict[str, dict[str, int]] = {"names": {}, "callers": {}}
-        self.texts = dict.fromkeys("MPX", b"")
+        self.names: dict[str, int] = {}
+        self.callers: dict[str, int] = {}
+        self.lists = {name: Listing() for name in "MPX"}
+        # The calls whose moments are not there yet: what is known of each, and the list that it may have changed.
+        self.waiting: list[tuple[Service, int, Registers, Registers, str, bytes | None]] = []
         self.moments: list[list[Any]] = []
         # The places of the moments that are never left out.
         self.must: set[int] = set()
@@ -316,20 +374,35 @@ class Recorder:
 
     def look(self, caller: str, name: str, text: str, lists: str, refused: int = 0, must: bool = False, process: int | None = None) -> None:
         """Adds a moment: the lists as they are now, where these may have changed. The process is that which runs, if none is given."""
-        texts, listed = self.texts, self.watched.listed
-        process = self.running() if process is None else process
-        names, callers = self.numbers["names"], self.numbers["callers"]
-        # (A text's number is its place in the table.)
-        moment = [self.now, names.setdefault(name, len(names)), callers.setdefault(caller, len(callers)), process, text, refused, None, None, None]
-        for it in lists:
-            old, new = texts[it], listed(it)
-            if new != old:
-                moment[PLACES[it]] = splice_of(old, new)
-                texts[it] = new
+        self._settle()
+        changes = [self.lists[it].change(self.watched.listed(it)) if it in lists else None for it in "MPX"]
         if must:
             self.must.add(len(self.moments))
+        self._add(self.now, caller, name, text, refused, self.running() if process is None else process, changes)
+        self._thin_enough()
+
+    def _add(self, now: int, caller: str, name: str, text: str, refused: int, process: int, changes: list[Any]) -> None:
+        # (A text's number is its place in the table.)
+        moment = [now, self.names.setdefault(name, len(self.names)), self.callers.setdefault(caller, len(self.callers)), process, text, refused, *changes]
         self.moments.append(moment)
         self.size += size_of(moment)
+
+    def _settle(self) -> None:
+        """The moments of the calls that wait. Many after one another take half the time that each takes between two steps of a program."""
+        if not self.waiting:
+            return
+        waiting, self.waiting, process = self.waiting, [], self.running()
+        for service, now, before, after, caller, listed in waiting:
+            refused = service.refused(after)
+            if service.hold is not None and not refused:
+                service.hold(self, now, before, after, caller)
+            if listed is not None:
+                changes: list[Any] = [None, None, None]
+                changes["MPX".index(service.lists)] = self.lists[service.lists].change(listed)
+                self._add(now, caller, service.name, told(service, before, after, refused), refused, process, changes)
+        self._thin_enough()
+
+    def _thin_enough(self) -> None:
         while (len(self.moments) > MOST_MOMENTS or self.size > MOST_SIZE) and self.thin():
             pass
 
@@ -350,7 +423,7 @@ class Recorder:
                     must.add(len(kept))
                 kept.append([*moment[:6], *(it.taken() for it in merged)])
         self.moments, self.must = kept, must
-        self.size = sum(map(size_of, kept))
+        self.size = sum(map(size_of, kept)) + PROCESS_SIZE * len({it[3] for it in kept})
         return len(kept) < before * 3 // 4
 
     # -- processes
@@ -359,7 +432,8 @@ class Recorder:
         psp = self.watched.registers().ds if psp is None else psp
         parent = self.alive[-1] if self.alive else None
         self.alive.append(len(self.processes))
-        self.processes.append({"name": name, "psp": f"{psp:04X}", "start": self.now, "end": None, "how": "runs at the end", "parent": parent})
+        self.size += PROCESS_SIZE
+        self.processes.append({"name": name, "psp": psp, "start": self.now, "end": None, "how": "runs at the end", "parent": parent})
 
     def _end(self, how: str, is_resident: bool) -> None:
         if not self.alive:
@@ -378,186 +452,231 @@ class Recorder:
             group[1] += size
             group[2], group[3] = min(group[2], step), max(group[3], step)
 
+    def drop_processes(self) -> None:
+        """Leaves out the processes that made no call of which there is a moment, and that neither run nor kept anything."""
+        wanted = {0, *self.alive, *(it[3] for it in self.moments), *(it[4] for it in self.kept.values())}
+        # (A parent stands before its children.)
+        for number in range(len(self.processes) - 1, 0, -1):
+            if number in wanted:
+                wanted.add(self.processes[number]["parent"] or 0)
+        places = {number: place for place, number in enumerate(sorted(wanted))}
+        self.processes = [{**self.processes[it], "parent": places.get(self.processes[it]["parent"])} for it in places]
+        for it in self.moments:
+            it[3] = places[it[3]]
+        for it in self.kept.values():
+            it[4] = places[it[4]]
+
     # -- the run
 
-    def run(self) -> dict[str, Any]:
-        """Runs the program to its end, to another stop or to the limit of steps, and returns how it ended."""
+    def run(self) -> None:
+        """Runs the program to its end, to another stop or to the limit of steps."""
         why, registers = Stop.STEPS, self.watched.registers()
         while (why is Stop.STEPS or why is Stop.BREAKPOINT) and self.now < self.options.steps:
             while self.left and self.left[-1] <= self.now:
                 self.left.pop()
-            entry = AT_ENTRIES.get((registers.cs, registers.ip))
-            # (A run does not stop at a breakpoint where it begins.)
-            if entry is not None:
-                why, registers = self._service(entry, registers)
-                continue
+            services = SERVICES.get((registers.cs, registers.ip))
+            if services is not None:
+                service = services.get(registers.ax >> 8)
+                if service is not None and (registers.ax & 1 or not service.is_odd):
+                    why, registers = self._service(service, registers)
+                    continue
+                # (This call leaves memory's division as it is. A run does not stop at a breakpoint where it begins.)
+                self.others += 1
             limit = min(self.left[-1], self.options.steps) if self.left else self.options.steps
             why, self.now, registers = self.watched.run_until(limit - self.now)
             if self.left and self.left[-1] == self.now:
                 self._found()
-        return self._ended(why)
+        self._ended(why)
 
     def _found(self) -> None:
         """A moment for a finding that no call of memory has."""
         found = self.acts[self.now]
-        self.look(found["site"], found["act"], found["text"], "MPX", must=True)
+        self.look(site_of(found), found.get("call") or found["instruction"], found["text"], "MPX", must=True)
 
-    def _service(self, entry: tuple[int, int], before: Registers) -> tuple[Stop, Registers]:
-        """The step of a service, with a look after it where it may change memory's division; and the registers then."""
-        function = before.ax >> 8
-        names = NAMES.get(entry)
-        is_known = names is None or function in names and (function != 0x58 or entry is not DOS or before.ax & 1)
-        is_kept = (self.seen + 1) % self.every == 0
-        call = Call(self.watched, entry, before, is_kept or bool(self.left)) if is_known else None
+    def _service(self, service: Service, before: Registers) -> tuple[Stop, Registers]:
+        """The step of a service that may change memory's division, with a look after it; and the registers then."""
+        self.seen += 1
+        is_kept = not self.seen % self.every
+        if service.is_ending or service.is_load:
+            return self._started_or_ended(service, before, is_kept)
+        is_found = bool(self.left) and self.left[-1] == self.now + 1
+        caller = self.watched.caller(before, service.is_interrupt)[1] if is_kept or is_found or service.is_followed else ""
         why, after = self.watched.step()
         # (A service that could not act is no step.)
-        self.now += why is Stop.STEPS or why is Stop.EXITED
-        is_found = bool(self.left) and self.left[-1] == self.now
-        if call is not None:
-            self._called(call, after, why, is_found)
+        self.now += why is Stop.STEPS
+        if is_found and self.left[-1] == self.now:
+            lists, must = self._fresh("MPX"), True
         else:
-            self.others += 1
-            if is_found:
-                self._found()
+            lists, must = self._fresh(service.lists) if is_kept else "", False
+        if len(lists) <= 1:
+            self.waiting.append((service, self.now, before, after, caller, self.watched.listed(lists) if lists else None))
+            self.stale.update("" if lists else service.lists)
+            if len(self.waiting) == MOST_WAITING or len(self.moments) + len(self.waiting) > MOST_MOMENTS:
+                self._settle()
+        else:
+            self.waiting.append((service, self.now, before, after, caller, None))
+            refused = service.refused(after)
+            self.look(caller, service.name, told(service, before, after, refused), lists, refused, must=must)
         return why, after
 
-    def _called(self, call: Call, after: Registers, why: Stop, is_found: bool) -> None:
-        """A moment for a call, unless it is left out."""
-        self.seen += 1
-        call.is_start = call.has_started(after)
-        refused = call.refused(after)
-        must = call.is_ending or is_found or call.is_start
-        is_kept = must or self.seen % self.every == 0
-        text = call.result(after, why, refused) if is_kept else ""
-        process = self.running()
-        self._follow(call, after, refused, why)
-        lists = LISTS[call.entry]
-        if not is_kept:
-            self.stale.update(lists)
-            return
-        if must:
-            lists = "MPX"
-        elif self.stale:
-            lists = "".join(it for it in "MPX" if it in self.stale or it in lists)
+    def _fresh(self, lists: str) -> str:
+        """These lists, and those that calls which were left out may have changed."""
+        if not self.stale:
+            return lists
+        lists = "".join(it for it in "MPX" if it in self.stale or it in lists)
         self.stale.clear()
-        self.look(call.caller, call.name, text, lists, refused, is_found or must and len(self.must) < MOST_MOMENTS // 4, process)
+        return lists
 
-    def _follow(self, call: Call, after: Registers, refused: int, why: Stop) -> None:
-        """Keeps in mind which process runs, and what it holds."""
-        before, function = call.before, call.function
-        if call.is_ending:
-            if why in (Stop.STEPS, Stop.EXITED):
-                self._end(call.how(), call.is_resident)
-        elif call.is_start:
+    def _started_or_ended(self, service: Service, before: Registers, is_kept: bool) -> tuple[Stop, Registers]:
+        """The step of a call that may start or end a process."""
+        self._settle()
+        call, process = Call(self.watched, service, before), self.running()
+        why, after = self.watched.step()
+        self.now += why is Stop.STEPS or why is Stop.EXITED
+        is_found, is_start = bool(self.left) and self.left[-1] == self.now, call.has_started(after)
+        refused = 0 if service.is_ending or is_start else service.refused(after)
+        if is_start:
             self._start(call.program, after.ds)
-        elif call.entry is DOS and not refused:
-            if function == 0x48:
-                self.held[after.ax] = (call.caller, self.now, before.bx, self.running())
-            elif function == 0x49:
-                self.held.pop(before.es, None)
-            elif function == 0x4A and before.es in self.held:
-                caller, step, _, process = self.held[before.es]
-                self.held[before.es] = (caller, step, before.bx, process)
+        elif service.is_ending and why in (Stop.STEPS, Stop.EXITED):
+            self._end(call.how(), service.is_resident)
+        if is_start or service.is_ending or is_found or is_kept:
+            must = is_found or (is_start or service.is_ending) and len(self.must) < MOST_MOMENTS // 4
+            self.look(call.caller, service.name, call.told(after, why, refused), self._fresh(service.lists), refused, must, process)
+        else:
+            self.stale.update(service.lists)
+        return why, after
 
-    def _ended(self, why: Stop) -> dict[str, Any]:
+    # -- what function 48h gave
+
+    def allocated(self, now: int, before: Registers, after: Registers, caller: str) -> None:
+        """Notes a block."""
+        self.held[after.ax] = (caller, now, before.bx, self.running())
+
+    def freed(self, _: int, before: Registers, *__: object) -> None:
+        """Forgets a block."""
+        self.held.pop(before.es, None)
+
+    def resized(self, _: int, before: Registers, *__: object) -> None:
+        """Notes a block's new size."""
+        if before.es in self.held:
+            caller, step, _size, process = self.held[before.es]
+            self.held[before.es] = (caller, step, before.bx, process)
+
+    def _ended(self, why: Stop) -> None:
+        self._settle()
         self._keep(list(self.held), "run stopped")
-        if why is Stop.EXITED:
-            return {"why": "exited", "code": self.watched.code, "text": f"ended with code {self.watched.code}"}
-        word = ENDS.get(why, why.name.lower())
-        self.look("", f"the run stops: {word}", "", "MPX", must=True)
-        return {"why": word, "code": None, "text": f"stopped: {word}"}
+        if why is not Stop.EXITED:
+            self.look("", f"the run stops: {why.name.lower().replace('_', ' ')}", "", "MPX", must=True)
+
+
+# ---- what calls are asked, and what they give
+
+
+def dos_refused(after: Registers) -> int:
+    """The code with which a call of DOS was refused, or 0."""
+    return after.ax if after.flags & CARRY else 0
+
+
+def expanded_refused(after: Registers) -> int:
+    """The status of a call of the expanded memory driver."""
+    return after.ax >> 8
+
+
+def extended_refused(after: Registers) -> int:
+    """The code with which a call of the extended memory driver was refused, or 0."""
+    return 0 if after.ax else (after.bx & 0xFF) or 0x80
+
+
+REFUSED = {DOS: dos_refused, EXPANDED: expanded_refused, EXTENDED: extended_refused}
+# What a call was asked and gave, by the registers before it and after it, and whether it was refused.
+TEXTS: dict[tuple[int, int], dict[int, Callable[[Registers, Registers, int], str]]] = {
+    DOS: {
+        0x48: lambda before, after, code: f"{before.bx:X}h paragraphs" + ("" if code else f": block at {after.ax:04X}"),
+        0x49: lambda before, after, code: f"block at {before.es:04X}",
+        0x4A: lambda before, after, code: f"block at {before.es:04X} to {before.bx:X}h paragraphs",
+        0x58: lambda before, after, code: f"{'link of upper memory' if before.ax & 2 else 'strategy'} {before.bx:02X}h",
+    },
+    EXPANDED: {
+        0x43: lambda before, after, code: f"{before.bx} pages" + ("" if code else f": handle {after.dx}"),
+        0x44: lambda before, after, code: f"window {before.ax & 0xFF}: " + ("no page" if before.bx == 0xFFFF else f"page {before.bx} of handle {before.dx}"),
+        0x4E: lambda before, after, code: "page map",
+        0x50: lambda before, after, code: f"{before.cx} windows: handle {before.dx}",
+        0x51: lambda before, after, code: f"handle {before.dx} to {before.bx} pages",
+    },
+    EXTENDED: {
+        **dict.fromkeys(range(0x01, 0x07), lambda before, after, code: ""),
+        0x09: lambda before, after, code: f"{before.dx} KiB" + ("" if code else f": handle {after.dx}"),
+        0x0F: lambda before, after, code: f"handle {before.dx} to {before.bx} KiB",
+        0x10: lambda before, after, code: f"{before.dx:X}h paragraphs" + ("" if code else f": block at {after.bx:04X}"),
+        0x11: lambda before, after, code: f"block at {before.dx:04X}",
+        0x12: lambda before, after, code: f"block at {before.dx:04X} to {before.bx:X}h paragraphs",
+    },
+}
+
+
+class Service:
+    """A function of a service: what is known of each call of it."""
+
+    def __init__(self, entry: tuple[int, int], function: int) -> None:
+        self.entry, self.function, self.lists, self.is_interrupt = entry, function, LISTS[entry], entry is not EXTENDED
+        if entry in NAMES:
+            self.name = f"{TITLES[entry]} function {function:02X}h ({NAMES[entry][function]})"
+        else:
+            self.name = "INT 20h" if entry is TERMINATE else "interrupt 0"
+        number = function if entry is DOS else None
+        self.is_resident, self.is_load, self.is_ending = number == 0x31, number == 0x4B, entry not in NAMES or number in (0x00, 0x31, 0x4C)
+        # Whether only calls with an odd AL may change memory's division; whether the caller is wanted where nobody is told of the call.
+        self.is_odd, self.is_followed = number == 0x58, number == 0x48
+        self.hold = {0x48: Recorder.allocated, 0x49: Recorder.freed, 0x4A: Recorder.resized}.get(number)
+        self.refused = REFUSED.get(entry)
+        self.text = TEXTS.get(entry, {}).get(function, lambda before, after, code: f"handle {before.dx}")
+
+
+# The services by their entries, and by the number in AH.
+SERVICES = {entry: {number: Service(entry, number) for number in NAMES.get(entry, range(0x100))} for entry in ENTRIES}
+
+
+def told(service: Service, before: Registers, after: Registers, code: int) -> str:
+    """What a call was asked and what it gave."""
+    text = service.text(before, after, code)
+    return f"{text}{': ' if text else ''}{refusal(service, after, code)}" if code else text
+
+
+def refusal(service: Service, after: Registers, code: int) -> str:
+    """That a call was refused."""
+    largest = f", largest {after.bx:X}h" if code == 8 and service.entry is DOS and service.function in (0x48, 0x4A) else ""
+    return f"refused with code {code:02X}h{largest}"
 
 
 class Call:
-    """A call of a service, from its entry on."""
+    """A call that may start or end a process, from the service's entry on."""
 
-    def __init__(self, watched: Watched, entry: tuple[int, int], before: Registers, is_told: bool) -> None:
-        """Where nobody will be told of the call, its caller is read for an allocation alone."""
-        self.entry, self.before, self.function = entry, before, before.ax >> 8
-        is_dos = entry is DOS
-        self.is_resident = is_dos and self.function == 0x31
-        self.is_ending = entry not in NAMES or is_dos and self.function in (0x00, 0x31, 0x4C)
-        self.is_load = is_dos and self.function == 0x4B
-        # (Whether the call started a program is known after it.)
-        self.caller, self.program, self.at, self.is_start = "", "", 0, False
-        if is_told or self.is_ending or is_dos and self.function in (0x48, 0x4B):
-            self.back, self.caller = watched.caller(before, entry != EXTENDED)
-        if self.is_load:
+    def __init__(self, watched: Watched, service: Service, before: Registers) -> None:
+        self.service, self.before, self.program, self.at = service, before, "", 0
+        self.back, self.caller = watched.caller(before, service.is_interrupt)
+        if service.is_load:
             self.program = shown(watched.read(before.ds, before.dx, 64).split(b"\0")[0])
             (self.at,) = struct.unpack("<H", watched.read(before.es, before.bx, 2))
 
-    @property
-    def name(self) -> str:
-        """The call in words."""
-        if self.entry in NAMES:
-            return CALLS[self.entry][self.function]
-        return "INT 20h" if self.entry == TERMINATE else "interrupt 0"
-
     def has_started(self, after: Registers) -> bool:
         """Whether the call started a program: then it has not returned."""
-        return self.is_load and not self.before.ax & 0xFF and (after.cs, after.ip) != self.back
+        return self.service.is_load and not self.before.ax & 0xFF and (after.cs, after.ip) != self.back
 
     def how(self) -> str:
         """How a call ends its process."""
-        if self.entry == DIVIDE:
+        before, service = self.before, self.service
+        if service.entry is DIVIDE:
             return "ended by a division error"
-        if self.is_resident:
-            return f"stays resident with {self.before.dx:X}h paragraphs, code {self.before.ax & 0xFF}"
-        return f"ended with code {self.before.ax & 0xFF if self.function == 0x4C and self.entry == DOS else 0}"
+        if service.is_resident:
+            return f"stays resident with {before.dx:X}h paragraphs, code {before.ax & 0xFF}"
+        return f"ended with code {before.ax & 0xFF if service.entry is DOS and service.function == 0x4C else 0}"
 
-    def refused(self, after: Registers) -> int:
-        """The code with which the call was refused, or 0."""
-        if self.is_ending or self.is_start:
-            return 0
-        if self.entry is DOS:
-            return after.ax if after.flags & CARRY else 0
-        if self.entry is EXPANDED:
-            return after.ax >> 8
-        return 0 if after.ax else (after.bx & 0xFF) or 0x80
-
-    def result(self, after: Registers, why: Stop, code: int) -> str:
+    def told(self, after: Registers, why: Stop, code: int) -> str:
         """What the call was asked and what it gave."""
-        if self.is_ending:
+        if self.service.is_ending:
             return self.how() if why in (Stop.STEPS, Stop.EXITED) else f"{self.how()}: {why.name.lower()}"
-        text = (self._dos if self.entry is DOS else self._expanded if self.entry is EXPANDED else self._extended)(after, code)
-        if not code:
-            return text
-        largest = f", largest {after.bx:X}h" if self.entry == DOS and self.function in (0x48, 0x4A) and code == 8 else ""
-        return f"{text}{': ' if text else ''}refused with code {code:02X}h{largest}"
-
-    def _dos(self, after: Registers, code: int) -> str:
-        before, function = self.before, self.function
-        if function == 0x48:
-            return f"{before.bx:X}h paragraphs" + ("" if code else f": block at {after.ax:04X}")
-        if function == 0x49:
-            return f"block at {before.es:04X}"
-        if function == 0x4A:
-            return f"block at {before.es:04X} to {before.bx:X}h paragraphs"
-        if function == 0x4B:
-            return f"overlay {self.program} at {self.at:04X}" if before.ax & 0xFF == 3 else f"starts {self.program}"
-        return f"{'link of upper memory' if before.ax & 2 else 'strategy'} {before.bx:02X}h"
-
-    def _expanded(self, after: Registers, code: int) -> str:
-        before, handle = self.before, f"handle {self.before.dx}"
-        if self.function == 0x43:
-            return f"{before.bx} pages" + ("" if code else f": handle {after.dx}")
-        if self.function == 0x44:
-            return f"window {before.ax & 0xFF}: " + ("no page" if before.bx == 0xFFFF else f"page {before.bx} of {handle}")
-        return {0x4E: "page map", 0x50: f"{before.cx} windows: {handle}", 0x51: f"{handle} to {before.bx} pages"}.get(self.function, handle)
-
-    def _extended(self, after: Registers, code: int) -> str:
-        before, function = self.before, self.function
-        if function <= 0x06:
-            return ""
-        if function == 0x09:
-            return f"{before.dx} KiB" + ("" if code else f": handle {after.dx}")
-        if function == 0x0F:
-            return f"handle {before.dx} to {before.bx} KiB"
-        if function == 0x10:
-            return f"{before.dx:X}h paragraphs" + ("" if code else f": block at {after.bx:04X}")
-        if function == 0x12:
-            return f"block at {before.dx:04X} to {before.bx:X}h paragraphs"
-        return f"block at {before.dx:04X}" if function == 0x11 else f"handle {before.dx}"
+        text = f"overlay {self.program} at {self.at:04X}" if self.before.ax & 0xFF == 3 else f"starts {self.program}"
+        return f"{text}: {refusal(self.service, after, code)}" if code else text
 
 
 # ---- data and page
@@ -577,31 +696,24 @@ def command_of(options: Options, files: list[str], input_file: str | None) -> st
     return line if input_file is not None or options.input else f"{line} </dev/null"
 
 
-def _checked(programs: list[Program], options: Options) -> str:
+def _checked(programs: list[Program], options: Options) -> Report:
     """The report of a checked run."""
     with loaded(programs, options) as machine:
-        return machine.check(options.steps)[1]
+        stopped, text = machine.check(options.steps)
+        return report_of(text.splitlines(), stopped.code)
 
 
 class Progress:
     """How far a record is, for another thread."""
 
     def __init__(self) -> None:
-        self.what, self.recorder = "", None
+        self.recorder: Recorder | None = None
 
     def __str__(self) -> str:
-        recorder: Recorder | None = self.recorder
+        recorder = self.recorder
         if recorder is None:
-            return self.what
-        return f"{self.what}: {recorder.now:,} of at most {recorder.options.steps:,} steps, {recorder.seen:,} calls about memory"
-
-
-def _traced(programs: list[Program], options: Options, findings: list[dict[str, Any]], progress: Progress) -> tuple[Recorder, dict[str, Any], int]:
-    """The record of a run with looks at its calls and at the steps of findings, how it ended, and its steps."""
-    with loaded(programs, options) as machine:
-        progress.what = "second run" if findings else "first run"
-        recorder = progress.recorder = Recorder(Watched(machine), findings, options, programs[0].name)
-        return recorder, recorder.run(), machine.steps
+            return "first run, under the checker"
+        return f"second run: {recorder.now:,} of at most {recorder.options.steps:,} steps, {recorder.seen:,} calls about memory"
 
 
 def record(
@@ -612,43 +724,37 @@ def record(
     The errors are those of `Machine`, `Machine.add` and `Machine.load`.
     """
     progress = Progress() if progress is None else progress
-    with ThreadPoolExecutor(1) as pool:
-        checked = pool.submit(_checked, programs, options)
-        traced = _traced(programs, options, [], progress)
-        progress.what, progress.recorder = "checked run", None
-        report = checked.result()
-    findings = findings_of(report)
-    if findings:
-        # (Their steps are looked at too.)
-        traced = _traced(programs, options, findings, progress)
-    recorder, end, steps = traced
-    return data(recorder, programs, options, report, findings, end, steps, command_of(options, files or [shown(it.name) for it in programs], input_file))
+    # (The steps of what the checker finds are looked at too, so they are known before.)
+    report = _checked(programs, options)
+    with loaded(programs, options) as machine:
+        recorder = progress.recorder = Recorder(Watched(machine), report.findings, options, programs[0].name)
+        recorder.run()
+    return data(recorder, programs, options, report, command_of(options, files or [shown(it.name) for it in programs], input_file))
 
 
-def data(
-    recorder: Recorder, programs: list[Program], options: Options, report: str, findings: list[dict[str, Any]], end: dict[str, Any], steps: int,
-    command: str,
-) -> dict[str, Any]:
+def data(recorder: Recorder, programs: list[Program], options: Options, report: Report, command: str) -> dict[str, Any]:
     """The data of a page, which docs/picture.md describes."""
     every, kept = recorder.every, len(recorder.moments)
     rule = f"Of {recorder.seen:,} calls about memory, one in {every:,} is shown, and besides these each at which the checker found something or a program"
-    rule += " starts or ends. What lived only between two of the shown ones is left out. The list of what was not freed counts all calls."
+    rule += " starts or ends. What lived only between two of the shown ones is left out, and so are processes that made none of them. The list of what was not freed counts all calls."
+    if every > 1:
+        recorder.drop_processes()
     why = {"process ended": "freed by the end of the process", "resident": "kept by a resident program", "run stopped": "allocated when the run stopped"}
     return {
         "format": FORMAT, "version": __version__,
         "run": {
             "command": command, "files": [{"name": shown(it.name), "bytes": len(it.content)} for it in programs],
             "options": {"steps": options.steps, "ems": options.ems, "xms": options.xms, "upper": bool(options.upper), "tail": shown(options.tail)},
-            "input": len(options.input), "steps": steps, "end": end,
+            "input": len(options.input), "steps": recorder.now, "end": report.end,
         },
-        "report": report.splitlines(), "findings": findings,
+        "report": report.lines, "findings": report.findings, "summary": report.summary,
         "calls": {"seen": recorder.seen, "others": recorder.others, "shown": kept, "every": every, "rule": rule if every > 1 else None},
         "processes": recorder.processes,
         "kept": [
             {"caller": caller, "process": process, "why": why[word], "is_leak": word == "process ended", "blocks": count, "paragraphs": size, "first": first, "last": last}
             for (caller, _, word), (count, size, first, last, process) in sorted(recorder.kept.items(), key=lambda it: -it[1][1])
         ],
-        "names": list(recorder.numbers["names"]), "callers": list(recorder.numbers["callers"]),
+        "names": list(recorder.names), "callers": list(recorder.callers),
         "columns": COLUMNS, "moments": [short(it) for it in recorder.moments],
     }
 

@@ -74,13 +74,32 @@ class Records(unittest.TestCase):
                 self.assert_lists(picture.record(programs, options), programs, options)
 
     def test_findings(self) -> None:
+        # (docs/manual.md has the lines of `dm check --json` for the same program.)
         data = picture.record(programs_of(["overrun"]))
-        self.assertEqual([(it["kind"], it["step"], it["site"], it["act"], it["segment"]) for it in data["findings"]], [
-            ("error", 34, "0103:0121", "REP STOSB", "0145"), ("error", 34, "0103:0121", "REP STOSB", "0145"),
-            ("note", 37, "0103:0125", "INT 21h function 49h (Free Allocated Memory)", None),
+        place = {"step": 34, "at": "0103:0121", "cs": 259, "ip": 289, "before": False, "instruction": "REP STOSB", "header": 325}
+        old, new = {"signature": 77, "owner": 259, "size": 1}, {"signature": 42, "owner": 259, "size": 1}
+        call = {"interrupt": 33, "function": 73, "code": 7, "text": "refused with code 07h, no valid block list"}
+        once = {"more": 0, "last": 34}
+        self.assertEqual(data["findings"], [
+            {"type": "error", "kind": "overwritten", **place, "old": old, "new": new, "text": "header at 0145 overwritten: 4D 0103 0001 became 2A 0103 0001", **once},
+            {"type": "error", "kind": "destroyed", **place, "text": "arena destroyed at 0145", **once},
+            {"type": "note", "kind": "refused", "step": 37, "at": "0103:0125", "cs": 259, "ip": 293, "before": False,
+             "call": "INT 21h function 49h (Free Allocated Memory)", **call, "more": 0, "last": 37},
         ])
+        self.assertEqual(data["summary"], {"errors": 2, "notes": 1, "not_listed": 0})
         self.assertTrue({it["step"] for it in data["findings"]} <= {row[0] for row in data["moments"]})
-        self.assertEqual(data["run"]["end"], {"why": "destroyed", "code": None, "text": "stopped: destroyed"})
+        self.assertEqual(data["run"]["end"], {
+            "type": "stopped", "reason": "destroyed", "at": "0103:012A", "cs": 259, "ip": 298, "before": False, "call": "INT 21h function 4Ch (End Program)",
+            "interrupt": 33, "function": 76, "text": "stopped: destroyed",
+        })
+
+    def test_more_findings_than_are_listed(self) -> None:
+        # (Each turn writes to the header of another block, which is then mended; 1,000 findings are listed.)
+        text = ("MOV SP,400h\nMOV AH,4Ah\nMOV BX,40h\nINT 21h\nMOV CX,1500\nMOV BX,100h\nnext: MOV AH,49h\nMOV ES,BX\nINT 21h\nINC BX\nINC WORD [at]\nLOOP next\n"
+                "MOV AX,4C00h\nINT 21h\nat: DW 0\n")
+        data = picture.record(one(text))
+        count = data["summary"]["errors"] + data["summary"]["notes"]
+        self.assertEqual(sum(1 + it["more"] for it in data["findings"]) + data["summary"]["not_listed"], count)
 
     def test_interrupt_whose_stack_is_a_header(self) -> None:
         # (The finding is at the step of the INT, which leads to a service at once.)
@@ -112,6 +131,26 @@ class Records(unittest.TestCase):
         self.assertEqual(data["processes"][1]["how"], "stays resident with 20h paragraphs, code 0")
         self.assertEqual([it["why"] for it in data["kept"]], ["kept by a resident program"])
 
+    def test_many_processes(self) -> None:
+        text = ("MOV SP,400h\nMOV AH,4Ah\nMOV BX,60h\nINT 21h\nMOV WORD [block+4],CS\nMOV CX,200\nnext: PUSH CX\nMOV AX,4B00h\nMOV DX,name\nPUSH CS\nPOP ES\nMOV BX,block\n"
+                "INT 21h\nPOP CX\nLOOP next\nMOV AX,4C00h\nINT 21h\nname: DB 'CHILD.COM',0\nblock: DW 0,80h,0,5Ch,0,6Ch,0\n")
+        programs = [*one(text), Program(b"CHILD.COM", mezguld.assemble("MOV AX,4C00h\nINT 21h\n"))]
+        whole = picture.record(programs)
+        self.assertEqual(len(whole["processes"]), 201)
+        self.assert_lists(whole, programs, Options())
+        with mock.patch.object(picture, "MOST_MOMENTS", 40):
+            data = picture.record(programs)
+        self.assertLess(len(data["processes"]), 40)
+        self.assert_lists(data, programs, Options())
+        ends = {(it["start"], it["end"], it["psp"], it["how"]) for it in whole["processes"]}
+        for it in data["processes"]:
+            self.assertIn((it["start"], it["end"], it["psp"], it["how"]), ends)
+        self.assertTrue(all(it["parent"] == 0 for it in data["processes"][1:]))
+        for row in data["moments"]:
+            maker = data["processes"][row[3] if len(row) > 3 else 0]
+            self.assertLessEqual(maker["start"], row[0])
+            self.assertGreaterEqual(maker["end"], row[0])
+
     def test_division_error_ends_a_process(self) -> None:
         data = picture.record(one("XOR BX,BX\nDIV BX\n"))
         self.assertEqual(data["processes"][0]["how"], "ended by a division error")
@@ -125,11 +164,11 @@ class Records(unittest.TestCase):
                                 ("handle 7: refused with code A2h", 0xA2)])
 
     def test_stops(self) -> None:
-        for text, options, end in (("next: JMP next\n", Options(steps=1000), "steps"), ("HLT\n", Options(), "halted"), ("MOV AH,1\nINT 21h\n", Options(), "input ended"),
+        for text, options, why in (("next: JMP next\n", Options(steps=1000), "steps"), ("HLT\n", Options(), "halted"), ("MOV AH,1\nINT 21h\n", Options(), "input ended"),
                                    ("DB 0Fh,0FFh\n", Options(), "unlisted"), ("NOP\n", Options(steps=0), "steps")):
-            with self.subTest(end):
+            with self.subTest(why):
                 data = picture.record(one(text), options)
-                self.assertEqual(data["run"]["end"]["why"], end)
+                self.assertEqual((data["run"]["end"]["type"], data["run"]["end"]["reason"], data["run"]["end"]["text"]), ("stopped", why, f"stopped: {why}"))
                 self.assert_lists(data, one(text), options)
 
     def test_limit_of_steps_within_calls(self) -> None:
@@ -167,13 +206,44 @@ class Records(unittest.TestCase):
         self.assertTrue({step for it in data["findings"] for step in (it["step"], it["last"])} <= {row[0] for row in data["moments"]})
 
 
+class Reports(unittest.TestCase):
+    def test_each_kind_as_in_the_rows_of_dm_check(self) -> None:
+        with open(os.path.join(ROOT, "rows", "checker", "json_of_each_kind.row"), encoding="utf-8") as file:
+            wanted = [json.loads(line) for line in file if line.startswith('    {"type"')]
+        kinds = set()
+        for it in wanted:
+            if it["type"] in ("error", "note"):
+                site = f"{'before ' if it['before'] else ''}{it['at']}"
+                line = f"{it['type']}: step {it['step']}, {site} {it.get('call') or it['instruction']}: {it['text']}"
+                report = picture.report_of([line, "errors: 0, notes: 0"], 0)
+                self.assertEqual(report.findings, [{**it, "more": 0, "last": it["step"]}])
+                kinds.add(it["kind"])
+        self.assertEqual(len(kinds), 26, sorted(kinds))
+
+    def test_again_and_what_is_not_listed(self) -> None:
+        lines = ["note: step 6, 0103:0109 INT 21h function 49h (Free Allocated Memory): refused with code 09h, no such block",
+                 "again: step 6, 0103:0109 INT 21h function 49h (Free Allocated Memory): refused with code 09h, no such block: 4 more, the last at step 30",
+                 "not listed: 7 findings", "errors: 0, notes: 12", "stopped: unlisted at 0103:0110: 0F FF"]
+        report = picture.report_of(lines, 0)
+        self.assertEqual([(it["kind"], it["more"], it["last"]) for it in report.findings], [("refused", 4, 30)])
+        self.assertEqual(report.summary, {"errors": 0, "notes": 12, "not_listed": 7})
+        self.assertEqual(report.end, {"type": "stopped", "reason": "unlisted", "at": "0103:0110", "cs": 0x103, "ip": 0x110, "before": False,
+                                      "bytes": [15, 255], "text": "stopped: unlisted"})
+
+    def test_words_of_another_version(self) -> None:
+        report = picture.report_of(["error: step 6, 0103:0109 NOP: what no version knows", "errors: 1, notes: 0"], 3)
+        self.assertEqual((report.findings[0]["kind"], report.end), ("unknown", {"type": "exited", "code": 3, "text": "ended with code 3"}))
+
+
 class Splices(unittest.TestCase):
     def test_any_two_lists(self) -> None:
         chance = random.Random(58)
         for _ in range(3000):
             old, new = ([f"{chance.randrange(4)}{'x' * chance.randrange(3)}" for _ in range(chance.randrange(7))] for _ in range(2))
             before, after = ("".join(f"{line}\n" for line in lines).encode() for lines in (old, new))
-            splice = picture.splice_of(before, after)
+            listing = picture.Listing()
+            listing.change(before)
+            splice = listing.change(after)
             self.assertEqual(splice is None, old == new)
             if splice:
                 at, count, lines = splice
@@ -182,10 +252,10 @@ class Splices(unittest.TestCase):
     def test_merged(self) -> None:
         chance = random.Random(59)
         for _ in range(500):
-            merged, old, last = picture.Merged(), [], []
+            merged, listing, old, last = picture.Merged(), picture.Listing(), [], []
             for _ in range(12):
                 new = [line for line in old if chance.random() < 0.8] + [str(chance.randrange(99)) for _ in range(chance.randrange(3))]
-                merged.add(picture.splice_of(*("".join(f"{line}\n" for line in lines).encode() for lines in (old, new))))
+                merged.add(listing.change("".join(f"{line}\n" for line in new).encode()))
                 old = new
                 if chance.random() < 0.3:
                     splice = merged.taken()
@@ -263,9 +333,26 @@ class Commands(unittest.TestCase):
                             ("too large", ["--ems", "513", "leak.com"]), ("too large", ["--xms", "15361", "leak.com"]), ("tail too long", ["--tail", " " * 127, "leak.com"]),
                             ("cannot write none/a.html", ["leak.com", "-o", "none/a.html"]), ("cannot write .", ["leak.com", "-o", "."]),
                             ("cannot write /dev/full", ["leak.com", "-o", "/dev/full"]), ("cannot read none", ["--input", "none", "leak.com"]),
-                            ("cannot write ", ["leak.com", "-o", "x" * 300])):
+                            ("cannot write ", ["leak.com", "-o", "x" * 300]), ("cannot write ''", ["leak.com", "-o", ""]), ("cannot read ''", [""]),
+                            ("cannot read ''", ["--input", "", "leak.com"]), ("the run reads it", ["leak.com", "-o", "leak.com"]),
+                            ("the run reads it", ["leak.com", "--input", "huge.com", "-o", "./huge.com"]), ("cannot write /", ["leak.com", "-o", "/"])):
             with self.subTest(word):
                 self.assert_refused(126, word, "picture", *words)
+
+    def test_where_it_cannot_be_written_is_known_before_the_run(self) -> None:
+        with open(os.path.join(self.folder.name, "loop.com"), "wb") as file:
+            file.write(mezguld.assemble("next: JMP next\n"))
+        began = time.monotonic()
+        self.assert_refused(126, "cannot write none/a.html", "picture", "loop.com", "--steps", str(2**63), "-o", "none/a.html")
+        self.assertLess(time.monotonic() - began, 20)
+
+    def test_other_calls(self) -> None:
+        # (A call that leaves memory's division as it is, with a finding at its step, and one at the limit.)
+        text = "MOV CX,3\nnext: MOV AH,2\nMOV DL,41h\nINT 21h\nLOOP next\nMOV AH,99h\nINT 21h\nMOV AX,4C00h\nINT 21h\n"
+        for steps in range(30):
+            data = picture.record(one(text), Options(steps=steps))
+            self.assertEqual((data["run"]["steps"], data["calls"]["others"]), (min(steps, 22), sum(steps >= it for it in (5, 10, 15, 19))), steps)
+            self.assertTrue({it["step"] for it in data["findings"]} <= {row[0] for row in data["moments"]})
 
     def test_nobody_reads_standard_output(self) -> None:
         for words, status, told in ((["-o", "a.html"], 0, b""), (["-o", "-"], 126, b"mezguld: cannot write standard output (Broken pipe)\n")):
@@ -300,6 +387,7 @@ class Commands(unittest.TestCase):
             self.assertEqual(command.made(lambda: 7, "first run"), 7)
         self.assertEqual(told.getvalue(), "")
         progress = picture.Progress()
+        self.assertEqual(str(progress), "first run, under the checker")
         picture.record(programs_of(["overrun"]), progress=progress)
         self.assertRegex(str(progress), r"second run: [\d,]+ of at most 100,000,000 steps, [\d,]+ calls about memory")
 

@@ -1,9 +1,15 @@
 """The lines of `dm check --json`, worked out from those of `dm check`.
 
-It knows the two forms of a report as docs/manual.md describes them, and nothing of the machine.
+It knows the two forms of a report as docs/manual.md describes them, and nothing of the machine: rows/check, which loads it without the package, compares
+what it makes with what `dm check --json` writes.
 """
+from __future__ import annotations
+
 import json
 import re
+from typing import Any
+
+Members = dict[str, Any]
 
 # What stands before the words of what a resident program holds.
 RESIDENT = "kept resident: "
@@ -14,19 +20,20 @@ FOUND = re.compile(f"step ([0-9]+), (before )?{ADDRESS} (.+?): (.+)", re.DOTALL)
 AGAIN = re.compile(r"(.+): ([0-9]+) more, the last at step ([0-9]+)", re.DOTALL)
 STOPPED = re.compile(f"stopped: ([a-z ]+?) (at|before) {ADDRESS}(?:: (.+))?")
 FUNCTION = re.compile(r"(?:INT ([0-9A-F]{2})h|(XMS)) function ([0-9A-F]{2})h(?: \(.*\))?")
+COUNTS = re.compile(r"([0-9]+), notes: ([0-9]+)")
 INTERRUPT = re.compile(r"INT ([0-9A-F]{2})h")
 
 
-def hexadecimal(text):
+def hexadecimal(text: str) -> int:
     return int(text, 16)
 
 
-def flag(text):
+def flag(text: str | None) -> bool:
     return bool(text)
 
 
 # For each kind of finding its text, and the names of the parts in it with how they are read.
-KINDS = [
+KINDS: list[tuple[str, str, list[Any]]] = [
     ("mapped_away", f"header at {WORD} mapped away", [("header", hexadecimal)]),
     ("destroyed", f"arena destroyed at {WORD}", [("header", hexadecimal)]),
     ("whole", "arena whole again", []),
@@ -58,20 +65,20 @@ ORDER = ["header", "block", "handle", "window", "code", "old", "new", "byte", "o
          "address", "segment", "offset"]
 
 
-def address(names, segment, offset):
+def address(names: tuple[str, str, str], segment: str, offset: str) -> Members:
     """An address: its text, and its numbers."""
     return dict(zip(names, (f"{segment}:{offset}", int(segment, 16), int(offset, 16))))
 
 
-def contents(signature, owner, size):
+def contents(signature: str, owner: str, size: str) -> Members:
     return {"signature": int(signature, 16), "owner": int(owner, 16), "size": int(size, 16)}
 
 
-def site(segment, offset, before):
+def site(segment: str, offset: str, before: bool) -> Members:
     return address(("at", "cs", "ip"), segment, offset) | {"before": before}
 
 
-def act(text):
+def act(text: str) -> Members:
     """A call with its numbers, or an instruction."""
     if found := FUNCTION.fullmatch(text):
         interrupt = {} if found[2] else {"interrupt": int(found[1], 16)}
@@ -83,8 +90,8 @@ def act(text):
     return {"instruction": text}
 
 
-def about(text, is_error):
-    """The kind of a finding, and what it is about."""
+def about(text: str, is_error: bool) -> tuple[str, Members]:
+    """The kind of a finding, and what it is about; `unknown` for words of another version."""
     if found := re.fullmatch(f"header at {WORD} overwritten: {CONTENTS} became {CONTENTS}", text):
         return "overwritten", {"header": int(found[1], 16), "old": contents(*found.groups()[1:4]), "new": contents(*found.groups()[4:])}
     for kind, pattern, parts in KINDS:
@@ -99,19 +106,28 @@ def about(text, is_error):
         if kind == "refused" and is_error:
             kind = "not_allocated"
         return kind, {name: members[name] for name in ORDER if name in members}
-    raise ValueError(text)
+    return "unknown", {}
 
 
-def finding(text, is_error):
+def groups(pattern: re.Pattern[str], text: str) -> tuple[Any, ...]:
+    """The parts of a text that has this form."""
+    found = pattern.fullmatch(text)
+    if found is None:
+        raise ValueError(f"no line of a report: {text!r}")
+    return found.groups()
+
+
+def finding(text: str, is_error: bool) -> Members:
     """The members of a finding."""
-    step, before, segment, offset, performed, what = FOUND.fullmatch(text).groups()
+    step, before, segment, offset, performed, what = groups(FOUND, text)
     kind, members = about(what, is_error)
     return {"kind": kind, "step": int(step)} | site(segment, offset, bool(before)) | act(performed) | members | {"text": what}
 
 
-def stopped(line):
-    reason, place, segment, offset, what = STOPPED.fullmatch(line).groups()
-    code = {}
+def stopped(line: str) -> Members:
+    """The object about a run that stopped before the program ended."""
+    reason, place, segment, offset, what = groups(STOPPED, line)
+    code: Members = {}
     if reason == "unlisted":
         code = {"bytes": [int(byte, 16) for byte in what.split()]}
     elif what:
@@ -119,10 +135,11 @@ def stopped(line):
     return {"type": "stopped", "reason": reason} | site(segment, offset, place == "before") | code
 
 
-def objects(lines, status):
+def objects(lines: list[str], status: int | None) -> list[Any]:
     """The objects for the lines of a report, the last of which has the exit code if the program ended; None for the code if the status hides
     it. A line of another kind, as that of a fault, stays as it is."""
-    errors, made, ended = set(), [], True
+    errors: set[str] = set()
+    made: list[Any] = []
     for line in lines:
         word, _, rest = line.partition(": ")
         if word in ("error", "note"):
@@ -130,12 +147,12 @@ def objects(lines, status):
                 errors.add(rest)
             made.append({"type": word} | finding(rest, word == "error"))
         elif word == "again":
-            text, more, last = AGAIN.fullmatch(rest).groups()
+            text, more, last = groups(AGAIN, rest)
             made.append({"type": "again"} | finding(text, text in errors) | {"more": int(more), "last": int(last)})
         elif word == "not listed":
             made.append({"type": "not_listed", "findings": int(rest.split()[0])})
         elif word == "errors":
-            first, second = re.fullmatch("([0-9]+), notes: ([0-9]+)", rest).groups()
+            first, second = groups(COUNTS, rest)
             made.append({"type": "summary", "errors": int(first), "notes": int(second)})
             made.append({"type": "exited", "code": status})
         elif word == "stopped":
@@ -145,6 +162,6 @@ def objects(lines, status):
     return made
 
 
-def text_of(made):
+def text_of(made: Any) -> str:
     """The line of an object, or a line that is none."""
     return made if isinstance(made, str) else json.dumps(made, ensure_ascii=False, separators=(",", ":"))
