@@ -13,7 +13,7 @@ use Rattle.dm_findings.specs.Report.{Reported, report_of}
 use Rattle.dm_findings.proofs.Reports.{none-reported}
 use Rattle.dm_json.specs.declared.forms.Form.{Form}
 use Rattle.dm_json.specs.Forms.{found_in, lines_in, summary_in, report_in}
-use Rattle.dm_checker.specs.Checks.{IsReport, here, reported}
+use Rattle.dm_checker.specs.Checks.{IsReport, here}
 use Rattle.dm_checker.specs.Checking.{UnderWay, IsUnderWay, IsLonger, founds, going, had_ended}
 use Rattle.dm_cli.specs.Checking.{IsLost, some_steps, all_steps}
 use Rattle.dm_cli.specs.Messages.{Prints, HasPrinted, Stream, all, part}
@@ -108,9 +108,9 @@ lost_all form s t n stop c d failed a b h = all_steps stop t d.report h.report (
 pub whole_text : (form : Form) (r : Reported) (rest : List ℕ) → lines_in form r.listed ++ (summary_in form r ++ rest) ≡ report_in form r ++ rest
 whole_text form r rest = sym (append_assoc (lines_in form r.listed) (summary_in form r) rest)
 
-pub whole_printed : (form : Form) (now : Bool) (r : Reported) (rest text : List ℕ) (a b : Stream) → text ≡ summary_in form r ++ rest → HasPrinted now (lines_in form r.listed ++ text) a b → Prints (report_in form r ++ rest) a b
+pub whole_printed : (form : Form) (now : Bool) (r : Reported) (rest text : List ℕ) (a b : Stream) → text ≡ summary_in form r ++ rest → HasPrinted now (lines_in form r.listed ++ text) a b → HasPrinted now (report_in form r ++ rest) a b
 whole_printed form now r rest text a b e h =
-    subst (λ (l : List ℕ). Prints l a b) (ap (λ (x : List ℕ). lines_in form r.listed ++ x) e ∙ whole_text form r rest) (prints_of now _ a b h)
+    subst (λ (l : List ℕ). HasPrinted now l a b) (ap (λ (x : List ℕ). lines_in form r.listed ++ x) e ∙ whole_text form r rest) h
 
 -- the lines of the findings that are listed now, behind those that were listed before
 pub grown : (form : Form) (old new : Reported) → IsLonger old new → (count : ℕ) → count ≡ length old.listed → (failed : Bool) (a b : Stream)

@@ -13,7 +13,7 @@ use Rattle.dm_json.specs.Forms.{form_of, lines_in, report_in, end_in}
 use Rattle.dm_checker.specs.Checks.{FindsIn, IsReport, reported}
 use Rattle.dm_cli.specs.declared.fault.Fault.{Fault}
 use Rattle.dm_cli.specs.declared.fault.Fault.TheVariants.{OutOfMemory}
-use Rattle.dm_cli.specs.Messages.{Stream, Prints}
+use Rattle.dm_cli.specs.Messages.{Stream, Prints, HasPrinted}
 use Rattle.dm_cli.specs.Starting.{IsStartedBy, IsStartFault}
 use Rattle.dm_cli.specs.Statuses.{stop_status}
 
@@ -25,6 +25,10 @@ checked_status report stop = if nat_lt 0 report.errors then 124 else stop_status
 -- fault
 abbrev pub unwritten_status : Reported → ℕ
 unwritten_status report = if nat_lt 0 report.errors then 124 else 126
+
+-- the exit status of a checked run whose report was written whole, or not (`failed`): then that of a fault
+abbrev pub told_status : Bool → ℕ → ℕ
+told_status failed status = if failed then 126 else status
 
 -- the line of the fault that standard output was not written
 abbrev pub unwritten_line : List ℕ
@@ -40,17 +44,16 @@ pub data IsLost (s : State) (n : ℕ) (free : Bool) (form : Form) (error_before 
 
 -- `dm check`: the machine runs as for `dm run`; findings about free memory are left out by `--no-free`, and the
 -- report is JSON by `--json`. The result is the exit status: the report with the line about the end of the run was printed on
--- standard error, and the whole output written to
--- standard output; or a write of the output failed, after a first part, and the line of that fault was printed behind the
+-- standard error, or a first part of it (`failed`), and the whole output written to standard output; or a write of the output failed, after a first part, and the line of that fault was printed behind the
 -- report (`middle` is standard error between the two). Otherwise it is a fault: nothing was written to standard output, no
 -- write of it failed, and a part of the report may have been printed
 pub data Checks (files : List ℕ → Option (List ℕ)) (typed : Option (List ℕ)) (o : CheckOptions) (before after : Option (List ℕ)) (failed_before failed_after : ℕ) (error_before error_after : Stream) : Result ℕ Fault → Type 0 where
-  checked : (m t : State) (stop : Stop) (report : Reported) (status : ℕ) → IsStartedBy files typed o.machine m → IsRun m o.machine.steps stop t → IsReport m o.machine.steps (not o.no_free) stop t report
-      → Appends before after t.console.output → failed_after ≡ failed_before → Prints (report_in (form_of o.json) report ++ end_in (form_of o.json) stop t.memory t.cpu) error_before error_after → status ≡ checked_status report stop
+  checked : (m t : State) (stop : Stop) (report : Reported) (failed : Bool) (status : ℕ) → IsStartedBy files typed o.machine m → IsRun m o.machine.steps stop t → IsReport m o.machine.steps (not o.no_free) stop t report
+      → Appends before after t.console.output → failed_after ≡ failed_before → HasPrinted failed (report_in (form_of o.json) report ++ end_in (form_of o.json) stop t.memory t.cpu) error_before error_after → status ≡ told_status failed (checked_status report stop)
       → Checks files typed o before after failed_before failed_after error_before error_after (Ok status)
-  partly_written : (m t : State) (stop : Stop) (report : Reported) (middle : Stream) (status : ℕ) → IsStartedBy files typed o.machine m → IsRun m o.machine.steps stop t → IsReport m o.machine.steps (not o.no_free) stop t report
-      → AppendsPart before after t.console.output → HasFailed failed_before failed_after → Prints (report_in (form_of o.json) report ++ end_in (form_of o.json) stop t.memory t.cpu) error_before middle
-      → Prints unwritten_line middle error_after → status ≡ unwritten_status report → Checks files typed o before after failed_before failed_after error_before error_after (Ok status)
+  partly_written : (m t : State) (stop : Stop) (report : Reported) (middle : Stream) (failed : Bool) (status : ℕ) → IsStartedBy files typed o.machine m → IsRun m o.machine.steps stop t → IsReport m o.machine.steps (not o.no_free) stop t report
+      → AppendsPart before after t.console.output → HasFailed failed_before failed_after → HasPrinted failed (report_in (form_of o.json) report ++ end_in (form_of o.json) stop t.memory t.cpu) error_before middle
+      → Prints unwritten_line middle error_after → status ≡ told_status failed (unwritten_status report) → Checks files typed o before after failed_before failed_after error_before error_after (Ok status)
   no_memory : (m : State) → IsStartedBy files typed o.machine m → IsLost m o.machine.steps (not o.no_free) (form_of o.json) error_before error_after → Keeps before after → failed_after ≡ failed_before
       → Checks files typed o before after failed_before failed_after error_before error_after (Err OutOfMemory)
   not_started : (fault : Fault) → IsStartFault files typed (Some (codes "standard input")) o.machine fault → Keeps before after → failed_after ≡ failed_before → error_after ≡ error_before

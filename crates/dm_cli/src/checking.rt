@@ -5,7 +5,7 @@ ghost use Rattle.std.specs.Prelude.{◌≡◌, ◌++◌, ◌≤◌, [], List, �
 ghost use Rattle.dm_json.specs.Forms.{end_in, lines_in, summary_in};
 ghost use Rattle.dm_checker.specs.Checking.{IsUnderWay};
 ghost use Rattle.dm_findings.specs.Report.{report_of};
-ghost use Rattle.dm_cli.specs.Checking.{Checks, IsLost, checked_status, unwritten_status};
+ghost use Rattle.dm_cli.specs.Checking.{Checks, IsLost, checked_status, told_status, unwritten_status};
 ghost use Rattle.dm_cli.specs.Messages.{HasPrinted, Stream};
 ghost use Rattle.dm_cli.specs.Reads.{IsKept, ReadsFiles, TellsOfNoFile, fault_if};
 ghost use Rattle.dm_cli.specs.inner.Checking.{ChecksRun, HasFollowed};
@@ -64,6 +64,13 @@ fn unwritten_status(report: &Report) -> u8
     FAULT
 }
 
+/// The exit status of a checked run; that of a fault where its report was not written whole (`failed`).
+fn told_status(failed: bool, status: u8) -> u8
+    ensures { result ≡ told_status failed status }
+{
+    if failed { FAULT } else { status }
+}
+
 /// Prints on `error` the lines of the findings that the report lists behind the first `count`, unless a write has failed
 /// before (`failed`). Returns whether one has failed now. An `Err` is a failed allocation; then nothing is printed.
 fn print_new<E: Out>(
@@ -117,7 +124,7 @@ fn follow<E: Out>(
 /// Runs a machine for at most `steps` steps under the checker, with findings about free memory or without (`free`), and
 /// prints, in this form, the line of each finding that is listed on `error`, as it is found. Then it writes the output to `out`, and
 /// prints the summary and the line about the stop. If a write of the output failed, after a first part of it or none, it
-/// prints the fault after them. Returns the exit status. `OutOfMemory` if an allocation failed, before anything is
+/// prints the fault after them. Returns the exit status, 126 if a part of the report could not be written. `OutOfMemory` if an allocation failed, before anything is
 /// written to `out`; then lines of findings may have been printed, but no summary.
 fn check_machine<W: Out, E: Out>(
     alloc: Global,
@@ -145,12 +152,12 @@ fn check_machine<W: Out, E: Out>(
         return Err(Fault::OutOfMemory);
     };
     let written = write_all(out, machine.output());
-    print_now(error, failed, text.as_slice());
+    let failed = print_now(error, failed, text.as_slice());
     match written {
-        Ok(()) => Ok(checked_status(report, stop)),
+        Ok(()) => Ok(told_status(failed, checked_status(report, stop))),
         Err(_) => {
             print_fault(&Fault::CannotWrite("standard output"), error);
-            Ok(unwritten_status(report))
+            Ok(told_status(failed, unwritten_status(report)))
         }
     }
 }

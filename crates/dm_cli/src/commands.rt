@@ -144,7 +144,7 @@ fn told<E: Out>(outcome: Result<(), Fault<'_>>, error: &mut E) -> u8
 /// standard error, each line when it is found, then the line of `stopped: ` unless the program has ended, and exits with
 /// status 124 if there is an error, whatever the stop; otherwise with the status of `dm run`. Its faults are those of `dm run`. If standard
 /// output cannot be written, it prints all of this and then the fault, and the status is 124 if there is an error,
-/// otherwise 126.
+/// otherwise 126. It is 126, too, if a part of the report cannot be written.
 ///
 /// `dm debug` exits with status 0, also where the program has ended, or reports a fault with status 126, in the same
 /// order: the console's input is the file of `--input`, and none without it. The commands are read after `short`, a

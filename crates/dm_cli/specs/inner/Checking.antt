@@ -13,7 +13,7 @@ use Rattle.dm_checker.specs.Checking.{UnderWay}
 use Rattle.dm_cli.specs.declared.fault.Fault.{Fault}
 use Rattle.dm_cli.specs.declared.fault.Fault.TheVariants.{OutOfMemory}
 use Rattle.dm_cli.specs.Messages.{Stream, Prints, HasPrinted}
-use Rattle.dm_cli.specs.Checking.{IsLost, checked_status, unwritten_status, unwritten_line}
+use Rattle.dm_cli.specs.Checking.{IsLost, checked_status, told_status, unwritten_status, unwritten_line}
 
 -- a checked run of at most n steps from s that was under way (c) stopped for this reason in state t, d has its report, and
 -- the lines of the findings that are listed were printed, or a first part of them (`failed`)
@@ -25,10 +25,10 @@ pub record HasFollowed (s : State) (n : ℕ) (form : Form) (c : UnderWay) (stop 
 -- report was printed and the output written; or after a write of the output failed, after a first part, and the fault was
 -- printed behind the report; or an allocation failed, and no output was written
 pub data ChecksRun (m : State) (steps : ℕ) (free : Bool) (form : Form) (before after : Option (List ℕ)) (failed_before failed_after : ℕ) (error_before error_after : Stream) : Result ℕ Fault → Type 0 where
-  run_checked : (t : State) (stop : Stop) (report : Reported) (status : ℕ) → IsRun m steps stop t → IsReport m steps free stop t report
-      → Appends before after t.console.output → failed_after ≡ failed_before → Prints (report_in form report ++ end_in form stop t.memory t.cpu) error_before error_after → status ≡ checked_status report stop
+  run_checked : (t : State) (stop : Stop) (report : Reported) (failed : Bool) (status : ℕ) → IsRun m steps stop t → IsReport m steps free stop t report
+      → Appends before after t.console.output → failed_after ≡ failed_before → HasPrinted failed (report_in form report ++ end_in form stop t.memory t.cpu) error_before error_after → status ≡ told_status failed (checked_status report stop)
       → ChecksRun m steps free form before after failed_before failed_after error_before error_after (Ok status)
-  output_cut : (t : State) (stop : Stop) (report : Reported) (middle : Stream) (status : ℕ) → IsRun m steps stop t → IsReport m steps free stop t report
-      → AppendsPart before after t.console.output → HasFailed failed_before failed_after → Prints (report_in form report ++ end_in form stop t.memory t.cpu) error_before middle
-      → Prints unwritten_line middle error_after → status ≡ unwritten_status report → ChecksRun m steps free form before after failed_before failed_after error_before error_after (Ok status)
+  output_cut : (t : State) (stop : Stop) (report : Reported) (middle : Stream) (failed : Bool) (status : ℕ) → IsRun m steps stop t → IsReport m steps free stop t report
+      → AppendsPart before after t.console.output → HasFailed failed_before failed_after → HasPrinted failed (report_in form report ++ end_in form stop t.memory t.cpu) error_before middle
+      → Prints unwritten_line middle error_after → status ≡ told_status failed (unwritten_status report) → ChecksRun m steps free form before after failed_before failed_after error_before error_after (Ok status)
   no_report : IsLost m steps free form error_before error_after → Keeps before after → failed_after ≡ failed_before → ChecksRun m steps free form before after failed_before failed_after error_before error_after (Err OutOfMemory)

@@ -1,4 +1,4 @@
-use Rattle.std.proofs.Common.{◌≡◌, ◌∙◌, ℕ, List, Option, None, length, refl, sym, ap, subst, arith}
+use Rattle.std.proofs.Common.{◌∙◌, ℕ, List, Option, None, length, refl, sym, ap, subst, arith}
 use Rattle.dm_state.specs.declared.stop.Stop.{Stop}
 use Rattle.dm_state.specs.State.{State}
 use Rattle.dm_findings.specs.declared.report.Listed.{Listed}
