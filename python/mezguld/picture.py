@@ -47,7 +47,7 @@ TITLES = {DOS: "INT 21h", EXPANDED: "INT 67h", EXTENDED: "XMS"}
 LISTS = {DIVIDE: "M", TERMINATE: "M", DOS: "M", EXPANDED: "P", EXTENDED: "X"}
 CARRY = 1
 # How many calls wait at most.
-MOST_WAITING = 64
+MOST_WAITING = 256
 # How many lines are tried by themselves.
 FEW_LINES, LINE_FEED = 4, 10
 # The places of the lists in a moment.

@@ -94,7 +94,7 @@ class Records(unittest.TestCase):
         })
 
     def test_more_findings_than_are_listed(self) -> None:
-        # (Each turn writes to the header of another block, which is then mended; 1,000 findings are listed.)
+        # (Each turn frees what is no block, in 1,500 turns.)
         text = ("MOV SP,400h\nMOV AH,4Ah\nMOV BX,40h\nINT 21h\nMOV CX,1500\nMOV BX,100h\nnext: MOV AH,49h\nMOV ES,BX\nINT 21h\nINC BX\nINC WORD [at]\nLOOP next\n"
                 "MOV AX,4C00h\nINT 21h\nat: DW 0\n")
         data = picture.record(one(text))
