@@ -247,7 +247,10 @@ class Comparison:
         if case.entry.first in SHIFTS:
             state["cx"] = state["cx"] & 0xFF00 | left
         self.theirs.set(state)
-        interrupt = self.theirs.step(case.state, until, 0 if case.is_repeated else 1)
+        try:
+            interrupt = self.theirs.step(case.state, until, 0 if case.is_repeated else 1)
+        except self.theirs.unicorn.UcError as why:
+            raise RuntimeError(f"tools/peers: {case}: Unicorn stops: {why}") from why
         after = self.theirs.state()
         if case.entry.first in SHIFTS and case.count > 31:
             after["cx"] = after["cx"] & 0xFF00 | case.count
