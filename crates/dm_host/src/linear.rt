@@ -1,5 +1,6 @@
 //! Reading and writing a host's guest memory by linear addresses (Intel 8086 Family User's Manual, "Memory").
 ghost use Rattle.std.specs.Prelude.{◌≡◌, ◌+◌, ◌*◌, ◌≤◌, ◌<◌, OnOk, IfErr, MatchOption, length};
+ghost use Rattle.dm_space.specs.Memory.{linear, poke};
 ghost use Rattle.dm_debug.specs.Sessions.{with_machine};
 ghost use Rattle.dm_host.specs.Hosts.{Works, Shows, IsNotLoaded};
 ghost use Rattle.dm_host.specs.Linear.{byte_at_linear, bytes_at_linear, with_bytes_at_linear};
@@ -47,6 +48,14 @@ fn read_up(machine: &Machine, address: u32, buffer: &mut [u8])
     }
 }
 
+/// Writes a byte to memory.
+#[tactic(auto, unfolding(dm_space::specs::Buffers::with_bytes))]
+fn put(session: &mut Session, segment: u16, offset: u16, byte: u8)
+    ensures { session.new ≡ with_machine session.old (record session.old.machine { memory = poke session.old.machine.memory (linear session.old.machine.memory.a20 segment offset) byte }) }
+{
+    session.write(segment, offset, &[byte]);
+}
+
 /// Writes the bytes to memory from a linear address up, as a program does; those past FFFF:FFFF are lost.
 fn write_up(session: &mut Session, address: u32, bytes: &[u8])
     ensures { session.new ≡ with_machine session.old (record session.old.machine { memory = with_bytes_at_linear session.old.machine.memory address bytes.now }) }
@@ -56,7 +65,7 @@ fn write_up(session: &mut Session, address: u32, bytes: &[u8])
         let Some((segment, offset)) = logical(at) else {
             return;
         };
-        session.write(segment, offset, &[*byte]);
+        put(session, segment, offset, *byte);
         at += 1;
     }
 }
