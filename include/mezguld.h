@@ -223,6 +223,16 @@ MEZGULD_CALL mezguld_status mezguld_read(mezguld *machine, uint16_t segment, uin
 MEZGULD_CALL mezguld_status mezguld_write(mezguld *machine, uint16_t segment, uint16_t offset, const void *bytes,
                                           size_t count);
 
+/* Fills a buffer with the bytes of memory from a linear address up, segment * 16 + offset, as a program reads them: while the
+ * A20 line is off, the addresses 100000h to 10FFEFh are those 100000h below. A byte is FFh where there is no memory, and past
+ * 10FFEFh (FFFF:FFFF), which no program reaches. NO_MACHINE, NOT_LOADED. */
+MEZGULD_CALL mezguld_status mezguld_read_linear(mezguld *machine, uint32_t address, void *buffer, size_t count);
+
+/* Writes bytes to memory from a linear address up, as a program writes them: while the A20 line is off, the addresses 100000h to
+ * 10FFEFh are those 100000h below. Bytes of the ROM, and where there is no memory, stay; bytes past 10FFEFh are lost.
+ * NO_MACHINE, NOT_LOADED. */
+MEZGULD_CALL mezguld_status mezguld_write_linear(mezguld *machine, uint32_t address, const void *bytes, size_t count);
+
 /* Copies what the program wrote to the console, from byte `from` of it on (0: all; past the end: nothing), into a buffer,
  * and writes the count into `*wanted`. So the output since the last call is got with the count of all before it as `from`.
  * NO_MACHINE, NOT_LOADED, TOO_SMALL (then `*wanted` alone is written). */

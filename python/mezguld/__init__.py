@@ -508,6 +508,8 @@ _PARAMETERS = {
     "mezguld_set_registers": "m c",
     "mezguld_read": "m HH pn",
     "mezguld_write": "m HH pn",
+    "mezguld_read_linear": "m I pn",
+    "mezguld_write_linear": "m I pn",
     "mezguld_output": "m n pn w",
     "mezguld_output_count": "m w",
     "mezguld_open_input": "m",
@@ -615,17 +617,11 @@ def _event(event: Event) -> _Event:
     return _Event(event.kind.value, *(_number(getattr(event, name), most, f"the {name} of an event") for name, most in _MOST_OF_EVENTS.items()))
 
 
-def _parts(address: int, count: int) -> list[tuple[int, int, int]]:
-    """So many bytes from a linear address on, as parts of segments: segment, offset and size. There is one, also of no bytes."""
-    address, parts = _number(address, _MOST_MEMORY, "the address"), []
-    count = _number(count, _MOST_MEMORY - address, "the count")
-    while not parts or count:
-        segment = min(address >> 4, 0xFFFF)
-        offset = address - (segment << 4)
-        size = min(count, 0x10000 - offset)
-        parts.append((segment, min(offset, 0xFFFF), size))
-        address, count = address + size, count - size
-    return parts
+def _address(address: int, count: int) -> int:
+    """A linear address with so many bytes from it up."""
+    address = _number(address, _MOST_MEMORY, "the address")
+    _number(count, _MOST_MEMORY - address, "the count")
+    return address
 
 
 def _taken(call: Callable[..., int], count: int = 4096) -> bytes:
@@ -921,17 +917,18 @@ class Machine:
         return buffer.raw[:count]
 
     def read_linear(self, address: int, count: int) -> bytes:
-        """So many bytes of memory from a linear address on, as a program reads them; the last address is 10FFEFh. `NotLoaded`."""
-        with self._held():
-            return b"".join(self.read(segment, offset, size) for segment, offset, size in _parts(address, operator.index(count)))
+        """So many bytes of memory from a linear address up, as a program reads them; the last address is 10FFEFh. While the A20 line is off, those from 100000h
+        on are the first ones again. `NotLoaded`."""
+        count = operator.index(count)
+        address = _address(address, count)
+        buffer = ctypes.create_string_buffer(count + 1)
+        self._call(_library.mezguld_read_linear, address, buffer, count)
+        return buffer.raw[:count]
 
     def write_linear(self, address: int, data: bytes) -> None:
-        """Writes bytes from a linear address on, as `write`; the last address is 10FFEFh. `NotLoaded`."""
-        given, at = _bytes(data), 0
-        with self._held():
-            for segment, offset, size in _parts(address, len(given)):
-                self.write(segment, offset, given[at : at + size])
-                at += size
+        """Writes bytes from a linear address up, as `write`; the last address is 10FFEFh, and those from 100000h on are as in `read_linear`. `NotLoaded`."""
+        given = _bytes(data)
+        self._call(_library.mezguld_write_linear, _address(address, len(given)), *_given(given))
 
     def vector(self, interrupt: int) -> tuple[int, int]:
         """Where the vector of an interrupt leads: its segment and offset, as a breakpoint. `NotLoaded`."""

@@ -32,6 +32,8 @@ static void expect_all(mezguld *machine, mezguld_status status)
     EXPECT(mezguld_set_registers(machine, &registers) == status);
     EXPECT(mezguld_read(machine, 0, 0, bytes, sizeof bytes) == status);
     EXPECT(mezguld_write(machine, 0, 0, bytes, 0) == status);
+    EXPECT(mezguld_read_linear(machine, 0x10FFEF, bytes, sizeof bytes) == status && memcmp(bytes, "\0\0\0\0\0\0\0", 8) == 0);
+    EXPECT(mezguld_write_linear(machine, 0, bytes, sizeof bytes) == status);
     EXPECT(mezguld_output(machine, 0, bytes, sizeof bytes, &count) == status);
     EXPECT(mezguld_output_count(machine, &count) == status);
     EXPECT(mezguld_open_input(machine) == status);
@@ -104,6 +106,26 @@ static void look(mezguld *machine)
     EXPECT(mezguld_free(&copy) == MEZGULD_OK);
 }
 
+/* Linear addresses: A20 is off at the start, so that 100000h is 0 again; F0000h is the ROM, and past 10FFEFh there is nothing. */
+static void read_and_write(mezguld *machine)
+{
+    static const uint8_t none[6] = {0xFF, 0xFF, 0xFF, 0xFF, 0xFF, 0xFF};
+    uint8_t bytes[6], more[6];
+    EXPECT(mezguld_write_linear(machine, 0x5FFFE, "abcd", 4) == MEZGULD_OK);
+    EXPECT(mezguld_read(machine, 0x5FFF, 0xE, bytes, 2) == MEZGULD_OK && mezguld_read(machine, 0x6000, 0, bytes + 2, 2) == MEZGULD_OK);
+    EXPECT(memcmp(bytes, "abcd", 4) == 0);
+    EXPECT(mezguld_read_linear(machine, 0x5FFFD, bytes, 6) == MEZGULD_OK && memcmp(bytes, "\0abcd", 6) == 0);
+    EXPECT(mezguld_write_linear(machine, 0x10FFEE, "xyz", 3) == MEZGULD_OK);
+    EXPECT(mezguld_read_linear(machine, 0xFFEE, bytes, 2) == MEZGULD_OK && memcmp(bytes, "xy", 2) == 0);
+    EXPECT(mezguld_read_linear(machine, 0x10FFEE, bytes, 6) == MEZGULD_OK && memcmp(bytes, "xy", 2) == 0 && memcmp(bytes + 2, none, 4) == 0);
+    EXPECT(mezguld_read_linear(machine, 0xF0000, bytes, 6) == MEZGULD_OK && mezguld_write_linear(machine, 0xF0000, "rom", 3) == MEZGULD_OK);
+    EXPECT(mezguld_read_linear(machine, 0xF0000, more, 6) == MEZGULD_OK && memcmp(bytes, more, 6) == 0);
+    EXPECT(mezguld_write_linear(machine, 0xC0000, "none", 4) == MEZGULD_OK && mezguld_write_linear(machine, 0xFFFFFFFE, "none", 4) == MEZGULD_OK);
+    EXPECT(mezguld_read_linear(machine, 0xC0000, bytes, 6) == MEZGULD_OK && memcmp(bytes, none, 6) == 0);
+    EXPECT(mezguld_read_linear(machine, 0xFFFFFFFD, bytes, 6) == MEZGULD_OK && memcmp(bytes, none, 6) == 0);
+    EXPECT(mezguld_read_linear(machine, 0, bytes, 0) == MEZGULD_OK && mezguld_write_linear(machine, 0, "", 0) == MEZGULD_OK);
+}
+
 int main(void)
 {
     mezguld machine = MEZGULD_NONE, copy = MEZGULD_NONE;
@@ -114,6 +136,7 @@ int main(void)
     EXPECT(mezguld_copy(&machine, &copy) == MEZGULD_NO_MACHINE && mezguld_free(&machine) == MEZGULD_OK);
     load(&machine);
     look(&machine);
+    read_and_write(&machine);
     talk(&machine);
     EXPECT(mezguld_copy(&machine, &copy) == MEZGULD_OK && mezguld_copy(&machine, &copy) == MEZGULD_IN_USE);
     EXPECT(mezguld_supply(&copy, "e", 1) == MEZGULD_OK && mezguld_run(&copy, 1000, &stopped) == MEZGULD_OK);

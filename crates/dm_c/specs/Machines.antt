@@ -14,6 +14,7 @@ use Rattle.dm_host.specs.Setups.{IsNewFault}
 use Rattle.dm_host.specs.Hosts.{Hosted, new_host, Works, Shows, IsNotLoaded}
 use Rattle.dm_host.specs.Loading.{Adds, IsUnadded, Loads, IsUnloaded}
 use Rattle.dm_host.specs.Memory.{bytes_at}
+use Rattle.dm_host.specs.Linear.{bytes_at_linear, with_bytes_at_linear}
 use Rattle.dm_host.specs.Input.{SetsMore, Supplies, IsUnsupplied}
 use Rattle.dm_host.specs.Commands.{IsCommanded, IsUncommanded}
 use Rattle.dm_host.specs.Checking.{Checks, IsUnchecked}
@@ -83,6 +84,18 @@ ReadsTo h segment offset before after status g =
 abbrev pub WritesTo : Hosted → ℕ → ℕ → List ℕ → ℕ → Hosted → Type 0
 WritesTo h segment offset bytes status g =
     IsDoneOrRefused status (Works h (λ s t. t ≡ with_machine s (record s.machine { memory = with_bytes s.machine.memory segment offset bytes })) g) (λ why. IsNotLoaded h why × (g ≡ h))
+
+-- `mezguld_read_linear`: the bytes of memory from a linear address up fill the buffer; if no program is loaded, nothing
+-- changes
+abbrev pub ReadsLinearTo : Hosted → ℕ → List ℕ → List ℕ → ℕ → Hosted → Type 0
+ReadsLinearTo h address before after status g =
+    IsDoneOrRefused status (Shows h (λ s. after ≡ bytes_at_linear s.memory address (length before))) (λ why. IsNotLoaded h why × (after ≡ before)) × (g ≡ h)
+
+-- `mezguld_write_linear`: the bytes are written to memory from a linear address up; if no program is loaded, nothing
+-- changes
+abbrev pub WritesLinearTo : Hosted → ℕ → List ℕ → ℕ → Hosted → Type 0
+WritesLinearTo h address bytes status g =
+    IsDoneOrRefused status (Works h (λ s t. t ≡ with_machine s (record s.machine { memory = with_bytes_at_linear s.machine.memory address bytes })) g) (λ why. IsNotLoaded h why × (g ≡ h))
 
 -- `mezguld_output`: what was written to the console, from the offset on, is copied to the front of the buffer, if it
 -- fits, and `wanted` becomes its length; past the end of the output there are no bytes. If no program is loaded (status

@@ -6,7 +6,7 @@ ghost use Rattle.std.specs.Prelude.{◌≡◌, ◌<◌, true, false, nat_lt};
 ghost use Rattle.dm_c.specs.Statuses.{version_number};
 ghost use Rattle.dm_c.specs.Calls.{IsCall, IsNone};
 ghost use Rattle.dm_c.specs.Events.{EventsTo};
-ghost use Rattle.dm_c.specs.Machines.{Makes, CopiesTo, AddsTo, LoadsTo, RunsTo, RunsUntilTo, StepsTo, RegistersTo, SetsRegistersTo, ReadsTo, WritesTo, OutputTo, OutputCountTo, SetsMoreTo, SuppliesTo, InputLeftTo, CommandsTo, ChecksTo, AnswersTo};
+ghost use Rattle.dm_c.specs.Machines.{Makes, CopiesTo, AddsTo, LoadsTo, RunsTo, RunsUntilTo, StepsTo, RegistersTo, SetsRegistersTo, ReadsTo, WritesTo, ReadsLinearTo, WritesLinearTo, OutputTo, OutputCountTo, SetsMoreTo, SuppliesTo, InputLeftTo, CommandsTo, ChecksTo, AnswersTo};
 
 use crate::events::Awaited;
 use crate::handle::Handle;
@@ -268,6 +268,45 @@ pub extern "C" fn mezguld_write(
         return NO_MACHINE;
     };
     let status = machines::write(&mut host, segment, offset, bytes);
+    machine.put(host);
+    status
+}
+
+/// Fills the buffer with the bytes of memory from a linear address up, as a program reads them: while the A20 line is off,
+/// bit 20 of an address is. Bytes where there is no memory, and past FFFF:FFFF, are FFh. The buffer stays unless the status
+/// is 0.
+#[unsafe(no_mangle)]
+pub extern "C" fn mezguld_read_linear(
+    alloc: Global,
+    machine: &mut Handle,
+    address: u32,
+    buffer: &mut [u8],
+) -> u32
+    ensures { IsCall machine.old.inside.value machine.new.inside.value ((result ≡ 1) × (buffer.new ≡ buffer.old)) (λ h g. ReadsLinearTo h address buffer.old buffer.new result g) }
+{
+    let Some(host) = machine.take(alloc) else {
+        return NO_MACHINE;
+    };
+    let status = machines::read_linear(&host, address, buffer);
+    machine.put(host);
+    status
+}
+
+/// Writes the bytes to memory from a linear address up, as a program does: while the A20 line is off, bit 20 of an address
+/// is. Bytes for the ROM, where there is no memory, or past FFFF:FFFF, are lost. Nothing changes unless the status is 0.
+#[unsafe(no_mangle)]
+pub extern "C" fn mezguld_write_linear(
+    alloc: Global,
+    machine: &mut Handle,
+    address: u32,
+    bytes: &[u8],
+) -> u32
+    ensures { IsCall machine.old.inside.value machine.new.inside.value (result ≡ 1) (λ h g. WritesLinearTo h address bytes.now result g) }
+{
+    let Some(mut host) = machine.take(alloc) else {
+        return NO_MACHINE;
+    };
+    let status = machines::write_linear(&mut host, address, bytes);
     machine.put(host);
     status
 }

@@ -3,7 +3,7 @@
 //! `output` with status 4 too.
 ghost use Rattle.std.specs.Prelude.{◌≡◌, true, false};
 ghost use Rattle.dm_c.specs.Events.{EventsTo};
-ghost use Rattle.dm_c.specs.Machines.{CopiesTo, AddsTo, LoadsTo, RunsTo, RunsUntilTo, StepsTo, RegistersTo, SetsRegistersTo, ReadsTo, WritesTo, OutputTo, OutputCountTo, SetsMoreTo, SuppliesTo, InputLeftTo, CommandsTo, ChecksTo};
+ghost use Rattle.dm_c.specs.Machines.{CopiesTo, AddsTo, LoadsTo, RunsTo, RunsUntilTo, StepsTo, RegistersTo, SetsRegistersTo, ReadsTo, WritesTo, ReadsLinearTo, WritesLinearTo, OutputTo, OutputCountTo, SetsMoreTo, SuppliesTo, InputLeftTo, CommandsTo, ChecksTo};
 
 use crate::events::{Awaited, BAD_EVENT, are_known, ended_of, events_of, place_in};
 use crate::handle::Handle;
@@ -177,6 +177,28 @@ pub(crate) fn write(host: &mut Host, segment: u16, offset: u16, bytes: &[u8]) ->
     ensures { WritesTo host.old segment offset bytes.now result host.new }
 {
     match host.write(segment, offset, bytes) {
+        Ok(()) => OK,
+        Err(refusal) => status_of(refusal),
+    }
+}
+
+/// Fills the buffer with the bytes of memory from a linear address up, as a program reads them; they are FFh past
+/// FFFF:FFFF. Status 14, and no change, if no program is loaded.
+pub(crate) fn read_linear(host: &Host, address: u32, buffer: &mut [u8]) -> u32
+    ensures { ReadsLinearTo host.now address buffer.old buffer.new result host.now }
+{
+    match host.read_linear(address, buffer) {
+        Ok(()) => OK,
+        Err(refusal) => status_of(refusal),
+    }
+}
+
+/// Writes the bytes to memory from a linear address up, as a program does; those for the ROM, where there is no memory, or
+/// past FFFF:FFFF, are lost. Status 14, and no change, if no program is loaded.
+pub(crate) fn write_linear(host: &mut Host, address: u32, bytes: &[u8]) -> u32
+    ensures { WritesLinearTo host.old address bytes.now result host.new }
+{
+    match host.write_linear(address, bytes) {
         Ok(()) => OK,
         Err(refusal) => status_of(refusal),
     }

@@ -3,3 +3,4 @@ pub mod Lines
 pub mod Filled
 pub mod Checked
 pub mod Ran
+pub mod Reached

@@ -2,6 +2,7 @@ pub mod Setups
 pub mod Hosts
 pub mod Loading
 pub mod Memory
+pub mod Linear
 pub mod Input
 pub mod Commands
 pub mod Checking

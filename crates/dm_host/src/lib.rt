@@ -9,6 +9,7 @@ mod copy;
 mod events;
 mod host;
 mod input;
+mod linear;
 mod loading;
 mod memory;
 mod refusal;
