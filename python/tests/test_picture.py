@@ -215,10 +215,12 @@ class Reports(unittest.TestCase):
             if it["type"] in ("error", "note"):
                 site = f"{'before ' if it['before'] else ''}{it['at']}"
                 line = f"{it['type']}: step {it['step']}, {site} {it.get('call') or it['instruction']}: {it['text']}"
+                # The report's text, from which the page takes its findings, does not name the process.
+                del it["process"]
                 report = picture.report_of([line, "errors: 0, notes: 0"], 0)
                 self.assertEqual(report.findings, [{**it, "more": 0, "last": it["step"]}])
                 kinds.add(it["kind"])
-        self.assertEqual(len(kinds), 26, sorted(kinds))
+        self.assertEqual(len(kinds), 25, sorted(kinds))
 
     def test_again_and_what_is_not_listed(self) -> None:
         lines = ["note: step 6, 0103:0109 INT 21h function 49h (Free Allocated Memory): refused with code 09h, no such block",
