@@ -92,12 +92,12 @@ def module(script):
 
 
 def faults_of_help(text):
-    """The faults where `dm run --help` prints a text, and `dm debug --help` and `dm check --help` the same with one option more."""
+    """The faults where `dm run --help` prints a text, and `dm debug --help` and `dm check --help` the same with one option more, or two."""
     texts = {
         (): TOP,
         ("run",): text,
         ("debug",): text.replace("Options:\n", "Options:\n      --input <FILE>  The input\n"),
-        ("check",): text.replace("  -h, --help", "      --no-free       Leave out free memory\n  -h, --help"),
+        ("check",): text.replace("  -h, --help", "      --no-free       Leave out free memory\n      --json          Report in JSON\n  -h, --help"),
     }
     with mock.patch.object(usage, "help_of", lambda _, *words: texts[words]):
         return " ".join(usage.faults("dm"))
