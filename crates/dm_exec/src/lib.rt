@@ -24,6 +24,4 @@ pub use operation::{
     TransferOperation,
 };
 pub use repetitions::repeat_upwards;
-pub use strings::{
-    Comparing, Loading, Moving, Scanning, Storing, StringWork, repeat_string,
-};
+pub use strings::{Comparing, Loading, Moving, Scanning, Storing, StringWork, repeat_string};
