@@ -32,6 +32,7 @@ pub enum Adjustment {
 /// AAM and AAD do. The undefined status flags and trap, interrupt and direction stay. AAA and AAS change AH by 1 if the
 /// low digit is adjusted, and by no carry out of AL. In DAA and DAS the old AL and the old carry say whether the high
 /// digit is adjusted.
+#[inline(always)]
 #[tactic(auto, unfolding(crate::specs::Adjustments::flags_after_adjustment))]
 pub fn adjust(adjustment: Adjustment, ax: u16, flags: Flags) -> (u16, Flags)
     ensures value { result.0 ≡ adjusted_value adjustment ax flags }
@@ -60,6 +61,7 @@ pub fn adjust(adjustment: Adjustment, ax: u16, flags: Flags) -> (u16, Flags)
 
 /// AX after an adjustment, by AX and the flags before it. AL and AH are each taken modulo 256; a carry or borrow out of
 /// AL is lost.
+#[inline(always)]
 #[tactic(auto, unfolding(crate::specs::Adjustments::adjusted_value))]
 fn adjusted_value(adjustment: Adjustment, ax: u16, flags: Flags) -> u16
     ensures { result ≡ adjusted_value adjustment ax flags }
@@ -84,6 +86,7 @@ fn adjusted_value(adjustment: Adjustment, ax: u16, flags: Flags) -> u16
 }
 
 /// AX of its halves, each modulo 256.
+#[inline(always)]
 fn word_of_halves(high: u16, low: u16) -> u16
     ensures { result ≡ word_of_halves high low }
 {
@@ -91,6 +94,7 @@ fn word_of_halves(high: u16, low: u16) -> u16
 }
 
 /// Whether AAA, AAS, DAA and DAS adjust the low digit of AL (`low`): it is over 9, or the adjust flag is set.
+#[inline(always)]
 fn low_digit_off(low: u16, flags: Flags) -> bool
     ensures { result ≡ low_digit_off low flags }
 {
@@ -98,6 +102,7 @@ fn low_digit_off(low: u16, flags: Flags) -> bool
 }
 
 /// Whether DAA and DAS adjust the high digit of AL (`low`): AL is over 99h, or the carry flag is set.
+#[inline(always)]
 fn high_digit_off(low: u16, flags: Flags) -> bool
     ensures { result ≡ high_digit_off low flags }
 {
@@ -105,6 +110,7 @@ fn high_digit_off(low: u16, flags: Flags) -> bool
 }
 
 /// What DAA adds to AL (`low`) and DAS takes from it: 0, 6, 60h or 66h.
+#[inline(always)]
 fn decimal_change(low: u16, flags: Flags) -> u16
     ensures change { result ≡ decimal_change low flags }
     ensures at_most { result ≤ 0x66 }
@@ -115,6 +121,7 @@ fn decimal_change(low: u16, flags: Flags) -> u16
 }
 
 /// The flags with parity, zero and sign set by AL of `ax` (DAA, DAS, AAM, AAD); the others stay.
+#[inline(always)]
 fn after_accumulator(ax: u16, flags: Flags) -> Flags
     ensures { result ≡ after_accumulator ax flags }
 {

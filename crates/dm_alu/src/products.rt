@@ -32,6 +32,7 @@ pub struct Division {
 /// Carry and overflow say that the upper half is significant: for MUL that it is not zero, for IMUL
 /// that it is not the lower half's sign in each bit. Parity, adjust, zero and sign, which are
 /// undefined, stay, and so do trap, interrupt and direction.
+#[inline(always)]
 #[tactic(auto, unfolding(crate::specs::Products::flags_after_product))]
 pub fn mul(sign: Sign, width: Width, a: u16, b: u16, flags: Flags) -> (u32, Flags)
     requires first { a < size width }
@@ -51,6 +52,7 @@ pub fn mul(sign: Sign, width: Width, a: u16, b: u16, flags: Flags) -> (u32, Flag
 }
 
 /// The product of two values of the width, unsigned (MUL) or signed (IMUL), twice as wide.
+#[inline(always)]
 #[tactic(auto, unfolding(crate::specs::Products::product_value))]
 fn product(sign: Sign, width: Width, a: u16, b: u16) -> u32
     requires first { a < size width }
@@ -65,6 +67,7 @@ fn product(sign: Sign, width: Width, a: u16, b: u16) -> u32
 }
 
 /// IMUL: the product of the signed numbers that two values stand for.
+#[inline(always)]
 fn signed_product(width: Width, a: u16, b: u16) -> i32
     requires first { a < size width }
     requires second { b < size width }
@@ -75,6 +78,7 @@ fn signed_product(width: Width, a: u16, b: u16) -> i32
 }
 
 /// The value of twice the width that stands for a signed number in two's complement, for the product of IMUL.
+#[inline(always)]
 fn double_complement(width: Width, number: i32) -> u32
     requires { unsigned_abs number ≤ half width * half width }
     ensures value { result ≡ twos_complement (size width * size width) number }
@@ -92,6 +96,7 @@ fn double_complement(width: Width, number: i32) -> u32
 
 /// Whether the upper half of a product says more than the lower half: for MUL it is not zero, for IMUL not each of its
 /// bits is the lower half's sign.
+#[inline(always)]
 fn upper_is_significant(sign: Sign, width: Width, product: u32) -> bool
     ensures { result ≡ upper_is_significant sign width product }
 {
@@ -115,6 +120,7 @@ fn upper_is_significant(sign: Sign, width: Width, product: u32) -> bool
 ///
 /// None exactly at a zero divisor, and where the quotient is out of range: for DIV past 255 or
 /// 65,535, for IDIV outside -127 to 127 or -32,767 to 32,767. A division leaves each flag.
+#[inline(always)]
 #[tactic(auto, unfolding(crate::specs::Products::quotient_of))]
 pub fn div(sign: Sign, width: Width, dividend: u32, divisor: u16) -> Option<Division>
     requires dividend { dividend < size width * size width }
@@ -133,6 +139,7 @@ pub fn div(sign: Sign, width: Width, dividend: u32, divisor: u16) -> Option<Divi
 }
 
 /// DIV by a divisor that is not zero; None where the quotient is past 255 or 65,535.
+#[inline(always)]
 #[tactic(auto, unfolding(crate::specs::Products::quotient_of))]
 fn unsigned_div(width: Width, dividend: u32, divisor: u16) -> Option<Division>
     requires divisor { 0 < divisor }
@@ -154,6 +161,7 @@ fn unsigned_div(width: Width, dividend: u32, divisor: u16) -> Option<Division>
 }
 
 /// IDIV by a divisor that is not zero; None where the quotient is outside -127 to 127 or -32,767 to 32,767.
+#[inline(always)]
 #[tactic(auto, unfolding(crate::specs::Products::quotient_of))]
 fn signed_div(width: Width, dividend: u32, divisor: u16) -> Option<Division>
     requires dividend { dividend < size width * size width }
@@ -172,6 +180,7 @@ fn signed_div(width: Width, dividend: u32, divisor: u16) -> Option<Division>
 
 /// A signed quotient and remainder as values of the width; None where the quotient is outside -127 to 127 or -32,767 to
 /// 32,767.
+#[inline(always)]
 #[tactic(auto, unfolding(crate::specs::Products::signed_division))]
 fn signed_division(width: Width, quotient: i64, remainder: i64) -> Option<Division>
     requires { unsigned_abs remainder < half width }
@@ -190,6 +199,7 @@ fn signed_division(width: Width, quotient: i64, remainder: i64) -> Option<Divisi
 }
 
 /// The quotient of IDIV, cut towards zero. (Thirty-two bits would not hold that of the least dividend by -1.)
+#[inline(always)]
 #[tactic(auto, using(crate::proofs::Quotients::quotient_smaller))]
 fn truncated_quotient(dividend: i64, divisor: i64) -> i64
     requires dividend { unsigned_abs dividend ≤ 2147483648 }
@@ -201,6 +211,7 @@ fn truncated_quotient(dividend: i64, divisor: i64) -> i64
 
 /// The remainder of IDIV, whose quotient is cut towards zero: it is zero or has the dividend's sign, and is nearer to
 /// zero than the divisor.
+#[inline(always)]
 #[tactic(auto, using(crate::proofs::Quotients::remainder_smaller))]
 fn truncated_remainder(dividend: i64, divisor: i64) -> i64
     requires dividend { unsigned_abs dividend ≤ 2147483648 }
@@ -212,6 +223,7 @@ fn truncated_remainder(dividend: i64, divisor: i64) -> i64
 }
 
 /// The signed number that a value of twice the width, the dividend of IDIV, stands for in two's complement.
+#[inline(always)]
 #[tactic(auto, unfolding(crate::specs::Products::signed_double))]
 fn signed_double(width: Width, value: u32) -> i64
     requires { value < size width * size width }
@@ -219,13 +231,13 @@ fn signed_double(width: Width, value: u32) -> i64
     ensures magnitude { unsigned_abs result ≤ 2147483648 }
 {
     match width {
-        Width::Byte if value >= 0x8000 => i64::from(value) - 0x1_0000,
-        Width::Word if value >= 0x8000_0000 => i64::from(value) - 0x1_0000_0000,
-        _ => i64::from(value),
+        Width::Byte => i64::from(value.wrapping_add(0x8000) % 0x1_0000) - 0x8000,
+        Width::Word => i64::from(value.wrapping_add(0x8000_0000)) - 0x8000_0000,
     }
 }
 
 /// A signed number, the quotient or remainder of IDIV, as a value of the width: below 0 with the width's size added.
+#[inline(always)]
 fn single_complement(width: Width, number: i32) -> u16
     requires { unsigned_abs number ≤ half width }
     ensures value { result ≡ twos_complement (size width) number }

@@ -16,6 +16,7 @@ pub enum Width {
 
 impl Width {
     /// One more than the largest value of the width: 256 or 65,536.
+    #[inline(always)]
     pub fn size(self) -> u32
         ensures { result ≡ size self }
     {
@@ -26,6 +27,7 @@ impl Width {
     }
 
     /// The least value whose top bit is one: 128 or 32,768.
+    #[inline(always)]
     pub fn half(self) -> u16
         ensures { result ≡ half self }
     {
@@ -37,6 +39,7 @@ impl Width {
 
     /// Whether the top bit of a value of the width is one, so that its signed reading is below
     /// zero.
+    #[inline(always)]
     pub fn is_negative(self, value: u16) -> bool
         ensures { result ≡ is_negative self value }
     {
@@ -45,6 +48,7 @@ impl Width {
 
     /// The signed number that a value of the width stands for in two's complement: -128 to 127, or
     /// -32,768 to 32,767.
+    #[inline(always)]
     #[tactic(auto, unfolding(crate::specs::Width::signed))]
     pub fn signed(self, value: u16) -> i32
         requires { value < size self }
@@ -54,10 +58,10 @@ impl Width {
         ensures magnitude { unsigned_abs result ≤ half self }
         ensures nonzero { 0 < value → 0 < unsigned_abs result }
     {
-        if self.is_negative(value) {
-            i32::from(value) - self.size() as i32
-        } else {
-            i32::from(value)
+        // One instruction of the host extends the sign.
+        match self {
+            Width::Byte => i32::from(value.wrapping_add(0x80) % 0x100) - 0x80,
+            Width::Word => i32::from(value.wrapping_add(0x8000)) - 0x8000,
         }
     }
 }

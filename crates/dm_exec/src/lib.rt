@@ -3,16 +3,19 @@
 
 mod control;
 mod effect;
+mod far;
 mod jumps;
 mod laws;
 mod moves;
 mod operation;
 mod repetitions;
+mod searches;
 mod strings;
 
 pub use control::change_flag;
 pub use dm_cpu::{Cpu, Flags, far_return, interrupt_return};
 pub use effect::{Next, exec, execute};
+pub use far::transfer_low;
 pub use jumps::{
     call_by, call_memory, call_register, jump_memory, jump_register, return_near, target_after,
     target_by_count, target_if, transfer,

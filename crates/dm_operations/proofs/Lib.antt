@@ -2,3 +2,4 @@ mod Carries
 mod Signs
 mod ByWidth
 pub mod Unshifted
+mod Addresses

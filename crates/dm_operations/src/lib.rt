@@ -4,6 +4,7 @@
 
 pub mod adjustments;
 pub mod arithmetic;
+mod low;
 mod numbers;
 mod pairs;
 pub mod products;
@@ -12,14 +13,18 @@ pub mod stack;
 
 pub use adjustments::adjust_accumulator;
 pub use arithmetic::ArithmeticOperation;
+pub use low::{divide_by_low, on_low_pair, on_low_place};
 pub use numbers::Number;
 pub use pairs::{
-    Addition, AdditionWithCarry, Comparison, Complement, Decrement, Dividing, Increment, Joining,
-    Multiplication, Negation, Pair, PairOperation, Place, PlaceOperation, Shifting, Subtraction,
-    SubtractionWithBorrow, Testing, on_pair, on_place,
+    Addition, AdditionWithCarry, Changing, Combining, Comparison, Complement, Decrement, Dividing,
+    Increment, Input, Joining, Multiplication, Negation, Pair, PairOperation, Place,
+    PlaceOperation, Shifting, Subtraction, SubtractionWithBorrow, Testing, on_pair, on_place,
 };
-pub use shifts::{shift_left_once, shift_right_once};
+pub use shifts::{
+    ArithmeticShift, LeftRotation, LeftRotationThroughCarry, LeftShift, Moving, RightRotation,
+    RightRotationThroughCarry, RightShift, shift_left_once, shift_right_once,
+};
 pub use stack::{
-    InterruptOperation, StackOperation, act_on_interrupt, pop_flags, pop_to, push_flags,
-    push_register,
+    InterruptOperation, StackOperation, act_on_interrupt, act_on_interrupt_low, pop_flags, pop_to,
+    push_flags, push_register,
 };

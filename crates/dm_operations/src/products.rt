@@ -1,5 +1,7 @@
 //! MUL, IMUL, DIV and IDIV.
 ghost use Rattle.std.specs.Prelude.{◌≡◌, ◌<◌, ◌*◌};
+ghost use Rattle.std.specs.Bool.{OnTrue, OnFalse};
+ghost use Rattle.dm_space.specs.Memory.{Memory};
 ghost use Rattle.dm_alu.specs.Width.{size};
 ghost use Rattle.dm_alu.specs.Products.{product_value, flags_after_product, quotient_of};
 ghost use Rattle.dm_cpu.specs.Guest.{guest};
@@ -108,6 +110,27 @@ pub(crate) fn divide_by(
     match div(sign, width, dividend, divisor) {
         None => stack::interrupt(cpu, space, 0),
         Some(division) => set_division(width, cpu, division),
+    }
+}
+
+/// Does DIV or IDIV by a value of the width, if there is a quotient. Returns whether it is done; else nothing has
+/// changed. CS and IP stay.
+#[inline(always)]
+#[tactic(auto, unfolding(crate::specs::Products::after_division, crate::specs::Products::with_division))]
+pub(crate) fn divides(width: Width, cpu: &mut Registers, sign: Sign, divisor: u16) -> bool
+    requires { divisor < size width }
+    ensures does { OnTrue result ((memory : Memory) → guest cpu.new memory ≡ after_division width (guest cpu.old memory) (quotient_of sign width (double_of width cpu.old) divisor)) }
+    ensures stays { OnFalse result (cpu.new ≡ cpu.old) }
+    ensures segment { cpu.new.cs ≡ cpu.old.cs }
+    ensures ip { cpu.new.ip ≡ cpu.old.ip }
+{
+    let dividend = double(width, cpu);
+    match div(sign, width, dividend, divisor) {
+        None => false,
+        Some(division) => {
+            set_division(width, cpu, division);
+            true
+        }
     }
 }
 
