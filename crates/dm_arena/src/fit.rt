@@ -98,6 +98,7 @@ pub(crate) fn in_effect_beside(
 }
 
 /// Whether the block is one of upper memory: its header is above the link block's.
+#[inline(always)]
 fn is_upper(header: Header) -> bool
     ensures { result ≡ Blocks.is_upper header }
 {
@@ -105,6 +106,7 @@ fn is_upper(header: Header) -> bool
 }
 
 /// Whether the strategy looks at a block: it is free, and in the strategy's area.
+#[inline(always)]
 fn is_candidate(strategy: Strategy, header: Header, upper: bool) -> bool
     ensures { result ≡ Blocks.is_candidate upper strategy header }
 {
@@ -118,6 +120,7 @@ fn is_candidate(strategy: Strategy, header: Header, upper: bool) -> bool
 }
 
 /// Whether the fit takes `header` rather than `old`, two blocks of one area.
+#[inline(always)]
 fn prefers_by(fit: Fit, header: Header, old: Header) -> bool
     ensures { result ≡ Blocks.prefers_by fit header old }
 {
@@ -131,6 +134,7 @@ fn prefers_by(fit: Fit, header: Header, old: Header) -> bool
 }
 
 /// Whether the strategy takes `header` rather than `old`, two blocks that are large enough.
+#[inline(always)]
 fn prefers(strategy: Strategy, header: Header, old: Header) -> bool
     ensures { result ≡ Blocks.prefers strategy header old }
 {
@@ -149,6 +153,7 @@ fn prefers(strategy: Strategy, header: Header, old: Header) -> bool
 
 /// The block that the search takes once it has met one more block: that block if it fits n paragraphs and is
 /// preferred to `best`, else `best`.
+#[inline(always)]
 fn better_of(
     strategy: Strategy,
     n: u16,
@@ -181,6 +186,7 @@ pub(crate) struct Spoken {
 
 /// The part of a block that is left to choose from: all of it; of the block of `spoken`, from which the first block
 /// of a pair is cut, only the rest.
+#[inline(always)]
 fn left_part(spoken: Option<Spoken>, header: Header) -> Option<Header>
     ensures { result ≡ Walks.left_part spoken header }
 {
@@ -198,6 +204,7 @@ fn left_part(spoken: Option<Spoken>, header: Header) -> Option<Header>
 
 /// The choice once the search has met one more block, or the part of it that is left; None if nothing of it is left,
 /// and then the choice stays.
+#[inline(always)]
 fn meet(strategy: Strategy, n: u16, choice: Choice, header: Option<Header>, upper: bool) -> Choice
     ensures block { result.block ≡ pick upper strategy n choice.block (option_to_list header) }
     ensures largest { result.largest ≡ max choice.largest (largest upper strategy (option_to_list header)) }
@@ -205,6 +212,9 @@ fn meet(strategy: Strategy, n: u16, choice: Choice, header: Option<Header>, uppe
     let Some(header) = header else {
         return choice;
     };
+    if !header.is_free(upper) {
+        return choice;
+    }
     let free = if is_candidate(strategy, header, upper) {
         header.size
     } else {

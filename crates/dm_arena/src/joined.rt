@@ -6,12 +6,13 @@ ghost use Rattle.dm_blocks.specs.Chain.{first_header, next, IsArena};
 ghost use Rattle.dm_blocks.specs.Reading.{IsSpelledFrom};
 ghost use Rattle.dm_arena.specs.inner.Walks.{IsJoinedFront, IsJoined};
 
-use crate::writing::write_header;
+use crate::writing::put_header;
 use dm_blocks::{Entry, FIRST, entry_at};
 use dm_space::Space;
 
 /// Reads the header at a segment from which a list is spelled. If its block is free, it takes in the free blocks
 /// right after it. With `upper`, upper memory belongs to the arena, and the link block counts as taken.
+#[inline(always)]
 pub(crate) fn joined_at(space: &Space, segment: u16, upper: bool) -> Entry
     requires { (L : List Header) × IsSpelledFrom space.now.memory segment L }
     ensures there { result.header.segment ≡ segment }
@@ -42,7 +43,7 @@ pub(crate) fn join_all(space: &mut Space, upper: bool)
     let mut segment = FIRST;
     'walk: loop {
         let entry = joined_at(space, segment, upper);
-        write_header(space, entry);
+        put_header(space, entry);
         if entry.last {
             return;
         }

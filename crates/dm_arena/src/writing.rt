@@ -1,17 +1,19 @@
 //! An arena header written: the first five bytes of a paragraph (MS-DOS Programmer's Reference, "Arena header").
 ghost use Rattle.std.specs.Prelude.{◌≡◌, ◌+◌, ◌*◌, ◌<◌, ◌≤◌};
+ghost use Rattle.std.specs.Bool.{OnTrue};
 ghost use Rattle.dm_space.specs.Memory.{IsHeld};
 ghost use Rattle.dm_space.specs.inner.Places.{IsPoked};
-ghost use Rattle.dm_blocks.specs.Chain.{signature_byte, next};
+ghost use Rattle.dm_blocks.specs.Chain.{IsHeader, signature_byte, next};
 ghost use Rattle.dm_arena.specs.inner.Walks.{IsHeaderWritten};
 
-use dm_blocks::Entry;
+use dm_blocks::{Entry, header_at};
 use dm_space::Space;
 
 /// The segment up to which headers stand in RAM that needs no look at the map.
 const END: u16 = 0xC000;
 
 /// States that memory and the scratch part have their sizes, which proofs need. It changes nothing.
+#[inline(always)]
 fn knows_sizes(space: &Space)
     ensures held { IsHeld space.now }
 {
@@ -30,6 +32,7 @@ fn set_byte(space: &mut Space, segment: u16, offset: u16, value: u8)
 }
 
 /// Writes a byte of a header that stands below segment C000h, in RAM: at an offset, below 16, of its paragraph.
+#[inline(always)]
 fn set_low_byte(space: &mut Space, segment: u16, offset: u16, value: u8)
     requires offset { offset < 16 }
     requires low { segment < 0xC000 }
@@ -42,6 +45,7 @@ fn set_low_byte(space: &mut Space, segment: u16, offset: u16, value: u8)
 }
 
 /// Does what `write_header` does, for a header below segment C000h.
+#[inline(always)]
 fn write_low_header(space: &mut Space, entry: Entry)
     requires fits { next entry.header ≤ 0xFFFF }
     requires low { entry.header.segment < 0xC000 }
@@ -75,4 +79,28 @@ pub(crate) fn write_header(space: &mut Space, entry: Entry)
     set_byte(space, segment, 2, (owner / 256) as u8);
     set_byte(space, segment, 3, (size % 256) as u8);
     set_byte(space, segment, 4, (size / 256) as u8);
+}
+
+/// Whether memory has a header, with its signature, at its segment.
+#[inline(always)]
+fn has_header(space: &Space, entry: Entry) -> bool
+    ensures { OnTrue result (IsHeader space.now.memory entry.header (signature_byte entry.last)) }
+{
+    let Some(there) = header_at(space, entry.header.segment) else {
+        return false;
+    };
+    there == entry
+}
+
+/// Does what [`write_header`] does, and writes nothing where memory has the header already.
+#[inline(always)]
+pub(crate) fn put_header(space: &mut Space, entry: Entry)
+    requires { next entry.header ≤ 0xFFFF }
+    ensures memory { IsHeaderWritten space.old.memory entry.header (signature_byte entry.last) space.new.memory }
+    ensures scratch { space.new.scratch ≡ space.old.scratch }
+{
+    if has_header(space, entry) {
+        return;
+    }
+    write_header(space, entry);
 }

@@ -38,6 +38,7 @@ pub struct Entry {
 
 impl Header {
     /// The segment after the block, where the next header of its list stands, if there is one.
+    #[inline(always)]
     pub fn next(self) -> u16
         requires { next self ≤ 0xFFFF }
         ensures { result ≡ next self }
@@ -47,6 +48,7 @@ impl Header {
 
     /// Whether the block is free: its owner is 0. `upper` says whether upper memory belongs to the
     /// arena; if so, the link block counts as taken, whatever its owner.
+    #[inline(always)]
     pub fn is_free(self, upper: bool) -> bool
         ensures { result ≡ Chain.is_free upper self }
     {
@@ -59,6 +61,7 @@ impl Header {
 
 impl Entry {
     /// The signature byte of the header: `Z` if it is the last one, else `M`.
+    #[inline(always)]
     pub fn signature(self) -> u8
         ensures { result ≡ signature_byte self.last }
     {
@@ -67,6 +70,7 @@ impl Entry {
 }
 
 /// The byte of a header at an offset, below 16, of the paragraph at a segment.
+#[inline(always)]
 fn byte_of(space: &Space, segment: u16, offset: u16) -> u8
     requires { offset < 16 }
     ensures { result ≡ peek space.now.memory (16 * segment + offset) }
@@ -75,6 +79,7 @@ fn byte_of(space: &Space, segment: u16, offset: u16) -> u8
 }
 
 /// The word of a header, low byte first, at an offset, below 15, of the paragraph at a segment.
+#[inline(always)]
 fn word_of(space: &Space, segment: u16, offset: u16) -> u16
     requires { offset < 15 }
     ensures word { result ≡ word space.now.memory (16 * segment + offset) }
@@ -87,6 +92,7 @@ fn word_of(space: &Space, segment: u16, offset: u16) -> u16
 }
 
 /// Whether the byte at segment:0 is the signature of a last header, `Z`.
+#[inline(always)]
 pub fn is_last(space: &Space, segment: u16) -> bool
     ensures { result ≡ (peek space.now.memory (16 * segment) == 0x5A) }
 {
@@ -121,6 +127,7 @@ fn fields_in_rom(space: &Space, segment: u16) -> Fields
 }
 
 /// The fields at a segment. Below the ROM they are read at once.
+#[inline(always)]
 fn fields_at(space: &Space, segment: u16) -> Fields
     ensures { HasFields space.now.memory segment result }
 {
@@ -137,6 +144,7 @@ fn fields_at(space: &Space, segment: u16) -> Fields
 
 /// Reads the header at a segment, whatever list it belongs to. None if its first byte is neither
 /// `M` nor `Z`, or if the segment after its block would be over FFFFh.
+#[inline(always)]
 pub fn header_at(space: &Space, segment: u16) -> Option<Entry>
     ensures { IsEntryAt space.now.memory segment result }
 {

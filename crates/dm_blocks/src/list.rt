@@ -19,6 +19,7 @@ pub const LINK: u16 = 0x9FFF;
 
 /// Reads the header at a segment from which memory spells a list: a step of a walk over a list that is known to be
 /// whole.
+#[inline(always)]
 pub fn entry_at(space: &Space, segment: u16) -> Entry
     requires { (L : List Header) × IsSpelledFrom space.now.memory segment L }
     ensures there { result.header.segment ≡ segment }

@@ -23,7 +23,7 @@ use dm_state::{Parts, Stop};
 
 /// A function of INT 21h, which AH names.
 #[derive(Clone, Copy, Debug, PartialEq, Eq)]
-pub(crate) enum Function {
+pub enum Function {
     /// 00h: ends the process with the code 0.
     Terminate,
     /// 01h: reads a byte of the input into AL, and writes it.

@@ -17,7 +17,9 @@ mod system;
 mod text;
 mod vectors;
 
+pub use functions::Function;
 pub use laws::{
     services_have_one_answer, services_ignore_unseen, services_keep_room, services_keep_the_map,
 };
 pub use services::serve;
+pub use strategies::StrategyFunction;
