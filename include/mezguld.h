@@ -4,22 +4,33 @@
  * runs, in as many calls of mezguld_run, mezguld_run_until or mezguld_run_to as you like. Between two calls its registers and memory can
  * be read and written, input supplied, output taken, and a snapshot made by mezguld_copy. mezguld_free frees it.
  *
- * What each function returns, writes and changes is proved (crates/dm_c), as long as C keeps to this, which no function can test:
+ *     mezguld *machine;
+ *     if (mezguld_new(&machine, 64, 1024, NULL, 0, 0) == MEZGULD_OK) {
+ *         ...
+ *         mezguld_free(machine);
+ *     }
  *
- *  - A `mezguld *` points to a `mezguld`, and every other pointer to as many elements as the count after it says, or to
- *    one where there is no count. No pointer is NULL, not even where the count is 0 (pass ""). What a function writes
+ * Each function but mezguld_version and mezguld_free returns a status. Where it is not MEZGULD_OK, nothing has changed and
+ * nothing was written, unless the function's comment says otherwise. Each comment names the statuses that the function
+ * returns beside OK and NULL_POINTER, without their prefix, in the order in which they are tried; OUT_OF_MEMORY may come before any
+ * of them. Texts and bytes have a count, and no zero byte after them.
+ *
+ * NULL: a machine that is NULL is no machine (NO_MACHINE), and mezguld_free ignores it. A buffer, text or array may be NULL where
+ * its count is 0; elsewhere the status is NULL_POINTER, which is tried right after NO_MACHINE (in mezguld_new and mezguld_copy
+ * first). A result that is not wanted may be NULL: nothing is written there.
+ *
+ * What no function can test, and C must keep to:
+ *
+ *  - A `mezguld *` is NULL, or comes from mezguld_new or mezguld_copy and was not freed. Every other pointer that is not NULL
+ *    points to as many elements as the count after it says, or to one where there is no count. What a function writes
  *    overlaps nothing else that it is passed.
- *  - A `mezguld` is MEZGULD_NONE before the first call. C does not write to it and does not copy it, but by mezguld_copy.
- *    Where a machine was freed or never made, each call returns MEZGULD_NO_MACHINE; a copy made before the free, as by an
- *    assignment, is not recognized.
- *  - No two calls on one machine overlap. They may come from several threads, if each call has ended before the next one
+ *  - No two calls on one machine overlap, not even two that take a `const mezguld *`. They may come from any threads, if each call has ended before the next one
  *    begins, as under a mutex. No function is called from a signal handler, or in the forked child of a process with
  *    threads; no `longjmp` and no cancellation of a thread leaves a call.
  *  - malloc, realloc and free are those of one allocator, as of the C library.
  *
- * Each function but mezguld_version returns a status. Where it is not MEZGULD_OK, nothing has changed and nothing was
- * written, unless the function's comment says otherwise; each comment names the statuses that it returns beside OK,
- * without their prefix, in the order in which they are tried. Texts and bytes have a count, and no zero byte after them.
+ * What the functions return, write and change is then proved (crates/dm_c), but for what lib/mezguld.c adds in C: it holds
+ * the handle of each machine, and answers NULL.
  */
 #ifndef MEZGULD_H
 #define MEZGULD_H
@@ -35,32 +46,27 @@
 #define MEZGULD_VERSION_PATCH 0
 #define MEZGULD_VERSION_NUMBER 20000
 
-/* What stands before each function: its pointers are not NULL, and its status is to be looked at. */
-#if defined(__GNUC__) || defined(__clang__)
-#define MEZGULD_CALL __attribute__((nonnull, warn_unused_result))
-#define MEZGULD_FREE __attribute__((nonnull))
+/* What stands before each function that returns a status, which is to be looked at; and before those that make a machine: the
+ * place for it, the parameter of this number, is not NULL either. (Where the library itself is compiled, it may be.) */
+#if (defined(__GNUC__) || defined(__clang__)) && !defined(MEZGULD_INSIDE)
+#define MEZGULD_CALL __attribute__((warn_unused_result))
+#define MEZGULD_MAKES(place) __attribute__((warn_unused_result, nonnull(place)))
 #else
 #define MEZGULD_CALL
-#define MEZGULD_FREE
+#define MEZGULD_MAKES(place)
 #endif
 
 #ifdef __cplusplus
 extern "C" {
 #endif
 
-/* A machine, or none. Its fields are the library's. */
-typedef struct mezguld {
-    void *inside;
-    uint64_t mark;
-} mezguld;
+/* A machine. What it holds is the library's. */
+typedef struct mezguld mezguld;
 
-#define MEZGULD_NONE {0, 0}
-
-/* The statuses. mezguld_status_text has a text for each. */
+/* The statuses. mezguld_status_text has a text for each. (2 is none.) */
 typedef enum mezguld_status {
     MEZGULD_OK = 0,
-    MEZGULD_NO_MACHINE = 1,         /* the `mezguld` holds no machine */
-    MEZGULD_IN_USE = 2,             /* the `mezguld` holds a machine already */
+    MEZGULD_NO_MACHINE = 1,         /* the machine is NULL */
     MEZGULD_OUT_OF_MEMORY = 3,      /* an allocation failed; one for the program's output is the stop MEZGULD_MEMORY */
     MEZGULD_TOO_SMALL = 4,          /* the buffer has less room than `*wanted` */
     MEZGULD_TOO_LARGE = 5,          /* over 512 pages of expanded memory, or over 15,360 KiB of extended memory */
@@ -81,7 +87,9 @@ typedef enum mezguld_status {
     MEZGULD_LINE_TWICE = 20,        /* it has the label of a line before it */
     MEZGULD_TOO_LONG = 21,          /* the program has over 65,278 bytes */
     MEZGULD_INPUT_CLOSED = 22,      /* no more input may come: mezguld_open_input opens it */
-    MEZGULD_BAD_EVENT = 23          /* the kind of an event is no mezguld_kind */
+    MEZGULD_BAD_EVENT = 23,         /* the kind of an event is no mezguld_kind */
+    MEZGULD_NULL_POINTER = 24,      /* a pointer is NULL, and what it should point to is needed */
+    MEZGULD_BAD_VARIABLES = 25      /* a variable is empty, or the last one is not closed by a zero byte */
 } mezguld_status;
 
 /* Why a run stopped. After all but EXITED another run goes on from there, and tries again what could not be done. */
@@ -141,7 +149,6 @@ typedef struct mezguld_event {
 #define MEZGULD_HAS_SIZE(type, size) typedef char type##_has_its_size[sizeof(type) == (size) ? 1 : -1]
 #endif
 
-MEZGULD_HAS_SIZE(mezguld, 16);
 MEZGULD_HAS_SIZE(mezguld_status, 4);
 MEZGULD_HAS_SIZE(mezguld_stop, 4);
 MEZGULD_HAS_SIZE(mezguld_stopped, 8);
@@ -150,32 +157,35 @@ MEZGULD_HAS_SIZE(mezguld_point, 4);
 MEZGULD_HAS_SIZE(mezguld_kind, 4);
 MEZGULD_HAS_SIZE(mezguld_event, 20);
 
+#undef MEZGULD_HAS_SIZE
+
 /* The version of the library that the program runs with, as MEZGULD_VERSION_NUMBER of its header. */
 uint32_t mezguld_version(void);
 
 /* Makes a machine with so many pages of expanded memory (16 KiB each, at most 512), so many KiB of extended memory (at
  * most 15,360), no program, and these variables in the first program's environment: `NAME=VALUE`, each closed by a zero
- * byte, at most 32,767 bytes in all ("" and 0 for none). Where `upper` is not 0, the DOS memory arena continues in upper
- * memory. IN_USE, TOO_LARGE, VARIABLES_TOO_LONG, OUT_OF_MEMORY. */
-MEZGULD_CALL mezguld_status mezguld_new(mezguld *machine, uint32_t ems_pages, uint32_t xms_kib, const char *variables,
+ * byte, at most 32,767 bytes in all (NULL and 0 for none). Where `upper` is not 0, the DOS memory arena continues in upper
+ * memory. `*machine` is the machine then; with any other status than OK it is NULL.
+ * BAD_VARIABLES, TOO_LARGE, VARIABLES_TOO_LONG, OUT_OF_MEMORY. */
+MEZGULD_MAKES(1) mezguld_status mezguld_new(mezguld **machine, uint32_t ems_pages, uint32_t xms_kib, const char *variables,
                                         size_t variables_count, uint32_t upper);
 
-/* Makes a second machine in the state of the first one, in `*copy`, which is MEZGULD_NONE before: with the same programs,
- * breakpoints, input, output and answer. The two share nothing, and each is freed: a copy is a snapshot, which can be
- * copied and run again and again. A copy costs what its memory costs.
- * NO_MACHINE (then `*copy` is not looked at), IN_USE, OUT_OF_MEMORY. */
-MEZGULD_CALL mezguld_status mezguld_copy(mezguld *machine, mezguld *copy);
+/* Makes a second machine in the state of the first one: with the same programs, breakpoints, input, output and answer. The
+ * two share nothing, and each is freed: a copy is a snapshot, which can be copied and run again and again. A copy costs what
+ * its memory costs. `*copy` is the machine then; with any other status than OK it is NULL.
+ * NO_MACHINE, OUT_OF_MEMORY. */
+MEZGULD_MAKES(2) mezguld_status mezguld_copy(const mezguld *machine, mezguld **copy);
 
-/* Frees the machine, if there is one; then `*machine` is MEZGULD_NONE. The status is always OK. */
-MEZGULD_FREE mezguld_status mezguld_free(mezguld *machine);
+/* Frees the machine. NULL is ignored. */
+void mezguld_free(mezguld *machine);
 
 /* Adds a program, the bytes of a COM or MZ file, under a name of 1 to 64 bytes. The bytes are copied.
  * NO_MACHINE, STARTED, BAD_NAME, NAME_TWICE, OUT_OF_MEMORY. */
 MEZGULD_CALL mezguld_status mezguld_add(mezguld *machine, const char *name, size_t name_count, const void *program,
                                         size_t program_count);
 
-/* Loads the program of this name, with a command tail of at most 126 bytes (it begins with a space, as in " /q"; "" and 0
- * for none) and the console's input, which is closed: no more of it comes, unless mezguld_open_input is called next.
+/* Loads the program of this name, with a command tail of at most 126 bytes (it begins with a space, as in " /q"; NULL and
+ * 0 for none) and the console's input, which is closed: no more of it comes, unless mezguld_open_input is called next.
  * NO_MACHINE, STARTED, BAD_NAME, TAIL_TOO_LONG, NOT_FOUND, BAD_FORMAT, OUT_OF_MEMORY, SHORT. After the last two the
  * machine is used up: it can only be freed. */
 MEZGULD_CALL mezguld_status mezguld_load(mezguld *machine, const char *name, size_t name_count, const char *tail,
@@ -204,10 +214,10 @@ MEZGULD_CALL mezguld_status mezguld_run_to(mezguld *machine, uint64_t steps, con
                                            size_t events_count, mezguld_stopped *stopped, size_t *place);
 
 /* Writes how many steps were made so far into `*steps`; at 2^64 - 1 the count stays. NO_MACHINE, NOT_LOADED. */
-MEZGULD_CALL mezguld_status mezguld_steps(mezguld *machine, uint64_t *steps);
+MEZGULD_CALL mezguld_status mezguld_steps(const mezguld *machine, uint64_t *steps);
 
 /* Writes the registers into `*registers`. NO_MACHINE, NOT_LOADED. */
-MEZGULD_CALL mezguld_status mezguld_registers(mezguld *machine, mezguld_cpu *registers);
+MEZGULD_CALL mezguld_status mezguld_registers(const mezguld *machine, mezguld_cpu *registers);
 
 /* Sets all the registers. Of `flags` only the bits of the nine flags count. The next run goes on at the new CS:IP. Nothing
  * else changes. NO_MACHINE, NOT_LOADED. */
@@ -215,7 +225,7 @@ MEZGULD_CALL mezguld_status mezguld_set_registers(mezguld *machine, const mezgul
 
 /* Fills a buffer with the bytes of memory from segment:offset on; offsets wrap in their segment, so that a buffer of over
  * 65,536 bytes has them again. A byte is FFh where there is no memory. NO_MACHINE, NOT_LOADED. */
-MEZGULD_CALL mezguld_status mezguld_read(mezguld *machine, uint16_t segment, uint16_t offset, void *buffer,
+MEZGULD_CALL mezguld_status mezguld_read(const mezguld *machine, uint16_t segment, uint16_t offset, void *buffer,
                                          size_t count);
 
 /* Writes bytes to memory from segment:offset on; offsets wrap in their segment. Bytes of the ROM, and where there is no
@@ -226,7 +236,7 @@ MEZGULD_CALL mezguld_status mezguld_write(mezguld *machine, uint16_t segment, ui
 /* Fills a buffer with the bytes of memory from a linear address up, segment * 16 + offset, as a program reads them: while the
  * A20 line is off, the addresses 100000h to 10FFEFh are those 100000h below. A byte is FFh where there is no memory, and past
  * 10FFEFh (FFFF:FFFF), which no program reaches. NO_MACHINE, NOT_LOADED. */
-MEZGULD_CALL mezguld_status mezguld_read_linear(mezguld *machine, uint32_t address, void *buffer, size_t count);
+MEZGULD_CALL mezguld_status mezguld_read_linear(const mezguld *machine, uint32_t address, void *buffer, size_t count);
 
 /* Writes bytes to memory from a linear address up, as a program writes them: while the A20 line is off, the addresses 100000h to
  * 10FFEFh are those 100000h below. Bytes of the ROM, and where there is no memory, stay; bytes past 10FFEFh are lost.
@@ -236,10 +246,10 @@ MEZGULD_CALL mezguld_status mezguld_write_linear(mezguld *machine, uint32_t addr
 /* Copies what the program wrote to the console, from byte `from` of it on (0: all; past the end: nothing), into a buffer,
  * and writes the count into `*wanted`. So the output since the last call is got with the count of all before it as `from`.
  * NO_MACHINE, NOT_LOADED, TOO_SMALL (then `*wanted` alone is written). */
-MEZGULD_CALL mezguld_status mezguld_output(mezguld *machine, size_t from, void *buffer, size_t room, size_t *wanted);
+MEZGULD_CALL mezguld_status mezguld_output(const mezguld *machine, size_t from, void *buffer, size_t room, size_t *wanted);
 
 /* Writes how many bytes the program has written to the console into `*count`. NO_MACHINE, NOT_LOADED. */
-MEZGULD_CALL mezguld_status mezguld_output_count(mezguld *machine, size_t *count);
+MEZGULD_CALL mezguld_status mezguld_output_count(const mezguld *machine, size_t *count);
 
 /* Opens the console's input: more of it may come, by mezguld_supply. From then on a run stops with INPUT_ENDED before each
  * call of DOS that wants input which is not there (functions 01h, 07h, 08h and 3Fh: a byte; 0Ah: a line, up to 0Dh), and
@@ -256,7 +266,7 @@ MEZGULD_CALL mezguld_status mezguld_close_input(mezguld *machine);
 MEZGULD_CALL mezguld_status mezguld_supply(mezguld *machine, const void *bytes, size_t count);
 
 /* Writes how many bytes of the console's input the program has not read yet into `*left`. NO_MACHINE, NOT_LOADED. */
-MEZGULD_CALL mezguld_status mezguld_input_left(mezguld *machine, size_t *left);
+MEZGULD_CALL mezguld_status mezguld_input_left(const mezguld *machine, size_t *left);
 
 /* Executes the command that a line of the debugger asks for (docs/manual.md; no line end), keeps its answer, and writes
  * the answer's count into `*wanted`. NO_MACHINE, NOT_LOADED, SYNTAX, FULL, OUT_OF_MEMORY. After the last one the command
@@ -270,7 +280,7 @@ MEZGULD_CALL mezguld_status mezguld_check(mezguld *machine, uint64_t steps, mezg
 
 /* Copies the answer of the last command or checked run that had one into a buffer, and writes its count into `*wanted`.
  * NO_MACHINE, TOO_SMALL (then `*wanted` alone is written). */
-MEZGULD_CALL mezguld_status mezguld_answer(mezguld *machine, char *buffer, size_t room, size_t *wanted);
+MEZGULD_CALL mezguld_status mezguld_answer(const mezguld *machine, char *buffer, size_t room, size_t *wanted);
 
 /* Assembles a text to the bytes of a COM program, and writes their count into `*wanted`. LINE_SYNTAX and LINE_TWICE at the
  * first line with either, TOO_LONG, LINE_UNKNOWN and LINE_RANGE at the first line with either (with these four the line's
@@ -288,8 +298,7 @@ static inline const char *mezguld_status_text(mezguld_status status)
 {
     switch (status) {
     case MEZGULD_OK: return "success";
-    case MEZGULD_NO_MACHINE: return "no machine: it was not made, or was freed";
-    case MEZGULD_IN_USE: return "the handle holds a machine already";
+    case MEZGULD_NO_MACHINE: return "no machine: the pointer is NULL";
     case MEZGULD_OUT_OF_MEMORY: return "an allocation failed";
     case MEZGULD_TOO_SMALL: return "the buffer is too small";
     case MEZGULD_TOO_LARGE: return "over 512 pages of expanded memory, or over 15,360 KiB of extended memory";
@@ -311,6 +320,8 @@ static inline const char *mezguld_status_text(mezguld_status status)
     case MEZGULD_TOO_LONG: return "a COM program has over 65,278 bytes";
     case MEZGULD_INPUT_CLOSED: return "the console's input is closed";
     case MEZGULD_BAD_EVENT: return "the kind of an event is none";
+    case MEZGULD_NULL_POINTER: return "a pointer is NULL";
+    case MEZGULD_BAD_VARIABLES: return "a variable is empty, or the last one is not closed by a zero byte";
     }
     return "unknown status";
 }

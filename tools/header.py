@@ -1,4 +1,6 @@
-"""Compares include/mezguld.h with the exports of crates/dm_c, and python/mezguld/__init__.py with the header."""
+"""Compares lib/exports.h with the exports of crates/dm_c, include/mezguld.h with both, and python/mezguld/__init__.py with that header.
+
+(That lib/mezguld.c has the functions of include/mezguld.h, and calls the exports as lib/exports.h declares them, is the C compiler's to see.)"""
 import ast
 import glob
 import os
@@ -10,16 +12,23 @@ NUMBERS = {"u8": "uint8_t", "u16": "uint16_t", "u32": "uint32_t", "u64": "uint64
 TYPES = {**NUMBERS, "Handle": "mezguld", "Stopped": "mezguld_stopped", "Registers": "mezguld_cpu", "Point": "mezguld_point", "Awaited": "mezguld_event"}
 # The meaning of each letter of `_PARAMETERS` in the Python module; `p` is a pointer that is followed by a count.
 LETTERS = {
-    "m": "mezguld *", "s": "mezguld_stopped *", "r": "mezguld_cpu *", "c": "const mezguld_cpu *", "w": "size_t *", "q": "uint64_t *",
+    "m": "mezguld *", "h": "mezguld **", "s": "mezguld_stopped *", "r": "mezguld_cpu *", "c": "const mezguld_cpu *", "w": "size_t *", "q": "uint64_t *",
     "n": "size_t", "I": "uint32_t", "B": "uint32_t", "Q": "uint64_t", "H": "uint16_t",
 }
 # What C calls a status and a reason to stop, which are numbers of the exports; an export that returns a number that is no status; and the type that C has
 # for bytes, `void` for data and `char` for texts.
-STATUS_TYPE, STOP_FIELD, NO_STATUS, BYTES = "mezguld_status", ("mezguld_stop", "why"), ("mezguld_version",), re.compile(r"\b(?:void|char) \*")
+STATUS_TYPE, STOP_FIELD, NO_STATUS, BYTES = "mezguld_status", ("mezguld_stop", "why"), ("dm_c_version",), re.compile(r"\b(?:void|char) \*")
 KIND_FIELD = ("mezguld_kind", "kind")
 # The exceptions of the Python module whose status has another name in the header, and the statuses that it raises nothing for: its own calls meet neither
-# a machine in use, an event of no kind nor, at last, a buffer that is too small.
-RENAMED, UNRAISED = {"COMMAND_SYNTAX": "SYNTAX", "BREAKPOINTS_FULL": "FULL"}, ("OK", "IN_USE", "TOO_SMALL", "BAD_EVENT")
+# an event of no kind, NULL, bad variables nor, at last, a buffer that is too small.
+RENAMED, UNRAISED = {"COMMAND_SYNTAX": "SYNTAX", "BREAKPOINTS_FULL": "FULL"}, ("OK", "TOO_SMALL", "BAD_EVENT", "NULL_POINTER", "BAD_VARIABLES")
+# The status of the exports that C never sees, since lib/mezguld.c makes each handle; and those that lib/mezguld.c returns by itself.
+INNER, OUTER = ("IN_USE",), ("NULL_POINTER", "BAD_VARIABLES")
+# The functions that take a `const mezguld *`; and those of the header whose parameters are not those of the export but for `const`: they make or free a machine.
+READERS = ("steps", "registers", "read", "read_linear", "output", "output_count", "input_left", "answer", "copy")
+MAKERS = {
+    "mezguld_new": {"machine": "mezguld **"}, "mezguld_copy": {"copy": "mezguld **"}, "mezguld_free": {},
+}
 EXPORT = re.compile(r'#\[unsafe\(no_mangle\)\]\s*pub extern "C" fn (\w+)\s*\(([^)]*)\)\s*(?:->\s*([\w&\[\] ]+?))?\s*(?=\bensures\b|\brequires\b|\{)')
 STRUCT = re.compile(r"#\[repr\(C\)\]\s*(?:#\[[^\]]*\]\s*)*pub struct (\w+) \{([^}]*)\}")
 CONSTANT = re.compile(r"^pub(?:\(crate\))? const (\w+): u32 = (\d+);", re.M)
@@ -27,9 +36,9 @@ CONSTANT = re.compile(r"^pub(?:\(crate\))? const (\w+): u32 = (\d+);", re.M)
 STATUS = re.compile(r"\b(?:Assembly)?Refusal::(\w+)(?:\(_\))? => (\d+)")
 STOP = re.compile(r"(?:Some\(Stop::(\w+)(?:\(\w+\))?\)|None) => Stopped \{\s*why: (\d+)")
 EVENT = re.compile(r"Ending::Came\(_\) => Stopped \{\s*why: (\d+)")
-PROTOTYPE = re.compile(r"^([\w ]+?[ *]+)(mezguld_\w+)\(([^)]*)\);", re.M | re.S)
+PROTOTYPE = re.compile(r"^([\w ]+?[ *]+)((?:mezguld|dm_c)_\w+)\(([^)]*)\);", re.M | re.S)
 INLINE = re.compile(r"^static inline ([^;{]*)\n\{(.*?)^\}\n", re.M | re.S)
-TYPEDEF = re.compile(r"typedef struct (\w+) \{([^}]*)\} (\w+);")
+STRUCTS = re.compile(r"struct (\w+) \{([^}]*)\}(?: \w+)?;")
 ENUMERATOR = re.compile(r"\bMEZGULD_(\w+) = (\d+)")
 
 
@@ -97,21 +106,21 @@ def declared_field(line):
 
 
 class Header:
-    """What the header declares."""
+    """What a header declares."""
 
-    def __init__(self):
-        text = re.sub(r"/\*.*?\*/", " ", text_of("include/mezguld.h"), flags=re.S)
-        text = re.sub(r"^MEZGULD_(?:CALL|FREE) ", "", text, flags=re.M)
+    def __init__(self, path):
+        text = re.sub(r"/\*.*?\*/", " ", text_of(path), flags=re.S)
+        text = re.sub(r"^MEZGULD_(?:CALL|MAKES\(\d\)) ", "", text, flags=re.M)
         # (The one function that C compiles itself: the text of each status.)
         self.told = {name: text for _, body in INLINE.findall(text) for name, text in re.findall(r'case MEZGULD_(\w+): return ("[^"]+");', body)}
         text = INLINE.sub("", text)
-        self.declarations = len(re.findall(r"\bmezguld_\w+\s*\(", text))
+        self.declarations = len(re.findall(r"\b(?:mezguld|dm_c)_\w+\s*\(", text))
         self.functions = {}
         for result, name, parameters in PROTOTYPE.findall(text):
             given = [type_and_name(it) for it in parameters.split(",") if it.strip() != "void"]
             self.functions[name] = (result.strip(), [(BYTES.sub("uint8_t *", kind), word) for kind, word in given])
         self.structs = {}
-        for _, fields, name in TYPEDEF.findall(text):
+        for name, fields in STRUCTS.findall(text):
             found = []
             for line in fields.split(";"):
                 words = line.strip().split(",")
@@ -138,24 +147,60 @@ def compare_numbers(what, given, wanted):
             yield f"the {what} MEZGULD_{name} is {given.get(name, 'missing')} in the header and {wanted.get(name, 'missing')} in the exports"
 
 
-def header_faults(header, exports):
-    if exports.marked != len(exports.functions) or header.declarations != len(header.functions):
+def export_faults(declared, exports):
+    """The faults of lib/exports.h."""
+    if exports.marked != len(exports.functions) or declared.declarations != len(declared.functions):
         yield "an export or a prototype cannot be read"
-    for name in sorted({*header.functions, *exports.functions}):
-        if name not in header.functions or name not in exports.functions:
+    for name in sorted({*declared.functions, *exports.functions}):
+        if name not in declared.functions or name not in exports.functions:
             yield f"{name} is {'exported and not declared' if name in exports.functions else 'declared and not exported'}"
             continue
-        (result, given), (of_export, wanted) = header.functions[name], exports.functions[name]
+        (result, given), (of_export, wanted) = declared.functions[name], exports.functions[name]
         if result != of_export:
             yield f"{name} returns {result} in the header and {of_export} in the exports"
         if not fits(given, wanted):
             yield f"{name}({shown(given)}) in the header is ({shown(wanted)}) in the exports"
+    if declared.structs.get("mezguld") != exports.structs.get("Handle"):
+        yield f"the struct mezguld has {shown(declared.structs.get('mezguld', []))} in the header and {shown(exports.structs.get('Handle', []))} in the exports"
+
+
+def wanted_of(name, exported):
+    """The result and parameters that the function of the header has for an export."""
+    result, given = exported
+    places = MAKERS.get(name, {})
+    return "void" if name == "mezguld_free" else result, [(places.get(word, kind), word) for kind, word in given]
+
+
+def is_alike(name, given, wanted):
+    """Whether the parameters are those of the export, but that a machine is `const` where it stays."""
+    machine = "const mezguld *" if name.removeprefix("mezguld_") in READERS else "mezguld *"
+    return given == [(machine if kind == "mezguld *" else kind, word) for kind, word in wanted]
+
+
+def header_faults(header, declared, exports):
+    """The faults of include/mezguld.h."""
+    if header.declarations != len(header.functions):
+        yield "a prototype cannot be read"
+    exported = {name.replace("dm_c_", "mezguld_", 1): it for name, it in declared.functions.items()}
+    for name in sorted({*header.functions, *exported}):
+        if name not in header.functions or name not in exported:
+            yield f"{name} is {'exported and not declared' if name in exported else 'declared and not exported'}"
+            continue
+        (result, given), (wanted_result, wanted) = header.functions[name], wanted_of(name, exported[name])
+        if result != wanted_result:
+            yield f"{name} returns {result} and not {wanted_result}"
+        if not is_alike(name, given, wanted):
+            yield f"{name}({shown(given)}) is ({shown(wanted)}) for the export"
     for name, kind in TYPES.items():
-        if name not in NUMBERS and header.structs.get(kind) != exports.structs.get(name):
+        if name not in NUMBERS and name != "Handle" and header.structs.get(kind) != exports.structs.get(name):
             yield f"the struct {kind} has {shown(header.structs.get(kind, []))} in the header and {shown(exports.structs.get(name, []))} in the exports"
     for name in sorted({*header.statuses} ^ {*header.told}):
         yield f"the status MEZGULD_{name} has {'a text and no number' if name in header.told else 'no text'} in the header"
-    yield from compare_numbers("status", header.statuses, exports.statuses)
+    inner = {name: number for name, number in exports.statuses.items() if name not in INNER}
+    yield from compare_numbers("status", {name: number for name, number in header.statuses.items() if name not in OUTER}, inner)
+    for name in OUTER:
+        if name not in header.statuses or header.statuses[name] in exports.statuses.values():
+            yield f"the status MEZGULD_{name} is {header.statuses.get(name, 'missing')} in the header, and lib/mezguld.c returns it"
     yield from compare_numbers("stop", header.stops, exports.stops)
 
 
@@ -189,7 +234,7 @@ def python_faults(header):
     parameters = ast.literal_eval(tables["_PARAMETERS"])
     for name in sorted({*header.functions, *parameters}):
         letters = parameters.get(name, "").replace(" ", "")
-        given = [kind for kind, _ in header.functions.get(name, ("", []))[1]]
+        given = ["mezguld *" if kind == "const mezguld *" else kind for kind, _ in header.functions.get(name, ("", []))[1]]
         wanted = [LETTERS.get(letter) for letter in letters]
         counted = [kind.endswith("*") and given[at + 1 : at + 2] == ["size_t"] for at, kind in enumerate(given)]
         pairs = zip(letters, given, wanted, counted)
@@ -208,12 +253,13 @@ def python_faults(header):
 
 def faults():
     """Each difference, as a line."""
-    header, exports = Header(), Exports()
-    yield from (f"include/mezguld.h: {fault}" for fault in header_faults(header, exports))
+    header, declared, exports = Header("include/mezguld.h"), Header("lib/exports.h"), Exports()
+    yield from (f"lib/exports.h: {fault}" for fault in export_faults(declared, exports))
+    yield from (f"include/mezguld.h: {fault}" for fault in header_faults(header, declared, exports))
     yield from (f"python/mezguld/__init__.py: {fault}" for fault in python_faults(header))
 
 
 def words():
     """The words of the header and of the Python module, the header's names also without their prefix; and those of C and Python in documents."""
-    names = re.findall(r"[A-Za-z_]\w*", text_of("include/mezguld.h") + text_of("python/mezguld/__init__.py"))
+    names = re.findall(r"[A-Za-z_]\w*", text_of("include/mezguld.h") + text_of("lib/exports.h") + text_of("python/mezguld/__init__.py"))
     return {*names, *[re.sub(r"^MEZGULD_", "", name) for name in names], "MEZGULD_", "malloc", "realloc", "free", "unittest"}

@@ -454,10 +454,6 @@ def findings(report: str) -> Findings:
 # ---- the library
 
 
-class _Handle(ctypes.Structure):
-    _fields_ = [("inside", ctypes.c_void_p), ("mark", ctypes.c_uint64)]
-
-
 class _Stopped(ctypes.Structure):
     _fields_ = [("why", ctypes.c_uint32), ("code", ctypes.c_uint32)]
 
@@ -496,8 +492,8 @@ def _path() -> str:
 
 _PARAMETERS = {
     "mezguld_version": "",
-    "mezguld_new": "m II pn B",
-    "mezguld_copy": "m m",
+    "mezguld_new": "h II pn B",
+    "mezguld_copy": "m h",
     "mezguld_add": "m pn pn",
     "mezguld_load": "m pn pn pn",
     "mezguld_run": "m Q s",
@@ -524,7 +520,7 @@ _PARAMETERS = {
     "mezguld_disassemble": "pn pn w",
 }
 _TYPES = {
-    "m": ctypes.POINTER(_Handle), "s": ctypes.POINTER(_Stopped), "r": ctypes.POINTER(_Registers), "c": ctypes.POINTER(_Registers), "p": ctypes.c_void_p, "n": ctypes.c_size_t,
+    "m": ctypes.c_void_p, "h": ctypes.POINTER(ctypes.c_void_p), "s": ctypes.POINTER(_Stopped), "r": ctypes.POINTER(_Registers), "c": ctypes.POINTER(_Registers), "p": ctypes.c_void_p, "n": ctypes.c_size_t,
     "w": ctypes.POINTER(ctypes.c_size_t), "q": ctypes.POINTER(ctypes.c_uint64), "I": ctypes.c_uint32, "Q": ctypes.c_uint64, "H": ctypes.c_uint16,
     "B": ctypes.c_uint32,
 }
@@ -541,7 +537,7 @@ def _opened() -> ctypes.CDLL:
         function = getattr(library, name, None)
         if function is None:
             raise ImportError(f"the library {path} is not that of Mezguld {__version__}: it has no {name}")
-        function.restype = ctypes.c_uint32
+        function.restype = None if name == "mezguld_free" else ctypes.c_uint32
         function.argtypes = [_TYPES[letter] for letter in parameters if letter != " "]
     if library.mezguld_version() // 10000 != int(__version__.split(".", maxsplit=1)[0]):
         raise ImportError(f"the library {path} is not that of Mezguld {__version__}: its version is {library.mezguld_version()}")
@@ -581,7 +577,7 @@ def _name(name: str | bytes) -> bytes:
 
 
 def _given(data: bytes) -> tuple[ctypes.Array, int]:
-    """Bytes as a pointer that is not null, and their count."""
+    """Bytes as a pointer, and their count."""
     return ctypes.create_string_buffer(data, len(data) + 1), len(data)
 
 
@@ -740,7 +736,7 @@ class Machine:
         self._lock = threading.RLock()
         # The ends of checked runs that nobody waits for, and whether the machine was closed in one.
         self._left, self._is_closed = [], False
-        self._handle = _Handle()
+        self._handle = ctypes.c_void_p()
         _check(_library.mezguld_new(self._handle, ems_pages, xms_kib, given, count, upper))
 
     def close(self) -> None:
@@ -748,9 +744,14 @@ class Machine:
         self._is_closed = any(not ended.is_set() for ended in self._left)
         if self._lock.acquire(blocking=not self._is_closed):
             try:
-                _library.mezguld_free(self._handle)
+                self._free()
             finally:
                 self._lock.release()
+
+    def _free(self, free: Callable[..., None] = _library.mezguld_free) -> None:
+        """Frees the machine. Its pointer is NULL then, which is no machine."""
+        machine, self._handle.value = self._handle.value, None
+        free(machine)
 
     def __enter__(self) -> Machine:
         return self
@@ -758,12 +759,12 @@ class Machine:
     def __exit__(self, *_: object) -> None:
         self.close()
 
-    def __del__(self, free: Callable[..., int] = _library.mezguld_free) -> None:
+    def __del__(self) -> None:
         # Nobody else has the machine any more, so its lock is free: but in a forked child, whose parent was in a call. It is not freed there.
         lock = self.__dict__.get("_lock")
         if "_handle" in self.__dict__ and lock.acquire(blocking=False):
             try:
-                free(self._handle)
+                self._free()
             finally:
                 lock.release()
 
@@ -773,7 +774,7 @@ class Machine:
         machine = object.__new__(type(self))
         machine.__dict__.update({name: value for name, value in self.__dict__.items() if name != "_handle"})
         machine._lock, machine._left, machine._is_closed = threading.RLock(), [], False
-        handle = _Handle()
+        handle = ctypes.c_void_p()
         self._call(_library.mezguld_copy, handle)
         machine._handle = handle
         return machine
@@ -987,7 +988,7 @@ class Machine:
                     return Stopped(Stop(stopped.why), stopped.code), self._kept(wanted.value).decode("latin-1")
                 finally:
                     if self._is_closed:
-                        _library.mezguld_free(self._handle)
+                        self._free()
 
         return _served(work, steps, self._left)
 

@@ -167,7 +167,7 @@ class Watched:
 
         # (What is pointed to lives as long as the addresses.)
         self._kept = points, lines
-        handle = at(machine._handle)  # pylint: disable=protected-access
+        handle = machine._handle  # pylint: disable=protected-access
         self._handle, self._line = handle, {name: (handle, at(line), ctypes.c_size_t(1), at(self._wanted)) for name, line in lines.items()}
         self._to_step, self._to_registers, self._to_steps = (handle, ctypes.c_uint64(1), at(self._stopped)), (handle, at(self._registers)), (handle, at(self._steps))
         self._to_entry = handle, self._limit, at(points), ctypes.c_size_t(len(ENTRIES)), at(self._stopped)

@@ -17,6 +17,7 @@ WORD = r"([0-9A-F]{4})"
 ADDRESS = f"{WORD}:{WORD}"
 CONTENTS = f"([0-9A-F]{{2}}) {WORD} {WORD}"
 FOUND = re.compile(f"step ([0-9]+), (before )?{ADDRESS} (.+?): (.+)", re.DOTALL)
+ORIGIN = re.compile(f"(.+), (allocated|freed) by step ([0-9]+), (before )?{ADDRESS}", re.DOTALL)
 AGAIN = re.compile(r"(.+): ([0-9]+) more, the last at step ([0-9]+)", re.DOTALL)
 STOPPED = re.compile(f"stopped: ([a-z ]+?) (at|before) {ADDRESS}(?:: (.+))?")
 FUNCTION = re.compile(r"(?:INT ([0-9A-F]{2})h|(XMS)) function ([0-9A-F]{2})h(?: \(.*\))?")
@@ -117,11 +118,20 @@ def groups(pattern: re.Pattern[str], text: str) -> tuple[Any, ...]:
     return found.groups()
 
 
+def origin(text: str) -> tuple[str, Members]:
+    """The words of a finding without the step that allocated or freed what it is about, and that step, if it is named."""
+    if not (found := ORIGIN.fullmatch(text)):
+        return text, {}
+    words, verb, step, before, segment, offset = found.groups()
+    return words, {f"{verb}_by": {"step": int(step)} | site(segment, offset, bool(before))}
+
+
 def finding(text: str, is_error: bool) -> Members:
     """The members of a finding."""
     step, before, segment, offset, performed, what = groups(FOUND, text)
-    kind, members = about(what, is_error)
-    return {"kind": kind, "step": int(step)} | site(segment, offset, bool(before)) | act(performed) | members | {"text": what}
+    words, by = origin(what)
+    kind, members = about(words, is_error)
+    return {"kind": kind, "step": int(step)} | site(segment, offset, bool(before)) | act(performed) | members | by | {"text": what}
 
 
 def stopped(line: str) -> Members:

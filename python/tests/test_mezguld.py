@@ -1006,7 +1006,7 @@ class Interrupts(unittest.TestCase):
             self.assertLess(time.monotonic() - begin, 0.25)
             for ended in machines[0]._left:
                 ended.wait()
-            self.assertEqual(machines[0]._handle.mark, 0)
+            self.assertIsNone(machines[0]._handle.value)
 
     def test_slow_steps(self) -> None:
         """Some fast steps, and then calls that each go through a list of thousands of blocks."""

@@ -37,7 +37,7 @@ abbrev pub place_in : Ending → ℕ → ℕ
 place_in (ending.Stopped stop) before = before
 place_in (Came place) before = place
 
--- `mezguld_run_to`: a run of at most n steps up to an event, why it stopped, and which event came. Where the kind of an event
+-- `dm_c_run_to`: a run of at most n steps up to an event, why it stopped, and which event came. Where the kind of an event
 -- is none (status 23), an allocation failed or no program is loaded, nothing changes
 pub data EventsTo (h : Hosted) (n : ℕ) (events : List Awaited) (before after : Stopped) (place_before place : ℕ) (status : ℕ) (g : Hosted) : Type 0 where
   bad_event : list_all is_known events ≡ false → status ≡ 23 → g ≡ h → after ≡ before → place ≡ place_before → EventsTo h n events before after place_before place status g

@@ -7,7 +7,7 @@ use Rattle.dm_disassembler.specs.Listing.{IsListing}
 use Rattle.dm_c.specs.Statuses.{text_status_of, wrong_line}
 use Rattle.dm_c.specs.Calls.{Gives}
 
--- `mezguld_assemble`: the bytes of the text's program are copied to the front of the buffer, if they fit, `wanted` is
+-- `dm_c_assemble`: the bytes of the text's program are copied to the front of the buffer, if they fit, `wanted` is
 -- how many they are, and `line` stays; or the text has an error, or an allocation failed: then buffer and `wanted`
 -- stay, and `line` becomes the line of the error, if it has one
 pub data AssemblesTo (text before after : List ℕ) (wanted_before wanted line_before line status : ℕ) : Type 0 where
@@ -15,7 +15,7 @@ pub data AssemblesTo (text before after : List ℕ) (wanted_before wanted line_b
   refused : (why : AssemblyRefusal) → (why ≡ Memory) ⊎ Refuses text why → status ≡ text_status_of why → line ≡ wrong_line why line_before → after ≡ before → wanted ≡ wanted_before
       → AssemblesTo text before after wanted_before wanted line_before line status
 
--- `mezguld_disassemble`: the assembly text of the program, which has at most 65,278 bytes, is copied to the front of the
+-- `dm_c_disassemble`: the assembly text of the program, which has at most 65,278 bytes, is copied to the front of the
 -- buffer, if it fits, and `wanted` is how many bytes it has; or the program is longer, or an allocation failed, and
 -- buffer and `wanted` stay
 pub data DisassemblesTo (program before after : List ℕ) (wanted_before wanted status : ℕ) : Type 0 where

@@ -1,7 +1,7 @@
 //! The exports on the handle of a machine, which `include/mezguld.h` declares for C. Each returns a status: 0 for
-//! success, otherwise why not, as `values.rt` numbers it. But for `mezguld_new` and `mezguld_free`, the status is 1 if
+//! success, otherwise why not, as `values.rt` numbers it. But for `dm_c_new` and `dm_c_free`, the status is 1 if
 //! the handle holds no machine, and nothing changes then. For all that need a loaded program, it is 14 if there is
-//! none (3 if an allocation for the points of `mezguld_run_until` fails before), and nothing changes then.
+//! none (3 if an allocation for the points of `dm_c_run_until` fails before), and nothing changes then.
 ghost use Rattle.std.specs.Prelude.{◌≡◌, ◌<◌, true, false, nat_lt};
 ghost use Rattle.dm_c.specs.Statuses.{version_number};
 ghost use Rattle.dm_c.specs.Calls.{IsCall, IsNone};
@@ -24,7 +24,7 @@ const VERSION: u32 = 20_000;
 /// The version of the library, as one number: 10,000 for each whole version, 100 for each smaller one, and the
 /// corrections.
 #[unsafe(no_mangle)]
-pub extern "C" fn mezguld_version() -> u32
+pub extern "C" fn dm_c_version() -> u32
     ensures { result ≡ version_number }
 {
     VERSION
@@ -33,7 +33,7 @@ pub extern "C" fn mezguld_version() -> u32
 /// Makes a machine with no programs in a handle that holds no machine. Any `upper` but 0 adds upper memory to the
 /// arena. Nothing changes unless the status is 0; the status is 2 if the handle holds a machine.
 #[unsafe(no_mangle)]
-pub extern "C" fn mezguld_new(
+pub extern "C" fn dm_c_new(
     alloc: Global,
     machine: &mut Handle,
     ems_pages: u32,
@@ -64,7 +64,7 @@ pub extern "C" fn mezguld_new(
 /// breakpoints and answer. Nothing changes unless the status is 0; the status is 2 if the handle of the copy holds a
 /// machine.
 #[unsafe(no_mangle)]
-pub extern "C" fn mezguld_copy(alloc: Global, machine: &mut Handle, copy: &mut Handle) -> u32
+pub extern "C" fn dm_c_copy(alloc: Global, machine: &mut Handle, copy: &mut Handle) -> u32
     ensures { IsCall machine.old.inside.value machine.new.inside.value ((result ≡ 1) × (copy.new ≡ copy.old)) (λ h g. CopiesTo h copy.old.inside.value copy.new.inside.value result × (g ≡ h)) }
 {
     let Some(host) = machine.take(alloc) else {
@@ -77,7 +77,7 @@ pub extern "C" fn mezguld_copy(alloc: Global, machine: &mut Handle, copy: &mut H
 
 /// Frees the machine of a handle, if it holds one. The handle is as `MEZGULD_NONE` then, and the status is 0.
 #[unsafe(no_mangle)]
-pub extern "C" fn mezguld_free(alloc: Global, machine: &mut Handle) -> u32
+pub extern "C" fn dm_c_free(alloc: Global, machine: &mut Handle) -> u32
     ensures { (result ≡ 0) × IsNone machine.new }
 {
     drop(machine.take(alloc));
@@ -87,12 +87,7 @@ pub extern "C" fn mezguld_free(alloc: Global, machine: &mut Handle) -> u32
 
 /// Adds a program under a name to the machine. Nothing changes unless the status is 0.
 #[unsafe(no_mangle)]
-pub extern "C" fn mezguld_add(
-    alloc: Global,
-    machine: &mut Handle,
-    name: &[u8],
-    program: &[u8],
-) -> u32
+pub extern "C" fn dm_c_add(alloc: Global, machine: &mut Handle, name: &[u8], program: &[u8]) -> u32
     ensures { IsCall machine.old.inside.value machine.new.inside.value (result ≡ 1) (λ h g. AddsTo h name.now program.now result g) }
 {
     let Some(mut host) = machine.take(alloc) else {
@@ -106,7 +101,7 @@ pub extern "C" fn mezguld_add(
 /// Loads the program of a name, with a command tail and the console input. With status 13 (short) or 3 (out of memory)
 /// no program can be added or loaded any more; with any other but 0 nothing changes.
 #[unsafe(no_mangle)]
-pub extern "C" fn mezguld_load(
+pub extern "C" fn dm_c_load(
     alloc: Global,
     machine: &mut Handle,
     name: &[u8],
@@ -125,7 +120,7 @@ pub extern "C" fn mezguld_load(
 
 /// Makes at most `steps` steps, and sets `stopped` to why the run stopped. Nothing changes unless the status is 0.
 #[unsafe(no_mangle)]
-pub extern "C" fn mezguld_run(
+pub extern "C" fn dm_c_run(
     alloc: Global,
     machine: &mut Handle,
     steps: u64,
@@ -144,7 +139,7 @@ pub extern "C" fn mezguld_run(
 /// Makes at most `steps` steps, up to the first one that leads to one of `points`, and sets `stopped` to why the run
 /// stopped. Nothing changes unless the status is 0.
 #[unsafe(no_mangle)]
-pub extern "C" fn mezguld_run_until(
+pub extern "C" fn dm_c_run_until(
     alloc: Global,
     machine: &mut Handle,
     steps: u64,
@@ -165,7 +160,7 @@ pub extern "C" fn mezguld_run_until(
 /// and, if an event came, `place` to its place in the list. Nothing changes unless the status is 0; it is 23 if the kind of
 /// an event is none.
 #[unsafe(no_mangle)]
-pub extern "C" fn mezguld_run_to(
+pub extern "C" fn dm_c_run_to(
     alloc: Global,
     machine: &mut Handle,
     steps: u64,
@@ -186,7 +181,7 @@ pub extern "C" fn mezguld_run_to(
 /// Sets `steps` to how many steps the machine has made so far; at 2^64 - 1 the count stays. `steps` stays unless the
 /// status is 0.
 #[unsafe(no_mangle)]
-pub extern "C" fn mezguld_steps(alloc: Global, machine: &mut Handle, steps: &mut u64) -> u32
+pub extern "C" fn dm_c_steps(alloc: Global, machine: &mut Handle, steps: &mut u64) -> u32
     ensures { IsCall machine.old.inside.value machine.new.inside.value ((result ≡ 1) × (steps.new ≡ steps.old)) (λ h g. StepsTo h steps.old steps.new result g) }
 {
     let Some(host) = machine.take(alloc) else {
@@ -199,7 +194,7 @@ pub extern "C" fn mezguld_steps(alloc: Global, machine: &mut Handle, steps: &mut
 
 /// Sets `registers` to the machine's registers. They stay unless the status is 0.
 #[unsafe(no_mangle)]
-pub extern "C" fn mezguld_registers(
+pub extern "C" fn dm_c_registers(
     alloc: Global,
     machine: &mut Handle,
     registers: &mut Registers,
@@ -217,7 +212,7 @@ pub extern "C" fn mezguld_registers(
 /// Sets the machine's registers and flags. Of the flags' word only the bits of the nine flags count. Nothing changes
 /// unless the status is 0.
 #[unsafe(no_mangle)]
-pub extern "C" fn mezguld_set_registers(
+pub extern "C" fn dm_c_set_registers(
     alloc: Global,
     machine: &mut Handle,
     registers: &Registers,
@@ -235,7 +230,7 @@ pub extern "C" fn mezguld_set_registers(
 /// Fills the buffer with the bytes of memory from segment:offset on; offsets wrap, and bytes where there is no memory
 /// are FFh. The buffer stays unless the status is 0.
 #[unsafe(no_mangle)]
-pub extern "C" fn mezguld_read(
+pub extern "C" fn dm_c_read(
     alloc: Global,
     machine: &mut Handle,
     segment: u16,
@@ -255,7 +250,7 @@ pub extern "C" fn mezguld_read(
 /// Writes the bytes to memory from segment:offset on; offsets wrap, and bytes for the ROM, or where there is no memory,
 /// are lost. Nothing changes unless the status is 0.
 #[unsafe(no_mangle)]
-pub extern "C" fn mezguld_write(
+pub extern "C" fn dm_c_write(
     alloc: Global,
     machine: &mut Handle,
     segment: u16,
@@ -276,7 +271,7 @@ pub extern "C" fn mezguld_write(
 /// bit 20 of an address is. Bytes where there is no memory, and past FFFF:FFFF, are FFh. The buffer stays unless the status
 /// is 0.
 #[unsafe(no_mangle)]
-pub extern "C" fn mezguld_read_linear(
+pub extern "C" fn dm_c_read_linear(
     alloc: Global,
     machine: &mut Handle,
     address: u32,
@@ -295,7 +290,7 @@ pub extern "C" fn mezguld_read_linear(
 /// Writes the bytes to memory from a linear address up, as a program does: while the A20 line is off, bit 20 of an address
 /// is. Bytes for the ROM, where there is no memory, or past FFFF:FFFF, are lost. Nothing changes unless the status is 0.
 #[unsafe(no_mangle)]
-pub extern "C" fn mezguld_write_linear(
+pub extern "C" fn dm_c_write_linear(
     alloc: Global,
     machine: &mut Handle,
     address: u32,
@@ -315,7 +310,7 @@ pub extern "C" fn mezguld_write_linear(
 /// `wanted` to how many they are; past the end of the output there are none. If they do not fit, the status is 4, and
 /// only `wanted` changes; with any other but 0 nothing changes.
 #[unsafe(no_mangle)]
-pub extern "C" fn mezguld_output(
+pub extern "C" fn dm_c_output(
     alloc: Global,
     machine: &mut Handle,
     from: usize,
@@ -334,11 +329,7 @@ pub extern "C" fn mezguld_output(
 
 /// Sets `count` to how many bytes were written to the console. It stays unless the status is 0.
 #[unsafe(no_mangle)]
-pub extern "C" fn mezguld_output_count(
-    alloc: Global,
-    machine: &mut Handle,
-    count: &mut usize,
-) -> u32
+pub extern "C" fn dm_c_output_count(alloc: Global, machine: &mut Handle, count: &mut usize) -> u32
     ensures { IsCall machine.old.inside.value machine.new.inside.value ((result ≡ 1) × (count.new ≡ count.old)) (λ h g. OutputCountTo h count.old count.new result g) }
 {
     let Some(host) = machine.take(alloc) else {
@@ -352,7 +343,7 @@ pub extern "C" fn mezguld_output_count(
 /// Says that more console input may come after what is left: from then on each call that wants a byte that is not there
 /// stops the run (4), and the run can go on once there is more. Nothing changes unless the status is 0.
 #[unsafe(no_mangle)]
-pub extern "C" fn mezguld_open_input(alloc: Global, machine: &mut Handle) -> u32
+pub extern "C" fn dm_c_open_input(alloc: Global, machine: &mut Handle) -> u32
     ensures { IsCall machine.old.inside.value machine.new.inside.value (result ≡ 1) (λ h g. SetsMoreTo h true result g) }
 {
     let Some(mut host) = machine.take(alloc) else {
@@ -365,7 +356,7 @@ pub extern "C" fn mezguld_open_input(alloc: Global, machine: &mut Handle) -> u32
 
 /// Says that no more console input comes after what is left. Nothing changes unless the status is 0.
 #[unsafe(no_mangle)]
-pub extern "C" fn mezguld_close_input(alloc: Global, machine: &mut Handle) -> u32
+pub extern "C" fn dm_c_close_input(alloc: Global, machine: &mut Handle) -> u32
     ensures { IsCall machine.old.inside.value machine.new.inside.value (result ≡ 1) (λ h g. SetsMoreTo h false result g) }
 {
     let Some(mut host) = machine.take(alloc) else {
@@ -379,7 +370,7 @@ pub extern "C" fn mezguld_close_input(alloc: Global, machine: &mut Handle) -> u3
 /// Adds bytes to the end of the console input, which must be open; the status is 22 if it is not. Nothing changes
 /// unless the status is 0.
 #[unsafe(no_mangle)]
-pub extern "C" fn mezguld_supply(alloc: Global, machine: &mut Handle, bytes: &[u8]) -> u32
+pub extern "C" fn dm_c_supply(alloc: Global, machine: &mut Handle, bytes: &[u8]) -> u32
     ensures { IsCall machine.old.inside.value machine.new.inside.value (result ≡ 1) (λ h g. SuppliesTo h bytes.now result g) }
 {
     let Some(mut host) = machine.take(alloc) else {
@@ -392,7 +383,7 @@ pub extern "C" fn mezguld_supply(alloc: Global, machine: &mut Handle, bytes: &[u
 
 /// Sets `left` to how many bytes of console input are left. It stays unless the status is 0.
 #[unsafe(no_mangle)]
-pub extern "C" fn mezguld_input_left(alloc: Global, machine: &mut Handle, left: &mut usize) -> u32
+pub extern "C" fn dm_c_input_left(alloc: Global, machine: &mut Handle, left: &mut usize) -> u32
     ensures { IsCall machine.old.inside.value machine.new.inside.value ((result ≡ 1) × (left.new ≡ left.old)) (λ h g. InputLeftTo h left.old left.new result g) }
 {
     let Some(host) = machine.take(alloc) else {
@@ -407,7 +398,7 @@ pub extern "C" fn mezguld_input_left(alloc: Global, machine: &mut Handle, left: 
 /// that is. With status 3 (out of memory) the command, or some first part of it, may have been executed, and `wanted`
 /// and the answer before stay; with any other but 0 nothing changes.
 #[unsafe(no_mangle)]
-pub extern "C" fn mezguld_command(
+pub extern "C" fn dm_c_command(
     alloc: Global,
     machine: &mut Handle,
     line: &[u8],
@@ -427,7 +418,7 @@ pub extern "C" fn mezguld_command(
 /// run stopped and `wanted` to how many bytes the report has. All three stay unless the status is 0; with status 3 (out
 /// of memory) none, some or all of the run's steps were made.
 #[unsafe(no_mangle)]
-pub extern "C" fn mezguld_check(
+pub extern "C" fn dm_c_check(
     alloc: Global,
     machine: &mut Handle,
     steps: u64,
@@ -448,7 +439,7 @@ pub extern "C" fn mezguld_check(
 /// buffer, and sets `wanted` to how many bytes it has. If they do not fit, the status is 4, and only `wanted` changes.
 /// No program need be loaded.
 #[unsafe(no_mangle)]
-pub extern "C" fn mezguld_answer(
+pub extern "C" fn dm_c_answer(
     alloc: Global,
     machine: &mut Handle,
     buffer: &mut [u8],

@@ -12,14 +12,13 @@ mod values;
 
 pub use events::Awaited;
 pub use exports::{
-    mezguld_add, mezguld_answer, mezguld_check, mezguld_close_input, mezguld_command, mezguld_copy,
-    mezguld_free, mezguld_input_left, mezguld_load, mezguld_new, mezguld_open_input,
-    mezguld_output, mezguld_output_count, mezguld_read, mezguld_read_linear, mezguld_registers,
-    mezguld_run, mezguld_run_to, mezguld_run_until, mezguld_set_registers, mezguld_steps,
-    mezguld_supply, mezguld_version, mezguld_write, mezguld_write_linear,
+    dm_c_add, dm_c_answer, dm_c_check, dm_c_close_input, dm_c_command, dm_c_copy, dm_c_free,
+    dm_c_input_left, dm_c_load, dm_c_new, dm_c_open_input, dm_c_output, dm_c_output_count,
+    dm_c_read, dm_c_read_linear, dm_c_registers, dm_c_run, dm_c_run_to, dm_c_run_until,
+    dm_c_set_registers, dm_c_steps, dm_c_supply, dm_c_version, dm_c_write, dm_c_write_linear,
 };
 pub use handle::Handle;
 pub use inside::Inside;
 pub use loose::Loose;
-pub use texts::{mezguld_assemble, mezguld_disassemble};
+pub use texts::{dm_c_assemble, dm_c_disassemble};
 pub use values::{Point, Registers, Stopped};

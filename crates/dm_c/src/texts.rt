@@ -41,7 +41,7 @@ fn wrong_line(refusal: AssemblyRefusal, before: usize) -> usize
 /// are. If they do not fit, the status is 4, and only `wanted` changes. At an error in the text (17 to 21), or if an
 /// allocation failed (3), the buffer and `wanted` stay. `line` changes with 17 to 20 alone, to the line of the error.
 #[unsafe(no_mangle)]
-pub extern "C" fn mezguld_assemble(
+pub extern "C" fn dm_c_assemble(
     alloc: Global,
     text: &[u8],
     buffer: &mut [u8],
@@ -63,7 +63,7 @@ pub extern "C" fn mezguld_assemble(
 /// it has. If they do not fit, the status is 4, and only `wanted` changes. Status 21 for over 65,278 bytes of program,
 /// 3 if an allocation failed; then nothing changes.
 #[unsafe(no_mangle)]
-pub extern "C" fn mezguld_disassemble(
+pub extern "C" fn dm_c_disassemble(
     alloc: Global,
     program: &[u8],
     buffer: &mut [u8],

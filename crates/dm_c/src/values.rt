@@ -11,10 +11,10 @@ use std::alloc::{AllocError, Global};
 /// The status of a call that has succeeded.
 pub(crate) const OK: u32 = 0;
 
-/// The status of a call that needs a machine (any but `mezguld_new` and `mezguld_free`), on a handle that holds none.
+/// The status of a call that needs a machine (any but `dm_c_new` and `dm_c_free`), on a handle that holds none.
 pub(crate) const NO_MACHINE: u32 = 1;
 
-/// The status of `mezguld_new` on a handle that holds a machine already.
+/// The status of `dm_c_new` on a handle that holds a machine already.
 pub(crate) const IN_USE: u32 = 2;
 
 /// The status if an allocation of the library failed. One for the program's output is a stop (6) instead.
