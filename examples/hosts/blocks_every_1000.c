@@ -52,20 +52,20 @@ int main(int argc, char **argv)
         return 2;
     }
     size_t count = read_file(argv[1], program, sizeof program);
-    mezguld machine = MEZGULD_NONE;
-    must("mezguld_new", mezguld_new(&machine, 64, 1024, "", 0, 0));
-    must("mezguld_add", mezguld_add(&machine, "MAIN.COM", 8, program, count));
-    must("mezguld_load", mezguld_load(&machine, "MAIN.COM", 8, "", 0, "", 0));
+    mezguld *machine;
+    must("mezguld_new", mezguld_new(&machine, 64, 1024, NULL, 0, 0));
+    must("mezguld_add", mezguld_add(machine, "MAIN.COM", 8, program, count));
+    must("mezguld_load", mezguld_load(machine, "MAIN.COM", 8, NULL, 0, NULL, 0));
 
     mezguld_stopped stopped;
     do {
-        must("mezguld_run", mezguld_run(&machine, 1000, &stopped));
+        must("mezguld_run", mezguld_run(machine, 1000, &stopped));
         uint64_t steps = 0;
-        must("mezguld_steps", mezguld_steps(&machine, &steps));
+        must("mezguld_steps", mezguld_steps(machine, &steps));
         printf("after %llu steps:\n", (unsigned long long)steps);
-        print_answer(&machine, "M");
+        print_answer(machine, "M");
     } while (stopped.why == MEZGULD_STEPS);
     printf("stopped: %u, code %u\n", (unsigned)stopped.why, (unsigned)stopped.code);
-    mezguld_free(&machine);
+    mezguld_free(machine);
     return 0;
 }

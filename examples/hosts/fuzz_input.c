@@ -47,17 +47,17 @@ static int is_broken(const char *text, size_t count)
 int LLVMFuzzerTestOneInput(const uint8_t *data, size_t size)
 {
     static char text[1 << 16];
-    mezguld machine = MEZGULD_NONE;
-    must(mezguld_new(&machine, 0, 0, "", 0, 0));
-    must(mezguld_add(&machine, "MAIN.COM", 8, program, program_count));
-    must(mezguld_load(&machine, "MAIN.COM", 8, "", 0, data ? (const void *)data : "", size));
+    mezguld *machine;
+    must(mezguld_new(&machine, 0, 0, NULL, 0, 0));
+    must(mezguld_add(machine, "MAIN.COM", 8, program, program_count));
+    must(mezguld_load(machine, "MAIN.COM", 8, NULL, 0, data, size));
     mezguld_stopped stopped;
     size_t wanted = 0;
-    must(mezguld_run(&machine, 100000, &stopped));
-    must(mezguld_command(&machine, "M", 1, &wanted));
-    must(mezguld_answer(&machine, text, sizeof text, &wanted));
+    must(mezguld_run(machine, 100000, &stopped));
+    must(mezguld_command(machine, "M", 1, &wanted));
+    must(mezguld_answer(machine, text, sizeof text, &wanted));
     int broken = is_broken(text, wanted);
-    mezguld_free(&machine);
+    mezguld_free(machine);
     if (broken) {
         fprintf(stderr, "the block list is destroyed:\n%.*s", (int)wanted, text);
         abort();

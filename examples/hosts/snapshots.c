@@ -42,7 +42,7 @@ static double now(void)
 /* A round from the snapshot, with bytes of its own; returns whether the guest ends with their sum. */
 static int is_round_right(mezguld *snapshot, uint16_t segment, unsigned seed)
 {
-    mezguld machine = MEZGULD_NONE;
+    mezguld *machine;
     mezguld_stopped stopped;
     uint8_t bytes[BYTES], sum = 0;
     for (int at = 0; at < BYTES; at++) {
@@ -50,34 +50,34 @@ static int is_round_right(mezguld *snapshot, uint16_t segment, unsigned seed)
         sum = (uint8_t)(sum + bytes[at]);
     }
     must(mezguld_copy(snapshot, &machine));
-    must(mezguld_write(&machine, segment, PLACE, bytes, BYTES));
-    must(mezguld_run(&machine, 1000, &stopped));
-    must(mezguld_free(&machine));
+    must(mezguld_write(machine, segment, PLACE, bytes, BYTES));
+    must(mezguld_run(machine, 1000, &stopped));
+    mezguld_free(machine);
     return stopped.why == MEZGULD_EXITED && stopped.code == sum;
 }
 
 int main(void)
 {
     static const char name[] = "GUEST.COM";
-    mezguld machine = MEZGULD_NONE;
+    mezguld *machine;
     mezguld_stopped stopped;
     mezguld_cpu registers;
     /* A machine has two large blocks. Kept for the next one, they cost no new pages, which take twice as long as the copy. */
     mallopt(M_MMAP_THRESHOLD, 64 << 20);
     mallopt(M_TRIM_THRESHOLD, 256 << 20);
     double begin = now();
-    must(mezguld_new(&machine, 64, 1024, "", 0, 0));
-    must(mezguld_add(&machine, name, sizeof name - 1, guest, sizeof guest));
-    must(mezguld_load(&machine, name, sizeof name - 1, "", 0, "", 0));
-    must(mezguld_registers(&machine, &registers));
+    must(mezguld_new(&machine, 64, 1024, NULL, 0, 0));
+    must(mezguld_add(machine, name, sizeof name - 1, guest, sizeof guest));
+    must(mezguld_load(machine, name, sizeof name - 1, NULL, 0, NULL, 0));
+    must(mezguld_registers(machine, &registers));
     mezguld_point ready = {registers.cs, READY};
-    must(mezguld_run_until(&machine, 100000, &ready, 1, &stopped));
+    must(mezguld_run_until(machine, 100000, &ready, 1, &stopped));
     double started = now();
     int right = 0;
     for (unsigned round = 0; round < ROUNDS; round++)
-        right += is_round_right(&machine, registers.cs, round);
+        right += is_round_right(machine, registers.cs, round);
     double ended = now();
-    must(mezguld_free(&machine));
+    mezguld_free(machine);
     printf("%d of %d rounds are right\n", right, ROUNDS);
     fprintf(stderr, "the start: %.0f microseconds; a round from the snapshot: %.0f\n", started - begin, (ended - started) / ROUNDS);
     return right == ROUNDS ? 0 : 1;

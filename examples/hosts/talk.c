@@ -36,19 +36,21 @@ static size_t show(mezguld *machine, size_t from)
     return from + count;
 }
 
-/* The machine with the guest loaded, and its input open. */
-static void start(mezguld *machine)
+/* A machine with the guest loaded, and its input open. */
+static mezguld *start(void)
 {
     static uint8_t program[1024];
+    mezguld *machine;
     size_t count = 0, line = 0;
     mezguld_status status = mezguld_assemble(guest, sizeof guest - 1, program, sizeof program, &count, &line);
     if (status != MEZGULD_OK)
         fprintf(stderr, "line %zu\n", line);
     must("mezguld_assemble", status);
-    must("mezguld_new", mezguld_new(machine, 0, 0, "", 0, 0));
+    must("mezguld_new", mezguld_new(&machine, 0, 0, NULL, 0, 0));
     must("mezguld_add", mezguld_add(machine, "GUEST.COM", 9, program, count));
-    must("mezguld_load", mezguld_load(machine, "GUEST.COM", 9, "", 0, "", 0));
+    must("mezguld_load", mezguld_load(machine, "GUEST.COM", 9, NULL, 0, NULL, 0));
     must("mezguld_open_input", mezguld_open_input(machine));
+    return machine;
 }
 
 /* Has the program print its second text in place of the first one: it is stopped before its first call of function 09h, and DX is changed. */
@@ -72,35 +74,34 @@ static void change_question(mezguld *machine)
  * where. */
 static unsigned answer(mezguld *snapshot, size_t shown, const char *name)
 {
-    mezguld machine = MEZGULD_NONE;
+    mezguld *machine;
     mezguld_stopped stopped;
     mezguld_cpu registers;
     size_t place;
     must("mezguld_copy", mezguld_copy(snapshot, &machine));
-    must("mezguld_supply", mezguld_supply(&machine, name, strlen(name)));
-    must("mezguld_supply", mezguld_supply(&machine, "\r", 1));
+    must("mezguld_supply", mezguld_supply(machine, name, strlen(name)));
+    must("mezguld_supply", mezguld_supply(machine, "\r", 1));
     /* It waits in function 0Ah, and DX is the offset of its buffer, whose byte 1 is the count of the line. */
-    must("mezguld_registers", mezguld_registers(&machine, &registers));
+    must("mezguld_registers", mezguld_registers(machine, &registers));
     mezguld_event line = mezguld_at_change(registers.ds * 16u + registers.dx + 1, 1);
-    must("mezguld_run_to", mezguld_run_to(&machine, 1000, &line, 1, &stopped, &place));
+    must("mezguld_run_to", mezguld_run_to(machine, 1000, &line, 1, &stopped, &place));
     printf("\n[the line comes: %s]", stopped.why == MEZGULD_EVENT && place == 0 ? "yes" : "no");
-    must("mezguld_run", mezguld_run(&machine, 1000, &stopped));
-    show(&machine, shown);
-    mezguld_free(&machine);
+    must("mezguld_run", mezguld_run(machine, 1000, &stopped));
+    show(machine, shown);
+    mezguld_free(machine);
     return stopped.why == MEZGULD_EXITED ? stopped.code : 999;
 }
 
 int main(void)
 {
-    mezguld machine = MEZGULD_NONE;
     mezguld_stopped stopped;
-    start(&machine);
-    change_question(&machine);
-    must("mezguld_run", mezguld_run(&machine, 1000, &stopped));
-    size_t shown = show(&machine, 0);
+    mezguld *machine = start();
+    change_question(machine);
+    must("mezguld_run", mezguld_run(machine, 1000, &stopped));
+    size_t shown = show(machine, 0);
     printf("[it waits: %s]", stopped.why == MEZGULD_INPUT_ENDED ? "yes" : "no");
-    unsigned first = answer(&machine, shown, "Ada"), second = answer(&machine, shown, "Charles");
+    unsigned first = answer(machine, shown, "Ada"), second = answer(machine, shown, "Charles");
     printf("\n[exit codes %u and %u]\n", first, second);
-    mezguld_free(&machine);
+    mezguld_free(machine);
     return first == 3 && second == 7 ? 0 : 1;
 }

@@ -20,7 +20,9 @@ use Rattle.dm_findings.specs.declared.finding.Act.TheVariants as act
 use Rattle.dm_findings.specs.declared.finding.Finding.{Finding}
 use Rattle.dm_findings.specs.declared.finding.Found.{Found}
 use Rattle.dm_findings.specs.Calls.{call_of}
+use Rattle.dm_origins.specs.Origins.{Known}
 use Rattle.dm_checker.specs.Shown.{Shown}
+use Rattle.dm_checker.specs.Origins.{known_by, IsKnownAfter}
 use Rattle.dm_touches.specs.Found.{touch_findings}
 use Rattle.dm_checker.specs.Arranged.{arranged}
 use Rattle.dm_checker.specs.Findings.{findings, Finds, FindsTouched, touching, calling, over, IsAct, called, instructed, found_at, IsFound, none, some}
@@ -87,27 +89,39 @@ finds_once s t a b x y =
     let touched = touched_once s y.old x.touched y.touched (subst F old x.touches) y.touches in
     x.is ∙ ap₂ (λ (o n : Shown). x.touched ++ findings s t o n ++ arranged s t o n) old new ∙ ap (λ (l : List Finding). l ++ findings s t y.old y.new ++ arranged s t y.old y.new) touched ∙ sym y.is
 
-found_once : (s t : State) (fs gs : List Finding) (a b : List Found) → fs ≡ gs → IsFound s t fs a → IsFound s t gs b → a ≡ b
-found_once s t fs gs a b same (none e f) (none g h) = f ∙ sym h
-found_once s t fs gs a b same (none e f) (some w x g) = f ∙ sym (g ∙ ap (λ (l : List Finding). found_at s t w l) (sym same ∙ e))
-found_once s t fs gs a b same (some w x g) (none e f) = g ∙ ap (λ (l : List Finding). found_at s t w l) (same ∙ e) ∙ sym f
-found_once s t fs gs a b same (some v x g) (some w y h) = g ∙ ap₂ (λ (z : Act) (l : List Finding). found_at s t z l) (act_once s v w x y) same ∙ sym h
+found_with : (s t : State) (k : Known) (fs gs : List Finding) (a b : List Found) → fs ≡ gs → IsFound s t k fs a → IsFound s t k gs b → a ≡ b
+found_with s t k fs gs a b same (none e f) (none g h) = f ∙ sym h
+found_with s t k fs gs a b same (none e f) (some w x g) = f ∙ sym (g ∙ ap (λ (l : List Finding). found_at s t k w l) (sym same ∙ e))
+found_with s t k fs gs a b same (some w x g) (none e f) = g ∙ ap (λ (l : List Finding). found_at s t k w l) (same ∙ e) ∙ sym f
+found_with s t k fs gs a b same (some v x g) (some w y h) = g ∙ ap₂ (λ (z : Act) (l : List Finding). found_at s t k z l) (act_once s v w x y) same ∙ sym h
+
+found_once : (s t : State) (k m : Known) (fs gs : List Finding) (a b : List Found) → k ≡ m → fs ≡ gs → IsFound s t k fs a → IsFound s t m gs b → a ≡ b
+found_once s t k m fs gs a b one same x y = (let F : Known → Type 0 = λ l. IsFound s t l fs a in found_with s t m fs gs a b same (subst F one x) y)
+
+-- ---- who allocated and who freed
+
+pub known_once : (s t : State) (k l m n : Known) → k ≡ l → IsKnownAfter s t k m → IsKnownAfter s t l n → m ≡ n
+known_once s t k l m n same x y =
+    let old = shown_once s.upper s.memory x.old y.old x.before y.before in
+    let new = shown_once t.upper t.memory x.new y.new x.after y.after in
+    x.is ∙ ap₂ (λ (o p : Shown). known_by s t o p (call_of s.cpu) k) old new ∙ ap (λ (z : Known). known_by s t y.old y.new (call_of s.cpu) z) same ∙ sym y.is
 
 -- ---- a step, and the end of a run
 
-pub step_once : (s t : State) (a b : List Found) → FindsAt s t a → FindsAt s t b → a ≡ b
-step_once s t a b x y = found_once s t x.findings y.findings a b (finds_once s t x.findings y.findings x.finds y.finds) x.told y.told
+pub step_once : (s t : State) (k l : Known) (a b : List Found) → k ≡ l → FindsAt s t k a → FindsAt s t l b → a ≡ b
+step_once s t k l a b one x y = found_once s t k l x.findings y.findings a b one (finds_once s t x.findings y.findings x.finds y.finds) x.told y.told
 
-end_once : (s t : State) (a b : List Found) → FindsAtEnd s t a → FindsAtEnd s t b → a ≡ b
-end_once s t a b x y =
+end_once : (s t : State) (k l : Known) (a b : List Found) → k ≡ l → FindsAtEnd s t k a → FindsAtEnd s t l b → a ≡ b
+end_once s t k l a b one x y =
     let same = ap (λ (l : List Finding). l ++ left_behind s t) (finds_once s t x.findings y.findings x.finds y.finds) in
-    found_once s t (x.findings ++ left_behind s t) (y.findings ++ left_behind s t) a b same x.told y.told
+    let known = known_once s t k l x.known y.known one x.knows y.knows in
+    found_once s t x.known y.known (x.findings ++ left_behind s t) (y.findings ++ left_behind s t) a b known same x.told y.told
 
-pub stop_once : (s : State) (stop : Stop) (t : State) (a b : List Found) → FindsAtStop s stop t a → FindsAtStop s stop t b → a ≡ b
-stop_once s (Exited code) t a b x y = end_once s t a b x y
-stop_once s AllSteps t a b x y = x ∙ sym y
-stop_once s Halted t a b x y = x ∙ sym y
-stop_once s Unlisted t a b x y = x ∙ sym y
-stop_once s InputEnded t a b x y = x ∙ sym y
-stop_once s Destroyed t a b x y = x ∙ sym y
-stop_once s NoMemory t a b x y = x ∙ sym y
+pub stop_once : (s : State) (stop : Stop) (t : State) (k l : Known) (a b : List Found) → k ≡ l → FindsAtStop s stop t k a → FindsAtStop s stop t l b → a ≡ b
+stop_once s (Exited code) t k l a b one x y = end_once s t k l a b one x y
+stop_once s AllSteps t k l a b one x y = x ∙ sym y
+stop_once s Halted t k l a b one x y = x ∙ sym y
+stop_once s Unlisted t k l a b one x y = x ∙ sym y
+stop_once s InputEnded t k l a b one x y = x ∙ sym y
+stop_once s Destroyed t k l a b one x y = x ∙ sym y
+stop_once s NoMemory t k l a b one x y = x ∙ sym y

@@ -21,6 +21,6 @@ pub mod Touching
 pub mod Levels
 pub mod Unfound
 pub mod Clearing
-pub mod Reading
+mod Reading
 pub mod Once
 pub mod Unserved

@@ -17,6 +17,7 @@ use Rattle.dm_findings.specs.declared.finding.Finding.{Finding}
 use Rattle.dm_findings.specs.declared.finding.Found.{Found}
 use Rattle.dm_findings.specs.Calls.{call_of}
 use Rattle.dm_findings.specs.Report.{Reported}
+use Rattle.dm_origins.specs.Origins.{Known}
 use Rattle.dm_checker.specs.declared.acts.Before.{Before}
 use Rattle.dm_checker.specs.declared.watch.Watch.{Watch}
 use Rattle.dm_checker.specs.Calls.{stays, freed_twice, call_findings}
@@ -32,11 +33,12 @@ use Rattle.dm_checker.specs.declared.watch.Broken.{Broken}
 use Rattle.dm_checker.specs.Shown.{Shown}
 use Rattle.dm_checker.specs.Arranged.{arranged_by, arranged}
 use Rattle.dm_checker.specs.Findings.{findings, Finds, FindsTouched, touching, over, IsFound, none}
-use Rattle.dm_checker.specs.Checks.{FindsAt, FindsAtEnd, FindsAtStop, FindsIn, left_behind, left_by}
-use Rattle.dm_checker.specs.Checks as checks
+use Rattle.dm_checker.specs.Checks.{FindsAtEnd, FindsAtStop, left_behind, left_by}
+use Rattle.dm_checker.specs.Origins.{known_by, IsKnownAfter}
 use Rattle.dm_checker.specs.Watching.{header_of, broken_at, shown_of, IsWatch, IsSeen}
 use Rattle.dm_checker.specs.Clear.{is_read_clear, is_write_clear, IsPassed}
-use Rattle.dm_checker.specs.inner.Steps.{IsBefore, found_by, ReportsMore, Touches, Looks, ChecksOne}
+use Rattle.dm_checker.specs.inner.Steps.{IsBefore, found_by, ReportsMore, Touches, Looks, ChecksOne, IsPassing, PassesIn}
+use Rattle.dm_checker.specs.inner.Steps as steps
 use Rattle.dm_checker.proofs.Acting.{some_none, call_acts, had_ended, exit_changes_nothing}
 use Rattle.dm_checker.proofs.Seen.{seen_watch}
 use Rattle.dm_checker.proofs.Still.{seen_findings}
@@ -45,8 +47,30 @@ use Rattle.dm_checker.proofs.Unfound.{and_left, and_right, and_both, element_mor
 use Rattle.dm_checker.proofs.Clearing.{seen_clear}
 use Rattle.dm_checker.proofs.Telling.{reports_none, tells}
 
-found_as : (s t : State) (fs gs : List Finding) (more : List Found) → fs ≡ gs → IsFound s t fs more → IsFound s t gs more
-found_as s t fs gs more e x = (let F : List Finding → Type 0 = λ l. IsFound s t l more in subst F e x)
+found_as : (s t : State) (k : Known) (fs gs : List Finding) (more : List Found) → fs ≡ gs → IsFound s t k fs more → IsFound s t k gs more
+found_as s t k fs gs more e x = (let F : List Finding → Type 0 = λ l. IsFound s t k l more in subst F e x)
+
+-- ---- who allocated and who freed
+
+-- what is known after a step, by what was kept of the arena before and after it
+pub known_after : (s t : State) (b : Before) (v w : Watch) (k l : Known) → IsBefore s b → IsWatch s.upper s.memory v → IsWatch t.upper t.memory w → l ≡ known_by s t (shown_of v) (shown_of w) b.call k → IsKnownAfter s t k l
+known_after s t b v w k l h x y e = record {
+  old = shown_of v;
+  new = shown_of w;
+  before = x.shown;
+  after = y.shown;
+  is = e ∙ ap (λ (c : Option Call). known_by s t (shown_of v) (shown_of w) c k) h.call;
+}
+
+-- without a call nothing is allocated or freed
+known_still : (s t : State) (v w : Watch) (k : Known) → call_of s.cpu ≡ None → IsWatch s.upper s.memory v → IsWatch t.upper t.memory w → IsKnownAfter s t k k
+known_still s t v w k uncalled x y = record {
+  old = shown_of v;
+  new = shown_of w;
+  before = x.shown;
+  after = y.shown;
+  is = ap (λ (c : Option Call). known_by s t (shown_of v) (shown_of w) c k) (sym uncalled);
+}
 
 -- ---- what is touched
 
@@ -63,31 +87,32 @@ touched_calling s w b call empty first e x h is = touched_as s (shown_of w) firs
 
 -- ---- the step that ends the program
 
-abbrev pub Ends : Bool → State → State → Reported → Reported → Type 0
-Ends free s t old new = (more : List Found) × FindsAtEnd s t more × ReportsMore free old new more
+abbrev pub Ends : Bool → State → State → Known → Reported → Reported → Type 0
+Ends free s t k old new = (more : List Found) × FindsAtEnd s t k more × ReportsMore free old new more
 
-pub ends : (free : Bool) (s t : State) (b : Before) (call : Call) (step : ℕ) (w : Watch) (first fs all : List Finding) (old new : Reported) → b.call ≡ Some call → IsBefore s b → FindsTouched s (shown_of w) first → Looks s t w first fs → all ≡ fs ++ leaks (stays call) t → step ≡ t.steps → ReportsMore free old new (map (found_by b step (act.Call call)) all) → Ends free s t old new
-ends free s t b call step w first fs all old new e h touched x is steps r =
-    let told = tells free s t b step (act.Call call) all old new h (call_acts b call e s h) steps r in
+pub ends : (free : Bool) (s t : State) (b : Before) (call : Call) (step : ℕ) (w : Watch) (k l : Known) (first fs all : List Finding) (old new : Reported) → b.call ≡ Some call → IsBefore s b → IsKnownAfter s t k l → FindsTouched s (shown_of w) first → Looks s t w first fs → all ≡ fs ++ leaks (stays call) t → step ≡ t.steps → ReportsMore free old new (map (found_by b step l (act.Call call)) all) → Ends free s t k old new
+ends free s t b call step w k l first fs all old new e h knows touched x is steps r =
+    let told = tells free s t b step l (act.Call call) all old new h (call_acts b call e s h) steps r in
     let same : all ≡ (first ++ x.more) ++ left_behind s t
-    = is ∙ ap₂ (λ (l : List Finding) (k : Option Call). l ++ left_by k t) x.is (sym e ∙ h.call) in
-    (told.more, record { findings = first ++ x.more; finds = x.finds first touched; told = found_as s t all _ told.more same told.found }, told.reports)
+    = is ∙ ap₂ (λ (xs : List Finding) (c : Option Call). xs ++ left_by c t) x.is (sym e ∙ h.call) in
+    (told.more, record { findings = first ++ x.more; finds = x.finds first touched; known = l; knows = knows; told = found_as s t l all _ told.more same told.found }, told.reports)
 
 -- ---- any step
 
 -- the machine goes on
-pub goes_on : (free : Bool) (s t : State) (v w : Watch) (first fs gs : List Finding) (old new : Reported) → Answers s None t → FindsTouched s (shown_of v) first → Looks s t v first fs → gs ≡ fs → (more : List Found) × IsFound s t gs more × ReportsMore free old new more → IsWatch t.upper t.memory w → ChecksOne free s None t w old new
-goes_on free s t v w first fs gs old new a touched x same told watch = record {
+pub goes_on : (free : Bool) (s t : State) (v w : Watch) (k l : Known) (first fs gs : List Finding) (old new : Reported) → Answers s None t → FindsTouched s (shown_of v) first → Looks s t v first fs → gs ≡ fs → (more : List Found) × IsFound s t l gs more × ReportsMore free old new more → IsWatch t.upper t.memory w → IsKnownAfter s t k l → ChecksOne free s None t w k l old new
+goes_on free s t v w k l first fs gs old new a touched x same told watch knows = record {
   answers = a;
   found = told.0;
-  finds = record { findings = first ++ x.more; finds = x.finds first touched; told = found_as s t gs (first ++ x.more) told.0 (same ∙ x.is) told.1 };
+  finds = record { findings = first ++ x.more; finds = x.finds first touched; told = found_as s t l gs (first ++ x.more) told.0 (same ∙ x.is) told.1 };
   reports = told.2;
   watch = λ e. watch;
+  knows = λ e. knows;
 }
 
 -- the program ends
-pub exits : (free : Bool) (s t : State) (code : ℕ) (w : Watch) (old new : Reported) → Answers s (Some (Exited code)) t → Ends free s t old new → ChecksOne free s (Some (Exited code)) t w old new
-exits free s t code w old new a x = record { answers = a; found = x.0; finds = x.1; reports = x.2; watch = λ e. absurd (some_none (Exited code) e) }
+pub exits : (free : Bool) (s t : State) (code : ℕ) (w : Watch) (k l : Known) (old new : Reported) → Answers s (Some (Exited code)) t → Ends free s t k old new → ChecksOne free s (Some (Exited code)) t w k l old new
+exits free s t code w k l old new a x = record { answers = a; found = x.0; finds = x.1; reports = x.2; watch = λ e. absurd (some_none (Exited code) e); knows = λ e. absurd (some_none (Exited code) e) }
 
 -- what was kept is seen in its own memory
 seen_there : (s : State) (w : Watch) → IsWatch s.upper s.memory w → ((k : ℕ) → IfSome (slice_index_or s.memory.windows k None) (IsPage s.memory)) → IsSeen s.upper s.memory w
@@ -112,12 +137,14 @@ nothing_by s t w uncalled x seen touched =
     }
 
 -- nothing is found once the program has ended
-nothing_found : (s : State) (w : Watch) (code : ℕ) → call_of s.cpu ≡ None → s.exited ≡ Some code → IsWatch s.upper s.memory w → ((k : ℕ) → IfSome (slice_index_or s.memory.windows k None) (IsPage s.memory)) → FindsAtEnd s s []
-nothing_found s w code uncalled ended x pages =
+nothing_found : (s : State) (w : Watch) (known : Known) (code : ℕ) → call_of s.cpu ≡ None → s.exited ≡ Some code → IsWatch s.upper s.memory w → ((k : ℕ) → IfSome (slice_index_or s.memory.windows k None) (IsPage s.memory)) → FindsAtEnd s s known []
+nothing_found s w known code uncalled ended x pages =
     let left : [] ++ left_behind s s ≡ [] = ap (λ (k : Option Call). left_by k s) uncalled in
     record {
       findings = [];
       finds = nothing_by s s w uncalled x (seen_there s w x pages) (over code ended refl);
+      known = known;
+      knows = known_still s s w w known uncalled x x;
       told = none left refl;
     }
 
@@ -132,30 +159,30 @@ pages_there s x k =
     some_of (slice_index_or s.memory.windows k None) (IsOwned s.ems.pages) F (λ block o. subst F o.2 (x.ems.owned o.0 o.1)) (x.ems.shown k)
 
 -- the program had ended before
-over_then : (free : Bool) (s t : State) (code : ℕ) (w : Watch) (r : Reported) → Answers s (Some (Exited code)) t → call_of s.cpu ≡ None → IsWatch s.upper s.memory w → AreConsistent s → ChecksOne free s (Some (Exited code)) t w r r
-over_then free s t code w r a uncalled x linked =
-    let F : State → Type 0 = λ u. FindsAtEnd s u [] in
+over_then : (free : Bool) (s t : State) (code : ℕ) (w : Watch) (k : Known) (r : Reported) → Answers s (Some (Exited code)) t → call_of s.cpu ≡ None → IsWatch s.upper s.memory w → AreConsistent s → ChecksOne free s (Some (Exited code)) t w k k r r
+over_then free s t code w k r a uncalled x linked =
+    let F : State → Type 0 = λ u. FindsAtEnd s u k [] in
     let ended = had_ended s t code uncalled a in
-    exits free s t code w r r a ([], subst F (sym (exit_changes_nothing s t code uncalled a)) (nothing_found s w ended.0 uncalled ended.1 x (pages_there s linked)), reports_none free r)
+    exits free s t code w k k r r a ([], subst F (sym (exit_changes_nothing s t code uncalled a)) (nothing_found s w k ended.0 uncalled ended.1 x (pages_there s linked)), reports_none free r)
 
-pub was_over : (free : Bool) (s t : State) (b : Before) (code : ℕ) (w : Watch) (r : Reported) → Answers s (Some (Exited code)) t → IsBefore s b → b.call ≡ None → IsWatch s.upper s.memory w → AreConsistent t → ChecksOne free s (Some (Exited code)) t w r r
-was_over free s t b code w r a h e x linked =
+pub was_over : (free : Bool) (s t : State) (b : Before) (code : ℕ) (w : Watch) (k : Known) (r : Reported) → Answers s (Some (Exited code)) t → IsBefore s b → b.call ≡ None → IsWatch s.upper s.memory w → AreConsistent t → ChecksOne free s (Some (Exited code)) t w k k r r
+was_over free s t b code w k r a h e x linked =
     let uncalled = sym h.call ∙ e in
     let L : State → Type 0 = λ u. AreConsistent u in
-    over_then free s t code w r a uncalled x (subst L (exit_changes_nothing s t code uncalled a) linked)
+    over_then free s t code w k r a uncalled x (subst L (exit_changes_nothing s t code uncalled a) linked)
 
-none_at : (s t : State) (stop : Stop) → ((code : ℕ) → stop ≡ Exited code → ⊥) → FindsAtStop s stop t []
-none_at s t (Exited code) other = absurd (other code refl)
-none_at s t AllSteps other = refl
-none_at s t Halted other = refl
-none_at s t Unlisted other = refl
-none_at s t InputEnded other = refl
-none_at s t Destroyed other = refl
-none_at s t NoMemory other = refl
+none_at : (s t : State) (stop : Stop) (k : Known) → ((code : ℕ) → stop ≡ Exited code → ⊥) → FindsAtStop s stop t k []
+none_at s t (Exited code) k other = absurd (other code refl)
+none_at s t AllSteps k other = refl
+none_at s t Halted k other = refl
+none_at s t Unlisted k other = refl
+none_at s t InputEnded k other = refl
+none_at s t Destroyed k other = refl
+none_at s t NoMemory k other = refl
 
 -- no step was made
-pub stops : (free : Bool) (s t : State) (stop : Stop) (w : Watch) (r : Reported) → Answers s (Some stop) t → ((code : ℕ) → stop ≡ Exited code → ⊥) → ChecksOne free s (Some stop) t w r r
-stops free s t stop w r a other = record { answers = a; found = []; finds = none_at s t stop other; reports = reports_none free r; watch = λ e. absurd (some_none stop e) }
+pub stops : (free : Bool) (s t : State) (stop : Stop) (w : Watch) (k : Known) (r : Reported) → Answers s (Some stop) t → ((code : ℕ) → stop ≡ Exited code → ⊥) → ChecksOne free s (Some stop) t w k k r r
+stops free s t stop w k r a other = record { answers = a; found = []; finds = none_at s t stop k other; reports = reports_none free r; watch = λ e. absurd (some_none stop e); knows = λ e. absurd (some_none stop e) }
 
 -- ---- a step of an instruction that touches nothing that matters
 
@@ -219,7 +246,7 @@ unmarked_passes s w whole x u b =
 
 -- so many such steps lead from s to t
 pub record Passes (s t : State) (w : Watch) (n : ℕ) : Type 0 where
-  pub finds : FindsIn s n t []
+  pub passes : PassesIn s n t
   pub watch : IsWatch t.upper t.memory w
   pub pages : HasPages t
 
@@ -227,11 +254,13 @@ passes_more : (s t u : State) (w : Watch) (n : ℕ) → w.broken ≡ None → Pa
 passes_more s t u w n whole p x step =
     let passed = unmarked_passes t w whole p.watch x (begins_of t u x.below step) in
     let seen = clear_seen t u w passed p.pages step p.watch in
-    let finds : FindsAt t u [] = record { findings = []; finds = nothing_by t u w (no_call t.cpu passed.below) p.watch seen (clear_touched t u w passed step); told = none refl refl } in
-    record { finds = checks.further n t u [] [] p.finds step finds; watch = seen_watch t.upper u.upper t.memory u.memory w p.watch seen; pages = seen.pages }
+    let uncalled = no_call t.cpu passed.below in
+    let watch = seen_watch t.upper u.upper t.memory u.memory w p.watch seen in
+    let passing : IsPassing t u = record { finds = nothing_by t u w uncalled p.watch seen (clear_touched t u w passed step); knows = λ k. known_still t u w w k uncalled p.watch watch } in
+    record { passes = steps.further n t u p.passes step passing; watch = watch; pages = seen.pages }
 
 passes_all : (s : State) (w : Watch) (t : State) (n : ℕ) → w.broken ≡ None → IsWatch s.upper s.memory w → HasPages s → GoesUnmarked w.marks s n t → Passes s t w n
-passes_all s w _ _ whole x pages unmarked.here = record { finds = checks.here; watch = x; pages = pages }
+passes_all s w _ _ whole x pages unmarked.here = record { passes = steps.here; watch = x; pages = pages }
 passes_all s w _ _ whole x pages (unmarked.further n t u g i h) = passes_more s t u w n whole (passes_all s w t n whole x pages g) i h
 
 pub passes : (s t : State) (w : Watch) (n : ℕ) → w.broken ≡ None → IsWatch s.upper s.memory w → AreConsistent s → GoesUnmarked w.marks s n t → Passes s t w n

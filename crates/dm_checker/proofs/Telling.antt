@@ -9,6 +9,7 @@ use Rattle.dm_findings.specs.declared.finding.Found.{Found}
 use Rattle.dm_findings.specs.declared.sites.Site.{Site}
 use Rattle.dm_findings.specs.Report.{Reported, report_of}
 use Rattle.dm_findings.specs.Sites.{site_of}
+use Rattle.dm_origins.specs.Origins.{Known, origin_of}
 use Rattle.dm_checker.specs.declared.acts.Before.{Before}
 use Rattle.dm_findings.specs.Findings.{is_of_free_memory}
 use Rattle.dm_checker.specs.Checks.{reported}
@@ -56,18 +57,18 @@ told_more free f fs i d a b c less h k =
     reports_as free a c _ _ (sym same) (reports_more free a b c (map f (take i fs)) (f (get_or fs i d) ∷ []) h k)
 
 -- the findings of a step, as the state before it tells them
-pub found_same : (s t : State) (b : Before) (step : ℕ) (a : Act) (fs : List Finding) → IsBefore s b → step ≡ t.steps → map (found_by b step a) fs ≡ found_at s t a fs
-found_same s t b step a fs h e =
-    ap₂ (λ (p : Site) (n : ℕ). map (λ (f : Finding). record { step = n; process = b.present; site = p; act = a; finding = f }) fs) h.site e
-    ∙ ap (λ (k : ℕ). map (λ (f : Finding). record { step = t.steps; process = k; site = site_of s.memory s.cpu; act = a; finding = f }) fs) h.present
+pub found_same : (s t : State) (b : Before) (step : ℕ) (k : Known) (a : Act) (fs : List Finding) → IsBefore s b → step ≡ t.steps → map (found_by b step k a) fs ≡ found_at s t k a fs
+found_same s t b step k a fs h e =
+    ap₂ (λ (p : Site) (n : ℕ). map (λ (f : Finding). record { step = n; process = b.present; site = p; act = a; finding = f; origin = origin_of k b.a20 f }) fs) h.site e
+    ∙ ap₂ (λ (n : ℕ) (a20 : Bool). map (λ (f : Finding). record { step = t.steps; process = n; site = site_of s.memory s.cpu; act = a; finding = f; origin = origin_of k a20 f }) fs) h.present h.a20
 
 -- a report that tells them
-pub record Tells (free : Bool) (s t : State) (fs : List Finding) (old new : Reported) : Type 0 where
+pub record Tells (free : Bool) (s t : State) (k : Known) (fs : List Finding) (old new : Reported) : Type 0 where
   pub more : List Found
-  pub found : IsFound s t fs more
+  pub found : IsFound s t k fs more
   pub reports : ReportsMore free old new more
 
-pub tells : (free : Bool) (s t : State) (b : Before) (step : ℕ) (a : Act) (fs : List Finding) (old new : Reported) → IsBefore s b → IsAct s a → step ≡ t.steps → ReportsMore free old new (map (found_by b step a) fs) → Tells free s t fs old new
-tells free s t b step a fs old new h act e r =
-    let same = found_same s t b step a fs h e in
-    record { more = found_at s t a fs; found = some a act refl; reports = reports_as free old new _ _ same r }
+pub tells : (free : Bool) (s t : State) (b : Before) (step : ℕ) (k : Known) (a : Act) (fs : List Finding) (old new : Reported) → IsBefore s b → IsAct s a → step ≡ t.steps → ReportsMore free old new (map (found_by b step k a) fs) → Tells free s t k fs old new
+tells free s t b step k a fs old new h act e r =
+    let same = found_same s t b step k a fs h e in
+    record { more = found_at s t k a fs; found = some a act refl; reports = reports_as free old new _ _ same r }

@@ -6,11 +6,12 @@ use Rattle.dm_state.specs.State.{State}
 use Rattle.dm_machine.specs.Run.{IsRun}
 use Rattle.dm_machine.specs.Run as run
 use Rattle.dm_findings.specs.Report.{Reported, report_of}
+use Rattle.dm_origins.specs.Origins.{Known, known_first}
 use Rattle.dm_checker.specs.declared.watch.Watch.{Watch}
-use Rattle.dm_checker.specs.Checks.{FindsIn, IsReport, RunsPart}
+use Rattle.dm_checker.specs.Checks.{IsReport, RunsPart}
 use Rattle.dm_checker.specs.Checks as checks
 use Rattle.dm_checker.specs.Checking.{UnderWay, HasMade, IsLonger, IsUnderWay, going, had_ended}
-use Rattle.dm_checker.specs.inner.Steps.{ChecksOne, IsPart}
+use Rattle.dm_checker.specs.inner.Steps.{ChecksOne, IsPart, PassesIn}
 use Rattle.dm_checker.specs.Watching.{IsWatch}
 use Rattle.dm_checker.proofs.Checking.{HasChecked, checked_none, checked_on, checked_all, checked_cut, checked_more, part_next}
 use Rattle.dm_checker.proofs.Longer.{longer_by}
@@ -24,15 +25,15 @@ exited_with s t code (run.cut e w) = (let less = w.fewer in absurd (omega arith)
 
 -- ---- the steps so far
 
-pub made_of : (s t : State) (n : ℕ) (c : UnderWay) → c.left ≤ n → HasChecked c.free s (n - c.left) t c.report → HasMade s n t c
-made_of s t n c few h = record { running = h.running; few = few; found = h.found; finds = h.finds; reports = h.is }
+pub made_of : (s t : State) (n : ℕ) (c : UnderWay) → c.left ≤ n → HasChecked c.free s (n - c.left) t c.origins c.report → HasMade s n t c
+made_of s t n c few h = record { running = h.running; few = few; found = h.found; finds = h.finds; knows = h.knows; reports = h.is }
 
-pub checked_of : (s t : State) (n : ℕ) (c : UnderWay) → HasMade s n t c → HasChecked c.free s (n - c.left) t c.report
-checked_of s t n c h = record { running = h.running; found = h.found; finds = h.finds; is = h.reports }
+pub checked_of : (s t : State) (n : ℕ) (c : UnderWay) → HasMade s n t c → HasChecked c.free s (n - c.left) t c.origins c.report
+checked_of s t n c h = record { running = h.running; found = h.found; finds = h.finds; knows = h.knows; is = h.reports }
 
 pub record Going (s : State) (n : ℕ) (t : State) (c : UnderWay) : Type 0 where
   pub few : c.left ≤ n
-  pub checked : HasChecked c.free s (n - c.left) t c.report
+  pub checked : HasChecked c.free s (n - c.left) t c.origins c.report
   pub watch : IsWatch t.upper t.memory c.watch
 
 pub going_of : (s t : State) (n : ℕ) (c : UnderWay) → c.over ≡ None → IsUnderWay s n t c → Going s n t c
@@ -45,42 +46,42 @@ ended_of s t n code c e (had_ended other f g h i) =
     let same : Some other ≡ Some code = sym f ∙ e in
     record { found = []; checks = checks.over code (g ∙ same) refl h refl; is = i }
 
-pub begins : (s t : State) (n : ℕ) (c : UnderWay) → c.over ≡ s.exited → t ≡ s → c.left ≡ n → c.report ≡ report_of [] → IsWatch t.upper t.memory c.watch → IsUnderWay s n t c
-begins s t n c e same left empty watch = by s.exited refl
+pub begins : (s t : State) (n : ℕ) (c : UnderWay) → c.over ≡ s.exited → t ≡ s → c.left ≡ n → c.report ≡ report_of [] → c.origins ≡ known_first s.ems s.xms → IsWatch t.upper t.memory c.watch → IsUnderWay s n t c
+begins s t n c e same left empty first watch = by s.exited refl
   where
     by : (o : Option ℕ) → s.exited ≡ o → IsUnderWay s n t c
     by None h =
         let none : 0 ≡ n - c.left = omega (arith, left) in
-        going (e ∙ h) (made_of s t n c (omega (arith, left)) (subst (λ (k : ℕ). HasChecked c.free s k t c.report) none (checked_none c.free s t c.report h same empty))) watch
+        going (e ∙ h) (made_of s t n c (omega (arith, left)) (subst (λ (k : ℕ). HasChecked c.free s k t c.origins c.report) none (checked_none c.free s t c.origins c.report h same first empty))) watch
     by (Some code) h = had_ended code (e ∙ h) h same empty
 
 -- ---- one more step
 
-module _ (free : Bool) (s t u : State) (n left passed : ℕ) (r : Reported) (few : left ≤ n) (h : HasChecked free s (n - left) t r) (f : FindsIn t passed u []) where
-  on : HasChecked free s (n - left + passed) u r
-  on = checked_on free s t u (n - left) passed r h f
+module _ (free : Bool) (s t u : State) (n left passed : ℕ) (k : Known) (r : Reported) (few : left ≤ n) (h : HasChecked free s (n - left) t k r) (f : PassesIn t passed u) where
+  on : HasChecked free s (n - left + passed) u k r
+  on = checked_on free s t u (n - left) passed k r h f
 
   -- all steps were made
   pub all_made : passed ≡ left → IsReport s n free AllSteps u r
-  all_made all = checked_all free s u (n - left + passed) n r on (omega (arith, all, few))
+  all_made all = checked_all free s u (n - left + passed) n k r on (omega (arith, all, few))
 
   -- a stop came
-  pub stopped : passed < left → (v : State) (stop : Stop) (w : Watch) (new : Reported) → ChecksOne free u (Some stop) v w r new → IsReport s n free stop v new
-  stopped less v stop w new x = checked_cut free s u v (n - left + passed) n stop w r new on (omega (arith, less, few)) x
+  pub stopped : passed < left → (v : State) (stop : Stop) (w : Watch) (l : Known) (new : Reported) → ChecksOne free u (Some stop) v w k l r new → IsReport s n free stop v new
+  stopped less v stop w l new x = checked_cut free s u v (n - left + passed) n stop w k l r new on (omega (arith, less, few)) x
 
   -- the machine goes on
-  pub gone_on : passed < left → (v : State) (w : Watch) (new : Reported) → ChecksOne free u None v w r new → HasChecked free s (n - (left - passed - 1)) v new
-  gone_on less v w new x =
+  pub gone_on : passed < left → (v : State) (w : Watch) (l : Known) (new : Reported) → ChecksOne free u None v w k l r new → HasChecked free s (n - (left - passed - 1)) v l new
+  gone_on less v w l new x =
       let one_more : n - left + passed + 1 ≡ n - (left - passed - 1) = omega (arith, less, few) in
-      subst (λ (k : ℕ). HasChecked free s k v new) one_more (checked_more free s u v (n - left + passed) w r new on x)
+      subst (λ (i : ℕ). HasChecked free s i v l new) one_more (checked_more free s u v (n - left + passed) w k l r new on x)
 
   -- an allocation failed
   pub part_lost : passed < left → (v : State) → IsPart u v → RunsPart s n v
-  part_lost less v x = part_next free s u v (n - left + passed) n r on (omega (arith, less, few)) x
+  part_lost less v x = part_next free s u v (n - left + passed) n k r on (omega (arith, less, few)) x
 
   -- what is listed stays listed
-  pub listed_on : (v : State) (stop : Option Stop) (w : Watch) (new : Reported) → ChecksOne free u stop v w r new → IsLonger r new
-  listed_on v stop w new x = longer_by free r new h.found x.found h.is x.reports
+  pub listed_on : (v : State) (stop : Option Stop) (w : Watch) (l : Known) (new : Reported) → ChecksOne free u stop v w k l r new → IsLonger r new
+  listed_on v stop w l new x = longer_by free r new h.found x.found h.is x.reports
 
 -- ---- no step was made
 

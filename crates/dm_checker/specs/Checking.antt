@@ -5,25 +5,31 @@ use Rattle.dm_state.specs.State.{State}
 use Rattle.dm_findings.specs.declared.finding.Found.{Found}
 use Rattle.dm_findings.specs.declared.report.Listed.{Listed}
 use Rattle.dm_findings.specs.Report.{Reported, report_of}
+use Rattle.dm_origins.specs.Origins.{Known}
 use Rattle.dm_checker.specs.declared.watch.Watch.{Watch}
 use Rattle.dm_checker.specs.Checks.{FindsIn, IsReport, reported}
+use Rattle.dm_checker.specs.Origins.{OriginsIn}
 use Rattle.dm_checker.specs.Watching.{IsWatch}
 
 -- a checked run under way: the report so far, how many steps it may still make, whether it reports findings about free
--- memory, the exit code of a program that had ended before its first step, if it had, and what memory shows of the arena
+-- memory, the exit code of a program that had ended before its first step, if it had, what memory shows of the arena, and
+-- what is known of who allocated and who freed
 pub record UnderWay : Type 0 where
   pub report : Reported
   pub left : ℕ
   pub free : Bool
   pub over : Option ℕ
   pub watch : Watch
+  pub origins : Known
 
--- the steps that c has made from s, of at most n, led to t, and its report has what is found in them
+-- the steps that c has made from s, of at most n, led to t, and its report has what is found in them; c has what is known
+-- after them of who allocated and who freed
 pub record HasMade (s : State) (n : ℕ) (t : State) (c : UnderWay) : Type 0 where
   pub running : s.exited ≡ None
   pub few : c.left ≤ n
   pub found : List Found
   pub finds : FindsIn s (n - c.left) t found
+  pub knows : OriginsIn s (n - c.left) t c.origins
   pub reports : c.report ≡ report_of (reported c.free found)
 
 -- c is a checked run of at most n steps from s, which has led to t: it goes on, or the program had ended before (then

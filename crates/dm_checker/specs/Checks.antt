@@ -13,13 +13,16 @@ use Rattle.dm_findings.specs.Findings.{is_of_free_memory}
 use Rattle.dm_findings.specs.Report.{Reported, report_of}
 use Rattle.dm_checker.specs.Calls.{stays}
 use Rattle.dm_leaks.specs.Leaks.{leaks}
+use Rattle.dm_origins.specs.Origins.{Known}
 use Rattle.dm_checker.specs.Findings.{Finds, IsFound}
+use Rattle.dm_checker.specs.Origins.{IsKnownAfter, OriginsIn}
 
--- `found` is what is found of a step from s to t after which the machine goes on
-pub record FindsAt (s t : State) (found : List Found) : Type 0 where
+-- `found` is what is found of a step from s to t after which the machine goes on; k is what is known after it of who
+-- allocated and who freed
+pub record FindsAt (s t : State) (k : Known) (found : List Found) : Type 0 where
   pub findings : List Finding
   pub finds : Finds s t findings
-  pub told : IsFound s t findings found
+  pub told : IsFound s t k findings found
 
 -- what a program that ended by this call left allocated, or holds if it stays resident, by the state t after it; none if
 -- there was no call
@@ -32,34 +35,36 @@ abbrev pub left_behind : State → State → List Finding
 left_behind s t = left_by (call_of s.cpu) t
 
 -- `found` is what is found of the step from s to t that ends the first program, and what the program left allocated, or
--- holds if it stays resident
-pub record FindsAtEnd (s t : State) (found : List Found) : Type 0 where
+-- holds if it stays resident; k is what is known before it of who allocated and who freed
+pub record FindsAtEnd (s t : State) (k : Known) (found : List Found) : Type 0 where
   pub findings : List Finding
   pub finds : Finds s t findings
-  pub told : IsFound s t (findings ++ left_behind s t) found
+  pub known : Known
+  pub knows : IsKnownAfter s t k known
+  pub told : IsFound s t known (findings ++ left_behind s t) found
 
 -- `found` is what is found where a run stops for this reason: with `Exited` a last step was made, with any other stop
--- there is nothing
-abbrev pub FindsAtStop : State → Stop → State → List Found → Type 0
-FindsAtStop s (Exited code) t found = FindsAtEnd s t found
-FindsAtStop s AllSteps t found = found ≡ []
-FindsAtStop s Halted t found = found ≡ []
-FindsAtStop s Unlisted t found = found ≡ []
-FindsAtStop s InputEnded t found = found ≡ []
-FindsAtStop s Destroyed t found = found ≡ []
-FindsAtStop s NoMemory t found = found ≡ []
+-- there is nothing. k is what is known in s of who allocated and who freed
+abbrev pub FindsAtStop : State → Stop → State → Known → List Found → Type 0
+FindsAtStop s (Exited code) t k found = FindsAtEnd s t k found
+FindsAtStop s AllSteps t k found = found ≡ []
+FindsAtStop s Halted t k found = found ≡ []
+FindsAtStop s Unlisted t k found = found ≡ []
+FindsAtStop s InputEnded t k found = found ≡ []
+FindsAtStop s Destroyed t k found = found ≡ []
+FindsAtStop s NoMemory t k found = found ≡ []
 
 -- n steps lead from s to this state, none of them ended the program, and this is what is found in them, in their order
 pub data FindsIn (s : State) : ℕ → State → List Found → Type 0 where
   here : FindsIn s 0 s []
-  further : (n : ℕ) (t u : State) (fs gs : List Found) → FindsIn s n t fs → MakesStep t (record { stop = None; state = u }) → FindsAt t u gs → FindsIn s (n + 1) u (fs ++ gs)
+  further : (n : ℕ) (t u : State) (k l : Known) (fs gs : List Found) → FindsIn s n t fs → OriginsIn s n t k → MakesStep t (record { stop = None; state = u }) → IsKnownAfter t u k l → FindsAt t u l gs → FindsIn s (n + 1) u (fs ++ gs)
 
 -- a run of at most n steps from s stops for this reason and leaves t, and `found` is what is found in it: the program
 -- had ended before (`over`), n steps were made (`whole`), or a stop came earlier (`cut`)
 pub data Checks (s : State) (n : ℕ) (stop : Stop) (t : State) (found : List Found) : Type 0 where
   over : (code : ℕ) → s.exited ≡ Some code → stop ≡ Exited code → t ≡ s → found ≡ [] → Checks s n stop t found
   whole : s.exited ≡ None → stop ≡ AllSteps → FindsIn s n t found → Checks s n stop t found
-  cut : (made : ℕ) (before : State) (fs gs : List Found) → s.exited ≡ None → made < n → FindsIn s made before fs → Answers before (Some stop) t → FindsAtStop before stop t gs → found ≡ fs ++ gs → Checks s n stop t found
+  cut : (made : ℕ) (before : State) (k : Known) (fs gs : List Found) → s.exited ≡ None → made < n → FindsIn s made before fs → OriginsIn s made before k → Answers before (Some stop) t → FindsAtStop before stop t k gs → found ≡ fs ++ gs → Checks s n stop t found
 
 -- the findings that are reported: all of them, or, unless free memory is looked at (`free`), those that are not about it
 abbrev pub reported : Bool → List Found → List Found

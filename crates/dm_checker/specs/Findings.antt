@@ -17,6 +17,7 @@ use Rattle.dm_findings.specs.declared.finding.Finding.TheVariants.{Destroyed, Wh
 use Rattle.dm_findings.specs.declared.finding.Found.{Found}
 use Rattle.dm_findings.specs.Calls.{call_of}
 use Rattle.dm_findings.specs.Sites.{site_of}
+use Rattle.dm_origins.specs.Origins.{Known, origin_of}
 use Rattle.dm_checker.specs.Shown.{Shown, IsShown}
 use Rattle.dm_checker.specs.Headers.{overwritten, mapped_away}
 use Rattle.dm_touches.specs.Found.{touch_findings}
@@ -72,11 +73,12 @@ pub data IsAct (s : State) (a : Act) : Type 0 where
   instructed : (i : Ins) (length : ℕ) → call_of s.cpu ≡ None → BeginsWith (fetched s.memory s.cpu) i length → a ≡ act.Instruction i (up s.cpu.ip length) → IsAct s a
 
 -- the findings with their step from s to t, which performs a: its number (the machine's count of steps after it), the
--- process that was present, and where in its code the program performs it: an instruction at CS:IP, a call at its caller
-abbrev pub found_at : State → State → Act → List Finding → List Found
-found_at s t a = map (λ f. record { step = t.steps; process = s.processes.present; site = site_of s.memory s.cpu; act = a; finding = f })
+-- process that was present, and where in its code the program performs it: an instruction at CS:IP, a call at its caller.
+-- k is what is known after it of who allocated and who freed
+abbrev pub found_at : State → State → Known → Act → List Finding → List Found
+found_at s t k a = map (λ f. record { step = t.steps; process = s.processes.present; site = site_of s.memory s.cpu; act = a; finding = f; origin = origin_of k s.memory.a20 f })
 
--- `found` is the findings fs with their step from s to t; the empty list if there are none
-pub data IsFound (s t : State) (fs : List Finding) (found : List Found) : Type 0 where
-  none : fs ≡ [] → found ≡ [] → IsFound s t fs found
-  some : (a : Act) → IsAct s a → found ≡ found_at s t a fs → IsFound s t fs found
+-- `found` is the findings fs with their step from s to t, after which k is known; the empty list if there are none
+pub data IsFound (s t : State) (k : Known) (fs : List Finding) (found : List Found) : Type 0 where
+  none : fs ≡ [] → found ≡ [] → IsFound s t k fs found
+  some : (a : Act) → IsAct s a → found ≡ found_at s t k a fs → IsFound s t k fs found

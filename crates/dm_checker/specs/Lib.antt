@@ -2,6 +2,7 @@ pub mod Shown
 pub mod Headers
 pub mod Calls
 pub mod Arranged
+pub mod Origins
 pub mod Findings
 pub mod Checks
 pub mod Marking

@@ -11,6 +11,7 @@ use crate::steps::{look_at_step, pass};
 use crate::watch::{Watch, read_arena};
 use dm_findings::Report;
 use dm_machine::{Machine, Stop};
+use dm_origins::Origins;
 use std::alloc::{AllocError, Global};
 use std::marker::Model;
 
@@ -22,6 +23,7 @@ pub struct CheckedRun {
     free: bool,
     over: Option<u8>,
     kept: Watch,
+    origins: Origins,
 }
 
 impl Model for CheckedRun {
@@ -29,7 +31,7 @@ impl Model for CheckedRun {
 
     ghost Value = { UnderWay };
 
-    ghost view = { λ c. record { report = c.report; left = c.left; free = c.free; over = c.over; watch = c.kept } };
+    ghost view = { λ c. record { report = c.report; left = c.left; free = c.free; over = c.over; watch = c.kept; origins = c.origins } };
 }
 
 /// The exit code of the machine's first program, if it has ended. The machine stays.
@@ -66,12 +68,14 @@ impl CheckedRun {
     {
         let over = exit_code(machine);
         let kept = read_arena(alloc, machine)?;
+        let origins = Origins::new(alloc, machine.ems(), machine.xms())?;
         Ok(CheckedRun {
             report: Report::new(alloc),
             left: n,
             free,
             over,
             kept,
+            origins,
         })
     }
 
@@ -108,6 +112,7 @@ impl CheckedRun {
                 machine,
                 free,
                 &mut self.kept,
+                &mut self.origins,
                 &mut self.report,
             )? {
                 return Ok(Some(stop));

@@ -9,6 +9,7 @@ mod checks;
 mod headers;
 mod laws;
 mod marking;
+mod noting;
 mod put;
 mod steps;
 mod touched;

@@ -10,20 +10,23 @@ ghost use Rattle.dm_findings.specs.declared.finding.Found.{Found};
 ghost use Rattle.dm_state.specs.State.{HasProgram, State};
 ghost use Rattle.dm_machine.specs.Run.{Answers};
 ghost use Rattle.dm_checker.specs.Findings.{turned, IsFound, FindsTouched};
-ghost use Rattle.dm_checker.specs.Checks.{FindsAtEnd, FindsIn};
+ghost use Rattle.dm_checker.specs.Origins.{IsKnownAfter};
+ghost use Rattle.dm_checker.specs.Checks.{FindsAtEnd};
 ghost use Rattle.dm_checker.specs.Watching.{IsWatch, broken_at, shown_of};
-ghost use Rattle.dm_checker.specs.inner.Steps.{IsBefore, IsPart, Looks, ReportsMore, found_by, ChecksOne};
+ghost use Rattle.dm_checker.specs.inner.Steps.{IsBefore, IsPart, Looks, ReportsMore, found_by, ChecksOne, PassesIn};
 
 use crate::acts::Before;
 use crate::arranged::put_arranged;
 use crate::calls::{arranges, put_freed_twice, put_of_call, stays};
 use crate::headers::{put_all_mapped_away, put_all_overwritten};
+use crate::noting::note;
 use crate::put::put;
 use crate::touched::put_touched;
 use crate::watch::{Broken, Watch, read_arena};
 use dm_findings::{Act, Call, Finding, Found, Report};
 use dm_leaks::put_leaks;
 use dm_machine::{Machine, Stop, tables_and_memory_are_consistent};
+use dm_origins::Origins;
 use std::alloc::{AllocError, Global};
 
 /// Appends to `out` that the step destroyed the arena or made it whole again, if it did, by where the arena's list
@@ -68,23 +71,28 @@ fn look_anew(
 }
 
 /// Appends to `out` what is found of a step by what it changes. `kept`, the arena as it was read before the step, becomes the arena after
-/// it, which is read anew only if the step may have changed it. An `Err` is a failed allocation.
+/// it, which is read anew only if the step may have changed it. `origins` is what is known before the step of who allocated
+/// and who freed, and becomes what is known after it. An `Err` is a failed allocation.
 fn look(
     alloc: Global,
     out: &mut Vec<Finding>,
     before: &Before,
     kept: &mut Watch,
+    origins: &mut Origins,
     machine: &Machine,
 ) -> Result<(), AllocError>
     requires { (s : State) × IsBefore s before.now × IsWatch s.upper s.memory kept.old }
     ensures looks { OnOk result ((s : State) → IsBefore s before.now → IsWatch s.upper s.memory kept.old → Looks s machine.now kept.old out.old.items out.new.items) }
     ensures watch { OnOk result (IsWatch machine.now.upper machine.now.memory kept.new) }
+    ensures knows { OnOk result ((s : State) → IsBefore s before.now → IsWatch s.upper s.memory kept.old → IsKnownAfter s machine.now origins.old origins.new) }
 {
     if !arranges(&before.cpu, before.call) && kept.is_seen(machine) {
+        note(alloc, origins, before, kept, kept, machine)?;
         return put_of_call(out, &before.cpu, &machine.cpu(), before.call);
     }
     let new = read_arena(alloc, machine)?;
     look_anew(out, before, kept, &new, machine)?;
+    note(alloc, origins, before, kept, &new, machine)?;
     *kept = new;
     Ok(())
 }
@@ -107,16 +115,17 @@ fn tell_one(report: &mut Report, free: bool, found: Found) -> Result<(), AllocEr
 }
 
 /// Adds the findings of a step to the report, each with the step's number, the process, where in its code the program
-/// performed the step, and what the step performed. An `Err` is a failed allocation.
+/// performed the step, what the step performed, and who allocated or freed. An `Err` is a failed allocation.
 fn tell(
     report: &mut Report,
     free: bool,
     before: &Before,
+    origins: &Origins,
     step: u64,
     act: Act,
     found: &[Finding],
 ) -> Result<(), AllocError>
-    ensures { OnOk result (ReportsMore free report.old report.new (map (found_by before.now step act) found.now)) }
+    ensures { OnOk result (ReportsMore free report.old report.new (map (found_by before.now step origins.now act) found.now)) }
 {
     for finding in found {
         let found = Found {
@@ -125,6 +134,7 @@ fn tell(
             site: before.site,
             act,
             finding: *finding,
+            origin: origins.origin_of(before.a20, finding),
         };
         tell_one(report, free, found)?;
     }
@@ -136,11 +146,12 @@ fn tell_step(
     report: &mut Report,
     free: bool,
     before: &Before,
+    origins: &Origins,
     machine: &Machine,
     found: &[Finding],
 ) -> Result<(), AllocError>
     requires { (s : State) × IsBefore s before.now × Answers s None machine.now }
-    ensures { OnOk result ((s : State) → IsBefore s before.now → (more : List Found) × IsFound s machine.now found.now more × ReportsMore free report.old report.new more) }
+    ensures { OnOk result ((s : State) → IsBefore s before.now → (more : List Found) × IsFound s machine.now origins.now found.now more × ReportsMore free report.old report.new more) }
 {
     if found.is_empty() {
         return Ok(());
@@ -149,32 +160,34 @@ fn tell_step(
         // The step was made.
         unreachable!()
     };
-    tell(report, free, before, machine.steps(), act, found)
+    tell(report, free, before, origins, machine.steps(), act, found)
 }
 
 /// Adds what is found of the step that ended the first program to the report: its findings, and what the program left
 /// allocated, or holds if it stays resident. `found` has the findings of the bytes that the step touches. `kept` becomes the
-/// arena after the step. An `Err` is a failed allocation.
+/// arena after the step, and `origins` what is known after it. An `Err` is a failed allocation.
 fn check_end(
     alloc: Global,
     found: &mut Vec<Finding>,
     before: &Before,
     call: Call,
     kept: &mut Watch,
+    origins: &mut Origins,
     machine: &Machine,
     report: &mut Report,
     free: bool,
 ) -> Result<(), AllocError>
     requires before { (s : State) × IsBefore s before.now × IsWatch s.upper s.memory kept.old }
     requires call { before.now.call ≡ Some call }
-    ensures { OnOk result ((s : State) → IsBefore s before.now → IsWatch s.upper s.memory kept.old → FindsTouched s (shown_of kept.old) found.old.items → (more : List Found) × FindsAtEnd s machine.now more × ReportsMore free report.old report.new more) }
+    ensures { OnOk result ((s : State) → IsBefore s before.now → IsWatch s.upper s.memory kept.old → FindsTouched s (shown_of kept.old) found.old.items → (more : List Found) × FindsAtEnd s machine.now origins.old more × ReportsMore free report.old report.new more) }
 {
-    look(alloc, found, before, kept, machine)?;
+    look(alloc, found, before, kept, origins, machine)?;
     put_leaks(found, machine, stays(call))?;
     tell(
         report,
         free,
         before,
+        origins,
         machine.steps(),
         Act::Call(call),
         found,
@@ -210,19 +223,20 @@ fn make_step(machine: &mut Machine, call: Option<Call>) -> Option<Stop>
 }
 
 /// Makes one step and adds what is found of it to the report; returns the stop, or None if the machine goes on. `kept` is
-/// the arena before the step and becomes that after it if the machine goes on. An `Err` is a failed allocation of the
-/// checker, before the step or after it.
+/// the arena before the step and becomes that after it if the machine goes on, and so `origins` is what is known of who
+/// allocated and who freed. An `Err` is a failed allocation of the checker, before the step or after it.
 #[inline(never)]
 pub(crate) fn look_at_step(
     alloc: Global,
     machine: &mut Machine,
     free: bool,
     kept: &mut Watch,
+    origins: &mut Origins,
     report: &mut Report,
 ) -> Result<Option<Stop>, AllocError>
     requires program { HasProgram machine.old }
     requires watch { IsWatch machine.old.upper machine.old.memory kept.old }
-    ensures ok { IfOk result (λ stop. ChecksOne free machine.old stop machine.new kept.new report.old report.new) }
+    ensures ok { IfOk result (λ stop. ChecksOne free machine.old stop machine.new kept.new origins.old origins.new report.old report.new) }
     ensures err { OnErr result (IsPart machine.old machine.new) }
     ensures program { HasProgram machine.new }
 {
@@ -232,14 +246,14 @@ pub(crate) fn look_at_step(
     let stop = make_step(machine, before.call);
     match stop {
         None => {
-            look(alloc, &mut found, &before, kept, machine)?;
-            tell_step(report, free, &before, machine, &found)?;
+            look(alloc, &mut found, &before, kept, origins, machine)?;
+            tell_step(report, free, &before, origins, machine, &found)?;
             Ok(None)
         }
         Some(Stop::Exited(_)) => {
             if let Some(call) = before.call {
                 check_end(
-                    alloc, &mut found, &before, call, kept, machine, report, free,
+                    alloc, &mut found, &before, call, kept, origins, machine, report, free,
                 )?;
                 return Ok(stop);
             }
@@ -251,12 +265,12 @@ pub(crate) fn look_at_step(
     }
 }
 
-/// Makes at most `most` steps of instructions of which nothing is found, by the bytes that they touch, and returns how
-/// many. `kept` is the arena before them, and after them.
+/// Makes at most `most` steps of instructions of which nothing is found, by the bytes that they touch, and that allocate
+/// and free nothing, and returns how many. `kept` is the arena before them, and after them.
 pub(crate) fn pass(machine: &mut Machine, kept: &Watch, most: u64) -> u64
     requires program { HasProgram machine.old }
     requires watch { IsWatch machine.old.upper machine.old.memory kept.now }
-    ensures found { FindsIn machine.old result machine.new [] }
+    ensures passes { PassesIn machine.old result machine.new }
     ensures most { result ≤ most }
     ensures watch { IsWatch machine.new.upper machine.new.memory kept.now }
     ensures program { HasProgram machine.new }

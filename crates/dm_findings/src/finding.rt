@@ -124,6 +124,15 @@ pub enum Act {
     Instruction(Ins, u16),
 }
 
+/// A step that allocated or freed something.
+#[derive(Clone, Copy, Debug, PartialEq, Eq)]
+pub struct Origin {
+    /// The number of the step.
+    pub step: u64,
+    /// Where in its code the program performed it.
+    pub site: Site,
+}
+
 /// A finding, the step that it is about, in which process that was, and what was performed in it.
 #[derive(Clone, Copy, Debug)]
 pub struct Found {
@@ -135,4 +144,7 @@ pub struct Found {
     pub site: Site,
     pub act: Act,
     pub finding: Finding,
+    /// The step that freed the memory that the finding is about, or allocated what is left or held. None if no step of
+    /// the run did, or if the finding is about something else.
+    pub origin: Option<Origin>,
 }

@@ -9,6 +9,6 @@ mod report;
 mod sites;
 
 pub use calls::{Call, call_of};
-pub use finding::{Act, Contents, Finding, Found, Kept};
+pub use finding::{Act, Contents, Finding, Found, Kept, Origin};
 pub use report::{Listed, Report};
 pub use sites::{Site, site_of};

@@ -18,6 +18,7 @@ use Rattle.dm_findings.specs.declared.finding.Act.TheVariants as act
 use Rattle.dm_findings.specs.declared.finding.Finding.{Finding}
 use Rattle.dm_findings.specs.declared.finding.Finding.TheVariants.{Overwritten, MappedAway, Destroyed, Whole, FreedTwice, Refused, NotAllocated, DivisionError, NotServed, Short, Left, Held, FreeRead, FreeWritten, StackFreed, WindowLost, RomWritten, NothingWritten, TailWritten, OtherFreed, NotResized}
 use Rattle.dm_findings.specs.declared.finding.Found.{Found}
+use Rattle.dm_findings.specs.declared.finding.Origin.{Origin}
 use Rattle.dm_findings.specs.declared.finding.Kept.{Kept}
 use Rattle.dm_findings.specs.declared.finding.Kept.TheVariants as kept
 use Rattle.dm_findings.specs.declared.report.Listed.{Listed}
@@ -29,7 +30,7 @@ use Rattle.dm_findings.specs.Report.{Reported}
 use Rattle.dm_findings.specs.Sites.{site_of}
 use Rattle.dm_reports.specs.Names.{call_text}
 use Rattle.dm_reports.specs.Stops.{reason_text}
-use Rattle.dm_reports.specs.Texts.{finding_text, kind_text}
+use Rattle.dm_reports.specs.Texts.{told_text, kind_text}
 
 -- ---- members behind the first one of an object
 
@@ -164,12 +165,23 @@ detail_members (TailWritten at byte) = number_member (codes "header") at ++ numb
 detail_members (OtherFreed at owner) = number_member (codes "block") at ++ number_member (codes "owner") owner
 detail_members (NotResized asked) = number_member (codes "wanted") asked
 
+-- the name of the step that did something to what the finding is about
+abbrev pub origin_name : Finding → List ℕ
+origin_name (Left k) = codes "allocated_by"
+origin_name (Held k) = codes "allocated_by"
+origin_name _ = codes "freed_by"
+
+-- an object with the step that did it, and where in its code the program performed it; nothing if it is not known
+abbrev pub origin_member : Finding → Option Origin → List ℕ
+origin_member f None = []
+origin_member f (Some o) = name_text (origin_name f) ++ codes "{\"step\":" ++ decimal o.step ++ site_members o.site ++ codes "}"
+
 -- what was found and where: its kind, the step's number, the process, where in its code the program performed it, the call or
--- instruction, what the finding is about, and the words of the report
+-- instruction, what the finding is about, which step allocated or freed that, and the words of the report
 unfoldable pub found_members : Found → List ℕ
 found_members f =
     string_member (codes "kind") (kind_word f.finding) ++ number_member (codes "step") f.step ++ number_member (codes "process") f.process ++ site_members f.site ++ act_members f.act
-    ++ detail_members f.finding ++ string_member (codes "text") (finding_text f.act f.finding)
+    ++ detail_members f.finding ++ origin_member f.finding f.origin ++ string_member (codes "text") (told_text f)
 
 -- ---- lines
 

@@ -4,17 +4,19 @@
 ghost use Rattle.std.specs.Prelude.{◌≡◌, ◌++◌, OnOk, codes};
 ghost use Rattle.std.specs.List.{flat_map};
 ghost use Rattle.dm_text.specs.Texts.{text_of};
-ghost use Rattle.dm_reports.specs.Texts.{finding_text};
-ghost use Rattle.dm_json.specs.Objects.{act_members, again_object, bool_member, byte_members, closing, code_member, contents_member, detail_members, end_object, found_members, found_object, kept_members, kept_word, kind_word, left_out_object, next_members, number_member, opening, repeated_object, stopped_object, string_member, summary_objects, unlisted_object, what_members};
+ghost use Rattle.dm_reports.specs.Texts.{told_text};
+ghost use Rattle.dm_json.specs.Objects.{act_members, again_object, bool_member, byte_members, closing, code_member, contents_member, detail_members, end_object, found_members, found_object, kept_members, kept_word, kind_word, left_out_object, next_members, number_member, opening, origin_member, origin_name, repeated_object, stopped_object, string_member, summary_objects, unlisted_object, what_members};
 
 use crate::members::{
     put_bool_member, put_byte_members, put_call_members, put_contents_member, put_name,
     put_number_member, put_site_members, put_string_member,
 };
 use dm_cpu::Cpu;
-use dm_findings::{Act, Call, Contents, Finding, Found, Kept, Listed, Report, call_of, site_of};
+use dm_findings::{
+    Act, Call, Contents, Finding, Found, Kept, Listed, Origin, Report, call_of, site_of,
+};
 use dm_ins::Ins;
-use dm_reports::{kind_of, put_finding, put_instruction, put_number, reason_of};
+use dm_reports::{kind_of, put_instruction, put_number, put_told, reason_of};
 use dm_space::Space;
 use dm_state::Stop;
 use std::alloc::{AllocError, Global};
@@ -205,17 +207,43 @@ fn put_act_members(out: &mut Vec<u8>, alloc: Global, act: &Act) -> Result<(), Al
     }
 }
 
-/// Appends the words of the report for a finding, as a member.
-fn put_text_member(
+/// The name of the step that did something to what a finding is about: it allocated what is left or held, and freed
+/// memory.
+fn origin_name(finding: &Finding) -> &'static [u8]
+    ensures { result.now ≡ origin_name finding.now }
+{
+    match finding {
+        Finding::Left(_) | Finding::Held(_) => b"allocated_by",
+        _ => b"freed_by",
+    }
+}
+
+/// Appends which step allocated or freed what a finding is about, and where in its code the program performed that;
+/// nothing if it is not known.
+fn put_origin_member(
     out: &mut Vec<u8>,
     alloc: Global,
-    act: &Act,
     finding: &Finding,
+    origin: Option<Origin>,
 ) -> Result<(), AllocError>
-    ensures { OnOk result (out.new.items ≡ out.old.items ++ string_member (codes "text") (finding_text act.now finding.now)) }
+    ensures { OnOk result (out.new.items ≡ out.old.items ++ origin_member finding.now origin) }
+{
+    let Some(origin) = origin else {
+        return Ok(());
+    };
+    put_name(out, origin_name(finding))?;
+    out.extend_from_slice(b"{\"step\":")?;
+    put_number(out, origin.step)?;
+    put_site_members(out, alloc, origin.site)?;
+    out.extend_from_slice(b"}")
+}
+
+/// Appends the words of the report for a finding, as a member.
+fn put_text_member(out: &mut Vec<u8>, alloc: Global, found: &Found) -> Result<(), AllocError>
+    ensures { OnOk result (out.new.items ≡ out.old.items ++ string_member (codes "text") (told_text found.now)) }
 {
     let mut text = Vec::new(alloc);
-    put_finding(&mut text, act, finding)?;
+    put_told(&mut text, found)?;
     put_string_member(out, b"text", &text)
 }
 
@@ -230,7 +258,8 @@ fn put_members(out: &mut Vec<u8>, alloc: Global, found: &Found) -> Result<(), Al
     put_site_members(out, alloc, found.site)?;
     put_act_members(out, alloc, &found.act)?;
     put_details(out, alloc, &found.finding)?;
-    put_text_member(out, alloc, &found.act, &found.finding)
+    put_origin_member(out, alloc, &found.finding, found.origin)?;
+    put_text_member(out, alloc, found)
 }
 
 /// Appends the beginning of a line, with the word that says what it is.

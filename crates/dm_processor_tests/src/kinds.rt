@@ -10,11 +10,11 @@ use dm_forms::Form;
 use std::test::Fail;
 
 /// The number of forms.
-pub(crate) const FORMS: usize = 136;
+pub(crate) const FORMS: usize = 140;
 
 /// The number of a form, in the order of their declaration.
 pub(crate) fn number_of(form: &Form) -> usize
-    ensures { result < 136 }
+    ensures { result < 140 }
 {
     match *form {
         Form::MoveWord(..) => 0,
@@ -144,15 +144,19 @@ pub(crate) fn number_of(form: &Form) -> usize
         Form::CompareStringWord => 124,
         Form::ScanStringByte => 125,
         Form::ScanStringWord => 126,
-        Form::Divide(..) => 127,
-        Form::LoadEsPointer(..) => 128,
-        Form::LoadDsPointer(..) => 129,
-        Form::MoveToSegment(..) => 130,
-        Form::LoadSegment(..) => 131,
-        Form::PopSegment(_) => 132,
-        Form::FarTransfer(_) => 133,
-        Form::Interrupt(_) => 134,
-        Form::Other => 135,
+        Form::Input(_) => 127,
+        Form::Output => 128,
+        Form::Wait => 129,
+        Form::Escape => 130,
+        Form::Divide(..) => 131,
+        Form::LoadEsPointer(..) => 132,
+        Form::LoadDsPointer(..) => 133,
+        Form::MoveToSegment(..) => 134,
+        Form::LoadSegment(..) => 135,
+        Form::PopSegment(_) => 136,
+        Form::FarTransfer(_) => 137,
+        Form::Interrupt(_) => 138,
+        Form::Other => 139,
     }
 }
 

@@ -98,10 +98,10 @@ const RUNS: [Row; 4] = [
 /// pushes the flags at FFFCh.
 const FREED_TWICE: &str = "\
 error: step 3, 0103:0102 INT 21h function 49h (Free Allocated Memory): the stack is in the free block at 0103
-error: step 5, 0103:0106 INT 021h: writes 0103:FFFC in the free block at 0103
-error: step 6, 0103:0106 INT 21h function 49h (Free Allocated Memory): block at 0103 freed twice
+error: step 5, 0103:0106 INT 021h: writes 0103:FFFC in the free block at 0103, freed by step 3, 0103:0102
+error: step 6, 0103:0106 INT 21h function 49h (Free Allocated Memory): block at 0103 freed twice, freed by step 3, 0103:0102
 error: step 6, 0103:0106 INT 21h function 49h (Free Allocated Memory): the stack is in the free block at 0103
-error: step 8, 0103:010B INT 021h: writes 0103:FFFC in the free block at 0103
+error: step 8, 0103:010B INT 021h: writes 0103:FFFC in the free block at 0103, freed by step 3, 0103:0102
 errors: 5, notes: 0
 ";
 
@@ -138,8 +138,8 @@ const CHECKS: [Row; 10] = [
         b"",
         "\
 error: step 3, 0103:0102 INT 21h function 49h (Free Allocated Memory): the stack is in the free block at 0103
-error: step 5, 0103:0106 INT 021h: writes 0103:FFFC in the free block at 0103
-error: step 6, 0103:0106 INT 21h function 49h (Free Allocated Memory): block at 0103 freed twice
+error: step 5, 0103:0106 INT 021h: writes 0103:FFFC in the free block at 0103, freed by step 3, 0103:0102
+error: step 6, 0103:0106 INT 21h function 49h (Free Allocated Memory): block at 0103 freed twice, freed by step 3, 0103:0102
 error: step 6, 0103:0106 INT 21h function 49h (Free Allocated Memory): the stack is in the free block at 0103
 errors: 4, notes: 0
 stopped: steps at 0103:0108
@@ -494,10 +494,10 @@ fn fails(
 /// The report of `hi2.com`, and the fault of its output.
 const TWICE_UNWRITTEN: &str = "\
 error: step 7, 0103:0109 INT 21h function 49h (Free Allocated Memory): the stack is in the free block at 0103
-error: step 9, 0103:010D INT 021h: writes 0103:FFFC in the free block at 0103
-error: step 10, 0103:010D INT 21h function 49h (Free Allocated Memory): block at 0103 freed twice
+error: step 9, 0103:010D INT 021h: writes 0103:FFFC in the free block at 0103, freed by step 7, 0103:0109
+error: step 10, 0103:010D INT 21h function 49h (Free Allocated Memory): block at 0103 freed twice, freed by step 7, 0103:0109
 error: step 10, 0103:010D INT 21h function 49h (Free Allocated Memory): the stack is in the free block at 0103
-error: step 12, 0103:0112 INT 021h: writes 0103:FFFC in the free block at 0103
+error: step 12, 0103:0112 INT 021h: writes 0103:FFFC in the free block at 0103, freed by step 7, 0103:0109
 errors: 5, notes: 0
 dm: cannot write standard output
 ";

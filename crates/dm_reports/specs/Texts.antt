@@ -1,5 +1,5 @@
 -- The texts of findings in the report of `dm check`. The form is this machine's own.
-use Rattle.std.specs.Prelude.{ℕ, ◌==◌, Bool, if◌then◌else◌, List, [], ◌∷◌, ◌++◌, codes, decimal}
+use Rattle.std.specs.Prelude.{ℕ, ◌==◌, Bool, if◌then◌else◌, List, [], ◌∷◌, ◌++◌, Option, Some, None, codes, decimal}
 use Rattle.dm_text.specs.Texts.{text_of}
 use Rattle.dm_views.specs.Digits.{two_digits, four_digits, address_text}
 use Rattle.dm_findings.specs.declared.finding.Contents.{Contents}
@@ -8,6 +8,7 @@ use Rattle.dm_findings.specs.declared.finding.Act.TheVariants as act
 use Rattle.dm_findings.specs.declared.finding.Finding.{Finding}
 use Rattle.dm_findings.specs.declared.finding.Finding.TheVariants.{Overwritten, MappedAway, Destroyed, Whole, FreedTwice, Refused, NotAllocated, DivisionError, NotServed, Short, Left, Held, FreeRead, FreeWritten, StackFreed, WindowLost, RomWritten, NothingWritten, TailWritten, OtherFreed, NotResized}
 use Rattle.dm_findings.specs.declared.finding.Found.{Found}
+use Rattle.dm_findings.specs.declared.finding.Origin.{Origin}
 use Rattle.dm_findings.specs.declared.finding.Kept.{Kept}
 use Rattle.dm_findings.specs.declared.finding.Kept.TheVariants as kept
 use Rattle.dm_findings.specs.declared.report.Listed.{Listed}
@@ -97,11 +98,26 @@ abbrev pub site_text : Site → List ℕ
 site_text (At segment offset) = address_text segment offset
 site_text (Before segment offset) = codes "before " ++ address_text segment offset
 
--- what was found and where: the step's number, where in its code the program performed it, the call or instruction, and
--- what was found
+-- what a step did to what the finding is about: it allocated what is left or held, and freed memory
+abbrev pub origin_verb : Finding → List ℕ
+origin_verb (Left k) = codes "allocated"
+origin_verb (Held k) = codes "allocated"
+origin_verb _ = codes "freed"
+
+-- by which step, and where, that was done; nothing if it is not known
+abbrev pub origin_text : Finding → Option Origin → List ℕ
+origin_text f None = []
+origin_text f (Some o) = codes ", " ++ origin_verb f ++ codes " by step " ++ decimal o.step ++ codes ", " ++ site_text o.site
+
+-- what was found, in words, and which step allocated or freed what it is about
+abbrev pub told_text : Found → List ℕ
+told_text f = finding_text f.act f.finding ++ origin_text f.finding f.origin
+
+-- what was found and where: the step's number, where in its code the program performed it, the call or instruction, what
+-- was found, and which step allocated or freed what it is about
 unfoldable pub found_text : Found → List ℕ
 found_text f =
-    codes "step " ++ decimal f.step ++ codes ", " ++ site_text f.site ++ codes " " ++ act_text f.act ++ codes ": " ++ finding_text f.act f.finding
+    codes "step " ++ decimal f.step ++ codes ", " ++ site_text f.site ++ codes " " ++ act_text f.act ++ codes ": " ++ told_text f
 
 -- the line of a finding: error or note, and what was found and where
 unfoldable pub found_line : Found → List ℕ

@@ -5,11 +5,11 @@ ghost use Rattle.std.specs.Prelude.{◌≡◌, ◌++◌, OnOk, codes, decimal};
 ghost use Rattle.dm_findings.specs.Findings.{is_error};
 ghost use Rattle.dm_text.specs.Texts.{text_of};
 ghost use Rattle.dm_views.specs.Digits.{two_digits, four_digits, address_text};
-ghost use Rattle.dm_reports.specs.Texts.{act_text, contents_text, counted, ending_text, finding_text, found_line, free_text, found_text, kept_text, kind_text, lock_text, map_text, refusal_text, repeated_line, short_text, site_text};
+ghost use Rattle.dm_reports.specs.Texts.{act_text, contents_text, counted, ending_text, finding_text, found_line, free_text, found_text, kept_text, kind_text, lock_text, map_text, origin_text, origin_verb, refusal_text, repeated_line, short_text, site_text, told_text};
 
 use crate::meanings::meaning_of;
 use crate::names::put_call;
-use dm_findings::{Act, Contents, Finding, Found, Kept, Listed, Site};
+use dm_findings::{Act, Contents, Finding, Found, Kept, Listed, Origin, Site};
 use dm_ins::Ins;
 use dm_text::{Line, text};
 use dm_views::{byte_digits, put_address, word_digits};
@@ -255,11 +255,7 @@ fn put_not_resized(out: &mut Vec<u8>, asked: u16) -> Result<(), AllocError>
 }
 
 /// Appends what was found in a step that performed `act`, in words.
-///
-/// # Errors
-///
-/// `AllocError` if an allocation fails.
-pub fn put_finding(out: &mut Vec<u8>, act: &Act, finding: &Finding) -> Result<(), AllocError>
+fn put_finding(out: &mut Vec<u8>, act: &Act, finding: &Finding) -> Result<(), AllocError>
     ensures { OnOk result (out.new.items ≡ out.old.items ++ finding_text act.now finding.now) }
 {
     match finding {
@@ -350,8 +346,50 @@ fn put_site(out: &mut Vec<u8>, site: Site) -> Result<(), AllocError>
     }
 }
 
+/// What a step did to what a finding is about: it allocated what is left or held, and freed memory.
+fn verb_of(finding: &Finding) -> &'static [u8]
+    ensures { result.now ≡ origin_verb finding.now }
+{
+    match finding {
+        Finding::Left(_) | Finding::Held(_) => b"allocated",
+        _ => b"freed",
+    }
+}
+
+/// Appends which step allocated or freed what a finding is about, and where in its code the program performed that;
+/// nothing if it is not known.
+fn put_origin(
+    out: &mut Vec<u8>,
+    finding: &Finding,
+    origin: Option<Origin>,
+) -> Result<(), AllocError>
+    ensures { OnOk result (out.new.items ≡ out.old.items ++ origin_text finding.now origin) }
+{
+    let Some(origin) = origin else {
+        return Ok(());
+    };
+    out.extend_from_slice(b", ")?;
+    out.extend_from_slice(verb_of(finding))?;
+    out.extend_from_slice(b" by step ")?;
+    put_number(out, origin.step)?;
+    out.extend_from_slice(b", ")?;
+    put_site(out, origin.site)
+}
+
+/// Appends what was found, in words, and which step allocated or freed what it is about.
+///
+/// # Errors
+///
+/// `AllocError` if an allocation fails.
+pub fn put_told(out: &mut Vec<u8>, found: &Found) -> Result<(), AllocError>
+    ensures { OnOk result (out.new.items ≡ out.old.items ++ told_text found.now) }
+{
+    put_finding(out, &found.act, &found.finding)?;
+    put_origin(out, &found.finding, found.origin)
+}
+
 /// Appends what was found and where: the number of its step, where in its code the program performed it, the call or
-/// instruction, and what was found.
+/// instruction, what was found, and which step allocated or freed what it is about.
 #[tactic(auto, unfolding(crate::specs::Texts::found_text))]
 fn put_text(out: &mut Vec<u8>, found: &Found) -> Result<(), AllocError>
     ensures { OnOk result (out.new.items ≡ out.old.items ++ found_text found.now) }
@@ -363,7 +401,7 @@ fn put_text(out: &mut Vec<u8>, found: &Found) -> Result<(), AllocError>
     out.extend_from_slice(b" ")?;
     put_act(out, &found.act)?;
     out.extend_from_slice(b": ")?;
-    put_finding(out, &found.act, &found.finding)
+    put_told(out, found)
 }
 
 /// Appends the line of a finding: error or note, the number of its step, where in its code the program performed it,

@@ -1,5 +1,5 @@
 -- What is kept of the state before a step, and what one checked step does.
-use Rattle.std.specs.Prelude.{◌≡◌, ◌⊎◌, ℕ, Bool, List, ◌++◌, Option, Some, None}
+use Rattle.std.specs.Prelude.{◌≡◌, ◌⊎◌, ℕ, ◌+◌, Bool, List, [], ◌++◌, Option, Some, None}
 use Rattle.dm_ins.specs.declared.ins.Ins.{Ins}
 use Rattle.dm_state.specs.declared.stop.Stop.{Stop}
 use Rattle.dm_state.specs.State.{State}
@@ -13,9 +13,12 @@ use Rattle.dm_findings.specs.declared.finding.Found.{Found}
 use Rattle.dm_findings.specs.Calls.{call_of}
 use Rattle.dm_findings.specs.Sites.{site_of}
 use Rattle.dm_findings.specs.Report.{Reported, report_of}
+use Rattle.dm_origins.specs.Origins.{Known, origin_of}
+use Rattle.dm_machine.specs.Step.{MakesStep}
 use Rattle.dm_checker.specs.declared.acts.Before.{Before}
 use Rattle.dm_checker.specs.declared.watch.Watch.{Watch}
 use Rattle.dm_checker.specs.Findings.{Finds, FindsTouched}
+use Rattle.dm_checker.specs.Origins.{IsKnownAfter}
 use Rattle.dm_checker.specs.Checks.{FindsAt, FindsAtStop, reported}
 use Rattle.dm_checker.specs.Watching.{IsWatch, shown_of}
 
@@ -34,9 +37,10 @@ pub record IsUnlisted (s : State) : Type 0 where
   pub call : call_of s.cpu ≡ None
   pub none : (i : Ins) (length : ℕ) → BeginsWith (fetched s.memory s.cpu) i length → ⊥
 
--- a finding with its step: the step's number, the process, where in its code the program performed it, and what it performed
-abbrev pub found_by : Before → ℕ → Act → Finding → Found
-found_by b step a f = record { step = step; process = b.present; site = b.site; act = a; finding = f }
+-- a finding with its step: the step's number, the process, where in its code the program performed it, what it performed,
+-- and who allocated or freed, by what is known after it
+abbrev pub found_by : Before → ℕ → Known → Act → Finding → Found
+found_by b step k a f = record { step = step; process = b.present; site = b.site; act = a; finding = f; origin = origin_of k b.a20 f }
 
 -- the report `new` is the report `old` with the findings `more` added, or, without `free`, those that are not about free
 -- memory
@@ -67,17 +71,29 @@ pub record Looks (s t : State) (w : Watch) (old new : List Finding) : Type 0 whe
 abbrev pub IsPart : State → State → Type 0
 IsPart s t = (t ≡ s) ⊎ ((stop : Option Stop) × Answers s stop t)
 
--- `found` is what is found of a call of `step` from s to t, whether the machine goes on (None) or stops
-abbrev pub FindsAtAny : State → Option Stop → State → List Found → Type 0
-FindsAtAny s None t found = FindsAt s t found
-FindsAtAny s (Some stop) t found = FindsAtStop s stop t found
+-- `found` is what is found of a call of `step` from s to t, whether the machine goes on (None) or stops. k is what is known
+-- before it of who allocated and who freed, and l what is known after it
+abbrev pub FindsAtAny : State → Option Stop → State → Known → Known → List Found → Type 0
+FindsAtAny s None t k l found = FindsAt s t l found
+FindsAtAny s (Some stop) t k l found = FindsAtStop s stop t k found
+
+-- nothing is found of the step from s to t, and it allocates and frees nothing
+pub record IsPassing (s t : State) : Type 0 where
+  pub finds : Finds s t []
+  pub knows : (k : Known) → IsKnownAfter s t k k
+
+-- so many such steps lead from s to this state
+pub data PassesIn (s : State) : ℕ → State → Type 0 where
+  here : PassesIn s 0 s
+  further : (n : ℕ) (t u : State) → PassesIn s n t → MakesStep t (record { stop = None; state = u }) → IsPassing t u → PassesIn s (n + 1) u
 
 -- one checked step from s to t, with this stop or None: the report `new` is `old` with the findings of the step added,
 -- those about free memory only with `free`; and if the machine goes on, w is what memory shows of the arena after the
--- step
-pub record ChecksOne (free : Bool) (s : State) (stop : Option Stop) (t : State) (w : Watch) (old new : Reported) : Type 0 where
+-- step, and l what is known of who allocated and who freed, if k was before it
+pub record ChecksOne (free : Bool) (s : State) (stop : Option Stop) (t : State) (w : Watch) (k l : Known) (old new : Reported) : Type 0 where
   pub answers : Answers s stop t
   pub found : List Found
-  pub finds : FindsAtAny s stop t found
+  pub finds : FindsAtAny s stop t k l found
   pub reports : ReportsMore free old new found
   pub watch : stop ≡ None → IsWatch t.upper t.memory w
+  pub knows : stop ≡ None → IsKnownAfter s t k l

@@ -2,6 +2,7 @@ use Rattle.std.proofs.Common.{sym, ◌∙◌}
 use Rattle.std.proofs.lemmas.Result.{on_ok_weaker}
 use Rattle.dm_checker.proofs.Seen.{seen_watch}
 use Rattle.dm_checker.proofs.Looking.{seen_looks}
+use Rattle.dm_checker.proofs.Stepping.{known_after}
 use Rattle.dm_checker.proofs.steps.look.Goals as goal
 
 pub returns-then-is_seen-clause-looks : goal.returns-then-is_seen-clause-looks
@@ -17,3 +18,14 @@ returns-then-is_seen-clause-watch c = on_ok_weaker c.put_of_call.result (λ e.
     let t = c.args.machine.now in
     seen_watch s.upper t.upper s.memory t.memory c.args.kept.now c.requires.2 c.if-is_seen.ensures
     ) c.put_of_call.ensures
+
+pub returns-then-is_seen-clause-knows : goal.returns-then-is_seen-clause-knows
+returns-then-is_seen-clause-knows c = on_ok_weaker c.put_of_call.result (λ e s before watch.
+    let t = c.args.machine.now in
+    let after = seen_watch s.upper t.upper s.memory t.memory c.args.kept.now watch c.if-is_seen.ensures in
+    known_after s t c.args.before.now c.args.kept.now c.args.kept.now c.args.origins.now c.note.new.origins before watch after (c.in_ok-note.ensures s before)
+    ) c.put_of_call.ensures
+
+pub returns-clause-knows : goal.returns-clause-knows
+returns-clause-knows c s before watch =
+    known_after s c.args.machine.now c.args.before.now c.args.kept.now c.in_ok-new.new c.args.origins.now c.note-2.new.origins before watch c.in_ok-new.ensures (c.in_ok-note-2.ensures s before)

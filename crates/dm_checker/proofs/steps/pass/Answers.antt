@@ -1,12 +1,12 @@
 use Rattle.std.proofs.Common.{◌∙◌, sym}
-use Rattle.dm_checker.specs.Checks as checks
+use Rattle.dm_checker.specs.inner.Steps as steps
 use Rattle.dm_checker.proofs.Stepping.{passes, not_broken}
 use Rattle.dm_checker.proofs.steps.pass.Goals as goal
 
-pub returns-then-is_some-clause-found : goal.returns-then-is_some-clause-found
-returns-then-is_some-clause-found c = checks.here
+pub returns-then-is_some-clause-passes : goal.returns-then-is_some-clause-passes
+returns-then-is_some-clause-passes c = steps.here
 
 pub returns : goal.returns
 returns c =
     let x = passes c.args.machine.now c.run_unmarked.new.self c.args.kept.now c.run_unmarked.result (not_broken c.args.kept.now.broken (sym c.is_some.ensures ∙ c.if-is_some.false)) c.requires.watch c.tables_and_memory_are_consistent.ensures c.run_unmarked.ensures.goes in
-    record { found = x.finds; most = c.run_unmarked.ensures.most; watch = x.watch; program = c.run_unmarked.ensures.loaded }
+    record { passes = x.passes; most = c.run_unmarked.ensures.most; watch = x.watch; program = c.run_unmarked.ensures.loaded }

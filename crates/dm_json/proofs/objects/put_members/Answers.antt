@@ -1,7 +1,7 @@
 use Rattle.std.specs.Prelude.{codes}
 use Rattle.std.proofs.lemmas.Result.{on_ok_weaker}
-use Rattle.dm_reports.specs.Texts.{finding_text}
-use Rattle.dm_json.specs.Objects.{act_members, detail_members, found_members, kind_word, number_member, site_members, string_member}
+use Rattle.dm_reports.specs.Texts.{told_text}
+use Rattle.dm_json.specs.Objects.{act_members, detail_members, found_members, kind_word, number_member, origin_member, site_members, string_member}
 use Rattle.dm_reports.proofs.Puts.{behind}
 use Rattle.dm_json.proofs.objects.put_members.Goals as goal
 
@@ -17,4 +17,5 @@ returns c =
     let site = behind old _ (site_members f.site) _ _ process c.in_ok-put_site_members.ensures in
     let act = behind old _ (act_members f.act) _ _ site c.in_ok-put_act_members.ensures in
     let details = behind old _ (detail_members f.finding) _ _ act c.in_ok-put_details.ensures in
-    on_ok_weaker c.put_text_member.result (λ e. behind old _ (string_member (codes "text") (finding_text f.act f.finding)) _ _ details e) c.put_text_member.ensures
+    let origin = behind old _ (origin_member f.finding f.origin) _ _ details c.in_ok-put_origin_member.ensures in
+    on_ok_weaker c.put_text_member.result (λ e. behind old _ (string_member (codes "text") (told_text f)) _ _ origin e) c.put_text_member.ensures

@@ -1,6 +1,6 @@
 use Rattle.std.specs.Prelude.{codes, decimal}
 use Rattle.std.proofs.lemmas.Result.{on_ok_weaker}
-use Rattle.dm_reports.specs.Texts.{site_text, act_text, finding_text, found_text}
+use Rattle.dm_reports.specs.Texts.{site_text, act_text, told_text, found_text}
 use Rattle.dm_reports.proofs.Puts.{behind}
 use Rattle.dm_reports.proofs.texts.put_text.Goals as goal
 
@@ -15,4 +15,4 @@ returns c =
     let space = behind old _ (codes " ") _ _ site c.in_ok-extend_from_slice-3.ensures.items in
     let act = behind old _ (act_text f.act) _ _ space c.in_ok-put_act.ensures in
     let what = behind old _ (codes ": ") _ _ act c.in_ok-extend_from_slice-4.ensures.items in
-    on_ok_weaker c.put_finding.result (λ e. behind old _ (finding_text f.act f.finding) _ _ what e) c.put_finding.ensures
+    on_ok_weaker c.put_told.result (λ e. behind old _ (told_text f) _ _ what e) c.put_told.ensures

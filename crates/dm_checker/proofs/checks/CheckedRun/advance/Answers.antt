@@ -23,7 +23,7 @@ returns-then-left-eq0-clause-ok c s n way =
     let all : c.pass-left.result ≡ c.loop.left = omega (arith, c.if-left-eq0.true, c.pass-left.ensures.most) in
     let h = c.loop.invariant.checked s n way in
     subst (λ (f : Bool). IsReport s n f AllSteps c.pass-left.new.machine c.loop.self-inside.report) free
-    (all_made c.self.inside.free s c.loop.machine c.pass-left.new.machine n c.loop.left c.pass-left.result c.loop.self-inside.report few h c.pass-left.ensures.found all)
+    (all_made c.self.inside.free s c.loop.machine c.pass-left.new.machine n c.loop.left c.pass-left.result c.loop.self-inside.origins c.loop.self-inside.report few h c.pass-left.ensures.passes all)
 
 pub returns-in_err-stop-clause-err : goal.returns-in_err-stop-clause-err
 returns-in_err-stop-clause-err c = at_err c.from_residual.result (λ s n way.
@@ -32,7 +32,7 @@ returns-in_err-stop-clause-err c = at_err c.from_residual.result (λ s n way.
     let few : c.loop.left ≤ n = (let g = (going_of s c.args.machine.now n c.args.self.now over way).few in omega (arith, c.loop.invariant.few, most, g)) in
     let less : c.pass-left.result < c.loop.left = omega (arith, c.if-left-eq0.false, c.pass-left.ensures.most) in
     let h = c.loop.invariant.checked s n way in
-    part_lost c.self.inside.free s c.loop.machine c.pass-left.new.machine n c.loop.left c.pass-left.result c.loop.self-inside.report few h c.pass-left.ensures.found less
+    part_lost c.self.inside.free s c.loop.machine c.pass-left.new.machine n c.loop.left c.pass-left.result c.loop.self-inside.origins c.loop.self-inside.report few h c.pass-left.ensures.passes less
     c.look_at_step.new.machine c.in_err-stop.ensures.err)
 
 pub returns-in-Some-2-clause-ok : goal.returns-in-Some-2-clause-ok
@@ -43,10 +43,10 @@ returns-in-Some-2-clause-ok c s n way =
     let few : c.loop.left ≤ n = (let g = (going_of s c.args.machine.now n c.args.self.now over way).few in omega (arith, c.loop.invariant.few, most, g)) in
     let less : c.pass-left.result < c.loop.left = omega (arith, c.if-left-eq0.false, c.pass-left.ensures.most) in
     let h = c.loop.invariant.checked s n way in
-    let F : Option Stop → Type 0 = λ o. ChecksOne c.self.inside.free c.pass-left.new.machine o c.look_at_step.new.machine c.look_at_step.new.kept c.loop.self-inside.report c.look_at_step.new.report in
+    let F : Option Stop → Type 0 = λ o. ChecksOne c.self.inside.free c.pass-left.new.machine o c.look_at_step.new.machine c.look_at_step.new.kept c.loop.self-inside.origins c.look_at_step.new.origins c.loop.self-inside.report c.look_at_step.new.report in
     subst (λ (f : Bool). IsReport s n f c.in-Some-2.stop c.look_at_step.new.machine c.look_at_step.new.report) free
-    (stopped c.self.inside.free s c.loop.machine c.pass-left.new.machine n c.loop.left c.pass-left.result c.loop.self-inside.report few h c.pass-left.ensures.found less
-    c.look_at_step.new.machine c.in-Some-2.stop c.look_at_step.new.kept c.look_at_step.new.report (subst F c.in-Some-2.is c.in_ok-stop.ensures.ok))
+    (stopped c.self.inside.free s c.loop.machine c.pass-left.new.machine n c.loop.left c.pass-left.result c.loop.self-inside.origins c.loop.self-inside.report few h c.pass-left.ensures.passes less
+    c.look_at_step.new.machine c.in-Some-2.stop c.look_at_step.new.kept c.look_at_step.new.origins c.look_at_step.new.report (subst F c.in-Some-2.is c.in_ok-stop.ensures.ok))
 
 pub returns-in-Some-2-clause-lines : goal.returns-in-Some-2-clause-lines
 returns-in-Some-2-clause-lines c =
@@ -58,8 +58,8 @@ returns-in-Some-2-clause-lines c =
     let few : c.loop.left ≤ n = (let g = (going_of s c.args.machine.now n c.args.self.now over way).few in omega (arith, c.loop.invariant.few, most, g)) in
     let h = c.loop.invariant.checked s n way in
     longer_on _ _ _ c.loop.invariant.longer
-    (listed_on c.self.inside.free s c.loop.machine c.pass-left.new.machine n c.loop.left c.pass-left.result c.loop.self-inside.report few h c.pass-left.ensures.found
-    c.look_at_step.new.machine _ c.look_at_step.new.kept c.look_at_step.new.report c.in_ok-stop.ensures.ok)
+    (listed_on c.self.inside.free s c.loop.machine c.pass-left.new.machine n c.loop.left c.pass-left.result c.loop.self-inside.origins c.loop.self-inside.report few h c.pass-left.ensures.passes
+    c.look_at_step.new.machine _ c.look_at_step.new.kept c.look_at_step.new.origins c.look_at_step.new.report c.in_ok-stop.ensures.ok)
 
 pub returns-then-listed-clause-ok : goal.returns-then-listed-clause-ok
 returns-then-listed-clause-ok c s n way =
@@ -72,10 +72,10 @@ returns-then-listed-clause-ok c s n way =
     let u = c.pass-left.new.machine in
     let v = c.look_at_step.new.machine in
     let report = c.look_at_step.new.report in
-    let F : Option Stop → Type 0 = λ o. ChecksOne c.self.inside.free u o v c.look_at_step.new.kept c.loop.self-inside.report report in
-    let x = gone_on c.self.inside.free s c.loop.machine u n c.loop.left c.pass-left.result c.loop.self-inside.report few h c.pass-left.ensures.found less
-    v c.look_at_step.new.kept report (subst F c.in_default-2.is c.in_ok-stop.ensures.ok) in
-    let made = subst (λ (f : Bool). HasChecked f s (n - (c.loop.left - c.pass-left.result - 1)) v report) (sym c.loop.invariant.free) x in (
+    let F : Option Stop → Type 0 = λ o. ChecksOne c.self.inside.free u o v c.look_at_step.new.kept c.loop.self-inside.origins c.look_at_step.new.origins c.loop.self-inside.report report in
+    let x = gone_on c.self.inside.free s c.loop.machine u n c.loop.left c.pass-left.result c.loop.self-inside.origins c.loop.self-inside.report few h c.pass-left.ensures.passes less
+    v c.look_at_step.new.kept c.look_at_step.new.origins report (subst F c.in_default-2.is c.in_ok-stop.ensures.ok) in
+    let made = subst (λ (f : Bool). HasChecked f s (n - (c.loop.left - c.pass-left.result - 1)) v c.look_at_step.new.origins report) (sym c.loop.invariant.free) x in (
       going (c.loop.invariant.over ∙ over) (made_of s v n _ (omega (arith, few)) made) (c.in_ok-stop.ensures.ok.watch c.in_default-2.is),
       omega (arith, c.loop.invariant.few, most, less),
       c.loop.invariant.free ∙ free,
@@ -91,8 +91,8 @@ returns-then-listed-clause-lines c =
     let few : c.loop.left ≤ n = (let g = (going_of s c.args.machine.now n c.args.self.now over way).few in omega (arith, c.loop.invariant.few, most, g)) in
     let h = c.loop.invariant.checked s n way in
     longer_on _ _ _ c.loop.invariant.longer
-    (listed_on c.self.inside.free s c.loop.machine c.pass-left.new.machine n c.loop.left c.pass-left.result c.loop.self-inside.report few h c.pass-left.ensures.found
-    c.look_at_step.new.machine _ c.look_at_step.new.kept c.look_at_step.new.report c.in_ok-stop.ensures.ok)
+    (listed_on c.self.inside.free s c.loop.machine c.pass-left.new.machine n c.loop.left c.pass-left.result c.loop.self-inside.origins c.loop.self-inside.report few h c.pass-left.ensures.passes
+    c.look_at_step.new.machine _ c.look_at_step.new.kept c.look_at_step.new.origins c.look_at_step.new.report c.in_ok-stop.ensures.ok)
 
 pub loop-preserved : goal.loop-preserved
 loop-preserved c =
@@ -102,13 +102,13 @@ loop-preserved c =
     let u = c.pass-left.new.machine in
     let v = c.look_at_step.new.machine in
     let report = c.look_at_step.new.report in
-    let F : Option Stop → Type 0 = λ o. ChecksOne c.self.inside.free u o v c.look_at_step.new.kept c.loop.self-inside.report report in
+    let F : Option Stop → Type 0 = λ o. ChecksOne c.self.inside.free u o v c.look_at_step.new.kept c.loop.self-inside.origins c.look_at_step.new.origins c.loop.self-inside.report report in
     let x = subst F c.in_default-2.is c.in_ok-stop.ensures.ok in
     record {
       checked = λ s n way.
           let few : c.loop.left ≤ n = (let g = (going_of s c.args.machine.now n c.args.self.now over way).few in omega (arith, c.loop.invariant.few, most, g)) in
-          gone_on c.self.inside.free s c.loop.machine u n c.loop.left c.pass-left.result c.loop.self-inside.report few (c.loop.invariant.checked s n way) c.pass-left.ensures.found less
-          v c.look_at_step.new.kept report x;
+          gone_on c.self.inside.free s c.loop.machine u n c.loop.left c.pass-left.result c.loop.self-inside.origins c.loop.self-inside.report few (c.loop.invariant.checked s n way) c.pass-left.ensures.passes less
+          v c.look_at_step.new.kept c.look_at_step.new.origins report x;
       few = omega (arith, c.loop.invariant.few, less);
       longer =
           let s = c.requires.way.0 in
@@ -116,8 +116,8 @@ loop-preserved c =
           let way = c.requires.way.2 in
           let few : c.loop.left ≤ n = (let g = (going_of s c.args.machine.now n c.args.self.now over way).few in omega (arith, c.loop.invariant.few, most, g)) in
           longer_on _ _ _ c.loop.invariant.longer
-          (listed_on c.self.inside.free s c.loop.machine u n c.loop.left c.pass-left.result c.loop.self-inside.report few (c.loop.invariant.checked s n way) c.pass-left.ensures.found
-          v None c.look_at_step.new.kept report x);
+          (listed_on c.self.inside.free s c.loop.machine u n c.loop.left c.pass-left.result c.loop.self-inside.origins c.loop.self-inside.report few (c.loop.invariant.checked s n way) c.pass-left.ensures.passes
+          v None c.look_at_step.new.kept c.look_at_step.new.origins report x);
       over = c.loop.invariant.over;
       free = c.loop.invariant.free;
       watch = c.in_ok-stop.ensures.ok.watch c.in_default-2.is;
@@ -132,4 +132,4 @@ returns-clause-ok c s n way =
     let g = (going_of s c.args.machine.now n c.args.self.now over way).few in
     let all : n - c.loop.left ≡ n = omega (arith, c.loop.invariant.few, c.loop-test.false, most, g) in
     subst (λ (f : Bool). IsReport s n f AllSteps c.loop.machine c.loop.self-inside.report) free
-    (checked_all c.self.inside.free s c.loop.machine (n - c.loop.left) n c.loop.self-inside.report (c.loop.invariant.checked s n way) all)
+    (checked_all c.self.inside.free s c.loop.machine (n - c.loop.left) n c.loop.self-inside.origins c.loop.self-inside.report (c.loop.invariant.checked s n way) all)

@@ -1,0 +1,77 @@
+//! Who allocated and who freed, kept along a run.
+
+ghost use Rattle.std.specs.Prelude.{◌≡◌, map, Some, IfOk, OnOk};
+ghost use Rattle.dm_state.specs.State.{State};
+ghost use Rattle.dm_origins.specs.Origins.{with_freed};
+ghost use Rattle.dm_checker.specs.Origins.{if_both_whole, known_by};
+ghost use Rattle.dm_checker.specs.Watching.{header_of, broken_at, shown_of};
+ghost use Rattle.dm_checker.specs.inner.Steps.{IsBefore};
+
+use crate::acts::Before;
+use crate::calls::arranges;
+use crate::watch::{Watch, Watched};
+use dm_blocks::Header;
+use dm_findings::{Call, Origin};
+use dm_machine::Machine;
+use dm_origins::Origins;
+use std::alloc::{AllocError, Global};
+
+/// The headers without their bytes. An `Err` is a failed allocation.
+fn headers_of(alloc: Global, headers: &[Watched]) -> Result<Vec<Header>, AllocError>
+    ensures { IfOk result (λ list. list.items ≡ map header_of headers.now) }
+{
+    let mut list = Vec::new(alloc);
+    for watched in headers {
+        list.push(watched.header)?;
+    }
+    Ok(list)
+}
+
+/// Notes which memory a step freed, by the arena before it (`old`) and after it (`new`), if no list breaks. An `Err` is a
+/// failed allocation.
+fn note_arena(
+    alloc: Global,
+    origins: &mut Origins,
+    old: &Watch,
+    new: &Watch,
+    origin: Origin,
+) -> Result<(), AllocError>
+    ensures { OnOk result (origins.new ≡ if_both_whole (broken_at old.now.broken) (broken_at new.now.broken) origins.old
+        (with_freed origins.old (map header_of old.now.headers.items) (map header_of new.now.headers.items) origin)) }
+{
+    if old.broken.is_some() || new.broken.is_some() {
+        return Ok(());
+    }
+    let before = headers_of(alloc, &old.headers)?;
+    let after = headers_of(alloc, &new.headers)?;
+    origins.note_freed(&before, &after, origin);
+    Ok(())
+}
+
+/// Notes what a step allocated or freed. `before` is what was kept of the state before the step, `machine` is in the state
+/// after it, `old` and `new` are the arena before it and after it. An `Err` is a failed allocation.
+pub(crate) fn note(
+    alloc: Global,
+    origins: &mut Origins,
+    before: &Before,
+    old: &Watch,
+    new: &Watch,
+    machine: &Machine,
+) -> Result<(), AllocError>
+    ensures { OnOk result ((s : State) → IsBefore s before.now → origins.new ≡ known_by s machine.now (shown_of old.now) (shown_of new.now) before.now.call origins.old) }
+{
+    let origin = Origin {
+        step: machine.steps(),
+        site: before.site,
+    };
+    match before.call {
+        Some(Call::ExpandedMemory(_)) => origins.note_handles(machine.ems(), origin),
+        Some(Call::ExtendedMemory(_)) => origins.note_blocks(machine.xms(), origin),
+        call => {
+            if arranges(&before.cpu, call) {
+                note_arena(alloc, origins, old, new, origin)?;
+            }
+        }
+    }
+    Ok(())
+}

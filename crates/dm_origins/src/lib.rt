@@ -1,0 +1,9 @@
+//! Which step of a run allocated what there is, and which freed what is free: handles of expanded and extended memory,
+//! and memory of the arena.
+#![tactic(auto)]
+
+mod freed;
+mod handles;
+mod origins;
+
+pub use origins::Origins;

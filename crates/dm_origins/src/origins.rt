@@ -1,0 +1,148 @@
+//! What is known in a run of who allocated and who freed.
+
+ghost use Rattle.std.specs.Prelude.{◌≡◌, ◌/◌, IfOk, replicate, slice_index_or};
+ghost use Rattle.dm_space.specs.Memory.{linear};
+ghost use Rattle.dm_origins.specs.Origins.{known_first, with_handles, with_blocks, with_freed, of_kept, of_paragraph, origin_of, origin_since};
+ghost use Rattle.dm_origins.specs.declared.handles.Since.TheVariants.{Unused};
+
+use crate::freed::free_all;
+use crate::handles::{Since, look_at_blocks, look_at_handles};
+use dm_blocks::Header;
+use dm_ems::Ems;
+use dm_findings::{Finding, Kept, Origin};
+use dm_touches::FarAddress;
+use dm_xms::Xms;
+use std::alloc::{AllocError, Global};
+use std::marker::Model;
+
+/// How many paragraphs are looked at.
+const PARAGRAPHS: usize = 0x1_0000;
+
+/// Of each handle of expanded and of extended memory, whether it is in use and which step allocated it; of each paragraph
+/// below 10000h, which step was the last that freed it.
+///
+/// Contracts see three lists.
+#[derive(Drop)]
+pub struct Origins {
+    handles: [Since; 64],
+    blocks: [Since; 64],
+    freed: Vec<Option<Origin>>,
+}
+
+impl Model for Origins {
+    ghost use Rattle.std.specs.Prelude.{◌≡◌, vec_len};
+    ghost use Rattle.dm_origins.specs.Origins.{Known};
+
+    ghost Value = { Known };
+
+    ghost view = { λ r. record { handles = r.handles; blocks = r.blocks; freed = r.freed.items } };
+
+    ghost invariant = { λ r. vec_len r.freed ≡ 0x10000 };
+}
+
+/// The origins of all paragraphs before any was freed. An `Err` is a failed allocation.
+fn never_freed(alloc: Global) -> Result<Vec<Option<Origin>>, AllocError>
+    ensures { IfOk result (λ freed. freed.items ≡ replicate 0x10000 None) }
+{
+    let mut freed = Vec::new(alloc);
+    for paragraph in 0..PARAGRAPHS {
+        let _ = paragraph;
+        freed.push(None)?;
+    }
+    Ok(freed)
+}
+
+impl Origins {
+    /// What is known before a run: which handles are in use. An `Err` is a failed allocation.
+    #[tactic(auto, unfolding(crate::specs::Origins::nothing_known))]
+    pub fn new(alloc: Global, ems: &Ems, xms: &Xms) -> Result<Origins, AllocError>
+        ensures { IfOk result (λ origins. origins ≡ known_first ems.now xms.now) }
+    {
+        let mut handles = [Since::Unused; 64];
+        look_at_handles(&mut handles, ems, None);
+        let mut blocks = [Since::Unused; 64];
+        look_at_blocks(&mut blocks, xms, None);
+        let freed = never_freed(alloc)?;
+        Ok(Origins {
+            handles,
+            blocks,
+            freed,
+        })
+    }
+
+    /// Looks at the handles of expanded memory after a call of its driver: the step allocated those that were not in use.
+    pub fn note_handles(&mut self, ems: &Ems, origin: Origin)
+        ensures { self.new ≡ with_handles self.old ems.now (Some origin) }
+    {
+        look_at_handles(&mut self.handles, ems, Some(origin));
+    }
+
+    /// Looks at the handles of extended memory after a call of its driver: the step allocated those that were not in use.
+    pub fn note_blocks(&mut self, xms: &Xms, origin: Origin)
+        ensures { self.new ≡ with_blocks self.old xms.now (Some origin) }
+    {
+        look_at_blocks(&mut self.blocks, xms, Some(origin));
+    }
+
+    /// Looks at the blocks of the arena before and after a call: the step freed the paragraphs of free blocks that were in
+    /// no free block.
+    pub fn note_freed(&mut self, old: &[Header], new: &[Header], origin: Origin)
+        ensures { self.new ≡ with_freed self.old old.now new.now origin }
+    {
+        free_all(&mut self.freed, old, new, origin);
+    }
+
+    /// The last step that freed a paragraph; None if there is none.
+    fn of_paragraph(&self, paragraph: usize) -> Option<Origin>
+        ensures { result ≡ of_paragraph self.now paragraph }
+    {
+        match self.freed.get(paragraph) {
+            Some(origin) => *origin,
+            None => None,
+        }
+    }
+
+    /// The step that allocated what a program left or holds; None if none did, or if it is no handle.
+    fn of_kept(&self, kept: &Kept) -> Option<Origin>
+        ensures { result ≡ of_kept self.now kept.now }
+    {
+        match kept {
+            Kept::Handle(handle, _, _) => of_entry(&self.handles, *handle),
+            Kept::Block(handle, _, _) => of_entry(&self.blocks, handle.saturating_sub(1)),
+            _ => None,
+        }
+    }
+
+    /// The step that freed the memory which a finding is about, or allocated what is left or held; None if no step of the
+    /// run did, or if the finding is about something else. `a20` is that before the finding's step.
+    pub fn origin_of(&self, a20: bool, finding: &Finding) -> Option<Origin>
+        ensures { result ≡ origin_of self.now a20 finding.now }
+    {
+        match finding {
+            Finding::FreeRead(_, segment, offset) | Finding::FreeWritten(_, segment, offset) => {
+                self.of_paragraph(paragraph_of(a20, *segment, *offset))
+            }
+            Finding::FreedTwice(at) => self.of_paragraph(at.saturating_sub(1) as usize),
+            Finding::Left(kept) | Finding::Held(kept) => self.of_kept(kept),
+            _ => None,
+        }
+    }
+}
+
+/// The paragraph of a byte, by A20.
+fn paragraph_of(a20: bool, segment: u16, offset: u16) -> usize
+    ensures { result ≡ linear a20 segment offset / 16 }
+{
+    let byte = FarAddress { segment, offset };
+    (byte.linear(a20) / 16) as usize
+}
+
+/// The step since which the handle with this number in a table is in use.
+fn of_entry(known: &[Since; 64], number: u16) -> Option<Origin>
+    ensures { result ≡ origin_since (slice_index_or known.now number Unused) }
+{
+    match known.get(number as usize) {
+        Some(since) => since.origin(),
+        None => None,
+    }
+}
