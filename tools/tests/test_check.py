@@ -35,9 +35,9 @@ OF_KIT = (
     ("docs/proved.md", "| `libc::chdir` | sets", "| `libc::chroot` | sets", "`libc::chroot`"),
     ("docs/proved.md", "`std` 2,366", "`std` 2,400", "`std` 2,366"),
     ("docs/proved.md", "is known to compile some correct code wrongly", "is known to compile all code correctly", "of the kit does not say, or is not quoted"),
-    ("docs/proved.md", "the host and its stack | 31,", "the host and its stack | 32,", "the host and its stack | 31,"),
 )
 # A file and the text before a figure: another figure in its place is reported with the true one.
+FIGURES_OF_KIT = (("docs/proved.md", "the host and its stack | "),)
 FIGURES = (
     ("README.md", "To be believed are "),
     ("README.md", "which say what the machine does, "),
@@ -84,6 +84,7 @@ class Planted(unittest.TestCase):
     @unittest.skipUnless(kit.name() == believed.KIT, "it is not the kit that the figures are of")
     def test_each_of_the_kit_is_reported(self):
         self.are_reported(OF_KIT)
+        self.figures_are_compared(FIGURES_OF_KIT)
 
     def are_reported(self, planted):
         for path, old, new, words in planted:
@@ -94,7 +95,10 @@ class Planted(unittest.TestCase):
                 self.is_reported(path, text, text.replace(old, new, 1), words)
 
     def test_each_figure_is_compared(self):
-        for path, before in FIGURES:
+        self.figures_are_compared(FIGURES)
+
+    def figures_are_compared(self, figures):
+        for path, before in figures:
             with self.subTest(path=path, before=before):
                 with open(f"{self.copy}/{path}", encoding="utf-8") as file:
                     text = file.read()
