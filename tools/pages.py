@@ -15,7 +15,7 @@ DECLARED = re.compile(r"/\*(?P<comment>(?:[^*]|\*(?!/))*)\*/\s*(?P<code>(?:[^/#;
 # A function that C compiles from the header: its comment, its head and its name.
 INLINE = re.compile(r"/\*(?P<comment>(?:[^*]|\*(?!/))*)\*/\s*static inline (?P<code>[^;{]*?\b(?P<name>mezguld_\w+)\([^)]*\))\n\{")
 # What stands before a function for compilers alone.
-ATTRIBUTE = re.compile(r"MEZGULD_(?:CALL|FREE) ")
+ATTRIBUTE = re.compile(r"MEZGULD_(?:CALL|MAKES\(\d\)) ")
 # A part of the header between empty lines: a comment, if there is one, and a declaration of a type or a constant.
 PIECE = re.compile(r"(?:/\*(?P<comment>(?:[^*]|\*(?!/))*)\*/\s*)?(?P<code>(?:typedef|enum|struct|#define MEZGULD_(?!H\b)).*)", re.S)
 

@@ -191,7 +191,7 @@ def faults(program):
     """Each difference between help and the manual, or between the header and the manual, as a line."""
     try:
         usage = Usage(program)
-        declared = header.Header()
+        declared = header.Header("include/mezguld.h")
         found = [*option_faults(usage), *usage_faults(usage), *limit_faults(usage)]
         found += [*status_faults("status", "Statuses and exceptions", declared.statuses), *status_faults("stop", "Calls", declared.stops)]
     except Unreadable as why:

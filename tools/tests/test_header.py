@@ -8,18 +8,23 @@ from unittest import mock
 sys.path.insert(0, os.path.dirname(os.path.dirname(os.path.abspath(__file__))))
 import header  # noqa: E402
 
-HEADER, MODULE = "include/mezguld.h", "python/mezguld/__init__.py"
+HEADER, EXPORTS, MODULE = "include/mezguld.h", "lib/exports.h", "python/mezguld/__init__.py"
 # A file, a text that is in it once, another one in its place, and words of the fault.
 PLANTED = (
     (HEADER, "MEZGULD_SHORT = 13", "MEZGULD_SHORT = 23", "MEZGULD_SHORT"),
     (HEADER, "MEZGULD_MEMORY = 6", "MEZGULD_MEMORY = 5", "MEZGULD_MEMORY"),
-    (HEADER, "mezguld_status mezguld_free(mezguld *machine)", "void mezguld_free(mezguld *machine)", "mezguld_free returns"),
-    (HEADER, "mezguld_status mezguld_free(mezguld *machine)", "mezguld_status mezguld_drop(mezguld *machine)", "mezguld_free"),
+    (HEADER, "void mezguld_free(mezguld *machine)", "mezguld_status mezguld_free(mezguld *machine)", "mezguld_free returns"),
+    (HEADER, "void mezguld_free(mezguld *machine)", "void mezguld_drop(mezguld *machine)", "mezguld_free"),
+    (HEADER, "mezguld_new(mezguld **machine,", "mezguld_new(mezguld *machine,", "mezguld_new"),
+    (HEADER, "MEZGULD_NULL_POINTER = 24,", "MEZGULD_NULL_POINTER = 23,", "MEZGULD_NULL_POINTER"),
+    (EXPORTS, "dm_c_free(mezguld *machine)", "dm_c_free(mezguld **machine)", "dm_c_free"),
+    (EXPORTS, "mezguld_status dm_c_supply(mezguld *machine, const void *bytes", "mezguld_status dm_c_supply(mezguld *machine, void *bytes", "dm_c_supply"),
+    (EXPORTS, "    void *inside;\n    uint64_t mark;", "    uint64_t mark;\n    void *inside;", "struct mezguld"),
     (HEADER, "uint32_t mezguld_version(void)", "mezguld_status mezguld_version(void)", "mezguld_version returns"),
     (HEADER, "    case MEZGULD_SHORT: return", "    case MEZGULD_NO_SHORT: return", "MEZGULD_SHORT has no text"),
     (HEADER, "} mezguld_status;", "} mezguld_state;", "MEZGULD_SHORT"),
     (HEADER, "mezguld_set_registers(mezguld *machine, const mezguld_cpu *", "mezguld_set_registers(mezguld *machine, mezguld_cpu *", "mezguld_set_registers"),
-    (HEADER, "mezguld_steps(mezguld *machine, uint64_t *steps)", "mezguld_steps(mezguld *machine, uint32_t *steps)", "mezguld_steps"),
+    (HEADER, "mezguld_steps(const mezguld *machine, uint64_t *steps)", "mezguld_steps(const mezguld *machine, uint32_t *steps)", "mezguld_steps"),
     (HEADER, "uint16_t offset, void *buffer,", "uint16_t offset, const void *buffer,", "mezguld_read"),
     (HEADER, "uint16_t segment, uint16_t offset, void *buffer", "uint16_t offset, uint16_t segment, void *buffer", "mezguld_read"),
     (HEADER, "ax, bx, cx, dx, sp, bp", "ax, cx, bx, dx, sp, bp", "mezguld_cpu"),

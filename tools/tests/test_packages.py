@@ -74,7 +74,7 @@ HELPS = (
 # A text of the manual, another one in its place, and words of the fault.
 MANUALS = (
     ("| 13 | `SHORT` |", "| 12 | `SHORT` |", "the status SHORT is 12, and 13"),
-    ("| 2 | `IN_USE` |", "| 2 | `USED` |", "the status IN_USE is missing"),
+    ("| 1 | `NO_MACHINE` |", "| 1 | `NO_HOST` |", "the status NO_MACHINE is missing"),
     ("| 17 to 20 | `LINE_SYNTAX`, `LINE_UNKNOWN`", "| 17 to 20 | `LINE_UNKNOWN`, `LINE_SYNTAX`", "the status LINE_SYNTAX is 18"),
     ("| 7 | `BREAKPOINT` |", "| 8 | `BREAKPOINT` |", "the stop BREAKPOINT is 8"),
     ("| `--ems` | pages of 16 KiB | 64 |", "| `--ems` | pages of 16 KiB | 63 |", "the default of --ems is 63"),
