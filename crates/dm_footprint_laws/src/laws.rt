@@ -1,0 +1,15 @@
+//! Laws of what the effect of an instruction depends on: each is the contract of a function that does nothing.
+ghost use Rattle.dm_footprint_laws.specs.Footprints.{AgreementIsKept, EffectsDependOnReads};
+
+/// The effect of an instruction depends on registers, flags, the map of memory and the bytes that it reads, and on nothing
+/// else: where two guests have the same of these, the instruction reads and writes at the same addresses in both, leaves the
+/// same registers and flags, and stores the same bytes, in the same order, at the addresses that it writes.
+pub fn effects_depend_on_reads()
+    ensures { EffectsDependOnReads }
+{}
+
+/// After an instruction two such guests show the same byte at each address where they did before, and at each address that
+/// the instruction writes.
+pub fn agreement_is_kept()
+    ensures { AgreementIsKept }
+{}

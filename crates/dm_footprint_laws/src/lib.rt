@@ -1,0 +1,7 @@
+//! Laws of what the effect of an instruction depends on. They bind the definitions of [`dm_exec`] and [`dm_touches`]: no code
+//! runs here.
+#![tactic(auto)]
+
+mod laws;
+
+pub use laws::{agreement_is_kept, effects_depend_on_reads};
