@@ -1,1 +1,3 @@
 pub mod Memories
+pub mod Values
+pub mod Stores
