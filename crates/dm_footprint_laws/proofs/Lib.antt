@@ -1,3 +1,9 @@
 pub mod Memories
 pub mod Values
 pub mod Stores
+pub mod Targets
+pub mod Data
+pub mod Control
+pub mod Strings
+pub mod Effects
+pub mod Depending

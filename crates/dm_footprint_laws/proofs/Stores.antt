@@ -122,6 +122,11 @@ done_operand c m n override o v w e =
       in_n = operand_stored c n override o v;
     })
 
+-- an operand of two guests with the same registers
+pub done_from : (a b : Guest) (override : Option SegmentRegister) (o : Operand) (v w : ℕ) → b.cpu ≡ a.cpu → w ≡ v → Done a.memory b.memory (with_operand a override o v) (with_operand b override o w) (bytes_if (element_of a.cpu override o))
+done_from a b override o v w e k =
+    subst (λ (d : Cpu). Done a.memory b.memory (with_operand a override o v) (with_operand (guest d b.memory) override o w) (bytes_if (element_of a.cpu override o))) (sym e) (done_operand a.cpu a.memory b.memory override o v w k)
+
 -- ---- operands when flags or SP have changed, by which none is addressed
 
 abbrev changed : Cpu → ℕ → Flags → Cpu

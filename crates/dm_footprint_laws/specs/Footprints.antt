@@ -1,6 +1,6 @@
 -- What the effect of an instruction depends on: registers, flags, the map of memory, and the bytes that it reads.
 -- Source: Intel 8086 Family User's Manual, section 2.7, "Instruction Set".
-use Rattle.std.specs.Prelude.{◌≡◌, ◌⊎◌, ℕ, List, [], ◌∷◌, map, length, slice_index_or, All, Contains, Option, None, IfSome}
+use Rattle.std.specs.Prelude.{◌≡◌, ◌⊎◌, ℕ, ◌<◌, List, [], ◌∷◌, map, length, slice_index_or, All, Contains, Option, None, IfSome}
 use Rattle.dm_space.specs.declared.place.Place.{Place}
 use Rattle.dm_space.specs.Memory.{Memory, peek, poke, page_bytes}
 use Rattle.dm_ins.specs.declared.ins.Ins.{Ins}
@@ -35,9 +35,11 @@ pub record HasMapOf (m n : Memory) : Type 0 where
   pub page_sizes : (k : ℕ) → IfSome (slice_index_or m.windows k None) (λ page. length (page_bytes n page) ≡ length (page_bytes m page))
 
 -- guest h has what the instruction of `length` bytes at CS:IP depends on in guest g: the registers with the flags, the map of
--- memory, and the bytes that the instruction reads there. Other bytes may differ
+-- memory, and the bytes that the instruction reads there. Other bytes may differ. SP is a word, as all registers are (numbers
+-- of definitions have no bound)
 pub record AgreesWhereRead (g h : Guest) (i : Ins) (length : ℕ) : Type 0 where
   pub registers : h.cpu ≡ g.cpu
+  pub word : g.cpu.sp < 65536
   pub map : HasMapOf g.memory h.memory
   pub bytes : All (λ f. seen h.memory f ≡ seen g.memory f) (bytes_of (reads g i length))
 

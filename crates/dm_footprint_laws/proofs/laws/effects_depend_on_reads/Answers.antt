@@ -1,7 +1,5 @@
-use Rattle.dm_footprint_laws.proofs.Memories.{map_stored}
-use Rattle.dm_footprint_laws.proofs.Values.{same_value}
-use Rattle.dm_footprint_laws.proofs.Stores.{done_push}
+use Rattle.dm_footprint_laws.proofs.Depending.{effects_depend}
 use Rattle.dm_footprint_laws.proofs.laws.effects_depend_on_reads.Goals as goal
 
 pub returns : goal.returns
-returns c = ?
+returns c = effects_depend
