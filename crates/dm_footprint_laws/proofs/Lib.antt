@@ -7,3 +7,4 @@ pub mod Control
 pub mod Strings
 pub mod Effects
 pub mod Depending
+pub mod Running

@@ -50,7 +50,7 @@ done_as m n a b fs gs e d = record { registers = d.registers; stores = d.stores;
 pub done_with : (m n : Memory) (a b : Guest) (fs : List FarAddress) (c d : Cpu) → d ≡ c → Done m n a b fs → Done m n (guest c a.memory) (guest d b.memory) fs
 done_with m n a b fs c d e k = record { registers = e; stores = k.stores; addresses = k.addresses; in_m = k.in_m; in_n = k.in_n }
 
-stored_append : (ss ts : List Store) (m : Memory) → stored (stored m ss) ts ≡ stored m (ss ++ ts)
+pub stored_append : (ss ts : List Store) (m : Memory) → stored (stored m ss) ts ≡ stored m (ss ++ ts)
 stored_append [] ts m = refl
 stored_append (s ∷ ss) ts m = stored_append ss ts _
 

@@ -27,11 +27,11 @@ use Rattle.dm_footprint_laws.specs.Footprints.{seen}
 abbrev pub Same : Memory → Memory → FarAddress → Type 0
 Same m n f = seen n f ≡ seen m f
 
-front_of : (P : FarAddress → Type 0) (xs ys : List FarAddress) → All P (xs ++ ys) → All P xs
+pub front_of : (P : FarAddress → Type 0) (xs ys : List FarAddress) → All P (xs ++ ys) → All P xs
 front_of P [] ys a = All-nil P
 front_of P (x ∷ xs) ys a = All-cons P x xs (All-head P x (xs ++ ys) a) (front_of P xs ys (All-tail P x (xs ++ ys) a))
 
-back_of : (P : FarAddress → Type 0) (xs ys : List FarAddress) → All P (xs ++ ys) → All P ys
+pub back_of : (P : FarAddress → Type 0) (xs ys : List FarAddress) → All P (xs ++ ys) → All P ys
 back_of P [] ys a = a
 back_of P (x ∷ xs) ys a = back_of P xs ys (All-tail P x (xs ++ ys) a)
 

@@ -1,5 +1,6 @@
 //! Laws of what the effect of an instruction depends on: each is the contract of a function that does nothing.
 ghost use Rattle.dm_footprint_laws.specs.Footprints.{AgreementIsKept, EffectsDependOnReads};
+ghost use Rattle.dm_footprint_laws.specs.Runs.{RunsDependOnInputs};
 
 /// The effect of an instruction depends on registers, flags, the map of memory and the bytes that it reads, and on nothing
 /// else: where two guests have the same of these, the instruction reads and writes at the same addresses in both, leaves the
@@ -12,4 +13,11 @@ pub fn effects_depend_on_reads()
 /// the instruction writes.
 pub fn agreement_is_kept()
     ensures { AgreementIsKept }
+{}
+
+/// A run of instructions depends on registers, flags, the map of memory and its inputs, and on nothing else: the inputs are the
+/// bytes that are fetched or read before the run itself has written them. From a guest that has the same of these a run with
+/// the same inputs leads, which leaves the same registers and flags and stores the same bytes at the same addresses.
+pub fn runs_depend_on_inputs()
+    ensures { RunsDependOnInputs }
 {}

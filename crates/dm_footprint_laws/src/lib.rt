@@ -4,4 +4,4 @@
 
 mod laws;
 
-pub use laws::{agreement_is_kept, effects_depend_on_reads};
+pub use laws::{agreement_is_kept, effects_depend_on_reads, runs_depend_on_inputs};
