@@ -1,9 +1,8 @@
 -- The stack, interrupts, jumps, calls, returns and quotients in two memories that show the same bytes where they are read.
-use Rattle.std.proofs.Common.{◌≡◌, ℕ, ◌+◌, ◌*◌, ◌%◌, ◌<◌, Bool, true, false, List, [], ◌∷◌, ◌++◌, Option, Some, None, refl, sym, ◌∙◌, ap, ap₂, subst, arith}
+use Rattle.std.proofs.Common.{◌≡◌, ℕ, ◌+◌, ◌*◌, ◌%◌, ◌<◌, Bool, true, false, List, [], Option, Some, None, refl, sym, ◌∙◌, ap, ap₂, subst, arith}
 use Rattle.std.specs.Prelude.{All, if◌then◌else◌}
 use Rattle.std.proofs.lemmas.List.Elements.{All-nil, All-weaker}
 use Rattle.dm_space.specs.Memory.{Memory, peek16}
-use Rattle.dm_alu.specs.declared.flags.Flags.{Flags}
 use Rattle.dm_alu.specs.declared.products.Division.{Division}
 use Rattle.dm_alu.specs.declared.products.Sign.{Sign}
 use Rattle.dm_alu.specs.declared.width.Width.{Width}
@@ -16,8 +15,8 @@ use Rattle.dm_ins.specs.declared.operand.SegmentRegister.{SegmentRegister}
 use Rattle.dm_cpu.specs.declared.cpu.Cpu.{Cpu}
 use Rattle.dm_cpu.specs.Guest.{Guest, guest, up, down}
 use Rattle.dm_cpu.specs.Operands.{value_of}
-use Rattle.dm_cpu.specs.Stack.{push, popped, top, interrupt_return, far_returned}
-use Rattle.dm_cpu.specs.Values.{width_of, value_in}
+use Rattle.dm_cpu.specs.Stack.{push, interrupt_return, far_returned}
+use Rattle.dm_cpu.specs.Values.{width_of}
 use Rattle.dm_operations.specs.Stack.{through_vector, interrupt, pushed_value, popped_into, flags_popped}
 use Rattle.dm_operations.specs.Products.{double_of, after_division, divided}
 use Rattle.dm_exec.specs.Jumps.{target_of, jumped, jumped_where, far_jumped, called, far_called, returned}
@@ -99,7 +98,6 @@ reads_none c m n override (operand.Memory w a) e = absurd cc
 reads_none c m n override _ e = All-nil (Same m n)
 
 module _ (c : Cpu) (m n : Memory) (override : Option SegmentRegister) where
-
   -- ---- quotients
 
   pub same_quotient : (sign : Sign) (a : Operand) → All (Same m n) (bytes_of (reads_dividing (element_of c override a) (divided_by (guest c m) override sign a))) → divided_by (guest c n) override sign a ≡ divided_by (guest c m) override sign a

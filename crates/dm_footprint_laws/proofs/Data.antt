@@ -1,11 +1,9 @@
 -- Moves, arithmetic, logic, shifts, products and quotients in two memories that show the same bytes where they are read.
-use Rattle.std.proofs.Common.{◌≡◌, ℕ, ◌-◌, ◌%◌, Bool, false, List, [], Option, Some, None, refl, sym, ap, ap₂, subst}
+use Rattle.std.proofs.Common.{◌≡◌, ℕ, ◌-◌, ◌%◌, Bool, false, [], Option, Some, refl, ap, ap₂}
 use Rattle.std.specs.Prelude.{All}
 use Rattle.dm_space.specs.Memory.{Memory}
 use Rattle.dm_alu.specs.declared.bitwise.LogicOperation.{LogicOperation}
 use Rattle.dm_alu.specs.declared.bitwise.LogicOperation.TheVariants as bits
-use Rattle.dm_alu.specs.declared.flags.Flags.{Flags}
-use Rattle.dm_alu.specs.declared.products.Division.{Division}
 use Rattle.dm_alu.specs.declared.products.Sign.{Sign}
 use Rattle.dm_alu.specs.declared.shifts.ShiftOperation.{ShiftOperation}
 use Rattle.dm_alu.specs.declared.width.Width.{Width}
@@ -13,7 +11,7 @@ use Rattle.dm_alu.specs.Width.{size}
 use Rattle.dm_alu.specs.Sums.{sum_value, flags_after_sum, difference_value, flags_after_difference}
 use Rattle.dm_alu.specs.Bitwise.{logic_value, flags_after_logic}
 use Rattle.dm_alu.specs.Shifts.{shift_value, flags_after_shift}
-use Rattle.dm_alu.specs.Products.{product_value, flags_after_product, quotient_of}
+use Rattle.dm_alu.specs.Products.{product_value, flags_after_product}
 use Rattle.dm_ins.specs.declared.operand.ByteRegister.TheVariants.{Al}
 use Rattle.dm_ins.specs.declared.operand.Operand.{Operand}
 use Rattle.dm_ins.specs.declared.operand.SegmentRegister.{SegmentRegister}
@@ -24,9 +22,8 @@ use Rattle.dm_cpu.specs.Operands.{data_segment, value_of, with_operand, address_
 use Rattle.dm_cpu.specs.Values.{width_of, value_in, accumulator}
 use Rattle.dm_operations.specs.Arithmetic.{sum_into, difference_into, compared, logic_into, tested, incremented, decremented, negated, complemented}
 use Rattle.dm_operations.specs.Shifts.{shifted}
-use Rattle.dm_operations.specs.Products.{double_of, with_double, multiplied, after_division, divided}
+use Rattle.dm_operations.specs.Products.{with_double, multiplied}
 use Rattle.dm_exec.specs.Moves.{moved, exchanged, pointer_loaded, translated, input}
-use Rattle.dm_touches.specs.declared.elements.Element.{Element}
 use Rattle.dm_touches.specs.declared.elements.Element.TheVariants as element
 use Rattle.dm_touches.specs.Elements.{bytes_of, one, two}
 use Rattle.dm_touches.specs.Touches.{element_of, word_behind}
@@ -34,7 +31,6 @@ use Rattle.dm_footprint_laws.proofs.Values.{Same, in_first, in_second, same_byte
 use Rattle.dm_footprint_laws.proofs.Stores.{Done, done_registers, done_with, done_then, done_one, done_two, done_operand, done_from, done_result}
 
 module _ (c : Cpu) (m n : Memory) (override : Option SegmentRegister) where
-
   -- an operand is read
   abbrev pub Reads : Operand → Type 0
   Reads a = All (Same m n) (bytes_of (one (element_of c override a)))

@@ -1,7 +1,6 @@
 -- The laws, from what each instruction does in two memories.
-use Rattle.std.proofs.Common.{◌≡◌, ℕ, ◌%◌, List, [], map, Option, Some, None, refl, sym, ◌∙◌, ap, subst, inl, inr}
+use Rattle.std.proofs.Common.{◌≡◌, ℕ, ◌%◌, List, map, Option, refl, sym, ◌∙◌, ap, subst, inl, inr}
 use Rattle.std.specs.Prelude.{All, Contains}
-use Rattle.dm_space.specs.declared.place.Place.{Place}
 use Rattle.dm_space.specs.Memory.{Memory}
 use Rattle.dm_alu.specs.declared.products.Division.{Division}
 use Rattle.dm_ins.specs.declared.ins.Ins.{Ins}
@@ -16,8 +15,8 @@ use Rattle.dm_touches.specs.declared.access.Access.TheVariants.{Exchange, Divide
 use Rattle.dm_touches.specs.declared.elements.FarAddress.{FarAddress}
 use Rattle.dm_touches.specs.Elements.{place_of, bytes_of, two}
 use Rattle.dm_touches.specs.Access.{access_of}
-use Rattle.dm_touches.specs.Touches.{element_of, with_vector, divided_by, reads_dividing, writes_dividing, reads_by, writes_by, reads, writes}
-use Rattle.dm_footprint_laws.specs.Footprints.{seen, Store, stored, AgreesWhereRead, DoesTheSame, EffectsDependOnReads, AgreementIsKept}
+use Rattle.dm_touches.specs.Touches.{element_of, with_vector, reads_dividing, writes_dividing, reads_by, writes_by, reads, writes}
+use Rattle.dm_footprint_laws.specs.Footprints.{seen, stored, DoesTheSame, EffectsDependOnReads, AgreementIsKept}
 use Rattle.dm_footprint_laws.proofs.Memories.{seen_agrees, seen_stored}
 use Rattle.dm_footprint_laws.proofs.Values.{Same, in_first, in_second, same_value}
 use Rattle.dm_footprint_laws.proofs.Stores.{done_operand}
@@ -28,7 +27,6 @@ use Rattle.dm_footprint_laws.proofs.Effects.{act_done}
 -- ---- where an instruction reads and writes
 
 module _ (c : Cpu) (m n : Memory) (p : Prefixes) where
-
   same_reads : (x : Access) (a b : Operand) → All (Same m n) (bytes_of (reads_by (guest c m) p x a b)) → reads_by (guest c n) p x a b ≡ reads_by (guest c m) p x a b
   unfolding reads_by
   same_reads (Divide sign) a b r = ap (λ (d : Option Division). reads_dividing (element_of c p.segment a) d) (same_quotient c m n p.segment sign a r)

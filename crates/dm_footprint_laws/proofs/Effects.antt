@@ -1,5 +1,5 @@
 -- Each instruction of the table does the same in two memories of one map that show the same bytes where it reads.
-use Rattle.std.proofs.Common.{◌≡◌, ℕ, ◌%◌, ◌<◌, Bool, true, false, List, [], Option, Some, None, refl, sym, ap, subst}
+use Rattle.std.proofs.Common.{ℕ, ◌<◌, false, None, refl}
 use Rattle.std.specs.Prelude.{All}
 use Rattle.dm_space.specs.Memory.{Memory}
 use Rattle.dm_ins.specs.declared.action.Mnemonic.{Mnemonic}
@@ -12,7 +12,7 @@ use Rattle.dm_alu.specs.declared.products.Sign.TheVariants.{Unsigned, Signed}
 use Rattle.dm_alu.specs.declared.bitwise.LogicOperation.TheVariants as bits
 use Rattle.dm_alu.specs.declared.shifts.ShiftOperation.TheVariants as shift
 use Rattle.dm_cpu.specs.declared.cpu.Cpu.{Cpu}
-use Rattle.dm_cpu.specs.Guest.{Guest, guest}
+use Rattle.dm_cpu.specs.Guest.{guest}
 use Rattle.dm_operations.specs.Stack.{stack_effect, interrupt_effect}
 use Rattle.dm_operations.specs.Arithmetic.{arithmetic}
 use Rattle.dm_exec.specs.declared.operation.StringOperation.TheVariants as string
@@ -24,7 +24,7 @@ use Rattle.dm_touches.specs.Elements.{bytes_of, one}
 use Rattle.dm_touches.specs.Access.{access_of}
 use Rattle.dm_touches.specs.Touches.{element_of, reads_by, writes_by}
 use Rattle.dm_footprint_laws.specs.Footprints.{HasMapOf}
-use Rattle.dm_footprint_laws.proofs.Values.{Same, in_first, same_value}
+use Rattle.dm_footprint_laws.proofs.Values.{Same, in_first}
 use Rattle.dm_footprint_laws.proofs.Stores.{Done, done_registers}
 use Rattle.dm_footprint_laws.proofs.Targets.{HasTarget}
 use Rattle.dm_footprint_laws.proofs.Data.{done_move, done_address, done_input, done_exchange, done_pointer, same_translated, done_sum, done_difference, done_logic, done_comparison, done_test, done_increment, done_decrement, done_negation, done_complement, done_shift, done_product}
@@ -39,7 +39,6 @@ pub record IsMet (c : Cpu) (m n : Memory) (p : Prefixes) (k : Mnemonic) (a b : O
   pub bytes : All (Same m n) (bytes_of (reads_by (guest c m) p (access_of k) a b))
 
 module _ (c : Cpu) (m n : Memory) (p : Prefixes) (start : ℕ) where
-
   pub act_done : (k : Mnemonic) (a b : Operand) → IsMet c m n p k a b → Done m n (act (guest c m) p start (operation_of k) a b) (act (guest c n) p start (operation_of k) a b) (bytes_of (writes_by (guest c m) p (access_of k) a b))
   unfolding operation_of access_of reads_by writes_by move_effect stack_effect interrupt_effect arithmetic jumped_if looped transferred
   -- moves

@@ -138,11 +138,11 @@ poked_place m a v f =
     place-windows m (poke m a v) (linear_of (poke m a v).a20 f) s.windows ∙ ap (λ (b : Bool). place m (linear_of b f)) s.a20
 
 stored_sets : (ss : List Store) (m n : Memory) (P : FarAddress → Place) (q : Place) → HasMapOf m n → ((f : FarAddress) → place_of m f ≡ P f) → Contains (map P (map (λ (s : Store). s.address) ss)) q → byte_at (stored n ss) q ≡ byte_at (stored m ss) q
-stored_sets [] m n P q h places (k , lt , e) = absurd (omega arith)
-stored_sets (s ∷ ss) m n P q h places (zero , lt , e) = stored_agrees ss _ _ q (map_poked m n (linear_of m.a20 s.address) (linear_of n.a20 s.address) s.byte s.byte h) (poke_set m n s.address s.byte q h (places s.address ∙ e))
-stored_sets (s ∷ ss) m n P q h places (suc k , lt , e) =
+stored_sets [] m n P q h places (k, lt, e) = absurd (omega arith)
+stored_sets (s ∷ ss) m n P q h places (zero, lt, e) = stored_agrees ss _ _ q (map_poked m n (linear_of m.a20 s.address) (linear_of n.a20 s.address) s.byte s.byte h) (poke_set m n s.address s.byte q h (places s.address ∙ e))
+stored_sets (s ∷ ss) m n P q h places (suc k, lt, e) =
     let moved : (f : FarAddress) → place_of (poke m (linear_of m.a20 s.address) s.byte) f ≡ P f = λ f. poked_place m (linear_of m.a20 s.address) s.byte f ∙ places f in
-    stored_sets ss _ _ P q (map_poked m n (linear_of m.a20 s.address) (linear_of n.a20 s.address) s.byte s.byte h) moved (k , omega arith , e)
+    stored_sets ss _ _ P q (map_poked m n (linear_of m.a20 s.address) (linear_of n.a20 s.address) s.byte s.byte h) moved (k, omega arith, e)
 
 -- ---- as a program reads
 

@@ -1,6 +1,6 @@
 -- A run of instructions depends on its inputs.
 use Rattle.std.proofs.Common.{◌≡◌, ℕ, ◌<◌, ◌≤◌, List, [], ◌∷◌, ◌++◌, map, take, refl, sym, ◌∙◌, ap, ap₂, subst, inl, inr}
-use Rattle.std.specs.Prelude.{◌⊎◌, All, Contains}
+use Rattle.std.specs.Prelude.{All, Contains}
 use Rattle.std.specs.List.{range_with_len}
 use Rattle.std.proofs.lemmas.List.{map-append}
 use Rattle.std.proofs.lemmas.Simd.{map-map}
@@ -53,7 +53,6 @@ still_known m n inputs written h f (inr c) =
 
 -- where two runs have got that have done the same
 module _ (g h k : Guest) (inputs written : List FarAddress) (m : HasMapOf g.memory h.memory) (a : All (Same g.memory h.memory) inputs) (t : RunsTheSame g h k inputs written) where
-
   seen_now : (f : FarAddress) → seen (stored h.memory t.stores) f ≡ seen (stored g.memory t.stores) f → Same k.memory t.end.memory f
   seen_now f e = ap (λ (x : Memory). seen x f) t.in_h ∙ e ∙ sym (ap (λ (x : Memory). seen x f) t.in_g)
 

@@ -1,5 +1,5 @@
 -- What is stored in operands and on the stack, as lists of bytes: the same in any memory.
-use Rattle.std.proofs.Common.{◌≡◌, ℕ, ◌+◌, ◌*◌, ◌/◌, ◌%◌, Bool, List, [], ◌∷◌, ◌++◌, map, Option, Some, None, refl, sym, ◌∙◌, ap, ap₂, subst, append-nil}
+use Rattle.std.proofs.Common.{◌≡◌, ℕ, ◌/◌, ◌%◌, Bool, List, [], ◌∷◌, ◌++◌, map, Option, Some, None, refl, sym, ◌∙◌, ap, ap₂, subst, append-nil}
 use Rattle.std.proofs.lemmas.List.{map-append}
 use Rattle.dm_space.specs.Memory.{Memory, linear, poke, poke16}
 use Rattle.dm_space.proofs.Places.{poke-shaped}

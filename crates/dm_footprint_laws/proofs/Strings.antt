@@ -1,5 +1,5 @@
 -- String instructions in two memories that show the same elements where they are read.
-use Rattle.std.proofs.Common.{◌≡◌, ℕ, ◌==◌, Bool, true, false, not, List, [], Option, Some, None, refl, ap, ap₂}
+use Rattle.std.proofs.Common.{ℕ, ◌==◌, Bool, true, false, not, Option, Some, None, refl, ap, ap₂}
 use Rattle.std.specs.Prelude.{All, if◌then◌else◌}
 use Rattle.dm_space.specs.Memory.{Memory}
 use Rattle.dm_alu.specs.declared.width.Width.{Width}
@@ -8,7 +8,7 @@ use Rattle.dm_ins.specs.declared.prefix.Repeat.{Repeat}
 use Rattle.dm_cpu.specs.declared.cpu.Cpu.{Cpu}
 use Rattle.dm_cpu.specs.Guest.{Guest, guest}
 use Rattle.dm_cpu.specs.Operands.{data_segment}
-use Rattle.dm_cpu.specs.Values.{read_in, accumulator, with_accumulator}
+use Rattle.dm_cpu.specs.Values.{accumulator, with_accumulator}
 use Rattle.dm_exec.specs.declared.operation.StringOperation.{StringOperation}
 use Rattle.dm_exec.specs.declared.operation.StringOperation.TheVariants as string
 use Rattle.dm_exec.specs.Strings.{source, destination, source_passed, destination_passed, with_comparison, once, counted, string_effect}
@@ -20,7 +20,6 @@ use Rattle.dm_footprint_laws.proofs.Values.{Same, in_first, in_second, same_elem
 use Rattle.dm_footprint_laws.proofs.Stores.{Done, done_registers, done_with, done_one, done_written}
 
 module _ (w : Width) (c : Cpu) (m n : Memory) (override : Option SegmentRegister) where
-
   done_once : (operation : StringOperation) → All (Same m n) (bytes_of (reads_of_string w c override operation)) → Done m n (once w (guest c m) override operation) (once w (guest c n) override operation) (bytes_of (writes_of_string w c operation))
   unfolding once source destination
   done_once string.Move r =
@@ -48,5 +47,5 @@ module _ (w : Width) (c : Cpu) (m n : Memory) (override : Option SegmentRegister
   done_string None operation start r = done_once operation r
   done_string (Some repeat) operation start r =
       done_unless (c.cx == 0) _ _ (reads_of_string w c override operation) (writes_of_string w c operation) (λ s.
-        (let d = done_once operation s in
-        done_with m n _ _ _ _ _ (ap (λ (x : Cpu). counted repeat operation start x) d.registers) d)) r
+      (let d = done_once operation s in
+      done_with m n _ _ _ _ _ (ap (λ (x : Cpu). counted repeat operation start x) d.registers) d)) r

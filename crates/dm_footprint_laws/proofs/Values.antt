@@ -1,5 +1,5 @@
 -- What operands hold in two memories that show the same bytes where the operands are.
-use Rattle.std.proofs.Common.{◌≡◌, ℕ, ◌+◌, ◌*◌, ◌%◌, List, [], ◌∷◌, ◌++◌, Option, Some, None, refl, ap, ap₂}
+use Rattle.std.proofs.Common.{◌≡◌, ℕ, ◌+◌, ◌*◌, ◌%◌, List, [], ◌∷◌, ◌++◌, Option, refl, ap, ap₂}
 use Rattle.std.specs.Prelude.{All}
 use Rattle.std.proofs.lemmas.List.Elements.{All-nil, All-cons, All-head, All-tail}
 use Rattle.dm_space.specs.Memory.{Memory, peek16}
@@ -11,7 +11,7 @@ use Rattle.dm_ins.specs.declared.operand.Operand.TheVariants as operand
 use Rattle.dm_ins.specs.declared.operand.Width.TheVariants as memory
 use Rattle.dm_ins.specs.declared.operand.SegmentRegister.{SegmentRegister}
 use Rattle.dm_cpu.specs.declared.cpu.Cpu.{Cpu}
-use Rattle.dm_cpu.specs.Guest.{Guest, guest, up}
+use Rattle.dm_cpu.specs.Guest.{guest, up}
 use Rattle.dm_cpu.specs.Operands.{offset_of, segment_for, value_of, far_segment_of}
 use Rattle.dm_cpu.specs.Values.{value_in, read_in}
 use Rattle.dm_touches.specs.declared.elements.FarAddress.{FarAddress}

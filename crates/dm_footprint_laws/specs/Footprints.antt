@@ -1,7 +1,6 @@
 -- What the effect of an instruction depends on: registers, flags, the map of memory, and the bytes that it reads.
 -- Source: Intel 8086 Family User's Manual, section 2.7, "Instruction Set".
-use Rattle.std.specs.Prelude.{◌≡◌, ◌⊎◌, ℕ, ◌<◌, List, [], ◌∷◌, map, length, slice_index_or, All, Contains, Option, None, IfSome}
-use Rattle.dm_space.specs.declared.place.Place.{Place}
+use Rattle.std.specs.Prelude.{◌≡◌, ◌⊎◌, ℕ, ◌<◌, List, [], ◌∷◌, map, length, slice_index_or, All, Contains, None, IfSome}
 use Rattle.dm_space.specs.Memory.{Memory, peek, poke, page_bytes}
 use Rattle.dm_ins.specs.declared.ins.Ins.{Ins}
 use Rattle.dm_cpu.specs.Guest.{Guest}
