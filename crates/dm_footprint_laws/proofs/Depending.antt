@@ -1,6 +1,6 @@
 -- The laws, from what each instruction does in two memories.
-use Rattle.std.proofs.Common.{◌≡◌, ℕ, ◌%◌, List, map, Option, refl, sym, ◌∙◌, ap, subst, inl, inr}
-use Rattle.std.specs.Prelude.{All, Contains}
+use Rattle.std.proofs.Common.{◌≡◌, ℕ, ◌%◌, List, Option, refl, sym, ◌∙◌, ap, subst, inl, inr}
+use Rattle.std.specs.Prelude.{All}
 use Rattle.dm_space.specs.Memory.{Memory}
 use Rattle.dm_alu.specs.declared.products.Division.{Division}
 use Rattle.dm_ins.specs.declared.ins.Ins.{Ins}
@@ -13,10 +13,10 @@ use Rattle.dm_exec.specs.Effect.{effect}
 use Rattle.dm_touches.specs.declared.access.Access.{Access}
 use Rattle.dm_touches.specs.declared.access.Access.TheVariants.{Exchange, Divide, Interrupt}
 use Rattle.dm_touches.specs.declared.elements.FarAddress.{FarAddress}
-use Rattle.dm_touches.specs.Elements.{place_of, bytes_of, two}
+use Rattle.dm_touches.specs.Elements.{bytes_of, two}
 use Rattle.dm_touches.specs.Access.{access_of}
 use Rattle.dm_touches.specs.Touches.{element_of, with_vector, reads_dividing, writes_dividing, reads_by, writes_by, reads, writes}
-use Rattle.dm_footprint_laws.specs.Footprints.{seen, stored, DoesTheSame, EffectsDependOnReads, AgreementIsKept}
+use Rattle.dm_footprint_laws.specs.Footprints.{seen, IsAmong, stored, DoesTheSame, EffectsDependOnReads, AgreementIsKept}
 use Rattle.dm_footprint_laws.proofs.Memories.{seen_agrees, seen_stored}
 use Rattle.dm_footprint_laws.proofs.Values.{Same, in_first, in_second, same_value}
 use Rattle.dm_footprint_laws.proofs.Stores.{done_operand}
@@ -75,5 +75,5 @@ agreement_kept g h i length f a (inl e) =
     after_stores g h i length f d (seen_agrees d.stores g.memory h.memory f a.map e)
 agreement_kept g h i length f a (inr k) =
     let d = effects_depend g h i length a in
-    let F : List FarAddress → Type 0 = λ fs. Contains (map (place_of g.memory) fs) (place_of g.memory f) in
+    let F : List FarAddress → Type 0 = λ fs. IsAmong g.memory fs f in
     after_stores g h i length f d (seen_stored d.stores g.memory h.memory f a.map (subst F (sym d.addresses) k))

@@ -2,7 +2,8 @@
 -- byte afterwards.
 use Rattle.std.proofs.Common.{◌≡◌, ◌≢◌, ℕ, zero, suc, ◌-◌, ◌/◌, ◌%◌, nat_lt, Bool, true, false, List, [], ◌∷◌, map, length, get_or, set, Option, Some, None, refl, sym, ◌∙◌, ap, subst, arith, inl, inr, get_or-set_other}
 use Rattle.std.proofs.lemmas.Bool.{cases_eq}
-use Rattle.std.specs.Prelude.{◌⊎◌, Contains, IfSome, if◌then◌else◌, slice_index_or}
+use Rattle.std.proofs.lemmas.List.Elements.{All-head, All-tail}
+use Rattle.std.specs.Prelude.{◌⊎◌, All, Contains, IfSome, if◌then◌else◌, slice_index_or}
 use Rattle.dm_space.specs.declared.place.Place.{Place}
 use Rattle.dm_space.specs.declared.place.Place.TheVariants.{Low, Page, Rom, Nothing}
 use Rattle.dm_space.specs.Memory.{Memory, place, peek, poke, shown, byte_at, with_byte, page_bytes}
@@ -165,3 +166,14 @@ seen_agrees ss m n f h e = read_at ss m n f h (stored_agrees ss m n (place_of m 
 -- both read one byte where one was stored
 pub seen_stored : (ss : List Store) (m n : Memory) (f : FarAddress) → HasMapOf m n → Contains (map (place_of m) (map (λ (s : Store). s.address) ss)) (place_of m f) → seen (stored n ss) f ≡ seen (stored m ss) f
 seen_stored ss m n f h c = read_at ss m n f h (stored_sets ss m n (place_of m) (place_of m f) h (λ g. refl) c)
+
+-- both read one byte at an address whose place is that of one at which they do
+pub seen_among : (m n : Memory) (f : FarAddress) → HasMapOf m n → (fs : List FarAddress) → All (λ (g : FarAddress). seen n g ≡ seen m g) fs → Contains (map (place_of m) fs) (place_of m f) → seen n f ≡ seen m f
+unfolding peek
+seen_among m n f h [] a (k, lt, e) = absurd (omega arith)
+seen_among m n f h (g ∷ fs) a (zero, lt, e) =
+    let P : FarAddress → Type 0 = λ x. seen n x ≡ seen m x in
+    ap (byte_at n) (place_same m n h f ∙ sym e ∙ sym (place_same m n h g)) ∙ All-head P g fs a ∙ ap (byte_at m) e
+seen_among m n f h (g ∷ fs) a (suc k, lt, e) =
+    let P : FarAddress → Type 0 = λ x. seen n x ≡ seen m x in
+    seen_among m n f h fs (All-tail P g fs a) (k, omega arith, e)

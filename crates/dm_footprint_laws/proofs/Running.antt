@@ -1,10 +1,10 @@
 -- A run of instructions depends on its inputs.
 use Rattle.std.proofs.Common.{◌≡◌, ℕ, ◌<◌, ◌≤◌, List, [], ◌∷◌, ◌++◌, map, take, refl, sym, ◌∙◌, ap, ap₂, subst, inl, inr}
-use Rattle.std.specs.Prelude.{All, Contains}
+use Rattle.std.specs.Prelude.{◌⊎◌, All, Contains}
 use Rattle.std.specs.List.{range_with_len}
 use Rattle.std.proofs.lemmas.List.{map-append}
 use Rattle.std.proofs.lemmas.Simd.{map-map}
-use Rattle.std.proofs.lemmas.List.Elements.{All-contains, All-head, All-tail, All-weaker}
+use Rattle.std.proofs.lemmas.List.Elements.{All-head, All-tail, All-weaker}
 use Rattle.std.proofs.lemmas.List.FromFn.{take-map-range_with_len}
 use Rattle.dm_space.specs.declared.place.Place.{Place}
 use Rattle.dm_space.specs.Memory.{Memory}
@@ -18,9 +18,9 @@ use Rattle.dm_touches.specs.declared.elements.FarAddress.{FarAddress}
 use Rattle.dm_touches.specs.declared.elements.Elements.{Elements}
 use Rattle.dm_touches.specs.Elements.{far, place_of, bytes_of}
 use Rattle.dm_touches.specs.Touches.{reads, writes}
-use Rattle.dm_footprint_laws.specs.Footprints.{seen, Store, stored, HasMapOf, DoesTheSame}
-use Rattle.dm_footprint_laws.specs.Runs.{own, IsKnown, Runs, RunsTheSame, RunsDependOnInputs}
-use Rattle.dm_footprint_laws.proofs.Memories.{map_stored, place_same, seen_agrees, seen_stored}
+use Rattle.dm_footprint_laws.specs.Footprints.{seen, IsAmong, Store, stored, HasMapOf, DoesTheSame}
+use Rattle.dm_footprint_laws.specs.Runs.{own, Runs, RunsTheSame, RunsDependOnInputs}
+use Rattle.dm_footprint_laws.proofs.Memories.{map_stored, place_same, seen_agrees, seen_among, seen_stored}
 use Rattle.dm_footprint_laws.proofs.Values.{Same, front_of, back_of}
 use Rattle.dm_footprint_laws.proofs.Stores.{stored_append}
 use Rattle.dm_footprint_laws.proofs.Depending.{effects_depend}
@@ -44,12 +44,19 @@ same_instruction m n c i length a b = record {
 
 -- ---- what a run knows
 
--- what a run knows in one memory, it knows in another with the same map
-still_known : (m n : Memory) (inputs written : List FarAddress) → HasMapOf m n → (f : FarAddress) → IsKnown m inputs written f → IsKnown n inputs written f
-still_known m n inputs written h f (inl c) = inl c
-still_known m n inputs written h f (inr c) =
+-- an address is that of an input, or the run has written there
+abbrev IsKnown : Memory → List FarAddress → List FarAddress → FarAddress → Type 0
+IsKnown m inputs written f = IsAmong m inputs f ⊎ IsAmong m written f
+
+-- addresses that share a place in one memory share one in another with the same map
+still_among : (m n : Memory) (fs : List FarAddress) → HasMapOf m n → (f : FarAddress) → IsAmong m fs f → IsAmong n fs f
+still_among m n fs h f c =
     let e : place_of n ≡ place_of m = λ i g. place_same m n h g i in
-    inr (subst (λ (place : FarAddress → Place). Contains (map place written) (place f)) (sym e) c)
+    subst (λ (place : FarAddress → Place). Contains (map place fs) (place f)) (sym e) c
+
+still_known : (m n : Memory) (inputs written : List FarAddress) → HasMapOf m n → (f : FarAddress) → IsKnown m inputs written f → IsKnown n inputs written f
+still_known m n inputs written h f (inl c) = inl (still_among m n inputs h f c)
+still_known m n inputs written h f (inr c) = inr (still_among m n written h f c)
 
 -- where two runs have got that have done the same
 module _ (g h k : Guest) (inputs written : List FarAddress) (m : HasMapOf g.memory h.memory) (a : All (Same g.memory h.memory) inputs) (t : RunsTheSame g h k inputs written) where
@@ -57,9 +64,9 @@ module _ (g h k : Guest) (inputs written : List FarAddress) (m : HasMapOf g.memo
   seen_now f e = ap (λ (x : Memory). seen x f) t.in_h ∙ e ∙ sym (ap (λ (x : Memory). seen x f) t.in_g)
 
   known_same : (f : FarAddress) → IsKnown g.memory inputs written f → Same k.memory t.end.memory f
-  known_same f (inl c) = seen_now f (seen_agrees t.stores g.memory h.memory f m (All-contains (Same g.memory h.memory) inputs f a c))
+  known_same f (inl c) = seen_now f (seen_agrees t.stores g.memory h.memory f m (seen_among g.memory h.memory f m inputs a c))
   known_same f (inr c) =
-      let F : List FarAddress → Type 0 = λ fs. Contains (map (place_of g.memory) fs) (place_of g.memory f) in
+      let F : List FarAddress → Type 0 = λ fs. IsAmong g.memory fs f in
       seen_now f (seen_stored t.stores g.memory h.memory f m (subst F (sym t.addresses) c))
 
   map_now : HasMapOf k.memory t.end.memory

@@ -15,6 +15,10 @@ use Rattle.dm_touches.specs.Touches.{reads, writes}
 abbrev pub seen : Memory → FarAddress → ℕ
 seen m f = peek m (linear_of m.a20 f)
 
+-- the place of an address is that of one of these addresses: two windows, or two spellings of an address, may have one byte
+abbrev pub IsAmong : Memory → List FarAddress → FarAddress → Type 0
+IsAmong m fs f = Contains (map (place_of m) fs) (place_of m f)
+
 -- a byte that is stored, and its address
 pub record Store : Type 0 where
   pub address : FarAddress
@@ -64,5 +68,5 @@ EffectsDependOnReads = (g h : Guest) (i : Ins) (length : ℕ) → AgreesWhereRea
 abbrev pub AgreementIsKept : Type 0
 AgreementIsKept =
     (g h : Guest) (i : Ins) (length : ℕ) (f : FarAddress) → AgreesWhereRead g h i length
-    → (seen h.memory f ≡ seen g.memory f) ⊎ Contains (map (place_of g.memory) (bytes_of (writes g i length))) (place_of g.memory f)
+    → (seen h.memory f ≡ seen g.memory f) ⊎ IsAmong g.memory (bytes_of (writes g i length)) f
     → seen (effect h i length).memory f ≡ seen (effect g i length).memory f

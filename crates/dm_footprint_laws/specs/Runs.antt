@@ -1,8 +1,7 @@
 -- What a run of instructions depends on: registers, flags, the map of memory, and the bytes that are fetched or read before the
 -- run itself has written them.
-use Rattle.std.specs.Prelude.{◌≡◌, ◌⊎◌, ℕ, ◌<◌, List, [], ◌++◌, map, All, Contains}
+use Rattle.std.specs.Prelude.{◌≡◌, ◌⊎◌, ℕ, ◌<◌, List, [], ◌++◌, map, All}
 use Rattle.std.specs.List.{range_with_len}
-use Rattle.dm_space.specs.Memory.{Memory}
 use Rattle.dm_space.specs.EightBytes.{sixteen_after}
 use Rattle.dm_ins.specs.declared.ins.Ins.{Ins}
 use Rattle.dm_ins.specs.Ins.{BeginsWith}
@@ -10,17 +9,13 @@ use Rattle.dm_cpu.specs.declared.cpu.Cpu.{Cpu}
 use Rattle.dm_cpu.specs.Guest.{Guest, up}
 use Rattle.dm_exec.specs.Effect.{effect}
 use Rattle.dm_touches.specs.declared.elements.FarAddress.{FarAddress}
-use Rattle.dm_touches.specs.Elements.{far, place_of, bytes_of}
+use Rattle.dm_touches.specs.Elements.{far, bytes_of}
 use Rattle.dm_touches.specs.Touches.{reads, writes}
-use Rattle.dm_footprint_laws.specs.Footprints.{seen, Store, stored, HasMapOf}
+use Rattle.dm_footprint_laws.specs.Footprints.{seen, IsAmong, Store, stored, HasMapOf}
 
 -- the addresses of the `length` bytes from CS:IP on, that an instruction is decoded from; offsets wrap
 abbrev pub own : Cpu → ℕ → List FarAddress
 own c length = map (λ k. far c.cs (up c.ip k)) (range_with_len 0 length)
-
--- the byte at an address is among the inputs of a run, or the run has written it: its place is that of one of `written`
-abbrev pub IsKnown : Memory → List FarAddress → List FarAddress → FarAddress → Type 0
-IsKnown m inputs written f = Contains inputs f ⊎ Contains (map (place_of m) written) (place_of m f)
 
 -- instructions lead from guest g to this guest, each with which the bytes at CS:IP begin; they write at these addresses, in
 -- this order. Each byte that is fetched or read is among the inputs, or the run has written it before. SP is a word (numbers of
@@ -29,7 +24,7 @@ pub data Runs (g : Guest) (inputs : List FarAddress) : List FarAddress → Guest
   no_instruction : Runs g inputs [] g
   one_more : (written : List FarAddress) (k : Guest) (i : Ins) (length : ℕ) → Runs g inputs written k
       → BeginsWith (sixteen_after k.memory k.cpu.cs k.cpu.ip) i length → k.cpu.sp < 65536
-      → All (IsKnown g.memory inputs written) (own k.cpu length ++ bytes_of (reads k i length))
+      → All (λ f. IsAmong g.memory inputs f ⊎ IsAmong g.memory written f) (own k.cpu length ++ bytes_of (reads k i length))
       → Runs g inputs (written ++ bytes_of (writes k i length)) (effect k i length)
 
 -- from guest h a run leads, too, with the same inputs, that writes at the same addresses: it leaves the same registers and flags
