@@ -8,3 +8,4 @@ pub mod Strings
 pub mod Effects
 pub mod Depending
 pub mod Running
+pub mod Stepping

@@ -36,7 +36,7 @@ same_bytes : (m n : Memory) (fs : List FarAddress) → All (Same m n) fs → map
 same_bytes m n [] a = refl
 same_bytes m n (f ∷ fs) a = ap₂ (λ (x : ℕ) (xs : List ℕ). x ∷ xs) (All-head (Same m n) f fs a) (same_bytes m n fs (All-tail (Same m n) f fs a))
 
-same_instruction : (m n : Memory) (c : Cpu) (i : Ins) (length : ℕ) → All (Same m n) (own c length) → BeginsWith (sixteen_after m c.cs c.ip) i length → BeginsWith (sixteen_after n c.cs c.ip) i length
+pub same_instruction : (m n : Memory) (c : Cpu) (i : Ins) (length : ℕ) → All (Same m n) (own c length) → BeginsWith (sixteen_after m c.cs c.ip) i length → BeginsWith (sixteen_after n c.cs c.ip) i length
 same_instruction m n c i length a b = record {
   short = b.short;
   spells = subst (λ (bytes : List ℕ). Spells i bytes) (own_bytes m c length b.short ∙ sym (same_bytes m n (own c length) a) ∙ sym (own_bytes n c length b.short)) b.spells;

@@ -1,6 +1,7 @@
 //! Laws of what the effect of an instruction depends on: each is the contract of a function that does nothing.
 ghost use Rattle.dm_footprint_laws.specs.Footprints.{AgreementIsKept, EffectsDependOnReads};
 ghost use Rattle.dm_footprint_laws.specs.Runs.{RunsDependOnInputs};
+ghost use Rattle.dm_footprint_laws.specs.Steps.{StepsDependOnReads};
 
 /// The effect of an instruction depends on registers, flags, the map of memory and the bytes that it reads, and on nothing
 /// else: where two guests have the same of these, the instruction reads and writes at the same addresses in both, leaves the
@@ -20,4 +21,11 @@ pub fn agreement_is_kept()
 /// the same inputs leads, which leaves the same registers and flags and stores the same bytes at the same addresses.
 pub fn runs_depend_on_inputs()
     ensures { RunsDependOnInputs }
+{}
+
+/// A step of the machine where neither a service nor a driver acts depends on registers, flags, the map of memory, and the bytes
+/// that are fetched and read, and on nothing else: a state that has the same of these makes a step by the same instruction,
+/// which does the same there.
+pub fn steps_depend_on_reads()
+    ensures { StepsDependOnReads }
 {}

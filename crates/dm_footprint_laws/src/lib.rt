@@ -4,4 +4,6 @@
 
 mod laws;
 
-pub use laws::{agreement_is_kept, effects_depend_on_reads, runs_depend_on_inputs};
+pub use laws::{
+    agreement_is_kept, effects_depend_on_reads, runs_depend_on_inputs, steps_depend_on_reads,
+};
