@@ -15,7 +15,7 @@ use Rattle.dm_touches.specs.Touches.{reads, writes}
 abbrev pub seen : Memory → FarAddress → ℕ
 seen m f = peek m (linear_of m.a20 f)
 
--- the place of an address is that of one of these addresses: two windows, or two spellings of an address, may have one byte
+-- the place of an address is that of one of these addresses (two windows, or two spellings of one address, may show one byte)
 abbrev pub IsAmong : Memory → List FarAddress → FarAddress → Type 0
 IsAmong m fs f = Contains (map (place_of m) fs) (place_of m f)
 
