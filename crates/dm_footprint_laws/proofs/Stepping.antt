@@ -1,6 +1,5 @@
 -- A step by an instruction depends on what is fetched and read.
 use Rattle.std.proofs.Common.{◌≡◌, ℕ, Option, None, refl, sym, subst, ap, ◌∙◌}
-use Rattle.std.specs.Prelude.{All}
 use Rattle.dm_space.specs.EntryPoints.{entry_point_at}
 use Rattle.dm_space.specs.declared.entry_points.EntryPoint.{EntryPoint}
 use Rattle.dm_ins.specs.declared.ins.Ins.{Ins}
@@ -8,7 +7,6 @@ use Rattle.dm_ins.specs.Ins.{BeginsWith}
 use Rattle.dm_cpu.specs.declared.cpu.Cpu.{Cpu}
 use Rattle.dm_state.specs.State.{State}
 use Rattle.dm_machine.specs.Step.{fetched, instructed, Acts, ActsUnlessEnded, Instructs, MakesStep}
-use Rattle.dm_footprint_laws.specs.Runs.{own}
 use Rattle.dm_footprint_laws.specs.Steps.{guest_of, StepsDependOnReads}
 use Rattle.dm_footprint_laws.proofs.Depending.{effects_depend}
 use Rattle.dm_footprint_laws.proofs.Running.{same_instruction}
