@@ -9,3 +9,4 @@ pub mod Effects
 pub mod Depending
 pub mod Running
 pub mod Stepping
+pub mod Maps

@@ -1,7 +1,7 @@
 -- What the effect of an instruction depends on: registers, flags, the map of memory, and the bytes that it reads.
 -- Source: Intel 8086 Family User's Manual, section 2.7, "Instruction Set".
 use Rattle.std.specs.Prelude.{◌≡◌, ◌⊎◌, ℕ, ◌<◌, List, [], ◌∷◌, map, length, slice_index_or, All, Contains, None, IfSome}
-use Rattle.dm_space.specs.Memory.{Memory, peek, poke, page_bytes}
+use Rattle.dm_space.specs.Memory.{Memory, Fits, peek, poke, page_bytes}
 use Rattle.dm_ins.specs.declared.ins.Ins.{Ins}
 use Rattle.dm_cpu.specs.Guest.{Guest}
 use Rattle.dm_exec.specs.Effect.{effect}
@@ -70,3 +70,7 @@ AgreementIsKept =
     (g h : Guest) (i : Ins) (length : ℕ) (f : FarAddress) → AgreesWhereRead g h i length
     → (seen h.memory f ≡ seen g.memory f) ⊎ IsAmong g.memory (bytes_of (writes g i length)) f
     → seen (effect h i length).memory f ≡ seen (effect g i length).memory f
+
+-- of memories that fit the machine, A20 and the windows are the map
+abbrev pub MapIsA20AndWindows : Type 0
+MapIsA20AndWindows = (m n : Memory) → Fits m → Fits n → n.a20 ≡ m.a20 → n.windows ≡ m.windows → HasMapOf m n

@@ -1,5 +1,9 @@
 //! Laws of what the effect of an instruction depends on: each is the contract of a function that does nothing.
-ghost use Rattle.dm_footprint_laws.specs.Footprints.{AgreementIsKept, EffectsDependOnReads};
+ghost use Rattle.dm_footprint_laws.specs.Footprints.{
+  AgreementIsKept,
+  EffectsDependOnReads,
+  MapIsA20AndWindows,
+};
 ghost use Rattle.dm_footprint_laws.specs.Runs.{RunsDependOnInputs};
 ghost use Rattle.dm_footprint_laws.specs.Steps.{StepsDependOnReads};
 
@@ -14,6 +18,11 @@ pub fn effects_depend_on_reads()
 /// the instruction writes.
 pub fn agreement_is_kept()
     ensures { AgreementIsKept }
+{}
+
+/// Two memories that fit the machine have one map where A20 and the four windows are the same.
+pub fn map_is_a20_and_windows()
+    ensures { MapIsA20AndWindows }
 {}
 
 /// A run of instructions depends on registers, flags, the map of memory and its inputs, and on nothing else: the inputs are the

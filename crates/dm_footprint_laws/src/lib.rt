@@ -5,5 +5,6 @@
 mod laws;
 
 pub use laws::{
-    agreement_is_kept, effects_depend_on_reads, runs_depend_on_inputs, steps_depend_on_reads,
+    agreement_is_kept, effects_depend_on_reads, map_is_a20_and_windows, runs_depend_on_inputs,
+    steps_depend_on_reads,
 };
