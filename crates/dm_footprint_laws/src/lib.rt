@@ -1,5 +1,5 @@
-//! Laws of what the effect of an instruction depends on. They bind the definitions of [`dm_exec`] and [`dm_touches`]: no code
-//! runs here.
+//! Laws of what the effect of an instruction depends on. They bind the definitions of [`dm_exec`], [`dm_touches`] and
+//! [`dm_machine`]: no code runs here.
 #![tactic(auto)]
 
 mod laws;
