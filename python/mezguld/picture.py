@@ -656,7 +656,12 @@ class Call:
         self.back, self.caller = watched.caller(before, service.is_interrupt)
         if service.is_load:
             self.program = shown(watched.read(before.ds, before.dx, 64).split(b"\0")[0])
+        if self.is_overlay():
             (self.at,) = struct.unpack("<H", watched.read(before.es, before.bx, 2))
+
+    def is_overlay(self) -> bool:
+        """Whether the call loads an overlay."""
+        return self.service.is_load and self.before.ax & 0xFF == 3
 
     def has_started(self, after: Registers) -> bool:
         """Whether the call started a program: then it has not returned."""
@@ -675,7 +680,7 @@ class Call:
         """What the call was asked and what it gave."""
         if self.service.is_ending:
             return self.how() if why in (Stop.STEPS, Stop.EXITED) else f"{self.how()}: {why.name.lower()}"
-        text = f"overlay {self.program} at {self.at:04X}" if self.before.ax & 0xFF == 3 else f"starts {self.program}"
+        text = f"overlay {self.program} at {self.at:04X}" if self.is_overlay() else f"starts {self.program}"
         return f"{text}: {refusal(self.service, after, code)}" if code else text
 
 
