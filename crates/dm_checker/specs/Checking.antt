@@ -1,13 +1,15 @@
 -- A checked run that is under way: the steps that it has made, and the report of what is found in them.
-use Rattle.std.specs.Prelude.{◌≡◌, ℕ, ◌-◌, ◌<◌, ◌≤◌, Bool, List, [], ◌++◌, map, Option, Some, None}
+use Rattle.std.specs.Prelude.{◌≡◌, ℕ, ◌-◌, ◌<◌, ◌≤◌, Bool, List, [], ◌++◌, map, length, Option, Some, None}
 use Rattle.dm_state.specs.declared.stop.Stop.{Stop}
+use Rattle.dm_state.specs.declared.stop.Stop.TheVariants.{Exited, Steps as AllSteps}
 use Rattle.dm_state.specs.State.{State}
+use Rattle.dm_machine.specs.Run.{Answers}
 use Rattle.dm_findings.specs.declared.finding.Found.{Found}
 use Rattle.dm_findings.specs.declared.report.Listed.{Listed}
 use Rattle.dm_findings.specs.Report.{Reported, report_of}
 use Rattle.dm_origins.specs.Origins.{Known}
 use Rattle.dm_checker.specs.declared.watch.Watch.{Watch}
-use Rattle.dm_checker.specs.Checks.{FindsIn, IsReport, reported}
+use Rattle.dm_checker.specs.Checks.{FindsAtStop, FindsIn, IsReport, reported}
 use Rattle.dm_checker.specs.Origins.{OriginsIn}
 use Rattle.dm_checker.specs.Watching.{IsWatch}
 
@@ -52,3 +54,20 @@ founds ls = map (λ l. l.found) ls
 pub record IsLonger (old new : Reported) : Type 0 where
   pub more : List Found
   pub is : founds new.listed ≡ founds old.listed ++ more
+
+-- ---- the first finding that is not listed yet
+
+-- of the findings fs the report lists those that c lists, and no others
+abbrev pub ListsSame : UnderWay → List Found → Type 0
+ListsSame c fs = founds (report_of (reported c.free fs)).listed ≡ founds c.report.listed
+
+-- the run of at most n steps from s goes on from `old` to the first step after which its report lists more, and pauses
+-- there (None), or stops before; what is found up to the step before that one is listed by `old`. The report is that of
+-- all that is found
+pub data GoesToFirst (s : State) (n : ℕ) (old : UnderWay) (t : State) (new : UnderWay) : Option Stop → Type 0 where
+  lists_more : (before : State) (fs gs : List Found) → s.exited ≡ None → new.left < n → FindsIn s (n - new.left - 1) before fs → ListsSame old fs
+      → FindsIn s (n - new.left) t gs → length old.report.listed < length new.report.listed → new.report ≡ report_of (reported old.free gs) → GoesToFirst s n old t new None
+  over : (code : ℕ) → s.exited ≡ Some code → t ≡ s → new.report ≡ report_of [] → GoesToFirst s n old t new (Some (Exited code))
+  whole : (fs : List Found) → s.exited ≡ None → FindsIn s n t fs → ListsSame old fs → new.report ≡ report_of (reported old.free fs) → GoesToFirst s n old t new (Some AllSteps)
+  cut : (made : ℕ) (before : State) (k : Known) (fs gs : List Found) (stop : Stop) → s.exited ≡ None → made < n → FindsIn s made before fs → OriginsIn s made before k
+      → ListsSame old fs → Answers before (Some stop) t → FindsAtStop before stop t k gs → new.report ≡ report_of (reported old.free (fs ++ gs)) → GoesToFirst s n old t new (Some stop)

@@ -1,11 +1,11 @@
 //! Checked runs: a run of a machine, and the report of what was found in it.
 
-ghost use Rattle.std.specs.Prelude.{◌≡◌, ◌≢◌, [], false, IfOk, OnErr, ℕ, None};
+ghost use Rattle.std.specs.Prelude.{◌≡◌, ◌≢◌, [], false, true, IfOk, OnErr, ℕ, None};
 ghost use Rattle.dm_state.specs.State.{State, HasProgram};
 ghost use Rattle.dm_machine.specs.Run.{IsRun};
 ghost use Rattle.dm_findings.specs.Report.{report_of};
 ghost use Rattle.dm_checker.specs.Checks.{IsReport, RunsPart};
-ghost use Rattle.dm_checker.specs.Checking.{GoesOn, IsLonger, IsUnderWay};
+ghost use Rattle.dm_checker.specs.Checking.{GoesOn, GoesToFirst, IsLonger, IsUnderWay};
 
 use crate::steps::{look_at_step, pass};
 use crate::watch::{Watch, read_arena};
@@ -92,6 +92,7 @@ impl CheckedRun {
         ensures ok { IfOk result (λ stop. (s : State) (n : ℕ) → IsUnderWay s n machine.old self.old → GoesOn s n stop machine.new self.old self.new) }
         ensures lines { IfOk result (λ stop. IsLonger self.old.report self.new.report) }
         ensures whole { IfOk result (λ stop. pausing ≡ false → stop ≢ None) }
+        ensures first { IfOk result (λ stop. pausing ≡ true → (s : State) (n : ℕ) → IsUnderWay s n machine.old self.old → GoesToFirst s n self.old machine.new self.new stop) }
         ensures err { OnErr result ((s : State) (n : ℕ) → IsUnderWay s n machine.old self.old → RunsPart s n machine.new) }
         ensures loaded { HasProgram machine.new }
     {
@@ -142,10 +143,18 @@ impl CheckedRun {
         requires way { (s : State) × (n : ℕ) × IsUnderWay s n machine.old self.old }
         ensures ok { IfOk result (λ stop. (s : State) (n : ℕ) → IsUnderWay s n machine.old self.old → GoesOn s n stop machine.new self.old self.new) }
         ensures lines { IfOk result (λ stop. IsLonger self.old.report self.new.report) }
+        ensures first { IfOk result (λ stop. (s : State) (n : ℕ) → IsUnderWay s n machine.old self.old → GoesToFirst s n self.old machine.new self.new stop) }
         ensures err { OnErr result ((s : State) (n : ℕ) → IsUnderWay s n machine.old self.old → RunsPart s n machine.new) }
         ensures loaded { HasProgram machine.new }
     {
         self.advance(alloc, machine, true)
+    }
+
+    /// How many steps the run may still make, where it goes on.
+    pub fn left(&self) -> u64
+        ensures { result ≡ self.now.left }
+    {
+        self.left
     }
 
     /// The report of what is found so far.
