@@ -7,7 +7,8 @@ use Rattle.dm_machine.specs.Run.{IsRun}
 use Rattle.dm_machine.specs.Run as run
 use Rattle.dm_findings.specs.declared.finding.Found.{Found}
 use Rattle.dm_findings.specs.Report.{Reported, report_of}
-use Rattle.dm_origins.specs.Origins.{Known, known_first}
+use Rattle.dm_origins.specs.Origins.{Known}
+use Rattle.dm_checker.specs.Origins.{known_at}
 use Rattle.dm_checker.specs.declared.watch.Watch.{Watch}
 use Rattle.dm_checker.specs.Checks.{FindsIn, IsReport, RunsPart, reported}
 use Rattle.dm_checker.specs.Checks as checks
@@ -40,22 +41,22 @@ pub record Going (s : State) (n : ℕ) (t : State) (c : UnderWay) : Type 0 where
 
 pub going_of : (s t : State) (n : ℕ) (c : UnderWay) → c.over ≡ None → IsUnderWay s n t c → Going s n t c
 going_of s t n c e (going f made watch) = record { few = made.few; checked = checked_of s t n c made; watch = watch }
-going_of s t n c e (had_ended code f g h i) = absurd (let no : Some code ≡ None = sym f ∙ e in cc)
+going_of s t n c e (had_ended code f g h i first) = absurd (let no : Some code ≡ None = sym f ∙ e in cc)
 
 pub ended_of : (s t : State) (n code : ℕ) (c : UnderWay) → c.over ≡ Some code → IsUnderWay s n t c → IsReport s n c.free (Exited code) t c.report
 ended_of s t n code c e (going f made watch) = absurd (let no : Some code ≡ None = sym e ∙ f in cc)
-ended_of s t n code c e (had_ended other f g h i) =
+ended_of s t n code c e (had_ended other f g h i first) =
     let same : Some other ≡ Some code = sym f ∙ e in
     record { found = []; checks = checks.over code (g ∙ same) refl h refl; is = i }
 
-pub begins : (s t : State) (n : ℕ) (c : UnderWay) → c.over ≡ s.exited → t ≡ s → c.left ≡ n → c.report ≡ report_of [] → c.origins ≡ known_first s.ems s.xms → IsWatch t.upper t.memory c.watch → IsUnderWay s n t c
+pub begins : (s t : State) (n : ℕ) (c : UnderWay) → c.over ≡ s.exited → t ≡ s → c.left ≡ n → c.report ≡ report_of [] → c.origins ≡ known_at s → IsWatch t.upper t.memory c.watch → IsUnderWay s n t c
 begins s t n c e same left empty first watch = by s.exited refl
   where
     by : (o : Option ℕ) → s.exited ≡ o → IsUnderWay s n t c
     by None h =
         let none : 0 ≡ n - c.left = omega (arith, left) in
         going (e ∙ h) (made_of s t n c (omega (arith, left)) (subst (λ (k : ℕ). HasChecked c.free s k t c.origins c.report) none (checked_none c.free s t c.origins c.report h same first empty))) watch
-    by (Some code) h = had_ended code (e ∙ h) h same empty
+    by (Some code) h = had_ended code (e ∙ h) h same empty first
 
 -- ---- one more step
 
@@ -122,7 +123,7 @@ module _ (free : Bool) (s t u : State) (n left passed : ℕ) (k : Known) (r : Re
 -- the program had ended
 pub first_ended : (s t : State) (n code : ℕ) (old new : UnderWay) → old.over ≡ Some code → new.report ≡ old.report → IsUnderWay s n t old → GoesToFirst s n old t new (Some (Exited code))
 first_ended s t n code old new e is (going f made watch) = absurd (let no : Some code ≡ None = sym e ∙ f in cc)
-first_ended s t n code old new e is (had_ended other f g h i) = (let same : Some other ≡ Some code = sym f ∙ e in checking.over code (g ∙ same) h (is ∙ i))
+first_ended s t n code old new e is (had_ended other f g h i first) = (let same : Some other ≡ Some code = sym f ∙ e in checking.over code (g ∙ same) h (is ∙ i))
 
 -- ---- no step was made
 

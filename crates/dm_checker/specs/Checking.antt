@@ -10,12 +10,13 @@ use Rattle.dm_findings.specs.Report.{Reported, report_of}
 use Rattle.dm_origins.specs.Origins.{Known}
 use Rattle.dm_checker.specs.declared.watch.Watch.{Watch}
 use Rattle.dm_checker.specs.Checks.{FindsAtStop, FindsIn, IsReport, reported}
-use Rattle.dm_checker.specs.Origins.{OriginsIn}
+use Rattle.dm_checker.specs.Processes.{AreProcesses}
+use Rattle.dm_checker.specs.Origins.{OriginsIn, known_at}
 use Rattle.dm_checker.specs.Watching.{IsWatch}
 
 -- a checked run under way: the report so far, how many steps it may still make, whether it reports findings about free
 -- memory, the exit code of a program that had ended before its first step, if it had, what memory shows of the arena, and
--- what is known of who allocated and who freed
+-- what is known of who allocated and who freed, and of processes
 pub record UnderWay : Type 0 where
   pub report : Reported
   pub left : ℕ
@@ -38,13 +39,18 @@ pub record HasMade (s : State) (n : ℕ) (t : State) (c : UnderWay) : Type 0 whe
 -- there is no step, and nothing is found)
 pub data IsUnderWay (s : State) (n : ℕ) (t : State) (c : UnderWay) : Type 0 where
   going : c.over ≡ None → HasMade s n t c → IsWatch t.upper t.memory c.watch → IsUnderWay s n t c
-  had_ended : (code : ℕ) → c.over ≡ Some code → s.exited ≡ Some code → t ≡ s → c.report ≡ report_of [] → IsUnderWay s n t c
+  had_ended : (code : ℕ) → c.over ≡ Some code → s.exited ≡ Some code → t ≡ s → c.report ≡ report_of [] → c.origins ≡ known_at s → IsUnderWay s n t c
 
 -- the run goes on from `old` to `new` in state t (None), after a step at least; or it stops for a reason, and `new` has
 -- the report of the whole run of at most n steps from s
 abbrev pub GoesOn : State → ℕ → Option Stop → State → UnderWay → UnderWay → Type 0
 GoesOn s n None t old new = IsUnderWay s n t new × (new.left < old.left) × (new.free ≡ old.free)
 GoesOn s n (Some stop) t old new = IsReport s n old.free stop t new.report
+
+-- where the run stops for a reason, c has the processes of the whole run
+abbrev pub HasProcesses : State → ℕ → Option Stop → State → UnderWay → Type 0
+HasProcesses s n None t c = Unit {0}
+HasProcesses s n (Some stop) t c = AreProcesses s n stop t c.origins.processes
 
 -- the findings of lines
 abbrev pub founds : List Listed → List Found

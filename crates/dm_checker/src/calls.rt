@@ -21,7 +21,7 @@ fn is_arena(number: u8) -> bool
 }
 
 /// Whether INT 21h has a function with this number that ends a process: 00h, 31h or 4Ch.
-fn is_ending(number: u8) -> bool
+pub(crate) fn is_ending(number: u8) -> bool
     ensures { result ≡ is_ending number }
 {
     number == 0x00 || number == 0x31 || number == 0x4C
@@ -29,7 +29,7 @@ fn is_ending(number: u8) -> bool
 
 /// Whether the call of INT 21h with this number and these registers may start a process: 4Bh, but not with AL = 3.
 /// (With any other AL but 0 it fails.)
-fn is_starting(cpu: &Cpu, number: u8) -> bool
+pub(crate) fn is_starting(cpu: &Cpu, number: u8) -> bool
     ensures { result ≡ is_starting cpu.now number }
 {
     number == 0x4B && cpu.byte(ByteRegister::Al) != 3

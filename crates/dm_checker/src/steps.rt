@@ -179,7 +179,8 @@ fn check_end(
 ) -> Result<(), AllocError>
     requires before { (s : State) × IsBefore s before.now × IsWatch s.upper s.memory kept.old }
     requires call { before.now.call ≡ Some call }
-    ensures { OnOk result ((s : State) → IsBefore s before.now → IsWatch s.upper s.memory kept.old → FindsTouched s (shown_of kept.old) found.old.items → (more : List Found) × FindsAtEnd s machine.now origins.old more × ReportsMore free report.old report.new more) }
+    ensures knows { OnOk result ((s : State) → IsBefore s before.now → IsWatch s.upper s.memory kept.old → IsKnownAfter s machine.now origins.old origins.new) }
+    ensures finds { OnOk result ((s : State) → IsBefore s before.now → IsWatch s.upper s.memory kept.old → FindsTouched s (shown_of kept.old) found.old.items → (more : List Found) × FindsAtEnd s machine.now origins.old more × ReportsMore free report.old report.new more) }
 {
     look(alloc, found, before, kept, origins, machine)?;
     put_leaks(found, machine, stays(call))?;
