@@ -8,7 +8,9 @@ use Rattle.dm_machine.specs.Run as run
 use Rattle.dm_findings.specs.declared.finding.Found.{Found}
 use Rattle.dm_findings.specs.Report.{Reported, report_of}
 use Rattle.dm_origins.specs.Origins.{Known}
-use Rattle.dm_checker.specs.Origins.{known_at}
+use Rattle.dm_checker.specs.Origins.{known_at, OriginsIn}
+use Rattle.dm_checker.specs.Processes.{AreProcesses}
+use Rattle.dm_checker.specs.Processes as processes
 use Rattle.dm_checker.specs.declared.watch.Watch.{Watch}
 use Rattle.dm_checker.specs.Checks.{FindsIn, IsReport, RunsPart, reported}
 use Rattle.dm_checker.specs.Checks as checks
@@ -86,6 +88,17 @@ module _ (free : Bool) (s t u : State) (n left passed : ℕ) (k : Known) (r : Re
   pub listed_on : (v : State) (stop : Option Stop) (w : Watch) (l : Known) (new : Reported) → ChecksOne free u stop v w k l r new → IsLonger r new
   listed_on v stop w l new x = longer_by free r new h.found x.found h.is x.reports
 
+  -- ---- the processes
+
+  pub all_processes : passed ≡ left → AreProcesses s n AllSteps u k.processes
+  all_processes all =
+      let made : n - left + passed ≡ n = omega (arith, all, few) in
+      record { known = k; knows = processes.whole h.running refl (subst (λ (i : ℕ). OriginsIn s i u k) made on.knows); are = refl }
+
+  pub stop_processes : passed < left → (v : State) (stop : Stop) (w : Watch) (l : Known) (new : Reported) → ChecksOne free u (Some stop) v w k l r new → AreProcesses s n stop v l.processes
+  stop_processes less v stop w l new x =
+      record { known = l; knows = processes.cut (n - left + passed) u k h.running (omega (arith, less, few)) on.knows x.answers x.knows; are = refl }
+
   -- ---- up to the first finding that `old` does not list
 
   module _ (old new : UnderWay) (same : old.free ≡ free) (longer : IsLonger old.report r) (no_more : length r.listed ≤ length old.report.listed) where
@@ -121,6 +134,12 @@ module _ (free : Bool) (s t u : State) (n left passed : ℕ) (k : Known) (r : Re
         checking.whole on.found h.running (subst (λ (i : ℕ). FindsIn s i u on.found) made on.finds) lists_same (report_as new.report on.found (is ∙ on.is))
 
 -- the program had ended
+pub ended_processes : (s t : State) (n code : ℕ) (c : UnderWay) → c.over ≡ Some code → IsUnderWay s n t c → AreProcesses s n (Exited code) t c.origins.processes
+ended_processes s t n code c e (going f made watch) = absurd (let no : Some code ≡ None = sym e ∙ f in cc)
+ended_processes s t n code c e (had_ended other f g h i first) =
+    let same : Some other ≡ Some code = sym f ∙ e in
+    record { known = c.origins; knows = processes.over code (g ∙ same) refl h first; are = refl }
+
 pub first_ended : (s t : State) (n code : ℕ) (old new : UnderWay) → old.over ≡ Some code → new.report ≡ old.report → IsUnderWay s n t old → GoesToFirst s n old t new (Some (Exited code))
 first_ended s t n code old new e is (going f made watch) = absurd (let no : Some code ≡ None = sym e ∙ f in cc)
 first_ended s t n code old new e is (had_ended other f g h i first) = (let same : Some other ≡ Some code = sym f ∙ e in checking.over code (g ∙ same) h (is ∙ i))

@@ -10,10 +10,12 @@ use crate::process::Process;
 pub fn end_innermost(processes: &mut [Process], step: u64)
     ensures { processes.new ≡ with_end step processes.old }
 {
-    for at in (0..processes.len()).rev() {
-        if processes[at].last.is_none() {
-            processes[at].last = Some(step);
+    let mut left = processes.len();
+    while left > 0 {
+        if processes[left - 1].last.is_none() {
+            processes[left - 1].last = Some(step);
             return;
         }
+        left -= 1;
     }
 }
