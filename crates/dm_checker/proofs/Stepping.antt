@@ -20,7 +20,8 @@ use Rattle.dm_findings.specs.Report.{Reported}
 use Rattle.dm_origins.specs.Origins.{Known}
 use Rattle.dm_checker.specs.declared.acts.Before.{Before}
 use Rattle.dm_checker.specs.declared.watch.Watch.{Watch}
-use Rattle.dm_checker.specs.Calls.{stays, freed_twice, call_findings}
+use Rattle.dm_calls.specs.Calls.{stays, call_findings}
+use Rattle.dm_checker.specs.Freed.{freed_twice}
 use Rattle.dm_leaks.specs.Leaks.{leaks}
 use Rattle.dm_touches.specs.declared.elements.Elements.{Elements}
 use Rattle.dm_cpu.specs.Guest.{guest}

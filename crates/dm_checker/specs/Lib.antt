@@ -1,7 +1,7 @@
 pub mod Shown
 pub mod Headers
-pub mod Calls
 pub mod Arranged
+pub mod Freed
 pub mod Courses
 pub mod Origins
 pub mod Findings

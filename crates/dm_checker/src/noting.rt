@@ -1,7 +1,7 @@
 //! Who allocated, who freed, and which processes ran, kept along a run.
 
 ghost use Rattle.std.specs.Prelude.{◌≡◌, map, Some, IfOk, OnOk};
-ghost use Rattle.dm_checker.specs.Courses.{ends_process, has_started, with_course};
+ghost use Rattle.dm_checker.specs.Courses.{with_course};
 ghost use Rattle.dm_state.specs.State.{State};
 ghost use Rattle.dm_origins.specs.Origins.{with_freed};
 ghost use Rattle.dm_checker.specs.Origins.{if_both_whole, known_by};
@@ -9,10 +9,9 @@ ghost use Rattle.dm_checker.specs.Watching.{header_of, broken_at, shown_of};
 ghost use Rattle.dm_checker.specs.inner.Steps.{IsBefore};
 
 use crate::acts::Before;
-use crate::calls::{arranges, is_ending, is_starting};
 use crate::watch::{Watch, Watched};
 use dm_blocks::Header;
-use dm_cpu::Cpu;
+use dm_calls::{arranges, ends_process, has_started};
 use dm_findings::{Call, Origin};
 use dm_machine::Machine;
 use dm_origins::Origins;
@@ -49,28 +48,6 @@ fn note_arena(
     let after = headers_of(alloc, &new.headers)?;
     origins.note_freed(&before, &after, origin);
     Ok(())
-}
-
-/// Whether a call started a process, by the registers before and after it.
-fn has_started(before: &Cpu, after: &Cpu, call: Option<Call>) -> bool
-    ensures { result ≡ has_started before.now after.now call }
-{
-    match call {
-        Some(Call::Dos(number)) => is_starting(before, number) && !after.flags.carry,
-        _ => false,
-    }
-}
-
-/// Whether a call is one that ends a process.
-fn ends_process(call: Option<Call>) -> bool
-    ensures { result ≡ ends_process call }
-{
-    match call {
-        Some(Call::DivideError) => true,
-        Some(Call::Terminate) => true,
-        Some(Call::Dos(number)) => is_ending(number),
-        _ => false,
-    }
 }
 
 /// Notes that a step started or ended a process, if it did. `before` is what was kept of the state before the step,

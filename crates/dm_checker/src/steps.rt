@@ -17,12 +17,12 @@ ghost use Rattle.dm_checker.specs.inner.Steps.{IsBefore, IsPart, Looks, ReportsM
 
 use crate::acts::Before;
 use crate::arranged::put_arranged;
-use crate::calls::{arranges, put_freed_twice, put_of_call, stays};
+use crate::freed::put_freed_twice;
 use crate::headers::{put_all_mapped_away, put_all_overwritten};
 use crate::noting::note;
-use crate::put::put;
 use crate::touched::put_touched;
 use crate::watch::{Broken, Watch, read_arena};
+use dm_calls::{arranges, put, put_of_call, stays};
 use dm_findings::{Act, Call, Finding, Found, Report};
 use dm_leaks::put_leaks;
 use dm_machine::{Machine, Stop, tables_and_memory_are_consistent};
