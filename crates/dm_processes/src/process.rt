@@ -1,6 +1,6 @@
 //! A process that ran (MS-DOS Programmer's Reference, "Program Segment Prefix" and "Environment").
 
-ghost use Rattle.std.specs.Prelude.{◌≡◌};
+ghost use Rattle.std.specs.Prelude.{◌≡◌, ◌≤◌};
 ghost use Rattle.dm_processes.specs.Processes.{end_of_variables, name_at, name_of, name_text, process_at};
 
 use dm_space::Space;
@@ -25,7 +25,8 @@ const MOST: u16 = 0x8000;
 
 /// The offset of the two zeros behind the variables of the environment at a segment; 8000h if there are none below that.
 fn end_of_variables(space: &Space, segment: u16) -> u16
-    ensures { result ≡ end_of_variables space.now.memory segment }
+    ensures end { result ≡ end_of_variables space.now.memory segment }
+    ensures most { result ≤ 0x8000 }
 {
     for at in 0..MOST {
         if space.peek16(segment, at) == 0 {
